@@ -1,0 +1,54 @@
+ghost use Rattle.std.specs.Prelude.{◌≡◌, ◌++◌, OnOk, OnErr};
+ghost use Rattle.hex.specs.Hex.{encode_lower};
+ghost use Rattle.wot_types.specs.Digits.{array_of_digits};
+ghost use Rattle.wot_types.specs.Fpr.{digits_of, fpr_cmp, fpr_of_digits};
+
+use crate::Memory;
+use std::cmp::Ordering;
+
+/// A key's fingerprint (RFC 9580, section 5.5.4). Fingerprints are ordered by their octets.
+#[derive(Clone, Copy, Debug, PartialEq, Eq, PartialOrd, Ord)]
+pub enum Fpr {
+    /// Of a version 4 key: a SHA-1 digest.
+    V4([u8; 20]),
+}
+
+impl Fpr {
+    /// Reads 40 hexadecimal digits of either case; `None` for every other text.
+    pub fn read(digits: &[u8]) -> Option<Fpr>
+        ensures read { result ≡ fpr_of_digits digits.now }
+    {
+        let mut octets = [0u8; 20];
+        match hex::decode_to_slice(digits, &mut octets) {
+            Ok(()) => Some(Fpr::V4(octets)),
+            Err(_) => None,
+        }
+    }
+
+    /// Appends the 40 digits, in lower case. After `Memory`, `out` is as before.
+    pub fn print(&self, out: &mut Vec<u8>) -> Result<(), Memory>
+        ensures printed { OnOk result (out.new.items ≡ out.old.items ++ digits_of self.now) }
+        ensures kept { OnErr result (out.new.items ≡ out.old.items) }
+    {
+        match self {
+            Fpr::V4(octets) => print_twenty(octets, out),
+        }
+    }
+}
+
+fn print_twenty(octets: &[u8; 20], out: &mut Vec<u8>) -> Result<(), Memory>
+    ensures printed { OnOk result (out.new.items ≡ out.old.items ++ encode_lower octets.now) }
+    ensures kept { OnErr result (out.new.items ≡ out.old.items) }
+{
+    let mut digits = [0u8; 40];
+    let _ = hex::encode_to_slice(octets.as_slice(), &mut digits);
+    out.extend_from_slice(&digits)?;
+    Ok(())
+}
+
+/// How two fingerprints compare: as their octets do, octet by octet.
+pub fn compare_fprs(left: &Fpr, right: &Fpr) -> Ordering
+    ensures octets { result ≡ fpr_cmp left.now right.now }
+{
+    left.cmp(right)
+}

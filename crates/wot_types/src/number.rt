@@ -1,0 +1,40 @@
+ghost use Rattle.std.specs.Prelude.{◌≡◌, ◌++◌, OnOk, OnErr};
+ghost use Rattle.wot_types.specs.SigNumber.{number_digits, number_cmp, number_of_digits};
+
+use crate::Memory;
+use std::cmp::Ordering;
+
+/// The number by which a signature is known: a SHA-256 digest. Numbers are ordered by their octets.
+#[derive(Clone, Copy, Debug, PartialEq, Eq, PartialOrd, Ord)]
+pub struct SigNumber(pub [u8; 32]);
+
+impl SigNumber {
+    /// Reads 64 hexadecimal digits of either case; `None` for every other text.
+    pub fn read(digits: &[u8]) -> Option<SigNumber>
+        ensures read { result ≡ number_of_digits digits.now }
+    {
+        let mut octets = [0u8; 32];
+        match hex::decode_to_slice(digits, &mut octets) {
+            Ok(()) => Some(SigNumber(octets)),
+            Err(_) => None,
+        }
+    }
+
+    /// Appends the 64 digits, in lower case. After `Memory`, `out` is as before.
+    pub fn print(&self, out: &mut Vec<u8>) -> Result<(), Memory>
+        ensures printed { OnOk result (out.new.items ≡ out.old.items ++ number_digits self.now) }
+        ensures kept { OnErr result (out.new.items ≡ out.old.items) }
+    {
+        let mut digits = [0u8; 64];
+        let _ = hex::encode_to_slice(self.0.as_slice(), &mut digits);
+        out.extend_from_slice(&digits)?;
+        Ok(())
+    }
+}
+
+/// How two numbers compare: as their octets do, octet by octet.
+pub fn compare_numbers(left: &SigNumber, right: &SigNumber) -> Ordering
+    ensures octets { result ≡ number_cmp left.now right.now }
+{
+    left.cmp(right)
+}
