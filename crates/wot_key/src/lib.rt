@@ -1,0 +1,11 @@
+//! Version 4 public keys and their fingerprints.
+#![tactic(auto)]
+
+mod digest;
+mod key;
+
+pub use digest::{fingerprint, key_id};
+pub use key::{Key, read_key};
+
+#[cfg(test)]
+mod tests;
