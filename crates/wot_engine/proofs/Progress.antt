@@ -206,6 +206,7 @@ takes_more input before held taken left state replies reply n written s le w =
   where
     some-is : (x y : List ℕ) → Some x ≡ Some y → x ≡ y
     some-is x y e = cc
+
     cut : (replies reply others all : List ℕ) (n : ℕ) → n ≤ length reply → all ≡ replies ++ reply → take (length replies + n) (all ++ others) ≡ replies ++ take n reply
     cut replies reply others all n le e =
         ap (λ (x : List ℕ). take (length replies + n) (x ++ others)) e ∙ ap (take (length replies + n)) (append_assoc replies reply others)

@@ -19,11 +19,7 @@ use std::marker::Model;
 use wot_types::{Fpr, Memory};
 
 /// Takes these keys, all or none.
-fn take(
-    alloc: Global,
-    certs: &mut BTreeMap<Fpr, Octets>,
-    bodies: &[&[u8]],
-) -> Result<Reply, Memory>
+fn take(alloc: Global, certs: &mut BTreeMap<Fpr, Octets>, bodies: &[&[u8]]) -> Result<Reply, Memory>
     requires keys { AllByRecursion IsShortKey (map (λ body. body.now) bodies.now) }
     ensures takes { IfOk result (λ reply. Takes (record { certs = certs.old.entries }) (length bodies.now) (united certs.old.entries (map (λ body. body.now) bodies.now)) reply (record { certs = certs.new.entries })) }
     ensures short { IfOk result (λ reply. IsShort reply) }

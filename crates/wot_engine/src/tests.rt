@@ -40,7 +40,8 @@ fn outcome_of(
     })
 }
 
-const SAMPLE: &[u8; 113] = b"import c6330453f35f0b16092b06010401da470f010107403f098994bdd916ed4053197934e4a87c80733a1280d62f8010992e43ee3b2406";
+const SAMPLE: &[u8; 113] =
+    b"import c6330453f35f0b16092b06010401da470f010107403f098994bdd916ed4053197934e4a87c80733a1280d62f8010992e43ee3b2406";
 
 #[test]
 fn scripts_and_their_replies(rt: HostRuntime) -> Result<(), Fail> {
@@ -79,7 +80,10 @@ fn scripts_and_their_replies(rt: HostRuntime) -> Result<(), Fail> {
     script.extend_from_slice(b"\nkeys\n")?;
     let outcome = outcome_of(alloc, &["run"], &script, &[], &[])?;
     assert_eq!(rt; outcome.status, 0);
-    assert!(rt; outcome.written.as_slice() == b"ok taken 1 skipped 0 new 1\nkeys 1\nkey c959bdbafa32a2f89a153b678cfde12197965a9a 0 0\n".as_slice());
+    assert!(rt;
+        outcome.written.as_slice()
+            == b"ok taken 1 skipped 0 new 1\nkeys 1\nkey c959bdbafa32a2f89a153b678cfde12197965a9a 0 0\n".as_slice()
+    );
     Ok(())
 }
 
