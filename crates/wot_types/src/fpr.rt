@@ -4,6 +4,7 @@ ghost use Rattle.wot_types.specs.Digits.{array_of_digits};
 ghost use Rattle.wot_types.specs.Fpr.{digits_of, fpr_cmp, fpr_of_digits};
 
 use crate::Memory;
+use crate::digits::digits_are_read;
 use std::cmp::Ordering;
 
 /// A key's fingerprint (RFC 9580, section 5.5.4). Fingerprints are ordered by their octets.
@@ -34,6 +35,15 @@ impl Fpr {
             Fpr::V4(octets) => print_twenty(octets, out),
         }
     }
+
+    /// A law: what `print` appends, `read` reads as this fingerprint.
+    pub fn printed_is_read(&self)
+        ensures read_back { fpr_of_digits (digits_of self.now) ≡ Some self.now }
+    {
+        match self {
+            Fpr::V4(octets) => twenty_are_read(octets),
+        }
+    }
 }
 
 fn print_twenty(octets: &[u8; 20], out: &mut Vec<u8>) -> Result<(), Memory>
@@ -44,6 +54,12 @@ fn print_twenty(octets: &[u8; 20], out: &mut Vec<u8>) -> Result<(), Memory>
     let _ = hex::encode_to_slice(octets.as_slice(), &mut digits);
     out.extend_from_slice(&digits)?;
     Ok(())
+}
+
+fn twenty_are_read(octets: &[u8; 20])
+    ensures { array_of_digits 20 (encode_lower octets.now) ≡ Some octets.now }
+{
+    digits_are_read(octets.as_slice());
 }
 
 /// How two fingerprints compare: as their octets do, octet by octet.

@@ -2,6 +2,7 @@ ghost use Rattle.std.specs.Prelude.{◌≡◌, ◌++◌, OnOk, OnErr};
 ghost use Rattle.wot_types.specs.SigNumber.{number_digits, number_cmp, number_of_digits};
 
 use crate::Memory;
+use crate::digits::digits_are_read;
 use std::cmp::Ordering;
 
 /// The number by which a signature is known: a SHA-256 digest. Numbers are ordered by their octets.
@@ -29,6 +30,13 @@ impl SigNumber {
         let _ = hex::encode_to_slice(self.0.as_slice(), &mut digits);
         out.extend_from_slice(&digits)?;
         Ok(())
+    }
+
+    /// A law: what `print` appends, `read` reads as this number.
+    pub fn printed_is_read(&self)
+        ensures read_back { number_of_digits (number_digits self.now) ≡ Some self.now }
+    {
+        digits_are_read(self.0.as_slice());
     }
 }
 
