@@ -1,4 +1,4 @@
-ghost use Rattle.std.specs.Prelude.{◌≡◌, ◌++◌, OnOk, OnErr};
+ghost use Rattle.std.specs.Prelude.{◌≡◌, ◌<◌, ◌≤◌, ◌+◌, ◌++◌, length, vec_len, vec_capacity, OnOk, OnErr};
 ghost use Rattle.hex.specs.Hex.{encode_lower};
 ghost use Rattle.wot_types.specs.Digits.{array_of_digits};
 ghost use Rattle.wot_types.specs.Fpr.{digits_of, fpr_cmp, fpr_of_digits};
@@ -30,6 +30,9 @@ impl Fpr {
     pub fn print(&self, out: &mut Vec<u8>) -> Result<(), Memory>
         ensures printed { OnOk result (out.new.items ≡ out.old.items ++ digits_of self.now) }
         ensures kept { OnErr result (out.new.items ≡ out.old.items) }
+        // It fails only where room was missing, and the capacity never shrinks.
+        ensures full { OnErr result (vec_capacity out.old < vec_len out.old + length (digits_of self.now)) }
+        ensures grows { vec_capacity out.old ≤ vec_capacity out.new }
     {
         match self {
             Fpr::V4(octets) => print_twenty(octets, out),
@@ -49,6 +52,8 @@ impl Fpr {
 fn print_twenty(octets: &[u8; 20], out: &mut Vec<u8>) -> Result<(), Memory>
     ensures printed { OnOk result (out.new.items ≡ out.old.items ++ encode_lower octets.now) }
     ensures kept { OnErr result (out.new.items ≡ out.old.items) }
+    ensures full { OnErr result (vec_capacity out.old < vec_len out.old + length (encode_lower octets.now)) }
+    ensures grows { vec_capacity out.old ≤ vec_capacity out.new }
 {
     let mut digits = [0u8; 40];
     let _ = hex::encode_to_slice(octets.as_slice(), &mut digits);

@@ -1,4 +1,4 @@
-ghost use Rattle.std.specs.Prelude.{◌≡◌, ◌++◌, OnOk, OnErr};
+ghost use Rattle.std.specs.Prelude.{◌≡◌, ◌<◌, ◌≤◌, ◌+◌, ◌++◌, length, vec_len, vec_capacity, OnOk, OnErr};
 ghost use Rattle.wot_types.specs.SigNumber.{number_digits, number_cmp, number_of_digits};
 
 use crate::Memory;
@@ -25,6 +25,9 @@ impl SigNumber {
     pub fn print(&self, out: &mut Vec<u8>) -> Result<(), Memory>
         ensures printed { OnOk result (out.new.items ≡ out.old.items ++ number_digits self.now) }
         ensures kept { OnErr result (out.new.items ≡ out.old.items) }
+        // It fails only where room was missing, and the capacity never shrinks.
+        ensures full { OnErr result (vec_capacity out.old < vec_len out.old + length (number_digits self.now)) }
+        ensures grows { vec_capacity out.old ≤ vec_capacity out.new }
     {
         let mut digits = [0u8; 64];
         let _ = hex::encode_to_slice(self.0.as_slice(), &mut digits);
