@@ -1,5 +1,5 @@
 -- What an answer tells of the lines still to come, and of the most octets.
-use Rattle.std.proofs.Common.{◌≡◌, ◌≢◌, ◌⊎◌, inl, inr, ℕ, ◌+◌, ◌^◌, ◌<◌, ◌≤◌, Bool, true, false, cond, ltb, List, [], ◌∷◌, ◌++◌, length, Option, Some, None, refl, sym, ap, ◌∙◌, append_assoc, arith, length-append}
+use Rattle.std.proofs.Common.{◌≡◌, inl, inr, ℕ, ◌^◌, ◌<◌, ◌≤◌, Bool, true, false, cond, ltb, List, [], ◌∷◌, ◌++◌, length, Option, Some, None, refl, sym, ap, ◌∙◌, append_assoc, arith, length-append}
 use Rattle.std.specs.Prelude.{IfSome}
 use Rattle.std.proofs.lemmas.Bool.{le-ltb, lt-ltb}
 use Rattle.std.proofs.lemmas.List.{append_cancel_right}
@@ -8,9 +8,8 @@ use Rattle.wot_io.specs.Reading.{Reading, Holding, Taking, reading}
 use Rattle.wot_io.specs.declared.fault.LinesFault.{LinesFault}
 use Rattle.wot_io.specs.declared.lines.Line.{Line}
 use Rattle.wot_io.specs.declared.lines.Line.TheVariants.{Text, Long, End}
-use Rattle.wot_io.specs.Given.{Answers, answer_of, IsNext, AnswersLinesOf, AnswersLines}
-use Rattle.wot_io.specs.Source.{LosesOf}
-use Rattle.wot_io.specs.Fill.{Took, Cuts, GivesOf, StopsOf, Stops, IsTooMuch}
+use Rattle.wot_io.specs.Given.{Answers, answer_of, AnswersLines}
+use Rattle.wot_io.specs.Fill.{Took, Cuts, GivesOf, Stops, IsTooMuch}
 use Rattle.wot_io.proofs.Cut.{lines_of-feed, lines_of-last}
 
 -- the line that was cut is the first of the lines
