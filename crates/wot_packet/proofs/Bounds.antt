@@ -1,10 +1,10 @@
 -- What every packet of a text keeps to.
-use Rattle.std.proofs.Common.{◌≡◌, ⊎_elim, ℕ, ◌+◌, ◌^◌, ◌<◌, ◌≤◌, List, [], ◌∷◌, ◌++◌, length, map, subst, arith}
+use Rattle.std.proofs.Common.{◌≡◌, ⊎_elim, ℕ, ◌+◌, ◌^◌, ◌<◌, ◌≤◌, List, [], ◌∷◌, ◌++◌, length, subst, arith}
 use Rattle.std.specs.List.{AllByRecursion, All}
-use Rattle.std.specs.Int.{w16, w32, from_be_bytes}
+use Rattle.std.specs.Int.{w32, from_be_bytes}
 use Rattle.std.proofs.lemmas.List.Elements.{All-from_recursion}
 use Rattle.wot_packet.specs.Header.{IsOpenpgpLength, IsLegacyLength, IsOpenpgpHeader, IsLegacyHeader, IsHeader}
-use Rattle.wot_packet.specs.Spelling.{Spelled, SpellsFrom, Spells, spelled_of, spelled_all}
+use Rattle.wot_packet.specs.Spelling.{Spelled, SpellsFrom, Spells, spelled_all}
 use Rattle.wot_packet.specs.declared.packet.Packet.{Packet}
 use Rattle.wot_packet.proofs.Lengths.{IsOctet}
 use Rattle.wot_packet.proofs.Looping.{Bytes, octets_from}

@@ -1,7 +1,7 @@
 -- A text spells one list or has one first fault.
-use Rattle.std.proofs.Common.{◌≡◌, ◌⊎◌, inl, inr, ⊎_elim, ℕ, ◌+◌, ◌<◌, ◌≤◌, List, [], ◌∷◌, ◌++◌, length, Result, Ok, Err, refl, sym, ap, subst, ◌∙◌, arith, zero-add}
+use Rattle.std.proofs.Common.{◌≡◌, ◌⊎◌, inl, inr, ℕ, ◌+◌, ◌≤◌, List, ◌++◌, length, Result, Ok, Err, refl, sym, ap, subst, ◌∙◌, arith, zero-add}
 use Rattle.std.proofs.lemmas.List.Elements.{recursion_from_All}
-use Rattle.wot_packet.specs.Spelling.{AreOctets, Spelled, SpellsFrom, Spells, IsFault, IsFirstFault}
+use Rattle.wot_packet.specs.Spelling.{AreOctets, Spelled, Spells, IsFirstFault}
 use Rattle.wot_packet.specs.Reading.{packets_from, packets_of}
 use Rattle.wot_packet.specs.declared.packet.PacketFault.{PacketFault}
 use Rattle.wot_packet.proofs.Lengths.{IsOctet}

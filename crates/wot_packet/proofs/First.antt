@@ -1,5 +1,5 @@
 -- What the plain reader finds of a packet is what the octets spell.
-use Rattle.std.proofs.Common.{◌≡◌, ◌≢◌, ℕ, ◌+◌, ◌<◌, ◌≤◌, ltb, Bool, true, false, cond, List, [], ◌∷◌, ◌++◌, length, take, drop, Result, Ok, Err, refl, sym, ap, ◌∙◌, arith}
+use Rattle.std.proofs.Common.{◌≡◌, ℕ, ltb, true, false, List, ◌∷◌, ◌++◌, length, take, drop, Result, Ok, Err, refl, sym, ap, ◌∙◌, arith}
 use Rattle.std.specs.List.{AllByRecursion}
 use Rattle.std.proofs.lemmas.List.{length-append, length-take-le, take-append-drop, take_at, drop_at}
 use Rattle.std.proofs.lemmas.Bool.{ltb-true, ltb-false, lt-ltb, le-ltb, cond_both}
@@ -9,7 +9,7 @@ use Rattle.wot_packet.specs.Reading.{Front, front_of, First, body_of, first_of}
 use Rattle.wot_packet.specs.declared.packet.Why.{Why}
 use Rattle.wot_packet.specs.declared.packet.Why.TheVariants.{NotAPacket, CutLength, CutBody, Partial, Indeterminate}
 use Rattle.wot_packet.proofs.Lengths.{IsOctet}
-use Rattle.wot_packet.proofs.Headers.{HasHeader, FrontMeans, front_means, front, header_again, cut_again, not_again, partial_again, indeterminate_again}
+use Rattle.wot_packet.proofs.Headers.{FrontMeans, front_means, header_again, cut_again, not_again, partial_again, indeterminate_again}
 
 -- A packet stands at the front, and the rest is behind it.
 pub record HasPacket (octets : List ℕ) (first : First) : Type 0 where

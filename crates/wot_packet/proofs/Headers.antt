@@ -3,12 +3,12 @@ use Rattle.std.proofs.Common.{◌≡◌, ◌≢◌, ◌⊎◌, inl, inr, ℕ, �
 use Rattle.std.specs.List.{AllByRecursion}
 use Rattle.std.proofs.lemmas.List.{append-nil, length-append}
 use Rattle.std.proofs.lemmas.Bool.{ltb-true, ltb-false, lt-ltb, le-ltb, cond_both}
-use Rattle.wot_packet.specs.Header.{IsOpenpgpLength, IsLegacyLength, IsOpenpgpHeader, IsLegacyHeader, IsHeader}
+use Rattle.wot_packet.specs.Header.{IsLegacyLength, IsOpenpgpHeader, IsLegacyHeader, IsHeader}
 use Rattle.wot_packet.specs.Spelling.{IsNotAPacket, IsCutLength, IsPartial, IsIndeterminate, IsFault}
 use Rattle.wot_packet.specs.Reading.{openpgp_length, legacy_length, Front, with_kind, front_of}
 use Rattle.wot_packet.specs.declared.packet.Why.{Why}
 use Rattle.wot_packet.specs.declared.packet.Why.TheVariants.{NotAPacket, CutLength, CutBody, Partial, Indeterminate}
-use Rattle.wot_packet.proofs.Lengths.{IsOctet, Found, Reads, Lacks, OpenpgpMeans, LegacyMeans, openpgp_means, legacy_means, openpgp_again, legacy_again, extended, openpgp_extends, legacy_extends}
+use Rattle.wot_packet.proofs.Lengths.{IsOctet, Found, OpenpgpMeans, LegacyMeans, openpgp_means, legacy_means, openpgp_again, legacy_again, extended, openpgp_extends, legacy_extends}
 
 -- A header stands at the front, and the rest is behind it.
 pub record HasHeader (octets : List ℕ) (front : Front) : Type 0 where

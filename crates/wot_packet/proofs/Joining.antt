@@ -1,6 +1,6 @@
 -- Texts one behind the other.
-use Rattle.std.proofs.Common.{◌≡◌, ℕ, ◌+◌, ◌<◌, ◌≤◌, List, [], ◌∷◌, ◌++◌, length, refl, sym, ap, subst, ◌∙◌, arith, append_assoc, add-zero}
-use Rattle.std.proofs.lemmas.List.{length-append, append-nil}
+use Rattle.std.proofs.Common.{◌≡◌, ℕ, ◌+◌, List, [], ◌∷◌, ◌++◌, length, refl, sym, ap, subst, ◌∙◌, arith, append_assoc, add-zero}
+use Rattle.std.proofs.lemmas.List.{append-nil}
 use Rattle.wot_packet.specs.Header.{IsHeader}
 use Rattle.wot_packet.specs.Spelling.{Spelled, SpellsFrom, Spells, moved}
 use Rattle.wot_packet.proofs.Lists.{packet_length}

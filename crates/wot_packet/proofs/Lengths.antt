@@ -1,12 +1,12 @@
 -- What the plain reader finds of a length is what the octets spell.
-use Rattle.std.proofs.Common.{◌≡◌, ◌≢◌, ◌⊎◌, inl, inr, ℕ, ◌+◌, ◌-◌, ◌*◌, ◌<◌, ◌≤◌, ltb, eqb, Bool, true, false, cond, List, [], ◌∷◌, ◌++◌, Result, Ok, Err, refl, sym, ap, ◌∙◌, arith}
+use Rattle.std.proofs.Common.{◌≡◌, ◌≢◌, ◌⊎◌, inl, inr, ℕ, ◌+◌, ◌-◌, ◌*◌, ◌<◌, ◌≤◌, ltb, eqb, Bool, true, false, cond, List, [], ◌∷◌, ◌++◌, Result, Ok, Err, refl, arith}
 use Rattle.std.specs.List.{AllByRecursion}
-use Rattle.std.proofs.lemmas.Bool.{ltb-true, ltb-false, eqb-true, eqb-false, lt-ltb, le-ltb, eq-eqb, cond_both}
+use Rattle.std.proofs.lemmas.Bool.{ltb-true, ltb-false, eqb-true, eqb-false, lt-ltb, le-ltb, cond_both}
 use Rattle.std.specs.Int.{w16, w32, from_be_bytes}
 use Rattle.wot_packet.specs.Header.{IsOpenpgpLength, IsLegacyLength}
 use Rattle.wot_packet.specs.Reading.{one_octet, two_octets, four_octets, second_octet, openpgp_length, legacy_length}
 use Rattle.wot_packet.specs.declared.packet.Why.{Why}
-use Rattle.wot_packet.specs.declared.packet.Why.TheVariants.{NotAPacket, CutLength, CutBody, Partial, Indeterminate}
+use Rattle.wot_packet.specs.declared.packet.Why.TheVariants.{CutLength, Partial, Indeterminate}
 
 abbrev pub IsOctet : ℕ → Type 0
 IsOctet o = o < 256

@@ -1,10 +1,10 @@
 -- The plain reader answers the list that a text spells, or its first fault.
-use Rattle.std.proofs.Common.{◌≡◌, ◌≢◌, ◌⊎◌, inl, inr, ℕ, zero, suc, ◌+◌, ◌-◌, ◌<◌, ◌≤◌, List, [], ◌∷◌, ◌++◌, length, Result, Ok, Err, refl, sym, ap, subst, ◌∙◌, arith, append_assoc, add-zero}
+use Rattle.std.proofs.Common.{◌≡◌, inl, inr, ℕ, zero, suc, ◌+◌, ◌-◌, ◌<◌, ◌≤◌, List, [], ◌∷◌, ◌++◌, length, Result, Ok, Err, refl, sym, ap, subst, ◌∙◌, arith, append_assoc, add-zero}
 use Rattle.std.specs.List.{AllByRecursion}
-use Rattle.std.proofs.lemmas.List.{length-append, append-nil}
-use Rattle.wot_packet.specs.Header.{IsHeader, IsOpenpgpHeader, IsLegacyHeader}
-use Rattle.wot_packet.specs.Spelling.{Spelled, SpellsFrom, Spells, IsFault, IsFirstFault}
-use Rattle.wot_packet.specs.Reading.{First, first_of, before, read_on, packets_from, packets_of}
+use Rattle.std.proofs.lemmas.List.{length-append}
+use Rattle.wot_packet.specs.Header.{IsHeader}
+use Rattle.wot_packet.specs.Spelling.{Spelled, SpellsFrom, IsFault}
+use Rattle.wot_packet.specs.Reading.{First, first_of, before, read_on, packets_from}
 use Rattle.wot_packet.specs.declared.packet.PacketFault.{PacketFault}
 use Rattle.wot_packet.specs.declared.packet.Why.{Why}
 use Rattle.wot_packet.specs.declared.packet.Why.TheVariants.{NotAPacket, CutLength, CutBody, Partial, Indeterminate}

@@ -1,13 +1,12 @@
 -- Reading packet by packet.
-use Rattle.std.proofs.Common.{◌≡◌, ◌≢◌, ℕ, zero, suc, ◌+◌, ◌-◌, ◌<◌, ◌≤◌, List, [], ◌∷◌, ◌++◌, length, take, drop, get_or, map, Result, Ok, Err, refl, sym, ap, subst, ◌∙◌, arith, append_assoc}
-use Rattle.std.specs.List.{AllByRecursion, All}
+use Rattle.std.proofs.Common.{◌≡◌, ℕ, zero, suc, ◌+◌, ◌-◌, ◌<◌, ◌≤◌, List, [], ◌∷◌, ◌++◌, length, take, drop, get_or, Ok, Err, refl, sym, ap, subst, ◌∙◌, arith, append_assoc}
+use Rattle.std.specs.List.{AllByRecursion}
 use Rattle.std.proofs.lemmas.List.{length-append, length-take-le, length-drop, take-append-drop, take_at, take_all, map_push}
 use Rattle.std.proofs.lemmas.List.Elements.{All-from_get_or, recursion_from_All}
 use Rattle.wot_packet.specs.Reading.{first_of}
 use Rattle.wot_packet.specs.Seen.{first_seen}
-use Rattle.wot_packet.specs.Spelling.{Spelled, Spells, SpellsFrom, IsFault, IsFirstFault, spelled_of, spelled_all}
+use Rattle.wot_packet.specs.Spelling.{Spells, IsFirstFault, spelled_of, spelled_all}
 use Rattle.wot_packet.specs.declared.packet.Packet.{Packet}
-use Rattle.wot_packet.specs.declared.packet.PacketFault.{PacketFault}
 use Rattle.wot_packet.specs.declared.packet.Why.{Why}
 use Rattle.wot_packet.proofs.Lengths.{IsOctet}
 use Rattle.wot_packet.proofs.First.{HasPacket, FirstMeans, first_means}

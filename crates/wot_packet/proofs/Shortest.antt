@@ -1,11 +1,11 @@
 -- The shortest spelling of a packet.
-use Rattle.std.proofs.Common.{◌≡◌, ◌⊎◌, inl, inr, ⊎_elim, ℕ, zero, suc, ◌+◌, ◌-◌, ◌*◌, ◌/◌, ◌%◌, ◌^◌, ◌<◌, ◌≤◌, ltb, Bool, true, false, cond, List, [], ◌∷◌, ◌++◌, length, get_or, refl, sym, ap, ◌∙◌, arith}
+use Rattle.std.proofs.Common.{◌≡◌, ◌⊎◌, inl, inr, ⊎_elim, ℕ, zero, suc, ◌+◌, ◌-◌, ◌*◌, ◌/◌, ◌%◌, ◌^◌, ◌<◌, ◌≤◌, ltb, true, false, cond, List, [], ◌∷◌, ◌++◌, length, get_or, refl, sym, ap, ◌∙◌, arith}
 use Rattle.std.specs.Int.{w32, to_be_bytes, from_be_bytes}
 use Rattle.std.specs.List.{AllByRecursion}
 use Rattle.std.proofs.lemmas.Bool.{ltb-true, ltb-false, lt-ltb, le-ltb, cond_both}
 use Rattle.std.proofs.lemmas.Nat.{from_be_bytes-to_be_bytes_4, be_bytes_4}
 use Rattle.std.proofs.lemmas.List.Elements.{recursion_from_All}
-use Rattle.wot_packet.specs.Header.{IsOpenpgpLength, IsOpenpgpHeader, IsHeader}
+use Rattle.wot_packet.specs.Header.{IsOpenpgpLength, IsOpenpgpHeader}
 use Rattle.wot_packet.specs.Spelling.{AreOctets, Spelled, Spells, moved}
 use Rattle.wot_packet.specs.Writing.{shortest_length, shortest_header, written}
 use Rattle.wot_packet.proofs.Lengths.{IsOctet}

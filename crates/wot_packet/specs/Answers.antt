@@ -10,6 +10,12 @@ abbrev pub IfPacket : ReadFault → (PacketFault → Type 0) → Type 0
 IfPacket (Packet fault) P = P fault
 IfPacket Memory P = Unit {0}
 
+-- The answer is what the plain reader gives, unless no memory was found.
+abbrev pub Gives : {T : Type 0} → (T → List Spelled) → Result T ReadFault → Result (List Spelled) PacketFault → Type 0
+Gives seen (Ok found) read = read ≡ Ok (seen found)
+Gives seen (Err (Packet fault)) read = read ≡ Err fault
+Gives seen (Err Memory) read = Unit {0}
+
 -- The answer, whose list is seen so, is that list, unless no memory was found.
 abbrev pub AnswersList : {T : Type 0} → (T → List Spelled) → Result T ReadFault → List Spelled → Type 0
 AnswersList seen (Ok found) packets = seen found ≡ packets

@@ -1,7 +1,7 @@
 ghost use Rattle.std.specs.Prelude.{◌≡◌, ◌<◌, ◌≤◌, ◌^◌, List, length, Ok, Err, MatchResult, IfOk, IfErr};
 ghost use Rattle.std.specs.List.{All};
-ghost use Rattle.wot_packet.specs.Answers.{IfPacket, AnswersList, AnswersFault};
-ghost use Rattle.wot_packet.specs.Reading.{first_of};
+ghost use Rattle.wot_packet.specs.Answers.{IfPacket, Gives, AnswersList, AnswersFault};
+ghost use Rattle.wot_packet.specs.Reading.{first_of, packets_of};
 ghost use Rattle.wot_packet.specs.Seen.{first_seen};
 ghost use Rattle.wot_packet.specs.Spelling.{Spelled, Spells, IsFirstFault, spelled_all};
 ghost use Rattle.wot_packet.specs.declared.packet.PacketFault.{PacketFault};
@@ -37,6 +37,8 @@ pub fn read_packets<'a>(alloc: Global, bytes: &'a [u8]) -> Result<Vec<Packet<'a>
     // What is answered is what the text spells, or its first fault.
     ensures spelled { IfOk result (λ packets. Spells bytes.now (spelled_all packets.items)) }
     ensures fault { IfErr result (λ answer. IfPacket answer (λ fault. IsFirstFault bytes.now fault)) }
+    // The same, by the plain reader.
+    ensures reader { Gives (λ found. spelled_all found.items) result (packets_of bytes.now) }
     // A packet that was read can be written.
     ensures bounds { IfOk result (λ packets. All (λ packet. (packet.kind ≤ 63) × (length packet.body.now < 2 ^ 32)) packets.items) }
 

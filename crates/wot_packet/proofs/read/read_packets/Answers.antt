@@ -1,9 +1,8 @@
-use Rattle.std.proofs.Common.{◌≡◌, sym, ap, ◌∙◌, arith}
+use Rattle.std.proofs.Common.{sym, ap, ◌∙◌, arith}
 use Rattle.wot_packet.specs.Reading.{first_of}
-use Rattle.wot_packet.specs.Spelling.{Spells, IsFirstFault, spelled_all}
-use Rattle.wot_packet.specs.declared.packet.PacketFault.{PacketFault}
+use Rattle.wot_packet.specs.Spelling.{IsFirstFault, spelled_all}
 use Rattle.wot_packet.proofs.Bounds.{packet_bounds}
-use Rattle.wot_packet.proofs.Exact.{one_list, one_fault, never_both}
+use Rattle.wot_packet.proofs.Exact.{one_list, one_fault, never_both, list_read, fault_read}
 use Rattle.wot_packet.proofs.Looping.{one_more, all_read, fault_here}
 use Rattle.wot_packet.proofs.read.read_packets.Goals as goal
 use Rattle.wot_packet.proofs.read.read_packets.Goals.{After-drop-packets}
@@ -15,6 +14,9 @@ told c =
 
 pub returns-in-Err-clause-fault : goal.returns-in-Err-clause-fault
 returns-in-Err-clause-fault c = told c
+
+pub returns-in-Err-clause-reader : goal.returns-in-Err-clause-reader
+returns-in-Err-clause-reader c = fault_read c.args.bytes.now (record { at = c.packets.at; why = c.in-Err.why }) (told c)
 
 pub returns-in-Err-clause-each_list : goal.returns-in-Err-clause-each_list
 returns-in-Err-clause-each_list c = λ packets h. never_both c.args.bytes.now packets (record { at = c.packets.at; why = c.in-Err.why }) h (told c)
@@ -39,3 +41,7 @@ returns-clause-each_fault c = λ fault h.
 pub returns-clause-bounds : goal.returns-clause-bounds
 returns-clause-bounds c =
     packet_bounds c.args.bytes.now c.packets.packets.items (λ i. omega (arith, c.type_inv.bytes i)) (all_read c.args.bytes.now c.packets.at c.packets.packets.items c.packets.invariant c.packets-test.false)
+
+pub returns-clause-reader : goal.returns-clause-reader
+returns-clause-reader c =
+    list_read c.args.bytes.now (spelled_all c.packets.packets.items) (all_read c.args.bytes.now c.packets.at c.packets.packets.items c.packets.invariant c.packets-test.false)
