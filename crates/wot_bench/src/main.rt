@@ -3,8 +3,7 @@
 
 mod packets;
 
-use std::env;
-use std::io;
+use std::{env, io};
 
 fn number(word: Option<String>) -> usize {
     match word {
