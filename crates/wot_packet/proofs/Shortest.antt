@@ -1,15 +1,16 @@
 -- The shortest spelling of a packet.
-use Rattle.std.proofs.Common.{◌≡◌, ◌⊎◌, inl, inr, ⊎_elim, ℕ, zero, suc, ◌+◌, ◌-◌, ◌*◌, ◌/◌, ◌%◌, ◌^◌, ◌<◌, ◌≤◌, ltb, true, false, cond, List, [], ◌∷◌, ◌++◌, length, get_or, refl, sym, ap, ◌∙◌, arith}
+use Rattle.std.proofs.Common.{◌≡◌, ◌⊎◌, inl, inr, ⊎_elim, ℕ, zero, suc, ◌+◌, ◌-◌, ◌*◌, ◌/◌, ◌%◌, ◌^◌, ◌<◌, ◌≤◌, ltb, true, false, cond, List, [], ◌∷◌, ◌++◌, length, get_or, refl, sym, ap, ◌∙◌, arith, append_assoc}
 use Rattle.std.specs.Int.{w32, to_be_bytes, from_be_bytes}
-use Rattle.std.specs.List.{AllByRecursion}
+use Rattle.std.specs.List.{All, AllByRecursion}
+use Rattle.std.proofs.lemmas.List.{length-append}
 use Rattle.std.proofs.lemmas.Bool.{ltb-true, ltb-false, lt-ltb, le-ltb, cond_both}
 use Rattle.std.proofs.lemmas.Nat.{from_be_bytes-to_be_bytes_4, be_bytes_4}
 use Rattle.std.proofs.lemmas.List.Elements.{recursion_from_All}
 use Rattle.wot_packet.specs.Header.{IsOpenpgpLength, IsOpenpgpHeader}
-use Rattle.wot_packet.specs.Spelling.{AreOctets, Spelled, Spells, moved}
-use Rattle.wot_packet.specs.Writing.{shortest_length, shortest_header, written}
+use Rattle.wot_packet.specs.Spelling.{AreOctets, Spelled, Spells, SpellsFrom, moved}
+use Rattle.wot_packet.specs.Writing.{shortest_length, shortest_header, written, CanBeWritten, written_all, placed}
 use Rattle.wot_packet.proofs.Lengths.{IsOctet}
-use Rattle.wot_packet.proofs.Joining.{joined, single}
+use Rattle.wot_packet.proofs.Joining.{spelled_from, joined, single}
 
 pub shortest_is_length : (n : ℕ) → n < 2 ^ 32 → IsOpenpgpLength (shortest_length n) n
 shortest_is_length n h =
@@ -77,3 +78,21 @@ pub written_first : (kind : ℕ) (body text : List ℕ) (packets : List Spelled)
 written_first kind body text packets k l h =
     joined (written kind body) text (record { kind = kind; body = body; at = 0 } ∷ []) packets
     (single 0 (shortest_header kind (length body)) (record { kind = kind; body = body; at = 0 }) (inl (shortest_is_header kind (length body) k l)) refl) h
+
+written_from : (at : ℕ) (packets : List (ℕ × List ℕ)) → AllByRecursion (λ packet. CanBeWritten packet.0 packet.1) packets → SpellsFrom at (written_all packets) (placed at packets)
+written_from at [] h = refl
+written_from at (packet ∷ packets) h =
+    let header = shortest_header packet.0 (length packet.1) in
+    let size : length (written packet.0 packet.1) ≡ length header + length packet.1 = length-append header packet.1 in
+    let place : at + length (written packet.0 packet.1) ≡ at + length header + length packet.1 = omega (arith, size) in (
+      header,
+      written_all packets,
+      inl (shortest_is_header packet.0 (length packet.1) h.0.0 h.0.1),
+      append_assoc header packet.1 (written_all packets),
+      refl,
+      spelled_from (at + length (written packet.0 packet.1)) (at + length header + length packet.1) (written_all packets) (placed (at + length (written packet.0 packet.1)) packets) place
+          (written_from (at + length (written packet.0 packet.1)) packets h.1),
+    )
+
+pub written_back : (packets : List (ℕ × List ℕ)) → All (λ packet. CanBeWritten packet.0 packet.1) packets → Spells (written_all packets) (placed 0 packets)
+written_back packets h = written_from 0 packets (recursion_from_All (λ (packet : ℕ × List ℕ). CanBeWritten packet.0 packet.1) packets h)

@@ -1,9 +1,15 @@
--- What reading a text answers.
+-- What reading answers.
 use Rattle.std.specs.Prelude.{◌≡◌, List, Result, Ok, Err}
 use Rattle.wot_packet.specs.Spelling.{Spelled}
 use Rattle.wot_packet.specs.declared.packet.PacketFault.{PacketFault}
 use Rattle.wot_packet.specs.declared.packet.ReadFault.{ReadFault}
 use Rattle.wot_packet.specs.declared.packet.ReadFault.TheVariants.{Packet, Memory}
+use Rattle.wot_packet.specs.declared.packet.Why.{Why}
+
+-- What was found, seen so, or why nothing was, is what the plain reader gives.
+abbrev pub Finds : {T X : Type 0} → (T → X) → Result T Why → Result X Why → Type 0
+Finds seen (Ok found) read = read ≡ Ok (seen found)
+Finds seen (Err why) read = read ≡ Err why
 
 -- This holds of the fault of the text, where one is told.
 abbrev pub IfPacket : ReadFault → (PacketFault → Type 0) → Type 0

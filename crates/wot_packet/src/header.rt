@@ -1,4 +1,5 @@
-ghost use Rattle.std.specs.Prelude.{◌≡◌, ◌<◌, Ok, Err, MatchResult};
+ghost use Rattle.std.specs.Prelude.{◌<◌};
+ghost use Rattle.wot_packet.specs.Answers.{Finds};
 ghost use Rattle.wot_packet.specs.Reading.{openpgp_length, legacy_length, front_of};
 ghost use Rattle.wot_packet.specs.Seen.{front_seen};
 
@@ -14,7 +15,7 @@ pub(crate) struct Header<'a> {
 
 /// A length in the OpenPGP format (section 4.2.1), and what is behind it.
 fn openpgp(octets: &[u8]) -> Result<(usize, &[u8]), Why>
-    ensures { MatchResult result (λ found. openpgp_length octets.now ≡ Ok (found.0, found.1.now)) (λ why. openpgp_length octets.now ≡ Err why) }
+    ensures { Finds (λ found. (found.0, found.1.now)) result (openpgp_length octets.now) }
 {
     match octets {
         [length @ 0..=191, rest @ ..] => Ok((usize::from(*length), rest)),
@@ -34,7 +35,7 @@ fn openpgp(octets: &[u8]) -> Result<(usize, &[u8]), Why>
 /// A length in the legacy format (section 4.2.2), of this length type, and what is behind it.
 fn legacy(length_type: u8, octets: &[u8]) -> Result<(usize, &[u8]), Why>
     requires { length_type < 4 }
-    ensures { MatchResult result (λ found. legacy_length length_type octets.now ≡ Ok (found.0, found.1.now)) (λ why. legacy_length length_type octets.now ≡ Err why) }
+    ensures { Finds (λ found. (found.0, found.1.now)) result (legacy_length length_type octets.now) }
 {
     match (length_type, octets) {
         (0, [length, rest @ ..]) => Ok((usize::from(*length), rest)),
@@ -50,7 +51,7 @@ fn legacy(length_type: u8, octets: &[u8]) -> Result<(usize, &[u8]), Why>
 
 /// The header that stands at the front.
 pub(crate) fn read_header(octets: &[u8]) -> Result<Header<'_>, Why>
-    ensures { MatchResult result (λ header. front_of octets.now ≡ Ok (front_seen header)) (λ why. front_of octets.now ≡ Err why) }
+    ensures { Finds front_seen result (front_of octets.now) }
 {
     let [tag, lengths @ ..] = octets else {
         return Err(Why::CutLength);

@@ -1,6 +1,6 @@
-ghost use Rattle.std.specs.Prelude.{◌≡◌, ◌<◌, ◌≤◌, ◌^◌, List, length, Ok, Err, MatchResult, IfOk, IfErr};
+ghost use Rattle.std.specs.Prelude.{◌≡◌, ◌<◌, ◌≤◌, ◌^◌, List, length, IfOk, IfErr};
 ghost use Rattle.std.specs.List.{All};
-ghost use Rattle.wot_packet.specs.Answers.{IfPacket, Gives, AnswersList, AnswersFault};
+ghost use Rattle.wot_packet.specs.Answers.{Finds, IfPacket, Gives, AnswersList, AnswersFault};
 ghost use Rattle.wot_packet.specs.Reading.{first_of, packets_of};
 ghost use Rattle.wot_packet.specs.Seen.{first_seen};
 ghost use Rattle.wot_packet.specs.Spelling.{Spelled, Spells, IsFirstFault, spelled_all};
@@ -13,7 +13,7 @@ use std::alloc::Global;
 /// The packet at the front of the octets, which begin at this place, and what is behind it.
 fn first_packet(octets: &[u8], at: usize) -> Result<(Packet<'_>, &[u8]), Why>
     ensures place { IfOk result (λ found. found.0.at ≡ at) }
-    ensures first { MatchResult result (λ found. first_of octets.now ≡ Ok (first_seen found.0 found.1.now)) (λ why. first_of octets.now ≡ Err why) }
+    ensures first { Finds (λ found. first_seen found.0 found.1.now) result (first_of octets.now) }
 {
     let header = read_header(octets)?;
     if header.rest.len() < header.length {
@@ -40,11 +40,14 @@ pub fn read_packets<'a>(alloc: Global, bytes: &'a [u8]) -> Result<Vec<Packet<'a>
     // The same, by the plain reader.
     ensures reader { Gives (λ found. spelled_all found.items) result (packets_of bytes.now) }
     // A packet that was read can be written.
-    ensures bounds { IfOk result (λ packets. All (λ packet. (packet.kind ≤ 63) × (length packet.body.now < 2 ^ 32)) packets.items) }
+    ensures bounds { IfOk result (λ packets. All (λ packet.
+        (packet.kind ≤ 63) × (length packet.body.now < 2 ^ 32)) packets.items) }
 
     // Each list that the text spells is answered, and each first fault told, unless no memory is found.
-    ensures each_list { (packets : List Spelled) → Spells bytes.now packets → AnswersList (λ found. spelled_all found.items) result packets }
-    ensures each_fault { (fault : PacketFault) → IsFirstFault bytes.now fault → AnswersFault result fault }
+    ensures each_list { (packets : List Spelled) → Spells bytes.now packets →
+        AnswersList (λ found. spelled_all found.items) result packets }
+    ensures each_fault { (fault : PacketFault) → IsFirstFault bytes.now fault →
+        AnswersFault result fault }
 {
     let mut packets = Vec::new(alloc);
     let mut at = 0;
