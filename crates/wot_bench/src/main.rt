@@ -1,10 +1,11 @@
 //! The benches: `wot_bench NAME` does the bench of that name and prints what it counted.
 #![tactic(auto)]
 
+mod digests;
 mod lines;
+mod packets;
 
-use std::env;
-use std::io;
+use std::{env, io};
 
 fn number(word: Option<String>) -> usize {
     match word {
@@ -19,11 +20,21 @@ fn main(rt: HostRuntime) -> io::Result<()> {
         return println!(rt; "no bench was named");
     };
     match name.as_str() {
+        "hex" => {
+            let size = number(words.next());
+            digests::hex(&rt, size, number(words.next()))
+        }
+        "sha1" => {
+            let size = number(words.next());
+            digests::sha1(&rt, size, number(words.next()))
+        }
         "lines" => {
             let length = number(words.next());
             let piece = number(words.next());
             lines::bench(&rt, length, piece)
         }
+        "packets" => packets::bench(&rt, number(words.next())),
+        "packets-copied" => packets::bench_copy(&rt, number(words.next())),
         _ => println!(rt; "no such bench"),
     }
 }
