@@ -16,3 +16,6 @@ pub use hints::hint;
 pub use patterns::scopes;
 pub use read::read_signature;
 pub use texts::Scopes;
+
+#[cfg(test)]
+mod tests;
