@@ -1,11 +1,11 @@
 -- One subpacket more at the end.
-use Rattle.std.proofs.Common.{◌≡◌, ℕ, Bool, true, false, cond, not, ◌&&◌, ◌||◌, ◌==◌, List, [], ◌∷◌, ◌++◌, map, Option, Some, None, refl, sym, ap, ◌∙◌}
-use Rattle.std.specs.Prelude.{filter, drop, slice_index, is_some}
+use Rattle.std.proofs.Common.{◌≡◌, ℕ, Bool, true, false, cond, ◌||◌, List, [], ◌∷◌, ◌++◌, map, Option, Some, None, refl, ap, ◌∙◌}
+use Rattle.std.specs.Prelude.{filter, slice_index, is_some}
 use Rattle.std.specs.List.{list_any}
 use Rattle.std.specs.Option.{option_map_or, option_or}
 use Rattle.std.proofs.lemmas.List.{append-nil}
 use Rattle.wot_subpacket.specs.Subpacket.{Subpacket}
-use Rattle.wot_signature.specs.Known.{is_known, is_known_of, bodies_of, last_of, last_body_of}
+use Rattle.wot_signature.specs.Known.{is_known_of, bodies_of, last_of, last_body_of}
 use Rattle.wot_signature.specs.Facts.{says, is_refused, number_in, is_set, issuer_in}
 use Rattle.wot_signature.specs.Notes.{notes_in, note_more}
 

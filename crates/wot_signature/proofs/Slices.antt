@@ -1,5 +1,5 @@
 -- Slices of slices.
-use Rattle.std.proofs.Common.{◌≡◌, ℕ, Bool, true, false, cond, ◌-◌, List, [], ◌∷◌, ◌++◌, length, take, drop, map, Option, Some, None, refl, sym, ap, ◌∙◌, append_assoc}
+use Rattle.std.proofs.Common.{ℕ, Bool, true, false, cond, ◌-◌, List, [], ◌∷◌, ◌++◌, length, take, drop, map, Option, Some, None, sym, ap, ◌∙◌, append_assoc}
 use Rattle.std.specs.Prelude.{filter, IfSome}
 use Rattle.std.specs.List.{AllByRecursion}
 use Rattle.std.specs.Option.{option_map_or}
@@ -7,7 +7,7 @@ use Rattle.std.proofs.lemmas.List.{append-nil, take-append-drop}
 use Rattle.std.proofs.lemmas.Bool.{cond_both}
 use Rattle.wot_subpacket.specs.Subpacket.{Subpacket}
 use Rattle.wot_subpacket.specs.Slice.{IsSliceOf, HaveSlicesOf}
-use Rattle.wot_signature.specs.Known.{is_known_of, bodies_of}
+use Rattle.wot_signature.specs.Known.{is_known_of}
 use Rattle.wot_signature.specs.Signature.{trimmed, texts_in}
 
 pub slice_of_slice : (a b c : List ℕ) → IsSliceOf a b → IsSliceOf b c → IsSliceOf a c

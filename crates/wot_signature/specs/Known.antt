@@ -1,5 +1,5 @@
 -- Which subpackets are known (RFC 9580, section 5.2.3.7 and those behind it).
-use Rattle.std.specs.Prelude.{ℕ, Bool, true, false, ◌&&◌, ◌||◌, ◌==◌, nat_le, if◌then◌else◌, List, [], ◌∷◌, length, slice_index, map, filter, Option, Some, None}
+use Rattle.std.specs.Prelude.{ℕ, Bool, ◌&&◌, ◌||◌, ◌==◌, nat_le, if◌then◌else◌, List, [], ◌∷◌, length, slice_index, map, filter, Option, Some, None}
 use Rattle.std.specs.List.{list_any}
 use Rattle.wot_subpacket.specs.Subpacket.{Subpacket}
 

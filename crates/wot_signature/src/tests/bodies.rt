@@ -1,5 +1,6 @@
-use crate::SigFacts;
+use crate::{SigFacts, read_signature};
 use std::alloc::{AllocError, Global};
+use std::process::Abort;
 
 /// The hashed subpacket of a creation time, 2000.
 pub(crate) const MADE_2000: [u8; 6] = [0x05, 0x02, 0x00, 0x00, 0x07, 0xd0];
@@ -40,5 +41,21 @@ fn extend_with_field(body: &mut Vec<u8>, octets: &[u8]) -> Result<(), AllocError
     let size = u16::try_from(octets.len()).unwrap_or(0);
     body.extend_from_slice(&size.to_be_bytes())?;
     body.extend_from_slice(octets)?;
+    Ok(())
+}
+
+pub(crate) fn assert_facts(rt: &impl Abort, body: &[u8], expected: Option<SigFacts>) {
+    assert_eq!(rt; read_signature(body), expected, "of {body:?}");
+}
+
+/// Asserts what a certification with these areas says.
+pub(crate) fn assert_said(
+    rt: &(impl Abort + AllocGlobal),
+    hashed: &[u8],
+    unhashed: &[u8],
+    expected: Option<SigFacts>,
+) -> Result<(), AllocError> {
+    let body = certification(rt.alloc(), hashed, unhashed)?;
+    assert_facts(rt, body.as_slice(), expected);
     Ok(())
 }

@@ -1,4 +1,4 @@
-use crate::tests::bodies::{MADE_2000, PLAIN, certification};
+use crate::tests::bodies::{MADE_2000, PLAIN, assert_said};
 use crate::{SigFacts, read_signature};
 use std::test::Fail;
 
@@ -116,12 +116,7 @@ fn hashed_areas_give_facts(rt: HostRuntime) -> Result<(), Fail> {
         ),
     ];
     for (hashed, expected) in rows {
-        let body = certification(rt.alloc(), hashed, &[])?;
-        assert_eq!(rt;
-            read_signature(body.as_slice()),
-            Some(expected),
-            "of {hashed:?}"
-        );
+        assert_said(&rt, hashed, &[], Some(expected))?;
     }
     Ok(())
 }
@@ -135,16 +130,11 @@ fn reasons_are_codes(rt: HostRuntime) -> Result<(), Fail> {
             hashed.push(0x1d)?;
             hashed.push(code)?;
             hashed.extend_from_slice(text)?;
-            let body = certification(rt.alloc(), hashed.as_slice(), &[])?;
             let expected = SigFacts {
                 reason: Some(code),
                 ..PLAIN
             };
-            assert_eq!(rt;
-                read_signature(body.as_slice()),
-                Some(expected),
-                "reason {code}"
-            );
+            assert_said(&rt, hashed.as_slice(), &[], Some(expected))?;
         }
     }
     Ok(())
@@ -160,12 +150,7 @@ fn only_the_hashed_area_gives_facts(rt: HostRuntime) -> Result<(), Fail> {
         &[0x05, 0x02, 0x00],
     ];
     for octets in unhashed {
-        let body = certification(rt.alloc(), &MADE_2000, octets)?;
-        assert_eq!(rt;
-            read_signature(body.as_slice()),
-            Some(PLAIN),
-            "beside {octets:?}"
-        );
+        assert_said(&rt, &MADE_2000, octets, Some(PLAIN))?;
     }
     Ok(())
 }
@@ -198,8 +183,7 @@ fn other_bodies_are_unreadable(rt: HostRuntime) -> Result<(), Fail> {
         &[0xff, 0x00, 0x00, 0x00],
     ];
     for octets in hashed {
-        let body = certification(rt.alloc(), octets, &[])?;
-        assert_eq!(rt; read_signature(body.as_slice()), None, "of {octets:?}");
+        assert_said(&rt, octets, &[], None)?;
     }
     Ok(())
 }
@@ -211,12 +195,11 @@ fn the_longest_hashed_area_is_read(rt: HostRuntime) -> Result<(), Fail> {
         many.extend_from_slice(&[0x05, 0x02, 0x00, 0x00, 0x03, 0xe8])?;
     }
     many.extend_from_slice(&[0x02, 0x65, 0x00])?;
-    let body = certification(rt.alloc(), many.as_slice(), many.as_slice())?;
     let expected = SigFacts {
         made: 1000,
         ..PLAIN
     };
     assert_eq!(rt; many.len(), 65535);
-    assert_eq!(rt; read_signature(body.as_slice()), Some(expected));
+    assert_said(&rt, many.as_slice(), many.as_slice(), Some(expected))?;
     Ok(())
 }
