@@ -17,7 +17,7 @@ fn number(word: Option<String>) -> usize {
 fn main(rt: HostRuntime) -> io::Result<()> {
     let mut words = env::args(&rt)?.skip(1);
     let Some(name) = words.next() else {
-        return Ok(());
+        return println!(rt; "no bench was named");
     };
     match name.as_str() {
         "hex" => {
