@@ -1,0 +1,16 @@
+//! Edges, roads, paths and what they use: what a valid path is, and which path is next.
+#![tactic(auto)]
+
+mod edge;
+mod lists;
+mod path;
+mod roads;
+mod roots;
+mod used;
+
+pub use edge::{Edge, EdgeFacts};
+pub use lists::{PathList, StepList};
+pub use path::{Path, Step};
+pub use roads::Roads;
+pub use roots::{Roots, RootsIter};
+pub use used::{Pair, Used};

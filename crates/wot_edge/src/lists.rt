@@ -1,0 +1,77 @@
+ghost use Rattle.std.specs.Prelude.{◌≡◌};
+
+use crate::{Path, Step};
+use std::alloc::Global;
+use std::marker::Model;
+
+/// The steps of a path, from the root on.
+#[derive(Drop)]
+pub struct StepList {
+    items: Vec<Step, Global>,
+}
+
+impl Model for StepList {
+    ghost use Rattle.std.specs.Prelude.{List};
+    ghost use Rattle.wot_edge.specs.declared.path.Step.{Step};
+
+    ghost Value = { List Step };
+
+    ghost view = { λ list. list.items.items };
+}
+
+impl StepList {
+    /// The list of these.
+    pub fn new(items: Vec<Step>) -> StepList
+        ensures items { result ≡ items.items }
+    {
+        StepList { items }
+    }
+
+    pub fn as_slice(&self) -> &[Step]
+        ensures items { result.now ≡ self.now }
+    {
+        self.items.as_slice()
+    }
+
+    pub fn into_vec(self) -> Vec<Step>
+        ensures items { result.items ≡ self }
+    {
+        self.items
+    }
+}
+
+/// Paths, in the order in which they were taken.
+#[derive(Drop)]
+pub struct PathList {
+    items: Vec<Path, Global>,
+}
+
+impl Model for PathList {
+    ghost use Rattle.std.specs.Prelude.{List};
+    ghost use Rattle.wot_edge.specs.declared.path.Path.{Path};
+
+    ghost Value = { List Path };
+
+    ghost view = { λ list. list.items.items };
+}
+
+impl PathList {
+    /// The list of these.
+    pub fn new(items: Vec<Path>) -> PathList
+        ensures items { result ≡ items.items }
+    {
+        PathList { items }
+    }
+
+    pub fn as_slice(&self) -> &[Path]
+        ensures items { result.now ≡ self.now }
+    {
+        self.items.as_slice()
+    }
+
+    pub fn into_vec(self) -> Vec<Path>
+        ensures items { result.items ≡ self }
+    {
+        self.items
+    }
+}

@@ -1,0 +1,69 @@
+ghost use Rattle.std.specs.Prelude.{◌≡◌, ◌<◌, ◌+◌, ◌^◌, OnOk, OnErr};
+ghost use Rattle.wot_types.specs.declared.fpr.Fpr.{Fpr as Print};
+ghost use Rattle.wot_edge.specs.Path.{path_pair, path_root};
+ghost use Rattle.wot_edge.specs.Sums.{pair_sum, root_sum};
+
+use crate::Path;
+use std::alloc::Global;
+use std::collections::BTreeMap;
+use std::marker::Model;
+use wot_types::{Fpr, Memory};
+
+/// An issuer and a target.
+#[derive(Clone, Copy, Debug, PartialEq, Eq, PartialOrd, Ord)]
+pub struct Pair {
+    pub issuer: Fpr,
+    pub target: Fpr,
+}
+
+/// What paths use of each pair of issuer and target, and of each root.
+#[derive(Drop)]
+pub struct Used {
+    pairs: BTreeMap<Pair, u32, Global>,
+    roots: BTreeMap<Fpr, u32, Global>,
+}
+
+impl Model for Used {
+    ghost use Rattle.wot_edge.specs.Sums.{Sums};
+
+    ghost Value = { Sums };
+
+    ghost view = { λ used. record { pairs = used.pairs.entries; roots = used.roots.entries } };
+}
+
+impl Used {
+    /// Nothing is used yet.
+    pub fn new(alloc: Global) -> Used
+        ensures pairs { (issuer target : Print) → pair_sum result issuer target ≡ 0 }
+        ensures roots { (fpr : Print) → root_sum result fpr ≡ 0 }
+    {
+        Used {
+            pairs: BTreeMap::new(alloc),
+            roots: BTreeMap::new(alloc),
+        }
+    }
+
+    /// What the paths that have an edge from this issuer into this target use, together.
+    pub fn pair(&self, issuer: &Fpr, target: &Fpr) -> u32
+        ensures sum { result ≡ pair_sum self.now issuer.now target.now }
+    {
+        let pair = Pair {
+            issuer: *issuer,
+            target: *target,
+        };
+        match self.pairs.get(&pair) {
+            Some(sum) => *sum,
+            None => 0,
+        }
+    }
+
+    /// What the paths from this root use, together.
+    pub fn root(&self, fpr: &Fpr) -> u32
+        ensures sum { result ≡ root_sum self.now fpr.now }
+    {
+        match self.roots.get(fpr) {
+            Some(sum) => *sum,
+            None => 0,
+        }
+    }
+}
