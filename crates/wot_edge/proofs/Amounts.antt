@@ -1,8 +1,9 @@
 -- The amounts of the roots stay amounts.
-use Rattle.std.proofs.Common.{◌≡◌, ℕ, ◌<◌, ◌≤◌, Bool, true, false, cond, List, [], ◌∷◌, Ordering, refl}
+use Rattle.std.proofs.Common.{◌≡◌, ℕ, ◌<◌, ◌≤◌, Bool, true, false, cond, List, [], ◌∷◌, Ordering, refl, Option}
 use Rattle.std.specs.declared.cmp.Ordering.TheVariants.{Less, Equal, Greater}
 use Rattle.std.specs.Ordering.{match_ordering}
 use Rattle.std.specs.Map.{remove_entry}
+use Rattle.std.specs.Option.{unwrap_or}
 use Rattle.std.specs.BTreeMap.{insert_entry}
 use Rattle.std.specs.List.{AllByRecursion}
 
@@ -22,3 +23,8 @@ all-remove_entry P test (e ∷ es) all =
       | true ↦ all.1
       | false ↦ (all.0, all-remove_entry P test es all.1)
     ]
+
+-- the number that a choice holds
+pub unwrap_cond : (b : Bool) (x y : Option ℕ) → unwrap_or (cond b x y) 0 ≡ cond b (unwrap_or x 0) (unwrap_or y 0)
+unwrap_cond true x y = refl
+unwrap_cond false x y = refl

@@ -3,6 +3,7 @@
 
 mod edge;
 mod lists;
+mod maps;
 mod path;
 mod roads;
 mod roots;

@@ -7,6 +7,7 @@ ghost use Rattle.wot_types.specs.Fpr.{fpr_cmp};
 ghost use Rattle.wot_edge.specs.Roots.{IsRoots, root_amount};
 ghost use Rattle.wot_edge.specs.Order.{same_fpr};
 
+use crate::maps::{put, take_out};
 use std::alloc::Global;
 use std::collections::BTreeMap;
 use std::collections::btree_map::Iter;
@@ -50,10 +51,10 @@ impl Roots {
         ensures kept { OnErr result (self.new ≡ self.old) }
     {
         if amount == 0 {
-            let _ = self.amounts.remove(&fpr);
+            take_out(&mut self.amounts, &fpr);
             return Ok(());
         }
-        self.amounts.insert(fpr, amount)?;
+        put(&mut self.amounts, fpr, amount)?;
         Ok(())
     }
 
