@@ -1,2 +1,4 @@
 pub mod Amounts
 pub mod Fprs
+pub mod Orders
+pub mod PairSums

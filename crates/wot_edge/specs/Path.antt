@@ -77,9 +77,13 @@ pub record Use : Type 0 where
 abbrev pub is_of : Fpr → Fpr → Step → Bool
 is_of issuer target step = same_fpr issuer step.issuer && same_fpr target step.target
 
--- a path uses its amount of each of its pairs, once, and of its root
+-- what these steps use of a pair: the amount, once, where one of them is of it
+abbrev pub pair_part : Fpr → Fpr → ℕ → List Step → ℕ
+pair_part issuer target amount steps = if list_any (is_of issuer target) steps then amount else 0
+
+-- a path uses its amount of each of its pairs, and of its root
 abbrev pub path_pair : Fpr → Fpr → Path → ℕ
-path_pair issuer target path = if list_any (is_of issuer target) path.steps then path.amount else 0
+path_pair issuer target path = pair_part issuer target path.amount path.steps
 
 abbrev pub path_root : Fpr → Path → ℕ
 path_root fpr path = if same_fpr fpr path.root then path.amount else 0

@@ -4,9 +4,11 @@
 mod edge;
 mod lists;
 mod maps;
+mod pairs;
 mod path;
 mod roads;
 mod roots;
+mod sums;
 mod used;
 
 pub use edge::{Edge, EdgeFacts};

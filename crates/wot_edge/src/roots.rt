@@ -2,7 +2,7 @@ ghost use Rattle.std.specs.Prelude.{◌≡◌, ◌<◌, ◌^◌, [], length, OnO
 ghost use Rattle.std.specs.BTreeMap.{insert_entry, is_at};
 ghost use Rattle.std.specs.Map.{remove_entry};
 ghost use Rattle.std.specs.Iterator.{YieldsFirst, item_count};
-ghost use Rattle.wot_types.specs.declared.fpr.Fpr.{Fpr as Print};
+ghost use Rattle.wot_types.specs.declared.fpr.Fpr.{Fpr as TheFpr};
 ghost use Rattle.wot_types.specs.Fpr.{fpr_cmp};
 ghost use Rattle.wot_edge.specs.Roots.{IsRoots, root_amount};
 ghost use Rattle.wot_edge.specs.Order.{same_fpr};
@@ -46,7 +46,7 @@ impl Roots {
     /// roots are as before.
     pub fn set(&mut self, fpr: Fpr, amount: u8) -> Result<(), Memory>
         ensures set { OnOk result (0 < amount → self.new ≡ insert_entry fpr_cmp self.old fpr amount) }
-        ensures gets { OnOk result ((q : Print) → root_amount self.new q ≡ (if same_fpr fpr q then amount else root_amount self.old q)) }
+        ensures gets { OnOk result ((q : TheFpr) → root_amount self.new q ≡ (if same_fpr fpr q then amount else root_amount self.old q)) }
         ensures taken { amount ≡ 0 → (result ≡ Ok tt) × (self.new ≡ remove_entry (is_at (fpr_cmp fpr)) self.old) }
         ensures kept { OnErr result (self.new ≡ self.old) }
     {
