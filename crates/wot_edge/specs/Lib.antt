@@ -4,5 +4,6 @@ pub mod Roots
 pub mod Path
 pub mod Sums
 pub mod Answer
+pub mod Capacity
 pub mod Agree
 pub mod Leads

@@ -2,6 +2,7 @@
 #![tactic(auto)]
 
 mod edge;
+pub mod laws;
 mod lists;
 mod maps;
 mod pairs;
