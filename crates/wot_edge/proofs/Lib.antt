@@ -11,3 +11,4 @@ pub mod One
 pub mod Answering
 pub mod Fitting
 pub mod Worked
+pub mod PlainTold

@@ -7,3 +7,4 @@ pub mod Answer
 pub mod Capacity
 pub mod Agree
 pub mod Leads
+pub mod Plain

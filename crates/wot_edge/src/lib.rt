@@ -7,6 +7,7 @@ mod lists;
 mod maps;
 mod pairs;
 mod path;
+pub mod plain;
 mod roads;
 mod roots;
 mod sums;

@@ -2,6 +2,7 @@
 ghost use Rattle.std.specs.Prelude.{◌≡◌, ◌+◌, ◌<◌, ◌^◌, cond, OnOk, OnErr, IsSome, Some, None, if◌then◌else◌};
 ghost use Rattle.std.specs.BTreeMap.{insert_entry, is_at};
 ghost use Rattle.std.specs.Map.{lookup, remove_entry};
+ghost use Rattle.std.specs.Option.{option_copied};
 ghost use Rattle.wot_types.specs.declared.fpr.Fpr.{Fpr as TheFpr};
 ghost use Rattle.wot_types.specs.Fpr.{fpr_cmp};
 ghost use Rattle.wot_edge.specs.Order.{same_fpr};
@@ -12,7 +13,8 @@ use std::alloc::Global;
 use std::collections::BTreeMap;
 use wot_types::{Fpr, Memory};
 
-pub fn put<V: Copy>(map: &mut BTreeMap<Fpr, V>, fpr: Fpr, value: V) -> Result<(), Memory>
+/// Keeps a value at a fingerprint, in place of an earlier one.
+pub fn put<V: Drop>(map: &mut BTreeMap<Fpr, V, Global>, fpr: Fpr, value: V) -> Result<(), Memory>
     ensures entries { OnOk result (map.new.entries ≡ insert_entry fpr_cmp map.old.entries fpr value) }
     ensures gets { OnOk result ((q : TheFpr) → lookup (is_at (fpr_cmp q)) map.new.entries ≡ cond (is_at (fpr_cmp fpr) q) (Some value) (lookup (is_at (fpr_cmp q)) map.old.entries)) }
     ensures kept { OnErr result (map.new.entries ≡ map.old.entries) }
@@ -22,7 +24,8 @@ pub fn put<V: Copy>(map: &mut BTreeMap<Fpr, V>, fpr: Fpr, value: V) -> Result<()
     Ok(())
 }
 
-pub fn take_out<V: Copy>(map: &mut BTreeMap<Fpr, V>, fpr: &Fpr)
+/// Takes out the value at a fingerprint.
+pub fn take_out<V: Drop>(map: &mut BTreeMap<Fpr, V, Global>, fpr: &Fpr)
     ensures entries { map.new.entries ≡ remove_entry (is_at (fpr_cmp fpr.now)) map.old.entries }
     ensures gets { (q : TheFpr) → lookup (is_at (fpr_cmp q)) map.new.entries ≡ cond (is_at (fpr_cmp fpr.now) q) None (lookup (is_at (fpr_cmp q)) map.old.entries) }
 {
@@ -44,4 +47,11 @@ pub fn raise_root(sums: &mut BTreeMap<Fpr, u32, Global>, fpr: Fpr, amount: u8)
     ensures raised { (q : TheFpr) → sum_at fpr_cmp sums.new.entries q ≡ sum_at fpr_cmp sums.old.entries q + (if same_fpr q fpr then amount else 0) }
 {
     raise(sums, fpr, amount);
+}
+
+/// The value at a fingerprint.
+pub fn find<'a, V>(map: &'a BTreeMap<Fpr, V, Global>, fpr: &Fpr) -> Option<&'a V>
+    ensures found { option_copied result ≡ lookup (is_at (fpr_cmp fpr.now)) map.now.entries }
+{
+    map.get(fpr)
 }
