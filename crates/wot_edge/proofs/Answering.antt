@@ -5,7 +5,7 @@ use Rattle.std.proofs.lemmas.List.Sums.{sum_by-cons}
 use Rattle.wot_edge.specs.declared.path.Path.{Path}
 use Rattle.wot_edge.specs.declared.path.Step.{Step}
 use Rattle.wot_edge.specs.Record.{IsRecord}
-use Rattle.wot_edge.specs.Path.{Question, Use, use_of, start, path_amount, IsNextPath, IsSpent}
+use Rattle.wot_edge.specs.Path.{Question, use_of, start, path_amount, IsNextPath, IsSpent}
 use Rattle.wot_edge.specs.Answer.{EachNext, amount_of, but_last, IsAnswer}
 use Rattle.wot_edge.proofs.Layers.{next_of, total}
 use Rattle.wot_edge.proofs.Exists.{AreNextOrSpent, next_of_is, root_le}
@@ -64,10 +64,10 @@ module _ (q : Question) where
 
   pub taken_answer : (wanted : ℕ) (paths : List Path) → 0 < wanted → Answers q wanted [] paths → IsAnswer q wanted paths
   taken_answer wanted paths pos a = record {
-      each = taken_each wanted [] paths a;
-      short = taken_short wanted [] paths pos a;
-      ends = taken_ends wanted [] paths a;
-    }
+    each = taken_each wanted [] paths a;
+    short = taken_short wanted [] paths pos a;
+    ends = taken_ends wanted [] paths a;
+  }
 
 -- ---- there is one answer
 

@@ -1,24 +1,23 @@
 -- Trails that cover others, and how they grow by layers.
-use Rattle.std.proofs.Common.{◌≡◌, ◌≢◌, ◌⊎◌, inl, inr, ℕ, zero, suc, ◌+◌, ◌<◌, ◌≤◌, ◌-◌, min, Bool, true, false, cond, ltb, leb, eqb, List, [], ◌∷◌, ◌++◌, length, Ordering, Option, Some, None, refl, sym, ap, subst, ◌∙◌, arith}
-use Rattle.std.specs.Prelude.{◌&&◌, ◌||◌, nat_lt, nat_le, nat_eq, not}
+use Rattle.std.proofs.Common.{◌≡◌, ◌⊎◌, inl, inr, ℕ, suc, ◌≤◌, Bool, true, false, cond, List, [], ◌∷◌, length, Ordering, refl, sym, ap, subst, ◌∙◌, arith}
+use Rattle.std.specs.Prelude.{◌&&◌, ◌||◌, nat_lt, nat_eq}
 use Rattle.std.specs.declared.cmp.Ordering.TheVariants.{Less, Equal, Greater}
 use Rattle.std.specs.Ordering.{is_lt, ordering_reverse}
 use Rattle.std.specs.List.{AllByRecursion}
 use Rattle.std.proofs.lemmas.Bool.{cases_lt, ltb-true, eqb-true, eq-eqb}
-use Rattle.std.specs.Cmp.Lexicographic.{slice_cmp}
 use Rattle.std.specs.Ordering.{ordering_then}
 use Rattle.std.proofs.lemmas.Cmp.{tied_itself}
 use Rattle.wot_types.specs.declared.fpr.Fpr.{Fpr}
 use Rattle.wot_edge.specs.declared.path.Step.{Step}
-use Rattle.wot_edge.specs.Record.{Has, rows_into}
+use Rattle.wot_edge.specs.Record.{Has}
 use Rattle.wot_edge.specs.Order.{same_fpr}
-use Rattle.wot_edge.specs.Path.{Question, Use, Stands, start, root_left, step_of}
+use Rattle.wot_edge.specs.Path.{Question, Use, start}
 use Rattle.wot_edge.specs.Order.{steps_cmp, step_cmp}
 use Rattle.wot_edge.proofs.Layers.{is_better, kept}
-use Rattle.wot_edge.proofs.Orders.{same_fpr-true, same_fpr-refl, step_total, steps_total}
+use Rattle.wot_edge.proofs.Orders.{same_fpr-true, step_total, steps_total}
 use Rattle.std.proofs.Common.{lt-ltb}
 use Rattle.wot_edge.proofs.Trail.{Serves, Trail}
-use Rattle.wot_edge.proofs.Trail.{AtMost, AtMost-refl, AtMost-trans, AtMost-le, serves_shorter, Rooted, IsFirst}
+use Rattle.wot_edge.proofs.Trail.{AtMost, AtMost-refl, AtMost-trans, AtMost-le, serves_shorter}
 
 -- one of the trails begins at the same issuer, and is at most as long, and no greater
 abbrev pub Covers : Fpr → List (List Step) → List Step → Type 0
@@ -69,7 +68,7 @@ pub grown_complete : (q : Question) (used : Use) (least size : ℕ) (old new : L
     → IsComplete q used least (suc size) new
 grown_complete q used least size old new pos founds complete keeps grown [] some few t = absurd (omega arith)
 grown_complete q used least size old new pos founds complete keeps grown (row ∷ rest) some few t = elim (cases_lt (length rest) size) [
-    inl lt ↦ keeps (row ∷ rest) (complete (row ∷ rest) (omega arith) (omega arith) t)
+  | inl lt ↦ keeps (row ∷ rest) (complete (row ∷ rest) (omega arith) (omega arith) t)
   | inr le ↦
       let as_long : length rest ≡ size = omega arith in
       let c = Covers-has q.target old rest (complete rest (omega arith) (omega arith) t.1) in
@@ -77,8 +76,8 @@ grown_complete q used least size old new pos founds complete keeps grown (row �
       let le' = AtMost-le c.0 rest c.3 in
       let s : Serves q used least row c.0 = serves_shorter q used least row rest c.0 (omega arith) f.some le' c.2 t.0 in
       elim (cases_lt (length c.0) size) [
-        inl lt ↦ Covers-trans q.target new (row ∷ c.0) (row ∷ rest) (keeps (row ∷ c.0) (complete (row ∷ c.0) (omega arith) (omega arith) (s, f.trail))) refl (cons_most row c.0 rest c.3)
-      | inr ge ↦ Covers-trans q.target new (row ∷ c.0) (row ∷ rest) (grown c.0 c.1 (omega arith) row s) refl (cons_most row c.0 rest c.3)
+        | inl lt ↦ Covers-trans q.target new (row ∷ c.0) (row ∷ rest) (keeps (row ∷ c.0) (complete (row ∷ c.0) (omega arith) (omega arith) (s, f.trail))) refl (cons_most row c.0 rest c.3)
+        | inr ge ↦ Covers-trans q.target new (row ∷ c.0) (row ∷ rest) (grown c.0 c.1 (omega arith) row s) refl (cons_most row c.0 rest c.3)
       ]
 ]
   where
@@ -110,19 +109,22 @@ is_lt-Less Greater e = absurd cc
 
 pub better_most : (a b : List Step) → is_better a b ≡ true → AtMost a b
 better_most a b e = elim (or-true (nat_lt (length a) (length b)) _ e) [
-    inl f ↦ inl (ltb-true (length a) (length b) f)
+  | inl f ↦ inl (ltb-true (length a) (length b) f)
   | inr f ↦ let g = and-true (nat_eq (length a) (length b)) (is_lt (steps_cmp a b)) f in
       inr (eqb-true (length a) (length b) g.0, λ l. let h : steps_cmp a b ≡ Greater = steps_total.antisymm a b ∙ ap ordering_reverse l in let k : steps_cmp a b ≡ Less = is_lt-Less (steps_cmp a b) g.1 in cc)
 ]
 
 pub worse_most : (a b : List Step) → is_better a b ≡ false → AtMost b a
 worse_most a b e = elim (cases_lt (length b) (length a)) [
-    inl lt ↦ inl lt
+  | inl lt ↦ inl lt
   | inr le ↦ elim (cases_lt (length a) (length b)) [
-      inl lt ↦ absurd (let l : nat_lt (length a) (length b) ≡ true = lt-ltb (length a) (length b) lt in let f : is_better a b ≡ true = rw l refl in cc)
-    | inr ge ↦ inr (omega arith, λ l.
-        let same : length a ≡ length b = omega arith in
-        let f : is_better a b ≡ true = at (nat_lt (length a) (length b)) (nat_eq (length a) (length b)) (steps_cmp a b) (eq-eqb (length a) (length b) same) l in cc)
+    | inl lt ↦ absurd (let l : nat_lt (length a) (length b) ≡ true = lt-ltb (length a) (length b) lt in let f : is_better a b ≡ true = rw l refl in cc)
+    | inr ge ↦ inr (
+      omega arith,
+      λ l.
+          let same : length a ≡ length b = omega arith in
+          let f : is_better a b ≡ true = at (nat_lt (length a) (length b)) (nat_eq (length a) (length b)) (steps_cmp a b) (eq-eqb (length a) (length b) same) l in cc,
+    )
   ]
 ]
   where

@@ -1,6 +1,6 @@
 -- Each question has a next path, or no valid path of positive amount is left.
-use Rattle.std.proofs.Common.{◌≡◌, ◌≢◌, ◌⊎◌, inl, inr, ℕ, zero, suc, ◌+◌, ◌<◌, ◌≤◌, ◌-◌, min, Bool, true, false, cond, List, [], ◌∷◌, ◌++◌, length, Option, Some, None, refl, sym, ap, subst, ◌∙◌, arith, leb-true, le-leb, not}
-use Rattle.std.specs.Prelude.{◌&&◌, nat_lt, nat_le, nat_eq}
+use Rattle.std.proofs.Common.{◌≡◌, inl, inr, ℕ, zero, suc, ◌+◌, ◌<◌, ◌≤◌, Bool, true, false, cond, List, [], ◌∷◌, length, Option, Some, None, refl, sym, subst, arith, leb-true}
+use Rattle.std.specs.Prelude.{nat_le}
 use Rattle.std.specs.List.{AllByRecursion}
 use Rattle.std.proofs.lemmas.Bool.{cases_lt, leb-false}
 use Rattle.wot_types.specs.declared.fpr.Fpr.{Fpr}
@@ -8,14 +8,13 @@ use Rattle.wot_edge.specs.declared.path.Step.{Step}
 use Rattle.wot_edge.specs.Record.{Has, entry_at}
 use Rattle.wot_edge.specs.Roots.{root_amount}
 use Rattle.wot_edge.specs.Order.{same_fpr}
-use Rattle.wot_edge.specs.Path.{Question, Use, start, path_amount, root_left, IsNext, IsSpent, IsOpen, step_of}
+use Rattle.wot_edge.specs.Path.{Question, Use, start, path_amount, root_left, IsNext, IsSpent}
 use Rattle.std.specs.Option.{unwrap_or}
 use Rattle.std.specs.Map.{lookup}
 use Rattle.std.specs.BTreeMap.{is_at}
 use Rattle.wot_types.specs.Fpr.{fpr_cmp}
-use Rattle.wot_edge.proofs.Trail.{Trail}
 use Rattle.wot_edge.proofs.Trail.{AtMost, AtMost-refl, AtMost-trans, AtMost-le, Rooted, IsFirst, rooted_amount, first_next, none_spent, disordered_spent}
-use Rattle.wot_edge.proofs.Covers.{Covers, Covers-has, IsComplete, IsFound, better_most, worse_most}
+use Rattle.wot_edge.proofs.Covers.{Covers-has, IsComplete, IsFound, better_most, worse_most}
 use Rattle.wot_edge.proofs.Layers.{is_better, better_of, chosen, grown, first_layer, first_or, climbed_to, next_from, first_from, first_of, total, climbed, next_of}
 use Rattle.wot_edge.proofs.Searching.{first_found, first_layer_complete, grown_found, grown_is_complete}
 
@@ -27,30 +26,46 @@ module _ (q : Question) (used : Use) (least : ℕ) where
 
   chosen-skip : (p : List Step) (ps : List (List Step)) (o : Option (List Step)) → (least ≤ root_left q used (start q.target p) → ⊥) → IsChosen ps o → IsChosen (p ∷ ps) o
   chosen-skip p ps None n c = λ x h le. elim h [
-      inl e ↦ n (subst (λ (z : List Step). least ≤ root_left q used (start q.target z)) e le)
+    | inl e ↦ n (subst (λ (z : List Step). least ≤ root_left q used (start q.target z)) e le)
     | inr h' ↦ c x h' le
   ]
-  chosen-skip p ps (Some o) n c = (inr c.0, c.1, λ x h le. elim h [
-      inl e ↦ absurd (n (subst (λ (z : List Step). least ≤ root_left q used (start q.target z)) e le))
-    | inr h' ↦ c.2 x h' le
-  ])
+  chosen-skip p ps (Some o) n c = (
+    inr c.0,
+    c.1,
+    λ x h le. elim h [
+      | inl e ↦ absurd (n (subst (λ (z : List Step). least ≤ root_left q used (start q.target z)) e le))
+      | inr h' ↦ c.2 x h' le
+    ],
+  )
 
   chosen-take : (p : List Step) (ps : List (List Step)) (o : Option (List Step)) → least ≤ root_left q used (start q.target p) → IsChosen ps o → IsChosen (p ∷ ps) (Some (better_of p o))
-  chosen-take p ps None le c = (inl refl, le, λ x h le'. elim h [
-      inl e ↦ subst (AtMost p) (sym e) (AtMost-refl p)
-    | inr h' ↦ absurd (c x h' le')
-  ])
+  chosen-take p ps None le c = (
+    inl refl,
+    le,
+    λ x h le'. elim h [
+      | inl e ↦ subst (AtMost p) (sym e) (AtMost-refl p)
+      | inr h' ↦ absurd (c x h' le')
+    ],
+  )
   chosen-take p ps (Some o) le c = by (is_better p o) refl
     where
       by : (b : Bool) → is_better p o ≡ b → IsChosen (p ∷ ps) (Some (cond b p o))
-      by true e = (inl refl, le, λ x h le'. elim h [
-          inl f ↦ subst (AtMost p) (sym f) (AtMost-refl p)
-        | inr h' ↦ AtMost-trans p o x (better_most p o e) (c.2 x h' le')
-      ])
-      by false e = (inr c.0, c.1, λ x h le'. elim h [
-          inl f ↦ subst (AtMost o) (sym f) (worse_most p o e)
-        | inr h' ↦ c.2 x h' le'
-      ])
+      by true e = (
+        inl refl,
+        le,
+        λ x h le'. elim h [
+          | inl f ↦ subst (AtMost p) (sym f) (AtMost-refl p)
+          | inr h' ↦ AtMost-trans p o x (better_most p o e) (c.2 x h' le')
+        ],
+      )
+      by false e = (
+        inr c.0,
+        c.1,
+        λ x h le'. elim h [
+          | inl f ↦ subst (AtMost o) (sym f) (worse_most p o e)
+          | inr h' ↦ c.2 x h' le'
+        ],
+      )
 
   pub chosen_is : (ps : List (List Step)) → IsChosen ps (chosen q used least ps)
   chosen_is [] = λ x h le. h
@@ -81,7 +96,7 @@ module _ (q : Question) (used : Use) (least : ℕ) where
       record {
         rooted = record { some = f.some; few = let a = f.few in omega arith; trail = f.trail; root = c.1 };
         first = λ other r. elim (cases_lt size (length other)) [
-            inl lt ↦ inl (let a = f.few in omega arith)
+          | inl lt ↦ inl (let a = f.few in omega arith)
           | inr few ↦ let x = covered size found complete other r few in AtMost-trans rows x.0 other (c.2 x.0 x.1 x.2) x.3
         ];
       }
@@ -109,7 +124,7 @@ module _ (q : Question) (used : Use) (least : ℕ) where
 pub root_le : (es : List (Fpr × ℕ)) (fpr : Fpr) → root_amount es fpr ≤ total es
 root_le [] fpr = omega arith
 root_le (e ∷ es) fpr = elim (same_fpr fpr e.0) as (λ b. unwrap_or (cond b (Some e.1) (lookup (is_at (fpr_cmp fpr)) es)) 0 ≤ e.1 + total es) [
-    true ↦ omega arith
+  | true ↦ omega arith
   | false ↦ let le = root_le es fpr in omega arith
 ]
 

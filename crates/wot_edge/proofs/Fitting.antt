@@ -1,7 +1,6 @@
 -- What paths use stays within what there is.
-use Rattle.std.proofs.Common.{◌≡◌, ◌⊎◌, inl, inr, ℕ, ◌+◌, ◌*◌, ◌<◌, ◌≤◌, ◌-◌, min, Bool, true, false, cond, List, [], ◌∷◌, ◌++◌, length, Option, Some, None, refl, sym, ap, subst, ◌∙◌, arith, append_assoc}
+use Rattle.std.proofs.Common.{◌≡◌, inl, inr, ℕ, ◌+◌, ◌*◌, ◌<◌, ◌≤◌, Bool, true, false, cond, List, [], ◌∷◌, ◌++◌, length, Some, refl, sym, ap, subst, ◌∙◌, arith, append_assoc}
 use Rattle.std.proofs.lemmas.List.Sums.{sum_by-cons, sum_by-append, sum_by_push}
-use Rattle.std.specs.List.{sum_by}
 use Rattle.std.specs.Option.{unwrap_or}
 use Rattle.std.specs.Map.{lookup}
 use Rattle.std.specs.BTreeMap.{is_at}
@@ -12,7 +11,7 @@ use Rattle.wot_edge.specs.declared.path.Step.{Step}
 use Rattle.wot_edge.specs.Record.{Has}
 use Rattle.wot_edge.specs.Roots.{root_amount}
 use Rattle.wot_edge.specs.Order.{same_fpr}
-use Rattle.wot_edge.specs.Path.{Question, Use, use_of, start, path_root, path_amount, root_left, step_left, least_left, IsNextPath}
+use Rattle.wot_edge.specs.Path.{Question, Use, use_of, start, path_root, root_left, step_left, least_left, IsNextPath}
 use Rattle.wot_edge.specs.Answer.{EachNext, amount_of}
 use Rattle.wot_edge.specs.Capacity.{Fits, AllFit}
 use Rattle.wot_edge.proofs.Orders.{same_fpr-true, same_fpr-sym}

@@ -1,6 +1,6 @@
 -- A search that always answers: by layers from the target, and then by amounts. It shows that each
 -- question has a next path or none, and answers the worked questions.
-use Rattle.std.specs.Prelude.{slice_index_or, ℕ, zero, suc, ◌+◌, ◌&&◌, ◌||◌, nat_lt, nat_le, nat_eq, not, Bool, true, false, cond, List, [], ◌∷◌, length, Option, Some, None}
+use Rattle.std.specs.Prelude.{ℕ, zero, suc, ◌+◌, ◌&&◌, ◌||◌, nat_lt, nat_le, nat_eq, not, Bool, false, cond, List, [], ◌∷◌, length, Option, Some, None}
 use Rattle.std.specs.Ordering.{is_lt}
 use Rattle.wot_types.specs.declared.fpr.Fpr.{Fpr}
 use Rattle.wot_edge.specs.declared.path.Step.{Step}

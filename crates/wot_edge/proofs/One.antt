@@ -1,11 +1,10 @@
 -- There is one next path.
-use Rattle.std.proofs.Common.{◌≡◌, ◌⊎◌, inl, inr, ℕ, ◌<◌, ◌≤◌, ◌-◌, Bool, true, false, List, [], ◌∷◌, ◌++◌, length, Ordering, refl, sym, ap, subst, ◌∙◌, arith}
-use Rattle.std.specs.declared.cmp.Ordering.TheVariants.{Less, Equal, Greater}
-use Rattle.std.specs.Ordering.{ordering_then}
+use Rattle.std.proofs.Common.{◌≡◌, inl, inr, List, [], ◌∷◌, length, refl, sym, ap, subst, ◌∙◌, arith}
+use Rattle.std.specs.declared.cmp.Ordering.TheVariants.{Equal}
 use Rattle.std.proofs.lemmas.Bool.{cases_lt}
 use Rattle.wot_edge.specs.declared.path.Step.{Step}
 use Rattle.wot_edge.specs.Record.{Row, IsRecord, rows_into, Has}
-use Rattle.wot_edge.specs.Path.{Question, Use, Chain, start, IsOpen, IsNext, IsNextPath, Precedes, path_amount, step_of}
+use Rattle.wot_edge.specs.Path.{Question, Use, Chain, start, IsNext, IsNextPath, path_amount, step_of}
 use Rattle.wot_edge.specs.Order.{steps_cmp, step_cmp}
 use Rattle.wot_edge.specs.declared.path.Path.{Path}
 use Rattle.wot_edge.proofs.Orders.{step_exact, then-Equal, ranked_steps}
@@ -27,29 +26,30 @@ chain_exact q r (x ∷ a) (y ∷ b) c d e =
 
 pub next_one : (q : Question) (used : Use) → IsRecord q.told → (a b : List Step) → IsNext q used a → IsNext q used b → a ≡ b
 next_one q used r a b m n = elim (cases_lt (length a) (length b)) [
-    inl lt ↦ absurd (n.1 a m.0 (inl lt))
+  | inl lt ↦ absurd (n.1 a m.0 (inl lt))
   | inr le ↦ elim (cases_lt (length b) (length a)) [
-      inl lt ↦ absurd (m.1 b n.0 (inl lt))
+    | inl lt ↦ absurd (m.1 b n.0 (inl lt))
     | inr le' ↦ as_long (omega arith)
   ]
-  ]
+]
   where
     tied : length a ≡ length b → path_amount q used a ≡ path_amount q used b → a ≡ b
     tied e f = elim (ranked_steps a b) [
-        inl less ↦ absurd (n.1 a m.0 (inr (e, inr (sym f, less))))
+      | inl less ↦ absurd (n.1 a m.0 (inr (e, inr (sym f, less))))
       | inr more ↦ elim more [
-          inl tie ↦ chain_exact q r a b m.0.0.chain n.0.0.chain tie
+        | inl tie ↦ chain_exact q r a b m.0.0.chain n.0.0.chain tie
         | inr less ↦ absurd (m.1 b n.0 (inr (sym e, inr (f, less))))
       ]
-      ]
+    ]
+
     as_long : length a ≡ length b → a ≡ b
     as_long e = elim (cases_lt (path_amount q used a) (path_amount q used b)) [
-        inl lt ↦ absurd (m.1 b n.0 (inr (sym e, inl lt)))
+      | inl lt ↦ absurd (m.1 b n.0 (inr (sym e, inl lt)))
       | inr le ↦ elim (cases_lt (path_amount q used b) (path_amount q used a)) [
-          inl lt ↦ absurd (n.1 a m.0 (inr (e, inl lt)))
+        | inl lt ↦ absurd (n.1 a m.0 (inr (e, inl lt)))
         | inr le' ↦ tied e (omega arith)
       ]
-      ]
+    ]
 
 pub next_path_one : (q : Question) (used : Use) → IsRecord q.told → (a b : Path) → IsNextPath q used a → IsNextPath q used b → a ≡ b
 next_path_one q used r a b m n =

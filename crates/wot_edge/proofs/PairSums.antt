@@ -1,5 +1,5 @@
 -- The order of pairs, and what is used of them.
-use Rattle.std.proofs.Common.{◌≡◌, ℕ, ◌+◌, Bool, true, false, cond, List, [], ◌∷◌, Ordering, refl, sym, ap, subst, ◌∙◌, arith, inl, inr, ◌⊎◌}
+use Rattle.std.proofs.Common.{◌≡◌, ℕ, ◌+◌, Bool, true, false, cond, List, ◌∷◌, Ordering, refl, sym, ap, subst, ◌∙◌, arith}
 use Rattle.std.specs.declared.cmp.Ordering.TheVariants.{Less, Equal, Greater}
 use Rattle.std.specs.Prelude.{◌&&◌, ◌||◌}
 use Rattle.std.specs.Ordering.{is_eq, ordering_then}
@@ -12,7 +12,7 @@ use Rattle.wot_edge.specs.contracts.used.PairOrd.TheImpl.{ghosts}
 use Rattle.wot_edge.specs.Path.{is_of, pair_part}
 use Rattle.wot_edge.specs.Order.{same_fpr}
 use Rattle.wot_edge.specs.Sums.{pair_cmp, pair_of}
-use Rattle.wot_edge.proofs.Fprs.{derived_cmp, same_cmp}
+use Rattle.wot_edge.proofs.Fprs.{same_cmp}
 use Rattle.wot_edge.proofs.Orders.{same_fpr-true, same_fpr-refl, same_fpr-sym}
 
 abbrev pub derived_pair_cmp : Pair → Pair → Ordering

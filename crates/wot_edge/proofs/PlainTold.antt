@@ -1,5 +1,5 @@
 -- What roads in memory tell.
-use Rattle.std.proofs.Common.{◌≡◌, ◌⊎◌, inl, inr, ℕ, Bool, true, false, cond, List, [], ◌∷◌, map, Ordering, Option, Some, None, refl, sym, ap, subst, ◌∙◌, length, arith}
+use Rattle.std.proofs.Common.{◌≡◌, inl, inr, ℕ, Bool, true, false, cond, List, [], ◌∷◌, map, Ordering, Option, Some, None, refl, sym, ap, subst, ◌∙◌, length, arith}
 use Rattle.std.specs.declared.cmp.Ordering.TheVariants.{Less, Equal, Greater}
 use Rattle.std.specs.Ordering.{is_lt, nat_cmp, ordering_then, match_ordering}
 use Rattle.std.specs.Option.{unwrap_or, option_map}
@@ -14,7 +14,7 @@ use Rattle.wot_types.specs.declared.fpr.Fpr.{Fpr}
 use Rattle.wot_types.specs.Fpr.{fpr_cmp}
 use Rattle.wot_edge.specs.declared.edge.EdgeFacts.{EdgeFacts}
 use Rattle.wot_edge.specs.Order.{edge_cmp, same_fpr}
-use Rattle.wot_edge.specs.Record.{Has, Row, Entry, Record, IsRecord, blank, entry_at, rows_into, edges_into}
+use Rattle.wot_edge.specs.Record.{Has, Row, Entry, IsRecord, blank, entry_at, rows_into, edges_into}
 use Rattle.wot_edge.specs.Plain.{Line, Plain, place_of, row_of, entry_of, told_of, AreRows, AreLines, MayPrecede}
 use Rattle.wot_edge.proofs.Orders.{same_fpr-true, fpr_total, fpr_exact}
 
@@ -93,15 +93,15 @@ line_rows (l ∷ lines) fpr line all e = by (λ f. line_rows lines fpr line all.
 
 pub told_is_record : (plain : Plain) (uid : List ℕ) → AreLines plain.lines → IsRecord (told_of plain uid)
 told_is_record plain uid all = record {
-    into = λ fpr row h. let t = told_row plain uid fpr row h in (line_rows plain.lines fpr t.0 all t.1).into row.edge t.2;
-    one = λ fpr x y h k e f.
+  into = λ fpr row h. let t = told_row plain uid fpr row h in (line_rows plain.lines fpr t.0 all t.1).into row.edge t.2;
+  one = λ fpr x y h k e f.
       let t = told_row plain uid fpr x h in
       let u = told_row plain uid fpr y k in
       let same : t.0 ≡ u.0 = (let g : Some t.0 ≡ Some u.0 = sym t.1 ∙ u.1 in cc) in
       let there : Has t.0.edges y.edge = subst (λ (line : Line). Has line.edges y.edge) (sym same) u.2 in
       let edge : x.edge ≡ y.edge = sorted_one t.0.edges (line_rows plain.lines fpr t.0 all t.1).order x.edge y.edge t.2 there e f in
       t.3 ∙ ap (row_of plain.inside (place_of uid)) edge ∙ sym u.3;
-  }
+}
 
 -- ---- rows, checked one by one
 
@@ -113,9 +113,9 @@ pub rows_before : (fpr : Fpr) (edge : EdgeFacts) (later : List EdgeFacts) → Ma
 unfolding IsStrictlySortedBy
 rows_before fpr edge [] m r = record { into = λ x h. elim h [ inl e ↦ ap (λ (w : EdgeFacts). w.target) e ∙ m | inr h' ↦ absurd h' ]; order = (tt, tt) }
 rows_before fpr edge (next ∷ rest) m r = record {
-    into = λ x h. elim h [ inl e ↦ ap (λ (w : EdgeFacts). w.target) e ∙ m.0 | inr h' ↦ r.into x h' ];
-    order = ((m.1, below_all edge next rest m.1 r.order.0), r.order);
-  }
+  into = λ x h. elim h [ inl e ↦ ap (λ (w : EdgeFacts). w.target) e ∙ m.0 | inr h' ↦ r.into x h' ];
+  order = ((m.1, below_all edge next rest m.1 r.order.0), r.order);
+}
 
 pub no_rows : (fpr : Fpr) → AreRows fpr []
 unfolding IsStrictlySortedBy

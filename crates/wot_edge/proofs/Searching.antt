@@ -1,19 +1,17 @@
 -- What the search by layers finds.
-use Rattle.std.proofs.Common.{◌≡◌, ◌≢◌, ◌⊎◌, inl, inr, ℕ, zero, suc, ◌+◌, ◌<◌, ◌≤◌, ◌-◌, min, Bool, true, false, cond, List, [], ◌∷◌, ◌++◌, length, Ordering, Option, Some, None, refl, sym, ap, subst, ◌∙◌, arith, leb-true, le-leb, not}
-use Rattle.std.specs.Prelude.{◌&&◌, nat_lt, nat_le, nat_eq}
+use Rattle.std.proofs.Common.{◌≡◌, inl, inr, ℕ, suc, ◌≤◌, Bool, true, false, cond, List, [], ◌∷◌, length, Option, Some, None, refl, sym, ap, subst, ◌∙◌, arith, leb-true, le-leb, not}
+use Rattle.std.specs.Prelude.{◌&&◌, nat_le, nat_eq}
 use Rattle.std.specs.List.{AllByRecursion}
-use Rattle.std.proofs.lemmas.Bool.{cases_lt, eqb-true, eq-eqb, leb-false, not-true}
+use Rattle.std.proofs.lemmas.Bool.{eqb-true, eq-eqb, not-true}
 use Rattle.wot_types.specs.declared.fpr.Fpr.{Fpr}
 use Rattle.wot_edge.specs.declared.path.Step.{Step}
 use Rattle.wot_edge.specs.Record.{Row, Has, rows_into, entry_at}
-use Rattle.wot_edge.specs.Roots.{root_amount}
 use Rattle.wot_edge.specs.Order.{same_fpr}
-use Rattle.wot_edge.specs.Path.{Question, Use, Stands, Reaches, start, path_amount, root_left, step_left, IsNext, IsSpent, IsOpen, step_of}
+use Rattle.wot_edge.specs.Path.{Question, Use, Reaches, start, step_left, step_of}
 use Rattle.wot_edge.proofs.Layers.{kept, is_place, reaches, serves, with_rows, grown, first_layer}
 use Rattle.wot_edge.proofs.Orders.{same_fpr-true, same_fpr-refl}
-use Rattle.wot_edge.proofs.Trail.{Serves, Trail}
-use Rattle.wot_edge.proofs.Trail.{AtMost, AtMost-refl, AtMost-trans, AtMost-le, Rooted, IsFirst, rooted_amount, valid_rooted, first_next, none_spent, disordered_spent, trail_least}
-use Rattle.wot_edge.proofs.Covers.{Covers, Covers-has, CoversAll, IsComplete, IsFound, IsGrown, grown_complete, first_complete, kept-covers, kept-keeps, kept-all, and-true}
+use Rattle.wot_edge.proofs.Trail.{Serves}
+use Rattle.wot_edge.proofs.Covers.{Covers, CoversAll, IsComplete, IsFound, IsGrown, grown_complete, first_complete, kept-covers, kept-keeps, kept-all, and-true}
 
 -- ---- which edges serve
 
@@ -65,8 +63,8 @@ module _ (q : Question) (used : Use) (least : ℕ) where
   with_rows-keeps rest [] found other c = c
   with_rows-keeps rest (row ∷ rows) found other c =
       elim (serves q used least row rest) as (λ b. Covers q.target (with_rows q used least rest rows (cond b (kept q.target (step_of row.edge ∷ rest) found) found)) other) [
-        true ↦ with_rows-keeps rest rows (kept q.target (step_of row.edge ∷ rest) found) other (kept-keeps q.target (step_of row.edge ∷ rest) found other c)
-      | false ↦ with_rows-keeps rest rows found other c
+        | true ↦ with_rows-keeps rest rows (kept q.target (step_of row.edge ∷ rest) found) other (kept-keeps q.target (step_of row.edge ∷ rest) found other c)
+        | false ↦ with_rows-keeps rest rows found other c
       ]
 
   with_rows-covers : (rest : List Step) (rows : List Row) (found : List (List Step)) (row : Row) → Has rows row → serves q used least row rest ≡ true → Covers q.target (with_rows q used least rest rows found) (step_of row.edge ∷ rest)
@@ -74,7 +72,7 @@ module _ (q : Question) (used : Use) (least : ℕ) where
   with_rows-covers rest (y ∷ rows) found row (inl e) s =
       let t : serves q used least y rest ≡ true = subst (λ (x : Row). serves q used least x rest ≡ true) e s in
       subst (λ (x : Row). Covers q.target (with_rows q used least rest (y ∷ rows) found) (step_of x.edge ∷ rest)) (sym e)
-        (rw t (with_rows-keeps rest rows (kept q.target (step_of y.edge ∷ rest) found) (step_of y.edge ∷ rest) (kept-covers q.target (step_of y.edge ∷ rest) found)))
+      (rw t (with_rows-keeps rest rows (kept q.target (step_of y.edge ∷ rest) found) (step_of y.edge ∷ rest) (kept-covers q.target (step_of y.edge ∷ rest) found)))
   with_rows-covers rest (y ∷ rows) found row (inr h) s = with_rows-covers rest rows (cond (serves q used least y rest) (kept q.target (step_of y.edge ∷ rest) found) found) row h s
 
   -- an edge that serves is found
@@ -95,8 +93,8 @@ module _ (q : Question) (used : Use) (least : ℕ) where
   grown-keeps size [] found other c = c
   grown-keeps size (p ∷ ps) found other c =
       elim (nat_eq (length p) size) as (λ b. Covers q.target (grown q used least size ps (cond b (with_rows q used least p (rows_into q.told (start q.target p)) found) found)) other) [
-        true ↦ grown-keeps size ps (with_rows q used least p (rows_into q.told (start q.target p)) found) other (with_rows-keeps p (rows_into q.told (start q.target p)) found other c)
-      | false ↦ grown-keeps size ps found other c
+        | true ↦ grown-keeps size ps (with_rows q used least p (rows_into q.told (start q.target p)) found) other (with_rows-keeps p (rows_into q.told (start q.target p)) found other c)
+        | false ↦ grown-keeps size ps found other c
       ]
 
   grown-grows : (size : ℕ) (ps found : List (List Step)) → IsGrown q used least size ps (grown q used least size ps found)
@@ -105,15 +103,15 @@ module _ (q : Question) (used : Use) (least : ℕ) where
       let t : nat_eq (length p) size ≡ true = eq-eqb (length p) size (ap length (sym f) ∙ e) in
       let s' : Serves q used least row p = subst (Serves q used least row) f s in
       subst (λ (x : List Step). Covers q.target (grown q used least size (p ∷ ps) found) (row ∷ x)) (sym f)
-        (rw t (grown-keeps size ps (with_rows q used least p (rows_into q.told (start q.target p)) found) (row ∷ p) (with_rows-serves p found row s')))
+      (rw t (grown-keeps size ps (with_rows q used least p (rows_into q.told (start q.target p)) found) (row ∷ p) (with_rows-serves p found row s')))
   grown-grows size (p ∷ ps) found rows (inr h) e row s = grown-grows size ps (cond (nat_eq (length p) size) (with_rows q used least p (rows_into q.told (start q.target p)) found) found) rows h e row s
 
   grown-all : (size : ℕ) (ps found : List (List Step)) → AllByRecursion (IsFound q used least size) ps → AllByRecursion (IsFound q used least (suc size)) found → AllByRecursion (IsFound q used least (suc size)) (grown q used least size ps found)
   grown-all size [] found a b = b
   grown-all size (p ∷ ps) found a b =
       elim (nat_eq (length p) size) as (λ t. AllByRecursion (IsFound q used least (suc size)) (grown q used least size ps (cond t (with_rows q used least p (rows_into q.told (start q.target p)) found) found))) [
-        true ↦ grown-all size ps (with_rows q used least p (rows_into q.told (start q.target p)) found) a.1 (with_rows-all (IsFound q used least (suc size)) p (rows_into q.told (start q.target p)) found (λ row h e. record { some = omega arith; few = let f = a.0.few in omega arith; trail = (serves-true q used least row p h e, a.0.trail) }) b)
-      | false ↦ grown-all size ps found a.1 b
+        | true ↦ grown-all size ps (with_rows q used least p (rows_into q.told (start q.target p)) found) a.1 (with_rows-all (IsFound q used least (suc size)) p (rows_into q.told (start q.target p)) found (λ row h e. record { some = omega arith; few = let f = a.0.few in omega arith; trail = (serves-true q used least row p h e, a.0.trail) }) b)
+        | false ↦ grown-all size ps found a.1 b
       ]
 
   found_more : (size : ℕ) (xs : List (List Step)) → AllByRecursion (IsFound q used least size) xs → AllByRecursion (IsFound q used least (suc size)) xs

@@ -1,13 +1,12 @@
 -- Trails: lists of edges to the target that may still be used.
-use Rattle.std.proofs.Common.{◌≡◌, ◌≢◌, ◌⊎◌, inl, inr, ℕ, ◌+◌, ◌<◌, ◌≤◌, ◌-◌, min, Bool, true, false, List, [], ◌∷◌, ◌++◌, length, Ordering, refl, sym, ap, subst, ◌∙◌, arith}
+use Rattle.std.proofs.Common.{◌≡◌, ◌≢◌, ◌⊎◌, inl, inr, ℕ, ◌+◌, ◌<◌, ◌≤◌, true, false, List, [], ◌∷◌, length, Ordering, refl, sym, subst, ◌∙◌, arith}
 use Rattle.std.specs.declared.cmp.Ordering.TheVariants.{Less, Equal, Greater}
 use Rattle.std.specs.Ordering.{is_gt, ordering_reverse}
 use Rattle.std.proofs.lemmas.Cmp.{upto}
 use Rattle.wot_types.specs.declared.fpr.Fpr.{Fpr}
 use Rattle.wot_edge.specs.declared.path.Step.{Step}
 use Rattle.wot_edge.specs.Record.{Has, rows_into, entry_at}
-use Rattle.wot_edge.specs.Roots.{root_amount}
-use Rattle.wot_edge.specs.Path.{Question, Use, Chain, Stands, Reaches, start, issuers, Distinct, IsValid, IsOpen, IsNext, IsSpent, Precedes, path_amount, least_left, root_left, step_left, step_of}
+use Rattle.wot_edge.specs.Path.{Question, Use, Chain, Stands, start, issuers, Distinct, IsValid, IsOpen, IsNext, IsSpent, Precedes, path_amount, least_left, root_left, step_left}
 use Rattle.wot_edge.specs.Order.{steps_cmp}
 use Rattle.std.proofs.lemmas.Bool.{cases_lt}
 use Rattle.wot_edge.proofs.Orders.{steps_total}
@@ -84,7 +83,7 @@ IsShortest q used least rows = (other : List Step) → 1 ≤ length other → Tr
 
 rest_shortest : (q : Question) (used : Use) (least : ℕ) (row : Step) (rest : List Step) → 1 ≤ length rest → Trail q used least (row ∷ rest) → IsShortest q used least (row ∷ rest) → IsShortest q used least rest
 rest_shortest q used least row rest some t s other some' t' e = elim (cases_lt (length other) (length rest)) [
-    inl lt ↦ absurd (let le : length (row ∷ rest) ≤ length (row ∷ other) = s (row ∷ other) (omega arith) (serves_shorter q used least row rest other some some' (omega arith) e t.0, t') refl in omega arith)
+  | inl lt ↦ absurd (let le : length (row ∷ rest) ≤ length (row ∷ other) = s (row ∷ other) (omega arith) (serves_shorter q used least row rest other some some' (omega arith) e t.0, t') refl in omega arith)
   | inr le ↦ le
 ]
 
@@ -98,9 +97,10 @@ from_issuer q used least (row ∷ rest) fpr (inr h) t = let o = from_issuer q us
 pub shortest_distinct : (q : Question) (used : Use) (least : ℕ) (rows : List Step) → Trail q used least rows → IsShortest q used least rows → Distinct (issuers rows)
 shortest_distinct q used least [] t s = tt
 shortest_distinct q used least (row ∷ []) t s = (λ h. h, tt)
-shortest_distinct q used least (row ∷ next ∷ rest) t s =
-    (λ h. let o = from_issuer q used least (next ∷ rest) row.issuer h t.1 in let le : length (row ∷ next ∷ rest) ≤ length o.0 = s o.0 o.2 o.1 o.4 in let l = o.3 in absurd (omega arith),
-     shortest_distinct q used least (next ∷ rest) t.1 (rest_shortest q used least row (next ∷ rest) (omega arith) t s))
+shortest_distinct q used least (row ∷ next ∷ rest) t s = (
+  λ h. let o = from_issuer q used least (next ∷ rest) row.issuer h t.1 in let le : length (row ∷ next ∷ rest) ≤ length o.0 = s o.0 o.2 o.1 o.4 in let l = o.3 in absurd (omega arith),
+  shortest_distinct q used least (next ∷ rest) t.1 (rest_shortest q used least row (next ∷ rest) (omega arith) t s),
+)
 
 -- ---- trails and valid paths
 
@@ -137,18 +137,21 @@ pub record IsFirst (q : Question) (used : Use) (least : ℕ) (rows : List Step) 
   pub first : (other : List Step) → Rooted q used least other → AtMost rows other
 
 pub first_open : (q : Question) (used : Use) (least : ℕ) (rows : List Step) → 0 < least → (entry_at q.told q.target).in_order ≡ true → IsFirst q used least rows → IsOpen q used rows
-first_open q used least rows pos ok f = (record {
-      some = f.rooted.some;
-      few = f.rooted.few;
-      chain = trail_chain q used least rows f.rooted.trail;
-      distinct = shortest_distinct q used least rows f.rooted.trail shortest;
-      root = let a = f.rooted.root in omega arith;
-      in_order = ok;
-    }, let a = rooted_amount q used least rows f.rooted in omega arith)
+first_open q used least rows pos ok f = (
+  record {
+    some = f.rooted.some;
+    few = f.rooted.few;
+    chain = trail_chain q used least rows f.rooted.trail;
+    distinct = shortest_distinct q used least rows f.rooted.trail shortest;
+    root = let a = f.rooted.root in omega arith;
+    in_order = ok;
+  },
+  let a = rooted_amount q used least rows f.rooted in omega arith,
+)
   where
     shortest : IsShortest q used least rows
     shortest other some t e = elim (cases_lt 255 (length other)) [
-        inl lt ↦ let b = f.rooted.few in omega arith
+      | inl lt ↦ let b = f.rooted.few in omega arith
       | inr le ↦ AtMost-le rows other (f.first other (record { some = some; few = le; trail = t; root = subst (λ (x : Fpr). least ≤ root_left q used x) (sym e) f.rooted.root }))
     ]
 
@@ -164,7 +167,7 @@ first_next q used least rows pos ok f fewest greatest = (first_open q used least
     no other o (inr (e, inl lt)) = let le = greatest other (valid_rooted q used (path_amount q used rows + 1) other o.0 (omega arith)) in omega arith
     no other o (inr (e, inr (a, less))) =
         let am = rooted_amount q used least rows f.rooted in
-        at (f.first other (valid_rooted q used least other o.0 (omega arith))) 
+        at (f.first other (valid_rooted q used least other o.0 (omega arith)))
       where
         at : AtMost rows other → ⊥
         at (inl lt) = omega arith

@@ -1,5 +1,5 @@
 -- Worked questions, each with wrong answers that stand next to it.
-use Rattle.std.proofs.Common.{◌≡◌, ◌≤◌, ◌<◌, inl, inr, ℕ, Bool, true, false, cond, List, [], ◌∷◌, Option, Some, None, refl, subst, arith}
+use Rattle.std.proofs.Common.{◌≡◌, ◌≤◌, inl, inr, ℕ, true, false, cond, List, [], ◌∷◌, Option, Some, None, refl, subst, arith}
 use Rattle.std.specs.Option.{unwrap_or}
 use Rattle.wot_types.specs.declared.fpr.Fpr.{Fpr}
 use Rattle.wot_types.specs.declared.fpr.Fpr.TheVariants.{V4}
@@ -9,7 +9,7 @@ use Rattle.wot_edge.specs.declared.path.Step.{Step}
 use Rattle.wot_edge.specs.Order.{same_fpr}
 use Rattle.wot_edge.specs.Record.{Row, Entry, Record}
 use Rattle.wot_edge.specs.Roots.{root_amount}
-use Rattle.wot_edge.specs.Path.{Question, Use, use_of, asks, step_of, start, IsNextPath, IsSpent}
+use Rattle.wot_edge.specs.Path.{Question, use_of, asks, step_of, start, IsNextPath, IsSpent}
 use Rattle.wot_edge.specs.Answer.{IsAnswer}
 use Rattle.wot_edge.proofs.Layers.{next_of, first_from, climbed}
 use Rattle.wot_edge.proofs.Exists.{AreNextOrSpent, next_of_is}

@@ -1,8 +1,9 @@
-ghost use Rattle.std.specs.Prelude.{◌≡◌};
+ghost use Rattle.std.specs.Prelude.{◌≡◌, IfOk};
 
 use crate::{Path, Step};
 use std::alloc::Global;
 use std::marker::Model;
+use wot_types::Memory;
 
 /// The steps of a path, from the root on.
 #[derive(Drop)]
@@ -37,6 +38,15 @@ impl StepList {
         ensures items { result.items ≡ self }
     {
         self.items
+    }
+
+    /// The same list once more.
+    pub fn duplicate(&self) -> Result<StepList, Memory>
+        ensures same { IfOk result (λ made. made ≡ self.now) }
+    {
+        let mut items = Vec::new(*self.items.allocator());
+        items.extend_from_slice(&self.items)?;
+        Ok(StepList { items })
     }
 }
 
@@ -74,4 +84,23 @@ impl PathList {
     {
         self.items
     }
+
+    /// The same list once more.
+    pub fn duplicate(&self) -> Result<PathList, Memory>
+        ensures same { IfOk result (λ made. made ≡ self.now) }
+    {
+        let items = copy_paths(*self.items.allocator(), &self.items)?;
+        Ok(PathList { items })
+    }
+}
+
+fn copy_paths(alloc: Global, paths: &[Path]) -> Result<Vec<Path>, Memory>
+    ensures same { IfOk result (λ made. made.items ≡ paths.now) }
+{
+    let mut made = Vec::new(alloc);
+    'paths: for path in paths {
+        let copy = path.duplicate()?;
+        made.push(copy)?;
+    }
+    Ok(made)
 }

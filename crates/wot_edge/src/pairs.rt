@@ -38,7 +38,10 @@ fn any_of(issuer: &Fpr, target: &Fpr, steps: &[Step]) -> bool
 fn pair_of_step(step: &Step) -> Pair
     ensures pair { result ≡ pair_of step.now }
 {
-    Pair { issuer: step.issuer, target: step.target }
+    Pair {
+        issuer: step.issuer,
+        target: step.target,
+    }
 }
 
 fn make_room_for(pairs: &mut BTreeMap<Pair, u32, Global>, step: &Step) -> Result<(), Memory>

@@ -1,5 +1,7 @@
+ghost use Rattle.std.specs.Prelude.{◌≡◌, IfOk};
+
 use crate::StepList;
-use wot_types::Fpr;
+use wot_types::{Fpr, Memory};
 
 /// What a path tells of one of its edges.
 #[derive(Clone, Copy, Debug, PartialEq, Eq)]
@@ -20,4 +22,18 @@ pub struct Path {
     /// The issuer of the first step.
     pub root: Fpr,
     pub steps: StepList,
+}
+
+impl Path {
+    /// The same path once more.
+    pub fn duplicate(&self) -> Result<Path, Memory>
+        ensures same { IfOk result (λ made. made ≡ self.now) }
+    {
+        let steps = self.steps.duplicate()?;
+        Ok(Path {
+            amount: self.amount,
+            root: self.root,
+            steps,
+        })
+    }
 }

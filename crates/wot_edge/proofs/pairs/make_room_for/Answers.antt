@@ -1,4 +1,4 @@
-use Rattle.std.proofs.Common.{◌≡◌, ℕ, IsSome, Ordering, subst}
+use Rattle.std.proofs.Common.{◌≡◌, IsSome, Ordering, subst}
 use Rattle.std.specs.BTreeMap.{is_at}
 use Rattle.std.specs.Map.{lookup}
 use Rattle.wot_edge.specs.declared.used.Pair.{Pair}

@@ -1,5 +1,4 @@
-use Rattle.std.proofs.Common.{◌≡◌, refl, sym, subst, List, []}
-use Rattle.wot_edge.specs.declared.edge.EdgeFacts.{EdgeFacts}
+use Rattle.std.proofs.Common.{refl, sym, subst}
 use Rattle.wot_edge.specs.Plain.{AreRows}
 use Rattle.wot_edge.proofs.PlainTold.{rows_before, rows_end}
 use Rattle.wot_edge.proofs.plain.are_rows.Goals as goal

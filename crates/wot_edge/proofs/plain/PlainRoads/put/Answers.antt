@@ -1,4 +1,4 @@
-use Rattle.std.proofs.Common.{◌≡◌, refl, sym, subst, List, []}
+use Rattle.std.proofs.Common.{refl, sym, subst}
 use Rattle.wot_edge.specs.Plain.{AreRows, AreLines}
 use Rattle.wot_edge.proofs.PlainTold.{lines_put}
 use Rattle.wot_edge.proofs.plain.PlainRoads.put.Goals as goal

@@ -1,4 +1,4 @@
-use Rattle.std.proofs.Common.{◌≡◌, ap, ◌∙◌, sym, Bool, ℕ, Option}
+use Rattle.std.proofs.Common.{ap, ◌∙◌, sym, ℕ, Option}
 use Rattle.std.specs.Prelude.{◌&&◌}
 use Rattle.wot_edge.specs.Record.{Entry}
 use Rattle.wot_edge.specs.Plain.{is_place}

@@ -1,4 +1,4 @@
-use Rattle.std.proofs.Common.{◌≡◌, ap, ◌∙◌, sym, subst, List}
+use Rattle.std.proofs.Common.{◌∙◌, sym, subst, List}
 use Rattle.std.specs.List.Sorted.{IsStrictlySortedBy}
 use Rattle.wot_edge.specs.declared.edge.EdgeFacts.{EdgeFacts}
 use Rattle.wot_edge.specs.Order.{edge_cmp}
@@ -11,7 +11,7 @@ returns-in-Some-clause-rows c uid = c.rows.ensures.rows ∙ sym (line_edges c.ar
 pub returns-in-Some-clause-order : goal.returns-in-Some-clause-order
 returns-in-Some-clause-order c =
     subst (λ (edges : List EdgeFacts). IsStrictlySortedBy edge_cmp edges) (sym c.rows.ensures.rows)
-      (line_rows c.args.self.now.lines c.args.target.now c.in-Some.line.now c.line_at.ensures.lines (sym c.in-Some.ensures.line)).order
+    (line_rows c.args.self.now.lines c.args.target.now c.in-Some.line.now c.line_at.ensures.lines (sym c.in-Some.ensures.line)).order
 
 pub returns-in-Some-clause-lawful : goal.returns-in-Some-clause-lawful
 returns-in-Some-clause-lawful c uid = told_is_record c.args.self.now uid c.line_at.ensures.lines

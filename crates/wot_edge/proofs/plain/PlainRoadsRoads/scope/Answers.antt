@@ -1,4 +1,4 @@
-use Rattle.std.proofs.Common.{◌≡◌, ap, ◌∙◌, sym, Bool, ℕ, Option}
+use Rattle.std.proofs.Common.{ap, ◌∙◌, sym, ℕ, Option}
 use Rattle.std.specs.Prelude.{◌||◌, not}
 use Rattle.wot_edge.specs.declared.edge.EdgeFacts.{EdgeFacts}
 use Rattle.wot_edge.specs.Record.{Row}
@@ -12,8 +12,8 @@ returns c =
     let place = place_of c.args.uid.now in
     record {
       scope = λ row h e.
-        ap (λ (r : Row). r.scope) (told_made c.args.self.now c.args.uid.now c.args.edge.now.target row h)
-        ∙ ap (λ (edge : EdgeFacts). not edge.scoped || holds_inside inside place) (e ∙ sym c.facts.ensures.facts)
-        ∙ ap (λ (p : Option ℕ). not c.facts.result.scoped || holds_inside inside p) (sym c.place_in.ensures.place)
-        ∙ sym c.holds.ensures.holds;
+          ap (λ (r : Row). r.scope) (told_made c.args.self.now c.args.uid.now c.args.edge.now.target row h)
+          ∙ ap (λ (edge : EdgeFacts). not edge.scoped || holds_inside inside place) (e ∙ sym c.facts.ensures.facts)
+          ∙ ap (λ (p : Option ℕ). not c.facts.result.scoped || holds_inside inside p) (sym c.place_in.ensures.place)
+          ∙ sym c.holds.ensures.holds;
     }

@@ -1,4 +1,4 @@
-use Rattle.std.proofs.Common.{◌≡◌, ◌+◌, ◌<◌, ◌^◌, ℕ, Bool, cond, sym, ap, subst, ◌∙◌}
+use Rattle.std.proofs.Common.{◌+◌, ◌<◌, ◌^◌, ℕ, Bool, cond, sym, ap, subst, ◌∙◌}
 use Rattle.wot_edge.specs.Order.{same_fpr}
 use Rattle.wot_edge.specs.Sums.{Sums, root_sum}
 use Rattle.wot_edge.proofs.Orders.{same_fpr-refl}
