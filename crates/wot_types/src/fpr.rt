@@ -1,9 +1,10 @@
-ghost use Rattle.std.specs.Prelude.{◌≡◌, ◌++◌, OnOk, OnErr};
+ghost use Rattle.std.specs.Prelude.{◌≡◌, ◌<◌, ◌≤◌, ◌+◌, ◌++◌, length, vec_len, vec_capacity, OnOk, OnErr};
 ghost use Rattle.hex.specs.Hex.{encode_lower};
 ghost use Rattle.wot_types.specs.Digits.{array_of_digits};
 ghost use Rattle.wot_types.specs.Fpr.{digits_of, fpr_cmp, fpr_of_digits};
 
 use crate::Memory;
+use crate::digits::digits_are_read;
 use std::cmp::Ordering;
 
 /// A key's fingerprint (RFC 9580, section 5.5.4). Fingerprints are ordered by their octets.
@@ -29,9 +30,21 @@ impl Fpr {
     pub fn print(&self, out: &mut Vec<u8>) -> Result<(), Memory>
         ensures printed { OnOk result (out.new.items ≡ out.old.items ++ digits_of self.now) }
         ensures kept { OnErr result (out.new.items ≡ out.old.items) }
+        // It fails only where room was missing, and the capacity never shrinks.
+        ensures full { OnErr result (vec_capacity out.old < vec_len out.old + length (digits_of self.now)) }
+        ensures grows { vec_capacity out.old ≤ vec_capacity out.new }
     {
         match self {
             Fpr::V4(octets) => print_twenty(octets, out),
+        }
+    }
+
+    /// A law: what `print` appends, `read` reads as this fingerprint.
+    pub fn printed_is_read(&self)
+        ensures read_back { fpr_of_digits (digits_of self.now) ≡ Some self.now }
+    {
+        match self {
+            Fpr::V4(octets) => twenty_are_read(octets),
         }
     }
 }
@@ -39,11 +52,19 @@ impl Fpr {
 fn print_twenty(octets: &[u8; 20], out: &mut Vec<u8>) -> Result<(), Memory>
     ensures printed { OnOk result (out.new.items ≡ out.old.items ++ encode_lower octets.now) }
     ensures kept { OnErr result (out.new.items ≡ out.old.items) }
+    ensures full { OnErr result (vec_capacity out.old < vec_len out.old + length (encode_lower octets.now)) }
+    ensures grows { vec_capacity out.old ≤ vec_capacity out.new }
 {
     let mut digits = [0u8; 40];
     let _ = hex::encode_to_slice(octets.as_slice(), &mut digits);
     out.extend_from_slice(&digits)?;
     Ok(())
+}
+
+fn twenty_are_read(octets: &[u8; 20])
+    ensures { array_of_digits 20 (encode_lower octets.now) ≡ Some octets.now }
+{
+    digits_are_read(octets.as_slice());
 }
 
 /// How two fingerprints compare: as their octets do, octet by octet.

@@ -1,12 +1,24 @@
 //! Values that every crate speaks of.
 #![tactic(auto)]
 
+mod digits;
 mod fpr;
+mod limits;
 mod memory;
+mod name;
 mod number;
 mod steps;
+mod user_id;
+mod view_name;
 
 pub use fpr::{Fpr, compare_fprs};
+pub use limits::{Limit, Limits};
 pub use memory::Memory;
+pub use name::Name;
 pub use number::{SigNumber, compare_numbers};
 pub use steps::Steps;
+pub use user_id::UserId;
+pub use view_name::{ViewName, compare_view_names};
+
+#[cfg(test)]
+mod tests;

@@ -1,7 +1,8 @@
-ghost use Rattle.std.specs.Prelude.{◌≡◌, ◌++◌, OnOk, OnErr};
+ghost use Rattle.std.specs.Prelude.{◌≡◌, ◌<◌, ◌≤◌, ◌+◌, ◌++◌, length, vec_len, vec_capacity, OnOk, OnErr};
 ghost use Rattle.wot_types.specs.SigNumber.{number_digits, number_cmp, number_of_digits};
 
 use crate::Memory;
+use crate::digits::digits_are_read;
 use std::cmp::Ordering;
 
 /// The number by which a signature is known: a SHA-256 digest. Numbers are ordered by their octets.
@@ -24,11 +25,21 @@ impl SigNumber {
     pub fn print(&self, out: &mut Vec<u8>) -> Result<(), Memory>
         ensures printed { OnOk result (out.new.items ≡ out.old.items ++ number_digits self.now) }
         ensures kept { OnErr result (out.new.items ≡ out.old.items) }
+        // It fails only where room was missing, and the capacity never shrinks.
+        ensures full { OnErr result (vec_capacity out.old < vec_len out.old + length (number_digits self.now)) }
+        ensures grows { vec_capacity out.old ≤ vec_capacity out.new }
     {
         let mut digits = [0u8; 64];
         let _ = hex::encode_to_slice(self.0.as_slice(), &mut digits);
         out.extend_from_slice(&digits)?;
         Ok(())
+    }
+
+    /// A law: what `print` appends, `read` reads as this number.
+    pub fn printed_is_read(&self)
+        ensures read_back { number_of_digits (number_digits self.now) ≡ Some self.now }
+    {
+        digits_are_read(self.0.as_slice());
     }
 }
 

@@ -1,0 +1,3 @@
+use Rattle.wot_engine.proofs.Turns.{Stood-init, Turns-reply, Stood-write, Begun-cut, Begun-here, Begun-nothing, Answered-end, Answered-stop, Most-cut, Most-end, Most-stop}
+
+pub ruleset turning = (Stood-init, Turns-reply, Stood-write, Begun-cut, Begun-here, Begun-nothing, Answered-end, Answered-stop, Most-end)

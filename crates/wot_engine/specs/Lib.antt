@@ -1,0 +1,9 @@
+pub mod State
+pub mod Grammar
+pub mod Import
+pub mod Front
+pub mod Undo
+pub mod Reply
+pub mod Step
+pub mod Transcript
+pub mod Turn

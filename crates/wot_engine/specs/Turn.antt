@@ -1,0 +1,13 @@
+-- The reply to a line that the reader of lines gave.
+use Rattle.std.specs.Prelude.{◌≡◌, ℕ, ◌<◌, List, length}
+use Rattle.wot_io.specs.declared.lines.Line.{Line}
+use Rattle.wot_io.specs.declared.lines.Line.TheVariants.{Text, Long, End}
+use Rattle.wot_engine.specs.State.{State}
+use Rattle.wot_engine.specs.Grammar.{longest}
+use Rattle.wot_engine.specs.Step.{Step}
+
+-- These octets answer the line that was given; of one that was too long the octets are gone.
+abbrev pub Replies : Line → List ℕ → State → List ℕ → State → Type 0
+Replies Text text old reply new = Step old text reply new
+Replies Long text old reply new = (line : List ℕ) → longest < length line → Step old line reply new
+Replies End text old reply new = ⊥
