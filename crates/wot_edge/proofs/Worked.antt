@@ -339,3 +339,65 @@ own_end_shallow_spent = next_is (wanted_own 0) [] None refl
 
 pub own_end_shallow : (p : Path) (paths : List Path) → IsAnswer (ask (wanted_own 0)) 120 (p ∷ paths) → ⊥
 own_end_shallow = not_any (wanted_own 0) own_end_shallow_spent
+
+-- ---- of as many edges the greatest amount comes first, before the least list
+
+abbrev wider : Record
+wider = (T, asked (row B T 0 120 ∷ row C T 0 120 ∷ [])) ∷ (B, into (row R B 1 30 ∷ [])) ∷ (C, into (row R C 1 90 ∷ [])) ∷ []
+
+abbrev by_B : Path
+by_B = path 30 (step R B 1 30 ∷ step B T 0 120 ∷ [])
+
+abbrev by_C : Path
+by_C = path 90 (step R C 1 90 ∷ step C T 0 120 ∷ [])
+
+by_C_next : IsNextPath (ask wider) (use_of []) by_C
+unfolding first_from climbed
+by_C_next = record { steps = next_is wider [] (Some by_C.steps) refl; root = refl; amount = refl }
+
+by_B_next : IsNextPath (ask wider) (use_of (by_C ∷ [])) by_B
+unfolding first_from climbed
+by_B_next = record { steps = next_is wider (by_C ∷ []) (Some by_B.steps) refl; root = refl; amount = refl }
+
+pub wider_answer : IsAnswer (ask wider) 120 (by_C ∷ by_B ∷ [])
+wider_answer = taken_answer (ask wider) 120 (by_C ∷ by_B ∷ []) (omega arith) (omega arith, by_C_next, (omega arith, by_B_next, inl refl))
+
+pub lesser_first : (paths : List Path) → IsAnswer (ask wider) 120 (by_B ∷ paths) → ⊥
+lesser_first paths a = a.each.0.steps.1 by_C.steps by_C_next.steps.0 (inr (refl, inl (omega arith)))
+
+-- ---- one issuer certifies two user IDs of an introducer: what is used of the pair is used of both edges
+
+abbrev second_uid : EdgeFacts
+second_uid = record { issuer = R; target = A; uid = 1; sig = 0; made = 2000; depth = 1; amount = 100; scoped = false }
+
+abbrev two_uids : Record
+two_uids = (T, asked (row A T 0 120 ∷ [])) ∷ (A, into (row R A 1 60 ∷ record { edge = second_uid; usable = true; scope = true } ∷ [])) ∷ []
+
+abbrev by_second : Path
+by_second = path 100 (step_of second_uid ∷ step A T 0 120 ∷ [])
+
+by_second_next : IsNextPath (ask two_uids) (use_of []) by_second
+unfolding first_from climbed
+by_second_next = record { steps = next_is two_uids [] (Some by_second.steps) refl; root = refl; amount = refl }
+
+by_second_spent : IsSpent (ask two_uids) (use_of (by_second ∷ []))
+unfolding first_from climbed
+by_second_spent = next_is two_uids (by_second ∷ []) None refl
+
+pub two_uids_answer : IsAnswer (ask two_uids) 120 (by_second ∷ [])
+two_uids_answer = leaves_none two_uids by_second by_second_next by_second_spent
+
+pub used_by_edge : (p : Path) (paths : List Path) → IsAnswer (ask two_uids) 120 (by_second ∷ p ∷ paths) → ⊥
+used_by_edge p paths a = by_second_spent p.steps a.each.1.0.steps.0
+
+-- of two edges of one amount the one on the lesser user ID is taken
+
+abbrev even_uids : Record
+even_uids = (T, asked (row A T 0 120 ∷ [])) ∷ (A, into (row R A 1 100 ∷ record { edge = second_uid; usable = true; scope = true } ∷ [])) ∷ []
+
+by_first_next : IsNextPath (ask even_uids) (use_of []) (path 100 (step R A 1 100 ∷ step A T 0 120 ∷ []))
+unfolding first_from climbed
+by_first_next = record { steps = next_is even_uids [] (Some (step R A 1 100 ∷ step A T 0 120 ∷ [])) refl; root = refl; amount = refl }
+
+pub greater_uid : (paths : List Path) → IsAnswer (ask even_uids) 120 (by_second ∷ paths) → ⊥
+greater_uid paths a = a.each.0.steps.1 (step R A 1 100 ∷ step A T 0 120 ∷ []) by_first_next.steps.0 (inr (refl, inr (refl, refl)))

@@ -11,7 +11,7 @@ use Rattle.wot_edge.specs.Order.{same_fpr, steps_cmp}
 use Rattle.wot_edge.specs.Record.{Has, Record, Row, entry_at, rows_into}
 use Rattle.wot_edge.specs.Roots.{root_amount}
 
--- How far is U a user ID of the target? By the record of U, and by the amounts of the roots.
+-- The question how far U is a user ID of the target: by the record of U, and by the amounts of the roots.
 pub record Question : Type 0 where
   pub told : Record
   pub roots : List (Fpr × ℕ)

@@ -18,4 +18,7 @@ pub use lists::{PathList, StepList};
 pub use path::{Path, Step};
 pub use roads::Roads;
 pub use roots::{Roots, RootsIter};
-pub use used::{Pair, Used};
+pub use used::Used;
+
+#[cfg(test)]
+mod tests;

@@ -10,8 +10,9 @@ ghost use Rattle.wot_edge.specs.Record.{Has};
 ghost use Rattle.wot_edge.specs.Path.{is_of, pair_part};
 ghost use Rattle.wot_edge.specs.Sums.{sum_at, pair_cmp, pair_of};
 
+use crate::Step;
 use crate::sums::{make_room, raise};
-use crate::{Pair, Step};
+use crate::used::Pair;
 use std::alloc::Global;
 use std::collections::BTreeMap;
 use wot_types::{Fpr, Memory, compare_fprs};
