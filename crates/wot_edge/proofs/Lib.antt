@@ -1,0 +1,14 @@
+pub mod Amounts
+pub mod Fprs
+pub mod Orders
+pub mod PairSums
+pub mod Layers
+pub mod Trail
+pub mod Covers
+pub mod Searching
+pub mod Exists
+pub mod One
+pub mod Answering
+pub mod Fitting
+pub mod Worked
+pub mod PlainTold

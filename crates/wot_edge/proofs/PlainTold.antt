@@ -1,0 +1,148 @@
+-- What roads in memory tell.
+use Rattle.std.proofs.Common.{◌≡◌, inl, inr, ℕ, Bool, true, false, cond, List, [], ◌∷◌, map, Ordering, Option, Some, None, refl, sym, ap, subst, ◌∙◌, length, arith}
+use Rattle.std.specs.declared.cmp.Ordering.TheVariants.{Less, Equal, Greater}
+use Rattle.std.specs.Ordering.{is_lt, nat_cmp, ordering_then, match_ordering}
+use Rattle.std.specs.Option.{unwrap_or, option_map}
+use Rattle.std.specs.Map.{lookup}
+use Rattle.std.specs.BTreeMap.{is_at, insert_entry}
+use Rattle.std.specs.List.{AllByRecursion, slice_get}
+use Rattle.std.specs.List.Sorted.{IsStrictlySortedBy}
+use Rattle.std.specs.Cmp.{IsTotalOrder}
+use Rattle.std.proofs.lemmas.Map.Made.{lookup-map_values}
+use Rattle.std.proofs.lemmas.Cmp.{tied_itself, nat_cmp_total, on_total, then_total}
+use Rattle.wot_types.specs.declared.fpr.Fpr.{Fpr}
+use Rattle.wot_types.specs.Fpr.{fpr_cmp}
+use Rattle.wot_edge.specs.declared.edge.EdgeFacts.{EdgeFacts}
+use Rattle.wot_edge.specs.Order.{edge_cmp, same_fpr}
+use Rattle.wot_edge.specs.Record.{Has, Row, Entry, IsRecord, blank, entry_at, rows_into, edges_into}
+use Rattle.wot_edge.specs.Plain.{Line, Plain, place_of, row_of, entry_of, told_of, AreRows, AreLines, MayPrecede}
+use Rattle.wot_edge.proofs.Orders.{same_fpr-true, fpr_total, fpr_exact}
+
+pub edge_total : IsTotalOrder edge_cmp
+edge_total = then_total (on_total (λ edge. edge.issuer) fpr_total) (on_total (λ edge. edge.uid) nat_cmp_total)
+
+-- ---- what is told of a fingerprint
+
+told_at : (plain : Plain) (uid : List ℕ) (fpr : Fpr) → entry_at (told_of plain uid) fpr ≡ unwrap_or (option_map (entry_of plain.inside (place_of uid)) (lookup (is_at (fpr_cmp fpr)) plain.lines)) blank
+told_at plain uid fpr = ap (λ (found : Option Entry). unwrap_or found blank) (lookup-map_values (entry_of plain.inside (place_of uid)) (is_at (fpr_cmp fpr)) plain.lines)
+
+pub told_line : (plain : Plain) (uid : List ℕ) (fpr : Fpr) (line : Line) → lookup (is_at (fpr_cmp fpr)) plain.lines ≡ Some line → entry_at (told_of plain uid) fpr ≡ entry_of plain.inside (place_of uid) line
+told_line plain uid fpr line e = told_at plain uid fpr ∙ ap (λ (found : Option Line). unwrap_or (option_map (entry_of plain.inside (place_of uid)) found) blank) e
+
+pub told_none : (plain : Plain) (uid : List ℕ) (fpr : Fpr) → lookup (is_at (fpr_cmp fpr)) plain.lines ≡ None → entry_at (told_of plain uid) fpr ≡ blank
+told_none plain uid fpr e = told_at plain uid fpr ∙ ap (λ (found : Option Line). unwrap_or (option_map (entry_of plain.inside (place_of uid)) found) blank) e
+
+row_edges : (inside : ℕ) (place : Option ℕ) (edges : List EdgeFacts) → map (λ row. row.edge) (map (row_of inside place) edges) ≡ edges
+row_edges inside place [] = refl
+row_edges inside place (edge ∷ edges) = ap (λ (rest : List EdgeFacts). edge ∷ rest) (row_edges inside place edges)
+
+pub line_edges : (plain : Plain) (uid : List ℕ) (fpr : Fpr) (line : Line) → lookup (is_at (fpr_cmp fpr)) plain.lines ≡ Some line → edges_into (told_of plain uid) fpr ≡ line.edges
+line_edges plain uid fpr line e = ap (λ (entry : Entry). map (λ row. row.edge) entry.rows) (told_line plain uid fpr line e) ∙ row_edges plain.inside (place_of uid) line.edges
+
+pub no_edges : (plain : Plain) (uid : List ℕ) (fpr : Fpr) → lookup (is_at (fpr_cmp fpr)) plain.lines ≡ None → edges_into (told_of plain uid) fpr ≡ []
+no_edges plain uid fpr e = ap (λ (entry : Entry). map (λ row. row.edge) entry.rows) (told_none plain uid fpr e)
+
+row_made : (inside : ℕ) (place : Option ℕ) (edges : List EdgeFacts) (row : Row) → Has (map (row_of inside place) edges) row → Has edges row.edge × (row ≡ row_of inside place row.edge)
+row_made inside place [] row h = absurd h
+row_made inside place (edge ∷ edges) row (inl e) =
+    let same : row.edge ≡ edge = ap (λ (r : Row). r.edge) e in
+    (inl same, e ∙ ap (row_of inside place) (sym same))
+row_made inside place (edge ∷ edges) row (inr h) = let m = row_made inside place edges row h in (inr m.0, m.1)
+
+-- each row is one that the line makes
+told_row : (plain : Plain) (uid : List ℕ) (fpr : Fpr) (row : Row) → Has (rows_into (told_of plain uid) fpr) row → (line : Line) × (lookup (is_at (fpr_cmp fpr)) plain.lines ≡ Some line) × Has line.edges row.edge × (row ≡ row_of plain.inside (place_of uid) row.edge)
+told_row plain uid fpr row h = by (lookup (is_at (fpr_cmp fpr)) plain.lines) refl
+  where
+    by : (found : Option Line) → lookup (is_at (fpr_cmp fpr)) plain.lines ≡ found → (line : Line) × (lookup (is_at (fpr_cmp fpr)) plain.lines ≡ Some line) × Has line.edges row.edge × (row ≡ row_of plain.inside (place_of uid) row.edge)
+    by None e = absurd (subst (λ (entry : Entry). Has entry.rows row) (told_none plain uid fpr e) h)
+    by (Some line) e = let m = row_made plain.inside (place_of uid) line.edges row (subst (λ (entry : Entry). Has entry.rows row) (told_line plain uid fpr line e) h) in (line, e, m.0, m.1)
+
+pub told_made : (plain : Plain) (uid : List ℕ) (fpr : Fpr) (row : Row) → Has (rows_into (told_of plain uid) fpr) row → row ≡ row_of plain.inside (place_of uid) row.edge
+told_made plain uid fpr row h = (told_row plain uid fpr row h).3
+
+-- ---- the record is one
+
+all_has : {X : Type 0} (P : X → Type 0) (xs : List X) (x : X) → AllByRecursion P xs → Has xs x → P x
+all_has P [] x all h = absurd h
+all_has P (y ∷ xs) x all (inl e) = subst P (sym e) all.0
+all_has P (y ∷ xs) x all (inr h) = all_has P xs x all.1 h
+
+apart : (x y : EdgeFacts) → edge_cmp x y ≡ Less → x.issuer ≡ y.issuer → x.uid ≡ y.uid → ⊥
+apart x y less e f =
+    let same : edge_cmp x x ≡ edge_cmp x y = λ i. ordering_then (fpr_cmp x.issuer (e i)) (nat_cmp x.uid (f i)) in
+    let tie = tied_itself edge_total x in
+    let clash : Less ≡ Equal = sym less ∙ sym same ∙ tie in cc
+
+sorted_one : (edges : List EdgeFacts) → IsStrictlySortedBy edge_cmp edges → (x y : EdgeFacts) → Has edges x → Has edges y → x.issuer ≡ y.issuer → x.uid ≡ y.uid → x ≡ y
+unfolding IsStrictlySortedBy
+sorted_one [] s x y h k e f = absurd h
+sorted_one (z ∷ edges) s x y (inl h) (inl k) e f = h ∙ sym k
+sorted_one (z ∷ edges) s x y (inl h) (inr k) e f = absurd (apart z y (all_has (λ w. edge_cmp z w ≡ Less) edges y s.0 k) (ap (λ (w : EdgeFacts). w.issuer) (sym h) ∙ e) (ap (λ (w : EdgeFacts). w.uid) (sym h) ∙ f))
+sorted_one (z ∷ edges) s x y (inr h) (inl k) e f = absurd (apart z x (all_has (λ w. edge_cmp z w ≡ Less) edges x s.0 h) (ap (λ (w : EdgeFacts). w.issuer) (sym k) ∙ sym e) (ap (λ (w : EdgeFacts). w.uid) (sym k) ∙ sym f))
+sorted_one (z ∷ edges) s x y (inr h) (inr k) e f = sorted_one edges s.1 x y h k e f
+
+pub line_rows : (lines : List (Fpr × Line)) (fpr : Fpr) (line : Line) → AreLines lines → lookup (is_at (fpr_cmp fpr)) lines ≡ Some line → AreRows fpr line.edges
+line_rows [] fpr line all e = absurd cc
+line_rows (l ∷ lines) fpr line all e = by (λ f. line_rows lines fpr line all.1 f) (same_fpr fpr l.0) refl e
+  where
+    by : (lookup (is_at (fpr_cmp fpr)) lines ≡ Some line → AreRows fpr line.edges) → (b : Bool) → same_fpr fpr l.0 ≡ b → cond b (Some l.1) (lookup (is_at (fpr_cmp fpr)) lines) ≡ Some line → AreRows fpr line.edges
+    by ih true f e =
+        let same : l.1 ≡ line = cc in
+        subst (λ (x : Line). AreRows fpr x.edges) same (subst (λ (x : Fpr). AreRows x l.1.edges) (sym (same_fpr-true fpr l.0 f)) all.0)
+    by ih false f e = ih e
+
+pub told_is_record : (plain : Plain) (uid : List ℕ) → AreLines plain.lines → IsRecord (told_of plain uid)
+told_is_record plain uid all = record {
+  into = λ fpr row h. let t = told_row plain uid fpr row h in (line_rows plain.lines fpr t.0 all t.1).into row.edge t.2;
+  one = λ fpr x y h k e f.
+      let t = told_row plain uid fpr x h in
+      let u = told_row plain uid fpr y k in
+      let same : t.0 ≡ u.0 = (let g : Some t.0 ≡ Some u.0 = sym t.1 ∙ u.1 in cc) in
+      let there : Has t.0.edges y.edge = subst (λ (line : Line). Has line.edges y.edge) (sym same) u.2 in
+      let edge : x.edge ≡ y.edge = sorted_one t.0.edges (line_rows plain.lines fpr t.0 all t.1).order x.edge y.edge t.2 there e f in
+      t.3 ∙ ap (row_of plain.inside (place_of uid)) edge ∙ sym u.3;
+}
+
+-- ---- rows, checked one by one
+
+below_all : (edge : EdgeFacts) (next : EdgeFacts) (rest : List EdgeFacts) → edge_cmp edge next ≡ Less → AllByRecursion (λ y. edge_cmp next y ≡ Less) rest → AllByRecursion (λ y. edge_cmp edge y ≡ Less) rest
+below_all edge next [] less all = tt
+below_all edge next (y ∷ rest) less all = (edge_total.trans edge next y less all.0, below_all edge next rest less all.1)
+
+pub rows_before : (fpr : Fpr) (edge : EdgeFacts) (later : List EdgeFacts) → MayPrecede fpr edge later → AreRows fpr later → AreRows fpr (edge ∷ later)
+unfolding IsStrictlySortedBy
+rows_before fpr edge [] m r = record { into = λ x h. elim h [ inl e ↦ ap (λ (w : EdgeFacts). w.target) e ∙ m | inr h' ↦ absurd h' ]; order = (tt, tt) }
+rows_before fpr edge (next ∷ rest) m r = record {
+  into = λ x h. elim h [ inl e ↦ ap (λ (w : EdgeFacts). w.target) e ∙ m.0 | inr h' ↦ r.into x h' ];
+  order = ((m.1, below_all edge next rest m.1 r.order.0), r.order);
+}
+
+pub no_rows : (fpr : Fpr) → AreRows fpr []
+unfolding IsStrictlySortedBy
+no_rows fpr = record { into = λ x h. absurd h; order = tt }
+
+pub lines_put : (lines : List (Fpr × Line)) (fpr : Fpr) (line : Line) → AreLines lines → AreRows fpr line.edges → AreLines (insert_entry fpr_cmp lines fpr line)
+lines_put [] fpr line all r = (r, tt)
+lines_put (l ∷ lines) fpr line all r = by (lines_put lines fpr line all.1 r) (fpr_cmp fpr l.0) refl
+  where
+    by : AreLines (insert_entry fpr_cmp lines fpr line) → (o : Ordering) → fpr_cmp fpr l.0 ≡ o → AreLines (match_ordering o ((fpr, line) ∷ l ∷ lines) ((l.0, line) ∷ lines) (l ∷ insert_entry fpr_cmp lines fpr line))
+    by ih Less e = (r, all)
+    by ih Equal e = (subst (λ (x : Fpr). AreRows x line.edges) (fpr_exact fpr l.0 e) r, all.1)
+    by ih Greater e = (all.0, ih)
+
+is_lt-Less : (o : Ordering) → is_lt o ≡ true → o ≡ Less
+is_lt-Less Less e = refl
+is_lt-Less Equal e = absurd cc
+is_lt-Less Greater e = absurd cc
+
+pub may_first : (fpr : Fpr) (edge next : EdgeFacts) (later : List EdgeFacts) → Some next ≡ slice_get later 0 → edge.target ≡ fpr → is_lt (edge_cmp edge next) ≡ true → MayPrecede fpr edge later
+may_first fpr edge next [] e t less = absurd cc
+may_first fpr edge next (x ∷ later) e t less = let same : next ≡ x = cc in (t, subst (λ (y : EdgeFacts). edge_cmp edge y ≡ Less) same (is_lt-Less (edge_cmp edge next) less))
+
+pub may_last : (fpr : Fpr) (edge : EdgeFacts) (later : List EdgeFacts) → None ≡ slice_get later 0 → edge.target ≡ fpr → MayPrecede fpr edge later
+may_last fpr edge [] e t = t
+may_last fpr edge (x ∷ later) e t = absurd cc
+
+pub rows_end : (fpr : Fpr) (edges : List EdgeFacts) → length edges ≡ 0 → AreRows fpr edges
+rows_end fpr [] e = no_rows fpr
+rows_end fpr (x ∷ edges) e = absurd (omega (arith, e))

@@ -1,0 +1,22 @@
+-- Two questions about one user ID, in two states, that agree on a set of fingerprints.
+use Rattle.std.specs.Prelude.{◌≡◌, Bool, List, map}
+use Rattle.wot_types.specs.declared.fpr.Fpr.{Fpr}
+use Rattle.wot_edge.specs.declared.edge.EdgeFacts.{EdgeFacts}
+use Rattle.wot_edge.specs.Record.{Row, Has, rows_into, entry_at}
+use Rattle.wot_edge.specs.Roots.{root_amount}
+use Rattle.wot_edge.specs.Path.{Question}
+
+-- an edge, and whether its scope holds
+abbrev pub scoped_edge : Row → EdgeFacts × Bool
+scoped_edge row = (row.edge, row.scope)
+
+-- One target is asked for. Of each fingerprint of the set these are the same: the edges into it with
+-- their scopes, the place of U and whether it is in order for U, and its amount as a root. So is
+-- whether each edge between two of the set is usable.
+pub record Agree (q other : Question) (set : List Fpr) : Type 0 where
+  pub target : q.target ≡ other.target
+  pub rows : (fpr : Fpr) → Has set fpr → map scoped_edge (rows_into q.told fpr) ≡ map scoped_edge (rows_into other.told fpr)
+  pub place : (fpr : Fpr) → Has set fpr → (entry_at q.told fpr).place ≡ (entry_at other.told fpr).place
+  pub in_order : (fpr : Fpr) → Has set fpr → (entry_at q.told fpr).in_order ≡ (entry_at other.told fpr).in_order
+  pub usable : (fpr : Fpr) → Has set fpr → (x y : Row) → Has (rows_into q.told fpr) x → Has (rows_into other.told fpr) y → x.edge ≡ y.edge → Has set x.edge.issuer → x.usable ≡ y.usable
+  pub roots : (fpr : Fpr) → Has set fpr → root_amount q.roots fpr ≡ root_amount other.roots fpr

@@ -1,0 +1,10 @@
+pub mod Order
+pub mod Record
+pub mod Roots
+pub mod Path
+pub mod Sums
+pub mod Answer
+pub mod Capacity
+pub mod Agree
+pub mod Leads
+pub mod Plain

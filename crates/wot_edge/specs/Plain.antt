@@ -1,0 +1,55 @@
+-- Roads that are kept in memory, for tests and benches. A user ID is one octet, and that octet is its place.
+use Rattle.std.specs.Prelude.{◌≡◌, ℕ, ◌&&◌, ◌||◌, not, nat_lt, nat_eq, Bool, true, false, List, [], ◌∷◌, map, Option, Some, None}
+use Rattle.std.specs.declared.cmp.Ordering.TheVariants.{Less}
+use Rattle.std.specs.List.{AllByRecursion}
+use Rattle.std.specs.List.Sorted.{IsStrictlySortedBy}
+use Rattle.wot_types.specs.declared.fpr.Fpr.{Fpr}
+use Rattle.wot_edge.specs.declared.edge.EdgeFacts.{EdgeFacts}
+use Rattle.wot_edge.specs.Order.{edge_cmp}
+use Rattle.wot_edge.specs.Record.{Has, Row, Entry, Record}
+
+-- the edges into a certificate, and whether it is in order
+pub record Line : Type 0 where
+  pub edges : List EdgeFacts
+  pub in_order : Bool
+
+-- the lines by fingerprint, and the one user ID for which limited scopes hold
+pub record Plain : Type 0 where
+  pub lines : List (Fpr × Line)
+  pub inside : ℕ
+
+abbrev pub place_of : List ℕ → Option ℕ
+place_of [] = None
+place_of (x ∷ []) = Some x
+place_of (x ∷ y ∷ ys) = None
+
+abbrev pub is_place : Option ℕ → Bool
+is_place None = false
+is_place (Some x) = true
+
+abbrev pub holds_inside : ℕ → Option ℕ → Bool
+holds_inside inside None = false
+holds_inside inside (Some x) = nat_eq x inside
+
+-- An edge made at 0 isn't usable.
+abbrev pub row_of : ℕ → Option ℕ → EdgeFacts → Row
+row_of inside place edge = record { edge = edge; usable = nat_lt 0 edge.made; scope = not edge.scoped || holds_inside inside place }
+
+abbrev pub entry_of : ℕ → Option ℕ → Line → Entry
+entry_of inside place line = record { rows = map (row_of inside place) line.edges; place = place; in_order = line.in_order && is_place place }
+
+abbrev pub told_of : Plain → List ℕ → Record
+told_of plain uid = map (λ e. (e.0, entry_of plain.inside (place_of uid) e.1)) plain.lines
+
+-- the edges are into a fingerprint, in order
+pub record AreRows (fpr : Fpr) (edges : List EdgeFacts) : Type 0 where
+  pub into : (edge : EdgeFacts) → Has edges edge → edge.target ≡ fpr
+  pub order : IsStrictlySortedBy edge_cmp edges
+
+abbrev pub AreLines : List (Fpr × Line) → Type 0
+AreLines lines = AllByRecursion (λ e. AreRows e.0 e.1.edges) lines
+
+-- an edge into a fingerprint that is less than the first of these
+abbrev pub MayPrecede : Fpr → EdgeFacts → List EdgeFacts → Type 0
+MayPrecede fpr edge [] = edge.target ≡ fpr
+MayPrecede fpr edge (next ∷ rest) = (edge.target ≡ fpr) × (edge_cmp edge next ≡ Less)

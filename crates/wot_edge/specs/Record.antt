@@ -1,0 +1,49 @@
+-- The record of a user ID U: all that the roads tell of U, as finite data.
+use Rattle.std.specs.Prelude.{◌≡◌, ◌⊎◌, ℕ, Bool, false, List, [], ◌∷◌, map, Option, None}
+use Rattle.std.specs.Option.{unwrap_or}
+use Rattle.std.specs.Map.{lookup}
+use Rattle.std.specs.BTreeMap.{is_at}
+use Rattle.wot_types.specs.declared.fpr.Fpr.{Fpr}
+use Rattle.wot_types.specs.Fpr.{fpr_cmp}
+use Rattle.wot_edge.specs.declared.edge.EdgeFacts.{EdgeFacts}
+
+-- x is one of the list
+abbrev pub Has : {X : Type 0} → List X → X → Type 0
+Has [] x = ⊥
+Has (y ∷ ys) x = (x ≡ y) ⊎ Has ys x
+
+-- an edge, whether it is usable, and whether its scope holds for U
+pub record Row : Type 0 where
+  pub edge : EdgeFacts
+  pub usable : Bool
+  pub scope : Bool
+
+-- what is told of a fingerprint: the edges into it, the place of U among its user IDs, and whether it is in order for U
+pub record Entry : Type 0 where
+  pub rows : List Row
+  pub place : Option ℕ
+  pub in_order : Bool
+
+-- what is told of a fingerprint that isn't there
+abbrev pub blank : Entry
+blank = record { rows = []; place = None; in_order = false }
+
+abbrev pub Record : Type 0
+Record = List (Fpr × Entry)
+
+-- what a record tells of a fingerprint
+abbrev pub entry_at : Record → Fpr → Entry
+entry_at told fpr = unwrap_or (lookup (is_at (fpr_cmp fpr)) told) blank
+
+-- the rows into a fingerprint
+abbrev pub rows_into : Record → Fpr → List Row
+rows_into told fpr = (entry_at told fpr).rows
+
+-- the edges of these rows
+abbrev pub edges_into : Record → Fpr → List EdgeFacts
+edges_into told fpr = map (λ row. row.edge) (rows_into told fpr)
+
+-- The rows into each fingerprint are of edges into it, at most one for each issuer and user ID.
+pub record IsRecord (told : Record) : Type 0 where
+  pub into : (fpr : Fpr) (row : Row) → Has (rows_into told fpr) row → row.edge.target ≡ fpr
+  pub one : (fpr : Fpr) (x y : Row) → Has (rows_into told fpr) x → Has (rows_into told fpr) y → x.edge.issuer ≡ y.edge.issuer → x.edge.uid ≡ y.edge.uid → x ≡ y

@@ -1,0 +1,92 @@
+// What a path uses of its pairs.
+ghost use Rattle.std.specs.Prelude.{◌≡◌, ◌+◌, ◌<◌, ◌^◌, ◌∷◌, ℕ, List, OnOk, IsSome, if◌then◌else◌};
+ghost use Rattle.std.specs.BTreeMap.{is_at};
+ghost use Rattle.std.specs.Map.{lookup};
+ghost use Rattle.std.specs.List.{list_any};
+ghost use Rattle.wot_edge.specs.declared.path.Step.{Step as TheStep};
+ghost use Rattle.wot_edge.specs.declared.used.Pair.{Pair as ThePair};
+ghost use Rattle.wot_edge.specs.Order.{same_fpr};
+ghost use Rattle.wot_edge.specs.Record.{Has};
+ghost use Rattle.wot_edge.specs.Path.{is_of, pair_part};
+ghost use Rattle.wot_edge.specs.Sums.{sum_at, pair_cmp, pair_of};
+
+use crate::Step;
+use crate::sums::{make_room, raise};
+use crate::used::Pair;
+use std::alloc::Global;
+use std::collections::BTreeMap;
+use wot_types::{Fpr, Memory, compare_fprs};
+
+fn same(a: &Fpr, b: &Fpr) -> bool
+    ensures same { result ≡ same_fpr a.now b.now }
+{
+    compare_fprs(a, b).is_eq()
+}
+
+fn is_pair(issuer: &Fpr, target: &Fpr, step: &Step) -> bool
+    ensures pair { result ≡ is_of issuer.now target.now step.now }
+{
+    same(issuer, &step.issuer) && same(target, &step.target)
+}
+
+/// Whether some step is of this pair.
+fn any_of(issuer: &Fpr, target: &Fpr, steps: &[Step]) -> bool
+    ensures any { result ≡ list_any (is_of issuer.now target.now) steps.now }
+{
+    steps.iter().any(|step| is_pair(issuer, target, step))
+}
+
+fn pair_of_step(step: &Step) -> Pair
+    ensures pair { result ≡ pair_of step.now }
+{
+    Pair {
+        issuer: step.issuer,
+        target: step.target,
+    }
+}
+
+fn make_room_for(pairs: &mut BTreeMap<Pair, u32, Global>, step: &Step) -> Result<(), Memory>
+    ensures same { (q : ThePair) → sum_at pair_cmp pairs.new.entries q ≡ sum_at pair_cmp pairs.old.entries q }
+    ensures here { OnOk result (IsSome (lookup (is_at (pair_cmp (pair_of step.now))) pairs.new.entries)) }
+    ensures others { (q : ThePair) → IsSome (lookup (is_at (pair_cmp q)) pairs.old.entries) → IsSome (lookup (is_at (pair_cmp q)) pairs.new.entries) }
+{
+    make_room(pairs, pair_of_step(step))
+}
+
+/// Gives the pair of each step an entry. No sum is another then.
+pub fn make_rooms(pairs: &mut BTreeMap<Pair, u32, Global>, steps: &[Step]) -> Result<(), Memory>
+    ensures same { (q : ThePair) → sum_at pair_cmp pairs.new.entries q ≡ sum_at pair_cmp pairs.old.entries q }
+    ensures here { OnOk result ((step : TheStep) → Has steps.now step → IsSome (lookup (is_at (pair_cmp (pair_of step))) pairs.new.entries)) }
+{
+    let mut rest = steps;
+    'rest: while let Some((step, later)) = rest.split_first() {
+        make_room_for(pairs, step)?;
+        rest = later;
+    }
+    Ok(())
+}
+
+/// Raises the sum of the step's pair, where no later step is of that pair.
+fn raise_step(pairs: &mut BTreeMap<Pair, u32, Global>, step: &Step, later: &[Step], amount: u8)
+    requires here { IsSome (lookup (is_at (pair_cmp (pair_of step.now))) pairs.old.entries) }
+    requires fits { sum_at pair_cmp pairs.old.entries (pair_of step.now) + amount < 2 ^ 32 }
+    ensures raised { (q : ThePair) → sum_at pair_cmp pairs.new.entries q + pair_part q.issuer q.target amount later.now ≡ sum_at pair_cmp pairs.old.entries q + pair_part q.issuer q.target amount (step.now ∷ later.now) }
+    ensures others { (q : ThePair) → IsSome (lookup (is_at (pair_cmp q)) pairs.old.entries) → IsSome (lookup (is_at (pair_cmp q)) pairs.new.entries) }
+{
+    if !any_of(&step.issuer, &step.target, later) {
+        raise(pairs, pair_of_step(step), amount);
+    }
+}
+
+/// Raises the sum of each pair of these steps, once.
+pub fn raise_all(pairs: &mut BTreeMap<Pair, u32, Global>, steps: &[Step], amount: u8)
+    requires here { (step : TheStep) → Has steps.now step → IsSome (lookup (is_at (pair_cmp (pair_of step))) pairs.old.entries) }
+    requires fits { (q : ThePair) → sum_at pair_cmp pairs.old.entries q + pair_part q.issuer q.target amount steps.now < 2 ^ 32 }
+    ensures raised { (q : ThePair) → sum_at pair_cmp pairs.new.entries q ≡ sum_at pair_cmp pairs.old.entries q + pair_part q.issuer q.target amount steps.now }
+{
+    let mut rest = steps;
+    'rest: while let Some((step, later)) = rest.split_first() {
+        raise_step(pairs, step, later, amount);
+        rest = later;
+    }
+}

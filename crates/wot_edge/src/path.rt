@@ -1,0 +1,39 @@
+ghost use Rattle.std.specs.Prelude.{◌≡◌, IfOk};
+
+use crate::StepList;
+use wot_types::{Fpr, Memory};
+
+/// What a path tells of one of its edges.
+#[derive(Clone, Copy, Debug, PartialEq, Eq)]
+pub struct Step {
+    pub issuer: Fpr,
+    pub target: Fpr,
+    /// The place of the user ID among the target's, in the order of their octets.
+    pub uid: u32,
+    pub depth: u8,
+    pub amount: u8,
+}
+
+/// A path from a root to the target, with its amount.
+#[derive(Drop)]
+pub struct Path {
+    /// The least of what was left of the root and of the edges.
+    pub amount: u8,
+    /// The issuer of the first step.
+    pub root: Fpr,
+    pub steps: StepList,
+}
+
+impl Path {
+    /// The same path once more.
+    pub fn duplicate(&self) -> Result<Path, Memory>
+        ensures same { IfOk result (λ made. made ≡ self.now) }
+    {
+        let steps = self.steps.duplicate()?;
+        Ok(Path {
+            amount: self.amount,
+            root: self.root,
+            steps,
+        })
+    }
+}

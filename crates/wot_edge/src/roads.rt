@@ -1,0 +1,38 @@
+ghost use Rattle.std.specs.Prelude.{◌≡◌, ℕ, List, IfOk};
+ghost use Rattle.std.specs.List.Sorted.{IsStrictlySortedBy};
+ghost use Rattle.wot_edge.specs.Order.{edge_cmp};
+ghost use Rattle.wot_edge.specs.Record.{Record, Row, Has, IsRecord, rows_into, edges_into, entry_at};
+
+use crate::Edge;
+use wot_types::{Fpr, Memory};
+
+/// What one present state tells at one time. Of each user ID it tells a record.
+pub trait Roads {
+    // the record of a user ID
+    ghost told: { Self → List ℕ → Record };
+
+    /// The edges into a target, in the order of issuer and user ID; none where it is absent.
+    fn rows(&self, target: &Fpr) -> &[Edge]
+        ensures rows { (uid : List ℕ) → result.now ≡ edges_into (told self.now uid) target.now }
+        ensures order { IsStrictlySortedBy edge_cmp result.now }
+        ensures lawful { (uid : List ℕ) → IsRecord (told self.now uid) };
+
+    /// Whether an edge is usable.
+    fn usable(&self, edge: &Edge) -> bool
+        requires row { (uid : List ℕ) → Has (edges_into (told self.now uid) edge.now.target) edge.now }
+        ensures usable { (uid : List ℕ) (row : Row) → Has (rows_into (told self.now uid) edge.now.target) row → row.edge ≡ edge.now → row.usable ≡ result };
+
+    /// Whether the scope of an edge holds for a user ID.
+    fn scope(&self, edge: &Edge, uid: &[u8]) -> Result<bool, Memory>
+        requires row { (id : List ℕ) → Has (edges_into (told self.now id) edge.now.target) edge.now }
+        ensures scope { IfOk result (λ holds. (row : Row) → Has (rows_into (told self.now uid.now) edge.now.target) row → row.edge ≡ edge.now → row.scope ≡ holds) };
+
+    /// Whether a target is in order for a user ID.
+    fn in_order(&self, target: &Fpr, uid: &[u8]) -> bool
+        ensures in_order { result ≡ (entry_at (told self.now uid.now) target.now).in_order }
+        ensures lawful { (id : List ℕ) → IsRecord (told self.now id) };
+
+    /// The place of a user ID among a target's; `None` where the target or the user ID isn't there.
+    fn place(&self, target: &Fpr, uid: &[u8]) -> Option<u32>
+        ensures place { result ≡ (entry_at (told self.now uid.now) target.now).place };
+}

@@ -1,0 +1,88 @@
+ghost use Rattle.std.specs.Prelude.{◌≡◌, ◌<◌, ◌+◌, ◌^◌, OnOk, OnErr};
+ghost use Rattle.wot_types.specs.declared.fpr.Fpr.{Fpr as TheFpr};
+ghost use Rattle.wot_edge.specs.Path.{path_pair, path_root};
+ghost use Rattle.wot_edge.specs.Sums.{pair_sum, root_sum};
+
+use crate::Path;
+use crate::maps::{make_root_room, raise_root};
+use crate::pairs::{make_rooms, raise_all};
+use std::alloc::Global;
+use std::collections::BTreeMap;
+use std::marker::Model;
+use wot_types::{Fpr, Memory};
+
+/// An issuer and a target.
+#[derive(Clone, Copy, Debug, PartialEq, Eq, PartialOrd, Ord)]
+pub struct Pair {
+    pub issuer: Fpr,
+    pub target: Fpr,
+}
+
+/// What paths use of each pair of issuer and target, and of each root.
+#[derive(Drop)]
+pub struct Used {
+    pairs: BTreeMap<Pair, u32, Global>,
+    roots: BTreeMap<Fpr, u32, Global>,
+}
+
+impl Model for Used {
+    ghost use Rattle.wot_edge.specs.Sums.{Sums};
+
+    ghost Value = { Sums };
+
+    ghost view = { λ used. record { pairs = used.pairs.entries; roots = used.roots.entries } };
+}
+
+impl Used {
+    /// Nothing is used yet.
+    pub fn new(alloc: Global) -> Used
+        ensures pairs { (issuer target : TheFpr) → pair_sum result issuer target ≡ 0 }
+        ensures roots { (fpr : TheFpr) → root_sum result fpr ≡ 0 }
+    {
+        Used {
+            pairs: BTreeMap::new(alloc),
+            roots: BTreeMap::new(alloc),
+        }
+    }
+
+    /// What the paths that have an edge from this issuer into this target use, together.
+    pub fn pair(&self, issuer: &Fpr, target: &Fpr) -> u32
+        ensures sum { result ≡ pair_sum self.now issuer.now target.now }
+    {
+        let pair = Pair {
+            issuer: *issuer,
+            target: *target,
+        };
+        match self.pairs.get(&pair) {
+            Some(sum) => *sum,
+            None => 0,
+        }
+    }
+
+    /// What the paths from this root use, together.
+    pub fn root(&self, fpr: &Fpr) -> u32
+        ensures sum { result ≡ root_sum self.now fpr.now }
+    {
+        match self.roots.get(fpr) {
+            Some(sum) => *sum,
+            None => 0,
+        }
+    }
+
+    /// Adds what a path uses: its amount of its root, and of each of its pairs once. After `Memory`
+    /// each sum is as before.
+    pub fn add(&mut self, path: &Path) -> Result<(), Memory>
+        requires pairs_fit { (issuer target : TheFpr) → pair_sum self.old issuer target + path_pair issuer target path.now < 2 ^ 32 }
+        requires roots_fit { (fpr : TheFpr) → root_sum self.old fpr + path_root fpr path.now < 2 ^ 32 }
+        ensures pairs { OnOk result ((issuer target : TheFpr) → pair_sum self.new issuer target ≡ pair_sum self.old issuer target + path_pair issuer target path.now) }
+        ensures roots { OnOk result ((fpr : TheFpr) → root_sum self.new fpr ≡ root_sum self.old fpr + path_root fpr path.now) }
+        ensures pairs_kept { OnErr result ((issuer target : TheFpr) → pair_sum self.new issuer target ≡ pair_sum self.old issuer target) }
+        ensures roots_kept { OnErr result ((fpr : TheFpr) → root_sum self.new fpr ≡ root_sum self.old fpr) }
+    {
+        make_rooms(&mut self.pairs, path.steps.as_slice())?;
+        make_root_room(&mut self.roots, path.root)?;
+        raise_all(&mut self.pairs, path.steps.as_slice(), path.amount);
+        raise_root(&mut self.roots, path.root, path.amount);
+        Ok(())
+    }
+}
