@@ -6,7 +6,7 @@ use Rattle.wot_pattern.specs.declared.item.Item.{Item}
 use Rattle.wot_pattern.specs.declared.flow.Flow.{Flow}
 use Rattle.wot_pattern.specs.Reading.{Atom, exactly, any, start, end, range, Reading, nothing, single, sequence, either, star, plus, optional}
 use Rattle.wot_pattern.specs.Meaning.{Turns, InItems, Takes, OneTaken, AtomHolds, Holds}
-use Rattle.wot_pattern.proofs.Passes.{flow, in_items, takes, holds_empty}
+use Rattle.wot_pattern.specs.Passes.{flow, in_items, takes, holds_empty}
 use Rattle.wot_pattern.proofs.Tells.{Tells, tells_or, tells_and, tells_as, tells_always, tells_never}
 
 Turns-le :

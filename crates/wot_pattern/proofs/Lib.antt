@@ -1,7 +1,7 @@
 pub mod Complete
 pub mod Flows
+pub mod Loops
 pub mod Marking
-pub mod Passes
 pub mod Sound
-pub mod Steps
 pub mod Tells
+pub mod Walk

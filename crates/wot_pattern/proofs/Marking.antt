@@ -6,7 +6,7 @@ use Rattle.wot_pattern.specs.Reading.{Atom, Reading, nothing, single, sequence, 
 use Rattle.wot_pattern.specs.Tokens as t
 use Rattle.wot_pattern.specs.Tokens.{Token, tokens}
 use Rattle.wot_pattern.specs.Meaning.{Holds}
-use Rattle.wot_pattern.proofs.Passes.{flow, takes, holds_empty, settled_one, settled, advanced_one, advanced, behind}
+use Rattle.wot_pattern.specs.Passes.{flow, takes, holds_empty, settled_one, settled, advanced_one, advanced, behind}
 use Rattle.wot_pattern.proofs.Flows.{Ended, After, Right, right_nothing, right_single, right_sequence, right_either, right_star, right_plus, right_optional, second_begins, loop_begins, taken_ended}
 use Rattle.wot_pattern.proofs.Tells.{Tells, tells_never}
 

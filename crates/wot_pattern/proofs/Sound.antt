@@ -7,7 +7,7 @@ use Rattle.wot_pattern.specs.Marks.{mark_of}
 use Rattle.wot_pattern.specs.Reading.{Atom, exactly, any, start, end, Reading, nothing, single, sequence, either, star, plus, optional}
 use Rattle.wot_pattern.specs.Grammar as g
 use Rattle.wot_pattern.specs.Grammar.{Range, Reads}
-use Rattle.wot_pattern.proofs.Steps.{Level, Last, none, atom, piece, State, at, flushed, joined, level_so_far, with_atom, entered, left, barred, with_piece, StepBy, Step}
+use Rattle.wot_pattern.specs.Steps.{Level, Last, none, atom, piece, State, at, flushed, joined, level_so_far, with_atom, entered, left, barred, with_piece, StepBy, Step}
 
 -- the present branch begins at v, behind the branches before it, which begin at t
 abbrev pub Begun : ℕ → List ℕ → Option Reading → List ℕ → Type 0

@@ -1,10 +1,19 @@
 //! Patterns that limit the scope of a trust signature (RFC 9580, section 8).
 #![tactic(auto)]
 
+mod advance;
+mod builder;
+mod fault;
 mod flow;
 mod item;
+mod leaf;
 mod mark;
+mod matcher;
 mod node;
 mod pattern;
+mod settle;
+mod stack;
 
+pub use fault::PatternFault;
+pub use matcher::Matcher;
 pub use pattern::Pattern;

@@ -1,3 +1,7 @@
+ghost use Rattle.std.specs.Prelude.{◌≡◌};
+ghost use Rattle.wot_pattern.specs.Nodes.{tokens_of};
+ghost use Rattle.wot_pattern.specs.Tokens.{tokens};
+
 use crate::node::Node;
 use std::marker::Model;
 
@@ -19,4 +23,14 @@ impl Model for Pattern {
     ghost view = { λ p. tree (tokens_of p.nodes.items) };
 
     ghost invariant = { λ p. OneTree p.nodes.items };
+}
+
+impl Pattern {
+    /// The pattern's nodes, each behind those that it is made of.
+    pub(crate) fn into_nodes(self) -> Vec<Node>
+        ensures { tokens_of result.items ≡ tokens self }
+    {
+        let Pattern { nodes } = self;
+        nodes
+    }
 }

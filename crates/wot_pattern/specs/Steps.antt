@@ -1,10 +1,18 @@
--- The parser's states and steps: how far a pattern was read, level by level.
-use Rattle.std.specs.Prelude.{◌≡◌, ℕ, suc, Bool, true, false, List, [], ◌∷◌, ◌++◌, Option, Some, None, map}
+-- What the parser's private functions do: how far a pattern was read, level by level. No public contract names this.
+use Rattle.std.specs.Prelude.{◌≡◌, ℕ, suc, ◌+◌, Bool, List, [], ◌∷◌, ◌++◌, length, Option, Some, None, is_some}
 use Rattle.wot_pattern.specs.declared.mark.Mark.{Mark}
 use Rattle.wot_pattern.specs.declared.mark.Mark.TheVariants as m
 use Rattle.wot_pattern.specs.Marks.{mark_of}
-use Rattle.wot_pattern.specs.Reading.{Atom, exactly, any, start, end, Reading, nothing, single, sequence, either, star, plus, optional}
+use Rattle.wot_pattern.specs.Reading as r
+use Rattle.wot_pattern.specs.Reading.{exactly, any, start, end, Reading, nothing, single, sequence, either, star, plus, optional}
 use Rattle.wot_pattern.specs.Grammar.{Range}
+use Rattle.wot_pattern.specs.Tokens.{Token, tokens}
+use Rattle.wot_pattern.specs.Nodes.{tokens_of}
+use Rattle.wot_pattern.specs.declared.builder.Builder.{Builder}
+use Rattle.wot_pattern.specs.declared.builder.LastRead.{LastRead}
+use Rattle.wot_pattern.specs.declared.builder.LastRead.TheVariants.{Nothing, Atom, Piece}
+use Rattle.wot_pattern.specs.declared.builder.Operator.{Operator}
+use Rattle.wot_pattern.specs.declared.builder.Operator.TheVariants as o
 
 -- a level that waits for a closing parenthesis: its branches before the present one, and the present one
 pub record Level : Type 0 where
@@ -61,7 +69,7 @@ with_piece s p = at s.levels s.outer s.earlier s.branch (piece p)
 -- one step from a character with this mark
 abbrev pub StepBy : Mark → State → ℕ → List ℕ → State → List ℕ → Type 0
 StepBy m.Escape s c t s' t' = (d : ℕ) × (t ≡ d ∷ t') × (s' ≡ with_atom s (single (exactly d)))
-StepBy m.Bracket s c t s' t' = (a : Atom) × Range t a t' × (s' ≡ with_atom s (single a))
+StepBy m.Bracket s c t s' t' = (a : r.Atom) × Range t a t' × (s' ≡ with_atom s (single a))
 StepBy m.Open s c t s' t' = (n : ℕ) × (s.levels ≡ suc n) × (t' ≡ t) × (s' ≡ entered s n)
 StepBy m.Close s c t s' t' = (f : Level) × (fs : List Level) × (s.outer ≡ f ∷ fs) × (t' ≡ t) × (s' ≡ left s f fs)
 StepBy m.Bar s c t s' t' = (t' ≡ t) × (s' ≡ barred s)
@@ -81,6 +89,51 @@ Step s (c ∷ t) s' t' = StepBy (mark_of c) s c t s' t'
 pub data Runs : State → List ℕ → Reading → Type 0 where
   accepted : {s : State} {p : Reading} → s.outer ≡ [] → level_so_far s ≡ p → Runs s [] p
   next : {s s' : State} {t t' : List ℕ} {p : Reading} → Step s t s' t' → Runs s' t' p → Runs s t p
+
+-- the nodes of a level
+abbrev pub level_tokens : Option Reading → Reading → List Token
+level_tokens None b = tokens b
+level_tokens (Some p) b = tokens p ++ tokens b
+
+abbrev pub outer_tokens : List Level → List Token
+outer_tokens [] = []
+outer_tokens (f ∷ fs) = outer_tokens fs ++ level_tokens f.earlier f.branch
+
+abbrev pub last_tokens : Last → List Token
+last_tokens none = []
+last_tokens (atom a) = tokens a
+last_tokens (piece p) = tokens p
+
+abbrev pub state_tokens : State → List Token
+state_tokens s = outer_tokens s.outer ++ (level_tokens s.earlier s.branch ++ last_tokens s.last)
+
+abbrev pub last_read : Last → LastRead
+last_read none = Nothing
+last_read (atom a) = Atom
+last_read (piece p) = Piece
+
+-- whether there is a branch before the present one, the outermost level first
+abbrev pub outer_flags : List Level → List Bool
+outer_flags [] = []
+outer_flags (f ∷ fs) = outer_flags fs ++ is_some f.earlier ∷ []
+
+-- the builder has come this far
+pub record Builds (b : Builder) (s : State) : Type 0 where
+  pub nodes : tokens_of b.nodes.items ≡ state_tokens s
+  pub outer : b.outer.items ≡ outer_flags s.outer
+  pub earlier : b.earlier ≡ is_some s.earlier
+  pub last : b.last ≡ last_read s.last
+  pub levels : s.levels + length s.outer ≡ 64
+
+-- the same with what was read last in the branch
+abbrev pub flat : State → State
+flat s = at s.levels s.outer s.earlier (flushed s.last s.branch) none
+
+-- what an operator makes of an atom
+abbrev pub applied : Operator → Reading → Reading
+applied o.Star a = star a
+applied o.Plus a = plus a
+applied o.Optional a = optional a
 
 abbrev pub fresh : ℕ → List Level → State
 fresh n fs = at n fs None nothing none

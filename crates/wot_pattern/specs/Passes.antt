@@ -1,4 +1,4 @@
--- The two passes over the nodes at one place of the text, as functions on lists.
+-- What the matcher's private functions do: its two passes over the nodes at one place of the text. No public contract names this.
 use Rattle.std.specs.Prelude.{◌≡◌, ℕ, Bool, true, false, ◌&&◌, ◌||◌, not, List, [], ◌∷◌, ◌++◌, nat_le, ◌==◌}
 use Rattle.std.proofs.Common.{refl, ap, ◌∙◌}
 use Rattle.wot_pattern.specs.declared.item.Item.{Item}
@@ -12,18 +12,20 @@ flow empty ended = record { empty = empty; ended = ended }
 abbrev pub no_flow : Flow
 no_flow = flow false false
 
--- the last flow, and what lies below it
-abbrev pub top : List Flow → Flow
-top [] = no_flow
-top (f ∷ fs) = f
+-- what lies on top of a stack, where d stands for nothing, and what lies below it
+abbrev pub top_or : {A : Type 0} → A → List A → A
+top_or d [] = d
+top_or d (x ∷ xs) = x
 
 abbrev pub below : {A : Type 0} → List A → List A
 below [] = []
 below (x ∷ xs) = xs
 
+abbrev pub top : List Flow → Flow
+top fs = top_or no_flow fs
+
 abbrev pub top_mark : List Bool → Bool
-top_mark [] = false
-top_mark (b ∷ bs) = b
+top_mark bs = top_or false bs
 
 abbrev pub in_items : ℕ → List Item → Bool
 in_items c [] = false
