@@ -1,3 +1,4 @@
+pub mod Building
 pub mod Complete
 pub mod Flows
 pub mod Loops

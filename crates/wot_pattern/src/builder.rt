@@ -1,12 +1,13 @@
-ghost use Rattle.std.specs.Prelude.{◌≡◌, suc, [], ◌∷◌, List, IfErr, IfOk, OnOk};
+ghost use Rattle.std.specs.Prelude.{◌≡◌, ℕ, suc, [], ◌∷◌, ◌++◌, List, IfErr, IfOk, OnOk};
 ghost use Rattle.wot_pattern.specs.Reading.{Reading, single};
 ghost use Rattle.wot_pattern.specs.Nodes.{atom_of, tokens_of};
 ghost use Rattle.wot_pattern.specs.Tokens.{tokens};
-ghost use Rattle.wot_pattern.specs.Steps.{State, Level, Builds, flat, fresh, with_atom, entered, left, barred, with_piece, applied, level_so_far, atom};
+ghost use Rattle.wot_pattern.specs.Steps.{State, Level, Builds, flat, fresh, with_atom, entered, left, barred, with_piece, applied, level_so_far, outer_tokens, atom};
 ghost use Rattle.wot_pattern.specs.declared.fault.PatternFault.TheVariants.{Unreadable, Memory};
 
 use crate::fault::PatternFault;
 use crate::node::{Leaf, Node};
+use crate::pattern::Pattern;
 use std::alloc::Global;
 
 /// What was read last of a branch.
@@ -60,6 +61,7 @@ impl Builder {
     fn flush(&mut self) -> Result<(), PatternFault>
         ensures fault { IfErr result (λ e. e ≡ Memory) }
         ensures flat { OnOk result ((s : State) → Builds self.old s → Builds self.new (flat s)) }
+        ensures outer { OnOk result (self.new.outer.items ≡ self.old.outer.items) }
     {
         match self.last {
             LastRead::Nothing => {}
@@ -73,6 +75,8 @@ impl Builder {
     /// Puts the branches of the present level together.
     fn join(&mut self) -> Result<(), PatternFault>
         ensures fault { IfErr result (λ e. e ≡ Memory) }
+        ensures joined { OnOk result ((s : State) → Builds self.old s → tokens_of self.new.nodes.items ≡ outer_tokens s.outer ++ tokens (level_so_far s)) }
+        ensures outer { OnOk result (self.new.outer.items ≡ self.old.outer.items) }
     {
         self.flush()?;
         if self.earlier {
@@ -89,5 +93,78 @@ impl Builder {
         self.nodes.push(Node::Single(leaf))?;
         self.last = LastRead::Atom;
         Ok(())
+    }
+
+    /// An opening parenthesis, which is unreadable where too many are open.
+    pub fn open(&mut self) -> Result<(), PatternFault>
+        ensures builds { OnOk result ((s : State) → Builds self.old s → (n : ℕ) × (s.levels ≡ suc n) × Builds self.new (entered s n)) }
+        ensures unreadable { IfErr result (λ e. e ≡ Unreadable → (s : State) (n : ℕ) → Builds self.old s → s.levels ≡ suc n → ⊥) }
+    {
+        if self.outer.len() >= LEVELS {
+            return Err(PatternFault::Unreadable);
+        }
+        self.flush()?;
+        self.outer.push(self.earlier)?;
+        self.nodes.push(Node::Nothing)?;
+        self.earlier = false;
+        Ok(())
+    }
+
+    /// A closing parenthesis, which is unreadable where none is open.
+    pub fn close(&mut self) -> Result<(), PatternFault>
+        ensures builds { OnOk result ((s : State) → Builds self.old s → (f : Level) × (fs : List Level) × (s.outer ≡ f ∷ fs) × Builds self.new (left s f fs)) }
+        ensures unreadable { IfErr result (λ e. e ≡ Unreadable → (s : State) → Builds self.old s → s.outer ≡ []) }
+    {
+        self.join()?;
+        let Some(earlier) = self.outer.pop() else {
+            return Err(PatternFault::Unreadable);
+        };
+        self.earlier = earlier;
+        self.last = LastRead::Atom;
+        Ok(())
+    }
+
+    /// The end of a branch that another one follows.
+    pub fn bar(&mut self) -> Result<(), PatternFault>
+        ensures fault { IfErr result (λ e. e ≡ Memory) }
+        ensures builds { OnOk result ((s : State) → Builds self.old s → Builds self.new (barred s)) }
+    {
+        self.join()?;
+        self.nodes.push(Node::Nothing)?;
+        self.earlier = true;
+        self.last = LastRead::Nothing;
+        Ok(())
+    }
+
+    /// An operator, which is unreadable where no atom stands before it.
+    pub fn repeat(&mut self, operator: Operator) -> Result<(), PatternFault>
+        ensures builds { OnOk result ((s : State) → Builds self.old s → (a : Reading) × (s.last ≡ atom a) × Builds self.new (with_piece s (applied operator a))) }
+        ensures unreadable { IfErr result (λ e. e ≡ Unreadable → (s : State) (a : Reading) → Builds self.old s → s.last ≡ atom a → ⊥) }
+    {
+        if self.last != LastRead::Atom {
+            return Err(PatternFault::Unreadable);
+        }
+        let node = match operator {
+            Operator::Star => Node::Star,
+            Operator::Plus => Node::Plus,
+            Operator::Optional => Node::Optional,
+        };
+        self.nodes.push(node)?;
+        self.last = LastRead::Piece;
+        Ok(())
+    }
+
+    /// The end of the text, which is unreadable where a parenthesis is open.
+    pub fn finish(mut self) -> Result<Pattern, PatternFault>
+        requires { (s : State) × Builds self s }
+        ensures whole { IfOk result (λ p. (s : State) → Builds self s → (s.outer ≡ []) × (p ≡ level_so_far s)) }
+        ensures unreadable { IfErr result (λ e. e ≡ Unreadable → (s : State) → Builds self s → s.outer ≡ [] → ⊥) }
+    {
+        self.join()?;
+        if !self.outer.is_empty() {
+            return Err(PatternFault::Unreadable);
+        }
+        let Builder { nodes, .. } = self;
+        Ok(Pattern::from_nodes(nodes))
     }
 }

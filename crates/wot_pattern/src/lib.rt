@@ -11,6 +11,7 @@ mod mark;
 mod matcher;
 mod node;
 mod pattern;
+mod range;
 mod settle;
 mod stack;
 

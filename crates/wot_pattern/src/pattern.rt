@@ -1,4 +1,5 @@
 ghost use Rattle.std.specs.Prelude.{◌≡◌};
+ghost use Rattle.wot_pattern.specs.Reading.{Reading};
 ghost use Rattle.wot_pattern.specs.Nodes.{tokens_of};
 ghost use Rattle.wot_pattern.specs.Tokens.{tokens};
 
@@ -26,6 +27,14 @@ impl Model for Pattern {
 }
 
 impl Pattern {
+    /// The pattern of these nodes, which are those of one tree.
+    pub(crate) fn from_nodes(nodes: Vec<Node>) -> Pattern
+        requires { (r : Reading) × (tokens_of nodes.items ≡ tokens r) }
+        ensures { (r : Reading) → tokens_of nodes.items ≡ tokens r → result ≡ r }
+    {
+        Pattern { nodes }
+    }
+
     /// The pattern's nodes, each behind those that it is made of.
     pub(crate) fn into_nodes(self) -> Vec<Node>
         ensures { tokens_of result.items ≡ tokens self }
