@@ -106,7 +106,7 @@ claim (g.plain {n = n} {c = c} {r = r} o) =
 pub runs_from_reads : (text : List ℕ) (p : Reading) → Reads g.pattern 64 text p [] → Runs (fresh 64 []) text p
 runs_from_reads text p h = let (e, b, l, is, go) = claim h in go [] p (accepted refl is)
 
-some_same : {A B : Type 0} (x y : A) (u v : B) → ◌≡◌ {A = Option (A × B)} (Some (x, u)) (Some (y, v)) → (x ≡ y) × (u ≡ v)
+pub some_same : {A B : Type 0} (x y : A) (u v : B) → ◌≡◌ {A = Option (A × B)} (Some (x, u)) (Some (y, v)) → (x ≡ y) × (u ≡ v)
 some_same {A} {B} x y u v e =
     (ap (λ (o : Option (A × B)). elim o [ None ↦ x | Some p ↦ p.0 ]) e, ap (λ (o : Option (A × B)). elim o [ None ↦ u | Some p ↦ p.1 ]) e)
 

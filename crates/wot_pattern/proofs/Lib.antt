@@ -2,6 +2,7 @@ pub mod Building
 pub mod Complete
 pub mod Flows
 pub mod Loops
+pub mod Lists
 pub mod Marking
 pub mod Sound
 pub mod Tells

@@ -10,6 +10,7 @@ mod leaf;
 mod mark;
 mod matcher;
 mod node;
+mod parser;
 mod pattern;
 mod range;
 mod settle;
