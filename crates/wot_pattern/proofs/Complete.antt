@@ -10,7 +10,7 @@ use Rattle.wot_pattern.specs.Grammar as g
 use Rattle.wot_pattern.specs.Grammar.{Part, Items, Range, Reads}
 use Rattle.wot_pattern.specs.Steps.{Level, Last, none, atom, piece, State, at, flushed, joined, level_so_far, with_atom, entered, left, barred, with_piece, StepBy, Step, Runs, accepted, next, fresh}
 
-head_same : {A : Type 0} {c d : A} {t u : List A} → c ∷ t ≡ d ∷ u → c ≡ d
+pub head_same : {A : Type 0} {c d : A} {t u : List A} → c ∷ t ≡ d ∷ u → c ≡ d
 head_same {A} {c} e = ap (λ (l : List A). elim l [ [] ↦ c | x ∷ xs ↦ x ]) e
 
 tail_same : {A : Type 0} {c d : A} {t u : List A} → c ∷ t ≡ d ∷ u → t ≡ u

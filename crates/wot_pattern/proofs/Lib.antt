@@ -1,6 +1,7 @@
 pub mod Building
 pub mod Complete
 pub mod Flows
+pub mod Law
 pub mod Loops
 pub mod Lists
 pub mod Marking

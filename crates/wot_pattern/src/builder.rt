@@ -98,7 +98,7 @@ impl Builder {
     /// An opening parenthesis, which is unreadable where too many are open.
     pub fn open(&mut self) -> Result<(), PatternFault>
         ensures builds { OnOk result ((s : State) → Builds self.old s → (n : ℕ) × (s.levels ≡ suc n) × Builds self.new (entered s n)) }
-        ensures unreadable { IfErr result (λ e. e ≡ Unreadable → (s : State) (n : ℕ) → Builds self.old s → s.levels ≡ suc n → ⊥) }
+        ensures unreadable { IfErr result (λ e. e ≡ Unreadable → (s : State) → Builds self.old s → s.levels ≡ 0) }
     {
         if self.outer.len() >= LEVELS {
             return Err(PatternFault::Unreadable);

@@ -18,4 +18,5 @@ mod stack;
 
 pub use fault::PatternFault;
 pub use matcher::Matcher;
+pub use parser::{one_reading, parse};
 pub use pattern::Pattern;

@@ -6,7 +6,7 @@ use Rattle.wot_pattern.proofs.Building.{length-outer_flags, positive, entered_no
 use Rattle.wot_pattern.proofs.builder.Builder.open.Goals as goal
 
 pub returns-then-len-ge-LEVELS-clause-unreadable : goal.returns-then-len-ge-LEVELS-clause-unreadable
-returns-then-len-ge-LEVELS-clause-unreadable c = λ e s n b l.
+returns-then-len-ge-LEVELS-clause-unreadable c = λ e s b.
     let h : length c.args.self.now.outer.items ≡ length s.outer = ap length b.outer ∙ length-outer_flags s.outer in
     let k : s.levels + length s.outer ≡ 64 = b.levels in
     let m : vec_len c.args.self.now.outer ≡ length c.args.self.now.outer.items = c.args.self.now.outer.ok.0 in
