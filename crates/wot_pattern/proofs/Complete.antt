@@ -52,56 +52,69 @@ claim (g.first_branch h) =
     let (b, l, e, go) = claim h in (None, b, l, e, λ fs. go fs None)
 claim (g.next_branch {n = n} {c = c} {t = t} {u = u} {r = r} {p = p} {b = q} h o k) =
     let (e, b, l, is, go) = claim h in
-    let (b', l', is', go') = claim k in
-    (Some p, b', l', ap (λ x. either p x) is',
+    let (b', l', is', go') = claim k in (
+      Some p,
+      b',
+      l',
+      ap (λ x. either p x) is',
       λ fs x run. go fs x (next {s' = at n fs (Some p) nothing none} {t' = u}
-        (step_at m.Bar (at n fs e b l) (at n fs (Some p) nothing none) c u u o (refl, ap (λ y. at n fs (Some y) nothing none) (sym is)))
-        (go' fs (Some p) x run)))
+          (step_at m.Bar (at n fs e b l) (at n fs (Some p) nothing none) c u u o (refl, ap (λ y. at n fs (Some y) nothing none) (sym is)))
+          (go' fs (Some p) x run)),
+    )
 claim g.no_piece = (nothing, none, refl, λ fs e x run. run)
 claim (g.next_piece {n = n} {t = t} {u = u} {r = r} {b = q} {p = p} h k) =
     let (b, l, is, go) = claim h in
     let (l', is', go') = claim k in
     (flushed l b, l', flushed_is l' (flushed l b) p q is' is, λ fs e x run. go fs e x (go' fs e b l x run))
 claim (g.once {a = a} h) = (atom a, refl, claim h)
-claim (g.starred {n = n} {c = c} {t = t} {r = r} {a = a} h o) =
-    (piece (star a), refl, λ fs e b l x run.
+claim (g.starred {n = n} {c = c} {t = t} {r = r} {a = a} h o) = (
+  piece (star a),
+  refl,
+  λ fs e b l x run.
       claim h fs e b l x (next {s' = at n fs e (flushed l b) (piece (star a))} {t' = r}
-        (step_at m.Star (at n fs e (flushed l b) (atom a)) (at n fs e (flushed l b) (piece (star a))) c r r o (a, refl, refl, refl)) run))
-claim (g.repeated {n = n} {c = c} {t = t} {r = r} {a = a} h o) =
-    (piece (plus a), refl, λ fs e b l x run.
+      (step_at m.Star (at n fs e (flushed l b) (atom a)) (at n fs e (flushed l b) (piece (star a))) c r r o (a, refl, refl, refl)) run),
+)
+claim (g.repeated {n = n} {c = c} {t = t} {r = r} {a = a} h o) = (
+  piece (plus a),
+  refl,
+  λ fs e b l x run.
       claim h fs e b l x (next {s' = at n fs e (flushed l b) (piece (plus a))} {t' = r}
-        (step_at m.Plus (at n fs e (flushed l b) (atom a)) (at n fs e (flushed l b) (piece (plus a))) c r r o (a, refl, refl, refl)) run))
-claim (g.optioned {n = n} {c = c} {t = t} {r = r} {a = a} h o) =
-    (piece (optional a), refl, λ fs e b l x run.
+      (step_at m.Plus (at n fs e (flushed l b) (atom a)) (at n fs e (flushed l b) (piece (plus a))) c r r o (a, refl, refl, refl)) run),
+)
+claim (g.optioned {n = n} {c = c} {t = t} {r = r} {a = a} h o) = (
+  piece (optional a),
+  refl,
+  λ fs e b l x run.
       claim h fs e b l x (next {s' = at n fs e (flushed l b) (piece (optional a))} {t' = r}
-        (step_at m.Optional (at n fs e (flushed l b) (atom a)) (at n fs e (flushed l b) (piece (optional a))) c r r o (a, refl, refl, refl)) run))
+      (step_at m.Optional (at n fs e (flushed l b) (atom a)) (at n fs e (flushed l b) (piece (optional a))) c r r o (a, refl, refl, refl)) run),
+)
 claim (g.group {n = n} {c = c} {d = d} {t = t} {r = r} {p = p} o h o') =
     let (e', b', l', is, go) = claim h in
     λ fs e b l x run.
-      let f : Level = record { earlier = e; branch = flushed l b } in
-      next {s' = at n (f ∷ fs) None nothing none} {t' = t}
-      (step_at m.Open (at (suc n) fs e b l) (at n (f ∷ fs) None nothing none) c t t o (n, refl, refl, refl))
-      (go (f ∷ fs) x (next {s' = at (suc n) fs e (flushed l b) (atom p)} {t' = r}
-        (step_at m.Close (at n (f ∷ fs) e' b' l') (at (suc n) fs e (flushed l b) (atom p)) d r r o' (f, fs, refl, refl, ap (λ y. at (suc n) fs e (flushed l b) (atom y)) (sym is)))
-        run))
+    let f : Level = record { earlier = e; branch = flushed l b } in
+    next {s' = at n (f ∷ fs) None nothing none} {t' = t}
+    (step_at m.Open (at (suc n) fs e b l) (at n (f ∷ fs) None nothing none) c t t o (n, refl, refl, refl))
+    (go (f ∷ fs) x (next {s' = at (suc n) fs e (flushed l b) (atom p)} {t' = r}
+    (step_at m.Close (at n (f ∷ fs) e' b' l') (at (suc n) fs e (flushed l b) (atom p)) d r r o' (f, fs, refl, refl, ap (λ y. at (suc n) fs e (flushed l b) (atom y)) (sym is)))
+    run))
 claim (g.ranged {n = n} {c = c} {t = t} {r = r} {a = a} o h) =
     λ fs e b l x run. next {s' = at n fs e (flushed l b) (atom (single a))} {t' = r}
-      (step_at m.Bracket (at n fs e b l) (at n fs e (flushed l b) (atom (single a))) c t r o (a, h, refl)) run
+    (step_at m.Bracket (at n fs e b l) (at n fs e (flushed l b) (atom (single a))) c t r o (a, h, refl)) run
 claim (g.dotted {n = n} {c = c} {r = r} o) =
     λ fs e b l x run. next {s' = at n fs e (flushed l b) (atom (single any))} {t' = r}
-      (step_at m.Any (at n fs e b l) (at n fs e (flushed l b) (atom (single any))) c r r o (refl, refl)) run
+    (step_at m.Any (at n fs e b l) (at n fs e (flushed l b) (atom (single any))) c r r o (refl, refl)) run
 claim (g.started {n = n} {c = c} {r = r} o) =
     λ fs e b l x run. next {s' = at n fs e (flushed l b) (atom (single start))} {t' = r}
-      (step_at m.Start (at n fs e b l) (at n fs e (flushed l b) (atom (single start))) c r r o (refl, refl)) run
+    (step_at m.Start (at n fs e b l) (at n fs e (flushed l b) (atom (single start))) c r r o (refl, refl)) run
 claim (g.ended {n = n} {c = c} {r = r} o) =
     λ fs e b l x run. next {s' = at n fs e (flushed l b) (atom (single end))} {t' = r}
-      (step_at m.End (at n fs e b l) (at n fs e (flushed l b) (atom (single end))) c r r o (refl, refl)) run
+    (step_at m.End (at n fs e b l) (at n fs e (flushed l b) (atom (single end))) c r r o (refl, refl)) run
 claim (g.escaped {n = n} {c = c} {d = d} {r = r} o) =
     λ fs e b l x run. next {s' = at n fs e (flushed l b) (atom (single (exactly d)))} {t' = r}
-      (step_at m.Escape (at n fs e b l) (at n fs e (flushed l b) (atom (single (exactly d)))) c (d ∷ r) r o (d, refl, refl)) run
+    (step_at m.Escape (at n fs e b l) (at n fs e (flushed l b) (atom (single (exactly d)))) c (d ∷ r) r o (d, refl, refl)) run
 claim (g.plain {n = n} {c = c} {r = r} o) =
     λ fs e b l x run. next {s' = at n fs e (flushed l b) (atom (single (exactly c)))} {t' = r}
-      (step_at m.Plain (at n fs e b l) (at n fs e (flushed l b) (atom (single (exactly c)))) c r r o (refl, refl)) run
+    (step_at m.Plain (at n fs e b l) (at n fs e (flushed l b) (atom (single (exactly c)))) c r r o (refl, refl)) run
 
 pub runs_from_reads : (text : List ℕ) (p : Reading) → Reads g.pattern 64 text p [] → Runs (fresh 64 []) text p
 runs_from_reads text p h = let (e, b, l, is, go) = claim h in go [] p (accepted refl is)

@@ -78,10 +78,10 @@ module _ (text : List ℕ) where
   last_turn p S f zero j i s e l = absurd (omega arith)
   last_turn p S f (suc n) j i s (k, h, more) l =
       elim (cases_lt k i) [
-        inl k<i ↦ last_turn p S f n k i (f j k s h) more k<i
+        | inl k<i ↦ last_turn p S f n k i (f j k s h) more k<i
         | inr i≤k ↦
-          let m : k ≤ i = Turns-le (Holds text p) (λ i j. Holds-le p i j) n k i more in
-          let e : k ≡ i = omega arith in (j, l, s, subst (λ x. Holds text p j x) e h)
+            let m : k ≤ i = Turns-le (Holds text p) (λ i j. Holds-le p i j) n k i more in
+            let e : k ≡ i = omega arith in (j, l, s, subst (λ x. Holds text p j x) e h)
       ]
 
   module _ (B : ℕ → Type 0) (p : Reading) where
@@ -111,9 +111,9 @@ module _ (text : List ℕ) where
     plus_empty i b h = tells_as b (Holds text p i i) (Holds text (plus p) i i) h
         (λ x. (0, (i, x, refl)))
         (λ (n, (k, x, t)).
-          let l : i ≤ k = Holds-le p i k x in
-          let m : k ≤ i = Turns-le (Holds text p) (λ i j. Holds-le p i j) n k i t in
-          let e : k ≡ i = omega arith in subst (λ y. Holds text p i y) e x)
+        let l : i ≤ k = Holds-le p i k x in
+        let m : k ≤ i = Turns-le (Holds text p) (λ i j. Holds-le p i j) n k i t in
+        let e : k ≡ i = omega arith in subst (λ y. Holds text p i y) e x)
 
     -- where a turn may begin
     pub loop_begins :
@@ -122,10 +122,10 @@ module _ (text : List ℕ) where
         (tells_or x b (B i) (Ended p (After B (star p)) i) h k)
         (elim [ inl c ↦ (i, c, (0, refl)) | inr e ↦ let (j, l, c, (n, t)) = loops i e in (j, c, (suc n, t)) ])
         (λ (j, c, (n, t)). elim (cases_lt j i) [
-          inl l ↦ inr (turns_end i j n l c t)
+          | inl l ↦ inr (turns_end i j n l c t)
           | inr l ↦
-            let m : j ≤ i = Turns-le (Holds text p) (λ i j. Holds-le p i j) n j i t in
-            let e : j ≡ i = omega arith in inl (subst B e c)
+              let m : j ≤ i = Turns-le (Holds text p) (λ i j. Holds-le p i j) n j i t in
+              let e : j ≡ i = omega arith in inl (subst B e c)
         ])
 
   -- what a tree lets through at this place, where it may begin at these
@@ -144,24 +144,24 @@ module _ (text : List ℕ) where
       → Right (sequence p q) B i (flow (f.empty && g.empty) (g.ended || (f.ended && g.empty)))
   right_sequence B p q i f g h k = record {
     empty = tells_as (f.empty && g.empty) (Holds text p i i × Holds text q i i) (Holds text (sequence p q) i i)
-      (tells_and f.empty g.empty (Holds text p i i) (Holds text q i i) h.empty k.empty)
-      (λ (a, b). (i, a, b))
-      (λ (m, a, b).
+        (tells_and f.empty g.empty (Holds text p i i) (Holds text q i i) h.empty k.empty)
+        (λ (a, b). (i, a, b))
+        (λ (m, a, b).
         let l : i ≤ m = Holds-le p i m a in let l' : m ≤ i = Holds-le q m i b in let e : m ≡ i = omega arith in
         (subst (λ y. Holds text p i y) e a, subst (λ y. Holds text q y i) e b));
     ended = tells_as (g.ended || (f.ended && g.empty)) (Ended q (After B p) i ⊎ (Ended p B i × Holds text q i i)) (Ended (sequence p q) B i)
-      (tells_or g.ended (f.ended && g.empty) (Ended q (After B p) i) (Ended p B i × Holds text q i i) k.ended
+        (tells_or g.ended (f.ended && g.empty) (Ended q (After B p) i) (Ended p B i × Holds text q i i) k.ended
         (tells_and f.ended g.empty (Ended p B i) (Holds text q i i) h.ended k.empty))
-      (elim [
-        inl (m, l, (j, b, a), c) ↦ let l' : j ≤ m = Holds-le p j m a in (j, omega arith, b, (m, a, c))
-        | inr ((j, l, b, a), c) ↦ (j, l, b, (i, a, c))
-      ])
-      (λ (j, l, b, (m, a, c)). elim (cases_lt m i) [
-        inl m<i ↦ inl (m, m<i, (j, b, a), c)
-        | inr i≤m ↦
-          let l' : m ≤ i = Holds-le q m i c in let e : m ≡ i = omega arith in
-          inr ((j, l, b, subst (λ y. Holds text p j y) e a), subst (λ y. Holds text q y i) e c)
-      ]);
+        (elim [
+          | inl (m, l, (j, b, a), c) ↦ let l' : j ≤ m = Holds-le p j m a in (j, omega arith, b, (m, a, c))
+          | inr ((j, l, b, a), c) ↦ (j, l, b, (i, a, c))
+        ])
+        (λ (j, l, b, (m, a, c)). elim (cases_lt m i) [
+          | inl m<i ↦ inl (m, m<i, (j, b, a), c)
+          | inr i≤m ↦
+              let l' : m ≤ i = Holds-le q m i c in let e : m ≡ i = omega arith in
+              inr ((j, l, b, subst (λ y. Holds text p j y) e a), subst (λ y. Holds text q y i) e c)
+        ]);
   }
 
   -- where the second part of a sequence may begin
@@ -172,7 +172,7 @@ module _ (text : List ℕ) where
       (tells_or f.ended (x && f.empty) (Ended p B i) (B i × Holds text p i i) k.ended (tells_and x f.empty (B i) (Holds text p i i) h k.empty))
       (elim [ inl (j, l, b, a) ↦ (j, b, a) | inr (b, a) ↦ (i, b, a) ])
       (λ (j, b, a). elim (cases_lt j i) [
-        inl l ↦ inl (j, l, b, a)
+        | inl l ↦ inl (j, l, b, a)
         | inr l ↦ let m : j ≤ i = Holds-le p j i a in let e : j ≡ i = omega arith in inr (subst B e b, subst (λ y. Holds text p y i) e a)
       ])
 
@@ -182,9 +182,9 @@ module _ (text : List ℕ) where
   right_either B p q i f g h k = record {
     empty = tells_or f.empty g.empty (Holds text p i i) (Holds text q i i) h.empty k.empty;
     ended = tells_as (f.ended || g.ended) (Ended p B i ⊎ Ended q B i) (Ended (either p q) B i)
-      (tells_or f.ended g.ended (Ended p B i) (Ended q B i) h.ended k.ended)
-      (elim [ inl (j, l, b, a) ↦ (j, l, b, inl a) | inr (j, l, b, a) ↦ (j, l, b, inr a) ])
-      (λ (j, l, b, a). elim a [ inl x ↦ inl (j, l, b, x) | inr y ↦ inr (j, l, b, y) ]);
+        (tells_or f.ended g.ended (Ended p B i) (Ended q B i) h.ended k.ended)
+        (elim [ inl (j, l, b, a) ↦ (j, l, b, inl a) | inr (j, l, b, a) ↦ (j, l, b, inr a) ])
+        (λ (j, l, b, a). elim a [ inl x ↦ inl (j, l, b, x) | inr y ↦ inr (j, l, b, y) ]);
   }
 
   pub right_star :
@@ -201,8 +201,8 @@ module _ (text : List ℕ) where
   right_optional B p i f h = record {
     empty = tells_always (Holds text (optional p) i i) (inl refl);
     ended = tells_as f.ended (Ended p B i) (Ended (optional p) B i) h.ended
-      (λ (j, l, b, a). (j, l, b, inr a))
-      (λ (j, l, b, a). elim a [ inl e ↦ absurd (omega arith) | inr y ↦ (j, l, b, y) ]);
+        (λ (j, l, b, a). (j, l, b, inr a))
+        (λ (j, l, b, a). elim a [ inl e ↦ absurd (omega arith) | inr y ↦ (j, l, b, y) ]);
   }
 
   empty_atom :
@@ -245,6 +245,6 @@ module _ (text : List ℕ) where
       (tells_and x (takes a c) (B i) (Takes a c) h (takes_tells a c))
       (λ (b, t). (i, omega arith, b, atom_holds a i (i + 1) (refl, (c, e, t))))
       (λ (j, l, b, a').
-        let (e', (d, g, t)) = one_taken a j (i + 1) l a' in
-        let q : j ≡ i = omega arith in
-        (subst B q b, subst (λ y. Takes a y) (sym (same_char i c d e (subst (λ y. slice_get text y ≡ Some d) q g))) t))
+      let (e', (d, g, t)) = one_taken a j (i + 1) l a' in
+      let q : j ≡ i = omega arith in
+      (subst B q b, subst (λ y. Takes a y) (sym (same_char i c d e (subst (λ y. slice_get text y ≡ Some d) q g))) t))

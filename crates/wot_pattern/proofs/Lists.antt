@@ -53,12 +53,12 @@ pub items_more :
     → ItemsSoFar from t xs → t ≡ c ∷ u → c ≢ closing_bracket → item t ≡ Some (x, v) → ItemsSoFar from v (xs ++ x ∷ [])
 items_more from t v xs c u x h q ne is = record {
   on = λ ys r k.
-    let m : Items t (x ∷ ys) r = subst (λ z. Items z (x ∷ ys) r) (sym q) (g.more ne (ap item (sym q) ∙ is) k) in
-    subst (λ z. Items from z r) (sym (append_assoc xs (x ∷ []) ys)) (h.on (x ∷ ys) r m);
+      let m : Items t (x ∷ ys) r = subst (λ z. Items z (x ∷ ys) r) (sym q) (g.more ne (ap item (sym q) ∙ is) k) in
+      subst (λ z. Items from z r) (sym (append_assoc xs (x ∷ []) ys)) (h.on (x ∷ ys) r m);
   back = λ ys r k.
-    let (zs, e, m) = h.back ys r k in
-    let (ws, f, n) = one_more m c u v x q ne is in
-    (ws, e ∙ ap (λ z. xs ++ z) f ∙ sym (append_assoc xs (x ∷ []) ws), n);
+      let (zs, e, m) = h.back ys r k in
+      let (ws, f, n) = one_more m c u v x q ne is in
+      (ws, e ∙ ap (λ z. xs ++ z) f ∙ sym (append_assoc xs (x ∷ []) ws), n);
 }
 
 pub items_closed :

@@ -23,7 +23,7 @@ back c k nodes n slots slots₀ st l e e₀ is same run r r_is =
     let l₀ : k < length slots₀ = omega arith in
     let f : Flow = get_or slots k no_flow in
     let at : f ≡ get_or slots₀ k no_flow =
-      sym (get_or-take (suc k) slots k no_flow (omega arith)) ∙ ap (λ x. get_or x k no_flow) same ∙ get_or-take (suc k) slots₀ k no_flow (omega arith) in
+    sym (get_or-take (suc k) slots k no_flow (omega arith)) ∙ ap (λ x. get_or x k no_flow) same ∙ get_or-take (suc k) slots₀ k no_flow (omega arith) in
     let e1 : drop k nodes ≡ n ∷ drop (suc k) nodes = drop-cons nodes k n l ∙ ap (λ x. x ∷ drop (suc k) nodes) (sym is) in
     let e2 : drop k slots₀ ≡ f ∷ drop (suc k) slots₀ = drop-cons slots₀ k no_flow l₀ ∙ ap (λ x. x ∷ drop (suc k) slots₀) (sym at) in
     let e3 : drop k (set slots k r.0) ≡ r.0 ∷ drop (suc k) slots = drop-set slots k r.0 l' ∙ ap (λ x. r.0 ∷ drop x slots) (add-one k) in
@@ -45,7 +45,7 @@ advanced_back c zero nodes n slots slots₀ st p l e e₀ is same run f st' f_is
 advanced_back c (suc k) nodes n slots slots₀ st p l e e₀ is same run f st' f_is st_is =
     let q : suc k - 1 ≡ k = omega arith in
     rw q (back c k nodes n slots slots₀ st (omega arith) e e₀ (rw q at is) same run (f, st')
-      (rw q at (pair_is f (advanced_one c (token_of n) (get_or slots (suc k - 1) no_flow) st).0 st' (advanced_one c (token_of n) (get_or slots (suc k - 1) no_flow) st).1 f_is st_is)))
+    (rw q at (pair_is f (advanced_one c (token_of n) (get_or slots (suc k - 1) no_flow) st).0 st' (advanced_one c (token_of n) (get_or slots (suc k - 1) no_flow) st).1 f_is st_is)))
 
 pub take_back :
     (at : ℕ) (slots slots₀ : List Flow) (f : Flow) → 0 < at → take at slots ≡ take at slots₀ → take (at - 1) (set slots (at - 1) f) ≡ take (at - 1) slots₀

@@ -61,8 +61,8 @@ advances_two c t ps qs gs hs gs' hs' f x p q h k e us ss st ss' st' run =
     let one = ap (λ l. advanced c l ((gs ++ (hs ++ f ∷ [])) ++ ss) st) (last_of_two ps qs us t) in
     let two = ap (λ l. advanced c (ps ++ (qs ++ t ∷ us)) l st) (last_of_two gs hs ss f) in
     let here : advanced c (t ∷ us) (f ∷ ss) st ≡ (f ∷ ss', q ∷ p ∷ st') =
-      ap (λ (r : List Flow × List Bool). ((advanced_one c t f r.1).0 ∷ r.0, (advanced_one c t f r.1).1)) run
-      ∙ ap (λ (r : Flow × List Bool). (r.0 ∷ ss', r.1)) (e st') in
+    ap (λ (r : List Flow × List Bool). ((advanced_one c t f r.1).0 ∷ r.0, (advanced_one c t f r.1).1)) run
+    ∙ ap (λ (r : Flow × List Bool). (r.0 ∷ ss', r.1)) (e st') in
     let three = h (qs ++ t ∷ us) (hs ++ f ∷ ss) st (hs' ++ f ∷ ss') st' (k (t ∷ us) (f ∷ ss) st (f ∷ ss') (p ∷ st') here) in
     let four = ap (λ l. (l, st')) (sym (last_of_two gs' hs' ss' f)) in
     one ∙ two ∙ three ∙ four
@@ -76,8 +76,8 @@ advances_one c t ps gs gs' f x p h e us ss st ss' st' run =
     let one = ap (λ l. advanced c l ((gs ++ f ∷ []) ++ ss) st) (append_assoc ps (t ∷ []) us) in
     let two = ap (λ l. advanced c (ps ++ t ∷ us) l st) (append_assoc gs (f ∷ []) ss) in
     let here : advanced c (t ∷ us) (f ∷ ss) st ≡ (f ∷ ss', p ∷ st') =
-      ap (λ (r : List Flow × List Bool). ((advanced_one c t f r.1).0 ∷ r.0, (advanced_one c t f r.1).1)) run
-      ∙ ap (λ (r : Flow × List Bool). (r.0 ∷ ss', r.1)) (e st') in
+    ap (λ (r : List Flow × List Bool). ((advanced_one c t f r.1).0 ∷ r.0, (advanced_one c t f r.1).1)) run
+    ∙ ap (λ (r : Flow × List Bool). (r.0 ∷ ss', r.1)) (e st') in
     let three = h (t ∷ us) (f ∷ ss) st (f ∷ ss') st' here in
     let four = ap (λ l. (l, st')) (sym (append_assoc gs' (f ∷ []) ss')) in
     one ∙ two ∙ three ∙ four
@@ -120,11 +120,16 @@ module _ (text : List ℕ) where
   module _ (first last : Bool) (i : ℕ) (is_first : Tells first (i ≡ 0)) (is_last : Tells last (i ≡ length text)) where
     pub settling : (r : Reading) (B : ℕ → Type 0) (fs : List Flow) → Marked r B i fs → Settling first last r B i fs
     settling nothing B fs (f, e) = record {
-      slots = f ∷ []; through = flow true false; ready = (f, refl); right = right_nothing text B i;
+      slots = f ∷ [];
+      through = flow true false;
+      ready = (f, refl);
+      right = right_nothing text B i;
       goes = λ us ss st. ap (λ l. settled first last (t.nothing ∷ us) (l ++ ss) st) e;
     }
     settling (single a) B fs (f, e, h) = record {
-      slots = f ∷ []; through = flow (holds_empty first last a) f.ended; ready = (f, refl);
+      slots = f ∷ [];
+      through = flow (holds_empty first last a) f.ended;
+      ready = (f, refl);
       right = right_single text first last i is_first is_last B a f h;
       goes = λ us ss st. ap (λ l. settled first last (t.single a ∷ us) (l ++ ss) st) e;
     }
@@ -137,7 +142,7 @@ module _ (text : List ℕ) where
           ready = (a.slots, b.slots, a.through, refl, a.right, a.ready, b.ready);
           right = right_sequence text B p q i a.through b.through a.right b.right;
           goes = subst (λ l. Settles first last (tokens (sequence p q)) l (a.slots ++ (b.slots ++ a.through ∷ [])) (flow (a.through.empty && b.through.empty) (b.through.ended || (a.through.ended && b.through.empty)))) (sym e)
-            (settles_two first last t.sequence (tokens p) (tokens q) gs hs a.slots b.slots f a.through a.through b.through (flow (a.through.empty && b.through.empty) (b.through.ended || (a.through.ended && b.through.empty))) a.goes b.goes (λ st. refl));
+              (settles_two first last t.sequence (tokens p) (tokens q) gs hs a.slots b.slots f a.through a.through b.through (flow (a.through.empty && b.through.empty) (b.through.ended || (a.through.ended && b.through.empty))) a.goes b.goes (λ st. refl));
         }
     settling (either p q) B fs (gs, hs, f, e, h, k) =
         let a = settling p B gs h in
@@ -148,34 +153,37 @@ module _ (text : List ℕ) where
           ready = (a.slots, b.slots, f, refl, a.ready, b.ready);
           right = right_either text B p q i a.through b.through a.right b.right;
           goes = subst (λ l. Settles first last (tokens (either p q)) l (a.slots ++ (b.slots ++ f ∷ [])) (flow (a.through.empty || b.through.empty) (a.through.ended || b.through.ended))) (sym e)
-            (settles_two first last t.either (tokens p) (tokens q) gs hs a.slots b.slots f f a.through b.through (flow (a.through.empty || b.through.empty) (a.through.ended || b.through.ended)) a.goes b.goes (λ st. refl));
+              (settles_two first last t.either (tokens p) (tokens q) gs hs a.slots b.slots f f a.through b.through (flow (a.through.empty || b.through.empty) (a.through.ended || b.through.ended)) a.goes b.goes (λ st. refl));
         }
     settling (star p) B fs (gs, f, e, h) =
         let a = settling p (After text B (star p)) gs h in
         record {
-          slots = a.slots ++ a.through ∷ []; through = flow true a.through.ended;
+          slots = a.slots ++ a.through ∷ [];
+          through = flow true a.through.ended;
           ready = (a.slots, a.through, refl, a.right, a.ready);
           right = right_star text B p i a.through a.right;
           goes = subst (λ l. Settles first last (tokens (star p)) l (a.slots ++ a.through ∷ []) (flow true a.through.ended)) (sym e)
-            (settles_one first last t.star (tokens p) gs a.slots f a.through a.through (flow true a.through.ended) a.goes (λ st. refl));
+              (settles_one first last t.star (tokens p) gs a.slots f a.through a.through (flow true a.through.ended) a.goes (λ st. refl));
         }
     settling (plus p) B fs (gs, f, e, h) =
         let a = settling p (After text B (star p)) gs h in
         record {
-          slots = a.slots ++ a.through ∷ []; through = a.through;
+          slots = a.slots ++ a.through ∷ [];
+          through = a.through;
           ready = (a.slots, a.through, refl, a.right, a.ready);
           right = right_plus text B p i a.through a.right;
           goes = subst (λ l. Settles first last (tokens (plus p)) l (a.slots ++ a.through ∷ []) a.through) (sym e)
-            (settles_one first last t.plus (tokens p) gs a.slots f a.through a.through a.through a.goes (λ st. refl));
+              (settles_one first last t.plus (tokens p) gs a.slots f a.through a.through a.through a.goes (λ st. refl));
         }
     settling (optional p) B fs (gs, f, e, h) =
         let a = settling p B gs h in
         record {
-          slots = a.slots ++ f ∷ []; through = flow true a.through.ended;
+          slots = a.slots ++ f ∷ [];
+          through = flow true a.through.ended;
           ready = (a.slots, f, refl, a.ready);
           right = right_optional text B p i a.through a.right;
           goes = subst (λ l. Settles first last (tokens (optional p)) l (a.slots ++ f ∷ []) (flow true a.through.ended)) (sym e)
-            (settles_one first last t.optional (tokens p) gs a.slots f f a.through (flow true a.through.ended) a.goes (λ st. refl));
+              (settles_one first last t.optional (tokens p) gs a.slots f f a.through (flow true a.through.ended) a.goes (λ st. refl));
         }
 
   -- what the second pass makes of them, for the next place
@@ -187,52 +195,59 @@ module _ (text : List ℕ) where
   module _ (c i : ℕ) (is_char : slice_get text i ≡ Some c) where
     pub advancing : (r : Reading) (B : ℕ → Type 0) (fs : List Flow) (x : Bool) → Ready r B i fs → Tells x (B i) → Advancing c r B i fs x
     advancing nothing B fs x (f, e) h = record {
-      slots = f ∷ []; marked = (f, refl);
+      slots = f ∷ [];
+      marked = (f, refl);
       goes = λ us ss st ss' st' run.
-        ap (λ l. advanced c (t.nothing ∷ us) (l ++ ss) st) e
-        ∙ ap (λ (r : List Flow × List Bool). ((advanced_one c t.nothing f r.1).0 ∷ r.0, (advanced_one c t.nothing f r.1).1)) run;
+          ap (λ l. advanced c (t.nothing ∷ us) (l ++ ss) st) e
+          ∙ ap (λ (r : List Flow × List Bool). ((advanced_one c t.nothing f r.1).0 ∷ r.0, (advanced_one c t.nothing f r.1).1)) run;
     }
     advancing (single a) B fs x (f, e) h = record {
-      slots = flow false (x && takes a c) ∷ []; marked = (flow false (x && takes a c), refl, taken_ended text B a i c x is_char h);
+      slots = flow false (x && takes a c) ∷ [];
+      marked = (flow false (x && takes a c), refl, taken_ended text B a i c x is_char h);
       goes = λ us ss st ss' st' run.
-        ap (λ l. advanced c (t.single a ∷ us) (l ++ ss) st) e
-        ∙ ap (λ (r : List Flow × List Bool). ((advanced_one c (t.single a) f r.1).0 ∷ r.0, (advanced_one c (t.single a) f r.1).1)) run;
+          ap (λ l. advanced c (t.single a ∷ us) (l ++ ss) st) e
+          ∙ ap (λ (r : List Flow × List Bool). ((advanced_one c (t.single a) f r.1).0 ∷ r.0, (advanced_one c (t.single a) f r.1).1)) run;
     }
     advancing (sequence p q) B fs x (gs, hs, f, e, w, h, k) hx =
         let y : Bool = f.ended || (x && f.empty) in
         let a = advancing p B gs x h hx in
         let b = advancing q (After text B p) hs y k (second_begins text B p i x f hx w) in
         record {
-          slots = a.slots ++ (b.slots ++ f ∷ []); marked = (a.slots, b.slots, f, refl, a.marked, b.marked);
+          slots = a.slots ++ (b.slots ++ f ∷ []);
+          marked = (a.slots, b.slots, f, refl, a.marked, b.marked);
           goes = subst (λ l. Advances c (tokens (sequence p q)) l (a.slots ++ (b.slots ++ f ∷ [])) x) (sym e)
-            (advances_two c t.sequence (tokens p) (tokens q) gs hs a.slots b.slots f x x y a.goes b.goes (λ st. refl));
+              (advances_two c t.sequence (tokens p) (tokens q) gs hs a.slots b.slots f x x y a.goes b.goes (λ st. refl));
         }
     advancing (either p q) B fs x (gs, hs, f, e, h, k) hx =
         let a = advancing p B gs x h hx in
         let b = advancing q B hs x k hx in
         record {
-          slots = a.slots ++ (b.slots ++ f ∷ []); marked = (a.slots, b.slots, f, refl, a.marked, b.marked);
+          slots = a.slots ++ (b.slots ++ f ∷ []);
+          marked = (a.slots, b.slots, f, refl, a.marked, b.marked);
           goes = subst (λ l. Advances c (tokens (either p q)) l (a.slots ++ (b.slots ++ f ∷ [])) x) (sym e)
-            (advances_two c t.either (tokens p) (tokens q) gs hs a.slots b.slots f x x x a.goes b.goes (λ st. refl));
+              (advances_two c t.either (tokens p) (tokens q) gs hs a.slots b.slots f x x x a.goes b.goes (λ st. refl));
         }
     advancing (star p) B fs x (gs, f, e, w, h) hx =
         let a = advancing p (After text B (star p)) gs (x || f.ended) h (loop_begins text B p i x f.ended hx w.ended) in
         record {
-          slots = a.slots ++ f ∷ []; marked = (a.slots, f, refl, a.marked);
+          slots = a.slots ++ f ∷ [];
+          marked = (a.slots, f, refl, a.marked);
           goes = subst (λ l. Advances c (tokens (star p)) l (a.slots ++ f ∷ []) x) (sym e)
-            (advances_one c t.star (tokens p) gs a.slots f x (x || f.ended) a.goes (λ st. refl));
+              (advances_one c t.star (tokens p) gs a.slots f x (x || f.ended) a.goes (λ st. refl));
         }
     advancing (plus p) B fs x (gs, f, e, w, h) hx =
         let a = advancing p (After text B (star p)) gs (x || f.ended) h (loop_begins text B p i x f.ended hx w.ended) in
         record {
-          slots = a.slots ++ f ∷ []; marked = (a.slots, f, refl, a.marked);
+          slots = a.slots ++ f ∷ [];
+          marked = (a.slots, f, refl, a.marked);
           goes = subst (λ l. Advances c (tokens (plus p)) l (a.slots ++ f ∷ []) x) (sym e)
-            (advances_one c t.plus (tokens p) gs a.slots f x (x || f.ended) a.goes (λ st. refl));
+              (advances_one c t.plus (tokens p) gs a.slots f x (x || f.ended) a.goes (λ st. refl));
         }
     advancing (optional p) B fs x (gs, f, e, h) hx =
         let a = advancing p B gs x h hx in
         record {
-          slots = a.slots ++ f ∷ []; marked = (a.slots, f, refl, a.marked);
+          slots = a.slots ++ f ∷ [];
+          marked = (a.slots, f, refl, a.marked);
           goes = subst (λ l. Advances c (tokens (optional p)) l (a.slots ++ f ∷ []) x) (sym e)
-            (advances_one c t.optional (tokens p) gs a.slots f x x a.goes (λ st. refl));
+              (advances_one c t.optional (tokens p) gs a.slots f x x a.goes (λ st. refl));
         }

@@ -54,7 +54,11 @@ pub SoFar-with_atom :
     (text : List ℕ) (s : State) (u u' : List ℕ) (a : Reading)
     → SoFar text s u → Reads g.atom s.levels u a u' → SoFar text (with_atom s a) u'
 SoFar-with_atom text s u u' a h k = record {
-  level = h.level; branch_at = h.branch_at; last_at = u; encloses = h.encloses; begun = h.begun;
+  level = h.level;
+  branch_at = h.branch_at;
+  last_at = u;
+  encloses = h.encloses;
+  begun = h.begun;
   branch = flush s.levels h.branch_at h.last_at u s.branch s.last h.branch h.ends;
   ends = k;
 }
@@ -65,12 +69,21 @@ SoFar-entered :
 SoFar-entered text s n c u h o e =
     let b = flush s.levels h.branch_at h.last_at (c ∷ u) s.branch s.last h.branch h.ends in
     record {
-      level = u; branch_at = u; last_at = u;
-      encloses = (c, h.level, h.branch_at, o,
+      level = u;
+      branch_at = u;
+      last_at = u;
+      encloses = (
+        c,
+        h.level,
+        h.branch_at,
+        o,
         subst (λ x. Begun x h.level s.earlier h.branch_at) e h.begun,
         subst (λ x. Reads g.branch x h.branch_at (flushed s.last s.branch) (c ∷ u)) e b,
-        subst (λ x. Encloses text x h.level s.outer) e h.encloses);
-      begun = refl; branch = g.no_piece; ends = refl;
+        subst (λ x. Encloses text x h.level s.outer) e h.encloses,
+      );
+      begun = refl;
+      branch = g.no_piece;
+      ends = refl;
     }
 
 SoFar-left :
@@ -79,16 +92,25 @@ SoFar-left :
 SoFar-left text s f fs c u h o e =
     let k = subst (λ x. Encloses text s.levels h.level x) e h.encloses in
     record {
-      level = k.1; branch_at = k.2; last_at = k.0 ∷ h.level;
-      encloses = k.6; begun = k.4; branch = k.5;
+      level = k.1;
+      branch_at = k.2;
+      last_at = k.0 ∷ h.level;
+      encloses = k.6;
+      begun = k.4;
+      branch = k.5;
       ends = g.group k.3 (level_read text s (c ∷ u) h) o;
     }
 
 SoFar-barred :
     (text : List ℕ) (s : State) (c : ℕ) (u : List ℕ) → SoFar text s (c ∷ u) → mark_of c ≡ m.Bar → SoFar text (barred s) u
 SoFar-barred text s c u h o = record {
-  level = h.level; branch_at = u; last_at = u; encloses = h.encloses;
-  begun = (c, level_read text s (c ∷ u) h, o); branch = g.no_piece; ends = refl;
+  level = h.level;
+  branch_at = u;
+  last_at = u;
+  encloses = h.encloses;
+  begun = (c, level_read text s (c ∷ u) h, o);
+  branch = g.no_piece;
+  ends = refl;
 }
 
 SoFar-with_piece :
@@ -96,7 +118,12 @@ SoFar-with_piece :
     → SoFar text s u → s.last ≡ atom a → ((w : List ℕ) → Reads g.atom s.levels w a u → Reads g.piece s.levels w p u')
     → SoFar text (with_piece s p) u'
 SoFar-with_piece text s a p u u' h e f = record {
-  level = h.level; branch_at = h.branch_at; last_at = h.last_at; encloses = h.encloses; begun = h.begun; branch = h.branch;
+  level = h.level;
+  branch_at = h.branch_at;
+  last_at = h.last_at;
+  encloses = h.encloses;
+  begun = h.begun;
+  branch = h.branch;
   ends = f h.last_at (subst (λ x. Ends s.levels h.last_at x u) e h.ends);
 }
 

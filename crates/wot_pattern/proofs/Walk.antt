@@ -53,8 +53,11 @@ module _ (text : List ℕ) where
 
     pub walk_begins : (first : Bool) → first ≡ true → Walking text first (blank (length (tokens r)))
     walk_begins first e = record {
-      before = []; splits = refl; is_first = record { says = λ _. refl; said = λ _. e };
-      marked = blank_marked r Everywhere; none = λ j i l h. absurd (omega arith);
+      before = [];
+      splits = refl;
+      is_first = record { says = λ _. refl; said = λ _. e };
+      marked = blank_marked r Everywhere;
+      none = λ j i l h. absurd (omega arith);
     }
 
     settled_all :
@@ -85,7 +88,9 @@ module _ (text : List ℕ) where
         let s = settling text first last (length w.before) w.is_first (at_end w.before rest last w.splits h) r Everywhere slots w.marked in
         let a = settled_all first last (length w.before) slots s in
         record {
-          before = w.before; splits = w.splits; none = w.none;
+          before = w.before;
+          splits = w.splits;
+          none = w.none;
           ready = subst (λ x. Ready text r Everywhere (length w.before) x) (sym (e ∙ ap (λ (x : List Flow × List Flow). x.0) a)) s.ready;
           right = subst (λ x. Right text r Everywhere (length w.before) x) (sym (f ∙ ap (λ (x : List Flow × List Flow). top x.1) a)) s.right;
         }
@@ -94,7 +99,7 @@ module _ (text : List ℕ) where
     found rest first slots through w h =
         let l : length text ≡ length w.before + length rest = ap length w.splits ∙ length-append w.before rest in
         elim h [
-          inl e ↦ (length w.before, length w.before, omega arith, omega arith, w.right.empty.says e)
+          | inl e ↦ (length w.before, length w.before, omega arith, omega arith, w.right.empty.says e)
           | inr e ↦ let (j, k, u, x) = w.right.ended.says e in (j, length w.before, omega arith, omega arith, x)
         ]
 
@@ -103,17 +108,17 @@ module _ (text : List ℕ) where
         → through.empty ≡ false → through.ended ≡ false → (j i : ℕ) → i ≤ length w.before → Holds text r j i → ⊥
     none_here rest first slots through w e f j i l h =
         elim (cases_lt i (length w.before)) [
-          inl k ↦ w.none j i k h
+          | inl k ↦ w.none j i k h
           | inr k ↦
-            let q : i ≡ length w.before = omega arith in
-            let x : Holds text r j (length w.before) = subst (λ y. Holds text r j y) q h in
-            elim (cases_lt j (length w.before)) [
-              inl m ↦ false≢true (sym f ∙ w.right.ended.said (j, m, tt, x))
-              | inr m ↦
-                let n : j ≤ length w.before = Holds-le text r j (length w.before) x in
-                let p : j ≡ length w.before = omega arith in
-                false≢true (sym e ∙ w.right.empty.said (subst (λ y. Holds text r y (length w.before)) p x))
-            ]
+              let q : i ≡ length w.before = omega arith in
+              let x : Holds text r j (length w.before) = subst (λ y. Holds text r j y) q h in
+              elim (cases_lt j (length w.before)) [
+                | inl m ↦ false≢true (sym f ∙ w.right.ended.said (j, m, tt, x))
+                | inr m ↦
+                    let n : j ≤ length w.before = Holds-le text r j (length w.before) x in
+                    let p : j ≡ length w.before = omega arith in
+                    false≢true (sym e ∙ w.right.empty.said (subst (λ y. Holds text r y (length w.before)) p x))
+              ]
         ]
 
     pub not_found :
@@ -127,8 +132,8 @@ module _ (text : List ℕ) where
         (c i : ℕ) (fs : List Flow) (s : Advancing text c r Everywhere i fs true) → (advanced c (tokens r) fs (true ∷ [])).0 ≡ s.slots
     advanced_all c i fs s =
         ap (λ (x : List Flow × List Bool). x.0) (
-          ap (λ l. advanced c l fs (true ∷ [])) (sym (append-nil (tokens r))) ∙ ap (λ l. advanced c (tokens r ++ []) l (true ∷ [])) (sym (append-nil fs))
-          ∙ s.goes [] [] (true ∷ []) [] [] refl ∙ ap (λ l. (l, [])) (append-nil s.slots))
+        ap (λ l. advanced c l fs (true ∷ [])) (sym (append-nil (tokens r))) ∙ ap (λ l. advanced c (tokens r ++ []) l (true ∷ [])) (sym (append-nil fs))
+        ∙ s.goes [] [] (true ∷ []) [] [] refl ∙ ap (λ l. (l, [])) (append-nil s.slots))
 
     char_here : (before rest : List ℕ) (c : ℕ) → slice_get (before ++ c ∷ rest) (length before) ≡ Some c
     char_here [] rest c = refl
@@ -147,7 +152,7 @@ module _ (text : List ℕ) where
           splits = w.splits ∙ sym (append_assoc w.before (c ∷ []) rest);
           is_first = tells_never first' (length (w.before ++ c ∷ []) ≡ 0) n (λ x. omega arith);
           marked = subst (λ x. Marked text r Everywhere x slots') (sym k)
-            (subst (λ x. Marked text r Everywhere (length w.before + 1) x) (sym (is ∙ advanced_all c (length w.before) slots s)) s.marked);
+              (subst (λ x. Marked text r Everywhere (length w.before + 1) x) (sym (is ∙ advanced_all c (length w.before) slots s)) s.marked);
           none = λ j i l h. none_here (c ∷ rest) first slots through w e f j i (omega arith) h;
         }
 

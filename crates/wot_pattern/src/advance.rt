@@ -21,7 +21,10 @@ fn advance_one(node: &Node, slot: Flow, begins: &mut Vec<bool>, character: char)
         Node::Nothing => slot,
         Node::Single(leaf) => {
             let ended = here && takes(leaf, character);
-            Flow { empty: false, ended }
+            Flow {
+                empty: false,
+                ended,
+            }
         }
         Node::Sequence => {
             put(begins, here);
@@ -33,11 +36,7 @@ fn advance_one(node: &Node, slot: Flow, begins: &mut Vec<bool>, character: char)
             put(begins, here);
             slot
         }
-        Node::Star => {
-            put(begins, here || slot.ended);
-            slot
-        }
-        Node::Plus => {
+        Node::Star | Node::Plus => {
             put(begins, here || slot.ended);
             slot
         }

@@ -62,12 +62,24 @@ impl Matcher {
         ensures exactly { IsTrue result ↔ Matches (chars text.now) self.old }
         ensures same { self.new ≡ self.old }
     {
-        finds(&self.nodes, &mut self.slots, &mut self.ready, &mut self.begins, text)
+        finds(
+            &self.nodes,
+            &mut self.slots,
+            &mut self.ready,
+            &mut self.begins,
+            text,
+        )
     }
 }
 
 /// Moves along the text, and keeps at each place which atoms ended there.
-fn finds(nodes: &[Node], slots: &mut [Flow], ready: &mut Vec<Flow>, begins: &mut Vec<bool>, text: &str) -> bool
+fn finds(
+    nodes: &[Node],
+    slots: &mut [Flow],
+    ready: &mut Vec<Flow>,
+    begins: &mut Vec<bool>,
+    text: &str,
+) -> bool
     requires slots { length slots.old ≡ length nodes.now }
     requires ready { length nodes.now ≤ vec_capacity ready.old }
     requires begins { length nodes.now + 1 ≤ vec_capacity begins.old }

@@ -30,8 +30,7 @@ pub fn parse(alloc: Global, text: &str) -> Result<Pattern, PatternFault>
 #[tactic(auto, using(crate::proofs::Law::says_one))]
 pub fn one_reading()
     ensures one { (text : List ℕ) (p q : Reading) → Says text p → Says text q → p ≡ q }
-{
-}
+{}
 
 /// The characters of a text that isn't too long.
 fn characters_of(alloc: Global, text: &str) -> Result<Vec<char>, PatternFault>
@@ -64,7 +63,13 @@ fn read_pattern(alloc: Global, text: &[char]) -> Result<Pattern, PatternFault>
 }
 
 /// Reads on from a character with this mark, and gives the place behind what was read.
-fn step_by(alloc: Global, builder: &mut Builder, text: &[char], at: usize, mark: Mark) -> Result<usize, PatternFault>
+fn step_by(
+    alloc: Global,
+    builder: &mut Builder,
+    text: &[char],
+    at: usize,
+    mark: Mark,
+) -> Result<usize, PatternFault>
     requires { at < length text.now }
     ensures built { IfOk result (λ next. (s : State) → Builds builder.old s → (s' : State) × StepBy mark s (slice_index text.now at) (drop (at + 1) text.now) s' (drop next text.now) × Builds builder.new s') }
     ensures within { IfOk result (λ next. (at < next) × (next ≤ length text.now)) }

@@ -21,15 +21,33 @@ fn read_item(text: &[char]) -> Option<(Item, usize)>
         [from, dash, to, ..] => {
             if *dash == '-' && *to != ']' {
                 if *from <= *to {
-                    Some((Item { from: *from, to: *to }, 3))
+                    Some((
+                        Item {
+                            from: *from,
+                            to: *to,
+                        },
+                        3,
+                    ))
                 } else {
                     None
                 }
             } else {
-                Some((Item { from: *from, to: *from }, 1))
+                Some((
+                    Item {
+                        from: *from,
+                        to: *from,
+                    },
+                    1,
+                ))
             }
         }
-        [only, ..] => Some((Item { from: *only, to: *only }, 1)),
+        [only, ..] => Some((
+            Item {
+                from: *only,
+                to: *only,
+            },
+            1,
+        )),
     }
 }
 
@@ -67,7 +85,12 @@ fn read_items(items: &mut Vec<Item>, text: &[char], start: usize) -> Result<usiz
 }
 
 /// Reads a range behind its opening bracket and its mark of negation.
-fn read_all_items(alloc: Global, text: &[char], start: usize, negated: bool) -> Result<(Leaf, usize), PatternFault>
+fn read_all_items(
+    alloc: Global,
+    text: &[char],
+    start: usize,
+    negated: bool,
+) -> Result<(Leaf, usize), PatternFault>
     requires { start ≤ length text.now }
     ensures read { IfOk result (λ read. (x : Item) × (u : List ℕ) × (xs : List Item) × (first_item (drop start text.now) ≡ Some (x, u)) × Items u xs (drop read.1 text.now) × (atom_of read.0 ≡ range negated (x ∷ xs))) }
     ensures within { IfOk result (λ read. (start < read.1) × (read.1 ≤ length text.now)) }

@@ -17,12 +17,24 @@ fn settle_one(node: &Node, slot: Flow, ready: &mut Vec<Flow>, first: bool, last:
 {
     match node {
         Node::Nothing => {
-            put(ready, Flow { empty: true, ended: false });
+            put(
+                ready,
+                Flow {
+                    empty: true,
+                    ended: false,
+                },
+            );
             slot
         }
         Node::Single(leaf) => {
             let empty = holds_empty(leaf, first, last);
-            put(ready, Flow { empty, ended: slot.ended });
+            put(
+                ready,
+                Flow {
+                    empty,
+                    ended: slot.ended,
+                },
+            );
             slot
         }
         Node::Sequence => {
@@ -43,7 +55,13 @@ fn settle_one(node: &Node, slot: Flow, ready: &mut Vec<Flow>, first: bool, last:
         }
         Node::Star => {
             let inner = take_or(ready, Flow::NONE);
-            put(ready, Flow { empty: true, ended: inner.ended });
+            put(
+                ready,
+                Flow {
+                    empty: true,
+                    ended: inner.ended,
+                },
+            );
             inner
         }
         Node::Plus => {
@@ -53,14 +71,26 @@ fn settle_one(node: &Node, slot: Flow, ready: &mut Vec<Flow>, first: bool, last:
         }
         Node::Optional => {
             let inner = take_or(ready, Flow::NONE);
-            put(ready, Flow { empty: true, ended: inner.ended });
+            put(
+                ready,
+                Flow {
+                    empty: true,
+                    ended: inner.ended,
+                },
+            );
             slot
         }
     }
 }
 
 /// The first pass at a place of the text: what the tree lets through there. The place may be the text's first or its last.
-pub fn settle(nodes: &[Node], slots: &mut [Flow], ready: &mut Vec<Flow>, first: bool, last: bool) -> Flow
+pub fn settle(
+    nodes: &[Node],
+    slots: &mut [Flow],
+    ready: &mut Vec<Flow>,
+    first: bool,
+    last: bool,
+) -> Flow
     requires slots { length slots.old ≡ length nodes.now }
     requires room { length nodes.now ≤ vec_capacity ready.old }
     ensures slots { slots.new ≡ (settled first last (tokens_of nodes.now) slots.old []).0 }
