@@ -1,11 +1,11 @@
 -- The builder's nodes against the state of the parser.
-use Rattle.std.specs.Prelude.{◌≡◌, ℕ, zero, suc, ◌+◌, ◌<◌, ◌≤◌, Bool, List, [], ◌∷◌, ◌++◌, length, Option, Some, None, is_some}
-use Rattle.std.proofs.Common.{refl, sym, subst, ap, ◌∙◌, arith, append_assoc, length-append}
+use Rattle.std.specs.Prelude.{◌≡◌, ℕ, zero, suc, ◌+◌, ◌<◌, Bool, List, [], ◌∷◌, ◌++◌, length, Option, is_some}
+use Rattle.std.proofs.Common.{refl, sym, ap, ◌∙◌, arith, append_assoc, length-append}
 use Rattle.std.proofs.lemmas.List.{append-nil}
-use Rattle.wot_pattern.specs.Reading.{Reading, nothing}
+use Rattle.wot_pattern.specs.Reading.{Reading}
 use Rattle.wot_pattern.specs.Tokens as t
 use Rattle.wot_pattern.specs.Tokens.{Token, tokens, tree, tree-tokens}
-use Rattle.wot_pattern.specs.Steps.{Level, State, level_so_far, level_tokens, outer_tokens, outer_flags, flushed}
+use Rattle.wot_pattern.specs.Steps.{Level, level_tokens, outer_tokens, outer_flags}
 
 pub tree_is : (ts : List Token) (r : Reading) → ts ≡ tokens r → tree ts ≡ r
 tree_is ts r e = ap tree e ∙ tree-tokens r

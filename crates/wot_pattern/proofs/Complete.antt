@@ -1,6 +1,6 @@
 -- What is in the grammar is read by the parser, and by its steps alone, so a text has one reading.
 use Rattle.std.specs.Prelude.{◌≡◌, ℕ, suc, Bool, List, [], ◌∷◌, Option, Some, None}
-use Rattle.std.proofs.Common.{sym, refl, subst, ◌∙◌, ap, pred, ◌≢◌}
+use Rattle.std.proofs.Common.{sym, refl, subst, ◌∙◌, ap, pred}
 use Rattle.wot_pattern.specs.declared.item.Item.{Item}
 use Rattle.wot_pattern.specs.declared.mark.Mark.{Mark}
 use Rattle.wot_pattern.specs.declared.mark.Mark.TheVariants as m
@@ -8,7 +8,7 @@ use Rattle.wot_pattern.specs.Marks.{mark_of}
 use Rattle.wot_pattern.specs.Reading.{Atom, exactly, any, start, end, range, Reading, nothing, single, sequence, either, star, plus, optional}
 use Rattle.wot_pattern.specs.Grammar as g
 use Rattle.wot_pattern.specs.Grammar.{Part, Items, Range, Reads}
-use Rattle.wot_pattern.specs.Steps.{Level, Last, none, atom, piece, State, at, flushed, joined, level_so_far, with_atom, entered, left, barred, with_piece, StepBy, Step, Runs, accepted, next, fresh}
+use Rattle.wot_pattern.specs.Steps.{Level, Last, none, atom, piece, State, at, flushed, joined, level_so_far, with_atom, entered, left, with_piece, StepBy, Step, Runs, accepted, next, fresh}
 
 pub head_same : {A : Type 0} {c d : A} {t u : List A} → c ∷ t ≡ d ∷ u → c ≡ d
 head_same {A} {c} e = ap (λ (l : List A). elim l [ [] ↦ c | x ∷ xs ↦ x ]) e

@@ -1,9 +1,8 @@
 -- One turn of the second pass's loop.
-use Rattle.std.specs.Prelude.{◌≡◌, ℕ, zero, suc, ◌+◌, ◌-◌, ◌<◌, ◌≤◌, Bool, true, List, [], ◌∷◌, length}
-use Rattle.std.proofs.Common.{refl, sym, subst, ap, ◌∙◌, arith, get_or, take, drop, set, add-one, sub-one, get_or-take}
+use Rattle.std.specs.Prelude.{◌≡◌, ℕ, zero, suc, ◌-◌, ◌<◌, ◌≤◌, Bool, true, List, [], ◌∷◌, length}
+use Rattle.std.proofs.Common.{sym, ap, ◌∙◌, arith, get_or, take, drop, set, add-one, get_or-take}
 use Rattle.std.proofs.Math.Seq.{drop-cons}
 use Rattle.std.proofs.lemmas.List.{drop-set, take-set-le, take-take}
-use Rattle.std.proofs.lemmas.Grind.{common_steps}
 use Rattle.wot_pattern.specs.declared.flow.Flow.{Flow}
 use Rattle.wot_pattern.specs.declared.node.Node.{Node}
 use Rattle.wot_pattern.specs.Nodes.{token_of, tokens_of}

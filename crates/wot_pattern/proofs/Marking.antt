@@ -1,14 +1,13 @@
 -- The slots of a tree's nodes: what they hold before the first pass at a place and after it.
-use Rattle.std.specs.Prelude.{◌≡◌, ℕ, zero, suc, ◌+◌, ◌<◌, ◌≤◌, ◌⊎◌, Bool, true, false, ◌&&◌, ◌||◌, List, [], ◌∷◌, ◌++◌, length, Option, Some, None, slice_get}
+use Rattle.std.specs.Prelude.{◌≡◌, ℕ, ◌+◌, Bool, true, false, ◌&&◌, ◌||◌, List, [], ◌∷◌, ◌++◌, length, Some, slice_get}
 use Rattle.std.proofs.Common.{refl, sym, subst, ap, ◌∙◌, append_assoc}
 use Rattle.wot_pattern.specs.declared.flow.Flow.{Flow}
-use Rattle.wot_pattern.specs.Reading.{Atom, Reading, nothing, single, sequence, either, star, plus, optional}
+use Rattle.wot_pattern.specs.Reading.{Reading, nothing, single, sequence, either, star, plus, optional}
 use Rattle.wot_pattern.specs.Tokens as t
 use Rattle.wot_pattern.specs.Tokens.{Token, tokens}
-use Rattle.wot_pattern.specs.Meaning.{Holds}
 use Rattle.wot_pattern.specs.Passes.{flow, takes, holds_empty, settled_one, settled, advanced_one, advanced, behind}
 use Rattle.wot_pattern.proofs.Flows.{Ended, After, Right, right_nothing, right_single, right_sequence, right_either, right_star, right_plus, right_optional, second_begins, loop_begins, taken_ended}
-use Rattle.wot_pattern.proofs.Tells.{Tells, tells_never}
+use Rattle.wot_pattern.proofs.Tells.{Tells}
 
 last_of_two : {A : Type 0} (xs ys zs : List A) (a : A) → (xs ++ (ys ++ a ∷ [])) ++ zs ≡ xs ++ (ys ++ a ∷ zs)
 last_of_two xs ys zs a = append_assoc xs (ys ++ a ∷ []) zs ∙ ap (λ l. xs ++ l) (append_assoc ys (a ∷ []) zs)

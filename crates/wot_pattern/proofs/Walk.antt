@@ -1,5 +1,5 @@
 -- The matcher's way along the text, from place to place.
-use Rattle.std.specs.Prelude.{◌≡◌, ℕ, zero, suc, ◌+◌, ◌<◌, ◌≤◌, ◌⊎◌, Bool, true, false, List, [], ◌∷◌, ◌++◌, length, Option, Some, None, slice_get, replicate, not, is_some}
+use Rattle.std.specs.Prelude.{◌≡◌, ℕ, zero, ◌+◌, ◌<◌, ◌≤◌, ◌⊎◌, Bool, true, false, List, [], ◌∷◌, ◌++◌, length, Option, Some, None, slice_get, replicate, not, is_some}
 use Rattle.std.proofs.Common.{refl, sym, subst, ap, ◌∙◌, inl, inr, arith, append_assoc, length-append}
 use Rattle.std.proofs.lemmas.List.{append-nil, replicate-append-replicate}
 use Rattle.std.proofs.lemmas.Bool.{cases_lt, false≢true}
@@ -8,7 +8,7 @@ use Rattle.wot_pattern.specs.Reading.{Reading, nothing, single, sequence, either
 use Rattle.wot_pattern.specs.Tokens as t
 use Rattle.wot_pattern.specs.Tokens.{Token, tokens}
 use Rattle.wot_pattern.specs.Meaning.{Holds, Matches}
-use Rattle.wot_pattern.specs.Passes.{no_flow, top, settled, advanced, behind}
+use Rattle.wot_pattern.specs.Passes.{no_flow, top, settled, advanced}
 use Rattle.wot_pattern.proofs.Tells.{Tells, tells_never, tells_always}
 use Rattle.wot_pattern.proofs.Flows.{Holds-le, Ended, After, Right}
 use Rattle.wot_pattern.proofs.Marking.{Marked, Ready, Settling, settling, Advancing, advancing}

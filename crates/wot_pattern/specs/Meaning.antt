@@ -1,6 +1,6 @@
 -- What a pattern means: a relation between it, a text and two places of the text, from and to.
 -- Place k stands before the text's character k, counted from 0.
-use Rattle.std.specs.Prelude.{◌≡◌, ℕ, zero, suc, ◌+◌, ◌<◌, ◌≤◌, ◌⊎◌, Bool, true, false, List, [], ◌∷◌, length, Some, slice_get}
+use Rattle.std.specs.Prelude.{◌≡◌, ℕ, zero, suc, ◌+◌, ◌≤◌, ◌⊎◌, true, false, List, [], ◌∷◌, length, Some, slice_get}
 use Rattle.wot_pattern.specs.declared.item.Item.{Item}
 use Rattle.wot_pattern.specs.Reading.{Atom, exactly, any, start, end, range, Reading, nothing, single, sequence, either, star, plus, optional}
 

@@ -4,7 +4,7 @@ use Rattle.wot_pattern.specs.declared.node.Leaf.{Leaf}
 use Rattle.wot_pattern.specs.declared.node.Leaf.TheVariants as l
 use Rattle.wot_pattern.specs.declared.node.Node.{Node}
 use Rattle.wot_pattern.specs.declared.node.Node.TheVariants as n
-use Rattle.wot_pattern.specs.Reading.{Atom, exactly, any, start, end, range, Reading}
+use Rattle.wot_pattern.specs.Reading.{Atom, exactly, any, start, end, range}
 use Rattle.wot_pattern.specs.Tokens.{Token, tokens, tree}
 use Rattle.wot_pattern.specs.Tokens as t
 

@@ -1,5 +1,4 @@
-use Rattle.std.proofs.Common.{rules, arith, ◌≡◌, ◌+◌, ◌≤◌, ◌-◌, length, max, reverse, take, drop, set, vec_len, vec_capacity}
-use Rattle.std.proofs.lemmas.Grind.{common_steps}
+use Rattle.std.proofs.Common.{rules, arith, reverse}
 use Rattle.wot_pattern.proofs.Loops.{advanced_back, take_back}
 use Rattle.wot_pattern.proofs.advance.advance.Goals as goal
 

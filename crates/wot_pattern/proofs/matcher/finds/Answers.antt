@@ -1,13 +1,10 @@
-use Rattle.std.proofs.Common.{rules, arith, sym, subst, ap, refl, ◌∙◌, inl, inr, ◌≡◌, length, true, false, List, [], ℕ}
+use Rattle.std.proofs.Common.{rules, arith, sym, subst, ap, ◌∙◌, inl, inr, ◌≡◌, length}
 use Rattle.std.proofs.lemmas.List.{length-map}
 use Rattle.std.specs.Str.{chars, IsUtf8}
 use Rattle.std.specs.Str.Iter.{chars_rest}
 use Rattle.std.proofs.lemmas.Str.{chars_past_char, IsUtf8-past_char}
 use Rattle.std.proofs.lemmas.Bool.{false≢true}
-use Rattle.wot_pattern.specs.Reading.{Reading}
-use Rattle.wot_pattern.specs.Meaning.{Matches}
-use Rattle.wot_pattern.specs.Tokens.{tokens}
-use Rattle.wot_pattern.specs.Nodes.{tokens_of, token_of}
+use Rattle.wot_pattern.specs.Nodes.{tokens_of}
 use Rattle.wot_pattern.proofs.Walk.{Looked, look_here, start_here, on_from_here, found, not_found, none_left}
 use Rattle.wot_pattern.proofs.matcher.finds.Goals as goal
 

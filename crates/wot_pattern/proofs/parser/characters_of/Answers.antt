@@ -1,4 +1,4 @@
-use Rattle.std.proofs.Common.{rules, arith, sym, subst, ap, refl, ◌∙◌, ◌≡◌, ◌≤◌, [], ◌∷◌, ◌++◌, length, List, ℕ, ◌+◌, append_assoc, length-append}
+use Rattle.std.proofs.Common.{arith, sym, ap, ◌∙◌, ◌≡◌, [], ◌∷◌, ◌++◌, length, ◌+◌, append_assoc, length-append}
 use Rattle.std.specs.Str.{chars}
 use Rattle.std.specs.Str.Iter.{chars_rest}
 use Rattle.std.proofs.lemmas.List.{append-nil}

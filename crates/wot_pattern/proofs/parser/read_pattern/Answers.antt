@@ -1,10 +1,9 @@
-use Rattle.std.proofs.Common.{rules, arith, sym, subst, ap, refl, ◌∙◌, ◌≡◌, [], length, List, ℕ, ◌+◌, drop}
+use Rattle.std.proofs.Common.{arith, sym, subst, ◌∙◌, ◌≡◌, [], drop}
 use Rattle.std.proofs.lemmas.List.{drop_all}
 use Rattle.std.proofs.lemmas.Result.{err_from_is_err_and}
 use Rattle.wot_pattern.specs.Reading.{Reading}
 use Rattle.wot_pattern.specs.Grammar.{Reads, pattern}
 use Rattle.wot_pattern.specs.Steps.{State, Builds, Runs, fresh, level_so_far}
-use Rattle.wot_pattern.specs.declared.fault.PatternFault.{PatternFault}
 use Rattle.wot_pattern.specs.declared.fault.PatternFault.TheVariants.{Unreadable}
 use Rattle.wot_pattern.proofs.Sound.{SoFar, SoFar-fresh, SoFar-step, SoFar-end}
 use Rattle.wot_pattern.proofs.Complete.{runs_from_reads, Runs-step, Runs-end}

@@ -1,7 +1,6 @@
-use Rattle.std.proofs.Common.{rules, arith, sym, ◌∙◌, ap, refl, ◌≡◌, [], ◌∷◌, ◌++◌, length, List, ℕ, ◌+◌, ◌<◌, drop, append_assoc}
+use Rattle.std.proofs.Common.{rules, arith, sym, ◌∙◌, ap, [], ◌∷◌, ◌++◌, ◌+◌, drop, append_assoc}
 use Rattle.std.proofs.lemmas.List.{drop_all}
 use Rattle.wot_pattern.specs.Grammar.{item}
-use Rattle.wot_pattern.specs.declared.item.Item.{Item}
 use Rattle.wot_pattern.proofs.Lists.{rest_at, rest_slice, item_here, length_slice, items_more, items_closed, items_end, items_stuck}
 use Rattle.wot_pattern.proofs.range.read_items.Goals as goal
 

@@ -1,4 +1,4 @@
-use Rattle.std.proofs.Common.{rules, arith, sym, subst, ◌∙◌, ap, refl, ◌≡◌, [], ◌∷◌, ◌++◌, length, List, ℕ, ◌+◌, ◌<◌, drop}
+use Rattle.std.proofs.Common.{sym, ◌∙◌, ◌+◌, drop}
 use Rattle.std.proofs.lemmas.Result.{err_from_is_err_and}
 use Rattle.wot_pattern.specs.Nodes.{atom_of}
 use Rattle.wot_pattern.proofs.Lists.{rest_at, range_negated, range_positive, no_caret_end, no_caret_here, NoCaret, no_positive, no_negated}

@@ -1,4 +1,4 @@
-use Rattle.std.proofs.Common.{rules, arith, sym, ◌∙◌, ap, ◌≡◌, [], ◌∷◌, ◌++◌, length, List, ℕ, suc, ◌+◌, vec_len}
+use Rattle.std.proofs.Common.{rules, arith, sym, ◌∙◌, ap, ◌≡◌, [], ◌∷◌, ◌++◌, length, suc, ◌+◌, vec_len}
 use Rattle.wot_pattern.specs.Nodes.{tokens_of}
 use Rattle.wot_pattern.specs.Steps.{level_so_far, outer_flags}
 use Rattle.wot_pattern.proofs.Building.{outer_no_length, outer_some, left_nodes}

@@ -1,4 +1,4 @@
-use Rattle.std.proofs.Common.{rules, Bool, arith, sym, ◌∙◌, ap, ◌≡◌, [], ◌∷◌, ◌++◌, length, List, ℕ, suc, ◌+◌, ◌<◌, ◌≤◌, vec_len}
+use Rattle.std.proofs.Common.{rules, Bool, sym, ◌∙◌, ap, ◌≡◌, [], length, List, ℕ, vec_len}
 use Rattle.wot_pattern.specs.Nodes.{tokens_of}
 use Rattle.wot_pattern.specs.Steps.{State, Builds, level_so_far, outer_flags}
 use Rattle.wot_pattern.proofs.Building.{outer_no_length, outer_empty}

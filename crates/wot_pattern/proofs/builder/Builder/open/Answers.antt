@@ -1,7 +1,7 @@
-use Rattle.std.proofs.Common.{rules, arith, sym, ◌∙◌, ap, ◌≡◌, [], ◌∷◌, ◌++◌, length, List, ℕ, suc, ◌+◌, ◌<◌, ◌≤◌, vec_len}
+use Rattle.std.proofs.Common.{rules, arith, ◌∙◌, ap, ◌≡◌, [], ◌∷◌, ◌++◌, length, ◌+◌, vec_len}
 use Rattle.std.proofs.lemmas.List.{map-append}
 use Rattle.wot_pattern.specs.Nodes.{tokens_of}
-use Rattle.wot_pattern.specs.Steps.{level_so_far, outer_flags, flushed}
+use Rattle.wot_pattern.specs.Steps.{outer_flags, flushed}
 use Rattle.wot_pattern.proofs.Building.{length-outer_flags, positive, entered_nodes}
 use Rattle.wot_pattern.proofs.builder.Builder.open.Goals as goal
 
