@@ -23,11 +23,12 @@ pub fn in_scope(alloc: Global, body: &[u8], uid: &[u8]) -> Result<bool, Memory>
     if text_matches(alloc, first, uid)? {
         return Ok(true);
     }
-    one_matches(alloc, texts, uid)
+    let more = one_matches(alloc, texts, uid)?;
+    Ok(more)
 }
 
 fn one_matches(alloc: Global, texts: Scopes<'_>, uid: &str) -> Result<bool, Memory>
-    ensures { IfOk result (λ holds. IsTrue holds ↔ OneMatches texts uid.now) }
+    ensures { IfOk result (λ holds. IsTrue holds ↔ OneMatches texts.entry uid.now) }
 {
     for text in texts {
         if text_matches(alloc, text, uid)? {
