@@ -4,3 +4,6 @@
 mod scope;
 
 pub use scope::in_scope;
+
+#[cfg(test)]
+mod tests;

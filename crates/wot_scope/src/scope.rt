@@ -1,4 +1,4 @@
-ghost use Rattle.std.specs.Prelude.{◌↔◌, IsTrue, IfOk};
+ghost use Rattle.std.specs.Prelude.{◌↔◌, ◌∷◌, IsTrue, IfOk};
 ghost use Rattle.wot_signature.specs.Signature.{scopes_of};
 ghost use Rattle.wot_scope.specs.Scope.{TextMatches, OneMatches, ScopeHolds};
 
@@ -14,23 +14,25 @@ pub fn in_scope(alloc: Global, body: &[u8], uid: &[u8]) -> Result<bool, Memory>
     ensures holds { IfOk result (λ holds. IsTrue holds ↔ ScopeHolds (scopes_of body.now) uid.now) }
 {
     let mut texts = scopes(body);
-    let Some(first) = texts.next() else {
-        return Ok(true);
-    };
-    let Ok(uid) = str::from_utf8(uid) else {
-        return Ok(false);
-    };
+    match texts.next() {
+        None => Ok(true),
+        Some(first) => match str::from_utf8(uid) {
+            Err(_) => Ok(false),
+            Ok(uid) => {
+                let holds = one_matches(alloc, first, texts, uid)?;
+                Ok(holds)
+            }
+        },
+    }
+}
+
+fn one_matches(alloc: Global, first: &[u8], others: Scopes<'_>, uid: &str) -> Result<bool, Memory>
+    ensures { IfOk result (λ holds. IsTrue holds ↔ OneMatches (first.now ∷ others.entry) uid.now) }
+{
     if text_matches(alloc, first, uid)? {
         return Ok(true);
     }
-    let more = one_matches(alloc, texts, uid)?;
-    Ok(more)
-}
-
-fn one_matches(alloc: Global, texts: Scopes<'_>, uid: &str) -> Result<bool, Memory>
-    ensures { IfOk result (λ holds. IsTrue holds ↔ OneMatches texts.entry uid.now) }
-{
-    for text in texts {
+    for text in others {
         if text_matches(alloc, text, uid)? {
             return Ok(true);
         }

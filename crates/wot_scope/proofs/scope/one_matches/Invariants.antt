@@ -3,4 +3,4 @@ use Rattle.wot_scope.specs.Scope.{OneMatches}
 use Rattle.wot_scope.proofs.scope.one_matches.Given as goal
 
 abbrev pub invariant-loop-text : goal.invariant-loop-text
-invariant-loop-text l = OneMatches l.text-iterator l.uid ↔ OneMatches l.fn.texts l.uid
+invariant-loop-text l = OneMatches l.text-iterator l.uid ↔ OneMatches l.fn.others l.uid
