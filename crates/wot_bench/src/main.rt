@@ -4,6 +4,7 @@
 mod digests;
 mod lines;
 mod packets;
+mod patterns;
 
 use std::{env, io};
 
@@ -35,6 +36,20 @@ fn main(rt: HostRuntime) -> io::Result<()> {
         }
         "packets" => packets::bench(&rt, number(words.next())),
         "packets-copied" => packets::bench_copy(&rt, number(words.next())),
+        "pattern_text" => {
+            let Some(pattern) = words.next() else {
+                return println!(rt; "no pattern was named");
+            };
+            let count = number(words.next());
+            patterns::on_text(&rt, pattern.as_str(), count, number(words.next()))
+        }
+        "pattern_uids" => {
+            let (Some(pattern), Some(who)) = (words.next(), words.next()) else {
+                return println!(rt; "no pattern was named");
+            };
+            let count = u32::try_from(number(words.next())).unwrap_or(0);
+            patterns::on_uids(&rt, pattern.as_str(), count, who.as_str())
+        }
         _ => println!(rt; "no such bench"),
     }
 }
