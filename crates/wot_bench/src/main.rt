@@ -4,6 +4,7 @@
 mod digests;
 mod lines;
 mod packets;
+mod signatures;
 
 use std::{env, io};
 
@@ -35,6 +36,7 @@ fn main(rt: HostRuntime) -> io::Result<()> {
         }
         "packets" => packets::bench(&rt, number(words.next())),
         "packets-copied" => packets::bench_copy(&rt, number(words.next())),
+        "signatures" => signatures::bench(&rt, number(words.next())),
         _ => println!(rt; "no such bench"),
     }
 }
