@@ -5,6 +5,7 @@ mod digests;
 mod lines;
 mod packets;
 mod patterns;
+mod signatures;
 
 use std::{env, io};
 
@@ -50,6 +51,7 @@ fn main(rt: HostRuntime) -> io::Result<()> {
             let count = u32::try_from(number(words.next())).unwrap_or(0);
             patterns::on_uids(&rt, pattern.as_str(), count, who.as_str())
         }
+        "signatures" => signatures::bench(&rt, number(words.next())),
         _ => println!(rt; "no such bench"),
     }
 }
