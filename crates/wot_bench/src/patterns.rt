@@ -3,8 +3,7 @@
 //! toolchain's regular expressions, or another word for neither.
 use regex::Regex;
 use std::alloc::Global;
-use std::io;
-use std::str;
+use std::{io, str};
 use wot_pattern::{Matcher, parse};
 
 fn matcher_of(alloc: Global, pattern: &str) -> Option<Matcher> {
@@ -15,7 +14,8 @@ fn matcher_of(alloc: Global, pattern: &str) -> Option<Matcher> {
 /// Tries the pattern so many turns on a text of `count` times `a`.
 pub fn on_text(rt: &HostRuntime, pattern: &str, count: usize, turns: usize) -> io::Result<()> {
     let text = vec![in rt.alloc(); b'a'; count]?;
-    let (Some(mut matcher), Ok(text)) = (matcher_of(rt.alloc(), pattern), str::from_utf8(&text)) else {
+    let (Some(mut matcher), Ok(text)) = (matcher_of(rt.alloc(), pattern), str::from_utf8(&text))
+    else {
         return println!(rt; "no pattern");
     };
     let mut matched = 0u32;
