@@ -1,5 +1,5 @@
 -- Where the first space is, there a text is cut.
-use Rattle.std.proofs.Common.{◌≡◌, ℕ, zero, suc, ◌+◌, ◌-◌, ◌<◌, ◌==◌, false, List, [], ◌∷◌, ◌++◌, Some, None, length, take, drop, get_or, refl, sym, ap, ◌∙◌, arith, add-one, length-drop}
+use Rattle.std.proofs.Common.{◌≡◌, ℕ, zero, suc, ◌-◌, ◌<◌, List, [], ◌∷◌, Some, None, length, take, drop, get_or, refl, ap, ◌∙◌, arith, length-drop}
 use Rattle.std.proofs.lemmas.Bool.{eq-eqb, ne_eqb}
 use Rattle.std.proofs.lemmas.List.{take_all}
 use Rattle.std.specs.Option.{option_map}
@@ -18,7 +18,7 @@ cut_at (octet ∷ octets) zero within space before = rw (eq-eqb octet 32 space) 
 cut_at (octet ∷ octets) (suc k) within space before =
     cut-cons octet octets (before 0 (omega arith))
     ∙ ap (option_map (λ parts. (octet ∷ parts.0, parts.1)))
-      (cut_at octets k (omega arith) space (λ j h. before (suc j) (omega arith)))
+    (cut_at octets k (omega arith) space (λ j h. before (suc j) (omega arith)))
 
 -- no space is there
 pub cut_nowhere : (text : List ℕ) → ((j : ℕ) → j < length text → get_or text j 0 ≡ 32 → ⊥) → cut text ≡ None

@@ -1,5 +1,5 @@
 -- User IDs, printed and read.
-use Rattle.std.proofs.Common.{◌≡◌, ℕ, zero, suc, ◌+◌, ◌<◌, ◌≤◌, ◌/◌, ◌%◌, ◌==◌, Bool, true, false, ◌&&◌, inl, inr, List, [], ◌∷◌, ◌++◌, Option, Some, None, length, take, drop, get_or, slice_index, refl, sym, ap, ◌∙◌, arith, add-one, drop-cons, append_assoc, cond}
+use Rattle.std.proofs.Common.{◌≡◌, ℕ, zero, suc, ◌+◌, ◌<◌, ◌==◌, Bool, true, false, ◌&&◌, inl, inr, List, [], ◌∷◌, ◌++◌, Option, Some, None, length, drop, get_or, refl, sym, ap, ◌∙◌, arith, add-one, drop-cons, append_assoc}
 use Rattle.std.specs.Prelude.{nat_le}
 use Rattle.std.specs.Option.{option_map}
 use Rattle.std.specs.Result.{result_ok}
@@ -11,9 +11,9 @@ use Rattle.hex.proofs.HexLemmas.{decode_sized-encode_lower}
 use Rattle.wot_types.specs.Digits.{array_of_digits}
 use Rattle.wot_script.specs.Fields.{◌>>=◌}
 use Rattle.wot_script.specs.Turned.{Turned}
-use Rattle.wot_script.specs.Uid.{escape, escaped, turn, ended, unescaped, unescaped_from}
+use Rattle.wot_script.specs.Uid.{escape, escaped, turn, unescaped, unescaped_from}
 use Rattle.wot_script.specs.declared.uid.Place.{Place}
-use Rattle.wot_script.specs.declared.uid.Place.TheVariants.{Outside, Backslash, High, Low}
+use Rattle.wot_script.specs.declared.uid.Place.TheVariants.{Outside, High}
 
 -- ---- reading
 
@@ -73,9 +73,9 @@ escape_apart : (octet : ℕ) (rest : List ℕ) (plain : Bool) → octet < 256 �
 escape_apart octet rest true small apart plain = rw (apart, plain, apart) refl
 escape_apart octet rest false small apart plain =
     rw (apart, plain) (
-      nothing_put (option_map (λ others. [] ++ others) (unescaped_from (encode_lower (octet ∷ []) ++ rest) High))
-      ∙ nothing_put (unescaped_from (encode_lower (octet ∷ []) ++ rest) High)
-      ∙ pair_read octet rest small
+    nothing_put (option_map (λ others. [] ++ others) (unescaped_from (encode_lower (octet ∷ []) ++ rest) High))
+    ∙ nothing_put (unescaped_from (encode_lower (octet ∷ []) ++ rest) High)
+    ∙ pair_read octet rest small
     )
 
 escape_read : (octet : ℕ) (rest : List ℕ) → octet < 256

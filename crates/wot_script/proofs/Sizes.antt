@@ -1,8 +1,7 @@
 -- The sizes of replies of one line.
-use Rattle.std.proofs.Common.{◌≡◌, ℕ, ◌≤◌, List, [], ◌∷◌, ◌++◌, length, arith, length-append}
+use Rattle.std.proofs.Common.{ℕ, ◌≤◌, List, [], ◌∷◌, length, arith, length-append}
 use Rattle.std.specs.Prelude.{codes}
 use Rattle.wot_script.specs.Texts.{line_of}
-use Rattle.wot_script.specs.Replies.{refused}
 
 pub length-taken : (a b c : List ℕ) → length a ≤ 20 → length b ≤ 20 → length c ≤ 20
     → length (line_of (codes "ok taken " ∷ a ∷ codes " skipped " ∷ b ∷ codes " new " ∷ c ∷ [])) ≤ 128

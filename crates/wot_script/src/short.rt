@@ -7,8 +7,7 @@ use crate::Reply;
 /// A law: a number has at most 20 digits.
 fn decimals_fit(number: u64)
     ensures { length (decimal number) ≤ 20 }
-{
-}
+{}
 
 /// A law: a reply of one line, other than that of `export`, has at most 128 octets.
 #[tactic(auto, unfolding(crate::specs::Replies::reply_text))]

@@ -27,8 +27,7 @@ fn uid_is_read(octets: &[u8])
 fn decimal_is_read(most: u32, number: u32)
     requires { number ≤ most }
     ensures { decimal_up_to most (decimal number) ≡ Some number }
-{
-}
+{}
 
 /// The same of a number that isn't 0.
 fn positive_is_read(most: u32, number: u32)
@@ -36,8 +35,7 @@ fn positive_is_read(most: u32, number: u32)
     requires within { number ≤ most }
     ensures read { positive_up_to most (decimal number) ≡ Some number }
     ensures small { number < 2 ^ 64 }
-{
-}
+{}
 
 /// A law: the spelling of a command is read as that command.
 pub fn spelling_is_read(command: &Command)

@@ -17,7 +17,18 @@ fn put_path(amount: u8, steps: u8, root: &Fpr, out: &mut Vec<u8>) -> Result<(), 
     use Piece::{Decimal, Key, Text};
     let amount = Decimal(u64::from(amount));
     let steps = Decimal(u64::from(steps));
-    put_pieces(&[Text(b"path "), amount, Text(b" steps "), steps, Text(b" root "), Key(root), Text(b"\n")], out)
+    put_pieces(
+        &[
+            Text(b"path "),
+            amount,
+            Text(b" steps "),
+            steps,
+            Text(b" root "),
+            Key(root),
+            Text(b"\n"),
+        ],
+        out,
+    )
 }
 
 fn put_answer_line(line: &AnswerLine, out: &mut Vec<u8>) -> Result<(), Memory>
@@ -33,7 +44,22 @@ fn put_answer_line(line: &AnswerLine, out: &mut Vec<u8>) -> Result<(), Memory>
             let depth = Decimal(u64::from(*depth));
             let amount = Decimal(u64::from(*amount));
             let uid = Uid(uid.octets());
-            put_pieces(&[Text(b"step "), Key(issuer), Text(b" "), Key(target), Text(b" "), depth, Text(b" "), amount, Text(b" "), uid, Text(b"\n")], out)
+            put_pieces(
+                &[
+                    Text(b"step "),
+                    Key(issuer),
+                    Text(b" "),
+                    Key(target),
+                    Text(b" "),
+                    depth,
+                    Text(b" "),
+                    amount,
+                    Text(b" "),
+                    uid,
+                    Text(b"\n"),
+                ],
+                out,
+            )
         }
     }
 }
@@ -61,7 +87,18 @@ fn put_key_line(line: &KeyLine, out: &mut Vec<u8>) -> Result<(), Memory>
     ensures grows { vec_capacity out.old ≤ vec_capacity out.new }
 {
     use Piece::{Decimal, Key, Text};
-    put_pieces(&[Text(b"key "), Key(&line.0), Text(b" "), Decimal(line.1), Text(b" "), Decimal(line.2), Text(b"\n")], out)
+    put_pieces(
+        &[
+            Text(b"key "),
+            Key(&line.0),
+            Text(b" "),
+            Decimal(line.1),
+            Text(b" "),
+            Decimal(line.2),
+            Text(b"\n"),
+        ],
+        out,
+    )
 }
 
 fn put_key_lines(lines: &[KeyLine], out: &mut Vec<u8>) -> Result<(), Memory>
@@ -89,7 +126,16 @@ fn put_amount(sum: u32, paths: u64, lines: &AnswerLines, out: &mut Vec<u8>) -> R
     use Piece::{Decimal, Text};
     let start = out.len();
     let sum = Decimal(u64::from(sum));
-    put_pieces(&[Text(b"amount "), sum, Text(b" paths "), Decimal(paths), Text(b"\n")], out)?;
+    put_pieces(
+        &[
+            Text(b"amount "),
+            sum,
+            Text(b" paths "),
+            Decimal(paths),
+            Text(b"\n"),
+        ],
+        out,
+    )?;
     if let Err(fault) = put_answer_lines(lines.items(), out) {
         out.truncate(start);
         return Err(fault);
@@ -118,7 +164,14 @@ fn put_refused(word: &[u8], out: &mut Vec<u8>) -> Result<(), Memory>
     ensures kept { OnErr result (out.new.items ≡ out.old.items) }
     ensures full { OnErr result (vec_capacity out.old < vec_len out.old + length (refused (word.now ∷ []))) }
 {
-    put_pieces(&[Piece::Text(b"refused "), Piece::Text(word), Piece::Text(b"\n")], out)
+    put_pieces(
+        &[
+            Piece::Text(b"refused "),
+            Piece::Text(word),
+            Piece::Text(b"\n"),
+        ],
+        out,
+    )
 }
 
 fn put_refused_at(word: &[u8], number: u8, place: usize, out: &mut Vec<u8>) -> Result<(), Memory>
@@ -129,7 +182,17 @@ fn put_refused_at(word: &[u8], number: u8, place: usize, out: &mut Vec<u8>) -> R
     use Piece::{Decimal, Text};
     let number = Decimal(u64::from(number));
     let place = Decimal(place as u64);
-    put_pieces(&[Text(b"refused "), Text(word), number, Text(b" "), place, Text(b"\n")], out)
+    put_pieces(
+        &[
+            Text(b"refused "),
+            Text(word),
+            number,
+            Text(b" "),
+            place,
+            Text(b"\n"),
+        ],
+        out,
+    )
 }
 
 #[tactic(auto, unfolding(crate::specs::Replies::reply_text))]
@@ -149,13 +212,19 @@ fn put_refusal(reply: &Reply, out: &mut Vec<u8>) -> Result<(), Memory>
         Reply::Secret => put_refused(b"secret", out),
         Reply::Kind(kind, place) => put_refused_at(b"kind ", *kind, *place, out),
         Reply::Order(place) => {
-            put_pieces(&[Text(b"refused order "), Decimal(*place as u64), Text(b"\n")], out)
+            put_pieces(
+                &[Text(b"refused order "), Decimal(*place as u64), Text(b"\n")],
+                out,
+            )
         }
         Reply::Empty => put_refused(b"empty", out),
         Reply::Clash => put_refused(b"clash", out),
         Reply::Absent => put_refused(b"absent", out),
         Reply::Full(limit) => {
-            put_pieces(&[Text(b"refused full "), Text(limit.word()), Text(b"\n")], out)
+            put_pieces(
+                &[Text(b"refused full "), Text(limit.word()), Text(b"\n")],
+                out,
+            )
         }
         _ => put_refused(b"form", out),
     }
@@ -170,14 +239,36 @@ fn put_reply(reply: &Reply, out: &mut Vec<u8>) -> Result<(), Memory>
     use Piece::{Decimal, Hex, Text};
     match reply {
         Reply::Taken(taken, skipped, new) => {
-            put_pieces(&[Text(b"ok taken "), Decimal(*taken), Text(b" skipped "), Decimal(*skipped), Text(b" new "), Decimal(*new), Text(b"\n")], out)
+            put_pieces(
+                &[
+                    Text(b"ok taken "),
+                    Decimal(*taken),
+                    Text(b" skipped "),
+                    Decimal(*skipped),
+                    Text(b" new "),
+                    Decimal(*new),
+                    Text(b"\n"),
+                ],
+                out,
+            )
         }
         Reply::Done => put_pieces(&[Text(b"ok\n")], out),
         Reply::Amount(sum, paths, lines) => put_amount(*sum, *paths, lines, out),
         Reply::Keys(count, lines) => put_keys(*count, lines, out),
-        Reply::Export(octets) => put_pieces(&[Text(b"export "), Hex(octets.items()), Text(b"\n")], out),
+        Reply::Export(octets) => put_pieces(
+            &[Text(b"export "), Hex(octets.items()), Text(b"\n")],
+            out,
+        ),
         Reply::Dump(count, lines) => {
-            put_pieces(&[Text(b"dump "), Decimal(*count), Text(b"\n"), Text(lines.items())], out)
+            put_pieces(
+                &[
+                    Text(b"dump "),
+                    Decimal(*count),
+                    Text(b"\n"),
+                    Text(lines.items()),
+                ],
+                out,
+            )
         }
         _ => put_refusal(reply, out),
     }
