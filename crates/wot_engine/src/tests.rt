@@ -10,9 +10,10 @@ use crate::command::Command;
 use crate::keyring::{Kept, keep};
 use crate::{Machine, run_words};
 use std::alloc::Global;
+use std::cell::Cell;
 use std::collections::BTreeMap;
 use std::test::Fail;
-use wot_io::{MemorySink, MemorySource, Source};
+use wot_io::{Failed, MemorySink, MemorySource, Sink, Source};
 use wot_types::Fpr;
 
 /// What came of a run: the status, what was written, and how much of the input is left (up to 64 octets).
@@ -183,5 +184,65 @@ fn two_keys_of_one_fingerprint(rt: HostRuntime) -> Result<(), Fail> {
         assert!(rt; found == *kept);
     }
     assert_eq!(rt; certs.len(), 1);
+    Ok(())
+}
+
+/// A source that notes each read, as the digit 1, in a number that it shares with a sink.
+#[derive(Drop)]
+struct HeardSource<'a> {
+    log: &'a Cell<u64>,
+    input: MemorySource,
+}
+
+/// A sink that notes each write, as the digit 2.
+#[derive(Drop)]
+struct HeardSink<'a> {
+    log: &'a Cell<u64>,
+}
+
+fn note(log: &Cell<u64>, digit: u64) {
+    log.set(log.get().wrapping_mul(10).wrapping_add(digit));
+}
+
+impl Source for HeardSource<'_> {
+    ghost left = { λ _. None };
+
+    ghost faults = { λ _. 0 };
+
+    fn read(&mut self, to: &mut [u8]) -> Result<usize, Failed> {
+        note(self.log, 1);
+        match self.input.read(to) {
+            Ok(n) => Ok(n),
+            Err(Failed) => Ok(0),
+        }
+    }
+}
+
+impl Sink for HeardSink<'_> {
+    ghost written = { λ _. None };
+
+    ghost faults = { λ _. 18446744073709551615 };
+
+    fn write(&mut self, piece: &[u8]) -> Result<usize, Failed> {
+        note(self.log, 2);
+        Ok(piece.len())
+    }
+}
+
+#[test]
+fn each_reply_is_written_before_more_is_read(rt: HostRuntime) -> Result<(), Fail> {
+    let alloc = rt.alloc();
+    let log = Cell::new(0u64);
+    let mut words = Vec::new(alloc);
+    words.push(String::from_str(alloc, "run")?)?;
+    let script = b"keys\nkeys\nkeys\n".to_vec(alloc)?;
+    let mut input = HeardSource {
+        log: &log,
+        input: MemorySource::new(script, 5, Vec::new(alloc)),
+    };
+    let mut output = HeardSink { log: &log };
+    let status = run_words(alloc, &words, &mut input, &mut output);
+    assert_eq!(rt; status, 0);
+    assert_eq!(rt; log.get(), 1_212_121);
     Ok(())
 }
