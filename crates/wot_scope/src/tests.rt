@@ -18,11 +18,18 @@ fn push_pattern(area: &mut Vec<u8>, pattern: &[u8]) -> Result<(), AllocError> {
     Ok(())
 }
 
-/// A certification that was made at 1, with these patterns.
-fn certification(alloc: Global, patterns: &[&[u8]]) -> Result<Vec<u8>, AllocError> {
+/// A certification that was made at 1, with these patterns, or with fewer.
+fn certification(
+    alloc: Global,
+    first: Option<&[u8]>,
+    second: Option<&[u8]>,
+) -> Result<Vec<u8>, AllocError> {
     let mut area = Vec::new(alloc);
     area.extend_from_slice(&[0x05, 0x02, 0, 0, 0, 1])?;
-    for pattern in patterns {
+    if let Some(pattern) = first {
+        push_pattern(&mut area, pattern)?;
+    }
+    if let Some(pattern) = second {
         push_pattern(&mut area, pattern)?;
     }
     let mut body = Vec::new(alloc);
@@ -33,41 +40,45 @@ fn certification(alloc: Global, patterns: &[&[u8]]) -> Result<Vec<u8>, AllocErro
     Ok(body)
 }
 
-const DOMAIN: &[u8] = b"<[^>]+[@.]example\\.org>$";
-
-const ANN: &[u8] = b"Ann <ann@example.org>";
-
-const ELSEWHERE: &[u8] = b"Ann <ann@example.org.net>";
-
-const NO_TEXT: &[u8] = b"Ann <ann@example.org>\xff";
+/// Up to two patterns, a user ID, and whether it is in scope.
+static ROWS: [(Option<&[u8]>, Option<&[u8]>, &[u8], bool); 17] = [
+    (
+        Some(b"<[^>]+[@.]example\\.org>$"),
+        None,
+        b"Ann <ann@example.org>",
+        true,
+    ),
+    (
+        Some(b"<[^>]+[@.]example\\.org>$"),
+        None,
+        b"Ann <ann@example.org.net>",
+        false,
+    ),
+    (None, None, b"Ann <ann@example.org.net>", true),
+    (None, None, b"Ann\xff", true),
+    (None, None, b"", true),
+    (Some(b""), None, b"Ann", true),
+    (Some(b""), None, b"", true),
+    (Some(b""), None, b"Ann\xff", false),
+    (Some(b"Ann"), None, b"Ann\xff", false),
+    (Some(b"Bob"), Some(b"Ann"), b"Ann", true),
+    (Some(b"Ann"), Some(b"Bob"), b"Ann", true),
+    (Some(b"Bob"), Some(b"^ann"), b"Ann", false),
+    (Some(b"a**"), None, b"Ann", false),
+    (Some(b"a**"), Some(b"[c-a]"), b"Ann", false),
+    (Some(b"a**"), Some(b"Ann"), b"Ann", true),
+    (Some(b"\xff"), None, b"Ann", false),
+    (Some(b"\xff"), Some(b"Ann"), b"Ann", true),
+];
 
 #[test]
 fn scope_of_patterns(rt: HostRuntime) -> Result<(), Fail> {
-    let rows: [(&[&[u8]], &[u8], bool); 17] = [
-        (&[DOMAIN], ANN, true),
-        (&[DOMAIN], ELSEWHERE, false),
-        (&[], ELSEWHERE, true),
-        (&[], NO_TEXT, true),
-        (&[], b"", true),
-        (&[b""], ANN, true),
-        (&[b""], b"", true),
-        (&[b""], NO_TEXT, false),
-        (&[b"ann"], NO_TEXT, false),
-        (&[b"bob", DOMAIN], ANN, true),
-        (&[DOMAIN, b"bob"], ANN, true),
-        (&[b"bob", b"^ann"], ANN, false),
-        (&[b"a**"], ANN, false),
-        (&[b"a**", b"[c-a]"], ANN, false),
-        (&[b"a**", DOMAIN], ANN, true),
-        (&[b"\xff"], ANN, false),
-        (&[b"\xff", DOMAIN], ANN, true),
-    ];
-    for (patterns, uid, expected) in rows {
-        let body = certification(rt.alloc(), patterns)?;
+    for (first, second, uid, expected) in ROWS.iter() {
+        let body = certification(rt.alloc(), *first, *second)?;
         let held = in_scope(rt.alloc(), &body, uid).ok().ok_or("no memory")?;
-        assert_eq!(rt; held, expected, "{patterns:?} on {uid:?}");
+        assert_eq!(rt; held, *expected, "{first:?}, {second:?} on {uid:?}");
     }
-    let held = in_scope(rt.alloc(), b"no body", ANN)
+    let held = in_scope(rt.alloc(), b"no body", b"Ann")
         .ok()
         .ok_or("no memory")?;
     assert!(rt; held, "a body that isn't readable has no pattern");
@@ -78,7 +89,7 @@ fn scope_of_patterns(rt: HostRuntime) -> Result<(), Fail> {
 fn longest_pattern(rt: HostRuntime) -> Result<(), Fail> {
     for (count, expected) in [(1024, true), (1025, false)] {
         let pattern = vec![in rt.alloc(); b'a'; count]?;
-        let body = certification(rt.alloc(), &[pattern.as_slice()])?;
+        let body = certification(rt.alloc(), Some(&pattern), None)?;
         let held = in_scope(rt.alloc(), &body, &pattern)
             .ok()
             .ok_or("no memory")?;
