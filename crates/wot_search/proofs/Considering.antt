@@ -36,7 +36,7 @@ place-true (Some place) uid e = ap Some (eqb-true place uid e)
 true-place : (p : Option ℕ) (uid : ℕ) → p ≡ Some uid → is_place p uid ≡ true
 true-place p uid e = subst (λ (x : Option ℕ). is_place x uid ≡ true) (sym e) (eq-eqb uid uid refl)
 
-suc-zero : (n : ℕ) → nat_eq (suc n) 0 ≡ false
+pub suc-zero : (n : ℕ) → nat_eq (suc n) 0 ≡ false
 suc-zero n = by (nat_eq (suc n) 0) refl
   where
     by : (b : Bool) → nat_eq (suc n) 0 ≡ b → b ≡ false

@@ -8,6 +8,10 @@ pub mod Rooted
 pub mod Picking
 pub mod Local
 pub mod Considering
+pub mod Extending
+pub mod Growing
+pub mod Finding
+pub mod Nexting
 pub mod Members
 pub mod Taking
 pub mod Collecting

@@ -106,7 +106,7 @@ as_good_good q used Widest a b le e m =
     let g = amount_width q used b (omega (arith, le, same)) in
     omega (arith, f, g, m, same)
 
-first_le : (q : Question) (used : Use) (goal : Goal) (least : ℕ) (steps other : List Step) → IsFirst q used goal least steps → Rooted q used least other → length steps ≤ length other
+pub first_le : (q : Question) (used : Use) (goal : Goal) (least : ℕ) (steps other : List Step) → IsFirst q used goal least steps → Rooted q used least other → length steps ≤ length other
 first_le q used goal least steps other f r = by (f.first other r)
   where
     by : (length steps < length other) ⊎ ((length steps ≡ length other) × IsGood q used goal steps other) → length steps ≤ length other

@@ -2,19 +2,22 @@
 use Rattle.std.specs.Prelude.{◌≡◌, ◌⊎◌, ℕ, ◌≤◌, nat_eq, ◌&&◌, ◌||◌, ◌++◌, suc, Bool, true, false, is_some, List, [], ◌∷◌, length, Option, Some, None, cond}
 use Rattle.wot_types.specs.declared.fpr.Fpr.{Fpr}
 use Rattle.wot_edge.specs.declared.edge.EdgeFacts.{EdgeFacts}
+use Rattle.wot_edge.specs.declared.path.Path.{Path}
 use Rattle.wot_edge.specs.declared.path.Step.{Step}
 use Rattle.wot_edge.specs.Order.{same_fpr}
 use Rattle.wot_edge.specs.Record.{Record, Row, Has, rows_into}
-use Rattle.wot_edge.specs.Path.{Question, Use, Reaches, start, step_of, step_left, root_left}
+use Rattle.wot_edge.specs.Path.{Question, Use, Reaches, start, step_of, step_left, root_left, path_amount}
 use Rattle.wot_search.specs.declared.node.Node.{Node}
 use Rattle.wot_search.specs.declared.node.Demand.{Demand}
 use Rattle.wot_search.specs.declared.node.Goal.{Goal}
 use Rattle.wot_search.specs.declared.reached.Reached.{Reached}
 use Rattle.wot_search.specs.Suffix.{Serves, Found, Kept, width}
 use Rattle.wot_search.specs.Layer.{Covered, IsEntry, IsLayer, IsComplete, IsGrowing, Onward, is_kept}
+use Rattle.wot_search.specs.Choice.{node_width}
 use Rattle.wot_search.specs.Demand.{candidate_of}
 use Rattle.wot_search.specs.Looked.{IsSeen, IsLooked}
 use Rattle.wot_search.specs.Reached.{look}
+use Rattle.wot_search.specs.Rooted.{Rooted, IsFirst}
 
 -- ---- one edge
 
@@ -65,6 +68,10 @@ AreNoted found set = (fpr : Fpr) (node : Node) → found fpr ≡ Some node → H
 
 -- ---- one fingerprint of the layer before
 
+-- the width of what was found of so many edges; the empty suffix has all
+abbrev pub wide_of : ℕ → Option Node → ℕ
+wide_of size node = cond (nat_eq size 0) 255 (node_width node)
+
 -- each edge that may stand before the rest is covered there
 abbrev pub AreTaken : Question → Use → ℕ → Goal → Found → List Step → Type 0
 AreTaken q used least goal found rest = (step : Step) → Serves q used least step rest → Covered q used least goal found (step ∷ rest)
@@ -82,3 +89,31 @@ pub record IsAfter (q : Question) (used : Use) (least : ℕ) (goal : Goal) (size
 -- no suffix of fewer edges begins at a root of which so much is left
 abbrev pub IsUnrooted : Question → Use → ℕ → Found → ℕ → Type 0
 IsUnrooted q used least found size = (steps : List Step) → Kept q used least found steps → 1 ≤ length steps → suc (length steps) ≤ size → least ≤ root_left q used (start q.target steps) → ⊥
+
+-- ---- what a search gives
+
+abbrev pub steps_of : Option Path → Option (List Step)
+steps_of None = None
+steps_of (Some path) = Some path.steps
+
+-- a path that is the first, of so many edges, with its root and its amount
+pub record IsFirstPath (q : Question) (used : Use) (goal : Goal) (least : ℕ) (size : ℕ) (path : Path) : Type 0 where
+  pub first : IsFirst q used goal least path.steps
+  pub root : path.root ≡ start q.target path.steps
+  pub amount : path.amount ≡ path_amount q used path.steps
+  pub long : length path.steps ≡ size
+
+-- the first path of a layer, or that no root of which so much is left is in it
+abbrev pub IsTurn : Question → Use → ℕ → Goal → Found → ℕ → Option Path → Type 0
+IsTurn q used least goal found size None = IsUnrooted q used least found (suc size)
+IsTurn q used least goal found size (Some path) = IsFirstPath q used goal least size path
+
+-- the first path, or that there is none
+abbrev pub IsResult : Question → Use → Goal → ℕ → Option Path → Type 0
+IsResult q used goal least None = (other : List Step) → Rooted q used least other → ⊥
+IsResult q used goal least (Some path) = IsFirstPath q used goal least (length path.steps) path
+
+-- all that matters was looked at
+abbrev pub IsLookedBy : Question → Use → ℕ → List Fpr → Option Path → Type 0
+IsLookedBy q used least set None = IsLooked q used least 255 set
+IsLookedBy q used least set (Some path) = IsLooked q used least (length path.steps) set

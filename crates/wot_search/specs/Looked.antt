@@ -19,3 +19,7 @@ IsLooked q used least size set = (rest : List Step) → length rest < size → S
 -- a fingerprint, or the issuer of an edge into it
 abbrev pub IsNear : Record → Fpr → Fpr → Type 0
 IsNear told at fpr = (fpr ≡ at) ⊎ ((row : Row) × Has (rows_into told at) row × (fpr ≡ row.edge.issuer))
+
+-- one of these, or the issuer of an edge into one of them
+abbrev pub IsNearOne : Record → List Fpr → Fpr → Type 0
+IsNearOne told layer fpr = (at : Fpr) × Has layer at × IsNear told at fpr

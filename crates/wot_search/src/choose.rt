@@ -2,25 +2,16 @@ ghost use Rattle.std.specs.Prelude.{◌≡◌, None, Option};
 ghost use Rattle.wot_edge.specs.Record.{Record};
 ghost use Rattle.wot_edge.specs.Path.{asks};
 ghost use Rattle.wot_edge.specs.Sums.{use_in};
-ghost use Rattle.wot_search.specs.Choice.{node_width, is_ahead, ahead_of, taken, chosen};
+ghost use Rattle.wot_search.specs.Choice.{is_ahead, ahead_of, taken, chosen};
 ghost use Rattle.wot_search.specs.Reached.{look};
 
 use crate::ask::Ask;
 use crate::left::left_of_root;
 use crate::node::{Choice, Goal, Node};
-use crate::reached::{Reached, node_at};
+use crate::reached::{Reached, node_at, width_of};
 use std::alloc::Global;
 use std::collections::BTreeMap;
 use wot_types::{Fpr, compare_fprs};
-
-fn width_of(node: Option<Node>) -> u8
-    ensures { result ≡ node_width node }
-{
-    match node {
-        Some(node) => node.width,
-        None => 0,
-    }
-}
 
 fn is_before(goal: Goal, a: &Choice, b: &Choice) -> bool
     ensures { result ≡ is_ahead goal a.now b.now }

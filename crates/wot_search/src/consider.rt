@@ -103,6 +103,9 @@ pub fn consider<R: Roads>(
 {
     match wanted(ask, demand, size, width, &edge.facts(), reached) {
         None => Ok(()),
-        Some(node) => keep(roads, ask, size, edge, node, reached, consulted),
+        Some(node) => {
+            keep(roads, ask, size, edge, node, reached, consulted)?;
+            Ok(())
+        }
     }
 }

@@ -7,6 +7,15 @@ mod collect;
 mod consider;
 mod consulted;
 mod demand;
+mod extend;
+mod first;
+mod grow;
+
 mod left;
+mod next;
 mod node;
 mod reached;
+mod turn;
+
+pub use consulted::{Consulted, ConsultedIter};
+pub use next::next_path;

@@ -1,7 +1,9 @@
 ghost use Rattle.std.specs.Prelude.{◌≡◌, ◌++◌, ◌∷◌, [], is_some, Some, OnOk, if◌then◌else◌, Option, None};
 ghost use Rattle.wot_types.specs.declared.fpr.Fpr.{Fpr as Print};
 ghost use Rattle.wot_edge.specs.Order.{same_fpr};
+ghost use Rattle.wot_search.specs.Choice.{node_width};
 ghost use Rattle.wot_search.specs.Reached.{look};
+ghost use Rattle.wot_search.specs.Growth.{wide_of};
 
 use crate::node::Node;
 use std::alloc::Global;
@@ -22,6 +24,26 @@ pub fn node_at(nodes: &BTreeMap<Fpr, Node>, fpr: &Fpr) -> Option<Node>
     match nodes.get(fpr) {
         Some(node) => Some(*node),
         None => None,
+    }
+}
+
+pub fn width_of(node: Option<Node>) -> u8
+    ensures { result ≡ node_width node }
+{
+    match node {
+        Some(node) => node.width,
+        None => 0,
+    }
+}
+
+/// The width of the suffix of so many edges that was found from here.
+pub fn width_at(reached: &Reached, size: u8, at: &Fpr) -> u8
+    ensures { result ≡ wide_of size (look reached.now.nodes at.now) }
+{
+    if size == 0 {
+        255
+    } else {
+        width_of(node_at(&reached.nodes, at))
     }
 }
 
