@@ -1,18 +1,16 @@
 -- Which of two suffixes from one issuer is kept.
-use Rattle.std.proofs.Common.{◌≡◌, ◌≢◌, ◌⊎◌, inl, inr, ℕ, suc, ◌<◌, ◌≤◌, Bool, true, false, List, [], ◌∷◌, length, Option, Some, None, refl, sym, ap, subst, ◌∙◌, arith}
-use Rattle.std.specs.Prelude.{◌&&◌, nat_lt, nat_eq}
-use Rattle.std.specs.declared.cmp.Ordering.TheVariants.{Less}
+use Rattle.std.proofs.Common.{◌≡◌, inl, inr, ℕ, suc, ◌≤◌, Bool, true, false, List, [], ◌∷◌, length, Option, Some, None, refl, sym, ap, subst, ◌∙◌, arith}
+use Rattle.std.specs.Prelude.{◌&&◌, nat_eq}
 use Rattle.std.proofs.lemmas.Bool.{cases_lt, ltb-true, ltb-false, eqb-true, eq-eqb}
 use Rattle.wot_types.specs.declared.fpr.Fpr.{Fpr}
 use Rattle.wot_edge.specs.declared.path.Step.{Step}
-use Rattle.wot_edge.specs.Order.{steps_cmp}
 use Rattle.wot_edge.specs.Record.{IsRecord}
 use Rattle.wot_edge.specs.Path.{Question, Use, start}
 use Rattle.wot_search.specs.declared.node.Node.{Node}
 use Rattle.wot_search.specs.declared.node.Goal.{Goal}
 use Rattle.wot_search.specs.declared.node.Goal.TheVariants.{Widest, Least}
 use Rattle.wot_search.specs.Suffix.{Serves, Found, Kept, node_of, width}
-use Rattle.wot_search.specs.Layer.{AtMost, IsAsGood, Covered, IsEntry, IsGrowing, is_better, is_kept, link_cmp}
+use Rattle.wot_search.specs.Layer.{AtMost, IsAsGood, Covered, IsGrowing, is_better, is_kept, link_cmp}
 use Rattle.wot_search.proofs.Order.{is_lt-Less, not_lt-Less, less_not}
 use Rattle.wot_search.proofs.Suffixes.{links}
 use Rattle.wot_search.proofs.Keeping.{entry_is}
@@ -60,10 +58,10 @@ module _ (q : Question) (used : Use) (least : ℕ) (good : IsRecord q.told) (fou
           let l : node.size ≡ length (node.step ∷ o.rest) = ap (λ (n : Node). n.size) is in
           let few = o.few in
           elim (cases_lt node.size (suc size)) [
-            inl lt ↦ record { steps = node.step ∷ o.rest; kept = o.kept; some = omega arith; same = o.there; most = inl (omega (arith, lt, l, long)) }
-          | inr le ↦
-              let eq : nat_eq node.size (length (step ∷ rest)) ≡ true = eq-eqb node.size (length (step ∷ rest)) (omega (arith, le, few, long)) in
-              let b : is_better goal (node_of used step rest) node ≡ false = subst (λ (z : Bool). (z && is_better goal (node_of used step rest) node) ≡ false) eq f in
-              let b' : is_better goal (node_of used step rest) (node_of used node.step o.rest) ≡ false = subst (λ (n : Node). is_better goal (node_of used step rest) n ≡ false) is b in
-              record { steps = node.step ∷ o.rest; kept = o.kept; some = omega arith; same = o.there; most = inr (omega (arith, le, few, l, long), other_good goal node.step o.rest o.kept o.there (omega (arith, le, few, l, long)) b') }
+            | inl lt ↦ record { steps = node.step ∷ o.rest; kept = o.kept; some = omega arith; same = o.there; most = inl (omega (arith, lt, l, long)) }
+            | inr le ↦
+                let eq : nat_eq node.size (length (step ∷ rest)) ≡ true = eq-eqb node.size (length (step ∷ rest)) (omega (arith, le, few, long)) in
+                let b : is_better goal (node_of used step rest) node ≡ false = subst (λ (z : Bool). (z && is_better goal (node_of used step rest) node) ≡ false) eq f in
+                let b' : is_better goal (node_of used step rest) (node_of used node.step o.rest) ≡ false = subst (λ (n : Node). is_better goal (node_of used step rest) n ≡ false) is b in
+                record { steps = node.step ∷ o.rest; kept = o.kept; some = omega arith; same = o.there; most = inr (omega (arith, le, few, l, long), other_good goal node.step o.rest o.kept o.there (omega (arith, le, few, l, long)) b') }
           ]

@@ -1,12 +1,9 @@
 -- Suffixes that are at most others.
-use Rattle.std.proofs.Common.{◌≡◌, ◌≢◌, ◌⊎◌, inl, inr, ℕ, ◌<◌, ◌≤◌, min, Bool, true, false, List, [], ◌∷◌, length, Ordering, refl, sym, ap, subst, ◌∙◌, arith}
-use Rattle.std.specs.declared.cmp.Ordering.TheVariants.{Less, Equal, Greater}
+use Rattle.std.proofs.Common.{inl, inr, ◌≤◌, List, ◌∷◌, length, refl, ◌∙◌, arith}
 use Rattle.wot_edge.specs.declared.path.Step.{Step}
-use Rattle.wot_edge.specs.Order.{steps_cmp}
-use Rattle.wot_edge.specs.Path.{Use, step_left, least_left}
+use Rattle.wot_edge.specs.Path.{Use}
 use Rattle.wot_search.specs.declared.node.Goal.{Goal}
 use Rattle.wot_search.specs.declared.node.Goal.TheVariants.{Widest, Least}
-use Rattle.wot_search.specs.Suffix.{width}
 use Rattle.wot_search.specs.Layer.{IsAsGood, AtMost}
 use Rattle.wot_search.proofs.Order.{not_less_itself, not_less-trans, cons_less}
 

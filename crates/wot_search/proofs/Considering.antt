@@ -1,11 +1,10 @@
 -- One edge is considered.
-use Rattle.std.proofs.Common.{◌≡◌, ◌≢◌, ◌⊎◌, inl, inr, ℕ, zero, suc, ◌+◌, ◌<◌, ◌≤◌, min, Bool, true, false, cond, List, [], ◌∷◌, ◌++◌, length, map, Option, Some, None, refl, sym, ap, subst, ◌∙◌, arith, leb-true, le-leb, not}
+use Rattle.std.proofs.Common.{◌≡◌, ◌≢◌, ◌⊎◌, inl, inr, ℕ, suc, ◌+◌, ◌≤◌, min, Bool, true, false, cond, List, [], ◌∷◌, ◌++◌, length, map, Option, Some, None, refl, sym, ap, subst, ◌∙◌, arith, leb-true, le-leb, not}
 use Rattle.std.specs.Prelude.{◌&&◌, ◌||◌, nat_le, nat_eq, is_some}
 use Rattle.std.proofs.lemmas.Bool.{eqb-true, eq-eqb, not-true}
 use Rattle.wot_types.specs.declared.fpr.Fpr.{Fpr}
 use Rattle.wot_edge.specs.declared.edge.EdgeFacts.{EdgeFacts}
 use Rattle.wot_edge.specs.declared.path.Step.{Step}
-use Rattle.wot_edge.specs.Leads.{Grows}
 use Rattle.wot_edge.specs.Order.{same_fpr}
 use Rattle.wot_edge.specs.Record.{Record, Row, Has, IsRecord, rows_into, edges_into, entry_at}
 use Rattle.wot_edge.specs.Path.{Question, Use, Reaches, start, step_of, step_left}
@@ -15,7 +14,7 @@ use Rattle.wot_search.specs.declared.node.Demand.TheVariants.{On, Before}
 use Rattle.wot_search.specs.declared.node.Goal.{Goal}
 use Rattle.wot_search.specs.declared.reached.Reached.{Reached}
 use Rattle.wot_search.specs.Suffix.{Serves, Found, Kept, node_of, width}
-use Rattle.wot_search.specs.Layer.{AtMost, Covered, IsGrowing, Onward, is_kept}
+use Rattle.wot_search.specs.Layer.{AtMost, Covered, IsGrowing, is_kept}
 use Rattle.wot_search.specs.Demand.{is_place, is_met, demand_of, candidate_of}
 use Rattle.wot_search.specs.Reached.{look}
 use Rattle.wot_search.specs.Growth.{if_kept, wanted_of, may_stand_of, IsPut, IsPutIf, IsRest, Advances, IsTaken, IsNoted, AreNoted}
@@ -50,15 +49,16 @@ reaches_met : (q : Question) (row : Row) (rest : List Step) → Reaches q row re
 reaches_met q row [] r = true-place (entry_at q.told q.target).place row.edge.uid r
 reaches_met q row (next ∷ rest) r =
     subst (λ (d : Demand). is_met q.target d row.edge ≡ true) (sym (demand_some q (length rest)))
-      (true-and (nat_le (length (next ∷ rest)) row.edge.depth) (not (same_fpr row.edge.issuer q.target)) (le-leb (length (next ∷ rest)) row.edge.depth r.0) (ap not (apart-false row.edge.issuer q.target r.2)))
+    (true-and (nat_le (length (next ∷ rest)) row.edge.depth) (not (same_fpr row.edge.issuer q.target)) (le-leb (length (next ∷ rest)) row.edge.depth r.0) (ap not (apart-false row.edge.issuer q.target r.2)))
 
 met_reaches : (q : Question) (row : Row) (rest : List Step) → is_met q.target (demand_of q (length rest)) row.edge ≡ true → (nat_eq (length rest) 0 || row.scope) ≡ true → Reaches q row rest
 met_reaches q row [] m s = place-true (entry_at q.told q.target).place row.edge.uid m
 met_reaches q row (next ∷ rest) m s =
-    let a = and-true (nat_le (length (next ∷ rest)) row.edge.depth) (not (same_fpr row.edge.issuer q.target)) (subst (λ (d : Demand). is_met q.target d row.edge ≡ true) (demand_some q (length rest)) m) in
-    (leb-true (length (next ∷ rest)) row.edge.depth a.0,
-     subst (λ (b : Bool). (b || row.scope) ≡ true) (suc-zero (length rest)) s,
-     λ same. let f = not-true (same_fpr row.edge.issuer q.target) a.1 in let g : same_fpr row.edge.issuer q.target ≡ true = subst (λ (x : Fpr). same_fpr row.edge.issuer x ≡ true) same (same_fpr-refl row.edge.issuer) in cc)
+    let a = and-true (nat_le (length (next ∷ rest)) row.edge.depth) (not (same_fpr row.edge.issuer q.target)) (subst (λ (d : Demand). is_met q.target d row.edge ≡ true) (demand_some q (length rest)) m) in (
+      leb-true (length (next ∷ rest)) row.edge.depth a.0,
+      subst (λ (b : Bool). (b || row.scope) ≡ true) (suc-zero (length rest)) s,
+      λ same. let f = not-true (same_fpr row.edge.issuer q.target) a.1 in let g : same_fpr row.edge.issuer q.target ≡ true = subst (λ (x : Fpr). same_fpr row.edge.issuer x ≡ true) same (same_fpr-refl row.edge.issuer) in cc,
+    )
 
 scope_stands : (q : Question) (row : Row) (rest : List Step) → Reaches q row rest → (nat_eq (length rest) 0 || row.scope) ≡ true
 scope_stands q row [] r = refl
@@ -234,12 +234,12 @@ module _ (q : Question) (used : Use) (least : ℕ) (goal : Goal) (size wide : �
 
       pub advances_put : Advances q used least goal size old new
       advances_put = record {
-          growing = put_growing q used least goal size (look old.nodes) (look new.nodes) old.layer.items new.layer.items (step_of edge) rest growing r.kept r.long serves free worse at others
+        growing = put_growing q used least goal size (look old.nodes) (look new.nodes) old.layer.items new.layer.items (step_of edge) rest growing r.kept r.long serves free worse at others
             (λ x k. subst (λ (xs : List Fpr). Has xs x) (sym layer_is) (after_grows (look old.nodes edge.issuer) x k))
             (subst (λ (xs : List Fpr). Has xs edge.issuer) (sym layer_is) (after_has (look old.nodes edge.issuer) refl))
             (λ x k. after_only (look old.nodes edge.issuer) x (subst (λ (xs : List Fpr). Has xs x) layer_is k));
-          onward = put_onward q used least goal size (look old.nodes) (look new.nodes) old.layer.items new.layer.items (step_of edge) rest growing r.kept r.long serves free worse at others;
-        }
+        onward = put_onward q used least goal size (look old.nodes) (look new.nodes) old.layer.items new.layer.items (step_of edge) rest growing r.kept r.long serves free worse at others;
+      }
 
       pub covered_put : Covered q used least goal (look new.nodes) (step_of edge ∷ rest)
       covered_put = put_covered q used least goal size (look old.nodes) (look new.nodes) old.layer.items new.layer.items (step_of edge) rest growing r.kept r.long serves free worse at others
@@ -272,6 +272,7 @@ module _ (q : Question) (used : Use) (least : ℕ) (goal : Goal) (size wide : �
         at : (put : IsPut old new node) (fpr : Fpr) (x : Node) → look new.nodes fpr ≡ Some x → (b : Bool) → same_fpr node.step.issuer fpr ≡ b → Has set fpr
         at put fpr x f true s = subst (Has set) (sym (wanted_issuer (look old.nodes) node w) ∙ same_fpr-true node.step.issuer fpr s) it
         at put fpr x f false s = noted fpr x (sym (put.nodes fpr ∙ ap (λ (b : Bool). cond b (Some node) (look old.nodes fpr)) s) ∙ f)
+
         by : (row : Row) (b : Bool) → IsPutIf b old new node → AreNoted (look new.nodes) set
         by row true p = λ fpr x f. at p fpr x f (same_fpr node.step.issuer fpr) refl
         by row false p = subst (λ (r : Reached). AreNoted (look r.nodes) set) p noted

@@ -1,17 +1,15 @@
 -- The edges into one fingerprint, one after the other.
-use Rattle.std.proofs.Common.{◌≡◌, ◌⊎◌, inl, inr, ℕ, suc, zero, ◌+◌, ◌<◌, ◌≤◌, Bool, true, false, cond, List, [], ◌∷◌, length, map, get_or, drop, Option, Some, None, refl, sym, ap, subst, ◌∙◌, arith}
-use Rattle.std.specs.Prelude.{nat_eq}
+use Rattle.std.proofs.Common.{◌≡◌, inl, inr, ℕ, suc, zero, ◌+◌, ◌<◌, ◌≤◌, Bool, cond, List, [], ◌∷◌, length, get_or, drop, refl, sym, ap, subst, ◌∙◌, arith}
 use Rattle.std.proofs.lemmas.List.{drop_more, drop_all}
 use Rattle.wot_types.specs.declared.fpr.Fpr.{Fpr}
 use Rattle.wot_edge.specs.declared.edge.EdgeFacts.{EdgeFacts}
 use Rattle.wot_edge.specs.declared.path.Step.{Step}
 use Rattle.wot_edge.specs.Leads.{Grows}
-use Rattle.wot_edge.specs.Record.{Record, Row, Has, IsRecord, rows_into, edges_into}
-use Rattle.wot_edge.specs.Path.{Question, Use, Reaches, start, step_of, step_left}
-use Rattle.wot_search.specs.declared.node.Node.{Node}
+use Rattle.wot_edge.specs.Record.{Record, Has, IsRecord, rows_into, edges_into}
+use Rattle.wot_edge.specs.Path.{Question, Use, start, step_of, step_left}
 use Rattle.wot_search.specs.declared.node.Goal.{Goal}
 use Rattle.wot_search.specs.declared.reached.Reached.{Reached}
-use Rattle.wot_search.specs.Suffix.{Serves, Found, Kept, width}
+use Rattle.wot_search.specs.Suffix.{Found, Kept, width}
 use Rattle.wot_search.specs.Choice.{node_width}
 use Rattle.wot_search.specs.Layer.{Covered, IsGrowing, Onward}
 use Rattle.wot_search.specs.Looked.{IsSeen, IsNear}
@@ -40,7 +38,7 @@ pub width_is : (q : Question) (used : Use) (least : ℕ) (found : Found) (size :
 width_is q used least found size at [] k l e = subst (λ (n : ℕ). width used [] ≡ wide_of n (found at)) l refl
 width_is q used least found size at (x ∷ xs) k l e =
     subst (λ (n : ℕ). width used (x ∷ xs) ≡ wide_of n (found at)) l
-      (sym (ap (λ (b : Bool). cond b 255 (node_width (found at))) (suc-zero (length xs)) ∙ ap (λ (f : Fpr). node_width (found f)) (sym e) ∙ ap node_width k.0))
+    (sym (ap (λ (b : Bool). cond b 255 (node_width (found at))) (suc-zero (length xs)) ∙ ap (λ (f : Fpr). node_width (found f)) (sym e) ∙ ap node_width k.0))
 
 -- ---- edges so far
 
@@ -55,7 +53,7 @@ module _ (q : Question) (used : Use) (least : ℕ) (goal : Goal) (size : ℕ) wh
   pub taken_more : (now new : Found) (edges : List EdgeFacts) (i : ℕ) (edge : EdgeFacts) (rest : List Step) → i < length edges → edge ≡ get_or edges i edge → TakenFrom now edges i rest → Onward q used least goal size now new → IsTaken q used least goal new edge rest → TakenFrom new edges (i + 1) rest
   taken_more now new edges i edge rest lt is from on t found on' all =
       from found (onward_trans q used least goal size now new found on on') (subst (λ (xs : List EdgeFacts). TakenAll found xs rest) (sym (drop_more edges i edge lt)) (λ e h. elim h [
-          inl f ↦ subst (λ (z : EdgeFacts). IsTaken q used least goal found z rest) (is ∙ sym f) (λ row h' e' u r le. on'.covers (step_of edge ∷ rest) (t row h' e' u r le))
+        | inl f ↦ subst (λ (z : EdgeFacts). IsTaken q used least goal found z rest) (is ∙ sym f) (λ row h' e' u r le. on'.covers (step_of edge ∷ rest) (t row h' e' u r le))
         | inr k ↦ all e k
       ]))
 
@@ -71,11 +69,11 @@ module _ (q : Question) (used : Use) (least : ℕ) (goal : Goal) (size : ℕ) wh
 
   pub rest_now : (old now : Reached) (at : Fpr) (wide : ℕ) (edge : EdgeFacts) (rest : List Step) → Kept q used least (look old.nodes) rest → length rest ≡ size → start q.target rest ≡ at → wide ≡ wide_of size (look old.nodes at) → edge.target ≡ at → Advances q used least goal size old now → IsRest q used least (look now.nodes) size edge.target wide rest
   rest_now old now at wide edge rest k l there w t a = record {
-      kept = a.onward.keeps rest (omega (arith, l)) k;
-      long = l;
-      there = there ∙ sym t;
-      width = width_is q used least (look old.nodes) size at rest k l there ∙ sym w;
-    }
+    kept = a.onward.keeps rest (omega (arith, l)) k;
+    long = l;
+    there = there ∙ sym t;
+    width = width_is q used least (look old.nodes) size at rest k l there ∙ sym w;
+  }
 
   pub advances_trans : (a b c : Reached) → Advances q used least goal size a b → Advances q used least goal size b c → Advances q used least goal size a c
   advances_trans a b c m n = record { growing = n.growing; onward = onward_trans q used least goal size (look a.nodes) (look b.nodes) (look c.nodes) m.onward n.onward }
@@ -93,7 +91,7 @@ module _ (q : Question) (used : Use) (least : ℕ) where
   pub noted_more : (now new : List Fpr) (edges : List EdgeFacts) (i : ℕ) (edge : EdgeFacts) (rest : List Step) → i < length edges → edge ≡ get_or edges i edge → NotedFrom now edges i rest → Grows now new → IsNoted q used least new edge rest → NotedFrom new edges (i + 1) rest
   noted_more now new edges i edge rest lt is from on t set on' all =
       from set (λ f h. on' f (on f h)) (subst (λ (xs : List EdgeFacts). NotedAll set xs rest) (sym (drop_more edges i edge lt)) (λ e h. elim h [
-          inl f ↦ subst (λ (z : EdgeFacts). IsNoted q used least set z rest) (is ∙ sym f) (λ row h' e' r le. on' edge.issuer (t row h' e' r le))
+        | inl f ↦ subst (λ (z : EdgeFacts). IsNoted q used least set z rest) (is ∙ sym f) (λ row h' e' r le. on' edge.issuer (t row h' e' r le))
         | inr k ↦ all e k
       ]))
 
@@ -102,11 +100,11 @@ module _ (q : Question) (used : Use) (least : ℕ) where
 
   pub noted_all : (set : List Fpr) (edges : List EdgeFacts) (at : Fpr) (rest : List Step) → edges ≡ edges_into q.told at → start q.target rest ≡ at → Has set at → NotedAll set edges rest → IsSeen q used least set rest
   noted_all set edges at rest e there it all = record {
-      it = subst (Has set) (sym there) it;
-      issuers = λ row h r le.
+    it = subst (Has set) (sym there) it;
+    issuers = λ row h r le.
         let h' = subst (λ (f : Fpr). Has (rows_into q.told f) row) there h in
         all row.edge (subst (λ (xs : List EdgeFacts). Has xs row.edge) (sym e) (row_edge q.told at row h')) row h refl r le;
-    }
+  }
 
 -- the issuer of an edge into a fingerprint is near it
 pub near_issuer : (told : Record) (at : Fpr) (edges : List EdgeFacts) (edge : EdgeFacts) → edges ≡ edges_into told at → Has edges edge → IsNear told at edge.issuer

@@ -1,5 +1,5 @@
 -- From the first layer to the first path.
-use Rattle.std.proofs.Common.{◌≡◌, ◌⊎◌, inl, inr, ℕ, suc, ◌+◌, ◌<◌, ◌≤◌, min, List, [], ◌∷◌, length, Option, Some, None, refl, sym, ap, subst, ◌∙◌, arith}
+use Rattle.std.proofs.Common.{◌≡◌, inl, inr, ℕ, suc, ◌<◌, ◌≤◌, min, List, [], ◌∷◌, length, Some, None, refl, sym, ap, subst, ◌∙◌, arith}
 use Rattle.std.specs.BTreeMap.{is_at}
 use Rattle.std.specs.Map.{lookup}
 use Rattle.std.proofs.lemmas.Bool.{cases_lt}
@@ -9,17 +9,16 @@ use Rattle.wot_edge.specs.declared.path.Path.{Path}
 use Rattle.wot_edge.specs.declared.path.Step.{Step}
 use Rattle.wot_edge.specs.Record.{Has, IsRecord}
 use Rattle.wot_edge.specs.Path.{Question, Use, start, root_left, path_amount}
-use Rattle.wot_search.specs.declared.node.Node.{Node}
 use Rattle.wot_search.specs.declared.node.Choice.{Choice}
 use Rattle.wot_search.specs.declared.node.Goal.{Goal}
 use Rattle.wot_search.specs.declared.reached.Reached.{Reached}
-use Rattle.wot_search.specs.Suffix.{Suffix, Found, Kept, node_of, width}
-use Rattle.wot_search.specs.Choice.{node_width, choice_at, chosen}
-use Rattle.wot_search.specs.Layer.{Begins, Covered, IsEntry, IsComplete, IsLayer}
+use Rattle.wot_search.specs.Suffix.{Found, Kept, node_of, width}
+use Rattle.wot_search.specs.Choice.{node_width, chosen}
+use Rattle.wot_search.specs.Layer.{Begins, IsComplete, IsLayer}
 use Rattle.wot_search.specs.Looked.{IsLooked}
 use Rattle.wot_search.specs.Reached.{look}
-use Rattle.wot_search.specs.Rooted.{Rooted, IsFirst}
-use Rattle.wot_search.specs.Growth.{AreNoted, IsAfter, IsUnrooted, IsFirstPath, IsTurn, IsResult, IsLookedBy}
+use Rattle.wot_search.specs.Rooted.{IsFirst}
+use Rattle.wot_search.specs.Growth.{IsAfter, IsUnrooted, IsFirstPath, IsResult}
 use Rattle.wot_search.proofs.Comparing.{AtMost-le}
 use Rattle.wot_search.proofs.Layers.{complete_all, looked_all}
 use Rattle.wot_search.proofs.Picking.{IsPicked, picked, picked_first, picked_none}
@@ -36,18 +35,19 @@ none_kept q used least found n (x ∷ xs) k = absurd (let e : None ≡ Some (nod
 
 pub after_begin : (q : Question) (used : Use) (least : ℕ) (goal : Goal) (reached : Reached) (set : List Fpr) → reached.nodes.entries ≡ [] → reached.layer.items ≡ q.target ∷ [] → IsAfter q used least goal 0 reached set
 after_begin q used least goal reached set e f = record {
-    entries = λ fpr node g. absurd (let h : None ≡ Some node = sym (nothing reached e fpr) ∙ g in cc);
-    complete = λ other some few s. absurd (omega (arith, some, few));
-    layer = record { each = each; all = all };
-    noted = λ fpr node g. absurd (let h : None ≡ Some node = sym (nothing reached e fpr) ∙ g in cc);
-    looked = λ rest lt s. absurd (omega (arith, lt));
-  }
+  entries = λ fpr node g. absurd (let h : None ≡ Some node = sym (nothing reached e fpr) ∙ g in cc);
+  complete = λ other some few s. absurd (omega (arith, some, few));
+  layer = record { each = each; all = all };
+  noted = λ fpr node g. absurd (let h : None ≡ Some node = sym (nothing reached e fpr) ∙ g in cc);
+  looked = λ rest lt s. absurd (omega (arith, lt));
+}
   where
     each : (fpr : Fpr) → Has reached.layer.items fpr → Begins q used least (look reached.nodes) 0 fpr
     each fpr h = elim (subst (λ (xs : List Fpr). Has xs fpr) f h) [
-        inl g ↦ record { steps = []; kept = tt; long = refl; there = sym g }
+      | inl g ↦ record { steps = []; kept = tt; long = refl; there = sym g }
       | inr n ↦ absurd n
     ]
+
     all : (steps : List Step) → Kept q used least (look reached.nodes) steps → length steps ≡ 0 → Has reached.layer.items (start q.target steps)
     all [] k l = subst (λ (xs : List Fpr). Has xs q.target) (sym f) (inl refl)
     all (x ∷ xs) k l = absurd (omega (arith, l))
@@ -95,7 +95,7 @@ module _ (q : Question) (used : Use) (least : ℕ) (goal : Goal) (size : ℕ) (r
 
   kept_fewer : reached.layer.items ≡ [] → (steps : List Step) → Kept q used least (look reached.nodes) steps → 1 ≤ length steps → length steps < suc size
   kept_fewer e steps k some = elim (cases_lt (length steps) (suc size)) [
-      inl lt ↦ lt
+    | inl lt ↦ lt
     | inr le ↦
         let few = kept_few steps k some in
         absurd (subst (λ (xs : List Fpr). Has xs (start q.target steps)) e (after.layer.all steps k (omega (arith, le, few))))

@@ -1,5 +1,5 @@
 -- One more suffix is kept.
-use Rattle.std.proofs.Common.{◌≡◌, ◌≢◌, ◌⊎◌, inl, inr, ℕ, suc, ◌<◌, ◌≤◌, List, [], ◌∷◌, length, Option, Some, None, refl, sym, ap, subst, ◌∙◌, arith}
+use Rattle.std.proofs.Common.{◌≡◌, ◌≢◌, ◌⊎◌, inl, inr, ℕ, suc, ◌<◌, ◌≤◌, List, [], ◌∷◌, length, Some, refl, sym, ap, subst, ◌∙◌, arith}
 use Rattle.wot_types.specs.declared.fpr.Fpr.{Fpr}
 use Rattle.wot_edge.specs.declared.path.Step.{Step}
 use Rattle.wot_edge.specs.Record.{Has}
@@ -7,7 +7,7 @@ use Rattle.wot_edge.specs.Path.{Question, Use, start}
 use Rattle.wot_search.specs.declared.node.Node.{Node}
 use Rattle.wot_search.specs.declared.node.Goal.{Goal}
 use Rattle.wot_search.specs.Suffix.{Serves, Found, Kept, node_of}
-use Rattle.wot_search.specs.Layer.{AtMost, Covered, Begins, IsEntry, IsLayer, IsGrowing, Onward}
+use Rattle.wot_search.specs.Layer.{AtMost, Covered, Begins, IsEntry, IsGrowing, Onward}
 use Rattle.wot_search.proofs.Order.{fpr_cases}
 use Rattle.wot_search.proofs.Comparing.{AtMost-refl, AtMost-trans}
 
@@ -60,23 +60,23 @@ module _ (q : Question) (used : Use) (least : ℕ) (goal : Goal) (size : ℕ) (o
       by : (steps : List Step) → Kept q used least old steps → 1 ≤ length steps → start q.target steps ≡ start q.target other → AtMost used goal steps other → Covered q used least goal new other
       by [] k some e m = absurd (omega arith)
       by (x ∷ xs) k some e m = elim (fpr_cases x.issuer step.issuer) [
-          inl f ↦ record { steps = step ∷ rest; kept = mine; some = omega arith; same = sym f ∙ e; most = AtMost-trans used goal (step ∷ rest) (x ∷ xs) other (worse (x ∷ xs) some k f) m }
+        | inl f ↦ record { steps = step ∷ rest; kept = mine; some = omega arith; same = sym f ∙ e; most = AtMost-trans used goal (step ∷ rest) (x ∷ xs) other (worse (x ∷ xs) some k f) m }
         | inr n ↦ record { steps = x ∷ xs; kept = carried_apart q used least step.issuer size old new same old_size x xs (few x xs k) n k; some = some; same = e; most = m }
       ]
 
   pub put_onward : Onward q used least goal size old new
   put_onward = record {
-      keeps = λ steps le k. carried q used least step.issuer size old new same old_size steps le k;
-      kept = λ steps le k. carried q used least step.issuer size new old back new_size steps le k;
-      covers = covers;
-    }
+    keeps = λ steps le k. carried q used least step.issuer size old new same old_size steps le k;
+    kept = λ steps le k. carried q used least step.issuer size new old back new_size steps le k;
+    covers = covers;
+  }
 
   pub put_covered : Covered q used least goal new (step ∷ rest)
   put_covered = record { steps = step ∷ rest; kept = mine; some = omega arith; same = refl; most = AtMost-refl used goal (step ∷ rest) }
 
   entries : (fpr : Fpr) (node : Node) → new fpr ≡ Some node → IsEntry q used least new (suc size) fpr node
   entries fpr node e = elim (fpr_cases fpr step.issuer) [
-      inl f ↦
+    | inl f ↦
         let is : node_of used step rest ≡ node = (let g : Some (node_of used step rest) ≡ Some node = sym at ∙ ap new (sym f) ∙ e in cc) in
         subst (λ (n : Node). IsEntry q used least new (suc size) fpr n) is (record { rest = rest; kept = mine; few = omega (arith, long'); there = sym f })
     | inr n ↦
@@ -90,13 +90,14 @@ module _ (q : Question) (used : Use) (least : ℕ) (goal : Goal) (size : ℕ) (o
 
   pub put_growing : ((fpr : Fpr) → Has next fpr → Has next' fpr) → Has next' step.issuer → ((fpr : Fpr) → Has next' fpr → Has next fpr ⊎ (fpr ≡ step.issuer)) → IsGrowing q used least goal size new next'
   put_growing grows has gains = record {
-      entries = entries;
-      complete = λ other some le s. covers other (growing.complete other some le s);
-      layer = record { each = λ fpr h. each fpr (gains fpr h); all = all };
-    }
+    entries = entries;
+    complete = λ other some le s. covers other (growing.complete other some le s);
+    layer = record { each = λ fpr h. each fpr (gains fpr h); all = all };
+  }
     where
       me : (fpr : Fpr) → step.issuer ≡ fpr → Begins q used least new (suc size) fpr
       me fpr e = record { steps = step ∷ rest; kept = mine; long = long'; there = e }
+
       each : (fpr : Fpr) → Has next fpr ⊎ (fpr ≡ step.issuer) → Begins q used least new (suc size) fpr
       each fpr (inr e) = me fpr (sym e)
       each fpr (inl h) = (let b = growing.layer.each fpr h in by b.steps b.kept b.long b.there)
@@ -104,12 +105,13 @@ module _ (q : Question) (used : Use) (least : ℕ) (goal : Goal) (size : ℕ) (o
           by : (steps : List Step) → Kept q used least old steps → length steps ≡ suc size → start q.target steps ≡ fpr → Begins q used least new (suc size) fpr
           by [] k l e = absurd (omega (arith, l))
           by (x ∷ xs) k l e = elim (fpr_cases x.issuer step.issuer) [
-              inl f ↦ me fpr (sym f ∙ e)
+            | inl f ↦ me fpr (sym f ∙ e)
             | inr n ↦ record { steps = x ∷ xs; kept = carried_apart q used least step.issuer size old new same old_size x xs (omega (arith, l)) n k; long = l; there = e }
           ]
+
       all : (steps : List Step) → Kept q used least new steps → length steps ≡ suc size → Has next' (start q.target steps)
       all [] k l = absurd (omega (arith, l))
       all (x ∷ xs) k l = elim (fpr_cases x.issuer step.issuer) [
-          inl f ↦ subst (λ (z : Fpr). Has next' z) (sym f) has
+        | inl f ↦ subst (λ (z : Fpr). Has next' z) (sym f) has
         | inr n ↦ grows x.issuer (growing.layer.all (x ∷ xs) (carried_apart q used least step.issuer size new old back new_size x xs (omega (arith, l)) n k) l)
       ]

@@ -1,17 +1,15 @@
 -- Questions that agree on what was looked at have the same next path.
-use Rattle.std.proofs.Common.{◌≡◌, ◌≢◌, ◌⊎◌, inl, inr, ℕ, ◌+◌, ◌<◌, ◌≤◌, ◌-◌, Bool, true, false, List, [], ◌∷◌, length, map, Option, Some, None, refl, sym, ap, subst, ◌∙◌, arith}
-use Rattle.std.proofs.lemmas.Bool.{cases_lt}
+use Rattle.std.proofs.Common.{◌≡◌, inl, inr, ℕ, ◌<◌, ◌≤◌, ◌-◌, Bool, false, List, [], ◌∷◌, length, map, Some, refl, sym, ap, subst, ◌∙◌, arith}
 use Rattle.wot_types.specs.declared.fpr.Fpr.{Fpr}
 use Rattle.wot_edge.specs.declared.edge.EdgeFacts.{EdgeFacts}
 use Rattle.wot_edge.specs.declared.path.Path.{Path}
 use Rattle.wot_edge.specs.declared.path.Step.{Step}
 use Rattle.wot_edge.specs.Agree.{Agree, scoped_edge}
-use Rattle.wot_edge.specs.Answer.{IsNextOrSpent}
 use Rattle.wot_edge.specs.Record.{Row, Has, rows_into, entry_at}
 use Rattle.wot_edge.specs.Roots.{root_amount}
-use Rattle.wot_edge.specs.Path.{Question, Use, Chain, Stands, Reaches, start, step_of, step_left, root_left, least_left, path_amount, IsOpen, IsNext, IsNextPath, IsSpent, Precedes}
-use Rattle.wot_search.specs.Suffix.{Serves, Suffix}
-use Rattle.wot_search.specs.Looked.{IsSeen, IsLooked}
+use Rattle.wot_edge.specs.Path.{Question, Use, Reaches, start, step_of, step_left, root_left, least_left, path_amount, IsOpen, IsNext, IsNextPath, IsSpent, Precedes}
+use Rattle.wot_search.specs.Suffix.{Suffix}
+use Rattle.wot_search.specs.Looked.{IsLooked}
 use Rattle.wot_search.proofs.Rooted.{valid_suffix, suffix_valid}
 
 -- the row of that edge and scope
@@ -49,17 +47,19 @@ module _ (q other : Question) (used : Use) (n : ℕ) (set : List Fpr) (a : Agree
       let s = t.0.stands in
       let y = twin (rows_into other.told (start q.target rest)) (rows_into q.told (start q.target rest)) s.row (sym (a.rows (start q.target rest) seen.it)) s.into in
       let left : 1 ≤ step_left used (step_of s.row.edge) = subst (λ (z : Step). 1 ≤ step_left used z) (sym s.shown) t.0.left in
-      let u = a.usable (start q.target rest) seen.it s.row y.0 s.into y.1 (sym y.2) (seen.issuers s.row s.into s.reaches left) in
-      (record {
-        stands = record {
-          row = y.0;
-          into = subst (λ (f : Fpr). Has (rows_into other.told f) y.0) (start_same rest) y.1;
-          usable = sym u ∙ s.usable;
-          shown = ap step_of y.2 ∙ s.shown;
-          reaches = reaches_there s.row y.0 rest (omega (arith, le)) (sym y.2) (sym y.3) s.reaches;
-        };
-        left = t.0.left;
-      }, there rest (omega (arith, le)) t.1)
+      let u = a.usable (start q.target rest) seen.it s.row y.0 s.into y.1 (sym y.2) (seen.issuers s.row s.into s.reaches left) in (
+        record {
+          stands = record {
+            row = y.0;
+            into = subst (λ (f : Fpr). Has (rows_into other.told f) y.0) (start_same rest) y.1;
+            usable = sym u ∙ s.usable;
+            shown = ap step_of y.2 ∙ s.shown;
+            reaches = reaches_there s.row y.0 rest (omega (arith, le)) (sym y.2) (sym y.3) s.reaches;
+          };
+          left = t.0.left;
+        },
+        there rest (omega (arith, le)) t.1,
+      )
 
   here : (steps : List Step) → length steps ≤ n → Suffix other used 1 steps → Suffix q used 1 steps
   here [] le t = tt
@@ -72,11 +72,13 @@ module _ (q other : Question) (used : Use) (n : ℕ) (set : List Fpr) (a : Agree
       let shown : step_of x.0.edge ≡ step = ap step_of x.2 ∙ s.shown in
       let left : 1 ≤ step_left used (step_of x.0.edge) = subst (λ (z : Step). 1 ≤ step_left used z) (sym shown) t.0.left in
       let reaches = reaches_here x.0 s.row rest (omega (arith, le)) x.2 x.3 s.reaches in
-      let u = a.usable (start q.target rest) seen.it x.0 s.row x.1 into' x.2 (seen.issuers x.0 x.1 reaches left) in
-      (record {
-        stands = record { row = x.0; into = x.1; usable = u ∙ s.usable; shown = shown; reaches = reaches };
-        left = t.0.left;
-      }, before)
+      let u = a.usable (start q.target rest) seen.it x.0 s.row x.1 into' x.2 (seen.issuers x.0 x.1 reaches left) in (
+        record {
+          stands = record { row = x.0; into = x.1; usable = u ∙ s.usable; shown = shown; reaches = reaches };
+          left = t.0.left;
+        },
+        before,
+      )
 
   -- where a suffix begins the roots have the same amounts
   root_same : (steps : List Step) → 1 ≤ length steps → length steps ≤ n → Suffix q used 1 steps → root_amount q.roots (start q.target steps) ≡ root_amount other.roots (start other.target steps)
@@ -97,22 +99,32 @@ module _ (q other : Question) (used : Use) (n : ℕ) (set : List Fpr) (a : Agree
   open_there : (steps : List Step) → length steps ≤ n → IsOpen q used steps → IsOpen other used steps
   open_there steps le o =
       let t = valid_suffix q used steps o in
-      let v = o.0 in
-      (record {
-        some = v.some; few = v.few; chain = suffix_valid other used steps (there steps le t); distinct = v.distinct;
-        root = subst (λ (m : ℕ). 0 < m) (root_same steps v.some le t) v.root;
-        in_order = sym (a.in_order q.target (target_in (let s = v.some in omega (arith, s, le))) ∙ ap (λ (f : Fpr). (entry_at other.told f).in_order) a.target) ∙ v.in_order;
-      }, subst (λ (m : ℕ). 0 < m) (amount_same steps v.some le t) o.1)
+      let v = o.0 in (
+        record {
+          some = v.some;
+          few = v.few;
+          chain = suffix_valid other used steps (there steps le t);
+          distinct = v.distinct;
+          root = subst (λ (m : ℕ). 0 < m) (root_same steps v.some le t) v.root;
+          in_order = sym (a.in_order q.target (target_in (let s = v.some in omega (arith, s, le))) ∙ ap (λ (f : Fpr). (entry_at other.told f).in_order) a.target) ∙ v.in_order;
+        },
+        subst (λ (m : ℕ). 0 < m) (amount_same steps v.some le t) o.1,
+      )
 
   open_here : (steps : List Step) → length steps ≤ n → IsOpen other used steps → IsOpen q used steps
   open_here steps le o =
       let t = here steps le (valid_suffix other used steps o) in
-      let v = o.0 in
-      (record {
-        some = v.some; few = v.few; chain = suffix_valid q used steps t; distinct = v.distinct;
-        root = subst (λ (m : ℕ). 0 < m) (sym (root_same steps v.some le t)) v.root;
-        in_order = a.in_order q.target (target_in (let s = v.some in omega (arith, s, le))) ∙ ap (λ (f : Fpr). (entry_at other.told f).in_order) a.target ∙ v.in_order;
-      }, subst (λ (m : ℕ). 0 < m) (sym (amount_same steps v.some le t)) o.1)
+      let v = o.0 in (
+        record {
+          some = v.some;
+          few = v.few;
+          chain = suffix_valid q used steps t;
+          distinct = v.distinct;
+          root = subst (λ (m : ℕ). 0 < m) (sym (root_same steps v.some le t)) v.root;
+          in_order = a.in_order q.target (target_in (let s = v.some in omega (arith, s, le))) ∙ ap (λ (f : Fpr). (entry_at other.told f).in_order) a.target ∙ v.in_order;
+        },
+        subst (λ (m : ℕ). 0 < m) (sym (amount_same steps v.some le t)) o.1,
+      )
 
   open_amount : (steps : List Step) → length steps ≤ n → IsOpen q used steps → path_amount q used steps ≡ path_amount other used steps
   open_amount steps le o = amount_same steps o.0.some le (valid_suffix q used steps o)
@@ -135,10 +147,10 @@ module _ (q other : Question) (used : Use) (n : ℕ) (set : List Fpr) (a : Agree
 
   pub next_path_there : (path : Path) → length path.steps ≤ n → IsNextPath q used path → IsNextPath other used path
   next_path_there path le x = record {
-      steps = next_there path.steps le x.steps;
-      root = x.root ∙ start_there path.steps x.steps.0.0.some;
-      amount = x.amount ∙ open_amount path.steps le x.steps.0;
-    }
+    steps = next_there path.steps le x.steps;
+    root = x.root ∙ start_there path.steps x.steps.0.0.some;
+    amount = x.amount ∙ open_amount path.steps le x.steps.0;
+  }
 
 pub spent_there : (q other : Question) (used : Use) (set : List Fpr) → Agree q other set → IsLooked q used 1 255 set → IsSpent q used → IsSpent other used
 spent_there q other used set a k s steps o = s steps (open_here q other used 255 set a k steps o.0.few o)

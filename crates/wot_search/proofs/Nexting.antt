@@ -1,24 +1,21 @@
 -- The next path, of two searches.
-use Rattle.std.proofs.Common.{◌≡◌, ◌⊎◌, inl, inr, ℕ, ◌+◌, ◌<◌, ◌≤◌, Bool, true, false, cond, List, [], ◌∷◌, length, Option, Some, None, refl, sym, ap, subst, ◌∙◌, arith}
+use Rattle.std.proofs.Common.{◌≡◌, ℕ, ◌≤◌, Bool, true, false, cond, List, [], ◌∷◌, length, Option, Some, None, sym, subst, arith}
 use Rattle.std.specs.Option.{unwrap_or}
 use Rattle.std.specs.BTreeMap.{is_at}
 use Rattle.std.specs.Map.{lookup}
 use Rattle.wot_types.specs.declared.fpr.Fpr.{Fpr}
 use Rattle.wot_types.specs.Fpr.{fpr_cmp}
 use Rattle.wot_edge.specs.declared.path.Path.{Path}
-use Rattle.wot_edge.specs.declared.path.Step.{Step}
 use Rattle.wot_edge.specs.Agree.{Agree}
 use Rattle.wot_edge.specs.Answer.{IsNextOrSpent}
-use Rattle.wot_edge.specs.Leads.{Grows}
 use Rattle.wot_edge.specs.Record.{Has, entry_at}
 use Rattle.wot_edge.specs.Roots.{root_amount, AreAmounts}
 use Rattle.wot_edge.specs.Path.{Question, Use, path_amount}
 use Rattle.wot_search.specs.declared.node.Goal.TheVariants.{Widest, Least}
 use Rattle.wot_search.specs.Looked.{IsLooked}
-use Rattle.wot_search.specs.Growth.{IsFirstPath, IsResult, IsLookedBy}
+use Rattle.wot_search.specs.Growth.{IsResult}
 use Rattle.wot_search.specs.Rooted.{Rooted, IsFirst}
 use Rattle.wot_search.proofs.Finding.{looked_fewer}
-use Rattle.wot_search.proofs.Layers.{looked_grows}
 use Rattle.wot_search.proofs.Local.{next_path_there, spent_there, disordered_there}
 use Rattle.wot_search.proofs.Rooted.{rooted_wide, first_next, first_le, none_spent, disordered_spent}
 

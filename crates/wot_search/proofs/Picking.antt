@@ -1,6 +1,6 @@
 -- The root of a layer that is taken.
-use Rattle.std.proofs.Common.{◌≡◌, ◌≢◌, ◌⊎◌, inl, inr, ℕ, suc, ◌<◌, ◌≤◌, min, Bool, true, false, cond, List, [], ◌∷◌, length, Ordering, Option, Some, None, refl, sym, ap, subst, ◌∙◌, arith, leb-true}
-use Rattle.std.specs.Prelude.{nat_le, nat_lt}
+use Rattle.std.proofs.Common.{◌≡◌, ◌⊎◌, inl, inr, ℕ, suc, ◌<◌, ◌≤◌, Bool, true, false, cond, List, [], ◌∷◌, length, Ordering, Option, Some, None, refl, sym, ap, subst, ◌∙◌, arith, leb-true}
+use Rattle.std.specs.Prelude.{nat_le}
 use Rattle.std.specs.declared.cmp.Ordering.TheVariants.{Less, Equal, Greater}
 use Rattle.std.specs.Ordering.{nat_cmp, is_lt, is_gt, ordering_reverse, ordering_then}
 use Rattle.std.proofs.lemmas.Bool.{cases_lt, ltb-true, ltb-false, leb-false}
@@ -8,15 +8,14 @@ use Rattle.std.proofs.lemmas.Cmp.{upto, tied_itself}
 use Rattle.wot_types.specs.declared.fpr.Fpr.{Fpr}
 use Rattle.wot_types.specs.Fpr.{fpr_cmp}
 use Rattle.wot_edge.specs.declared.path.Step.{Step}
-use Rattle.wot_edge.specs.Order.{step_cmp, steps_cmp}
+use Rattle.wot_edge.specs.Order.{steps_cmp}
 use Rattle.wot_edge.specs.Record.{Has, IsRecord}
-use Rattle.wot_edge.specs.Path.{Question, Use, start, root_left, path_amount}
-use Rattle.wot_search.specs.declared.node.Node.{Node}
+use Rattle.wot_edge.specs.Path.{Question, Use, start, root_left}
 use Rattle.wot_search.specs.declared.node.Choice.{Choice}
 use Rattle.wot_search.specs.declared.node.Goal.{Goal}
 use Rattle.wot_search.specs.declared.node.Goal.TheVariants.{Widest, Least}
-use Rattle.wot_search.specs.Suffix.{Suffix, Found, Kept, node_of, width}
-use Rattle.wot_search.specs.Layer.{AtMost, IsAsGood, Covered, IsComplete, IsLayer}
+use Rattle.wot_search.specs.Suffix.{Found, Kept, width}
+use Rattle.wot_search.specs.Layer.{AtMost, IsAsGood, IsComplete, IsLayer}
 use Rattle.wot_search.specs.Choice.{node_width, choice_at, is_ahead, ahead_of, taken, chosen}
 use Rattle.wot_search.specs.Growth.{IsUnrooted}
 use Rattle.wot_search.specs.Rooted.{Rooted, IsGood, IsFirst}
@@ -76,21 +75,36 @@ module _ (q : Question) (used : Use) (least : ℕ) (goal : Goal) (found : Found)
   Or done at fpr = done fpr ⊎ (fpr ≡ at)
 
   ahead_is : (done : Fpr → Type 0) (at : Fpr) (o : Option Choice) → least ≤ root_left q used at → IsChosen done o → IsChosen (Or done at) (Some (ahead_of goal (choice_at q used found at) o))
-  ahead_is done at None le c = (refl, inr refl, le, λ fpr d le'. elim d [
-      inl h ↦ absurd (c fpr h le')
-    | inr e ↦ subst (λ (x : Fpr). IsBehind goal (choice_at q used found at) (choice_at q used found x)) (sym e) (behind-refl goal (choice_at q used found at))
-  ])
+  ahead_is done at None le c = (
+    refl,
+    inr refl,
+    le,
+    λ fpr d le'. elim d [
+      | inl h ↦ absurd (c fpr h le')
+      | inr e ↦ subst (λ (x : Fpr). IsBehind goal (choice_at q used found at) (choice_at q used found x)) (sym e) (behind-refl goal (choice_at q used found at))
+    ],
+  )
   ahead_is done at (Some o) le c = by (is_ahead goal (choice_at q used found at) o) refl
     where
       by : (b : Bool) → is_ahead goal (choice_at q used found at) o ≡ b → IsChosen (Or done at) (Some (cond b (choice_at q used found at) o))
-      by true e = (refl, inr refl, le, λ fpr d le'. elim d [
-          inl h ↦ behind-trans goal (choice_at q used found at) o (choice_at q used found fpr) (ahead-behind goal (choice_at q used found at) o e) (c.3 fpr h le')
-        | inr f ↦ subst (λ (x : Fpr). IsBehind goal (choice_at q used found at) (choice_at q used found x)) (sym f) (behind-refl goal (choice_at q used found at))
-      ])
-      by false e = (c.0, inl c.1, c.2, λ fpr d le'. elim d [
-          inl h ↦ c.3 fpr h le'
-        | inr f ↦ subst (λ (x : Fpr). IsBehind goal o (choice_at q used found x)) (sym f) (unahead-behind goal (choice_at q used found at) o e)
-      ])
+      by true e = (
+        refl,
+        inr refl,
+        le,
+        λ fpr d le'. elim d [
+          | inl h ↦ behind-trans goal (choice_at q used found at) o (choice_at q used found fpr) (ahead-behind goal (choice_at q used found at) o e) (c.3 fpr h le')
+          | inr f ↦ subst (λ (x : Fpr). IsBehind goal (choice_at q used found at) (choice_at q used found x)) (sym f) (behind-refl goal (choice_at q used found at))
+        ],
+      )
+      by false e = (
+        c.0,
+        inl c.1,
+        c.2,
+        λ fpr d le'. elim d [
+          | inl h ↦ c.3 fpr h le'
+          | inr f ↦ subst (λ (x : Fpr). IsBehind goal o (choice_at q used found x)) (sym f) (unahead-behind goal (choice_at q used found at) o e)
+        ],
+      )
 
   taken_is : (done : Fpr → Type 0) (at : Fpr) (o : Option Choice) → IsChosen done o → IsChosen (Or done at) (taken q used least goal found o at)
   taken_is done at o c = by (nat_le least (root_left q used at)) refl
@@ -98,7 +112,7 @@ module _ (q : Question) (used : Use) (least : ℕ) (goal : Goal) (found : Found)
       by : (b : Bool) → nat_le least (root_left q used at) ≡ b → IsChosen (Or done at) (cond b (Some (ahead_of goal (choice_at q used found at) o)) o)
       by true e = ahead_is done at o (leb-true least (root_left q used at) e) c
       by false e = chosen-more done (Or done at) o (λ fpr d. inl d) (λ fpr d le. elim d [
-          inl h ↦ h
+        | inl h ↦ h
         | inr f ↦ absurd (let lt = leb-false least (root_left q used at) e in let le' : least ≤ root_left q used at = subst (λ (x : Fpr). least ≤ root_left q used x) f le in omega (arith, lt, le'))
       ]) c
 
@@ -106,9 +120,9 @@ module _ (q : Question) (used : Use) (least : ℕ) (goal : Goal) (found : Found)
   chosen_from [] done o c = chosen-more done (λ fpr. done fpr ⊎ ⊥) o (λ fpr d. inl d) (λ fpr d le. elim d [ inl h ↦ h | inr h ↦ absurd h ]) c
   chosen_from (at ∷ layer) done o c =
       chosen-more (λ fpr. Or done at fpr ⊎ Has layer fpr) (λ fpr. done fpr ⊎ Has (at ∷ layer) fpr) (chosen q used least goal found (taken q used least goal found o at) layer)
-        (λ fpr d. elim d [ inl h ↦ elim h [ inl a ↦ inl a | inr e ↦ inr (inl e) ] | inr h ↦ inr (inr h) ])
-        (λ fpr d le. elim d [ inl a ↦ inl (inl a) | inr h ↦ elim h [ inl e ↦ inl (inr e) | inr k ↦ inr k ] ])
-        (chosen_from layer (Or done at) (taken q used least goal found o at) (taken_is done at o c))
+      (λ fpr d. elim d [ inl h ↦ elim h [ inl a ↦ inl a | inr e ↦ inr (inl e) ] | inr h ↦ inr (inr h) ])
+      (λ fpr d le. elim d [ inl a ↦ inl (inl a) | inr h ↦ elim h [ inl e ↦ inl (inr e) | inr k ↦ inr k ] ])
+      (chosen_from layer (Or done at) (taken q used least goal found o at) (taken_is done at o c))
 
   abbrev pub IsPicked : List Fpr → Option Choice → Type 0
   IsPicked layer o = IsChosen (λ fpr. ⊥ ⊎ Has layer fpr) o
@@ -153,33 +167,34 @@ module _ (q : Question) (used : Use) (least : ℕ) (goal : Goal) (good : IsRecor
       → (choice : Choice) → IsPicked q used least goal found layer (Some choice) → (steps : List Step) → Kept q used least found steps → length steps ≡ size → start q.target steps ≡ choice.fpr → IsFirst q used goal least steps
   picked_first is complete unrooted pos most choice c [] k l e = absurd (omega (arith, l, pos))
   picked_first is complete unrooted pos most choice c (x ∷ xs) k l e = record {
-      rooted = record { some = omega arith; few = omega (arith, l, most); suffix = kept_suffix q used least found (x ∷ xs) k; root = subst (λ (f : Fpr). least ≤ root_left q used f) (sym e) c.2 };
-      first = first;
-    }
+    rooted = record { some = omega arith; few = omega (arith, l, most); suffix = kept_suffix q used least found (x ∷ xs) k; root = subst (λ (f : Fpr). least ≤ root_left q used f) (sym e) c.2 };
+    first = first;
+  }
     where
       best : (steps : List Step) → Kept q used least found steps → length steps ≡ size → least ≤ root_left q used (start q.target steps) → IsGood q used goal (x ∷ xs) steps
       best [] j m le = absurd (omega (arith, m, pos))
       best (y ∷ ys) j m le =
           let b = c.3 y.issuer (inr (is.all (y ∷ ys) j m)) le in
           behind_good goal x xs y ys k j (l ∙ sym m) (subst (λ (z : Choice). IsBehind goal z (choice_at q used found y.issuer)) (c.0 ∙ ap (choice_at q used found) (sym e)) b)
+
       first : (other : List Step) → Rooted q used least other → (length (x ∷ xs) < length other) ⊎ ((length (x ∷ xs) ≡ length other) × IsGood q used goal (x ∷ xs) other)
       first other r = elim (cases_lt size (length other)) [
-          inl lt ↦ inl (omega (arith, lt, l))
+        | inl lt ↦ inl (omega (arith, lt, l))
         | inr le ↦
             let d = complete other r.some le r.suffix in
             let m = AtMost-le used goal d.steps other d.most in
             let root : least ≤ root_left q used (start q.target d.steps) = subst (λ (f : Fpr). least ≤ root_left q used f) (sym d.same) r.root in
             elim (cases_lt (length d.steps) size) [
-              inl lt ↦ absurd (unrooted d.steps d.kept d.some (omega (arith, lt)) root)
-            | inr ge ↦
-                let long : length d.steps ≡ size = omega (arith, ge, m, le) in
-                inr (omega (arith, long, m, le, l), good-trans q used goal (x ∷ xs) d.steps other (best d.steps d.kept long root) (as_good_good q used goal d.steps other (small (start q.target d.steps)) d.same (as_good used goal d.steps other d.most (omega (arith, long, m, le)))))
+              | inl lt ↦ absurd (unrooted d.steps d.kept d.some (omega (arith, lt)) root)
+              | inr ge ↦
+                  let long : length d.steps ≡ size = omega (arith, ge, m, le) in
+                  inr (omega (arith, long, m, le, l), good-trans q used goal (x ∷ xs) d.steps other (best d.steps d.kept long root) (as_good_good q used goal d.steps other (small (start q.target d.steps)) d.same (as_good used goal d.steps other d.most (omega (arith, long, m, le)))))
             ]
       ]
 
   -- Where no root was chosen, none is there either.
   pub picked_none : IsLayer q used least found size layer → IsUnrooted q used least found size → IsPicked q used least goal found layer None → IsUnrooted q used least found (suc size)
   picked_none is unrooted c = λ steps k some lt le. elim (cases_lt (length steps) size) [
-      inl less ↦ unrooted steps k some (omega (arith, less)) le
+    | inl less ↦ unrooted steps k some (omega (arith, less)) le
     | inr ge ↦ c (start q.target steps) (inr (is.all steps k (omega (arith, ge, lt)))) le
   ]

@@ -1,15 +1,13 @@
 -- Suffixes that begin at a root, and the next path.
-use Rattle.std.proofs.Common.{◌≡◌, ◌≢◌, ◌⊎◌, inl, inr, ℕ, ◌+◌, ◌<◌, ◌≤◌, min, true, false, List, [], ◌∷◌, length, Ordering, refl, sym, ap, subst, ◌∙◌, arith}
-use Rattle.std.specs.declared.cmp.Ordering.TheVariants.{Less, Equal, Greater}
+use Rattle.std.proofs.Common.{◌≡◌, ◌⊎◌, inl, inr, ℕ, ◌<◌, ◌≤◌, min, true, false, List, [], ◌∷◌, length, refl, sym, ap, subst, ◌∙◌, arith}
 use Rattle.std.proofs.lemmas.Bool.{cases_lt}
 use Rattle.wot_types.specs.declared.fpr.Fpr.{Fpr}
 use Rattle.wot_edge.specs.declared.path.Step.{Step}
-use Rattle.wot_edge.specs.Order.{steps_cmp}
 use Rattle.wot_edge.specs.Record.{Has, entry_at}
-use Rattle.wot_edge.specs.Path.{Question, Use, Chain, start, issuers, Distinct, IsValid, IsOpen, IsNext, IsSpent, Precedes, path_amount, least_left, root_left, step_left}
+use Rattle.wot_edge.specs.Path.{Question, Use, Chain, start, issuers, Distinct, IsValid, IsOpen, IsNext, IsSpent, Precedes, path_amount, least_left, root_left}
 use Rattle.wot_search.specs.declared.node.Goal.{Goal}
 use Rattle.wot_search.specs.declared.node.Goal.TheVariants.{Widest, Least}
-use Rattle.wot_search.specs.Suffix.{Serves, Suffix, width}
+use Rattle.wot_search.specs.Suffix.{Suffix, width}
 use Rattle.wot_search.specs.Layer.{IsAsGood}
 use Rattle.wot_search.specs.Rooted.{Rooted, IsGood, IsFirst}
 use Rattle.wot_search.proofs.Order.{not_less-trans}
@@ -22,7 +20,7 @@ IsShortest q used least steps = (other : List Step) → 1 ≤ length other → S
 
 rest_shortest : (q : Question) (used : Use) (least : ℕ) (step : Step) (rest : List Step) → 1 ≤ length rest → Suffix q used least (step ∷ rest) → IsShortest q used least (step ∷ rest) → IsShortest q used least rest
 rest_shortest q used least step rest some t s other some' t' e = elim (cases_lt (length other) (length rest)) [
-    inl lt ↦ absurd (let le : length (step ∷ rest) ≤ length (step ∷ other) = s (step ∷ other) (omega arith) (serves_shorter q used least step rest other some some' (omega (arith, lt)) e t.0, t') refl in omega (arith, le, lt))
+  | inl lt ↦ absurd (let le : length (step ∷ rest) ≤ length (step ∷ other) = s (step ∷ other) (omega arith) (serves_shorter q used least step rest other some some' (omega (arith, lt)) e t.0, t') refl in omega (arith, le, lt))
   | inr le ↦ le
 ]
 
@@ -35,9 +33,10 @@ from_issuer q used least (step ∷ rest) fpr (inr h) t = let o = from_issuer q u
 shortest_distinct : (q : Question) (used : Use) (least : ℕ) (steps : List Step) → Suffix q used least steps → IsShortest q used least steps → Distinct (issuers steps)
 shortest_distinct q used least [] t s = tt
 shortest_distinct q used least (step ∷ []) t s = (λ h. h, tt)
-shortest_distinct q used least (step ∷ next ∷ rest) t s =
-    (λ h. let o = from_issuer q used least (next ∷ rest) step.issuer h t.1 in let le : length (step ∷ next ∷ rest) ≤ length o.0 = s o.0 o.2 o.1 o.4 in let l = o.3 in absurd (omega (arith, le, l)),
-     shortest_distinct q used least (next ∷ rest) t.1 (rest_shortest q used least step (next ∷ rest) (omega arith) t s))
+shortest_distinct q used least (step ∷ next ∷ rest) t s = (
+  λ h. let o = from_issuer q used least (next ∷ rest) step.issuer h t.1 in let le : length (step ∷ next ∷ rest) ≤ length o.0 = s o.0 o.2 o.1 o.4 in let l = o.3 in absurd (omega (arith, le, l)),
+  shortest_distinct q used least (next ∷ rest) t.1 (rest_shortest q used least step (next ∷ rest) (omega arith) t s),
+)
 
 -- ---- suffixes and valid paths
 
@@ -114,18 +113,21 @@ first_le q used goal least steps other f r = by (f.first other r)
     by (inr m) = let e = m.0 in omega (arith, e)
 
 first_open : (q : Question) (used : Use) (goal : Goal) (least : ℕ) (steps : List Step) → 0 < least → (entry_at q.told q.target).in_order ≡ true → IsFirst q used goal least steps → IsOpen q used steps
-first_open q used goal least steps pos ok f = (record {
-      some = f.rooted.some;
-      few = f.rooted.few;
-      chain = suffix_chain q used least steps f.rooted.suffix;
-      distinct = shortest_distinct q used least steps f.rooted.suffix shortest;
-      root = let a = f.rooted.root in omega (arith, a, pos);
-      in_order = ok;
-    }, let a = rooted_amount q used least steps f.rooted in omega (arith, a, pos))
+first_open q used goal least steps pos ok f = (
+  record {
+    some = f.rooted.some;
+    few = f.rooted.few;
+    chain = suffix_chain q used least steps f.rooted.suffix;
+    distinct = shortest_distinct q used least steps f.rooted.suffix shortest;
+    root = let a = f.rooted.root in omega (arith, a, pos);
+    in_order = ok;
+  },
+  let a = rooted_amount q used least steps f.rooted in omega (arith, a, pos),
+)
   where
     shortest : IsShortest q used least steps
     shortest other some t e = elim (cases_lt 255 (length other)) [
-        inl lt ↦ let b = f.rooted.few in omega (arith, b, lt)
+      | inl lt ↦ let b = f.rooted.few in omega (arith, b, lt)
       | inr le ↦ first_le q used goal least steps other f (record { some = some; few = le; suffix = t; root = subst (λ (x : Fpr). least ≤ root_left q used x) (sym e) f.rooted.root })
     ]
 
@@ -135,12 +137,16 @@ first_next q used wide steps ok f g = (first_open q used Least (path_amount q us
   where
     pos : 1 ≤ path_amount q used wide
     pos = rooted_amount q used 1 wide f.rooted
+
     enough : path_amount q used wide ≤ path_amount q used steps
     enough = rooted_amount q used (path_amount q used wide) steps g.rooted
+
     no_longer : length steps ≤ length wide
     no_longer = first_le q used Least (path_amount q used wide) steps wide g (rooted_wide q used 1 wide f.rooted)
+
     no_shorter : length wide ≤ length steps
     no_shorter = first_le q used Widest 1 wide steps f (rooted_fewer q used 1 (path_amount q used wide) steps pos g.rooted)
+
     no : (other : List Step) → IsOpen q used other → Precedes q used other steps → ⊥
     no other o (inl lt) = let le = first_le q used Widest 1 wide other f (valid_rooted q used 1 other o.0 (let p = o.1 in omega (arith, p))) in let a = no_longer in omega (arith, lt, le, a)
     no other o (inr (e, inl lt)) = by (f.first other (valid_rooted q used 1 other o.0 (let p = o.1 in omega (arith, p))))

@@ -1,16 +1,16 @@
 -- Suffixes, and those that were found.
-use Rattle.std.proofs.Common.{◌≡◌, ◌≢◌, ◌⊎◌, inl, inr, ℕ, suc, ◌<◌, ◌≤◌, min, Bool, true, false, List, [], ◌∷◌, length, Ordering, Option, Some, None, refl, sym, ap, subst, ◌∙◌, arith}
+use Rattle.std.proofs.Common.{◌≡◌, ℕ, ◌≤◌, List, [], ◌∷◌, length, Ordering, Some, refl, sym, ap, subst, ◌∙◌, arith}
 use Rattle.std.specs.declared.cmp.Ordering.TheVariants.{Less, Equal, Greater}
 use Rattle.std.specs.Ordering.{ordering_then, nat_cmp}
 use Rattle.std.proofs.lemmas.Cmp.{tied_itself}
 use Rattle.wot_types.specs.declared.fpr.Fpr.{Fpr}
 use Rattle.wot_types.specs.Fpr.{fpr_cmp}
 use Rattle.wot_edge.specs.declared.path.Step.{Step}
-use Rattle.wot_edge.specs.Order.{step_cmp, steps_cmp}
+use Rattle.wot_edge.specs.Order.{steps_cmp}
 use Rattle.wot_edge.specs.Record.{Row, Has, IsRecord, rows_into}
-use Rattle.wot_edge.specs.Path.{Question, Use, Stands, Reaches, start}
+use Rattle.wot_edge.specs.Path.{Question, Use, Reaches, start}
 use Rattle.wot_search.specs.declared.node.Node.{Node}
-use Rattle.wot_search.specs.Suffix.{Serves, Suffix, Found, Kept, node_of, width}
+use Rattle.wot_search.specs.Suffix.{Serves, Suffix, Found, Kept, node_of}
 use Rattle.wot_search.specs.Layer.{link_cmp}
 use Rattle.wot_search.proofs.Order.{fpr_total, fpr_exact, steps_total}
 
@@ -22,15 +22,15 @@ reaches_shorter q row (x ∷ rest) (y ∷ other) a b le r = (let d = r.0 in omeg
 
 pub serves_shorter : (q : Question) (used : Use) (least : ℕ) (step : Step) (rest other : List Step) → 1 ≤ length rest → 1 ≤ length other → length other ≤ length rest → start q.target other ≡ start q.target rest → Serves q used least step rest → Serves q used least step other
 serves_shorter q used least step rest other a b le e s = record {
-    stands = record {
-      row = s.stands.row;
-      into = subst (λ (f : Fpr). Has (rows_into q.told f) s.stands.row) (sym e) s.stands.into;
-      usable = s.stands.usable;
-      shown = s.stands.shown;
-      reaches = reaches_shorter q s.stands.row rest other a b le s.stands.reaches;
-    };
-    left = s.left;
-  }
+  stands = record {
+    row = s.stands.row;
+    into = subst (λ (f : Fpr). Has (rows_into q.told f) s.stands.row) (sym e) s.stands.into;
+    usable = s.stands.usable;
+    shown = s.stands.shown;
+    reaches = reaches_shorter q s.stands.row rest other a b le s.stands.reaches;
+  };
+  left = s.left;
+}
 
 -- an edge that may stand before others is into where they begin
 pub serves_into : (q : Question) (used : Use) (least : ℕ) → IsRecord q.told → (step : Step) (rest : List Step) → Serves q used least step rest → step.target ≡ start q.target rest
@@ -77,6 +77,6 @@ links q used least good found x a y b e l s t j k =
     let tied : fpr_cmp x.issuer y.issuer ≡ Equal = subst (λ (f : Fpr). fpr_cmp x.issuer f ≡ Equal) e (tied_itself fpr_total x.issuer) in
     then_then (fpr_cmp x.issuer y.issuer) (link_cmp x y) (steps_cmp a b) tied
     ∙ then_of (link_cmp x y) (steps_cmp a b) (λ f.
-        let same : x.target ≡ y.target = fpr_exact x.target y.target (then_Equal (fpr_cmp x.target y.target) (nat_cmp x.uid y.uid) f).0 in
-        let there : start q.target a ≡ start q.target b = sym (serves_into q used least good x a s) ∙ same ∙ serves_into q used least good y b t in
-        subst (λ (z : List Step). steps_cmp a z ≡ Equal) (kept_one q used least good found a b l there j k) (tied_itself steps_total a))
+    let same : x.target ≡ y.target = fpr_exact x.target y.target (then_Equal (fpr_cmp x.target y.target) (nat_cmp x.uid y.uid) f).0 in
+    let there : start q.target a ≡ start q.target b = sym (serves_into q used least good x a s) ∙ same ∙ serves_into q used least good y b t in
+    subst (λ (z : List Step). steps_cmp a z ≡ Equal) (kept_one q used least good found a b l there j k) (tied_itself steps_total a))

@@ -24,4 +24,4 @@ demand_of q size = cond (nat_eq size 0) (On (entry_at q.told q.target).place) (B
 abbrev pub candidate_of : Fpr → Use → ℕ → Demand → ℕ → ℕ → EdgeFacts → Option Node
 candidate_of target used least demand size width edge =
     cond (is_met target demand edge && nat_le least (step_left used (step_of edge)))
-      (Some (record { step = step_of edge; size = size + 1; width = min (step_left used (step_of edge)) width })) None
+    (Some (record { step = step_of edge; size = size + 1; width = min (step_left used (step_of edge)) width })) None

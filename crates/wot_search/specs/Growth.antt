@@ -1,11 +1,11 @@
 -- How a layer grows, edge by edge.
-use Rattle.std.specs.Prelude.{◌≡◌, ◌⊎◌, ℕ, ◌≤◌, nat_eq, ◌&&◌, ◌||◌, ◌++◌, suc, Bool, true, false, is_some, List, [], ◌∷◌, length, Option, Some, None, cond}
+use Rattle.std.specs.Prelude.{◌≡◌, ℕ, ◌≤◌, nat_eq, ◌&&◌, ◌||◌, ◌++◌, suc, Bool, true, false, is_some, List, [], ◌∷◌, length, Option, Some, None, cond}
 use Rattle.wot_types.specs.declared.fpr.Fpr.{Fpr}
 use Rattle.wot_edge.specs.declared.edge.EdgeFacts.{EdgeFacts}
 use Rattle.wot_edge.specs.declared.path.Path.{Path}
 use Rattle.wot_edge.specs.declared.path.Step.{Step}
 use Rattle.wot_edge.specs.Order.{same_fpr}
-use Rattle.wot_edge.specs.Record.{Record, Row, Has, rows_into}
+use Rattle.wot_edge.specs.Record.{Row, Has, rows_into}
 use Rattle.wot_edge.specs.Path.{Question, Use, Reaches, start, step_of, step_left, root_left, path_amount}
 use Rattle.wot_search.specs.declared.node.Node.{Node}
 use Rattle.wot_search.specs.declared.node.Demand.{Demand}
@@ -15,7 +15,7 @@ use Rattle.wot_search.specs.Suffix.{Serves, Found, Kept, width}
 use Rattle.wot_search.specs.Layer.{Covered, IsEntry, IsLayer, IsComplete, IsGrowing, Onward, is_kept}
 use Rattle.wot_search.specs.Choice.{node_width}
 use Rattle.wot_search.specs.Demand.{candidate_of}
-use Rattle.wot_search.specs.Looked.{IsSeen, IsLooked}
+use Rattle.wot_search.specs.Looked.{IsLooked}
 use Rattle.wot_search.specs.Reached.{look}
 use Rattle.wot_search.specs.Rooted.{Rooted, IsFirst}
 

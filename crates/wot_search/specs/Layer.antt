@@ -1,5 +1,5 @@
 -- Layers: what is known of the suffixes that were found of at most so many edges.
-use Rattle.std.specs.Prelude.{◌≡◌, ◌≢◌, ◌⊎◌, ℕ, suc, ◌<◌, ◌≤◌, nat_lt, nat_eq, ◌&&◌, Bool, true, List, [], ◌∷◌, length, Option, Some, None}
+use Rattle.std.specs.Prelude.{◌≡◌, ◌≢◌, ◌⊎◌, ℕ, suc, ◌<◌, ◌≤◌, nat_lt, nat_eq, ◌&&◌, Bool, true, List, ◌∷◌, length, Option, Some, None}
 use Rattle.std.specs.declared.cmp.Ordering.{Ordering}
 use Rattle.std.specs.declared.cmp.Ordering.TheVariants.{Less}
 use Rattle.std.specs.Ordering.{is_lt, nat_cmp, ordering_then}
@@ -12,7 +12,7 @@ use Rattle.wot_edge.specs.Path.{Question, Use, start}
 use Rattle.wot_search.specs.declared.node.Node.{Node}
 use Rattle.wot_search.specs.declared.node.Goal.{Goal}
 use Rattle.wot_search.specs.declared.node.Goal.TheVariants.{Widest, Least}
-use Rattle.wot_search.specs.Suffix.{Suffix, Serves, Found, Kept, node_of, width}
+use Rattle.wot_search.specs.Suffix.{Suffix, Found, Kept, width}
 
 -- of two suffixes of as many edges, the first is as good
 abbrev pub IsAsGood : Use → Goal → List Step → List Step → Type 0

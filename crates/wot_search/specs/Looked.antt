@@ -1,10 +1,10 @@
 -- What a search has looked at.
-use Rattle.std.specs.Prelude.{◌≡◌, ◌⊎◌, ℕ, ◌<◌, ◌≤◌, Bool, false, List, [], ◌∷◌, length, Option, Some}
+use Rattle.std.specs.Prelude.{◌≡◌, ◌⊎◌, ℕ, ◌<◌, ◌≤◌, List, length}
 use Rattle.wot_types.specs.declared.fpr.Fpr.{Fpr}
 use Rattle.wot_edge.specs.declared.path.Step.{Step}
-use Rattle.wot_edge.specs.Record.{Record, Row, Has, rows_into, entry_at}
+use Rattle.wot_edge.specs.Record.{Record, Row, Has, rows_into}
 use Rattle.wot_edge.specs.Path.{Question, Use, Reaches, start, step_of, step_left}
-use Rattle.wot_search.specs.Suffix.{Suffix, Found, Kept}
+use Rattle.wot_search.specs.Suffix.{Suffix}
 
 -- Before these edges the search looked at all that matters: where they begin, and the issuer of each edge into it
 -- that may stand before them and of which so much is left, if only it is usable.

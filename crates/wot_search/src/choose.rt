@@ -27,18 +27,11 @@ fn first_of(goal: Goal, a: Choice, best: Option<Choice>) -> Choice
 {
     match best {
         None => a,
-        Some(b) => {
-            if is_before(goal, &a, &b) { a } else { b }
-        }
+        Some(b) => { if is_before(goal, &a, &b) { a } else { b } }
     }
 }
 
-fn take(
-    ask: &Ask,
-    nodes: &BTreeMap<Fpr, Node>,
-    best: Option<Choice>,
-    fpr: &Fpr,
-) -> Option<Choice>
+fn take(ask: &Ask, nodes: &BTreeMap<Fpr, Node>, best: Option<Choice>, fpr: &Fpr) -> Option<Choice>
     ensures { (told : Record) → result ≡ taken (asks told ask.now.roots.now ask.now.target.now) (use_in ask.now.used.now) ask.now.least ask.now.goal (look nodes.now) best fpr.now }
 {
     let left = left_of_root(ask, fpr);

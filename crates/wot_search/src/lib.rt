@@ -10,7 +10,6 @@ mod demand;
 mod extend;
 mod first;
 mod grow;
-
 mod left;
 mod next;
 mod node;

@@ -39,12 +39,7 @@ fn path_from(
 }
 
 /// The first path from a root of the last layer, which is of suffixes of so many edges.
-pub fn turn(
-    alloc: Global,
-    ask: &Ask,
-    reached: &Reached,
-    size: u8,
-) -> Result<Option<Path>, Memory>
+pub fn turn(alloc: Global, ask: &Ask, reached: &Reached, size: u8) -> Result<Option<Path>, Memory>
     requires { 1 ≤ size }
     ensures { IfOk result (λ found. (told : Record) → IsRecord told → ((fpr : Print) → root_left (asks told ask.now.roots.now ask.now.target.now) (use_in ask.now.used.now) fpr ≤ 255) → IsLayer (asks told ask.now.roots.now ask.now.target.now) (use_in ask.now.used.now) ask.now.least (look reached.now.nodes) size reached.now.layer.items → IsComplete (asks told ask.now.roots.now ask.now.target.now) (use_in ask.now.used.now) ask.now.least ask.now.goal (look reached.now.nodes) size → IsUnrooted (asks told ask.now.roots.now ask.now.target.now) (use_in ask.now.used.now) ask.now.least (look reached.now.nodes) size → IsTurn (asks told ask.now.roots.now ask.now.target.now) (use_in ask.now.used.now) ask.now.least ask.now.goal (look reached.now.nodes) size found) }
 {

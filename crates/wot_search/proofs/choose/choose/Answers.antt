@@ -1,8 +1,7 @@
-use Rattle.std.proofs.Common.{◌≡◌, ◌<◌, sym, ap, subst, ◌∙◌, length, get_or, drop, List, Option}
+use Rattle.std.proofs.Common.{◌<◌, subst, ◌∙◌, length, List}
 use Rattle.wot_types.specs.declared.fpr.Fpr.{Fpr}
 use Rattle.wot_edge.specs.Path.{asks}
 use Rattle.wot_edge.specs.Sums.{use_in}
-use Rattle.wot_search.specs.Choice.{taken}
 use Rattle.wot_search.specs.Reached.{look}
 use Rattle.wot_search.proofs.Taking.{chosen_more}
 use Rattle.wot_search.proofs.choose.choose.Goals as goal

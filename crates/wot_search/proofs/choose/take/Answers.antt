@@ -1,8 +1,7 @@
-use Rattle.std.proofs.Common.{◌≡◌, sym, ap, ◌∙◌, min, arith, Some}
+use Rattle.std.proofs.Common.{◌≡◌, ap, ◌∙◌, min, Some}
 use Rattle.wot_edge.specs.Path.{asks, root_left}
 use Rattle.wot_edge.specs.Sums.{use_in}
-use Rattle.wot_search.specs.declared.node.Choice.{Choice}
-use Rattle.wot_search.specs.Choice.{choice_at, ahead_of, node_width}
+use Rattle.wot_search.specs.Choice.{node_width}
 use Rattle.wot_search.specs.Reached.{look}
 use Rattle.wot_search.proofs.Taking.{taken_not, taken_is}
 use Rattle.wot_search.proofs.choose.take.Goals as goal

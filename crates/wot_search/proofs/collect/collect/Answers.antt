@@ -1,4 +1,4 @@
-use Rattle.std.proofs.Common.{◌≡◌, ◌<◌, ◌≤◌, sym, ap, ◌∙◌, arith, length}
+use Rattle.std.proofs.Common.{sym, ◌∙◌, arith}
 use Rattle.wot_search.specs.Reached.{look}
 use Rattle.wot_search.proofs.Collecting.{left_more, left_none, left_done}
 use Rattle.wot_search.proofs.collect.collect.Goals as goal

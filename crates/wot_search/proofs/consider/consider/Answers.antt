@@ -1,6 +1,6 @@
-use Rattle.std.proofs.Common.{◌≡◌, ◌⊎◌, inl, inr, sym, ap, subst, ◌∙◌, Option, Some, None}
+use Rattle.std.proofs.Common.{sym, subst, ◌∙◌}
 use Rattle.wot_types.specs.declared.fpr.Fpr.{Fpr}
-use Rattle.wot_edge.specs.Record.{Row, Has}
+use Rattle.wot_edge.specs.Record.{Has}
 use Rattle.wot_edge.specs.Sums.{use_in}
 use Rattle.wot_search.specs.Reached.{look, question_of}
 use Rattle.wot_search.proofs.Considering.{taken_none, noted_none, wanted_issuer, advances_if, taken_if, noted_if}

@@ -1,4 +1,4 @@
-use Rattle.std.proofs.Common.{◌≡◌, ◌⊎◌, inl, inr, ◌+◌, suc, sym, ap, subst, ◌∙◌, Some, None, Option, ℕ, [], arith, length}
+use Rattle.std.proofs.Common.{◌≡◌, inl, inr, ◌+◌, suc, sym, subst, ◌∙◌, Option, ℕ, arith, length}
 use Rattle.std.proofs.lemmas.Bool.{eqb-true}
 use Rattle.std.specs.Prelude.{vec_len}
 use Rattle.wot_edge.specs.declared.path.Path.{Path}

@@ -1,4 +1,4 @@
-use Rattle.std.proofs.Common.{◌≡◌, ◌⊎◌, inl, inr, sym, ap, subst, ◌∙◌, List, []}
+use Rattle.std.proofs.Common.{inl, inr, sym, ap, subst, ◌∙◌, List}
 use Rattle.std.specs.Prelude.{Vec}
 use Rattle.std.specs.declared.alloc.Global.{Global}
 use Rattle.wot_types.specs.declared.fpr.Fpr.{Fpr}
@@ -16,8 +16,8 @@ returns-in_err-grow-clause-leads g c a fpr h =
     let q = question_of (g.R.Roads.told c.args.roads.now) c.args.ask.now in
     let layer = c.deref.ensures.value ∙ ap (λ (v : Vec Fpr Global). v.items) c.replace-layer.ensures.value in
     elim (c.in_err-grow.ensures.gains fpr h) [
-      inl k ↦ inl k
-    | inr n ↦ inr (near_leads q (use_in c.args.ask.now.used.now) c.args.ask.now.least (look c.args.reached.now.nodes) c.args.size c.args.reached.now.layer.items fpr a.layer (subst (λ (xs : List Fpr). IsNearOne q.told xs fpr) layer n))
+      | inl k ↦ inl k
+      | inr n ↦ inr (near_leads q (use_in c.args.ask.now.used.now) c.args.ask.now.least (look c.args.reached.now.nodes) c.args.size c.args.reached.now.layer.items fpr a.layer (subst (λ (xs : List Fpr). IsNearOne q.told xs fpr) layer n))
     ]
 
 pub returns-clause-leads : goal.returns-clause-leads
@@ -25,8 +25,8 @@ returns-clause-leads g c a fpr h =
     let q = question_of (g.R.Roads.told c.args.roads.now) c.args.ask.now in
     let layer = c.deref.ensures.value ∙ ap (λ (v : Vec Fpr Global). v.items) c.replace-layer.ensures.value in
     elim (c.in_ok-grow.ensures.gains fpr h) [
-      inl k ↦ inl k
-    | inr n ↦ inr (near_leads q (use_in c.args.ask.now.used.now) c.args.ask.now.least (look c.args.reached.now.nodes) c.args.size c.args.reached.now.layer.items fpr a.layer (subst (λ (xs : List Fpr). IsNearOne q.told xs fpr) layer n))
+      | inl k ↦ inl k
+      | inr n ↦ inr (near_leads q (use_in c.args.ask.now.used.now) c.args.ask.now.least (look c.args.reached.now.nodes) c.args.size c.args.reached.now.layer.items fpr a.layer (subst (λ (xs : List Fpr). IsNearOne q.told xs fpr) layer n))
     ]
 
 pub returns-clause-after : goal.returns-clause-after
@@ -42,7 +42,7 @@ returns-clause-after g c a =
     let growing = subst (λ (xs : List Fpr). IsGrowing q used least way c.args.size found xs) (sym empty) (growing_start q used least way c.args.size c.args.reached.now c.args.consulted.now a) in
     let adv = c.in_ok-grow.ensures.grown is growing in
     after_more q used least way c.args.size c.args.reached.now c.grow.new.reached c.args.consulted.now c.grow.new.consulted a adv.growing adv.onward (c.in_ok-grow.ensures.taken is growing) (c.in_ok-grow.ensures.noted a.noted)
-      (λ rest l h. c.in_ok-grow.ensures.seen a.noted rest l (subst (λ (xs : List Fpr). Has xs (start q.target rest)) (sym layer) h)) c.in_ok-grow.ensures.grows
+    (λ rest l h. c.in_ok-grow.ensures.seen a.noted rest l (subst (λ (xs : List Fpr). Has xs (start q.target rest)) (sym layer) h)) c.in_ok-grow.ensures.grows
 
 pub returns-clause-unrooted : goal.returns-clause-unrooted
 returns-clause-unrooted g c a u =

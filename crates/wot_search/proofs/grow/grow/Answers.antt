@@ -1,6 +1,4 @@
-use Rattle.std.proofs.Common.{◌≡◌, ◌⊎◌, inl, inr, ◌<◌, ◌≤◌, sym, ap, subst, ◌∙◌, List, length, arith}
-use Rattle.wot_types.specs.declared.fpr.Fpr.{Fpr}
-use Rattle.wot_edge.specs.Record.{Has}
+use Rattle.std.proofs.Common.{inl, inr, arith}
 use Rattle.wot_edge.specs.Sums.{use_in}
 use Rattle.wot_search.specs.Reached.{look, question_of}
 use Rattle.wot_search.proofs.Extending.{has_at, advances_trans}
@@ -20,15 +18,15 @@ layer-preserved g c =
     let ok = c.in_ok-extend.ensures in
     record {
       grown = λ is growing.
-        let a = inv.grown is growing in
-        let b = is.each _ has in
-        let l = b.long in
-        advances_trans q used least way c.args.size c.args.reached.now c.layer.reached c.extend.new.reached a (ok.grown b.steps (a.onward.keeps b.steps (omega (arith, l)) b.kept) b.long b.there a.growing);
+          let a = inv.grown is growing in
+          let b = is.each _ has in
+          let l = b.long in
+          advances_trans q used least way c.args.size c.args.reached.now c.layer.reached c.extend.new.reached a (ok.grown b.steps (a.onward.keeps b.steps (omega (arith, l)) b.kept) b.long b.there a.growing);
       taken = λ is growing.
-        let a = inv.grown is growing in
-        let b = is.each _ has in
-        let l = b.long in
-        layer_more q used least way c.args.size (look c.layer.reached.nodes) (look c.extend.new.reached.nodes) layer i _ c.layer-test.true (inv.taken is growing) (ok.grown b.steps (a.onward.keeps b.steps (omega (arith, l)) b.kept) b.long b.there a.growing).onward
+          let a = inv.grown is growing in
+          let b = is.each _ has in
+          let l = b.long in
+          layer_more q used least way c.args.size (look c.layer.reached.nodes) (look c.extend.new.reached.nodes) layer i _ c.layer-test.true (inv.taken is growing) (ok.grown b.steps (a.onward.keeps b.steps (omega (arith, l)) b.kept) b.long b.there a.growing).onward
           (λ rest k l there. ok.taken rest k l there a.growing);
       noted = λ n. ok.noted (inv.noted n);
       seen = λ n. seen_more q used least way c.args.size c.layer.consulted c.extend.new.consulted layer i _ c.layer-test.true (inv.seen n) ok.grows (λ rest l there. ok.seen rest l there (inv.noted n));

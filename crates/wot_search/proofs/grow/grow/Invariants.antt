@@ -1,4 +1,4 @@
-use Rattle.std.proofs.Common.{◌≡◌, ◌⊎◌, List, length}
+use Rattle.std.proofs.Common.{◌⊎◌}
 use Rattle.wot_types.specs.declared.fpr.Fpr.{Fpr}
 use Rattle.wot_edge.specs.Leads.{Grows}
 use Rattle.wot_edge.specs.Record.{Has}

@@ -1,4 +1,4 @@
-use Rattle.std.proofs.Common.{◌≡◌, cond, subst, Ordering, Some, None}
+use Rattle.std.proofs.Common.{◌≡◌, cond, subst, Ordering, Some}
 use Rattle.std.specs.BTreeMap.{is_at}
 use Rattle.std.specs.Map.{lookup}
 use Rattle.wot_types.specs.declared.fpr.Fpr.{Fpr}

@@ -1,4 +1,4 @@
-use Rattle.std.proofs.Common.{◌≡◌, ◌⊎◌, sym, subst, ◌∙◌, List, Ordering}
+use Rattle.std.proofs.Common.{◌≡◌, ◌⊎◌, sym, subst, List, Ordering}
 use Rattle.std.specs.BTreeSet.{insert_key}
 use Rattle.wot_types.specs.declared.fpr.Fpr.{Fpr}
 use Rattle.wot_edge.specs.Record.{Has}

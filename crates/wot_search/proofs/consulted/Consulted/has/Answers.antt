@@ -1,4 +1,4 @@
-use Rattle.std.proofs.Common.{◌≡◌, sym, subst, ◌∙◌, List, true, Ordering}
+use Rattle.std.proofs.Common.{◌≡◌, sym, subst, ◌∙◌, List, Ordering}
 use Rattle.std.specs.BTreeMap.{is_at}
 use Rattle.std.specs.List.{list_any}
 use Rattle.wot_types.specs.declared.fpr.Fpr.{Fpr}
@@ -14,5 +14,6 @@ returns c =
     record {
       has = (
         λ e. subst (λ (xs : List Fpr). Has xs c.args.fpr.now) c.self.view_is (any_has c.self.inside.fprs.keys c.args.fpr.now (sym any ∙ e)),
-        λ h. any ∙ has_any c.self.inside.fprs.keys c.args.fpr.now (subst (λ (xs : List Fpr). Has xs c.args.fpr.now) (sym c.self.view_is) h));
+        λ h. any ∙ has_any c.self.inside.fprs.keys c.args.fpr.now (subst (λ (xs : List Fpr). Has xs c.args.fpr.now) (sym c.self.view_is) h),
+      );
     }
