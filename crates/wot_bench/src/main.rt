@@ -2,9 +2,9 @@
 #![tactic(auto)]
 
 mod lines;
+mod paths;
 
-use std::env;
-use std::io;
+use std::{env, io};
 
 fn number(word: Option<String>) -> usize {
     match word {
@@ -23,6 +23,17 @@ fn main(rt: HostRuntime) -> io::Result<()> {
             let length = number(words.next());
             let piece = number(words.next());
             lines::bench(&rt, length, piece)
+        }
+        "paths-random" | "paths-clique" | "paths-layers" => {
+            let kind = match name.as_str() {
+                "paths-clique" => "clique",
+                "paths-layers" => "layers",
+                _ => "random",
+            };
+            let size = number(words.next());
+            let roots = number(words.next());
+            let questions = number(words.next());
+            paths::bench(&rt, kind, size as u64, roots as u64, questions as u64)
         }
         _ => println!(rt; "no such bench"),
     }
