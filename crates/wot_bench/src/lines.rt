@@ -83,11 +83,7 @@ fn count(alloc: Global, source: &mut Repeated) -> Result<Counts, AllocError> {
     Ok(counts)
 }
 
-pub fn bench(
-    rt: &(impl Print + AllocGlobal + std::rt::Clock),
-    length: usize,
-    piece: usize,
-) -> io::Result<()> {
+pub fn bench(rt: &(impl Print + AllocGlobal + std::rt::Clock), length: usize, piece: usize) -> io::Result<()> {
     let mut source = Repeated {
         block: block_of(rt.alloc(), length)?,
         at: 0,
