@@ -1,24 +1,27 @@
-//! Cutting lines: `wot_bench lines LENGTH PIECE` cuts 1,000,000,000 octets of lines of that length.
+//! Cutting lines: 1,000,000,000 octets of lines of one length, and the kit's search for line feeds
+//! alone over the same octets.
 ghost use Rattle.std.specs.Prelude.{None};
 
+use memchr::memchr_iter;
 use std::alloc::{AllocError, Global};
-use std::env::Args;
 use std::io;
-use std::time::Instant;
+use std::rt::CpuClock;
 use wot_io::{Failed, Line, Lines, Source};
 
 const OCTETS: u64 = 1_000_000_000;
 
+const BLOCK: usize = 4_000_000;
+
 /// One block over and over, in pieces.
 #[derive(Drop)]
-struct Repeated {
-    block: Vec<u8>,
+struct Repeated<'a> {
+    block: &'a [u8],
     at: usize,
     piece: usize,
     left: u64,
 }
 
-impl Source for Repeated {
+impl Source for Repeated<'_> {
     ghost left = { λ _. None };
 
     ghost faults = { λ _. 0 };
@@ -44,7 +47,7 @@ impl Source for Repeated {
 fn block_of(alloc: Global, length: usize) -> Result<Vec<u8>, AllocError> {
     let mut block = Vec::new(alloc);
     let mut column = 0usize;
-    for _ in 0..4194304 {
+    for _ in 0..BLOCK {
         if column >= length {
             block.push(b'\n')?;
             column = 0;
@@ -56,44 +59,52 @@ fn block_of(alloc: Global, length: usize) -> Result<Vec<u8>, AllocError> {
     Ok(block)
 }
 
-#[derive(Clone, Copy)]
-/// How many lines there were, and how many octets they had.
-struct Counts {
-    lines: u64,
-    octets: u64,
-}
-
-fn count(alloc: Global, source: &mut Repeated) -> Result<Counts, AllocError> {
-    let mut counts = Counts {
-        lines: 0,
-        octets: 0,
-    };
+/// How many lines `Lines` gives or passes over.
+fn cut(alloc: Global, source: &mut Repeated) -> Result<u64, AllocError> {
+    let mut count = 0u64;
     let Ok(mut lines) = Lines::new(alloc) else {
         return Err(AllocError);
     };
     for _ in 0..u64::MAX {
         match lines.next(source) {
             Ok(Line::End) | Err(_) => break,
-            Ok(_) => {
-                counts.lines = counts.lines.wrapping_add(1);
-                counts.octets = counts.octets.wrapping_add(lines.text().len() as u64);
-            }
+            Ok(_) => count = count.wrapping_add(1),
         }
     }
-    Ok(counts)
+    Ok(count)
 }
 
-pub fn bench(rt: &(impl Print + AllocGlobal + std::rt::Clock), length: usize, piece: usize) -> io::Result<()> {
+/// How many line feeds the kit's search finds in as many octets.
+fn search(block: &[u8]) -> u64 {
+    let mut count = 0u64;
+    for _ in 0..OCTETS / BLOCK as u64 {
+        for _ in memchr_iter(b'\n', block) {
+            count = count.wrapping_add(1);
+        }
+    }
+    count
+}
+
+/// Prints how many lines were cut and in how many microseconds of processor time, and the same of
+/// the search alone.
+pub fn bench(
+    rt: &(impl Print + AllocGlobal + CpuClock),
+    length: usize,
+    piece: usize,
+) -> io::Result<()> {
+    let block = block_of(rt.alloc(), length)?;
     let mut source = Repeated {
-        block: block_of(rt.alloc(), length)?,
+        block: &block,
         at: 0,
         piece,
         left: OCTETS,
     };
-    let start = Instant::now(rt)?;
-    let counts = count(rt.alloc(), &mut source)?;
-    let seconds = start.elapsed(rt)?.as_secs_f64();
-    let lines = counts.lines;
-    let octets = counts.octets;
-    println!(rt; "{lines} lines, {octets} octets in them, {seconds} s")
+    let start = rt.thread_cpu_time()?;
+    let lines = cut(rt.alloc(), &mut source)?;
+    let cut = rt.thread_cpu_time()?;
+    let feeds = search(&block);
+    let searched = rt.thread_cpu_time()?;
+    let cut_time = cut.saturating_sub(start).as_micros();
+    let search_time = searched.saturating_sub(cut).as_micros();
+    println!(rt; "{lines} {cut_time} {feeds} {search_time}")
 }

@@ -1,13 +1,13 @@
 -- Each line and each run has exactly one outcome.
-use Rattle.std.proofs.Common.{◌≡◌, ◌≢◌, ◌⊎◌, inl, inr, ℕ, suc, zero, ◌<◌, Bool, true, false, List, [], ◌∷◌, ◌++◌, length, take, drop, map, Option, Some, None, refl, sym, ap, subst, ◌∙◌, arith, append_assoc}
-use Rattle.std.proofs.lemmas.List.{append-nil, take_at, drop_at}
+use Rattle.std.proofs.Common.{◌≡◌, inl, inr, ℕ, Bool, true, false, List, [], ◌∷◌, ◌++◌, length, take, drop, Option, Some, None, refl, sym, ap, subst, ◌∙◌, append_assoc}
+use Rattle.std.proofs.lemmas.List.{take_at, drop_at}
 use Rattle.std.specs.Prelude.{MatchBool, nat_lt}
 use Rattle.std.specs.List.{flat_map}
 use Rattle.wot_engine.specs.State.{State, Certs, start}
 use Rattle.wot_engine.specs.Grammar.{command_of, is_silent, longest}
 use Rattle.wot_engine.specs.Import.{AreKeys, packet, united}
 use Rattle.wot_engine.specs.Reply.{spelled}
-use Rattle.wot_engine.specs.Step.{Step, Spells, Answers, Does, Imports, Takes, Only, key_lines_of}
+use Rattle.wot_engine.specs.Step.{Step, Spells, Answers, Takes, Only, key_lines_of}
 use Rattle.wot_engine.specs.Transcript.{Run, RepliesTo}
 use Rattle.wot_engine.specs.declared.command.Command.{Command}
 use Rattle.wot_engine.specs.declared.command.Command.TheVariants.{Import, Keys}

@@ -1,13 +1,12 @@
 -- Where a run stands between two lines.
-use Rattle.std.proofs.Common.{◌≡◌, ◌≢◌, ◌⊎◌, inl, inr, ℕ, ◌+◌, ◌<◌, ◌≤◌, ◌^◌, List, [], ◌∷◌, ◌++◌, length, take, Option, Some, None, refl, sym, ap, subst, ◌∙◌, append_assoc, arith, length-append}
+use Rattle.std.proofs.Common.{◌≡◌, ◌⊎◌, inl, inr, ℕ, ◌+◌, ◌<◌, ◌≤◌, ◌^◌, List, [], ◌∷◌, ◌++◌, length, take, Option, Some, refl, sym, ap, ◌∙◌, append_assoc, arith, length-append}
 use Rattle.std.proofs.lemmas.List.{append-nil, take_at, take-append-le, append_cancel_left}
 use Rattle.std.proofs.Math.Seq.{take-append-add}
 use Rattle.wot_io.specs.Input.{lines_of, whole_lines_of, HasNoFeed}
-use Rattle.wot_io.specs.Fill.{Cuts, GivesOf, Gives, Skips, Stops, StopsOf, Ends}
-use Rattle.wot_io.specs.Sink.{GainsPrefix}
+use Rattle.wot_io.specs.Fill.{GivesOf, StopsOf}
 use Rattle.wot_engine.specs.State.{State, start}
 use Rattle.wot_engine.specs.Step.{Step}
-use Rattle.wot_engine.specs.Transcript.{Run, RepliesTo, Answered, Begun, IsTaken, AnsweredWhole, AnsweredMost}
+use Rattle.wot_engine.specs.Transcript.{Run, RepliesTo, Answered, Begun, AnsweredWhole, AnsweredMost}
 use Rattle.wot_engine.proofs.Outcomes.{Run-some, Run-append}
 use Rattle.wot_engine.proofs.CutLines.{lines_of-feed, whole_lines_of-feed, whole_lines_of-none, lines_of-last}
 

@@ -1,11 +1,11 @@
 -- Steps of the machine.
-use Rattle.std.proofs.Common.{◌≡◌, ◌≢◌, ◌⊎◌, inl, inr, ℕ, ◌≤◌, Bool, true, false, List, length, Option, Some, None, refl, sym, ap, arith}
+use Rattle.std.proofs.Common.{◌≡◌, inl, ℕ, ◌≤◌, false, List, length, refl}
 use Rattle.std.proofs.lemmas.Bool.{le-ltb}
-use Rattle.wot_engine.specs.State.{State, Certs}
+use Rattle.wot_engine.specs.State.{State}
 use Rattle.wot_engine.specs.Grammar.{command_of, is_silent, longest}
 use Rattle.wot_engine.specs.Import.{AreKeys, united}
 use Rattle.wot_engine.specs.Reply.{spelled}
-use Rattle.wot_engine.specs.Step.{Step, Spells, Answers, Imports, Takes}
+use Rattle.wot_engine.specs.Step.{Step, Answers, Imports, Takes}
 use Rattle.wot_engine.specs.declared.reply.Reply.{Reply}
 
 pub step_answers : (old : State) (line : List ℕ) (reply : Reply) (new : State) → length line ≤ longest → false ≡ is_silent line → Answers old (command_of line) reply new → Step old line (spelled reply) new

@@ -1,9 +1,9 @@
 -- The turns of a run, where both contents are told.
-use Rattle.std.proofs.Common.{◌≡◌, ◌≢◌, ◌⊎◌, inl, inr, ℕ, ◌+◌, ◌<◌, ◌≤◌, ◌^◌, List, [], ◌∷◌, ◌++◌, length, take, Option, Some, None, refl, sym, ap, subst, ◌∙◌, append_assoc, arith, length-append}
-use Rattle.std.proofs.lemmas.List.{append-nil, take_at, take_all, append_cancel_left, append_cancel_right, length-take}
+use Rattle.std.proofs.Common.{◌≡◌, inl, inr, ℕ, ◌+◌, ◌<◌, ◌^◌, List, [], ◌++◌, length, take, Option, Some, None, refl, sym, ap, subst, ◌∙◌, append_assoc, arith, length-append}
+use Rattle.std.proofs.lemmas.List.{append_cancel_left, append_cancel_right, length-take}
 use Rattle.std.specs.Prelude.{IfSome}
-use Rattle.wot_io.specs.Input.{lines_of, whole_lines_of, HasNoFeed}
-use Rattle.wot_io.specs.Fill.{GivesOf, Gives, Skips, Stops, StopsOf, Ends}
+use Rattle.wot_io.specs.Input.{lines_of, whole_lines_of}
+use Rattle.wot_io.specs.Fill.{GivesOf, Stops}
 use Rattle.wot_io.specs.Sink.{Becomes, GainsPrefix}
 use Rattle.wot_io.specs.Reading.{Reading}
 use Rattle.wot_io.specs.Given as given
@@ -14,7 +14,7 @@ use Rattle.wot_engine.specs.Step.{Step}
 use Rattle.wot_engine.specs.Turn.{Replies}
 use Rattle.wot_engine.specs.Transcript.{Run, Answered, Begun, AnsweredWhole, AnsweredMost, Told}
 use Rattle.wot_engine.proofs.Outcomes.{Run-one, Run-front}
-use Rattle.wot_engine.proofs.Progress.{Stands, starts, goes_on, so_far, begins, at_end, at_stop, at_most, takes_more}
+use Rattle.wot_engine.proofs.Progress.{Stands, starts, goes_on, so_far, at_end, at_stop, at_most, takes_more}
 
 abbrev pub Stood : Option (List ℕ) → Option (List ℕ) → List ℕ → ℕ → Option (List ℕ) → Option (List ℕ) → State → Type 0
 Stood left0 written0 held taken left written state = Told left0 written0 (λ input before. Stands input before held taken left written state)

@@ -1,5 +1,5 @@
 -- What a line does: one step of the plain machine.
-use Rattle.std.specs.Prelude.{◌≡◌, ◌⊎◌, ℕ, ◌<◌, nat_lt, List, [], length, map, Option, Some, None, MatchBool, MatchOption}
+use Rattle.std.specs.Prelude.{◌≡◌, ◌⊎◌, ℕ, nat_lt, List, [], length, map, Option, Some, None, MatchBool}
 use Rattle.wot_types.specs.declared.fpr.Fpr.{Fpr}
 use Rattle.wot_engine.specs.declared.command.Command.{Command}
 use Rattle.wot_engine.specs.declared.command.Command.TheVariants.{Import, Keys}

@@ -113,6 +113,7 @@ impl Machine {
     pub fn line(&mut self, line: &[u8], out: &mut Vec<u8>) -> Result<(), Memory>
         ensures step { OnOk result ((reply : List ℕ) × Step self.old line.now reply self.new × (out.new.items ≡ out.old.items ++ reply)) }
         ensures kept { OnErr result ((self.new ≡ self.old) × (out.new.items ≡ out.old.items)) }
+        ensures room { OnOk result (is_silent line.now ≡ false → vec_len out.old + 128 ≤ vec_capacity out.new) }
     {
         if line.len() > LONGEST {
             return print_reply(self.alloc, &Reply::Long, out);

@@ -38,6 +38,8 @@ fn print_text(text: &[u8], out: &mut Vec<u8>) -> Result<(), Memory>
     ensures printed { OnOk result (out.new.items ≡ out.old.items ++ text.now) }
     ensures kept { OnErr result (out.new.items ≡ out.old.items) }
     ensures room { vec_len out.old + 128 ≤ vec_capacity out.old → IsOk result }
+    ensures taken { OnOk result (vec_len out.old + 128 ≤ vec_capacity out.new) }
+    ensures capacity { vec_capacity out.old ≤ vec_capacity out.new }
 {
     out.reserve(ROOM)?;
     append(text, out);
@@ -48,6 +50,8 @@ fn print_taken(taken: u64, skipped: u64, fresh: u64, out: &mut Vec<u8>) -> Resul
     ensures printed { OnOk result (out.new.items ≡ out.old.items ++ spelled (reply.Taken taken skipped fresh)) }
     ensures kept { OnErr result (out.new.items ≡ out.old.items) }
     ensures room { vec_len out.old + 128 ≤ vec_capacity out.old → IsOk result }
+    ensures taken { OnOk result (vec_len out.old + 128 ≤ vec_capacity out.new) }
+    ensures capacity { vec_capacity out.old ≤ vec_capacity out.new }
 {
     out.reserve(ROOM)?;
     append(b"ok taken ", out);
@@ -95,6 +99,8 @@ pub fn print_reply(alloc: Global, reply: &Reply, out: &mut Vec<u8>) -> Result<()
     ensures printed { OnOk result (out.new.items ≡ out.old.items ++ spelled reply.now) }
     ensures kept { OnErr result (out.new.items ≡ out.old.items) }
     ensures room { IsShort reply.now → vec_len out.old + 128 ≤ vec_capacity out.old → IsOk result }
+    ensures taken { OnOk result (IsShort reply.now → vec_len out.old + 128 ≤ vec_capacity out.new) }
+    ensures capacity { vec_capacity out.old ≤ vec_capacity out.new }
 {
     match reply {
         Reply::Taken(taken, skipped, fresh) => print_taken(*taken, *skipped, *fresh, out),

@@ -1,3 +1,12 @@
+ghost use Rattle.std.specs.Prelude.{◌≡◌, true, false, [], ◌∷◌, Some, None, codes};
+ghost use Rattle.wot_engine.specs.State.{start};
+ghost use Rattle.wot_engine.specs.Grammar.{command_of, is_silent};
+ghost use Rattle.wot_engine.specs.Import.{AreKeys, united};
+ghost use Rattle.wot_engine.specs.Reply.{spelled};
+ghost use Rattle.wot_engine.specs.Transcript.{Transcript, IsForm};
+ghost use Rattle.wot_engine.specs.declared.reply.Reply.TheVariants as replies;
+
+use crate::command::Command;
 use crate::keyring::{Kept, keep};
 use crate::{Machine, run_words};
 use std::alloc::Global;
@@ -39,6 +48,24 @@ fn outcome_of(
         left,
     })
 }
+
+/// The definitions, worked out on rows: what lines spell, what octets are imports of keys, what replies are printed as.
+fn definitions_on_rows()
+    ensures empty_input { Transcript [] [] }
+    ensures keys { command_of (codes "keys") ≡ Some Command.Keys }
+    ensures keys_with_a_space { command_of (codes "keys ") ≡ None }
+    ensures nothing_imported { command_of (codes "import ") ≡ Some (Command.Import []) }
+    ensures no_space { command_of (codes "import") ≡ None }
+    ensures one_octet { command_of (codes "import 9B") ≡ Some (Command.Import (155 ∷ [])) }
+    ensures half_an_octet { command_of (codes "import 4") ≡ None }
+    ensures another_command { command_of (codes "verdict x") ≡ None }
+    ensures comment { is_silent (codes "#import 4") ≡ true }
+    ensures no_comment { is_silent (codes " #") ≡ false }
+    ensures two_keys { AreKeys (198 ∷ 7 ∷ 4 ∷ 0 ∷ 0 ∷ 3 ∷ 232 ∷ 27 ∷ 1 ∷ 198 ∷ 7 ∷ 4 ∷ 0 ∷ 0 ∷ 3 ∷ 232 ∷ 27 ∷ 2 ∷ []) ((4 ∷ 0 ∷ 0 ∷ 3 ∷ 232 ∷ 27 ∷ 1 ∷ []) ∷ (4 ∷ 0 ∷ 0 ∷ 3 ∷ 232 ∷ 27 ∷ 2 ∷ []) ∷ []) }
+    ensures taken { spelled (replies.Taken 2 0 2) ≡ codes "ok taken 2 skipped 0 new 2\n" }
+    ensures no_keys { spelled (replies.Keys 0 []) ≡ codes "keys 0\n" }
+    ensures form { IsForm (codes "run" ∷ []) }
+{}
 
 const SAMPLE: &[u8; 113] =
     b"import c6330453f35f0b16092b06010401da470f010107403f098994bdd916ed4053197934e4a87c80733a1280d62f8010992e43ee3b2406";

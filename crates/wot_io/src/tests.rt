@@ -1,4 +1,6 @@
 ghost use Rattle.std.specs.Prelude.{◌≡◌, ◌<◌, ◌∷◌, [], length, IsErr, None};
+ghost use Rattle.std.specs.Prelude.{codes, ◌++◌};
+ghost use Rattle.wot_io.specs.Input.{lines_of, whole_lines_of};
 ghost use Rattle.wot_io.specs.Memory.{room_left};
 
 use crate::{
@@ -55,8 +57,18 @@ fn tell_text(text: &[u8], seen: &mut String) -> Result<(), Fail> {
     Ok(())
 }
 
+/// The definitions of lines, worked out on "a", a carriage return alone, nothing, and "b".
+fn rows()
+    ensures lines { lines_of (97 ∷ 10 ∷ 13 ∷ 10 ∷ 10 ∷ 98 ∷ [])
+        ≡ (97 ∷ []) ∷ (13 ∷ []) ∷ [] ∷ (98 ∷ []) ∷ [] }
+    ensures whole { whole_lines_of (97 ∷ 10 ∷ 13 ∷ 10 ∷ 10 ∷ 98 ∷ [])
+        ≡ (97 ∷ []) ∷ (13 ∷ []) ∷ [] ∷ [] }
+    ensures feed_at_the_end { lines_of (codes "keys" ++ 10 ∷ []) ≡ codes "keys" ∷ [] }
+{}
+
 #[test]
 fn lines_are_the_parts_between_line_feeds(rt: HostRuntime) -> Result<(), Fail> {
+    rows();
     let alloc = rt.alloc();
     let rows: [(&[u8], &str); 9] = [
         (b"", "."),

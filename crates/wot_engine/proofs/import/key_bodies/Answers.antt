@@ -1,7 +1,6 @@
-use Rattle.std.proofs.Common.{◌≡◌, ◌≢◌, ◌++◌, ◌∷◌, [], List, ℕ, map, length, ap, sym, ◌∙◌, nat_eq, true, false, refl, Bor, arith}
-use Rattle.std.proofs.lemmas.Bool.{eqb-true, eq-eqb}
-use Rattle.std.proofs.lemmas.List.{map_push, nil_from_length}
-use Rattle.wot_engine.proofs.Spelling.{Splits, Splits-stuck, Splits-more, Splits-empty, some-length, is-none, no-bodies}
+use Rattle.std.proofs.Common.{◌≡◌, ◌++◌, ◌∷◌, [], map}
+use Rattle.std.proofs.lemmas.List.{map_push}
+use Rattle.wot_engine.proofs.Spelling.{Splits-stuck, Splits-more, Splits-empty, some-length, is-none, no-bodies}
 use Rattle.wot_engine.proofs.import.key_bodies.Goals as goal
 
 pub returns-in_default : goal.returns-in_default

@@ -1,6 +1,4 @@
-use Rattle.std.proofs.Common.{◌≡◌, ◌++◌, ◌∷◌, [], List, ap, sym, ◌∙◌}
-use Rattle.wot_types.specs.declared.fpr.Fpr.{Fpr}
-use Rattle.wot_engine.specs.State.{Certs}
+use Rattle.std.proofs.Common.{ap, sym, ◌∙◌}
 use Rattle.wot_engine.specs.Undo.{without}
 use Rattle.wot_engine.proofs.Undoing.{without-push}
 use Rattle.wot_engine.proofs.keyring.undo.Goals as goal

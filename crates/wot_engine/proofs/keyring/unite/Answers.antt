@@ -1,5 +1,5 @@
-use Rattle.std.proofs.Common.{◌≡◌, ◌≤◌, ◌+◌, ◌<◌, ◌++◌, ◌∷◌, [], List, ℕ, map, drop, get_or, length, Option, Some, None, ap, sym, ◌∙◌, refl, arith, vec_len, vec_capacity}
-use Rattle.wot_engine.specs.Import.{unite_all, unite_one}
+use Rattle.std.proofs.Common.{◌+◌, ℕ, map, drop, Option, Some, ap, sym, ◌∙◌, arith, vec_len}
+use Rattle.wot_engine.specs.Import.{unite_all}
 use Rattle.wot_engine.specs.State.{Certs}
 use Rattle.wot_engine.proofs.Uniting.{keys_at, step, unite_all-none}
 use Rattle.wot_engine.proofs.keyring.unite.Goals as goal

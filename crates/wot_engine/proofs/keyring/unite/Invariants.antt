@@ -1,4 +1,4 @@
-use Rattle.std.proofs.Common.{◌≡◌, ◌≤◌, ◌+◌, map, drop, length, Some, vec_len, vec_capacity}
+use Rattle.std.proofs.Common.{◌≡◌, ◌≤◌, map, drop, length, Some, vec_len, vec_capacity}
 use Rattle.wot_engine.specs.Import.{unite_all, united}
 use Rattle.wot_engine.specs.Undo.{without}
 use Rattle.wot_engine.proofs.keyring.unite.Given as goal

@@ -1,5 +1,4 @@
-use Rattle.std.proofs.Common.{◌≡◌, ◌++◌, ◌∷◌, [], List, refl}
-use Rattle.wot_types.specs.declared.fpr.Fpr.{Fpr}
+use Rattle.std.proofs.Common.{◌≡◌, ◌++◌, ◌∷◌, [], refl}
 use Rattle.wot_engine.specs.Undo.{without}
 use Rattle.wot_engine.proofs.Uniting.{without_new}
 use Rattle.wot_engine.proofs.keyring.unite_key.Goals as goal

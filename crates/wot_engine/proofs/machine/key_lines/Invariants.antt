@@ -1,6 +1,4 @@
 use Rattle.std.proofs.Common.{◌≡◌, ◌++◌, map}
-use Rattle.wot_engine.specs.declared.reply.KeyLine.{KeyLine}
-use Rattle.wot_types.specs.declared.fpr.Fpr.{Fpr}
 use Rattle.wot_engine.specs.Step.{bare_line, key_lines_of}
 use Rattle.wot_engine.proofs.machine.key_lines.Given as goal
 

@@ -1,8 +1,5 @@
-use Rattle.std.proofs.Common.{◌≡◌, ◌≢◌, ◌^◌, ◌≤◌, ◌<◌, List, ℕ, [], refl, None, rules, arith}
-use Rattle.std.proofs.lemmas.Result.{err_from_is_err_and}
-use Rattle.std.proofs.lemmas.Grind.{common_steps}
-use Rattle.wot_io.specs.declared.lines.Line.TheVariants.{Text, Long, End}
-use Rattle.wot_engine.proofs.Turns.{Answered-stop, Told-weaker, Turns, Turns-reply, Stood-write, Begun-cut, Begun-here, Begun-nothing, Most-cut, Most-stop}
+use Rattle.std.proofs.Common.{◌≡◌, ◌^◌, ◌<◌, refl, arith}
+use Rattle.wot_engine.proofs.Turns.{Answered-end, Answered-stop, Told-weaker, Turns-reply, Stood-write, Begun-cut, Begun-nothing, Most-cut, Most-stop}
 use Rattle.wot_engine.proofs.run.run.Goals as goal
 
 pub returns-in-Err-ReadFault-clause-taken : goal.returns-in-Err-ReadFault-clause-taken
@@ -50,3 +47,8 @@ returns-in-Err-ReadFault-clause-most_only g c =
 
 pub returns-in_err-lines-clause-front : goal.returns-in_err-lines-clause-front
 returns-in_err-lines-clause-front g c = Begun-nothing (g.S.Source.left c.args.input.now) (g.K.Sink.written c.args.output.now)
+
+pub returns-in-Ok-End-clause-whole : goal.returns-in-Ok-End-clause-whole
+returns-in-Ok-End-clause-whole g c =
+    Answered-end (g.S.Source.left c.args.input.now) (g.K.Sink.written c.args.output.now) c.lines.lines (g.S.Source.left c.lines.input) (g.K.Sink.written c.lines.output) c.lines.machine c.next.new.self (g.S.Source.left c.next.new.from)
+    c.lines.invariant.stood (rw c.in-Ok-End.field-0-is at c.in-Ok-End.ensures.ok)

@@ -1,0 +1,34 @@
+//! The toolchain's own crates, alone: `wot_bench hex SIZE COUNT` reads the digits of that many octets, and
+//! `wot_bench sha1 SIZE COUNT` hashes them, COUNT times each.
+use sha1::Sha1;
+use std::io;
+use std::rt::Clock;
+use std::time::Instant;
+
+pub fn hex(rt: &(impl Print + AllocGlobal + Clock), size: usize, count: usize) -> io::Result<()> {
+    let octets = vec![in rt.alloc(); 0x5au8; size]?;
+    let digits = hex::encode(rt.alloc(), octets.as_slice())?;
+    let start = Instant::now(rt)?;
+    let mut read = 0u64;
+    for _ in 0..count {
+        if let Ok(octets) = hex::decode(rt.alloc(), digits.as_bytes()) {
+            read = read.wrapping_add(octets.len() as u64);
+        }
+    }
+    let seconds = start.elapsed(rt)?.as_secs_f64();
+    println!(rt; "{read} octets from digits, {seconds} s")
+}
+
+pub fn sha1(rt: &(impl Print + AllocGlobal + Clock), size: usize, count: usize) -> io::Result<()> {
+    let octets = vec![in rt.alloc(); 0x5au8; size]?;
+    let start = Instant::now(rt)?;
+    let mut last = 0u8;
+    for _ in 0..count {
+        let mut hasher = Sha1::new();
+        hasher.update(&octets);
+        let digest = hasher.finalize();
+        last ^= digest[0];
+    }
+    let seconds = start.elapsed(rt)?.as_secs_f64();
+    println!(rt; "{count} times {size} octets hashed, {seconds} s ({last})")
+}

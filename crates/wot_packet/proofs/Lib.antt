@@ -1,0 +1,9 @@
+pub mod Bounds
+pub mod First
+pub mod Headers
+pub mod Joining
+pub mod Exact
+pub mod Lengths
+pub mod Lists
+pub mod Looping
+pub mod Shortest

@@ -1,0 +1,5 @@
+use Rattle.wot_packet.proofs.Joining.{joined}
+use Rattle.wot_packet.proofs.laws.joined.Goals as goal
+
+pub returns : goal.returns
+returns c = joined

@@ -1,0 +1,64 @@
+ghost use Rattle.std.specs.Prelude.{◌≡◌, ◌<◌, ◌≤◌, ◌^◌, List, length, IfOk, IfErr};
+ghost use Rattle.std.specs.List.{All};
+ghost use Rattle.wot_packet.specs.Answers.{Finds, IfPacket, Gives, AnswersList, AnswersFault};
+ghost use Rattle.wot_packet.specs.Reading.{first_of, packets_of};
+ghost use Rattle.wot_packet.specs.Seen.{first_seen};
+ghost use Rattle.wot_packet.specs.Spelling.{Spelled, Spells, IsFirstFault, spelled_all};
+ghost use Rattle.wot_packet.specs.declared.packet.PacketFault.{PacketFault};
+
+use crate::header::read_header;
+use crate::{Packet, PacketFault, ReadFault, Why};
+use std::alloc::Global;
+
+/// The packet at the front of the octets, which begin at this place, and what is behind it.
+fn first_packet(octets: &[u8], at: usize) -> Result<(Packet<'_>, &[u8]), Why>
+    ensures place { IfOk result (λ found. found.0.at ≡ at) }
+    ensures first { Finds (λ found. first_seen found.0 found.1.now) result (first_of octets.now) }
+{
+    let header = read_header(octets)?;
+    if header.rest.len() < header.length {
+        return Err(Why::CutBody);
+    }
+    let (body, rest) = header.rest.split_at(header.length);
+    Ok((
+        Packet {
+            kind: header.kind,
+            at,
+            body,
+        },
+        rest,
+    ))
+}
+
+/// Reads a text as a list of packets, each with the place of its first octet, in either format and with lengths
+/// of every form but the partial and the indeterminate one (RFC 9580, section 4.2). An empty text is the empty
+/// list. No octet is copied: the list of packets is all that takes memory.
+pub fn read_packets<'a>(alloc: Global, bytes: &'a [u8]) -> Result<Vec<Packet<'a>>, ReadFault>
+    // What is answered is what the text spells, or its first fault.
+    ensures spelled { IfOk result (λ packets. Spells bytes.now (spelled_all packets.items)) }
+    ensures fault { IfErr result (λ answer. IfPacket answer (λ fault. IsFirstFault bytes.now fault)) }
+    // The same, by the plain reader.
+    ensures reader { Gives (λ found. spelled_all found.items) result (packets_of bytes.now) }
+    // A packet that was read can be written.
+    ensures bounds { IfOk result (λ packets. All (λ packet.
+        (packet.kind ≤ 63) × (length packet.body.now < 2 ^ 32)) packets.items) }
+
+    // Each list that the text spells is answered, and each first fault told, unless no memory is found.
+    ensures each_list { (packets : List Spelled) → Spells bytes.now packets →
+        AnswersList (λ found. spelled_all found.items) result packets }
+    ensures each_fault { (fault : PacketFault) → IsFirstFault bytes.now fault →
+        AnswersFault result fault }
+{
+    let mut packets = Vec::new(alloc);
+    let mut at = 0;
+    'packets: while at < bytes.len() {
+        let (_, octets) = bytes.split_at(at);
+        let (packet, rest) = match first_packet(octets, at) {
+            Ok(found) => found,
+            Err(why) => return Err(ReadFault::Packet(PacketFault { at, why })),
+        };
+        packets.push(packet)?;
+        at = bytes.len() - rest.len();
+    }
+    Ok(packets)
+}

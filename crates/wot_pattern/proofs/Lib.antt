@@ -1,0 +1,10 @@
+pub mod Building
+pub mod Complete
+pub mod Flows
+pub mod Law
+pub mod Loops
+pub mod Lists
+pub mod Marking
+pub mod Sound
+pub mod Tells
+pub mod Walk

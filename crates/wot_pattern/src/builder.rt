@@ -1,0 +1,170 @@
+ghost use Rattle.std.specs.Prelude.{◌≡◌, ℕ, suc, [], ◌∷◌, ◌++◌, List, IfErr, IfOk, OnOk};
+ghost use Rattle.wot_pattern.specs.Reading.{Reading, single};
+ghost use Rattle.wot_pattern.specs.Nodes.{atom_of, tokens_of};
+ghost use Rattle.wot_pattern.specs.Tokens.{tokens};
+ghost use Rattle.wot_pattern.specs.Steps.{State, Level, Builds, flat, fresh, with_atom, entered, left, barred, with_piece, applied, level_so_far, outer_tokens, atom};
+ghost use Rattle.wot_pattern.specs.declared.fault.PatternFault.TheVariants.{Unreadable, Memory};
+
+use crate::fault::PatternFault;
+use crate::node::{Leaf, Node};
+use crate::pattern::Pattern;
+use std::alloc::Global;
+
+/// What was read last of a branch.
+#[derive(Clone, Copy, Debug, PartialEq, Eq)]
+pub enum LastRead {
+    Nothing,
+    /// An atom, to which an operator may still apply.
+    Atom,
+    /// An atom with its operator.
+    Piece,
+}
+
+/// What stands behind an atom.
+#[derive(Clone, Copy, Debug, PartialEq, Eq)]
+pub enum Operator {
+    Star,
+    Plus,
+    Optional,
+}
+
+/// How many parentheses may be open at once.
+const LEVELS: usize = 64;
+
+/// Puts the nodes of a pattern together, from its front on.
+#[derive(Drop)]
+pub struct Builder {
+    pub nodes: Vec<Node>,
+    /// Of each level that is left open: whether it has a branch before the present one.
+    pub outer: Vec<bool>,
+    /// The same of the present level.
+    pub earlier: bool,
+    pub last: LastRead,
+}
+
+impl Builder {
+    pub fn new(alloc: Global) -> Result<Builder, PatternFault>
+        ensures fault { IfErr result (λ e. e ≡ Memory) }
+        ensures fresh { IfOk result (λ b. Builds b (fresh 64 [])) }
+    {
+        let mut nodes = Vec::new(alloc);
+        nodes.push(Node::Nothing)?;
+        Ok(Builder {
+            nodes,
+            outer: Vec::new(alloc),
+            earlier: false,
+            last: LastRead::Nothing,
+        })
+    }
+
+    /// Puts what was read last into the branch.
+    fn flush(&mut self) -> Result<(), PatternFault>
+        ensures fault { IfErr result (λ e. e ≡ Memory) }
+        ensures flat { OnOk result ((s : State) → Builds self.old s → Builds self.new (flat s)) }
+        ensures outer { OnOk result (self.new.outer.items ≡ self.old.outer.items) }
+    {
+        match self.last {
+            LastRead::Nothing => {}
+            LastRead::Atom => self.nodes.push(Node::Sequence)?,
+            LastRead::Piece => self.nodes.push(Node::Sequence)?,
+        }
+        self.last = LastRead::Nothing;
+        Ok(())
+    }
+
+    /// Puts the branches of the present level together.
+    fn join(&mut self) -> Result<(), PatternFault>
+        ensures fault { IfErr result (λ e. e ≡ Memory) }
+        ensures joined { OnOk result ((s : State) → Builds self.old s → tokens_of self.new.nodes.items ≡ outer_tokens s.outer ++ tokens (level_so_far s)) }
+        ensures outer { OnOk result (self.new.outer.items ≡ self.old.outer.items) }
+    {
+        self.flush()?;
+        if self.earlier {
+            self.nodes.push(Node::Either)?;
+        }
+        Ok(())
+    }
+
+    pub fn atom(&mut self, leaf: Leaf) -> Result<(), PatternFault>
+        ensures fault { IfErr result (λ e. e ≡ Memory) }
+        ensures builds { OnOk result ((s : State) → Builds self.old s → Builds self.new (with_atom s (single (atom_of leaf)))) }
+    {
+        self.flush()?;
+        self.nodes.push(Node::Single(leaf))?;
+        self.last = LastRead::Atom;
+        Ok(())
+    }
+
+    /// An opening parenthesis, which is unreadable where too many are open.
+    pub fn open(&mut self) -> Result<(), PatternFault>
+        ensures builds { OnOk result ((s : State) → Builds self.old s → (n : ℕ) × (s.levels ≡ suc n) × Builds self.new (entered s n)) }
+        ensures unreadable { IfErr result (λ e. e ≡ Unreadable → (s : State) → Builds self.old s → s.levels ≡ 0) }
+    {
+        if self.outer.len() >= LEVELS {
+            return Err(PatternFault::Unreadable);
+        }
+        self.flush()?;
+        self.outer.push(self.earlier)?;
+        self.nodes.push(Node::Nothing)?;
+        self.earlier = false;
+        Ok(())
+    }
+
+    /// A closing parenthesis, which is unreadable where none is open.
+    pub fn close(&mut self) -> Result<(), PatternFault>
+        ensures builds { OnOk result ((s : State) → Builds self.old s → (f : Level) × (fs : List Level) × (s.outer ≡ f ∷ fs) × Builds self.new (left s f fs)) }
+        ensures unreadable { IfErr result (λ e. e ≡ Unreadable → (s : State) → Builds self.old s → s.outer ≡ []) }
+    {
+        self.join()?;
+        let Some(earlier) = self.outer.pop() else {
+            return Err(PatternFault::Unreadable);
+        };
+        self.earlier = earlier;
+        self.last = LastRead::Atom;
+        Ok(())
+    }
+
+    /// The end of a branch that another one follows.
+    pub fn bar(&mut self) -> Result<(), PatternFault>
+        ensures fault { IfErr result (λ e. e ≡ Memory) }
+        ensures builds { OnOk result ((s : State) → Builds self.old s → Builds self.new (barred s)) }
+    {
+        self.join()?;
+        self.nodes.push(Node::Nothing)?;
+        self.earlier = true;
+        self.last = LastRead::Nothing;
+        Ok(())
+    }
+
+    /// An operator, which is unreadable where no atom stands before it.
+    pub fn repeat(&mut self, operator: Operator) -> Result<(), PatternFault>
+        ensures builds { OnOk result ((s : State) → Builds self.old s → (a : Reading) × (s.last ≡ atom a) × Builds self.new (with_piece s (applied operator a))) }
+        ensures unreadable { IfErr result (λ e. e ≡ Unreadable → (s : State) (a : Reading) → Builds self.old s → s.last ≡ atom a → ⊥) }
+    {
+        if self.last != LastRead::Atom {
+            return Err(PatternFault::Unreadable);
+        }
+        let node = match operator {
+            Operator::Star => Node::Star,
+            Operator::Plus => Node::Plus,
+            Operator::Optional => Node::Optional,
+        };
+        self.nodes.push(node)?;
+        self.last = LastRead::Piece;
+        Ok(())
+    }
+
+    /// The end of the text, which is unreadable where a parenthesis is open.
+    pub fn finish(mut self) -> Result<Pattern, PatternFault>
+        requires { (s : State) × Builds self s }
+        ensures whole { IfOk result (λ p. (s : State) → Builds self s → (s.outer ≡ []) × (p ≡ level_so_far s)) }
+        ensures unreadable { IfErr result (λ e. e ≡ Unreadable → (s : State) → Builds self s → s.outer ≡ [] → ⊥) }
+    {
+        self.join()?;
+        if !self.outer.is_empty() {
+            return Err(PatternFault::Unreadable);
+        }
+        let Builder { nodes, .. } = self;
+        Ok(Pattern::from_nodes(nodes))
+    }
+}

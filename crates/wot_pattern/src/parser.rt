@@ -1,0 +1,133 @@
+ghost use Rattle.std.specs.Prelude.{◌≡◌, ℕ, ◌+◌, ◌<◌, ◌≤◌, List, [], length, drop, slice_index, IfOk, IfErr};
+ghost use Rattle.std.specs.Str.{chars};
+ghost use Rattle.wot_pattern.specs.Reading.{Reading};
+ghost use Rattle.wot_pattern.specs.Grammar.{Reads, Says, pattern};
+ghost use Rattle.wot_pattern.specs.Steps.{State, Builds, Step, StepBy};
+ghost use Rattle.wot_pattern.specs.declared.fault.PatternFault.TheVariants.{Unreadable};
+
+use crate::builder::{Builder, Operator};
+use crate::fault::PatternFault;
+use crate::mark::{Mark, mark_of};
+use crate::node::Leaf;
+use crate::pattern::Pattern;
+use crate::range::read_range;
+use std::alloc::Global;
+
+/// How many characters a pattern may have.
+const LONGEST: usize = 1024;
+
+/// Reads a pattern (RFC 9580, section 8), of at most 1,024 characters, with parentheses nested at most 64 deep. `Unreadable`
+/// comes exactly where the text is no such pattern.
+pub fn parse(alloc: Global, text: &str) -> Result<Pattern, PatternFault>
+    ensures read { IfOk result (λ p. Says (chars text.now) p) }
+    ensures unreadable { IfErr result (λ e. e ≡ Unreadable → (p : Reading) → Says (chars text.now) p → ⊥) }
+{
+    let characters = characters_of(alloc, text)?;
+    read_pattern(alloc, &characters)
+}
+
+/// A text says one thing at most.
+#[tactic(auto, using(crate::proofs::Law::says_one))]
+pub fn one_reading()
+    ensures one { (text : List ℕ) (p q : Reading) → Says text p → Says text q → p ≡ q }
+{}
+
+/// The characters of a text that isn't too long.
+fn characters_of(alloc: Global, text: &str) -> Result<Vec<char>, PatternFault>
+    ensures all { IfOk result (λ v. v.items ≡ chars text.now) }
+    ensures short { IfOk result (λ v. length v.items ≤ 1024) }
+    ensures long { IfErr result (λ e. e ≡ Unreadable → 1024 < length (chars text.now)) }
+{
+    let mut characters = Vec::new(alloc);
+    let mut rest = text.chars();
+    'characters: while let Some(character) = rest.next() {
+        if characters.len() >= LONGEST {
+            return Err(PatternFault::Unreadable);
+        }
+        characters.push(character)?;
+    }
+    Ok(characters)
+}
+
+fn read_pattern(alloc: Global, text: &[char]) -> Result<Pattern, PatternFault>
+    ensures read { IfOk result (λ p. Reads pattern 64 text.now p []) }
+    ensures unreadable { IfErr result (λ e. e ≡ Unreadable → (p : Reading) → Reads pattern 64 text.now p [] → ⊥) }
+{
+    let mut builder = Builder::new(alloc)?;
+    let mut at = 0;
+    'steps: while at < text.len() {
+        let mark = mark_of(text[at]);
+        at = step_by(alloc, &mut builder, text, at, mark)?;
+    }
+    builder.finish()
+}
+
+/// Reads on from a character with this mark, and gives the place behind what was read.
+fn step_by(
+    alloc: Global,
+    builder: &mut Builder,
+    text: &[char],
+    at: usize,
+    mark: Mark,
+) -> Result<usize, PatternFault>
+    requires { at < length text.now }
+    ensures built { IfOk result (λ next. (s : State) → Builds builder.old s → (s' : State) × StepBy mark s (slice_index text.now at) (drop (at + 1) text.now) s' (drop next text.now) × Builds builder.new s') }
+    ensures within { IfOk result (λ next. (at < next) × (next ≤ length text.now)) }
+    ensures unreadable { IfErr result (λ e. e ≡ Unreadable → (s s' : State) (t : List ℕ) → Builds builder.old s → StepBy mark s (slice_index text.now at) (drop (at + 1) text.now) s' t → ⊥) }
+{
+    let behind = at + 1;
+    match mark {
+        Mark::Escape => {
+            if behind >= text.len() {
+                return Err(PatternFault::Unreadable);
+            }
+            builder.atom(Leaf::Exactly(text[behind]))?;
+            Ok(behind + 1)
+        }
+        Mark::Bracket => {
+            let (leaf, end) = read_range(alloc, text, behind)?;
+            builder.atom(leaf)?;
+            Ok(end)
+        }
+        Mark::Open => {
+            builder.open()?;
+            Ok(behind)
+        }
+        Mark::Close => {
+            builder.close()?;
+            Ok(behind)
+        }
+        Mark::Bar => {
+            builder.bar()?;
+            Ok(behind)
+        }
+        Mark::Any => {
+            builder.atom(Leaf::Any)?;
+            Ok(behind)
+        }
+        Mark::Start => {
+            builder.atom(Leaf::Start)?;
+            Ok(behind)
+        }
+        Mark::End => {
+            builder.atom(Leaf::End)?;
+            Ok(behind)
+        }
+        Mark::Star => {
+            builder.repeat(Operator::Star)?;
+            Ok(behind)
+        }
+        Mark::Plus => {
+            builder.repeat(Operator::Plus)?;
+            Ok(behind)
+        }
+        Mark::Optional => {
+            builder.repeat(Operator::Optional)?;
+            Ok(behind)
+        }
+        Mark::Plain => {
+            builder.atom(Leaf::Exactly(text[at]))?;
+            Ok(behind)
+        }
+    }
+}

@@ -1,0 +1,121 @@
+ghost use Rattle.std.specs.Prelude.{◌≡◌, ℕ, ◌+◌, ◌<◌, ◌≤◌, ◌∷◌, ◌++◌, List, Some, None, length, drop, IfOk, IfErr, IfSome, IsNone};
+ghost use Rattle.wot_pattern.specs.Reading.{Atom, range};
+ghost use Rattle.wot_pattern.specs.Nodes.{atom_of};
+ghost use Rattle.wot_pattern.specs.Grammar.{item, first_item, Items, Range};
+ghost use Rattle.wot_pattern.specs.declared.item.Item.{Item};
+ghost use Rattle.wot_pattern.specs.declared.fault.PatternFault.TheVariants.{Unreadable, Memory};
+
+use crate::fault::PatternFault;
+use crate::item::Item;
+use crate::node::Leaf;
+use std::alloc::Global;
+
+/// The item at the front of a text, and how many characters it takes.
+fn read_item(text: &[char]) -> Option<(Item, usize)>
+    ensures some { IfSome result (λ read. item text.now ≡ Some (read.0, drop read.1 text.now)) }
+    ensures within { IfSome result (λ read. (0 < read.1) × (read.1 ≤ length text.now)) }
+    ensures none { IsNone result → item text.now ≡ None }
+{
+    match text {
+        [] => None,
+        [from, dash, to, ..] => {
+            if *dash == '-' && *to != ']' {
+                if *from <= *to {
+                    Some((
+                        Item {
+                            from: *from,
+                            to: *to,
+                        },
+                        3,
+                    ))
+                } else {
+                    None
+                }
+            } else {
+                Some((
+                    Item {
+                        from: *from,
+                        to: *from,
+                    },
+                    1,
+                ))
+            }
+        }
+        [only, ..] => Some((
+            Item {
+                from: *only,
+                to: *only,
+            },
+            1,
+        )),
+    }
+}
+
+/// The same for the first item of a range, where a dash stands for itself alone.
+fn read_first_item(text: &[char]) -> Option<(Item, usize)>
+    ensures some { IfSome result (λ read. first_item text.now ≡ Some (read.0, drop read.1 text.now)) }
+    ensures within { IfSome result (λ read. (0 < read.1) × (read.1 ≤ length text.now)) }
+    ensures none { IsNone result → first_item text.now ≡ None }
+{
+    match text {
+        ['-', ..] => Some((Item { from: '-', to: '-' }, 1)),
+        _ => read_item(text),
+    }
+}
+
+/// Reads the items of a range after its first, up to the closing bracket, and gives the place behind that.
+fn read_items(items: &mut Vec<Item>, text: &[char], start: usize) -> Result<usize, PatternFault>
+    requires { start ≤ length text.now }
+    ensures read { IfOk result (λ end. (xs : List Item) × (items.new.items ≡ items.old.items ++ xs) × Items (drop start text.now) xs (drop end text.now)) }
+    ensures within { IfOk result (λ end. (start < end) × (end ≤ length text.now)) }
+    ensures unreadable { IfErr result (λ e. e ≡ Unreadable → (xs : List Item) (r : List ℕ) → Items (drop start text.now) xs r → ⊥) }
+{
+    let mut at = start;
+    'items: while at < text.len() {
+        if text[at] == ']' {
+            return Ok(at + 1);
+        }
+        let Some((item, taken)) = read_item(&text[at..]) else {
+            return Err(PatternFault::Unreadable);
+        };
+        items.push(item)?;
+        at += taken;
+    }
+    Err(PatternFault::Unreadable)
+}
+
+/// Reads a range behind its opening bracket and its mark of negation.
+fn read_all_items(
+    alloc: Global,
+    text: &[char],
+    start: usize,
+    negated: bool,
+) -> Result<(Leaf, usize), PatternFault>
+    requires { start ≤ length text.now }
+    ensures read { IfOk result (λ read. (x : Item) × (u : List ℕ) × (xs : List Item) × (first_item (drop start text.now) ≡ Some (x, u)) × Items u xs (drop read.1 text.now) × (atom_of read.0 ≡ range negated (x ∷ xs))) }
+    ensures within { IfOk result (λ read. (start < read.1) × (read.1 ≤ length text.now)) }
+    ensures unreadable { IfErr result (λ e. e ≡ Unreadable → (x : Item) (u : List ℕ) (xs : List Item) (r : List ℕ) → first_item (drop start text.now) ≡ Some (x, u) → Items u xs r → ⊥) }
+{
+    let Some((first, taken)) = read_first_item(&text[start..]) else {
+        return Err(PatternFault::Unreadable);
+    };
+    let mut items = Vec::new(alloc);
+    items.push(first)?;
+    let end = read_items(&mut items, text, start + taken)?;
+    Ok((Leaf::Range { negated, items }, end))
+}
+
+/// Reads a range behind its opening bracket, and gives the place behind the closing one.
+pub fn read_range(alloc: Global, text: &[char], start: usize) -> Result<(Leaf, usize), PatternFault>
+    requires { start ≤ length text.now }
+    ensures read { IfOk result (λ read. Range (drop start text.now) (atom_of read.0) (drop read.1 text.now)) }
+    ensures within { IfOk result (λ read. (start < read.1) × (read.1 ≤ length text.now)) }
+    ensures unreadable { IfErr result (λ e. e ≡ Unreadable → (a : Atom) (r : List ℕ) → Range (drop start text.now) a r → ⊥) }
+{
+    if start < text.len() && text[start] == '^' {
+        let (leaf, end) = read_all_items(alloc, text, start + 1, true)?;
+        return Ok((leaf, end));
+    }
+    let (leaf, end) = read_all_items(alloc, text, start, false)?;
+    Ok((leaf, end))
+}

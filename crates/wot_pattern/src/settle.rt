@@ -1,0 +1,106 @@
+ghost use Rattle.std.specs.Prelude.{◌≡◌, ◌+◌, ◌<◌, ◌≤◌, [], length, reverse, vec_len, vec_capacity};
+ghost use Rattle.wot_pattern.specs.Nodes.{token_of, tokens_of};
+ghost use Rattle.wot_pattern.specs.Passes.{settled_one, settled, top};
+
+use crate::flow::Flow;
+use crate::leaf::holds_empty;
+use crate::node::Node;
+use crate::stack::{put, take_or};
+
+/// Takes the flows of the trees in this node off the stack, puts the flow of its own tree there, and gives the node's slot.
+fn settle_one(node: &Node, slot: Flow, ready: &mut Vec<Flow>, first: bool, last: bool) -> Flow
+    requires { vec_len ready.old < vec_capacity ready.old }
+    ensures slot { result ≡ (settled_one first last (token_of node.now) slot (reverse ready.old.items)).0 }
+    ensures ready { reverse ready.new.items ≡ (settled_one first last (token_of node.now) slot (reverse ready.old.items)).1 }
+    ensures longer { vec_len ready.new ≤ vec_len ready.old + 1 }
+    ensures room { vec_capacity ready.old ≤ vec_capacity ready.new }
+{
+    match node {
+        Node::Nothing => {
+            put(
+                ready,
+                Flow {
+                    empty: true,
+                    ended: false,
+                },
+            );
+            slot
+        }
+        Node::Single(leaf) => {
+            let empty = holds_empty(leaf, first, last);
+            put(
+                ready,
+                Flow {
+                    empty,
+                    ended: slot.ended,
+                },
+            );
+            slot
+        }
+        Node::Sequence => {
+            let second = take_or(ready, Flow::NONE);
+            let front = take_or(ready, Flow::NONE);
+            let empty = front.empty && second.empty;
+            let ended = second.ended || (front.ended && second.empty);
+            put(ready, Flow { empty, ended });
+            front
+        }
+        Node::Either => {
+            let second = take_or(ready, Flow::NONE);
+            let front = take_or(ready, Flow::NONE);
+            let empty = front.empty || second.empty;
+            let ended = front.ended || second.ended;
+            put(ready, Flow { empty, ended });
+            slot
+        }
+        Node::Star => {
+            let inner = take_or(ready, Flow::NONE);
+            put(
+                ready,
+                Flow {
+                    empty: true,
+                    ended: inner.ended,
+                },
+            );
+            inner
+        }
+        Node::Plus => {
+            let inner = take_or(ready, Flow::NONE);
+            put(ready, inner);
+            inner
+        }
+        Node::Optional => {
+            let inner = take_or(ready, Flow::NONE);
+            put(
+                ready,
+                Flow {
+                    empty: true,
+                    ended: inner.ended,
+                },
+            );
+            slot
+        }
+    }
+}
+
+/// The first pass at a place of the text: what the tree lets through there. The place may be the text's first or its last.
+pub fn settle(
+    nodes: &[Node],
+    slots: &mut [Flow],
+    ready: &mut Vec<Flow>,
+    first: bool,
+    last: bool,
+) -> Flow
+    requires slots { length slots.old ≡ length nodes.now }
+    requires room { length nodes.now ≤ vec_capacity ready.old }
+    ensures slots { slots.new ≡ (settled first last (tokens_of nodes.now) slots.old []).0 }
+    ensures through { result ≡ top (settled first last (tokens_of nodes.now) slots.old []).1 }
+    ensures room { vec_capacity ready.old ≤ vec_capacity ready.new }
+{
+    ready.clear();
+    for at in 0..nodes.len() {
+        let slot = settle_one(&nodes[at], slots[at], ready, first, last);
+        slots[at] = slot;
+    }
+    take_or(ready, Flow::NONE)
+}

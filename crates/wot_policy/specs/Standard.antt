@@ -1,0 +1,37 @@
+-- The standard rows, by the hash numbers of RFC 9580, section 9.5.
+use Rattle.std.specs.Prelude.{◌≡◌, ℕ, ◌<◌, if◌then◌else◌, nat_eq, List, [], ◌∷◌}
+use Rattle.wot_policy.specs.declared.rows.Ask.{Ask}
+use Rattle.wot_policy.specs.declared.rows.Row.{Row}
+use Rattle.wot_policy.specs.declared.rows.Row.TheVariants.{Never, Before, Always}
+use Rattle.wot_policy.specs.declared.rows.PolicyRows.{PolicyRows}
+use Rattle.wot_policy.specs.Admits.{row_of}
+
+-- the first moment of 1 February 2013, in seconds from 1970 on
+abbrev pub february_2013 : ℕ
+february_2013 = 1359676800
+
+-- the hash numbers that still count
+abbrev pub standard_table : List (ℕ × Row)
+standard_table =
+    (2, Before february_2013)  -- SHA-1
+    ∷ (3, Before february_2013)  -- RIPEMD-160
+    ∷ (8, Always)  -- SHA2-256
+    ∷ (9, Always)  -- SHA2-384
+    ∷ (10, Always)  -- SHA2-512
+    ∷ (11, Always)  -- SHA2-224
+    ∷ (12, Always)  -- SHA3-256
+    ∷ (14, Always)  -- SHA3-512
+    ∷ []
+
+-- the row of a hash number in a table; every number that is not there is refused
+abbrev pub found_in : List (ℕ × Row) → ℕ → Row
+found_in [] hash = Never
+found_in (entry ∷ rest) hash = if nat_eq hash entry.0 then entry.1 else found_in rest hash
+
+-- the standard row of a hash number
+unfoldable pub standard_row : ℕ → Row
+standard_row hash = found_in standard_table hash
+
+-- The row of each ask is the standard one of its hash number.
+abbrev pub IsStandard : PolicyRows → Type 0
+IsStandard rows = (ask : Ask) → ask.hash < 256 → row_of rows ask ≡ standard_row ask.hash

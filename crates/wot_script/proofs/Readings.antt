@@ -1,0 +1,164 @@
+-- The lines of commands, joined of their fields, are read as these commands.
+use Rattle.std.proofs.Common.{◌≡◌, ℕ, true, List, [], ◌∷◌, ◌++◌, Option, Some, refl, ap, ◌∙◌, append-nil}
+use Rattle.std.specs.Prelude.{codes}
+use Rattle.std.specs.Option.{option_map}
+use Rattle.wot_types.specs.Fpr.{fpr_of_digits}
+use Rattle.wot_types.specs.SigNumber.{number_of_digits}
+use Rattle.wot_types.specs.ViewName.{is_view_name, view_name_of}
+use Rattle.wot_types.specs.declared.fpr.Fpr.{Fpr}
+use Rattle.wot_types.specs.declared.number.SigNumber.{SigNumber}
+use Rattle.wot_script.specs.Decimal.{decimal_up_to, positive_up_to}
+use Rattle.wot_script.specs.Fields.{◌>>=◌, cut, octets_of_hex}
+use Rattle.wot_script.specs.Grammar.{ask_of, asked_of, command_of, drop_of, export_of, import_of, judgement_of, root_of, setting_of, single_of, verdict_of, view_of}
+use Rattle.wot_script.specs.Texts.{joined}
+use Rattle.wot_script.specs.Uid.{unescaped}
+use Rattle.wot_script.specs.declared.command.Command.{Command}
+use Rattle.wot_script.specs.declared.command.Command.TheVariants.{Import, Remove, Good, Bad, Unjudge, Time, Root, Close, Ask, Keys, Export, Dump}
+use Rattle.wot_script.proofs.Spaceless.{Spaceless, cut_spaceless, spaceless_view_name}
+
+-- a second reading behind a first one that gave a
+bound : {A B : Type 0} (o : Option A) (a : A) (f : A → Option B) → o ≡ Some a → (o >>= f) ≡ f a
+bound o a f e = rw e refl
+
+pub import_reads : (digits octets : List ℕ) → octets_of_hex digits ≡ Some octets
+    → command_of (joined (codes "import " ∷ digits ∷ [])) ≡ Some (Import octets)
+unfolding command_of import_of
+import_reads digits octets e = ap (λ text. option_map Import (octets_of_hex text)) (append-nil digits) ∙ ap (option_map Import) e
+
+pub drop_reads : (digits : List ℕ) (fpr : Fpr) → fpr_of_digits digits ≡ Some fpr
+    → command_of (joined (codes "drop " ∷ digits ∷ [])) ≡ Some (Remove fpr)
+unfolding command_of drop_of
+drop_reads digits fpr e = ap (λ text. option_map Remove (fpr_of_digits text)) (append-nil digits) ∙ ap (option_map Remove) e
+
+pub export_reads : (digits : List ℕ) (fpr : Fpr) → fpr_of_digits digits ≡ Some fpr
+    → command_of (joined (codes "export " ∷ digits ∷ [])) ≡ Some (Export fpr)
+unfolding command_of export_of
+export_reads digits fpr e = ap (λ text. option_map Export (fpr_of_digits text)) (append-nil digits) ∙ ap (option_map Export) e
+
+pub keys_reads : command_of (codes "keys") ≡ Some Keys
+unfolding command_of single_of
+keys_reads = refl
+
+pub dump_reads : command_of (codes "dump") ≡ Some Dump
+unfolding command_of single_of
+dump_reads = refl
+
+verdict_reads : (digits text : List ℕ) (number : SigNumber) (command : Command) → Spaceless digits
+    → number_of_digits digits ≡ Some number → judgement_of number text ≡ Some command
+    → command_of (codes "verdict " ++ (digits ++ 32 ∷ text)) ≡ Some command
+unfolding command_of verdict_of
+verdict_reads digits text number command free number_is e =
+    bound (cut (digits ++ 32 ∷ text)) (digits, text) (λ first. number_of_digits first.0 >>= (λ n. judgement_of n first.1))
+    (cut_spaceless digits text free)
+    ∙ bound (number_of_digits digits) number (λ n. judgement_of n text) number_is
+    ∙ e
+
+good_judged : (number : SigNumber) (digits : List ℕ) (fpr : Fpr) → fpr_of_digits digits ≡ Some fpr
+    → judgement_of number (codes "good " ++ (digits ++ [])) ≡ Some (Good number fpr)
+unfolding judgement_of
+good_judged number digits fpr e =
+    ap (λ text. option_map (Good number) (fpr_of_digits text)) (append-nil digits) ∙ ap (option_map (Good number)) e
+
+pub good_reads : (ns ds : List ℕ) (number : SigNumber) (fpr : Fpr) → Spaceless ns → number_of_digits ns ≡ Some number
+    → fpr_of_digits ds ≡ Some fpr
+    → command_of (joined (codes "verdict " ∷ ns ∷ codes " good " ∷ ds ∷ [])) ≡ Some (Good number fpr)
+good_reads ns ds number fpr free number_is fpr_is =
+    verdict_reads ns (codes "good " ++ (ds ++ [])) number (Good number fpr) free number_is (good_judged number ds fpr fpr_is)
+
+bad_judged : (number : SigNumber) → judgement_of number (codes "bad") ≡ Some (Bad number)
+unfolding judgement_of
+bad_judged number = refl
+
+pub bad_reads : (ns : List ℕ) (number : SigNumber) → Spaceless ns → number_of_digits ns ≡ Some number
+    → command_of (joined (codes "verdict " ∷ ns ∷ codes " bad" ∷ [])) ≡ Some (Bad number)
+bad_reads ns number free number_is = verdict_reads ns (codes "bad") number (Bad number) free number_is (bad_judged number)
+
+none_judged : (number : SigNumber) → judgement_of number (codes "none") ≡ Some (Unjudge number)
+unfolding judgement_of
+none_judged number = refl
+
+pub none_reads : (ns : List ℕ) (number : SigNumber) → Spaceless ns → number_of_digits ns ≡ Some number
+    → command_of (joined (codes "verdict " ∷ ns ∷ codes " none" ∷ [])) ≡ Some (Unjudge number)
+none_reads ns number free number_is = verdict_reads ns (codes "none") number (Unjudge number) free number_is (none_judged number)
+
+name_is : (name : List ℕ) → is_view_name name ≡ true → view_name_of name ≡ Some name
+name_is name h = rw h refl
+
+view_reads : (name text : List ℕ) (command : Command) → is_view_name name ≡ true → setting_of name text ≡ Some command
+    → command_of (codes "view " ++ (name ++ 32 ∷ text)) ≡ Some command
+unfolding command_of view_of
+view_reads name text command h e =
+    bound (cut (name ++ 32 ∷ text)) (name, text) (λ first. view_name_of first.0 >>= (λ view. setting_of view first.1))
+    (cut_spaceless name text (spaceless_view_name name h))
+    ∙ bound (view_name_of name) name (λ view. setting_of view text) (name_is name h)
+    ∙ e
+
+time_set : (name digits : List ℕ) (t : ℕ) → decimal_up_to 4294967295 digits ≡ Some t
+    → setting_of name (codes "time " ++ (digits ++ [])) ≡ Some (Time name t)
+unfolding setting_of
+time_set name digits t e =
+    ap (λ text. option_map (Time name) (decimal_up_to 4294967295 text)) (append-nil digits) ∙ ap (option_map (Time name)) e
+
+pub time_reads : (name digits : List ℕ) (t : ℕ) → is_view_name name ≡ true → decimal_up_to 4294967295 digits ≡ Some t
+    → command_of (joined (codes "view " ∷ name ∷ codes " time " ∷ digits ∷ [])) ≡ Some (Time name t)
+time_reads name digits t h e = view_reads name (codes "time " ++ (digits ++ [])) (Time name t) h (time_set name digits t e)
+
+root_of_parts : (name ds text : List ℕ) (fpr : Fpr) (amount : ℕ) → Spaceless ds → fpr_of_digits ds ≡ Some fpr
+    → decimal_up_to 255 text ≡ Some amount → root_of name (ds ++ 32 ∷ text) ≡ Some (Root name fpr amount)
+unfolding root_of
+root_of_parts name ds text fpr amount free fpr_is amount_is =
+    bound (cut (ds ++ 32 ∷ text)) (ds, text)
+    (λ first. fpr_of_digits first.0 >>= (λ f. decimal_up_to 255 first.1 >>= (λ a. Some (Root name f a))))
+    (cut_spaceless ds text free)
+    ∙ bound (fpr_of_digits ds) fpr (λ f. decimal_up_to 255 text >>= (λ a. Some (Root name f a))) fpr_is
+    ∙ bound (decimal_up_to 255 text) amount (λ a. Some (Root name fpr a)) amount_is
+
+root_set : (name text : List ℕ) → setting_of name (codes "root " ++ text) ≡ root_of name text
+unfolding setting_of
+root_set name text = refl
+
+pub root_reads : (name ds an : List ℕ) (fpr : Fpr) (amount : ℕ) → is_view_name name ≡ true → Spaceless ds
+    → fpr_of_digits ds ≡ Some fpr → decimal_up_to 255 an ≡ Some amount
+    → command_of (joined (codes "view " ∷ name ∷ codes " root " ∷ ds ∷ codes " " ∷ an ∷ [])) ≡ Some (Root name fpr amount)
+root_reads name ds an fpr amount h free fpr_is amount_is =
+    view_reads name (codes "root " ++ (ds ++ 32 ∷ (an ++ []))) (Root name fpr amount) h
+    (root_set name (ds ++ 32 ∷ (an ++ []))
+    ∙ root_of_parts name ds (an ++ []) fpr amount free fpr_is (ap (decimal_up_to 255) (append-nil an) ∙ amount_is))
+
+close_set : (name : List ℕ) → setting_of name (codes "close") ≡ Some (Close name)
+unfolding setting_of
+close_set name = refl
+
+pub close_reads : (name : List ℕ) → is_view_name name ≡ true
+    → command_of (joined (codes "view " ∷ name ∷ codes " close" ∷ [])) ≡ Some (Close name)
+close_reads name h = view_reads name (codes "close") (Close name) h (close_set name)
+
+asked_reads : (name ds ws us uid : List ℕ) (fpr : Fpr) (wanted : ℕ) → Spaceless ds → fpr_of_digits ds ≡ Some fpr
+    → Spaceless ws → positive_up_to 4294967295 ws ≡ Some wanted → unescaped us ≡ Some uid
+    → asked_of name (ds ++ 32 ∷ (ws ++ 32 ∷ us)) ≡ Some (Ask name fpr wanted uid)
+unfolding asked_of
+asked_reads name ds ws us uid fpr wanted free fpr_is free_too wanted_is uid_is =
+    bound (cut (ds ++ 32 ∷ (ws ++ 32 ∷ us))) (ds, ws ++ 32 ∷ us)
+    (λ second. fpr_of_digits second.0 >>= (λ f. cut second.1 >>= (λ third. positive_up_to 4294967295 third.0
+    >>= (λ w. unescaped third.1 >>= (λ u. Some (Ask name f w u))))))
+    (cut_spaceless ds (ws ++ 32 ∷ us) free)
+    ∙ bound (fpr_of_digits ds) fpr
+    (λ f. cut (ws ++ 32 ∷ us) >>= (λ third. positive_up_to 4294967295 third.0
+    >>= (λ w. unescaped third.1 >>= (λ u. Some (Ask name f w u))))) fpr_is
+    ∙ bound (cut (ws ++ 32 ∷ us)) (ws, us)
+    (λ third. positive_up_to 4294967295 third.0 >>= (λ w. unescaped third.1 >>= (λ u. Some (Ask name fpr w u))))
+    (cut_spaceless ws us free_too)
+    ∙ bound (positive_up_to 4294967295 ws) wanted (λ w. unescaped us >>= (λ u. Some (Ask name fpr w u))) wanted_is
+    ∙ bound (unescaped us) uid (λ u. Some (Ask name fpr wanted u)) uid_is
+
+pub ask_reads : (name ds ws us uid : List ℕ) (fpr : Fpr) (wanted : ℕ) → is_view_name name ≡ true → Spaceless ds
+    → fpr_of_digits ds ≡ Some fpr → Spaceless ws → positive_up_to 4294967295 ws ≡ Some wanted → unescaped us ≡ Some uid
+    → command_of (joined (codes "ask " ∷ name ∷ codes " " ∷ ds ∷ codes " " ∷ ws ∷ codes " " ∷ us ∷ []))
+    ≡ Some (Ask name fpr wanted uid)
+unfolding command_of ask_of
+ask_reads name ds ws us uid fpr wanted h free fpr_is free_too wanted_is uid_is =
+    let text : List ℕ = ds ++ 32 ∷ (ws ++ 32 ∷ (us ++ [])) in
+    bound (cut (name ++ 32 ∷ text)) (name, text) (λ first. view_name_of first.0 >>= (λ view. asked_of view first.1))
+    (cut_spaceless name text (spaceless_view_name name h))
+    ∙ bound (view_name_of name) name (λ view. asked_of view text) (name_is name h)
+    ∙ asked_reads name ds ws (us ++ []) uid fpr wanted free fpr_is free_too wanted_is (ap unescaped (append-nil us) ∙ uid_is)

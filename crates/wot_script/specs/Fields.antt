@@ -1,0 +1,27 @@
+-- Lines are cut into fields at single spaces.
+use Rattle.std.specs.Prelude.{ℕ, ◌==◌, if◌then◌else◌, List, [], ◌∷◌, Option, Some, None}
+use Rattle.std.specs.Option.{option_map}
+use Rattle.std.specs.Result.{result_ok}
+use Rattle.hex.specs.Hex.{decode_of}
+
+-- a first reading, and a second one with what it gave
+infixl 10 ◌>>=◌
+abbrev pub ◌>>=◌ : {A B : Type 0} → Option A → (A → Option B) → Option B
+Some x >>= f = f x
+None >>= f = None
+
+-- what stands behind a front
+abbrev pub behind : List ℕ → List ℕ → Option (List ℕ)
+behind [] text = Some text
+behind (x ∷ front) [] = None
+behind (x ∷ front) (y ∷ text) = if x == y then behind front text else None
+
+-- the field before the first space, and what stands behind that space
+abbrev pub cut : List ℕ → Option (List ℕ × List ℕ)
+cut [] = None
+cut (octet ∷ octets) =
+    if octet == 32 then Some ([], octets) else option_map (λ parts. (octet ∷ parts.0, parts.1)) (cut octets)
+
+-- the octets that pairs of hexadecimal digits, of either case, spell
+abbrev pub octets_of_hex : List ℕ → Option (List ℕ)
+octets_of_hex digits = result_ok (decode_of digits)

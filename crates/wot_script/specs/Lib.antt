@@ -1,0 +1,9 @@
+pub mod Decimal
+pub mod Fields
+pub mod Grammar
+pub mod Pieces
+pub mod Replies
+pub mod Spelling
+pub mod Texts
+pub mod Turned
+pub mod Uid

@@ -1,0 +1,32 @@
+-- How a command is printed.
+use Rattle.std.specs.Prelude.{ℕ, ◌≤◌, List, [], ◌∷◌, codes}
+use Rattle.std.specs.Fmt.{decimal}
+use Rattle.hex.specs.Hex.{encode_lower}
+use Rattle.wot_types.specs.Fpr.{digits_of}
+use Rattle.wot_types.specs.SigNumber.{number_digits}
+use Rattle.wot_script.specs.Texts.{joined}
+use Rattle.wot_script.specs.Uid.{escaped}
+use Rattle.wot_script.specs.declared.command.Command.{Command}
+use Rattle.wot_script.specs.declared.command.Command.TheVariants.{Import, Remove, Good, Bad, Unjudge, Time, Root, Close, Ask, Keys, Export, Dump}
+
+-- A question has a spelling where it wants at least 1; every other command has one.
+abbrev pub HasSpelling : Command → Type 0
+HasSpelling (Ask view fpr wanted uid) = 1 ≤ wanted
+HasSpelling _ = Unit {0}
+
+-- the line of a command, without a line feed
+unfoldable pub spelling : Command → List ℕ
+spelling (Import octets) = joined (codes "import " ∷ encode_lower octets ∷ [])
+spelling (Remove fpr) = joined (codes "drop " ∷ digits_of fpr ∷ [])
+spelling (Good number fpr) = joined (codes "verdict " ∷ number_digits number ∷ codes " good " ∷ digits_of fpr ∷ [])
+spelling (Bad number) = joined (codes "verdict " ∷ number_digits number ∷ codes " bad" ∷ [])
+spelling (Unjudge number) = joined (codes "verdict " ∷ number_digits number ∷ codes " none" ∷ [])
+spelling (Time view t) = joined (codes "view " ∷ view ∷ codes " time " ∷ decimal t ∷ [])
+spelling (Root view fpr amount) =
+    joined (codes "view " ∷ view ∷ codes " root " ∷ digits_of fpr ∷ codes " " ∷ decimal amount ∷ [])
+spelling (Close view) = joined (codes "view " ∷ view ∷ codes " close" ∷ [])
+spelling (Ask view fpr wanted uid) =
+    joined (codes "ask " ∷ view ∷ codes " " ∷ digits_of fpr ∷ codes " " ∷ decimal wanted ∷ codes " " ∷ escaped uid ∷ [])
+spelling Keys = codes "keys"
+spelling (Export fpr) = joined (codes "export " ∷ digits_of fpr ∷ [])
+spelling Dump = codes "dump"

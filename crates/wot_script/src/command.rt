@@ -1,0 +1,31 @@
+use crate::Octets;
+use wot_types::{Fpr, SigNumber, UserId, ViewName};
+
+/// What a line asks for.
+#[derive(Debug, Drop, PartialEq, Eq)]
+pub enum Command {
+    /// `import HEX`: unites the certificates of these octets with the keyring.
+    Import(Octets),
+    /// `drop FPR`: takes the certificate out.
+    Remove(Fpr),
+    /// `verdict NUM good FPR`: the signature is good by this issuer.
+    Good(SigNumber, Fpr),
+    /// `verdict NUM bad`: the signature is bad.
+    Bad(SigNumber),
+    /// `verdict NUM none`: takes the verdict away.
+    Unjudge(SigNumber),
+    /// `view V time T`: opens the view, or moves its time.
+    Time(ViewName, u32),
+    /// `view V root FPR A`: sets a root's amount; 0 takes the root away.
+    Root(ViewName, Fpr, u8),
+    /// `view V close`: closes the view.
+    Close(ViewName),
+    /// `ask V FPR N UID`: the answer to wanted N, at least 1, for this binding.
+    Ask(ViewName, Fpr, u32, UserId),
+    /// `keys`: the certificates.
+    Keys,
+    /// `export FPR`: one certificate as octets.
+    Export(Fpr),
+    /// `dump`: the state as a script.
+    Dump,
+}

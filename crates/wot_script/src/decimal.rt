@@ -1,0 +1,50 @@
+ghost use Rattle.std.specs.Prelude.{◌≡◌, ◌≤◌, ◌&&◌, nat_le, if◌then◌else◌, IfSome};
+ghost use Rattle.std.specs.Str.{all_ascii_digits};
+ghost use Rattle.std.specs.Str.Parse.{digits_value_after};
+ghost use Rattle.wot_script.specs.Decimal.{decimal_up_to, positive_up_to};
+
+/// The number that digits spell behind those of `value`, of at most `most`. Each turn makes the
+/// number ten times as large, unless it is 0, so the recursion ends early on a long text.
+fn read_digits(most: u32, value: u32, digits: &[u8]) -> Option<u32>
+    requires { value ≤ most }
+    ensures read { result ≡ (if all_ascii_digits digits.now && nat_le (digits_value_after 10 value digits.now) most then Some (digits_value_after 10 value digits.now) else None) }
+    ensures small { IfSome result (λ number. number ≤ most) }
+{
+    match digits {
+        [] => Some(value),
+        [digit, others @ ..] => {
+            if !digit.is_ascii_digit() {
+                return None;
+            }
+            let more = u64::from(value) * 10 + u64::from(*digit - b'0');
+            if more > u64::from(most) {
+                return None;
+            }
+            read_digits(most, more as u32, others)
+        }
+    }
+}
+
+/// Reads a decimal without leading zeros, of at most `most`.
+#[tactic(auto, unfolding(crate::specs::Decimal::decimal_up_to))]
+pub fn read_decimal(most: u32, text: &[u8]) -> Option<u32>
+    ensures read { result ≡ decimal_up_to most text.now }
+    ensures small { IfSome result (λ number. number ≤ most) }
+{
+    match text {
+        [] => None,
+        [b'0', _, ..] => None,
+        _ => read_digits(most, 0, text),
+    }
+}
+
+/// The same without 0.
+#[tactic(auto, unfolding(crate::specs::Decimal::decimal_up_to, crate::specs::Decimal::positive_up_to))]
+pub fn read_positive(most: u32, text: &[u8]) -> Option<u32>
+    ensures read { result ≡ positive_up_to most text.now }
+{
+    match read_decimal(most, text) {
+        Some(0) | None => None,
+        Some(number) => Some(number),
+    }
+}

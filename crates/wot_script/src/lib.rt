@@ -1,0 +1,27 @@
+//! The script: how lines are read as commands, and how commands and replies are printed.
+#![tactic(auto)]
+
+mod command;
+mod decimal;
+mod fields;
+mod lists;
+mod octets;
+mod piece;
+mod read;
+mod reply;
+mod short;
+mod spell;
+mod spelled;
+mod tell;
+mod uid;
+
+pub use command::Command;
+pub use lists::{AnswerLines, KeyLines};
+pub use octets::Octets;
+pub use read::{LineFault, read_line};
+pub use reply::{AnswerLine, KeyLine, Reply};
+pub use spell::print_command;
+pub use tell::print_reply;
+
+#[cfg(test)]
+mod tests;

@@ -1,0 +1,82 @@
+ghost use Rattle.std.specs.Prelude.{◌≡◌, [], ◌∷◌, ◌++◌, OnOk, OnErr};
+
+use std::alloc::Global;
+use std::marker::Model;
+use wot_types::Memory;
+
+/// A list of octets.
+#[derive(Debug, Drop)]
+pub struct Octets {
+    octets: Vec<u8>,
+}
+
+impl Model for Octets {
+    ghost use Rattle.std.specs.Prelude.{List, ℕ};
+
+    ghost Value = { List ℕ };
+
+    ghost view = { λ a. a.octets.items };
+}
+
+impl Octets {
+    /// No octets.
+    pub fn new(alloc: Global) -> Octets
+        ensures none { result ≡ [] }
+    {
+        Octets {
+            octets: Vec::new(alloc),
+        }
+    }
+
+    /// These octets, without a copy.
+    pub fn from_vec(octets: Vec<u8>) -> Octets
+        ensures same { result ≡ octets.items }
+    {
+        Octets { octets }
+    }
+
+    /// The octets, without a copy.
+    pub fn into_vec(self) -> Vec<u8>
+        ensures same { result.items ≡ self }
+    {
+        let Octets { octets } = self;
+        octets
+    }
+
+    /// Appends one octet. After `Memory` the list is as before.
+    pub fn push(&mut self, octet: u8) -> Result<(), Memory>
+        ensures pushed { OnOk result (self.new ≡ self.old ++ octet ∷ []) }
+        ensures kept { OnErr result (self.new ≡ self.old) }
+    {
+        self.octets.push(octet)?;
+        Ok(())
+    }
+
+    /// The octets in order.
+    pub fn items(&self) -> &[u8]
+        ensures whole { result.now ≡ self.now }
+    {
+        self.octets.as_slice()
+    }
+}
+
+impl PartialEq for Octets {
+    ghost use Rattle.std.specs.Prelude.{nat_eq};
+    ghost use Rattle.std.specs.Cmp.Lexicographic.{pointwise};
+    ghost use Rattle.std.specs.Cmp.{partial_equiv_from_equiv};
+    ghost use Rattle.std.proofs.lemmas.Cmp.{nat_list_eq_equiv};
+
+    ghost eq = { pointwise nat_eq };
+
+    ghost laws = { partial_equiv_from_equiv nat_list_eq_equiv };
+
+    fn eq(&self, other: &Octets) -> bool {
+        self.items() == other.items()
+    }
+}
+
+impl Eq for Octets {
+    ghost use Rattle.std.proofs.lemmas.Cmp.{nat_list_eq_equiv};
+
+    ghost laws = { nat_list_eq_equiv };
+}

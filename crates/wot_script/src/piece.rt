@@ -1,0 +1,147 @@
+ghost use Rattle.std.specs.Prelude.{◌≡◌, ◌<◌, ◌≤◌, ◌+◌, ◌++◌, ◌∷◌, [], OnOk, OnErr, length, vec_len, vec_capacity};
+ghost use Rattle.std.specs.Fmt.{decimal};
+ghost use Rattle.hex.specs.Hex.{encode_lower};
+ghost use Rattle.wot_script.specs.Pieces.{piece_text, pieces_text};
+ghost use Rattle.wot_script.specs.Uid.{escape, escaped};
+
+use wot_types::{Fpr, Memory, SigNumber};
+
+/// A part of a line that is printed.
+#[derive(Clone, Copy)]
+pub enum Piece<'a> {
+    /// These octets as they are.
+    Text(&'a [u8]),
+    /// A decimal number.
+    Decimal(u64),
+    /// The digits of a fingerprint.
+    Key(&'a Fpr),
+    /// The digits of a signature number.
+    Signature(&'a SigNumber),
+    /// Two digits for each octet.
+    Hex(&'a [u8]),
+    /// A user ID with its escapes.
+    Uid(&'a [u8]),
+}
+
+/// Appends octets. Like each call of this file it leaves `out` as before after `Memory`, which comes
+/// only where the capacity lacked, and the capacity never shrinks.
+fn put_text(text: &[u8], out: &mut Vec<u8>) -> Result<(), Memory>
+    ensures appended { OnOk result (out.new.items ≡ out.old.items ++ text.now) }
+    ensures kept { OnErr result (out.new.items ≡ out.old.items) }
+    ensures full { OnErr result (vec_capacity out.old < vec_len out.old + length text.now) }
+    ensures grows { vec_capacity out.old ≤ vec_capacity out.new }
+{
+    out.extend_from_slice(text)?;
+    Ok(())
+}
+
+fn put_decimal(number: u64, out: &mut Vec<u8>) -> Result<(), Memory>
+    ensures appended { OnOk result (out.new.items ≡ out.old.items ++ decimal number) }
+    ensures kept { OnErr result (out.new.items ≡ out.old.items) }
+    ensures full { OnErr result (vec_capacity out.old < vec_len out.old + length (decimal number)) }
+    ensures grows { vec_capacity out.old ≤ vec_capacity out.new }
+{
+    let mut buffer = itoa::Buffer::new();
+    put_text(buffer.format(number).as_bytes(), out)
+}
+
+fn put_octet_digits(octet: u8, out: &mut Vec<u8>) -> Result<(), Memory>
+    ensures appended { OnOk result (out.new.items ≡ out.old.items ++ encode_lower (octet ∷ [])) }
+    ensures kept { OnErr result (out.new.items ≡ out.old.items) }
+    ensures full { OnErr result (vec_capacity out.old < vec_len out.old + length (encode_lower (octet ∷ []))) }
+    ensures grows { vec_capacity out.old ≤ vec_capacity out.new }
+{
+    let mut digits = [0u8; 2];
+    let _ = hex::encode_to_slice([octet].as_slice(), &mut digits);
+    put_text(&digits, out)
+}
+
+fn put_hex(octets: &[u8], out: &mut Vec<u8>) -> Result<(), Memory>
+    ensures appended { OnOk result (out.new.items ≡ out.old.items ++ encode_lower octets.now) }
+    ensures kept { OnErr result (out.new.items ≡ out.old.items) }
+    ensures full { OnErr result (vec_capacity out.old < vec_len out.old + length (encode_lower octets.now)) }
+    ensures grows { vec_capacity out.old ≤ vec_capacity out.new }
+{
+    let start = out.len();
+    for octet in octets {
+        if let Err(fault) = put_octet_digits(*octet, out) {
+            out.truncate(start);
+            return Err(fault);
+        }
+    }
+    Ok(())
+}
+
+/// `\x` and two digits.
+fn escape_of(octet: u8) -> [u8; 4]
+    ensures { result ≡ 92 ∷ 120 ∷ encode_lower (octet ∷ []) }
+{
+    let mut digits = [0u8; 2];
+    let _ = hex::encode_to_slice([octet].as_slice(), &mut digits);
+    [b'\\', b'x', digits[0], digits[1]]
+}
+
+fn put_escape(octet: u8, out: &mut Vec<u8>) -> Result<(), Memory>
+    ensures appended { OnOk result (out.new.items ≡ out.old.items ++ escape octet) }
+    ensures kept { OnErr result (out.new.items ≡ out.old.items) }
+    ensures full { OnErr result (vec_capacity out.old < vec_len out.old + length (escape octet)) }
+    ensures grows { vec_capacity out.old ≤ vec_capacity out.new }
+{
+    if octet == b'\\' {
+        return put_text(b"\\\\", out);
+    }
+    if 0x20 <= octet && octet <= 0x7e {
+        return put_text(&[octet], out);
+    }
+    put_text(&escape_of(octet), out)
+}
+
+#[tactic(auto, unfolding(crate::specs::Uid::escaped))]
+fn put_uid(octets: &[u8], out: &mut Vec<u8>) -> Result<(), Memory>
+    ensures appended { OnOk result (out.new.items ≡ out.old.items ++ escaped octets.now) }
+    ensures kept { OnErr result (out.new.items ≡ out.old.items) }
+    ensures full { OnErr result (vec_capacity out.old < vec_len out.old + length (escaped octets.now)) }
+    ensures grows { vec_capacity out.old ≤ vec_capacity out.new }
+{
+    let start = out.len();
+    for octet in octets {
+        if let Err(fault) = put_escape(*octet, out) {
+            out.truncate(start);
+            return Err(fault);
+        }
+    }
+    Ok(())
+}
+
+fn put_piece(piece: &Piece<'_>, out: &mut Vec<u8>) -> Result<(), Memory>
+    ensures appended { OnOk result (out.new.items ≡ out.old.items ++ piece_text piece.now) }
+    ensures kept { OnErr result (out.new.items ≡ out.old.items) }
+    ensures full { OnErr result (vec_capacity out.old < vec_len out.old + length (piece_text piece.now)) }
+    ensures grows { vec_capacity out.old ≤ vec_capacity out.new }
+{
+    match piece {
+        Piece::Text(text) => put_text(text, out),
+        Piece::Decimal(number) => put_decimal(*number, out),
+        Piece::Key(fpr) => fpr.print(out),
+        Piece::Signature(number) => number.print(out),
+        Piece::Hex(octets) => put_hex(octets, out),
+        Piece::Uid(octets) => put_uid(octets, out),
+    }
+}
+
+/// Appends pieces, one after another.
+pub fn put_pieces(pieces: &[Piece<'_>], out: &mut Vec<u8>) -> Result<(), Memory>
+    ensures appended { OnOk result (out.new.items ≡ out.old.items ++ pieces_text pieces.now) }
+    ensures kept { OnErr result (out.new.items ≡ out.old.items) }
+    ensures full { OnErr result (vec_capacity out.old < vec_len out.old + length (pieces_text pieces.now)) }
+    ensures grows { vec_capacity out.old ≤ vec_capacity out.new }
+{
+    let start = out.len();
+    for piece in pieces {
+        if let Err(fault) = put_piece(piece, out) {
+            out.truncate(start);
+            return Err(fault);
+        }
+    }
+    Ok(())
+}

@@ -1,0 +1,226 @@
+ghost use Rattle.std.specs.Prelude.{◌≡◌, ◌≤◌, Some, None, IfOk, IsErrOf};
+ghost use Rattle.std.specs.Option.{option_map};
+ghost use Rattle.wot_types.specs.Fpr.{fpr_of_digits};
+ghost use Rattle.wot_script.specs.Fields.{octets_of_hex};
+ghost use Rattle.wot_script.specs.Decimal.{decimal_up_to};
+ghost use Rattle.wot_script.specs.Grammar.{ask_of, asked_of, command_of, drop_of, export_of, import_of, judgement_of, root_of, setting_of, single_of, verdict_of, view_of};
+ghost use Rattle.wot_script.specs.Spelling.{HasSpelling};
+
+use crate::decimal::{read_decimal, read_positive};
+use crate::fields::{after_front, cut_field};
+use crate::uid::read_uid;
+use crate::{Command, Octets};
+use hex::FromHexError;
+use std::alloc::Global;
+use wot_types::{Fpr, Memory, SigNumber, ViewName};
+
+/// Why a line gave no command.
+#[derive(Clone, Copy, Debug, PartialEq, Eq)]
+pub enum LineFault {
+    /// It spells no command.
+    Line,
+    /// No memory was found.
+    Memory,
+}
+
+fn read_hex(alloc: Global, digits: &[u8]) -> Result<Option<Octets>, Memory>
+    ensures { IfOk result (λ octets. octets ≡ octets_of_hex digits.now) }
+{
+    match hex::decode(alloc, digits) {
+        Ok(octets) => Ok(Some(Octets::from_vec(octets))),
+        Err(FromHexError::OutOfMemory) => Err(Memory),
+        Err(_) => Ok(None),
+    }
+}
+
+#[tactic(auto, unfolding(crate::specs::Grammar::import_of))]
+fn read_import(alloc: Global, digits: &[u8]) -> Result<Option<Command>, Memory>
+    ensures { IfOk result (λ command. command ≡ import_of digits.now) }
+{
+    match read_hex(alloc, digits)? {
+        Some(octets) => Ok(Some(Command::Import(octets))),
+        None => Ok(None),
+    }
+}
+
+#[tactic(auto, unfolding(crate::specs::Grammar::drop_of))]
+fn read_drop(digits: &[u8]) -> Option<Command>
+    ensures { result ≡ drop_of digits.now }
+{
+    let fpr = Fpr::read(digits)?;
+    Some(Command::Remove(fpr))
+}
+
+#[tactic(auto, unfolding(crate::specs::Grammar::export_of))]
+fn read_export(digits: &[u8]) -> Option<Command>
+    ensures { result ≡ export_of digits.now }
+{
+    let fpr = Fpr::read(digits)?;
+    Some(Command::Export(fpr))
+}
+
+fn read_good(number: SigNumber, digits: &[u8]) -> Option<Command>
+    ensures { result ≡ option_map (Command.Good number) (fpr_of_digits digits.now) }
+{
+    let fpr = Fpr::read(digits)?;
+    Some(Command::Good(number, fpr))
+}
+
+#[tactic(auto, unfolding(crate::specs::Grammar::judgement_of))]
+fn read_judgement(number: SigNumber, text: &[u8]) -> Option<Command>
+    ensures { result ≡ judgement_of number text.now }
+{
+    if let Some(digits) = after_front(b"good ", text) {
+        return read_good(number, digits);
+    }
+    if text == b"bad".as_slice() {
+        return Some(Command::Bad(number));
+    }
+    if text == b"none".as_slice() {
+        return Some(Command::Unjudge(number));
+    }
+    None
+}
+
+#[tactic(auto, unfolding(crate::specs::Grammar::verdict_of))]
+fn read_verdict(text: &[u8]) -> Option<Command>
+    ensures { result ≡ verdict_of text.now }
+{
+    let first = cut_field(text)?;
+    let number = SigNumber::read(first.field)?;
+    read_judgement(number, first.rest)
+}
+
+fn read_time(view: ViewName, digits: &[u8]) -> Option<Command>
+    ensures { result ≡ option_map (Command.Time view) (decimal_up_to 4294967295 digits.now) }
+{
+    let t = read_decimal(u32::MAX, digits)?;
+    Some(Command::Time(view, t))
+}
+
+#[tactic(auto, unfolding(crate::specs::Grammar::root_of))]
+fn read_root(view: ViewName, text: &[u8]) -> Option<Command>
+    ensures { result ≡ root_of view text.now }
+{
+    let first = cut_field(text)?;
+    let fpr = Fpr::read(first.field)?;
+    let amount = read_decimal(255, first.rest)?;
+    Some(Command::Root(view, fpr, amount as u8))
+}
+
+#[tactic(auto, unfolding(crate::specs::Grammar::setting_of))]
+fn read_setting(view: ViewName, text: &[u8]) -> Option<Command>
+    ensures { result ≡ setting_of view text.now }
+{
+    if let Some(digits) = after_front(b"time ", text) {
+        return read_time(view, digits);
+    }
+    if let Some(rest) = after_front(b"root ", text) {
+        return read_root(view, rest);
+    }
+    if text == b"close".as_slice() {
+        return Some(Command::Close(view));
+    }
+    None
+}
+
+#[tactic(auto, unfolding(crate::specs::Grammar::view_of))]
+fn read_view(alloc: Global, text: &[u8]) -> Result<Option<Command>, Memory>
+    ensures { IfOk result (λ command. command ≡ view_of text.now) }
+{
+    let Some(first) = cut_field(text) else {
+        return Ok(None);
+    };
+    let Some(view) = ViewName::read(alloc, first.field)? else {
+        return Ok(None);
+    };
+    Ok(read_setting(view, first.rest))
+}
+
+#[tactic(auto, unfolding(crate::specs::Grammar::asked_of))]
+fn read_asked(alloc: Global, view: ViewName, text: &[u8]) -> Result<Option<Command>, Memory>
+    ensures { IfOk result (λ command. command ≡ asked_of view text.now) }
+{
+    let Some(second) = cut_field(text) else {
+        return Ok(None);
+    };
+    let Some(fpr) = Fpr::read(second.field) else {
+        return Ok(None);
+    };
+    let Some(third) = cut_field(second.rest) else {
+        return Ok(None);
+    };
+    let Some(wanted) = read_positive(u32::MAX, third.field) else {
+        return Ok(None);
+    };
+    let Some(uid) = read_uid(alloc, third.rest)? else {
+        return Ok(None);
+    };
+    Ok(Some(Command::Ask(view, fpr, wanted, uid)))
+}
+
+#[tactic(auto, unfolding(crate::specs::Grammar::ask_of))]
+fn read_ask(alloc: Global, text: &[u8]) -> Result<Option<Command>, Memory>
+    ensures { IfOk result (λ command. command ≡ ask_of text.now) }
+{
+    let Some(first) = cut_field(text) else {
+        return Ok(None);
+    };
+    let Some(view) = ViewName::read(alloc, first.field)? else {
+        return Ok(None);
+    };
+    read_asked(alloc, view, first.rest)
+}
+
+#[tactic(auto, unfolding(crate::specs::Grammar::single_of))]
+fn read_single(line: &[u8]) -> Option<Command>
+    ensures { result ≡ single_of line.now }
+{
+    if line == b"keys".as_slice() {
+        return Some(Command::Keys);
+    }
+    if line == b"dump".as_slice() {
+        return Some(Command::Dump);
+    }
+    None
+}
+
+#[tactic(auto, unfolding(crate::specs::Grammar::command_of))]
+fn read_command(alloc: Global, line: &[u8]) -> Result<Option<Command>, Memory>
+    ensures { IfOk result (λ command. command ≡ command_of line.now) }
+{
+    if let Some(rest) = after_front(b"import ", line) {
+        return read_import(alloc, rest);
+    }
+    if let Some(rest) = after_front(b"drop ", line) {
+        return Ok(read_drop(rest));
+    }
+    if let Some(rest) = after_front(b"verdict ", line) {
+        return Ok(read_verdict(rest));
+    }
+    if let Some(rest) = after_front(b"view ", line) {
+        return read_view(alloc, rest);
+    }
+    if let Some(rest) = after_front(b"ask ", line) {
+        return read_ask(alloc, rest);
+    }
+    if let Some(rest) = after_front(b"export ", line) {
+        return Ok(read_export(rest));
+    }
+    Ok(read_single(line))
+}
+
+/// Reads a line, which comes without its line feed, as a command. An empty line and a comment are no
+/// commands. The line's length isn't looked at.
+pub fn read_line(alloc: Global, line: &[u8]) -> Result<Command, LineFault>
+    ensures read { IfOk result (λ command. command_of line.now ≡ Some command) }
+    ensures line { IsErrOf result LineFault.Line → command_of line.now ≡ None }
+    // A question that was read wants at least 1.
+    ensures spelled { IfOk result HasSpelling }
+{
+    match read_command(alloc, line) {
+        Ok(Some(command)) => Ok(command),
+        Ok(None) => Err(LineFault::Line),
+        Err(Memory) => Err(LineFault::Memory),
+    }
+}

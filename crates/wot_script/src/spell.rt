@@ -1,0 +1,117 @@
+ghost use Rattle.std.specs.Prelude.{◌≡◌, ◌++◌, OnOk, OnErr};
+ghost use Rattle.wot_script.specs.Grammar.{command_of};
+ghost use Rattle.wot_script.specs.Spelling.{HasSpelling, spelling};
+
+use crate::Command;
+use crate::piece::Piece::{Decimal, Hex, Key, Signature, Text, Uid};
+use crate::piece::put_pieces;
+use crate::spelled::spelling_is_read;
+use wot_types::{Fpr, Memory, UserId, ViewName};
+
+#[tactic(auto, unfolding(crate::specs::Spelling::spelling))]
+fn put_time(view: &ViewName, t: u32, out: &mut Vec<u8>) -> Result<(), Memory>
+    ensures appended { OnOk result (out.new.items ≡ out.old.items ++ spelling (Command.Time view.now t)) }
+    ensures kept { OnErr result (out.new.items ≡ out.old.items) }
+{
+    let view = Text(view.octets());
+    let t = Decimal(u64::from(t));
+    put_pieces(&[Text(b"view "), view, Text(b" time "), t], out)
+}
+
+#[tactic(auto, unfolding(crate::specs::Spelling::spelling))]
+fn put_root<'a>(
+    view: &'a ViewName,
+    fpr: &'a Fpr,
+    amount: u8,
+    out: &mut Vec<u8>,
+) -> Result<(), Memory>
+    ensures appended { OnOk result (out.new.items ≡ out.old.items ++ spelling (Command.Root view.now fpr.now amount)) }
+    ensures kept { OnErr result (out.new.items ≡ out.old.items) }
+{
+    let view = Text(view.octets());
+    let fpr = Key(fpr);
+    let amount = Decimal(u64::from(amount));
+    put_pieces(
+        &[
+            Text(b"view "),
+            view,
+            Text(b" root "),
+            fpr,
+            Text(b" "),
+            amount,
+        ],
+        out,
+    )
+}
+
+#[tactic(auto, unfolding(crate::specs::Spelling::spelling))]
+fn put_ask<'a>(
+    view: &'a ViewName,
+    fpr: &'a Fpr,
+    wanted: u32,
+    uid: &'a UserId,
+    out: &mut Vec<u8>,
+) -> Result<(), Memory>
+    ensures appended { OnOk result (out.new.items ≡ out.old.items ++ spelling (Command.Ask view.now fpr.now wanted uid.now)) }
+    ensures kept { OnErr result (out.new.items ≡ out.old.items) }
+{
+    let view = Text(view.octets());
+    let fpr = Key(fpr);
+    let wanted = Decimal(u64::from(wanted));
+    let uid = Uid(uid.octets());
+    put_pieces(
+        &[
+            Text(b"ask "),
+            view,
+            Text(b" "),
+            fpr,
+            Text(b" "),
+            wanted,
+            Text(b" "),
+            uid,
+        ],
+        out,
+    )
+}
+
+#[tactic(auto, unfolding(crate::specs::Spelling::spelling))]
+fn put_command(command: &Command, out: &mut Vec<u8>) -> Result<(), Memory>
+    ensures appended { OnOk result (out.new.items ≡ out.old.items ++ spelling command.now) }
+    ensures kept { OnErr result (out.new.items ≡ out.old.items) }
+{
+    match command {
+        Command::Import(octets) => put_pieces(&[Text(b"import "), Hex(octets.items())], out),
+        Command::Remove(fpr) => put_pieces(&[Text(b"drop "), Key(fpr)], out),
+        Command::Good(number, fpr) => {
+            let number = Signature(number);
+            put_pieces(&[Text(b"verdict "), number, Text(b" good "), Key(fpr)], out)
+        }
+        Command::Bad(number) => {
+            put_pieces(&[Text(b"verdict "), Signature(number), Text(b" bad")], out)
+        }
+        Command::Unjudge(number) => {
+            put_pieces(&[Text(b"verdict "), Signature(number), Text(b" none")], out)
+        }
+        Command::Time(view, t) => put_time(view, *t, out),
+        Command::Root(view, fpr, amount) => put_root(view, fpr, *amount, out),
+        Command::Close(view) => {
+            put_pieces(&[Text(b"view "), Text(view.octets()), Text(b" close")], out)
+        }
+        Command::Ask(view, fpr, wanted, uid) => put_ask(view, fpr, *wanted, uid, out),
+        Command::Keys => put_pieces(&[Text(b"keys")], out),
+        Command::Export(fpr) => put_pieces(&[Text(b"export "), Key(fpr)], out),
+        Command::Dump => put_pieces(&[Text(b"dump")], out),
+    }
+}
+
+/// Appends the line of a command, without a line feed. After `Memory`, `out` is as before.
+pub fn print_command(command: &Command, out: &mut Vec<u8>) -> Result<(), Memory>
+    requires { HasSpelling command.now }
+    ensures appended { OnOk result (out.new.items ≡ out.old.items ++ spelling command.now) }
+    ensures kept { OnErr result (out.new.items ≡ out.old.items) }
+    // What is printed is read as this command.
+    ensures read_back { command_of (spelling command.now) ≡ Some command.now }
+{
+    spelling_is_read(command);
+    put_command(command, out)
+}

@@ -1,0 +1,76 @@
+ghost use Rattle.std.specs.Prelude.{◌≡◌, ◌≤◌, ◌<◌, ◌^◌};
+ghost use Rattle.std.specs.Fmt.{decimal};
+ghost use Rattle.hex.specs.Hex.{encode_lower};
+ghost use Rattle.wot_script.specs.Decimal.{decimal_up_to, positive_up_to};
+ghost use Rattle.wot_script.specs.Fields.{octets_of_hex};
+ghost use Rattle.wot_script.specs.Grammar.{command_of};
+ghost use Rattle.wot_script.specs.Spelling.{HasSpelling, spelling};
+ghost use Rattle.wot_script.specs.Uid.{escaped, unescaped};
+
+use crate::Command;
+
+/// A law: the digits of octets spell these octets.
+fn hex_is_read(octets: &[u8])
+    ensures { octets_of_hex (encode_lower octets.now) ≡ Some octets.now }
+{
+    let _octets = octets;
+}
+
+/// A law: a user ID that is printed is read as that user ID.
+fn uid_is_read(octets: &[u8])
+    ensures { unescaped (escaped octets.now) ≡ Some octets.now }
+{
+    let _octets = octets;
+}
+
+/// A law: a number that is printed is read as that number.
+fn decimal_is_read(most: u32, number: u32)
+    requires { number ≤ most }
+    ensures { decimal_up_to most (decimal number) ≡ Some number }
+{}
+
+/// The same of a number that isn't 0.
+fn positive_is_read(most: u32, number: u32)
+    requires some { 1 ≤ number }
+    requires within { number ≤ most }
+    ensures read { positive_up_to most (decimal number) ≡ Some number }
+    ensures small { number < 2 ^ 64 }
+{}
+
+/// A law: the spelling of a command is read as that command.
+pub fn spelling_is_read(command: &Command)
+    requires { HasSpelling command.now }
+    ensures { command_of (spelling command.now) ≡ Some command.now }
+{
+    match command {
+        Command::Import(octets) => hex_is_read(octets.items()),
+        Command::Remove(fpr) => fpr.printed_is_read(),
+        Command::Good(number, fpr) => {
+            number.printed_is_read();
+            fpr.printed_is_read();
+        }
+        Command::Bad(number) => number.printed_is_read(),
+        Command::Unjudge(number) => number.printed_is_read(),
+        Command::Time(view, t) => {
+            let _name = view.octets();
+            decimal_is_read(u32::MAX, *t);
+        }
+        Command::Root(view, fpr, amount) => {
+            let _name = view.octets();
+            fpr.printed_is_read();
+            decimal_is_read(255, u32::from(*amount));
+        }
+        Command::Close(view) => {
+            let _name = view.octets();
+        }
+        Command::Ask(view, fpr, wanted, uid) => {
+            let _name = view.octets();
+            fpr.printed_is_read();
+            positive_is_read(u32::MAX, *wanted);
+            uid_is_read(uid.octets());
+        }
+        Command::Keys => {}
+        Command::Export(fpr) => fpr.printed_is_read(),
+        Command::Dump => {}
+    }
+}

@@ -1,0 +1,3 @@
+pub mod Last
+pub mod Walk
+pub mod Slices

@@ -1,0 +1,6 @@
+pub mod Known
+pub mod Facts
+pub mod Body
+pub mod Signature
+pub mod Notes
+pub mod Lent

@@ -1,0 +1,53 @@
+ghost use Rattle.std.specs.Prelude.{◌≡◌, length, if◌then◌else◌, Some, None};
+ghost use Rattle.wot_subpacket.specs.Seen.{seen};
+ghost use Rattle.wot_signature.specs.Known.{is_known_of, last_body_of};
+ghost use Rattle.wot_signature.specs.Signature.{hint_of};
+
+use crate::known::{ISSUER_KEY_ID, is_known};
+use crate::reading::reading_of;
+use wot_subpacket::{Area, Sub};
+
+/// The last issuer key ID of the hashed area, else of the unhashed area where that is a list of subpackets.
+/// It only hints at who made the signature. `None` too where the body isn't readable.
+#[tactic(auto, unfolding(crate::specs::Signature::hint_of))]
+pub fn hint(body: &[u8]) -> Option<[u8; 8]>
+    ensures hint { result ≡ hint_of body.now }
+{
+    let reading = reading_of(body)?;
+    if let Some(key_id) = last_key_id(&reading.hashed) {
+        return Some(key_id);
+    }
+    match Area::new(reading.unhashed) {
+        Ok(unhashed) => last_key_id(&unhashed),
+        Err(_) => None,
+    }
+}
+
+fn last_key_id(area: &Area<'_>) -> Option<[u8; 8]>
+    ensures { result ≡ last_body_of 16 area.now }
+{
+    let mut last = None;
+    for sub in area.iter() {
+        last = key_id_of(&sub).or(last);
+    }
+    last
+}
+
+fn key_id_of(sub: &Sub<'_>) -> Option<[u8; 8]>
+    ensures { result ≡ (if is_known_of 16 (seen sub.now) then Some sub.now.body.now else None) }
+{
+    if sub.kind == ISSUER_KEY_ID && is_known(sub) {
+        Some(key_id_in(sub.body))
+    } else {
+        None
+    }
+}
+
+fn key_id_in(body: &[u8]) -> [u8; 8]
+    requires { length body.now ≡ 8 }
+    ensures { result ≡ body.now }
+{
+    let mut octets = [0u8; 8];
+    octets.copy_from_slice(body);
+    octets
+}

@@ -1,0 +1,21 @@
+//! What a version 4 signature says (RFC 9580, section 5.2), read from its body where it lies: no octet is copied.
+#![tactic(auto)]
+
+mod facts;
+mod hints;
+mod known;
+mod notes;
+mod parts;
+mod patterns;
+mod read;
+mod reading;
+mod texts;
+
+pub use facts::SigFacts;
+pub use hints::hint;
+pub use patterns::scopes;
+pub use read::read_signature;
+pub use texts::Scopes;
+
+#[cfg(test)]
+mod tests;

@@ -1,0 +1,112 @@
+ghost use Rattle.std.specs.Prelude.{◌≡◌, drop, length, []};
+ghost use Rattle.wot_subpacket.specs.Seen.{seen};
+ghost use Rattle.wot_signature.specs.Facts.{number_in as number_in_spec};
+ghost use Rattle.wot_signature.specs.Notes.{notes_in, note_more, facts_from};
+
+use crate::SigFacts;
+use crate::known::{self, is_known};
+use wot_subpacket::{Area, Sub};
+use wot_types::Fpr;
+
+/// What was noted of the hashed subpackets so far.
+#[derive(Clone, Copy)]
+pub(crate) struct Notes {
+    /// The facts, but for whether they are sound.
+    pub(crate) facts: SigFacts,
+    /// There was a creation time.
+    pub(crate) dated: bool,
+    /// There was a critical one that is unknown.
+    pub(crate) refused: bool,
+}
+
+/// What all subpackets of the area say.
+pub(crate) fn notes_of(kind: u8, hash: u8, hashed: &Area<'_>) -> Notes
+    ensures { result ≡ notes_in kind hash hashed.now }
+{
+    let mut notes = Notes::new(kind, hash);
+    for sub in hashed.iter() {
+        notes.note(&sub);
+    }
+    notes
+}
+
+impl Notes {
+    /// The facts, after the last subpacket.
+    pub(crate) fn facts(self) -> SigFacts
+        ensures { result ≡ facts_from self }
+    {
+        SigFacts {
+            sound: self.dated && !self.refused,
+            ..self.facts
+        }
+    }
+
+    fn new(kind: u8, hash: u8) -> Notes
+        ensures { result ≡ notes_in kind hash [] }
+    {
+        Notes {
+            facts: SigFacts {
+                kind,
+                hash,
+                made: 0,
+                lasts: 0,
+                key_lasts: 0,
+                depth: 0,
+                amount: 120,
+                scoped: false,
+                revocable: true,
+                primary: false,
+                reason: None,
+                issuer: None,
+                sound: false,
+            },
+            dated: false,
+            refused: false,
+        }
+    }
+
+    fn note(&mut self, sub: &Sub<'_>)
+        ensures { self.new ≡ note_more self.old (seen sub.now) }
+    {
+        if !is_known(sub) {
+            self.refused = sub.critical || self.refused;
+            return;
+        }
+        match sub.kind {
+            known::CREATION_TIME => {
+                self.facts.made = number_in(sub.body);
+                self.dated = true;
+            }
+            known::EXPIRATION => self.facts.lasts = number_in(sub.body),
+            known::KEY_EXPIRATION => self.facts.key_lasts = number_in(sub.body),
+            known::TRUST => {
+                self.facts.depth = sub.body[0];
+                self.facts.amount = sub.body[1];
+            }
+            known::PATTERN => self.facts.scoped = true,
+            known::REVOCABLE => self.facts.revocable = sub.body[0] != 0,
+            known::PRIMARY_USER_ID => self.facts.primary = sub.body[0] != 0,
+            known::REASON => self.facts.reason = Some(sub.body[0]),
+            known::ISSUER_FINGERPRINT => self.facts.issuer = Some(Fpr::V4(fingerprint_in(
+                sub.body,
+            ))),
+            _ => {}
+        }
+    }
+}
+
+fn number_in(body: &[u8]) -> u32
+    requires { length body.now ≡ 4 }
+    ensures { result ≡ number_in_spec body.now }
+{
+    u32::from_be_bytes([body[0], body[1], body[2], body[3]])
+}
+
+fn fingerprint_in(body: &[u8]) -> [u8; 20]
+    requires { length body.now ≡ 21 }
+    ensures { result ≡ drop 1 body.now }
+{
+    let mut octets = [0u8; 20];
+    octets.copy_from_slice(&body[1..]);
+    octets
+}

@@ -1,0 +1,29 @@
+ghost use Rattle.std.specs.Prelude.{◌≡◌, IfSome};
+ghost use Rattle.std.specs.Option.{option_map};
+ghost use Rattle.std.specs.List.{AllByRecursion};
+ghost use Rattle.wot_subpacket.specs.Slice.{IsSliceOf, HaveSlicesOf};
+ghost use Rattle.wot_signature.specs.Signature.{Reading, reading_of as reading_of_spec, scopes_of};
+
+use crate::Scopes;
+use crate::reading::reading_of;
+use wot_subpacket::AreaIter;
+
+/// The pattern texts of a signature body in order, each a slice of the body without one zero octet at its end;
+/// none for a body that isn't readable. They need not be readable patterns.
+#[tactic(auto, unfolding(crate::specs::Signature::scopes_of))]
+pub fn scopes(body: &[u8]) -> Scopes<'_>
+    ensures texts { result ≡ scopes_of body.now }
+    ensures slices { AllByRecursion (λ text. IsSliceOf text body.now) result }
+{
+    Scopes {
+        subs: subs_of(body),
+    }
+}
+
+fn subs_of(body: &[u8]) -> Option<AreaIter<'_>>
+    ensures hashed { result ≡ option_map (λ (r : Reading). r.hashed) (reading_of_spec body.now) }
+    ensures slices { IfSome result (HaveSlicesOf body.now) }
+{
+    let reading = reading_of(body)?;
+    Some(reading.hashed.iter())
+}

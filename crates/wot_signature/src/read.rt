@@ -1,0 +1,18 @@
+ghost use Rattle.std.specs.Prelude.{◌≡◌, is_some};
+ghost use Rattle.wot_signature.specs.Signature.{facts_of, is_readable};
+
+use crate::SigFacts;
+use crate::notes::notes_of;
+use crate::reading::reading_of;
+
+/// The facts of a signature body, of which the hashed area alone is asked; `None` where the body isn't readable:
+/// it isn't of version 4, a part is missing, or the hashed area is no list of subpackets.
+#[tactic(auto, unfolding(crate::specs::Signature::facts_of, crate::specs::Signature::is_readable))]
+pub fn read_signature(body: &[u8]) -> Option<SigFacts>
+    ensures facts { result ≡ facts_of body.now }
+    ensures readable { is_some result ≡ is_readable body.now }
+{
+    let reading = reading_of(body)?;
+    let notes = notes_of(reading.kind, reading.hash, &reading.hashed);
+    Some(notes.facts())
+}

@@ -1,0 +1,34 @@
+ghost use Rattle.std.specs.Prelude.{◌≡◌, IfSome, MatchOption, None, Some};
+ghost use Rattle.wot_subpacket.specs.Slice.{HaveSlicesOf};
+ghost use Rattle.wot_signature.specs.Lent.{lent_reading};
+ghost use Rattle.wot_signature.specs.Signature.{reading_of as reading_of_spec};
+
+use crate::parts::parts_of;
+use wot_subpacket::Area;
+
+/// A readable signature body: its parts, of which the hashed area is a list of subpackets.
+#[derive(Drop)]
+pub(crate) struct Reading<'a> {
+    pub(crate) kind: u8,
+    pub(crate) hash: u8,
+    pub(crate) hashed: Area<'a>,
+    pub(crate) unhashed: &'a [u8],
+}
+
+/// `None` where the body isn't readable.
+#[tactic(auto, unfolding(crate::specs::Signature::reading_of))]
+pub(crate) fn reading_of(body: &[u8]) -> Option<Reading<'_>>
+    ensures reading { MatchOption result (reading_of_spec body.now ≡ None) (λ reading. reading_of_spec body.now ≡ Some (lent_reading reading)) }
+    ensures slices { IfSome result (λ reading. HaveSlicesOf body.now reading.hashed) }
+{
+    let parts = parts_of(body)?;
+    let Ok(hashed) = Area::new(parts.hashed) else {
+        return None;
+    };
+    Some(Reading {
+        kind: parts.kind,
+        hash: parts.hash,
+        hashed,
+        unhashed: parts.unhashed,
+    })
+}

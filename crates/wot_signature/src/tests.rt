@@ -1,0 +1,5 @@
+mod bodies;
+mod facts;
+mod hints;
+mod patterns;
+mod table;

@@ -1,0 +1,5 @@
+use Rattle.wot_subpacket.proofs.Reading.{list-slices}
+use Rattle.wot_subpacket.proofs.area.Area.new.Goals as goal
+
+pub returns-in-Ok-clause-slices : goal.returns-in-Ok-clause-slices
+returns-in-Ok-clause-slices c = list-slices c.args.bytes.now

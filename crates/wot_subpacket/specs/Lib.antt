@@ -1,0 +1,5 @@
+pub mod Subpacket
+pub mod Length
+pub mod Area
+pub mod Seen
+pub mod Slice

@@ -1,0 +1,14 @@
+-- Slices of octets.
+use Rattle.std.specs.Prelude.{◌≡◌, ℕ, List, ◌++◌}
+use Rattle.std.specs.List.{AllByRecursion}
+use Rattle.wot_subpacket.specs.Subpacket.{Subpacket}
+
+-- The part stands somewhere in the whole.
+pub record IsSliceOf (part whole : List ℕ) : Type 0 where
+  pub front : List ℕ
+  pub back : List ℕ
+  pub stands : whole ≡ front ++ (part ++ back)
+
+-- The body of each subpacket stands in the octets.
+abbrev pub HaveSlicesOf : List ℕ → List Subpacket → Type 0
+HaveSlicesOf octets subpackets = AllByRecursion (λ (s : Subpacket). IsSliceOf s.body octets) subpackets

@@ -1,0 +1,10 @@
+/// Why octets are no list of subpackets. The first fault from the front is told.
+#[derive(Clone, Copy, Debug, PartialEq, Eq)]
+pub enum AreaFault {
+    /// Octets of a length are missing.
+    CutLength,
+    /// A length is 0, so that there is no type.
+    Zero,
+    /// Fewer octets are left than the length says.
+    CutBody,
+}

@@ -1,0 +1,19 @@
+-- The number of a signature at its place.
+use Rattle.std.specs.Prelude.{ℕ, List, [], ◌∷◌, ◌++◌, length, codes}
+use Rattle.std.specs.Int.{w32, to_be_bytes}
+use Rattle.sha2.specs.Sha256.{sha256}
+use Rattle.wot_types.specs.declared.number.SigNumber.{SigNumber}
+
+-- octets behind their length in four octets
+abbrev pub field : List ℕ → List ℕ
+field octets = to_be_bytes w32 (length octets) ++ octets
+
+-- Five fields: the text `wot1`, the key's body, one octet for the kind of place, the body of the component (empty where the
+-- signature stands on the key), and the signature's body.
+abbrev pub numbered_text : List ℕ → ℕ → List ℕ → List ℕ → List ℕ
+numbered_text key kind component signature =
+    field (codes "wot1") ++ field key ++ field (kind ∷ []) ++ field component ++ field signature
+
+-- the number of a signature: the SHA-256 of these fields
+unfoldable pub number_of : List ℕ → ℕ → List ℕ → List ℕ → SigNumber
+number_of key kind component signature = record { 0 = sha256 (numbered_text key kind component signature) }

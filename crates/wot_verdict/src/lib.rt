@@ -1,0 +1,12 @@
+//! The numbers of signatures, and the verdicts on them.
+#![tactic(auto)]
+
+mod number;
+#[cfg(test)]
+mod tests;
+mod verdict;
+mod verdicts;
+
+pub use number::number_of;
+pub use verdict::Verdict;
+pub use verdicts::{Verdicts, VerdictsIter};

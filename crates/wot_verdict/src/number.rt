@@ -1,0 +1,34 @@
+ghost use Rattle.std.specs.Prelude.{◌≡◌, ◌<◌, ◌^◌, ◌++◌, ℕ, List, length};
+ghost use Rattle.sha2.specs.Hashers.{Holds256};
+ghost use Rattle.wot_verdict.specs.Number.{field, number_of as number_at};
+
+use sha2::{Digest, Sha256};
+use wot_types::SigNumber;
+
+fn feed(hasher: &mut Sha256, octets: &[u8])
+    requires { length octets.now < 2 ^ 32 }
+    ensures { (text : List ℕ) → Holds256 hasher.old text → Holds256 hasher.new (text ++ field octets.now) }
+{
+    hasher.update(&(octets.len() as u32).to_be_bytes());
+    hasher.update(octets);
+}
+
+/// The number of a signature at its place: SHA-256 (FIPS 180-4) over five fields, each behind its length in four octets.
+///
+/// `kind` is 0 for a signature on the key itself, 1 on a user ID, 2 on a user attribute and 3 on a subkey. `component` is
+/// the body of what the signature stands on, empty where that is the key.
+#[tactic(auto, unfolding(crate::specs::Number::number_of))]
+pub fn number_of(key: &[u8], kind: u8, component: &[u8], signature: &[u8]) -> SigNumber
+    requires key { length key.now < 2 ^ 32 }
+    requires component { length component.now < 2 ^ 32 }
+    requires signature { length signature.now < 2 ^ 32 }
+    ensures number { result ≡ number_at key.now kind component.now signature.now }
+{
+    let mut hasher = Sha256::new();
+    feed(&mut hasher, b"wot1");
+    feed(&mut hasher, key);
+    feed(&mut hasher, &[kind]);
+    feed(&mut hasher, component);
+    feed(&mut hasher, signature);
+    SigNumber(hasher.finalize())
+}

@@ -1,0 +1,118 @@
+ghost use Rattle.std.specs.Prelude.{◌≡◌, ◌≢◌, ◌↔◌, [], Bool, length, IsTrue, IfOk, OnOk, OnErr, Some, None, is_some, cond};
+ghost use Rattle.std.specs.Iterator.{YieldsFirst, item_count};
+ghost use Rattle.wot_types.specs.declared.number.SigNumber.{SigNumber as SigNumberOf};
+ghost use Rattle.wot_verdict.specs.Verdicts.{verdict_at, with_verdict, without_verdict, is_number, InOrder};
+
+use crate::Verdict;
+use std::alloc::Global;
+use std::collections::BTreeMap;
+use std::collections::btree_map::Iter;
+use std::marker::Model;
+use wot_types::{Memory, SigNumber};
+
+/// Verdicts by signature number. Contracts see the list of the entries in the order of the numbers.
+#[derive(Drop)]
+pub struct Verdicts {
+    by_number: BTreeMap<SigNumber, Verdict>,
+}
+
+impl Model for Verdicts {
+    ghost use Rattle.wot_verdict.specs.Verdicts.{Entries};
+
+    ghost Value = { Entries };
+
+    ghost view = { λ v. v.by_number.entries };
+}
+
+impl Verdicts {
+    /// No verdict yet. Takes no memory.
+    pub fn new(alloc: Global) -> Verdicts
+        ensures none { result ≡ [] }
+    {
+        Verdicts {
+            by_number: BTreeMap::new(alloc),
+        }
+    }
+
+    /// The verdict on a number.
+    pub fn get(&self, number: &SigNumber) -> Option<Verdict>
+        ensures found { result ≡ verdict_at self.now number.now }
+    {
+        self.by_number.get(number).copied()
+    }
+
+    /// Sets the verdict on a number, in place of an earlier one. The answer is whether something changed.
+    /// After `Memory` all is as before.
+    pub fn set(&mut self, number: SigNumber, verdict: Verdict) -> Result<bool, Memory>
+        ensures set { OnOk result (self.new ≡ with_verdict self.old number verdict) }
+        ensures at_each { OnOk result ((q : SigNumberOf) → verdict_at self.new q ≡ cond (is_number number q) (Some verdict) (verdict_at self.old q)) }
+        ensures changed { IfOk result (λ changed. IsTrue changed ↔ (verdict_at self.old number ≢ Some verdict)) }
+        ensures kept { OnErr result (self.new ≡ self.old) }
+        ensures was_absent { OnErr result (verdict_at self.old number ≡ None) }
+    {
+        let old = self.by_number.insert(number, verdict)?;
+        Ok(differs(old, verdict))
+    }
+
+    /// Takes the verdict on a number away, and says whether there was one.
+    pub fn clear(&mut self, number: &SigNumber) -> bool
+        ensures cleared { self.new ≡ without_verdict self.old number.now }
+        ensures at_each { (q : SigNumberOf) → verdict_at self.new q ≡ cond (is_number number.now q) None (verdict_at self.old q) }
+        ensures was_there { result ≡ is_some (verdict_at self.old number.now) }
+    {
+        self.by_number.remove(number).is_some()
+    }
+
+    /// How many numbers have a verdict.
+    pub fn len(&self) -> usize
+        ensures count { result ≡ length self.now }
+        ensures in_order { InOrder self.now }
+    {
+        self.by_number.len()
+    }
+
+    /// Each number with its verdict, once, in the order of the numbers.
+    pub fn iter(&self) -> VerdictsIter<'_>
+        ensures entries { result ≡ self.now }
+        ensures in_order { InOrder self.now }
+    {
+        VerdictsIter {
+            entries: self.by_number.iter(),
+        }
+    }
+}
+
+fn differs(old: Option<Verdict>, new: Verdict) -> bool
+    ensures { IsTrue result ↔ (old ≢ Some new) }
+{
+    old != Some(new)
+}
+
+/// The entries of [`Verdicts`] that are still to come.
+#[derive(Drop)]
+pub struct VerdictsIter<'a> {
+    entries: Iter<'a, SigNumber, Verdict>,
+}
+
+impl<'a> Model for VerdictsIter<'a> {
+    ghost use Rattle.wot_verdict.specs.Verdicts.{Entries};
+
+    ghost Value = { Entries };
+
+    ghost view = { λ i. i.entries };
+}
+
+impl<'a> Iterator for VerdictsIter<'a> {
+    type Item = (SigNumber, Verdict);
+
+    ghost next_gives = { YieldsFirst (λ i. i) };
+
+    ghost remaining = { item_count (λ i. i) };
+
+    fn next(&mut self) -> Option<(SigNumber, Verdict)> {
+        match self.entries.next() {
+            Some((number, verdict)) => Some((*number, *verdict)),
+            None => None,
+        }
+    }
+}
