@@ -45,7 +45,13 @@ fn main(rt: HostRuntime) -> io::Result<()> {
             let size = number(words.next());
             let roots = number(words.next());
             let questions = number(words.next());
-            paths::bench(&rt, kind.as_str(), size as u64, roots as u64, questions as u64)
+            paths::bench(
+                &rt,
+                kind.as_str(),
+                size as u64,
+                roots as u64,
+                questions as u64,
+            )
         }
         "pattern_text" => {
             let Some(pattern) = words.next() else {
