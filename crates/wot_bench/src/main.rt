@@ -4,6 +4,7 @@
 mod digests;
 mod lines;
 mod packets;
+mod paths;
 mod patterns;
 mod signatures;
 
@@ -37,6 +38,21 @@ fn main(rt: HostRuntime) -> io::Result<()> {
         }
         "packets" => packets::bench(&rt, number(words.next())),
         "packets-copied" => packets::bench_copy(&rt, number(words.next())),
+        "paths" => {
+            let Some(kind) = words.next() else {
+                return println!(rt; "no network was named");
+            };
+            let size = number(words.next());
+            let roots = number(words.next());
+            let questions = number(words.next());
+            paths::bench(
+                &rt,
+                kind.as_str(),
+                size as u64,
+                roots as u64,
+                questions as u64,
+            )
+        }
         "pattern_text" => {
             let Some(pattern) = words.next() else {
                 return println!(rt; "no pattern was named");

@@ -1,0 +1,278 @@
+-- One edge is considered.
+use Rattle.std.proofs.Common.{◌≡◌, ◌≢◌, ◌⊎◌, inl, inr, ℕ, suc, ◌+◌, ◌≤◌, min, Bool, true, false, cond, List, [], ◌∷◌, ◌++◌, length, map, Option, Some, None, refl, sym, ap, subst, ◌∙◌, arith, leb-true, le-leb, not}
+use Rattle.std.specs.Prelude.{◌&&◌, ◌||◌, nat_le, nat_eq, is_some}
+use Rattle.std.proofs.lemmas.Bool.{eqb-true, eq-eqb, not-true}
+use Rattle.wot_types.specs.declared.fpr.Fpr.{Fpr}
+use Rattle.wot_edge.specs.declared.edge.EdgeFacts.{EdgeFacts}
+use Rattle.wot_edge.specs.declared.path.Step.{Step}
+use Rattle.wot_edge.specs.Order.{same_fpr}
+use Rattle.wot_edge.specs.Record.{Record, Row, Has, IsRecord, rows_into, edges_into, entry_at}
+use Rattle.wot_edge.specs.Path.{Question, Use, Reaches, start, step_of, step_left}
+use Rattle.wot_search.specs.declared.node.Node.{Node}
+use Rattle.wot_search.specs.declared.node.Demand.{Demand}
+use Rattle.wot_search.specs.declared.node.Demand.TheVariants.{On, Before}
+use Rattle.wot_search.specs.declared.node.Goal.{Goal}
+use Rattle.wot_search.specs.declared.reached.Reached.{Reached}
+use Rattle.wot_search.specs.Suffix.{Serves, Found, Kept, node_of, width}
+use Rattle.wot_search.specs.Layer.{AtMost, Covered, IsGrowing, is_kept}
+use Rattle.wot_search.specs.Demand.{is_place, is_met, demand_of, candidate_of}
+use Rattle.wot_search.specs.Reached.{look}
+use Rattle.wot_search.specs.Growth.{if_kept, wanted_of, may_stand_of, IsPut, IsPutIf, IsRest, Advances, IsTaken, IsNoted, AreNoted}
+use Rattle.wot_search.proofs.Order.{same_fpr-true, same_fpr-refl, apart-false}
+use Rattle.wot_search.proofs.Keeping.{put_onward, put_covered, put_growing}
+use Rattle.wot_search.proofs.Choosing.{and-true, kept_free, kept_worse, unkept_covered}
+use Rattle.wot_search.proofs.Layers.{onward_refl}
+
+-- ---- the demand
+
+true-and : (a b : Bool) → a ≡ true → b ≡ true → (a && b) ≡ true
+true-and a b e f = rw (e, f) refl
+
+place-true : (p : Option ℕ) (uid : ℕ) → is_place p uid ≡ true → p ≡ Some uid
+place-true None uid e = absurd cc
+place-true (Some place) uid e = ap Some (eqb-true place uid e)
+
+true-place : (p : Option ℕ) (uid : ℕ) → p ≡ Some uid → is_place p uid ≡ true
+true-place p uid e = subst (λ (x : Option ℕ). is_place x uid ≡ true) (sym e) (eq-eqb uid uid refl)
+
+pub suc-zero : (n : ℕ) → nat_eq (suc n) 0 ≡ false
+suc-zero n = by (nat_eq (suc n) 0) refl
+  where
+    by : (b : Bool) → nat_eq (suc n) 0 ≡ b → b ≡ false
+    by true e = absurd (let f = eqb-true (suc n) 0 e in omega (arith, f))
+    by false e = refl
+
+demand_some : (q : Question) (n : ℕ) → demand_of q (suc n) ≡ Before (suc n)
+demand_some q n = ap (λ (b : Bool). cond b (On (entry_at q.told q.target).place) (Before (suc n))) (suc-zero n)
+
+reaches_met : (q : Question) (row : Row) (rest : List Step) → Reaches q row rest → is_met q.target (demand_of q (length rest)) row.edge ≡ true
+reaches_met q row [] r = true-place (entry_at q.told q.target).place row.edge.uid r
+reaches_met q row (next ∷ rest) r =
+    subst (λ (d : Demand). is_met q.target d row.edge ≡ true) (sym (demand_some q (length rest)))
+    (true-and (nat_le (length (next ∷ rest)) row.edge.depth) (not (same_fpr row.edge.issuer q.target)) (le-leb (length (next ∷ rest)) row.edge.depth r.0) (ap not (apart-false row.edge.issuer q.target r.2)))
+
+met_reaches : (q : Question) (row : Row) (rest : List Step) → is_met q.target (demand_of q (length rest)) row.edge ≡ true → (nat_eq (length rest) 0 || row.scope) ≡ true → Reaches q row rest
+met_reaches q row [] m s = place-true (entry_at q.told q.target).place row.edge.uid m
+met_reaches q row (next ∷ rest) m s =
+    let a = and-true (nat_le (length (next ∷ rest)) row.edge.depth) (not (same_fpr row.edge.issuer q.target)) (subst (λ (d : Demand). is_met q.target d row.edge ≡ true) (demand_some q (length rest)) m) in (
+      leb-true (length (next ∷ rest)) row.edge.depth a.0,
+      subst (λ (b : Bool). (b || row.scope) ≡ true) (suc-zero (length rest)) s,
+      λ same. let f = not-true (same_fpr row.edge.issuer q.target) a.1 in let g : same_fpr row.edge.issuer q.target ≡ true = subst (λ (x : Fpr). same_fpr row.edge.issuer x ≡ true) same (same_fpr-refl row.edge.issuer) in cc,
+    )
+
+scope_stands : (q : Question) (row : Row) (rest : List Step) → Reaches q row rest → (nat_eq (length rest) 0 || row.scope) ≡ true
+scope_stands q row [] r = refl
+scope_stands q row (next ∷ rest) r = by (nat_eq (length (next ∷ rest)) 0) row.scope r.1
+  where
+    by : (a b : Bool) → b ≡ true → (a || b) ≡ true
+    by true b e = refl
+    by false b e = e
+
+-- ---- the rows of an edge
+
+pub row_there : (told : Record) (fpr : Fpr) (edge : EdgeFacts) → Has (edges_into told fpr) edge → (row : Row) × Has (rows_into told fpr) row × (row.edge ≡ edge)
+row_there told fpr edge h = by (rows_into told fpr) h
+  where
+    by : (rows : List Row) → Has (map (λ row. row.edge) rows) edge → (row : Row) × Has rows row × (row.edge ≡ edge)
+    by [] h = absurd h
+    by (x ∷ rows) (inl e) = (x, inl refl, sym e)
+    by (x ∷ rows) (inr h) = let r = by rows h in (r.0, inr r.1, r.2)
+
+pub row_edge : (told : Record) (fpr : Fpr) (row : Row) → Has (rows_into told fpr) row → Has (edges_into told fpr) row.edge
+row_edge told fpr row h = by (rows_into told fpr) h
+  where
+    by : (rows : List Row) → Has rows row → Has (map (λ r. r.edge) rows) row.edge
+    by [] h = absurd h
+    by (x ∷ rows) (inl e) = inl (ap (λ (r : Row). r.edge) e)
+    by (x ∷ rows) (inr h) = inr (by rows h)
+
+-- ---- the candidate
+
+cond_some : (b : Bool) (x y : Node) → cond b (Some x) None ≡ Some y → (b ≡ true) × (x ≡ y)
+cond_some true x y e = (refl, cc)
+cond_some false x y e = absurd cc
+
+cond_none : (b : Bool) (x : Node) → cond b (Some x) None ≡ None → b ≡ false
+cond_none true x e = absurd cc
+cond_none false x e = refl
+
+if_kept_some : (goal : Goal) (found : Found) (o : Option Node) (node : Node) → if_kept goal found o ≡ Some node → (o ≡ Some node) × (is_kept goal node (found node.step.issuer) ≡ true)
+if_kept_some goal found None node e = absurd cc
+if_kept_some goal found (Some x) node e =
+    let s = cond_some (is_kept goal x (found x.step.issuer)) x node e in
+    (ap Some s.1, subst (λ (n : Node). is_kept goal n (found n.step.issuer) ≡ true) s.1 s.0)
+
+if_kept_none : (goal : Goal) (found : Found) (node : Node) → if_kept goal found (Some node) ≡ None → is_kept goal node (found node.step.issuer) ≡ false
+if_kept_none goal found node e = cond_none (is_kept goal node (found node.step.issuer)) node e
+
+unkept_found : (goal : Goal) (node : Node) (o : Option Node) → is_kept goal node o ≡ false → (old : Node) × (o ≡ Some old)
+unkept_found goal node None e = absurd cc
+unkept_found goal node (Some old) e = (old, refl)
+
+module _ (q : Question) (used : Use) (least : ℕ) (goal : Goal) (size wide : ℕ) (edge : EdgeFacts) where
+  abbrev made : Node
+  made = record { step = step_of edge; size = size + 1; width = min (step_left used (step_of edge)) wide }
+
+  candidate_is : (row : Row) (rest : List Step) → length rest ≡ size → row.edge ≡ edge → Reaches q row rest → least ≤ step_left used (step_of edge) → candidate_of q.target used least (demand_of q size) size wide edge ≡ Some made
+  candidate_is row rest long e r le =
+      let m : is_met q.target (demand_of q size) edge ≡ true = subst (λ (n : ℕ). is_met q.target (demand_of q n) edge ≡ true) long (subst (λ (x : EdgeFacts). is_met q.target (demand_of q (length rest)) x ≡ true) e (reaches_met q row rest r)) in
+      ap (λ (b : Bool). cond b (Some made) None) (true-and (is_met q.target (demand_of q size) edge) (nat_le least (step_left used (step_of edge))) m (le-leb least (step_left used (step_of edge)) le))
+
+  candidate_met : (node : Node) → candidate_of q.target used least (demand_of q size) size wide edge ≡ Some node → (is_met q.target (demand_of q size) edge ≡ true) × (least ≤ step_left used (step_of edge)) × (made ≡ node)
+  candidate_met node e =
+      let s = cond_some (is_met q.target (demand_of q size) edge && nat_le least (step_left used (step_of edge))) made node e in
+      let a = and-true (is_met q.target (demand_of q size) edge) (nat_le least (step_left used (step_of edge))) s.0 in
+      (a.0, leb-true least (step_left used (step_of edge)) a.1, s.1)
+
+  made_is : (found : Found) (rest : List Step) → IsRest q used least found size edge.target wide rest → made ≡ node_of used (step_of edge) rest
+  made_is found rest r =
+      let l : size + 1 ≡ length (step_of edge ∷ rest) = (let m = r.long in omega (arith, m)) in
+      let w : min (step_left used (step_of edge)) wide ≡ width used (step_of edge ∷ rest) = ap (λ (n : ℕ). min (step_left used (step_of edge)) n) (sym r.width) in
+      λ i. record { step = step_of edge; size = l i; width = w i }
+
+  -- ---- nothing is wanted of it
+
+  pub taken_none : IsRecord q.told → (found : Found) (next : List Fpr) → wanted_of goal found q.target used least (demand_of q size) size wide edge ≡ None
+      → (rest : List Step) → IsRest q used least found size edge.target wide rest → IsGrowing q used least goal size found next → IsTaken q used least goal found edge rest
+  taken_none good found next w rest r growing row h e usable reaches le =
+      let c = candidate_is row rest r.long e reaches le in
+      let n : is_kept goal made (found edge.issuer) ≡ false = if_kept_none goal found made (subst (λ (o : Option Node). if_kept goal found o ≡ None) c w) in
+      let n' : is_kept goal (node_of used (step_of edge) rest) (found edge.issuer) ≡ false = subst (λ (x : Node). is_kept goal x (found edge.issuer) ≡ false) (made_is found rest r) n in
+      let serves : Serves q used least (step_of edge) rest = record { stands = record { row = row; into = h; usable = usable; shown = ap step_of e; reaches = reaches }; left = le } in
+      unkept_covered q used least good found (step_of edge) rest r.kept serves goal size next growing r.long n'
+
+  pub noted_none : (found : Found) (set : List Fpr) → wanted_of goal found q.target used least (demand_of q size) size wide edge ≡ None
+      → (rest : List Step) → length rest ≡ size → AreNoted found set → IsNoted q used least set edge rest
+  noted_none found set w rest long noted row h e reaches le =
+      let c = candidate_is row rest long e reaches le in
+      let n : is_kept goal made (found edge.issuer) ≡ false = if_kept_none goal found made (subst (λ (o : Option Node). if_kept goal found o ≡ None) c w) in
+      let o = unkept_found goal made (found edge.issuer) n in
+      noted edge.issuer o.0 o.1
+
+  -- ---- it is wanted
+
+  pub wanted_issuer : (found : Found) (node : Node) → wanted_of goal found q.target used least (demand_of q size) size wide edge ≡ Some node → node.step.issuer ≡ edge.issuer
+  wanted_issuer found node w =
+      let k = if_kept_some goal found (candidate_of q.target used least (demand_of q size) size wide edge) node w in
+      ap (λ (n : Node). n.step.issuer) (sym (candidate_met node k.0).2)
+
+  module _ (good : IsRecord q.told) (old new : Reached) (node : Node) (w : wanted_of goal (look old.nodes) q.target used least (demand_of q size) size wide edge ≡ Some node) where
+    advances_unput : old ≡ new → IsGrowing q used least goal size (look old.nodes) old.layer.items → Advances q used least goal size old new
+    advances_unput e growing = subst (λ (r : Reached). Advances q used least goal size old r) e (record { growing = growing; onward = onward_refl q used least goal size (look old.nodes) })
+
+    module _ (rest : List Step) (r : IsRest q used least (look old.nodes) size edge.target wide rest) (growing : IsGrowing q used least goal size (look old.nodes) old.layer.items) (row : Row) (h : Has (rows_into q.told edge.target) row) (e : row.edge ≡ edge) (stands : may_stand_of size row ≡ true) (put : IsPut old new node) where
+      abbrev parts : (candidate_of q.target used least (demand_of q size) size wide edge ≡ Some node) × (is_kept goal node (look old.nodes node.step.issuer) ≡ true)
+      parts = if_kept_some goal (look old.nodes) (candidate_of q.target used least (demand_of q size) size wide edge) node w
+
+      is_node : node ≡ node_of used (step_of edge) rest
+      is_node = sym (candidate_met node parts.0).2 ∙ made_is (look old.nodes) rest r
+
+      serves : Serves q used least (step_of edge) rest
+      serves =
+          let m = candidate_met node parts.0 in
+          let a = and-true row.usable (nat_eq size 0 || row.scope) stands in
+          let met : is_met q.target (demand_of q (length rest)) row.edge ≡ true = subst (λ (n : ℕ). is_met q.target (demand_of q n) row.edge ≡ true) (sym r.long) (subst (λ (x : EdgeFacts). is_met q.target (demand_of q size) x ≡ true) (sym e) m.0) in
+          let s : (nat_eq (length rest) 0 || row.scope) ≡ true = subst (λ (n : ℕ). (nat_eq n 0 || row.scope) ≡ true) (sym r.long) a.1 in
+          record { stands = record { row = row; into = subst (λ (f : Fpr). Has (rows_into q.told f) row) (sym r.there) h; usable = a.0; shown = ap step_of e; reaches = met_reaches q row rest met s }; left = m.1 }
+
+      keep : is_kept goal (node_of used (step_of edge) rest) (look old.nodes edge.issuer) ≡ true
+      keep = subst (λ (n : Node). is_kept goal n (look old.nodes n.step.issuer) ≡ true) is_node parts.1
+
+      at : look new.nodes edge.issuer ≡ Some (node_of used (step_of edge) rest)
+      at =
+          let f = put.nodes edge.issuer in
+          let same : same_fpr node.step.issuer edge.issuer ≡ true = subst (λ (x : Node). same_fpr x.step.issuer edge.issuer ≡ true) (sym is_node) (same_fpr-refl edge.issuer) in
+          f ∙ ap (λ (b : Bool). cond b (Some node) (look old.nodes edge.issuer)) same ∙ ap Some is_node
+
+      others : (fpr : Fpr) → fpr ≢ edge.issuer → look new.nodes fpr ≡ look old.nodes fpr
+      others fpr n =
+          let apart : same_fpr node.step.issuer fpr ≡ false = subst (λ (x : Node). same_fpr x.step.issuer fpr ≡ false) (sym is_node) (apart-false edge.issuer fpr (λ f. n (sym f))) in
+          put.nodes fpr ∙ ap (λ (b : Bool). cond b (Some node) (look old.nodes fpr)) apart
+
+      free : (x : Node) → look old.nodes edge.issuer ≡ Some x → x.size ≡ suc size
+      free x f = let a = kept_free q used least good (look old.nodes) (step_of edge) rest r.kept serves goal keep x f in let l = r.long in omega (arith, a, l)
+
+      layer_is : new.layer.items ≡ cond (is_some (look old.nodes edge.issuer)) old.layer.items (old.layer.items ++ edge.issuer ∷ [])
+      layer_is = subst (λ (x : Node). new.layer.items ≡ cond (is_some (look old.nodes x.step.issuer)) old.layer.items (old.layer.items ++ x.step.issuer ∷ [])) is_node put.layer
+
+      layer_grows : (xs : List Fpr) (fpr x : Fpr) → Has xs x → Has (xs ++ fpr ∷ []) x
+      layer_grows [] fpr x k = absurd k
+      layer_grows (y ∷ xs) fpr x (inl f) = inl f
+      layer_grows (y ∷ xs) fpr x (inr k) = inr (layer_grows xs fpr x k)
+
+      layer_has : (xs : List Fpr) (fpr : Fpr) → Has (xs ++ fpr ∷ []) fpr
+      layer_has [] fpr = inl refl
+      layer_has (y ∷ xs) fpr = inr (layer_has xs fpr)
+
+      layer_only : (xs : List Fpr) (fpr x : Fpr) → Has (xs ++ fpr ∷ []) x → Has xs x ⊎ (x ≡ fpr)
+      layer_only [] fpr x k = elim k [ inl f ↦ inr f | inr m ↦ absurd m ]
+      layer_only (y ∷ xs) fpr x (inl f) = inl (inl f)
+      layer_only (y ∷ xs) fpr x (inr k) = elim (layer_only xs fpr x k) [ inl m ↦ inl (inr m) | inr f ↦ inr f ]
+
+      abbrev after : Option Node → List Fpr
+      after o = cond (is_some o) old.layer.items (old.layer.items ++ edge.issuer ∷ [])
+
+      after_grows : (o : Option Node) (x : Fpr) → Has old.layer.items x → Has (after o) x
+      after_grows None x k = layer_grows old.layer.items edge.issuer x k
+      after_grows (Some n) x k = k
+
+      after_only : (o : Option Node) (x : Fpr) → Has (after o) x → Has old.layer.items x ⊎ (x ≡ edge.issuer)
+      after_only None x k = layer_only old.layer.items edge.issuer x k
+      after_only (Some n) x k = inl k
+
+      after_has : (o : Option Node) → look old.nodes edge.issuer ≡ o → Has (after o) edge.issuer
+      after_has None f = layer_has old.layer.items edge.issuer
+      after_has (Some n) f =
+          let en = growing.entries edge.issuer n f in
+          let k = en.kept in
+          let eq : look old.nodes edge.issuer ≡ Some (node_of used n.step en.rest) = ap (look old.nodes) (sym en.there) ∙ k.0 in
+          let l = free (node_of used n.step en.rest) eq in
+          subst (λ (z : Fpr). Has old.layer.items z) en.there (growing.layer.all (n.step ∷ en.rest) k l)
+
+      worse : (steps : List Step) → 1 ≤ length steps → Kept q used least (look old.nodes) steps → start q.target steps ≡ edge.issuer → AtMost used goal (step_of edge ∷ rest) steps
+      worse = kept_worse q used least good (look old.nodes) (step_of edge) rest r.kept serves goal keep
+
+      pub advances_put : Advances q used least goal size old new
+      advances_put = record {
+        growing = put_growing q used least goal size (look old.nodes) (look new.nodes) old.layer.items new.layer.items (step_of edge) rest growing r.kept r.long serves free worse at others
+            (λ x k. subst (λ (xs : List Fpr). Has xs x) (sym layer_is) (after_grows (look old.nodes edge.issuer) x k))
+            (subst (λ (xs : List Fpr). Has xs edge.issuer) (sym layer_is) (after_has (look old.nodes edge.issuer) refl))
+            (λ x k. after_only (look old.nodes edge.issuer) x (subst (λ (xs : List Fpr). Has xs x) layer_is k));
+        onward = put_onward q used least goal size (look old.nodes) (look new.nodes) old.layer.items new.layer.items (step_of edge) rest growing r.kept r.long serves free worse at others;
+      }
+
+      pub covered_put : Covered q used least goal (look new.nodes) (step_of edge ∷ rest)
+      covered_put = put_covered q used least goal size (look old.nodes) (look new.nodes) old.layer.items new.layer.items (step_of edge) rest growing r.kept r.long serves free worse at others
+
+    -- what may have been put
+    pub advances_if : ((row : Row) → Has (rows_into q.told edge.target) row → row.edge ≡ edge → IsPutIf (may_stand_of size row) old new node) → Has (edges_into q.told edge.target) edge
+        → (rest : List Step) → IsRest q used least (look old.nodes) size edge.target wide rest → IsGrowing q used least goal size (look old.nodes) old.layer.items → Advances q used least goal size old new
+    advances_if if has rest r growing =
+        let t = row_there q.told edge.target edge has in
+        by t.0 t.1 t.2 (may_stand_of size t.0) refl (if t.0 t.1 t.2)
+      where
+        by : (row : Row) → Has (rows_into q.told edge.target) row → row.edge ≡ edge → (b : Bool) → may_stand_of size row ≡ b → IsPutIf (may_stand_of size row) old new node → Advances q used least goal size old new
+        by row h e true s p = advances_put rest r growing row h e s (subst (λ (b : Bool). IsPutIf b old new node) s p)
+        by row h e false s p = advances_unput (subst (λ (b : Bool). IsPutIf b old new node) s p) growing
+
+    pub taken_if : ((row : Row) → Has (rows_into q.told edge.target) row → row.edge ≡ edge → IsPutIf (may_stand_of size row) old new node)
+        → (rest : List Step) → IsRest q used least (look old.nodes) size edge.target wide rest → IsGrowing q used least goal size (look old.nodes) old.layer.items → IsTaken q used least goal (look new.nodes) edge rest
+    taken_if if rest r growing row h e usable reaches le =
+        let h' = subst (λ (f : Fpr). Has (rows_into q.told f) row) r.there h in
+        let s : may_stand_of size row ≡ true = true-and row.usable (nat_eq size 0 || row.scope) usable (subst (λ (n : ℕ). (nat_eq n 0 || row.scope) ≡ true) r.long (scope_stands q row rest reaches)) in
+        covered_put rest r growing row h' e s (subst (λ (b : Bool). IsPutIf b old new node) s (if row h' e))
+
+    -- what was found is noted
+    pub noted_if : ((row : Row) → Has (rows_into q.told edge.target) row → row.edge ≡ edge → IsPutIf (may_stand_of size row) old new node) → Has (edges_into q.told edge.target) edge
+        → (set : List Fpr) → AreNoted (look old.nodes) set → Has set edge.issuer → AreNoted (look new.nodes) set
+    noted_if if has set noted it =
+        let t = row_there q.told edge.target edge has in
+        by t.0 (may_stand_of size t.0) (if t.0 t.1 t.2)
+      where
+        at : (put : IsPut old new node) (fpr : Fpr) (x : Node) → look new.nodes fpr ≡ Some x → (b : Bool) → same_fpr node.step.issuer fpr ≡ b → Has set fpr
+        at put fpr x f true s = subst (Has set) (sym (wanted_issuer (look old.nodes) node w) ∙ same_fpr-true node.step.issuer fpr s) it
+        at put fpr x f false s = noted fpr x (sym (put.nodes fpr ∙ ap (λ (b : Bool). cond b (Some node) (look old.nodes fpr)) s) ∙ f)
+
+        by : (row : Row) (b : Bool) → IsPutIf b old new node → AreNoted (look new.nodes) set
+        by row true p = λ fpr x f. at p fpr x f (same_fpr node.step.issuer fpr) refl
+        by row false p = subst (λ (r : Reached). AreNoted (look r.nodes) set) p noted

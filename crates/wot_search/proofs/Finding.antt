@@ -1,0 +1,129 @@
+-- From the first layer to the first path.
+use Rattle.std.proofs.Common.{◌≡◌, inl, inr, ℕ, suc, ◌<◌, ◌≤◌, min, List, [], ◌∷◌, length, Some, None, refl, sym, ap, subst, ◌∙◌, arith}
+use Rattle.std.specs.BTreeMap.{is_at}
+use Rattle.std.specs.Map.{lookup}
+use Rattle.std.proofs.lemmas.Bool.{cases_lt}
+use Rattle.wot_types.specs.declared.fpr.Fpr.{Fpr}
+use Rattle.wot_types.specs.Fpr.{fpr_cmp}
+use Rattle.wot_edge.specs.declared.path.Path.{Path}
+use Rattle.wot_edge.specs.declared.path.Step.{Step}
+use Rattle.wot_edge.specs.Record.{Has, IsRecord}
+use Rattle.wot_edge.specs.Path.{Question, Use, start, root_left, path_amount}
+use Rattle.wot_search.specs.declared.node.Choice.{Choice}
+use Rattle.wot_search.specs.declared.node.Goal.{Goal}
+use Rattle.wot_search.specs.declared.reached.Reached.{Reached}
+use Rattle.wot_search.specs.Suffix.{Found, Kept, node_of, width}
+use Rattle.wot_search.specs.Choice.{node_width, chosen}
+use Rattle.wot_search.specs.Layer.{Begins, IsComplete, IsLayer}
+use Rattle.wot_search.specs.Looked.{IsLooked}
+use Rattle.wot_search.specs.Reached.{look}
+use Rattle.wot_search.specs.Rooted.{IsFirst}
+use Rattle.wot_search.specs.Growth.{IsAfter, IsUnrooted, IsFirstPath, IsResult}
+use Rattle.wot_search.proofs.Comparing.{AtMost-le}
+use Rattle.wot_search.proofs.Layers.{complete_all, looked_all}
+use Rattle.wot_search.proofs.Picking.{IsPicked, picked, picked_first, picked_none}
+use Rattle.wot_search.proofs.Rooted.{amount_width}
+
+-- ---- before the first layer
+
+nothing : (reached : Reached) → reached.nodes.entries ≡ [] → (fpr : Fpr) → look reached.nodes fpr ≡ None
+nothing reached e fpr = ap (lookup (is_at (fpr_cmp fpr))) e
+
+none_kept : (q : Question) (used : Use) (least : ℕ) (found : Found) → ((fpr : Fpr) → found fpr ≡ None) → (steps : List Step) → Kept q used least found steps → length steps ≡ 0
+none_kept q used least found n [] k = refl
+none_kept q used least found n (x ∷ xs) k = absurd (let e : None ≡ Some (node_of used x xs) = sym (n x.issuer) ∙ k.0 in cc)
+
+pub after_begin : (q : Question) (used : Use) (least : ℕ) (goal : Goal) (reached : Reached) (set : List Fpr) → reached.nodes.entries ≡ [] → reached.layer.items ≡ q.target ∷ [] → IsAfter q used least goal 0 reached set
+after_begin q used least goal reached set e f = record {
+  entries = λ fpr node g. absurd (let h : None ≡ Some node = sym (nothing reached e fpr) ∙ g in cc);
+  complete = λ other some few s. absurd (omega (arith, some, few));
+  layer = record { each = each; all = all };
+  noted = λ fpr node g. absurd (let h : None ≡ Some node = sym (nothing reached e fpr) ∙ g in cc);
+  looked = λ rest lt s. absurd (omega (arith, lt));
+}
+  where
+    each : (fpr : Fpr) → Has reached.layer.items fpr → Begins q used least (look reached.nodes) 0 fpr
+    each fpr h = elim (subst (λ (xs : List Fpr). Has xs fpr) f h) [
+      | inl g ↦ record { steps = []; kept = tt; long = refl; there = sym g }
+      | inr n ↦ absurd n
+    ]
+
+    all : (steps : List Step) → Kept q used least (look reached.nodes) steps → length steps ≡ 0 → Has reached.layer.items (start q.target steps)
+    all [] k l = subst (λ (xs : List Fpr). Has xs q.target) (sym f) (inl refl)
+    all (x ∷ xs) k l = absurd (omega (arith, l))
+
+pub unrooted_begin : (q : Question) (used : Use) (least : ℕ) (found : Found) → IsUnrooted q used least found 1
+unrooted_begin q used least found steps k some few left = omega (arith, some, few)
+
+-- ---- a turn
+
+pub turn_none : (q : Question) (used : Use) (least : ℕ) (goal : Goal) (good : IsRecord q.told) (small : (fpr : Fpr) → root_left q used fpr ≤ 255) (found : Found) (size : ℕ) (layer : List Fpr)
+    → IsLayer q used least found size layer → IsUnrooted q used least found size → None ≡ chosen q used least goal found None layer → IsUnrooted q used least found (suc size)
+turn_none q used least goal good small found size layer is u e =
+    picked_none q used least goal good small found size layer is u (subst (IsPicked q used least goal found layer) (sym e) (picked q used least goal found layer))
+
+pub turn_some : (q : Question) (used : Use) (least : ℕ) (goal : Goal) (good : IsRecord q.told) (small : (fpr : Fpr) → root_left q used fpr ≤ 255) (found : Found) (size : ℕ) (layer : List Fpr)
+    → IsLayer q used least found size layer → IsComplete q used least goal found size → IsUnrooted q used least found size → 1 ≤ size → size ≤ 255 → (choice : Choice) → Some choice ≡ chosen q used least goal found None layer
+    → (path : Path) → ((steps : List Step) → Kept q used least found steps → length steps ≡ size → start q.target steps ≡ choice.fpr → path.steps ≡ steps) → path.root ≡ choice.fpr → path.amount ≡ choice.width → IsFirstPath q used goal least size path
+turn_some q used least goal good small found size layer is complete u pos most choice e path made root amount =
+    let c = subst (IsPicked q used least goal found layer) (sym e) (picked q used least goal found layer) in
+    let has : Has layer choice.fpr = elim c.1 [ inl n ↦ absurd n | inr h ↦ h ] in
+    let b = is.each choice.fpr has in
+    let same = made b.steps b.kept b.long b.there in
+    let at : start q.target path.steps ≡ choice.fpr = ap (start q.target) same ∙ b.there in
+    record {
+      first = subst (IsFirst q used goal least) (sym same) (picked_first q used least goal good small found size layer is complete u pos most choice c b.steps b.kept b.long b.there);
+      root = root ∙ sym at;
+      amount = amount ∙ ap (λ (x : Choice). x.width) c.0 ∙ by b.steps b.kept b.long b.there ∙ sym (ap (path_amount q used) same);
+      long = ap length same ∙ b.long;
+    }
+  where
+    by : (steps : List Step) → Kept q used least found steps → length steps ≡ size → start q.target steps ≡ choice.fpr → min (root_left q used choice.fpr) (node_width (found choice.fpr)) ≡ path_amount q used steps
+    by [] k l t = absurd (omega (arith, l, pos))
+    by (x ∷ xs) k l t =
+        let w : node_width (found x.issuer) ≡ width used (x ∷ xs) = ap node_width k.0 in
+        ap (λ (f : Fpr). min (root_left q used f) (node_width (found f))) (sym t)
+        ∙ ap (λ (n : ℕ). min (root_left q used x.issuer) n) w
+        ∙ sym (amount_width q used (x ∷ xs) (small x.issuer))
+
+-- ---- the end
+
+module _ (q : Question) (used : Use) (least : ℕ) (goal : Goal) (size : ℕ) (reached : Reached) (set : List Fpr) (after : IsAfter q used least goal (suc size) reached set) (unrooted : IsUnrooted q used least (look reached.nodes) (suc size)) where
+  kept_few : (steps : List Step) → Kept q used least (look reached.nodes) steps → 1 ≤ length steps → length steps ≤ suc size
+  kept_few [] k some = absurd (omega (arith, some))
+  kept_few (x ∷ xs) k some = (after.entries x.issuer (node_of used x xs) k.0).few
+
+  kept_fewer : reached.layer.items ≡ [] → (steps : List Step) → Kept q used least (look reached.nodes) steps → 1 ≤ length steps → length steps < suc size
+  kept_fewer e steps k some = elim (cases_lt (length steps) (suc size)) [
+    | inl lt ↦ lt
+    | inr le ↦
+        let few = kept_few steps k some in
+        absurd (subst (λ (xs : List Fpr). Has xs (start q.target steps)) e (after.layer.all steps k (omega (arith, le, few))))
+  ]
+
+  -- Where a layer is empty, there is no path.
+  pub empty_result : reached.layer.items ≡ [] → IsResult q used goal least None
+  empty_result e other r =
+      let c = complete_all q used least goal (look reached.nodes) (suc size) (omega arith) after.complete (kept_fewer e) other r.some r.suffix in
+      let lt = kept_fewer e c.steps c.kept c.some in
+      unrooted c.steps c.kept c.some (omega (arith, lt)) (subst (λ (f : Fpr). least ≤ root_left q used f) (sym c.same) r.root)
+
+  pub empty_looked : reached.layer.items ≡ [] → IsLooked q used least 255 set
+  empty_looked e = looked_all q used least goal (look reached.nodes) (suc size) set (omega arith) after.complete after.looked (kept_fewer e) 255
+
+-- After all layers there is none.
+pub last_result : (q : Question) (used : Use) (least : ℕ) (goal : Goal) (size : ℕ) (reached : Reached) (set : List Fpr) → 255 ≤ size → IsAfter q used least goal size reached set → IsUnrooted q used least (look reached.nodes) (suc size) → IsResult q used goal least None
+last_result q used least goal size reached set le after u other r =
+    let c = after.complete other r.some (let f = r.few in omega (arith, f, le)) r.suffix in
+    let m = AtMost-le used goal c.steps other c.most in
+    u c.steps c.kept c.some (let f = r.few in omega (arith, m, f, le)) (subst (λ (f : Fpr). least ≤ root_left q used f) (sym c.same) r.root)
+
+pub looked_fewer : (q : Question) (used : Use) (least few size : ℕ) (set : List Fpr) → few ≤ size → IsLooked q used least size set → IsLooked q used least few set
+looked_fewer q used least few size set le l rest lt s = l rest (omega (arith, lt, le)) s
+
+pub first_result : (q : Question) (used : Use) (least : ℕ) (goal : Goal) (size : ℕ) (path : Path) → IsFirstPath q used goal least size path → IsResult q used goal least (Some path)
+first_result q used least goal size path f = record { first = f.first; root = f.root; amount = f.amount; long = refl }
+
+pub none_there : (xs : List Fpr) → length xs ≡ 0 → xs ≡ []
+none_there [] e = refl
+none_there (x ∷ xs) e = absurd (omega (arith, e))

@@ -1,0 +1,27 @@
+-- What is demanded of an edge, but for its being usable and its scope.
+use Rattle.std.specs.Prelude.{ℕ, ◌+◌, nat_le, nat_eq, ◌&&◌, not, min, Bool, false, Option, Some, None, cond}
+use Rattle.wot_types.specs.declared.fpr.Fpr.{Fpr}
+use Rattle.wot_edge.specs.declared.edge.EdgeFacts.{EdgeFacts}
+use Rattle.wot_edge.specs.Order.{same_fpr}
+use Rattle.wot_edge.specs.Record.{entry_at}
+use Rattle.wot_edge.specs.Path.{Question, Use, step_of, step_left}
+use Rattle.wot_search.specs.declared.node.Node.{Node}
+use Rattle.wot_search.specs.declared.node.Demand.{Demand}
+use Rattle.wot_search.specs.declared.node.Demand.TheVariants.{On, Before}
+
+abbrev pub is_place : Option ℕ → ℕ → Bool
+is_place None uid = false
+is_place (Some place) uid = nat_eq place uid
+
+abbrev pub is_met : Fpr → Demand → EdgeFacts → Bool
+is_met target (On place) edge = is_place place edge.uid
+is_met target (Before size) edge = nat_le size edge.depth && not (same_fpr edge.issuer target)
+
+-- of edges before so many others
+abbrev pub demand_of : Question → ℕ → Demand
+demand_of q size = cond (nat_eq size 0) (On (entry_at q.told q.target).place) (Before size)
+
+abbrev pub candidate_of : Fpr → Use → ℕ → Demand → ℕ → ℕ → EdgeFacts → Option Node
+candidate_of target used least demand size width edge =
+    cond (is_met target demand edge && nat_le least (step_left used (step_of edge)))
+    (Some (record { step = step_of edge; size = size + 1; width = min (step_left used (step_of edge)) width })) None

@@ -1,0 +1,82 @@
+-- Layers: what is known of the suffixes that were found of at most so many edges.
+use Rattle.std.specs.Prelude.{◌≡◌, ◌≢◌, ◌⊎◌, ℕ, suc, ◌<◌, ◌≤◌, nat_lt, nat_eq, ◌&&◌, Bool, true, List, ◌∷◌, length, Option, Some, None}
+use Rattle.std.specs.declared.cmp.Ordering.{Ordering}
+use Rattle.std.specs.declared.cmp.Ordering.TheVariants.{Less}
+use Rattle.std.specs.Ordering.{is_lt, nat_cmp, ordering_then}
+use Rattle.wot_types.specs.declared.fpr.Fpr.{Fpr}
+use Rattle.wot_types.specs.Fpr.{fpr_cmp}
+use Rattle.wot_edge.specs.declared.path.Step.{Step}
+use Rattle.wot_edge.specs.Order.{steps_cmp}
+use Rattle.wot_edge.specs.Record.{Has}
+use Rattle.wot_edge.specs.Path.{Question, Use, start}
+use Rattle.wot_search.specs.declared.node.Node.{Node}
+use Rattle.wot_search.specs.declared.node.Goal.{Goal}
+use Rattle.wot_search.specs.declared.node.Goal.TheVariants.{Widest, Least}
+use Rattle.wot_search.specs.Suffix.{Suffix, Found, Kept, width}
+
+-- of two suffixes of as many edges, the first is as good
+abbrev pub IsAsGood : Use → Goal → List Step → List Step → Type 0
+IsAsGood used Widest a b = width used b ≤ width used a
+IsAsGood used Least a b = steps_cmp b a ≢ Less
+
+-- it has fewer edges, or as many and is as good
+abbrev pub AtMost : Use → Goal → List Step → List Step → Type 0
+AtMost used goal a b = (length a < length b) ⊎ ((length a ≡ length b) × IsAsGood used goal a b)
+
+-- a suffix that was found begins where another one begins, and is at most it
+pub record Covered (q : Question) (used : Use) (least : ℕ) (goal : Goal) (found : Found) (other : List Step) : Type 0 where
+  pub steps : List Step
+  pub kept : Kept q used least found steps
+  pub some : 1 ≤ length steps
+  pub same : start q.target steps ≡ start q.target other
+  pub most : AtMost used goal steps other
+
+-- a suffix of so many edges that begins there was found
+pub record Begins (q : Question) (used : Use) (least : ℕ) (found : Found) (size : ℕ) (fpr : Fpr) : Type 0 where
+  pub steps : List Step
+  pub kept : Kept q used least found steps
+  pub long : length steps ≡ size
+  pub there : start q.target steps ≡ fpr
+
+-- what was found for an issuer is the first edge of a suffix that was found, of at most so many edges
+pub record IsEntry (q : Question) (used : Use) (least : ℕ) (found : Found) (most : ℕ) (fpr : Fpr) (node : Node) : Type 0 where
+  pub rest : List Step
+  pub kept : Kept q used least found (node.step ∷ rest)
+  pub few : node.size ≤ most
+  pub there : node.step.issuer ≡ fpr
+
+-- a layer: where the suffixes begin that were found of so many edges
+pub record IsLayer (q : Question) (used : Use) (least : ℕ) (found : Found) (size : ℕ) (layer : List Fpr) : Type 0 where
+  pub each : (fpr : Fpr) → Has layer fpr → Begins q used least found size fpr
+  pub all : (steps : List Step) → Kept q used least found steps → length steps ≡ size → Has layer (start q.target steps)
+
+-- all suffixes of at most so many edges are covered
+abbrev pub IsComplete : Question → Use → ℕ → Goal → Found → ℕ → Type 0
+IsComplete q used least goal found most = (other : List Step) → 1 ≤ length other → length other ≤ most → Suffix q used least other → Covered q used least goal found other
+
+-- while the layer after so many edges grows
+pub record IsGrowing (q : Question) (used : Use) (least : ℕ) (goal : Goal) (size : ℕ) (found : Found) (next : List Fpr) : Type 0 where
+  pub entries : (fpr : Fpr) (node : Node) → found fpr ≡ Some node → IsEntry q used least found (suc size) fpr node
+  pub complete : IsComplete q used least goal found size
+  pub layer : IsLayer q used least found (suc size) next
+
+-- what was found later, of which the suffixes of at most so many edges are the same, covers all that was covered
+pub record Onward (q : Question) (used : Use) (least : ℕ) (goal : Goal) (size : ℕ) (old new : Found) : Type 0 where
+  pub keeps : (steps : List Step) → length steps ≤ size → Kept q used least old steps → Kept q used least new steps
+  pub kept : (steps : List Step) → length steps ≤ size → Kept q used least new steps → Kept q used least old steps
+  pub covers : (other : List Step) → Covered q used least goal old other → Covered q used least goal new other
+
+-- ---- which of two suffixes from one issuer is kept
+
+-- Two suffixes of one issuer, and of as many edges, compare as their first edges do, by target and user ID.
+abbrev pub link_cmp : Step → Step → Ordering
+link_cmp a b = ordering_then (fpr_cmp a.target b.target) (nat_cmp a.uid b.uid)
+
+abbrev pub is_better : Goal → Node → Node → Bool
+is_better Widest a b = nat_lt b.width a.width
+is_better Least a b = is_lt (link_cmp a.step b.step)
+
+-- it is the first one from its issuer, or better than another of as many edges
+abbrev pub is_kept : Goal → Node → Option Node → Bool
+is_kept goal node None = true
+is_kept goal node (Some old) = nat_eq old.size node.size && is_better goal node old

@@ -1,0 +1,106 @@
+ghost use Rattle.std.specs.Prelude.{◌≡◌, ◌+◌, ◌<◌, ◌^◌, Option};
+ghost use Rattle.wot_search.specs.Demand.{is_place, is_met, demand_of, candidate_of};
+ghost use Rattle.wot_search.specs.Reached.{question_of};
+ghost use Rattle.wot_search.specs.Layer.{is_better, is_kept, link_cmp};
+ghost use Rattle.wot_edge.specs.Order.{same_fpr};
+ghost use Rattle.wot_edge.specs.Sums.{use_in};
+
+use crate::ask::Ask;
+use crate::left::{left_of_step, step_from};
+use crate::node::{Demand, Goal, Node};
+use std::cmp::Ordering;
+use wot_edge::{EdgeFacts, Roads, Step, Used};
+use wot_types::{Fpr, compare_fprs};
+
+fn is_same(a: &Fpr, b: &Fpr) -> bool
+    ensures { result ≡ same_fpr a.now b.now }
+{
+    compare_fprs(a, b).is_eq()
+}
+
+/// What the search demands of edges that stand before so many others.
+pub fn demand<R: Roads>(roads: &R, ask: &Ask, size: u8) -> Demand
+    ensures { result ≡ demand_of (question_of (R.told roads.now) ask.now) size }
+{
+    if size == 0 {
+        Demand::On(roads.place(ask.target, ask.uid))
+    } else {
+        Demand::Before(size)
+    }
+}
+
+fn is_at(place: Option<u32>, uid: u32) -> bool
+    ensures { result ≡ is_place place uid }
+{
+    match place {
+        Some(place) => place == uid,
+        None => false,
+    }
+}
+
+fn meets(demand: Demand, target: &Fpr, edge: &EdgeFacts) -> bool
+    ensures { result ≡ is_met target.now demand edge.now }
+{
+    match demand {
+        Demand::On(place) => is_at(place, edge.uid),
+        Demand::Before(size) => size <= edge.depth && !is_same(&edge.issuer, target),
+    }
+}
+
+/// What would be kept of an edge before a suffix of so many edges, and of so much; `None` where it
+/// doesn't meet the demand, or too little is left of it.
+pub fn candidate(
+    used: &Used,
+    least: u8,
+    target: &Fpr,
+    demand: Demand,
+    size: u8,
+    width: u8,
+    edge: &EdgeFacts,
+) -> Option<Node>
+    requires { size < 255 }
+    ensures { result ≡ candidate_of target.now (use_in used.now) least demand size width edge.now }
+{
+    if !meets(demand, target, edge) {
+        return None;
+    }
+    let step = step_from(edge);
+    let left = left_of_step(used, &step);
+    if left < least {
+        return None;
+    }
+    Some(Node {
+        step,
+        size: size + 1,
+        width: left.min(width),
+    })
+}
+
+fn compare_links(a: &Step, b: &Step) -> Ordering
+    ensures { result ≡ link_cmp a.now b.now }
+{
+    match compare_fprs(&a.target, &b.target) {
+        Ordering::Less => Ordering::Less,
+        Ordering::Greater => Ordering::Greater,
+        Ordering::Equal => a.uid.cmp(&b.uid),
+    }
+}
+
+fn better(goal: Goal, a: &Node, b: &Node) -> bool
+    ensures { result ≡ is_better goal a.now b.now }
+{
+    match goal {
+        Goal::Widest => b.width < a.width,
+        Goal::Least => compare_links(&a.step, &b.step).is_lt(),
+    }
+}
+
+/// Whether a node is kept, where an older one may have been found for its issuer.
+pub fn keeps(goal: Goal, node: &Node, old: Option<Node>) -> bool
+    ensures { result ≡ is_kept goal node.now old }
+{
+    match old {
+        None => true,
+        Some(old) => old.size == node.size && better(goal, node, &old),
+    }
+}

@@ -1,0 +1,41 @@
+ghost use Rattle.std.specs.Prelude.{◌≡◌, ◌-◌};
+ghost use Rattle.wot_edge.specs.Record.{Record};
+ghost use Rattle.wot_edge.specs.Path.{asks, root_left, step_left, step_of};
+ghost use Rattle.wot_edge.specs.Sums.{use_in};
+
+use crate::ask::Ask;
+use wot_edge::{EdgeFacts, Step, Used};
+use wot_types::Fpr;
+
+/// What a path tells of an edge.
+pub fn step_from(edge: &EdgeFacts) -> Step
+    ensures { result ≡ step_of edge.now }
+{
+    Step {
+        issuer: edge.issuer,
+        target: edge.target,
+        uid: edge.uid,
+        depth: edge.depth,
+        amount: edge.amount,
+    }
+}
+
+fn remaining(amount: u8, used: u32) -> u8
+    ensures { result ≡ amount - used }
+{
+    u32::from(amount).saturating_sub(used) as u8
+}
+
+/// What is left of an edge.
+pub fn left_of_step(used: &Used, step: &Step) -> u8
+    ensures { result ≡ step_left (use_in used.now) step.now }
+{
+    remaining(step.amount, used.pair(&step.issuer, &step.target))
+}
+
+/// What is left of a root.
+pub fn left_of_root(ask: &Ask, fpr: &Fpr) -> u8
+    ensures { (told : Record) → result ≡ root_left (asks told ask.now.roots.now ask.now.target.now) (use_in ask.now.used.now) fpr.now }
+{
+    remaining(ask.roots.get(fpr), ask.used.root(fpr))
+}

@@ -1,0 +1,61 @@
+ghost use Rattle.std.specs.Prelude.{◌≡◌, ◌++◌, ◌∷◌, [], is_some, Some, OnOk, if◌then◌else◌, Option, None};
+ghost use Rattle.wot_types.specs.declared.fpr.Fpr.{Fpr as Print};
+ghost use Rattle.wot_edge.specs.Order.{same_fpr};
+ghost use Rattle.wot_search.specs.Choice.{node_width};
+ghost use Rattle.wot_search.specs.Reached.{look};
+ghost use Rattle.wot_search.specs.Growth.{wide_of};
+
+use crate::node::Node;
+use std::alloc::Global;
+use std::collections::BTreeMap;
+use wot_types::{Fpr, Memory};
+
+/// What a search found for each issuer, and the issuers of the last layer.
+#[derive(Drop)]
+pub struct Reached {
+    pub nodes: BTreeMap<Fpr, Node, Global>,
+    pub layer: Vec<Fpr, Global>,
+}
+
+/// What was found for an issuer.
+pub fn node_at(nodes: &BTreeMap<Fpr, Node>, fpr: &Fpr) -> Option<Node>
+    ensures { result ≡ look nodes.now fpr.now }
+{
+    match nodes.get(fpr) {
+        Some(node) => Some(*node),
+        None => None,
+    }
+}
+
+pub fn width_of(node: Option<Node>) -> u8
+    ensures { result ≡ node_width node }
+{
+    match node {
+        Some(node) => node.width,
+        None => 0,
+    }
+}
+
+/// The width of the suffix of so many edges that was found from here.
+pub fn width_at(reached: &Reached, size: u8, at: &Fpr) -> u8
+    ensures { result ≡ wide_of size (look reached.now.nodes at.now) }
+{
+    if size == 0 {
+        255
+    } else {
+        width_of(node_at(&reached.nodes, at))
+    }
+}
+
+/// Keeps a node for its issuer; where it is the first one there, the issuer is of the last layer.
+pub fn put(reached: &mut Reached, node: Node) -> Result<(), Memory>
+    ensures nodes { OnOk result ((fpr : Print) → look reached.new.nodes fpr ≡ (if same_fpr node.step.issuer fpr then Some node else look reached.old.nodes fpr)) }
+    ensures layer { OnOk result (reached.new.layer.items ≡ (if is_some (look reached.old.nodes node.step.issuer) then reached.old.layer.items else reached.old.layer.items ++ node.step.issuer ∷ [])) }
+{
+    let issuer = node.step.issuer;
+    let before = reached.nodes.insert(issuer, node)?;
+    if before.is_none() {
+        reached.layer.push(issuer)?;
+    }
+    Ok(())
+}
