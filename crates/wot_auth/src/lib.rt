@@ -1,0 +1,12 @@
+//! Answers: next paths, one after another, until their sum reaches what is wanted.
+#![tactic(auto)]
+
+mod answer;
+mod ask;
+mod take;
+
+pub use answer::Answer;
+pub use ask::authenticate;
+
+#[cfg(test)]
+mod tests;
