@@ -205,5 +205,5 @@ module _ {A : Type 0} (R : A → A → Ordering) (join : A → A → A) (o : IsT
         octets = put_in adds.octets e.octets (wo y) p g.octets fo;
       }
     where
-    put_in : (acc e m p : ℕ) → e ≡ m → acc + m < p → acc + e < p
-    put_in acc e m p q h = omega arith
+      put_in : (acc e m p : ℕ) → e ≡ m → acc + m < p → acc + e < p
+      put_in acc e m p q h = omega arith

@@ -17,8 +17,8 @@ pub count_step : (count : ℕ) (rest parts others : List Component) (part : Comp
 count_step count rest parts others part sigs h e f =
     count_on count (length sigs) (sum_of part_items rest) (sum_of part_items others) (sum_of part_items parts) (sum_of (λ _. 1) part.sigs) h (ap (sum_of part_items) e) (ones part.sigs ∙ ap length (λ i. sym_of f i))
   where
-  sym_of : sigs ≡ part.sigs → part.sigs ≡ sigs
-  sym_of g = cc
+    sym_of : sigs ≡ part.sigs → part.sigs ≡ sigs
+    sym_of g = cc
 
 all_counted : (l d a b c u t s : ℕ) → l ≡ d → a ≡ u → b ≡ t → c ≡ s → 1 + (l + a + b + c) ≡ 1 + (d + u + t + s)
 all_counted l d a b c u t s e f g h = omega arith
@@ -30,5 +30,5 @@ pub items_is : (cert : Certificate) (d : List Signature) (us ts ss : List Compon
 items_is cert d us ts ss a b c ed eu et es ea eb ec =
     all_counted (length d) _ a b c _ _ _ (ap length ed ∙ back (ones cert.direct)) (ea ∙ ap (sum_of part_items) eu) (eb ∙ ap (sum_of part_items) et) (ec ∙ ap (sum_of part_items) es)
   where
-  back : {m n : ℕ} → m ≡ n → n ≡ m
-  back g = cc
+    back : {m n : ℕ} → m ≡ n → n ≡ m
+    back g = cc

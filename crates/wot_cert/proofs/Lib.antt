@@ -23,3 +23,5 @@ pub mod Drafts
 pub mod Sketches
 pub mod Cuts
 pub mod Completing
+pub mod Capped
+pub mod Short

@@ -8,7 +8,7 @@ use Rattle.std.specs.List.{AllByRecursion}
 use Rattle.wot_cert.specs.Counts.{sum_of}
 use Rattle.wot_cert.specs.New.{met, marked_on, marked_new, weighed_on, weighed_new}
 use Rattle.wot_cert.specs.Ranked.{united, IsBelow, IsRising}
-use Rattle.wot_cert.proofs.Rank.{less, equal, greater} 
+use Rattle.wot_cert.proofs.Rank.{less, equal, greater}
 use Rattle.wot_cert.proofs.Rank.{only as only_right}
 
 -- ---- finding
@@ -22,10 +22,10 @@ at_greater R x y xs e = rw e refl
 itself : {A : Type 0} (R : A → A → Ordering) (o : IsTotalOrder R) (x : A) → R x x ≡ Equal
 itself R o x = by (R x x) (o.antisymm x x)
   where
-  by : (r : Ordering) → r ≡ ordering_reverse r → r ≡ Equal
-  by Less e = cc
-  by Equal e = refl
-  by Greater e = cc
+    by : (r : Ordering) → r ≡ ordering_reverse r → r ≡ Equal
+    by Less e = cc
+    by Equal e = refl
+    by Greater e = cc
 
 -- ---- marks
 
@@ -65,22 +65,22 @@ module _ {A : Type 0} (R : A → A → Ordering) (join : A → A → A) (o : IsT
       let only_h : IsRising R (only y ∷ map only ys) = only_rises (y ∷ ys) h in
       elim (R x y) as (λ r. R x y ≡ r → Marks (x ∷ xs) (y ∷ ys)) [
         | Less ↦ λ e.
-          ap (λ u. marked u (x ∷ xs)) (less R join o same x xs y ys h e)
-          ∙ old_first x xs (united R join xs (y ∷ ys)) x (itself R o x)
-          ∙ ap (λ z. z ∷ marked (united R join xs (y ∷ ys)) xs) (stays x p)
-          ∙ ap (λ zs. x ∷ zs) (ih (y ∷ ys) h q)
-          ∙ sym (less R join o same x xs (only y) (map only ys) only_h (right_as x y ∙ e))
+            ap (λ u. marked u (x ∷ xs)) (less R join o same x xs y ys h e)
+            ∙ old_first x xs (united R join xs (y ∷ ys)) x (itself R o x)
+            ∙ ap (λ z. z ∷ marked (united R join xs (y ∷ ys)) xs) (stays x p)
+            ∙ ap (λ zs. x ∷ zs) (ih (y ∷ ys) h q)
+            ∙ sym (less R join o same x xs (only y) (map only ys) only_h (right_as x y ∙ e))
         | Equal ↦ λ e.
-          ap (λ u. marked u (x ∷ xs)) (equal R join o same x xs y ys h e)
-          ∙ old_first x xs (united R join xs ys) (join x y) (same x y e x ∙ itself R o x)
-          ∙ ap (λ z. z ∷ marked (united R join xs ys) xs) (joined x y e p q.0)
-          ∙ ap (λ zs. join x (only y) ∷ zs) (ih ys h.1 q.1)
-          ∙ sym (equal R join o same x xs (only y) (map only ys) only_h (right_as x y ∙ e))
+            ap (λ u. marked u (x ∷ xs)) (equal R join o same x xs y ys h e)
+            ∙ old_first x xs (united R join xs ys) (join x y) (same x y e x ∙ itself R o x)
+            ∙ ap (λ z. z ∷ marked (united R join xs ys) xs) (joined x y e p q.0)
+            ∙ ap (λ zs. join x (only y) ∷ zs) (ih ys h.1 q.1)
+            ∙ sym (equal R join o same x xs (only y) (map only ys) only_h (right_as x y ∙ e))
         | Greater ↦ λ e.
-          ap (λ u. marked u (x ∷ xs)) (greater R join o same x xs y ys a h e)
-          ∙ new_first x xs (united R join (x ∷ xs) ys) y e
-          ∙ ap (λ zs. only y ∷ zs) (inner x xs a p ih ys h.1 q.1)
-          ∙ sym (greater R join o same x xs (only y) (map only ys) a only_h (right_as x y ∙ e))
+            ap (λ u. marked u (x ∷ xs)) (greater R join o same x xs y ys a h e)
+            ∙ new_first x xs (united R join (x ∷ xs) ys) y e
+            ∙ ap (λ zs. only y ∷ zs) (inner x xs a p ih ys h.1 q.1)
+            ∙ sym (greater R join o same x xs (only y) (map only ys) a only_h (right_as x y ∙ e))
       ] refl
 
   -- Marking what is new in a union is uniting with what was marked.
@@ -124,23 +124,23 @@ module _ {A : Type 0} (R : A → A → Ordering) (join : A → A → A) (o : IsT
   weigh_inner x xs a p ih (y ∷ ys) h q =
       elim (R x y) as (λ r. R x y ≡ r → Weighs (x ∷ xs) (y ∷ ys)) [
         | Less ↦ λ e.
-          let u = less R join o same x xs y ys h e in
-          ap (λ v. weighed v (x ∷ xs) + (m x + sum_of m xs)) u
-          ∙ ap (λ n. n + (m x + sum_of m xs)) (old_weight x xs (united R join xs (y ∷ ys)) x (itself R o x))
-          ∙ step_old _ _ _ _ _ _ (stays x p) (ih (y ∷ ys) h q)
-          ∙ ap (sum_of m) (sym u)
+            let u = less R join o same x xs y ys h e in
+            ap (λ v. weighed v (x ∷ xs) + (m x + sum_of m xs)) u
+            ∙ ap (λ n. n + (m x + sum_of m xs)) (old_weight x xs (united R join xs (y ∷ ys)) x (itself R o x))
+            ∙ step_old _ _ _ _ _ _ (stays x p) (ih (y ∷ ys) h q)
+            ∙ ap (sum_of m) (sym u)
         | Equal ↦ λ e.
-          let u = equal R join o same x xs y ys h e in
-          ap (λ v. weighed v (x ∷ xs) + (m x + sum_of m xs)) u
-          ∙ ap (λ n. n + (m x + sum_of m xs)) (old_weight x xs (united R join xs ys) (join x y) (same x y e x ∙ itself R o x))
-          ∙ step_old _ _ _ _ _ _ (joined x y e p q.0) (ih ys h.1 q.1)
-          ∙ ap (sum_of m) (sym u)
+            let u = equal R join o same x xs y ys h e in
+            ap (λ v. weighed v (x ∷ xs) + (m x + sum_of m xs)) u
+            ∙ ap (λ n. n + (m x + sum_of m xs)) (old_weight x xs (united R join xs ys) (join x y) (same x y e x ∙ itself R o x))
+            ∙ step_old _ _ _ _ _ _ (joined x y e p q.0) (ih ys h.1 q.1)
+            ∙ ap (sum_of m) (sym u)
         | Greater ↦ λ e.
-          let u = greater R join o same x xs y ys a h e in
-          ap (λ v. weighed v (x ∷ xs) + (m x + sum_of m xs)) u
-          ∙ ap (λ n. n + (m x + sum_of m xs)) (new_weight x xs (united R join (x ∷ xs) ys) y e)
-          ∙ step_new _ _ _ _ _ (alone y q.0) (weigh_inner x xs a p ih ys h.1 q.1)
-          ∙ ap (sum_of m) (sym u)
+            let u = greater R join o same x xs y ys a h e in
+            ap (λ v. weighed v (x ∷ xs) + (m x + sum_of m xs)) u
+            ∙ ap (λ n. n + (m x + sum_of m xs)) (new_weight x xs (united R join (x ∷ xs) ys) y e)
+            ∙ step_new _ _ _ _ _ (alone y q.0) (weigh_inner x xs a p ih ys h.1 q.1)
+            ∙ ap (sum_of m) (sym u)
       ] refl
 
   -- What is new in a union weighs what the union weighs more.

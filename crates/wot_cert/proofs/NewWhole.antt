@@ -56,10 +56,9 @@ part_keeps rows key kind old y p = (p.0, judged_at rows key kind y.body y.sigs o
 judged_of : (rows : PolicyRows) (key : List ℕ) (kind : ℕ) (ys old : List Component) → ArePartsOf key kind ys → ArePartsOf key kind (judged_parts rows ys old)
 judged_of rows key kind ys old h =
     let both : Component → Component → Component = λ x y. judged_part rows x.sigs y in
-    let only : Component → Component = judged_part rows [] in
-    (
+    let only : Component → Component = judged_part rows [] in (
       marked_rising part_cmp both only (λ w x y. refl) (λ x y w. refl) (λ w y. refl) (λ y w. refl) ys old h.0,
-      marked_all part_cmp both only (IsPartOf key kind) (λ x y p. part_keeps rows key kind x.sigs y p) (λ y p. part_keeps rows key kind [] y p) ys old h.1
+      marked_all part_cmp both only (IsPartOf key kind) (λ x y p. part_keeps rows key kind x.sigs y p) (λ y p. part_keeps rows key kind [] y p) ys old h.1,
     )
 
 -- lists of which each was judged by rows, beside old ones

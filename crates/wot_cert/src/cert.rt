@@ -1,4 +1,4 @@
-ghost use Rattle.std.specs.Prelude.{◌≡◌, ◌≢◌, ℕ, ◌+◌, ◌++◌, ◌<◌, ◌^◌, MatchBool, MatchResult, Some, true, OnOk, OnErr, IfOk};
+ghost use Rattle.std.specs.Prelude.{◌≡◌, ◌≢◌, ℕ, ◌+◌, ◌++◌, ◌-◌, ◌<◌, ◌^◌, min, MatchBool, MatchResult, Some, true, OnOk, OnErr, IfOk};
 ghost use Rattle.std.specs.Option.{MatchOption};
 ghost use Rattle.wot_key.specs.Key.{is_readable, key_of, fpr_of};
 ghost use Rattle.wot_cert.specs.Answers.{ClashesExactly};
@@ -21,8 +21,8 @@ use crate::draft::Draft;
 use crate::export::append_cert;
 use crate::judge::{judge_new, judge_new_parts};
 use crate::part::{copy_parts, union_parts};
-use crate::sizes::cert_octets;
 use crate::sig::{Marks, copy_sigs, union_sigs};
+use crate::sizes::cert_octets;
 use crate::{Adds, MergeFault, Part, Sig};
 use std::alloc::Global;
 use std::marker::Model;
@@ -129,10 +129,9 @@ impl Cert {
         &self.body
     }
 
-    /// The length of its text in octets.
+    /// The length of its text in octets, or `u64::MAX` where it is longer.
     pub fn size(&self) -> u64
-        requires small { size_of self.now < 2 ^ 63 }
-        ensures size { result ≡ size_of self.now }
+        ensures size { result ≡ min (size_of self.now) (2 ^ 64 - 1) }
     {
         cert_octets(self)
     }

@@ -58,5 +58,9 @@ pub(crate) fn first_fault_of(packets: &[Packet]) -> Option<CertFault>
         let is_key = packet.kind == 6;
         behind_key = behind_key || is_key;
     }
-    if behind_key { None } else { Some(CertFault::Empty) }
+    if behind_key {
+        None
+    } else {
+        Some(CertFault::Empty)
+    }
 }

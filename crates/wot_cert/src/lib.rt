@@ -18,6 +18,8 @@ mod part;
 mod sig;
 mod sizes;
 mod spans;
+#[cfg(test)]
+mod tests;
 
 pub use adds::Adds;
 pub use assembling::{Assembled, assemble};

@@ -1,4 +1,4 @@
-ghost use Rattle.std.specs.Prelude.{◌≡◌, ◌<◌, ◌^◌, length};
+ghost use Rattle.std.specs.Prelude.{◌≡◌, ◌<◌, ◌-◌, ◌^◌, length, min};
 ghost use Rattle.std.specs.List.{AllByRecursion};
 ghost use Rattle.wot_packet.specs.Writing.{written};
 ghost use Rattle.wot_cert.specs.Counts.{sum_of};
@@ -11,7 +11,8 @@ use crate::{Cert, Part, Sig};
 /// How many octets the shortest spelling of a packet with this body has.
 pub(crate) fn packet_octets(body: &[u8]) -> u64
     requires { length body.now < 2 ^ 32 }
-    ensures { result ≡ length (written 2 body.now) }
+    ensures octets { result ≡ length (written 2 body.now) }
+    ensures few { result < 2 ^ 33 }
 {
     let size = body.len() as u64;
     if size < 192 {
@@ -45,28 +46,48 @@ pub(crate) fn part_octets(part: &Part) -> u64
     packet_octets(part.body()) + sigs_octets(part.sigs())
 }
 
-fn parts_octets(parts: &[Part]) -> u64
-    requires fit { AllByRecursion PartFits parts.now }
-    requires few { sum_of part_size parts.now < 2 ^ 63 }
-    ensures { result ≡ sum_of part_size parts.now }
+/// The octets of the signatures, or `u64::MAX` where they are more.
+fn sigs_capped(sigs: &[Sig]) -> u64
+    requires { AllByRecursion SigFits sigs.now }
+    ensures { result ≡ min (sum_of sig_size sigs.now) (2 ^ 64 - 1) }
 {
     let mut octets = 0u64;
-    let mut rest = parts;
-    'rest: while let Some((part, others)) = rest.split_first() {
-        octets += part_octets(part);
+    let mut rest = sigs;
+    'rest: while let Some((sig, others)) = rest.split_first() {
+        octets = octets.saturating_add(packet_octets(sig.body()));
         rest = others;
     }
     octets
 }
 
-/// How many octets the text of a certificate has.
-pub(crate) fn cert_octets(cert: &Cert) -> u64
-    requires { size_of cert.now < 2 ^ 63 }
-    ensures { result ≡ size_of cert.now }
+fn part_capped(part: &Part) -> u64
+    requires { PartFits part.now }
+    ensures { result ≡ min (part_size part.now) (2 ^ 64 - 1) }
 {
-    packet_octets(cert.body())
-        + sigs_octets(cert.direct())
-        + parts_octets(cert.user_ids())
-        + parts_octets(cert.attributes())
-        + parts_octets(cert.subkeys())
+    packet_octets(part.body()).saturating_add(sigs_capped(part.sigs()))
+}
+
+/// The octets of the components with their signatures, or `u64::MAX` where they are more.
+fn parts_capped(parts: &[Part]) -> u64
+    requires { AllByRecursion PartFits parts.now }
+    ensures { result ≡ min (sum_of part_size parts.now) (2 ^ 64 - 1) }
+{
+    let mut octets = 0u64;
+    let mut rest = parts;
+    'rest: while let Some((part, others)) = rest.split_first() {
+        octets = octets.saturating_add(part_capped(part));
+        rest = others;
+    }
+    octets
+}
+
+/// How many octets the text of a certificate has, or `u64::MAX` where it has more.
+pub(crate) fn cert_octets(cert: &Cert) -> u64
+    ensures { result ≡ min (size_of cert.now) (2 ^ 64 - 1) }
+{
+    let key = packet_octets(cert.body());
+    let direct = key.saturating_add(sigs_capped(cert.direct()));
+    let user_ids = direct.saturating_add(parts_capped(cert.user_ids()));
+    let attributes = user_ids.saturating_add(parts_capped(cert.attributes()));
+    attributes.saturating_add(parts_capped(cert.subkeys()))
 }

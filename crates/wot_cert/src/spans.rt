@@ -39,7 +39,12 @@ fn narrow_facts(bounds: &mut Bounds, facts: SigFacts, created: u32, t: u32)
     let made = facts.made as u64;
     narrow(bounds, made, t);
     narrow_unless_zero(bounds, facts.lasts, made + facts.lasts as u64, t);
-    narrow_unless_zero(bounds, facts.key_lasts, created as u64 + facts.key_lasts as u64, t);
+    narrow_unless_zero(
+        bounds,
+        facts.key_lasts,
+        created as u64 + facts.key_lasts as u64,
+        t,
+    );
 }
 
 fn narrow_sig(bounds: &mut Bounds, sig: &Sig, created: u32, t: u32)

@@ -22,11 +22,10 @@ loop-at-preserved g c =
     record {
       as_long = length-set xs c.loop-at.at v ∙ i.as_long;
       marked = step_list (judged_parts (rows_of c.args.policy.now)) xs c.loop-at.at y v old new _ lt c.index_mut-part.ensures.value i.marked step;
-      asked =
-        (
-          i.asked.0 + more.0,
-          asked_again c.args.policy.now c.loop-at.policy c.judge_one_part-left.new.policy i.asked.0 more.0 i.asked.1 more.1,
-          step_count sound_new_on xs c.loop-at.at y v old new _ i.asked.0 more.0 lt c.index_mut-part.ensures.value i.asked.2 more.2
-        );
+      asked = (
+        i.asked.0 + more.0,
+        asked_again c.args.policy.now c.loop-at.policy c.judge_one_part-left.new.policy i.asked.0 more.0 i.asked.1 more.1,
+        step_count sound_new_on xs c.loop-at.at y v old new _ i.asked.0 more.0 lt c.index_mut-part.ensures.value i.asked.2 more.2,
+      );
       faithful = c.judge_one_part-left.ensures.faithful;
     }

@@ -15,9 +15,8 @@ invariant_of-result c =
     let u : c.in_ok-user_ids.user_ids.items ≡ map (part_with (copied c.args.marks)) a.user_ids.items = c.in_ok-user_ids.ensures ∙ ap (map (part_with (copied c.args.marks))) c.deref-3.ensures.value in
     let t : c.in_ok-attributes.attributes.items ≡ map (part_with (copied c.args.marks)) a.attributes.items = c.in_ok-attributes.ensures ∙ ap (map (part_with (copied c.args.marks))) c.deref-4.ensures.value in
     let s : c.in_ok-subkeys.subkeys.items ≡ map (part_with (copied c.args.marks)) a.subkeys.items = c.in_ok-subkeys.ensures ∙ ap (map (part_with (copied c.args.marks))) c.deref-5.ensures.value in
-    let whole = marked_whole (λ s. mark_under c.args.marks s.admitted) _ c.self.invariant.2 in
-    (
+    let whole = marked_whole (λ s. mark_under c.args.marks s.admitted) _ c.self.invariant.2 in (
       c.self.invariant.0 ∙ ap key_of (sym k),
       c.self.invariant.1 ∙ ap fpr_of (sym k),
-      subst IsCertificate (sym (same_cert _ _ k d u t s)) whole
+      subst IsCertificate (sym (same_cert _ _ k d u t s)) whole,
     )

@@ -16,9 +16,8 @@ invariant_of-result c =
     let t : c.in_ok-attributes.attributes.items ≡ unite_parts a.attributes.items b.attributes.items = c.in_ok-attributes.ensures.union ∙ (λ i. unite_parts (c.deref-6.ensures.value i) (c.deref-7.ensures.value i)) in
     let s : c.in_ok-subkeys.subkeys.items ≡ unite_parts a.subkeys.items b.subkeys.items = c.in_ok-subkeys.ensures.union ∙ (λ i. unite_parts (c.deref-8.ensures.value i) (c.deref-9.ensures.value i)) in
     let same : a.body.items ≡ b.body.items = ap (λ (x : Certificate). x.key) c.self.view_is ∙ c.requires ∙ sym (ap (λ (x : Certificate). x.key) c.other.view_is) in
-    let whole = unite_whole _ _ c.self.invariant.2 c.other.invariant.2 same in
-    (
+    let whole = unite_whole _ _ c.self.invariant.2 c.other.invariant.2 same in (
       c.self.invariant.0 ∙ ap key_of (sym k),
       c.self.invariant.1 ∙ ap fpr_of (sym k),
-      subst IsCertificate (sym (same_cert _ _ k d u t s)) whole
+      subst IsCertificate (sym (same_cert _ _ k d u t s)) whole,
     )

@@ -6,5 +6,5 @@ use Rattle.wot_cert.proofs.part.Part.copied.Goals as goal
 pub invariant_of-result : goal.invariant_of-result
 invariant_of-result c =
     let e : c.in_ok-sigs.sigs.items ≡ map (copied c.args.marks) c.self.inside.sigs.items =
-        c.in_ok-sigs.ensures ∙ ap (map (copied c.args.marks)) c.deref-2.ensures.value in
+    c.in_ok-sigs.ensures ∙ ap (map (copied c.args.marks)) c.deref-2.ensures.value in
     rw e (marked_rises (λ s. mark_under c.args.marks s.admitted) c.self.inside.sigs.items c.self.invariant)
