@@ -2,7 +2,8 @@ ghost use Rattle.std.specs.Prelude.{◌≡◌, ℕ, ◌≤◌, ◌^◌, List, []
 ghost use Rattle.std.specs.List.{flat_map};
 ghost use Rattle.wot_cert.specs.Counts.{sigs_on};
 ghost use Rattle.wot_cert.specs.Narrowed.{Narrowed};
-ghost use Rattle.wot_cert.specs.Span.{span_of, sig_moments, facts_moments, unless_zero, created_of};
+ghost use Rattle.wot_cert.specs.Span.{span_of, sig_moments, facts_moments, unless_zero, created_of, InSpan};
+ghost use Rattle.wot_cert.specs.Time.{live_at};
 
 use crate::{Cert, Part, Sig, Span};
 use wot_signature::SigFacts;
@@ -89,6 +90,7 @@ fn created(cert: &Cert) -> u32
 /// was made, when it ends, and when it lets the key end.
 pub fn span(cert: &Cert, t: u32) -> Span
     ensures span { result ≡ span_of cert.now t }
+    ensures live { (u : ℕ) → InSpan result u → live_at t cert.now ≡ live_at u cert.now }
 {
     let mut bounds = Bounds {
         from: 0,
