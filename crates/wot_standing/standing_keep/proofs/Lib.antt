@@ -1,2 +1,0 @@
-pub mod Revoking
-pub mod SpanLaw
