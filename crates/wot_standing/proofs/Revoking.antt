@@ -14,7 +14,7 @@ use Rattle.wot_cert.specs.Revoked.{revokes_by, is_unrevoked, is_revocable}
 use Rattle.wot_standing.specs.declared.kinds.Binding.{Binding}
 use Rattle.wot_standing.specs.Kinds.{is_binding}
 use Rattle.wot_standing.specs.Latest.{latest, revoked_at, outlives, is_valid_after}
-use Rattle.wot_standing.specs.Valid.{is_valid, valid, newest_valid}
+use Rattle.wot_standing.specs.Valid.{is_valid, newest_valid}
 
 both : (a b m : ℕ) → (nat_lt a m && nat_lt b m) ≡ nat_lt (max a b) m
 both a b m = grind (arith, nat_tests)

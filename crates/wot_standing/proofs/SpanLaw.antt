@@ -1,5 +1,5 @@
 -- What is live, and so the standing, is the same at every time of a span.
-use Rattle.std.proofs.Common.{◌≡◌, ℕ, ◌+◌, ◌-◌, ◌≤◌, ◌<◌, ◌^◌, Bool, true, false, cond, not, ◌&&◌, ◌||◌, ◌==◌, List, [], ◌∷◌, ◌++◌, map, Option, Some, None, refl, sym, ap, ◌∙◌, arith, max, min}
+use Rattle.std.proofs.Common.{◌≡◌, ℕ, ◌+◌, ◌≤◌, ◌<◌, ◌^◌, Bool, true, false, cond, not, ◌&&◌, ◌||◌, ◌==◌, List, [], ◌∷◌, ◌++◌, map, Option, Some, None, refl, sym, ap, ◌∙◌, arith}
 use Rattle.std.specs.Prelude.{nat_le, nat_lt, filter, is_some}
 use Rattle.std.specs.List.{AllByRecursion, flat_map, list_all, list_any, filter_map}
 use Rattle.std.specs.Option.{option_or, option_map_or}
@@ -21,7 +21,7 @@ use Rattle.wot_standing.specs.Kinds.{is_binding, is_soft}
 use Rattle.wot_standing.specs.Own.{is_own_revoked}
 use Rattle.wot_standing.specs.Standing.{own, primacy, self_certification, primary_among, governing, end_by, revokes_key, is_hard_revoked, is_soft_revocation, least_of, soft_moment, standing_of}
 use Rattle.wot_standing.specs.Steady.{Same, SameOn, IsSteady}
-use Rattle.wot_standing.specs.Valid.{is_valid, valid, newest_valid}
+use Rattle.wot_standing.specs.Valid.{is_valid, newest_valid}
 
 -- t and u are on one side of m
 pub record OneSide (t u m : ℕ) : Type 0 where

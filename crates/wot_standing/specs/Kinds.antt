@@ -1,5 +1,5 @@
 -- Kinds of signatures (RFC 9580, section 5.2.1), and the reasons of revocations (section 5.2.3.31).
-use Rattle.std.specs.Prelude.{ℕ, Bool, false, not, ◌&&◌, ◌||◌, ◌==◌, nat_le, Option, Some, None}
+use Rattle.std.specs.Prelude.{ℕ, Bool, false, ◌&&◌, ◌||◌, ◌==◌, nat_le, Option, Some, None}
 use Rattle.wot_cert.specs.Certificate.{Signature}
 use Rattle.wot_cert.specs.Judged.{is_true_of}
 use Rattle.wot_cert.specs.Revoked.{has_kind}

@@ -1,5 +1,5 @@
 -- What may be relied on, by the standing of whom it rests on.
-use Rattle.std.specs.Prelude.{ℕ, Bool, true, not, ◌&&◌, nat_le, nat_lt, List, Option, is_some}
+use Rattle.std.specs.Prelude.{ℕ, Bool, true, not, ◌&&◌, nat_le, nat_lt, Option, is_some}
 use Rattle.std.specs.List.{list_any}
 use Rattle.std.specs.Option.{option_map_or}
 use Rattle.wot_verdict.specs.Verdicts.{Entries}
