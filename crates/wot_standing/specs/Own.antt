@@ -1,0 +1,13 @@
+-- User IDs that their own key revoked.
+use Rattle.std.specs.Prelude.{ℕ, Bool, not, ◌&&◌, is_some}
+use Rattle.std.specs.List.{list_any}
+use Rattle.wot_types.specs.declared.fpr.Fpr.{Fpr}
+use Rattle.wot_verdict.specs.Verdicts.{Entries}
+use Rattle.wot_cert.specs.Certificate.{Component}
+use Rattle.wot_cert.specs.Revoked.{revokes_by}
+use Rattle.wot_standing.specs.Standing.{self_certification}
+
+-- A live revocation by this one stands on the user ID, and no live self-certification that it doesn't revoke.
+abbrev pub is_own_revoked : Entries → Fpr → ℕ → Component → Bool
+is_own_revoked verdicts fpr t uid =
+    list_any (revokes_by verdicts fpr t) uid.sigs && not (is_some (self_certification verdicts fpr t uid))

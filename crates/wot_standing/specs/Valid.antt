@@ -1,0 +1,23 @@
+-- Signatures of one place that hold at a time, and the newest of them.
+use Rattle.std.specs.Prelude.{ℕ, Bool, ◌&&◌, List, filter, Option}
+use Rattle.wot_types.specs.declared.fpr.Fpr.{Fpr}
+use Rattle.wot_verdict.specs.Verdicts.{Entries}
+use Rattle.wot_cert.specs.Certificate.{Signature}
+use Rattle.wot_cert.specs.Issuer.{counts_by}
+use Rattle.wot_cert.specs.Ranked.{greatest}
+use Rattle.wot_cert.specs.Revoked.{is_unrevoked}
+use Rattle.wot_cert.specs.Time.{is_live, newness}
+use Rattle.wot_standing.specs.declared.kinds.Binding.{Binding}
+use Rattle.wot_standing.specs.Kinds.{is_binding}
+
+-- It is of this kind, counts by this one, is live at t, and isn't revoked at its place.
+abbrev pub is_valid : Entries → Fpr → ℕ → Binding → List Signature → Signature → Bool
+is_valid verdicts fpr t binding place s =
+    is_binding binding s && (counts_by verdicts fpr s && (is_live t s && is_unrevoked verdicts fpr t place s))
+
+abbrev pub valid : Entries → Fpr → ℕ → Binding → List Signature → List Signature
+valid verdicts fpr t binding place = filter (is_valid verdicts fpr t binding place) place
+
+-- the newest of the valid ones
+abbrev pub newest_valid : Entries → Fpr → ℕ → Binding → List Signature → Option Signature
+newest_valid verdicts fpr t binding place = greatest newness (valid verdicts fpr t binding place)

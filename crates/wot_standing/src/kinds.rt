@@ -1,0 +1,116 @@
+ghost use Rattle.std.specs.Prelude.{◌≡◌, ◌==◌, ℕ, Bool, nat_le, ◌&&◌};
+ghost use Rattle.wot_cert.specs.Issuer.{counts_by};
+ghost use Rattle.wot_cert.specs.Revoked.{has_kind as has_kind_spec, is_revocable as is_revocable_spec};
+ghost use Rattle.wot_cert.specs.Time.{made_of, facts_live, is_live as is_live_spec};
+ghost use Rattle.wot_standing.specs.Kinds.{is_binding as is_binding_spec, is_soft as is_soft_spec, is_soft_reason as is_soft_reason_spec, is_primary as is_primary_spec};
+
+use std::cmp::Ordering;
+use wot_cert::{Sig, issuer_of};
+use wot_signature::SigFacts;
+use wot_types::{Fpr, compare_fprs};
+use wot_verdict::Verdicts;
+
+// Kinds of signatures (RFC 9580, section 5.2.1).
+const DIRECT_KEY: u8 = 0x1f;
+
+pub(crate) const KEY_REVOCATION: u8 = 0x20;
+
+pub(crate) const CERTIFICATION_REVOCATION: u8 = 0x30;
+
+/// By which signature a key binds: to itself, or to a user ID.
+#[derive(Clone, Copy, Debug, PartialEq, Eq)]
+pub(crate) enum Binding {
+    DirectKey,
+    Certification,
+}
+
+pub(crate) fn has_kind(sig: &Sig, kind: u8) -> bool
+    ensures { result ≡ has_kind_spec kind sig.now }
+{
+    match sig.facts() {
+        Some(facts) => facts.kind == kind,
+        None => false,
+    }
+}
+
+pub(crate) fn is_binding(sig: &Sig, binding: Binding) -> bool
+    ensures { result ≡ is_binding_spec binding sig.now }
+{
+    match binding {
+        Binding::DirectKey => has_kind(sig, DIRECT_KEY),
+        Binding::Certification => match sig.facts() {
+            Some(facts) => 0x10 <= facts.kind && facts.kind <= 0x13,
+            None => false,
+        },
+    }
+}
+
+fn is_soft_reason(reason: Option<u8>) -> bool
+    ensures { result ≡ is_soft_reason_spec reason }
+{
+    match reason {
+        Some(code) => code == 1 || code == 3 || code == 32,
+        None => false,
+    }
+}
+
+pub(crate) fn is_soft(sig: &Sig) -> bool
+    ensures { result ≡ is_soft_spec sig.now }
+{
+    match sig.facts() {
+        Some(facts) => is_soft_reason(facts.reason),
+        None => false,
+    }
+}
+
+pub(crate) fn is_primary(sig: &Sig) -> bool
+    ensures { result ≡ is_primary_spec sig.now }
+{
+    match sig.facts() {
+        Some(facts) => facts.primary,
+        None => false,
+    }
+}
+
+pub(crate) fn is_revocable(sig: &Sig) -> bool
+    ensures { result ≡ is_revocable_spec sig.now }
+{
+    match sig.facts() {
+        Some(facts) => facts.revocable,
+        None => false,
+    }
+}
+
+pub(crate) fn made(sig: &Sig) -> u32
+    ensures { result ≡ made_of sig.now }
+{
+    match sig.facts() {
+        Some(facts) => facts.made,
+        None => 0,
+    }
+}
+
+fn facts_are_live(facts: SigFacts, t: u32) -> bool
+    ensures { result ≡ facts_live t facts }
+{
+    facts.made <= t && (facts.lasts == 0 || (t as u64) < facts.made as u64 + facts.lasts as u64)
+}
+
+pub(crate) fn is_live(sig: &Sig, t: u32) -> bool
+    ensures { result ≡ is_live_spec t sig.now }
+{
+    match sig.facts() {
+        Some(facts) => facts_are_live(facts, t),
+        None => false,
+    }
+}
+
+/// Whether it counts by this one.
+pub(crate) fn counts(sig: &Sig, verdicts: &Verdicts, fpr: &Fpr) -> bool
+    ensures { result ≡ counts_by verdicts.now fpr.now sig.now }
+{
+    match issuer_of(sig, verdicts) {
+        Some(issuer) => compare_fprs(fpr, &issuer) == Ordering::Equal,
+        None => false,
+    }
+}

@@ -1,0 +1,54 @@
+ghost use Rattle.std.specs.Prelude.{◌≡◌, max};
+ghost use Rattle.std.specs.Option.{option_map_or};
+ghost use Rattle.wot_cert.specs.Revoked.{revokes_by};
+ghost use Rattle.wot_standing.specs.Latest.{revoked_at, outlives as outlives_spec};
+
+use crate::kinds::{CERTIFICATION_REVOCATION, counts, has_kind, is_live, made};
+use wot_cert::Sig;
+use wot_types::Fpr;
+use wot_verdict::Verdicts;
+
+pub(crate) fn revokes(sig: &Sig, verdicts: &Verdicts, fpr: &Fpr, t: u32) -> bool
+    ensures { result ≡ revokes_by verdicts.now fpr.now t sig.now }
+{
+    has_kind(sig, CERTIFICATION_REVOCATION) && counts(sig, verdicts, fpr) && is_live(sig, t)
+}
+
+/// When the latest live revocation by this one at a place was made.
+pub(crate) fn latest_revocation(
+    place: &[Sig],
+    verdicts: &Verdicts,
+    fpr: &Fpr,
+    t: u32,
+) -> Option<u32>
+    ensures { result ≡ revoked_at verdicts.now fpr.now t place.now }
+{
+    let mut best: Option<u32> = None;
+    let mut rest = place;
+    'back: while let Some((sig, front)) = rest.split_last() {
+        rest = front;
+        if revokes(sig, verdicts, fpr, t) {
+            best = Some(later(made(sig), best));
+        }
+    }
+    best
+}
+
+fn later(made: u32, best: Option<u32>) -> u32
+    ensures { result ≡ option_map_or (max made) best made }
+{
+    match best {
+        Some(other) => made.max(other),
+        None => made,
+    }
+}
+
+/// Whether what was made then is newer than the latest revocation, if there is one.
+pub(crate) fn outlives(revoked: Option<u32>, made: u32) -> bool
+    ensures { result ≡ outlives_spec revoked made }
+{
+    match revoked {
+        Some(revoked) => revoked < made,
+        None => true,
+    }
+}

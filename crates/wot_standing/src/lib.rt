@@ -1,0 +1,20 @@
+//! Whether a key stands at a time, and what ends it.
+#![tactic(auto)]
+
+mod governing;
+mod kinds;
+mod latest;
+mod newest;
+mod own;
+mod revoked;
+mod status;
+mod steady;
+#[cfg(test)]
+mod tests;
+mod usable;
+
+pub use governing::standing;
+pub use own::is_own_revoked;
+pub use status::Standing;
+pub use steady::steady_span;
+pub use usable::{is_key_in_order, is_usable};

@@ -1,0 +1,127 @@
+ghost use Rattle.std.specs.Prelude.{◌≡◌, filter};
+ghost use Rattle.std.specs.List.{filter_map};
+ghost use Rattle.std.specs.Option.{option_copied};
+ghost use Rattle.wot_cert.specs.Ranked.{greatest, higher as higher_of};
+ghost use Rattle.wot_cert.specs.Time.{newness};
+ghost use Rattle.wot_standing.specs.Latest.{is_valid_after as is_valid_after_spec};
+ghost use Rattle.wot_standing.specs.Standing.{primacy, primary_among};
+ghost use Rattle.wot_standing.specs.Valid.{newest_valid as newest_valid_spec};
+
+use crate::kinds::{Binding, counts, is_binding, is_live, is_primary, is_revocable, made};
+use crate::latest::{latest_revocation, outlives};
+use std::cmp::Ordering;
+use wot_cert::{Part, Sig};
+use wot_types::{Fpr, compare_numbers};
+use wot_verdict::Verdicts;
+
+/// By the time made, then the number, then the body.
+fn compare_newness(a: &Sig, b: &Sig) -> Ordering
+    ensures { result ≡ newness a.now b.now }
+{
+    match made(a).cmp(&made(b)) {
+        Ordering::Equal => match compare_numbers(&a.number(), &b.number()) {
+            Ordering::Equal => a.body().cmp(b.body()),
+            other => other,
+        },
+        other => other,
+    }
+}
+
+/// By the primary mark, then newness.
+fn compare_primacy(a: &Sig, b: &Sig) -> Ordering
+    ensures { result ≡ primacy a.now b.now }
+{
+    match is_primary(a).cmp(&is_primary(b)) {
+        Ordering::Equal => compare_newness(a, b),
+        other => other,
+    }
+}
+
+/// The one that is not less.
+fn higher<'a>(order: Ordering, a: &'a Sig, b: &'a Sig) -> &'a Sig
+    ensures { result.now ≡ higher_of order a.now b.now }
+{
+    match order {
+        Ordering::Less => b,
+        Ordering::Equal => a,
+        Ordering::Greater => a,
+    }
+}
+
+fn is_valid_after(
+    sig: &Sig,
+    verdicts: &Verdicts,
+    fpr: &Fpr,
+    t: u32,
+    binding: Binding,
+    revoked: Option<u32>,
+) -> bool
+    ensures { result ≡ is_valid_after_spec verdicts.now fpr.now t binding revoked sig.now }
+{
+    is_binding(sig, binding)
+        && counts(sig, verdicts, fpr)
+        && is_live(sig, t)
+        && (!is_revocable(sig) || outlives(revoked, made(sig)))
+}
+
+/// The newest of those that are valid, where the latest revocation was made then.
+fn newest_after<'a>(
+    place: &'a [Sig],
+    verdicts: &Verdicts,
+    fpr: &Fpr,
+    t: u32,
+    binding: Binding,
+    revoked: Option<u32>,
+) -> Option<&'a Sig>
+    ensures { option_copied result ≡ greatest newness (filter (is_valid_after_spec verdicts.now fpr.now t binding revoked) place.now) }
+{
+    let mut best: Option<&'a Sig> = None;
+    let mut rest = place;
+    'back: while let Some((sig, front)) = rest.split_last() {
+        rest = front;
+        if is_valid_after(sig, verdicts, fpr, t, binding, revoked) {
+            best = match best {
+                None => Some(sig),
+                Some(other) => Some(higher(compare_newness(sig, other), sig, other)),
+            };
+        }
+    }
+    best
+}
+
+/// The newest valid one at a place.
+pub(crate) fn newest_valid<'a>(
+    place: &'a [Sig],
+    verdicts: &Verdicts,
+    fpr: &Fpr,
+    t: u32,
+    binding: Binding,
+) -> Option<&'a Sig>
+    ensures { option_copied result ≡ newest_valid_spec verdicts.now fpr.now t binding place.now }
+{
+    let revoked = latest_revocation(place, verdicts, fpr, t);
+    newest_after(place, verdicts, fpr, t, binding, revoked)
+}
+
+/// The greatest, by the primary mark and then newness, of the newest self-certifications of the user IDs.
+pub(crate) fn primary<'a>(
+    user_ids: &'a [Part],
+    verdicts: &Verdicts,
+    fpr: &Fpr,
+    t: u32,
+) -> Option<&'a Sig>
+    ensures { option_copied result ≡ primary_among verdicts.now fpr.now t user_ids.now }
+{
+    let mut best: Option<&'a Sig> = None;
+    let mut rest = user_ids;
+    'back: while let Some((uid, front)) = rest.split_last() {
+        rest = front;
+        if let Some(sig) = newest_valid(uid.sigs(), verdicts, fpr, t, Binding::Certification) {
+            best = match best {
+                None => Some(sig),
+                Some(other) => Some(higher(compare_primacy(sig, other), sig, other)),
+            };
+        }
+    }
+    best
+}

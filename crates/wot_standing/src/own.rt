@@ -1,0 +1,32 @@
+ghost use Rattle.std.specs.Prelude.{◌≡◌};
+ghost use Rattle.std.specs.List.{list_any};
+ghost use Rattle.wot_cert.specs.Revoked.{revokes_by};
+ghost use Rattle.wot_standing.specs.Own.{is_own_revoked as is_own_revoked_spec};
+
+use crate::kinds::Binding;
+use crate::latest::revokes;
+use crate::newest::newest_valid;
+use wot_cert::{Part, Sig};
+use wot_types::Fpr;
+use wot_verdict::Verdicts;
+
+fn has_revocation(place: &[Sig], verdicts: &Verdicts, fpr: &Fpr, t: u32) -> bool
+    ensures { result ≡ list_any (revokes_by verdicts.now fpr.now t) place.now }
+{
+    let mut found = false;
+    let mut rest = place;
+    'back: while let Some((sig, front)) = rest.split_last() {
+        rest = front;
+        found = revokes(sig, verdicts, fpr, t) || found;
+    }
+    found
+}
+
+/// Whether a user ID is revoked at a time by its own key, which has this fingerprint: a live revocation by it stands on the
+/// user ID, and no self-certification that is live and unrevoked.
+pub fn is_own_revoked(uid: &Part, verdicts: &Verdicts, fpr: &Fpr, t: u32) -> bool
+    ensures revoked { result ≡ is_own_revoked_spec verdicts.now fpr.now t uid.now }
+{
+    has_revocation(uid.sigs(), verdicts, fpr, t)
+        && newest_valid(uid.sigs(), verdicts, fpr, t, Binding::Certification).is_none()
+}

@@ -1,0 +1,13 @@
+ghost use Rattle.std.specs.Prelude.{ℕ, ◌≡◌};
+ghost use Rattle.wot_cert.specs.Span.{span_of, InSpan};
+ghost use Rattle.wot_standing.specs.Steady.{IsSteady};
+
+use wot_cert::{Cert, Span, span};
+
+/// The span of a time, throughout which the same signatures are live.
+pub fn steady_span(cert: &Cert, t: u32) -> Span
+    ensures span { result ≡ span_of cert.now t }
+    ensures steady { (u : ℕ) → InSpan result u → IsSteady cert.now t u }
+{
+    span(cert, t)
+}
