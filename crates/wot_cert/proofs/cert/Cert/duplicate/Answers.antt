@@ -1,0 +1,8 @@
+use Rattle.std.proofs.Common.{◌≡◌, ◌∙◌}
+use Rattle.wot_cert.specs.Certificate.{Certificate}
+use Rattle.wot_cert.proofs.Copies.{cert_kept}
+use Rattle.wot_cert.proofs.Results.{if_ok}
+use Rattle.wot_cert.proofs.cert.Cert.duplicate.Goals as goal
+
+pub returns : goal.returns
+returns c = record { equal = if_ok c.copied.result _ _ (λ copy e. e ∙ cert_kept c.args.self.now) c.copied.ensures }

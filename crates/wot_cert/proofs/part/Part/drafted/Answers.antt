@@ -1,0 +1,10 @@
+use Rattle.std.proofs.Common.{List, subst, sym}
+use Rattle.wot_cert.specs.Certificate.{Signature, sig_cmp}
+use Rattle.wot_cert.specs.Ranked.{IsRising}
+use Rattle.wot_cert.specs.Drafting.{bodies_in}
+use Rattle.wot_cert.proofs.Completing.{sigs-rise}
+use Rattle.wot_cert.proofs.part.Part.drafted.Goals as goal
+
+pub invariant_of-result : goal.invariant_of-result
+invariant_of-result c =
+    subst (λ (sigs : List Signature). IsRising sig_cmp sigs) (sym c.in_ok-sigs.ensures.sigs) (sigs-rise c.args.key.now c.args.kind c.args.body.now (bodies_in c.args.sigs.now) c.requires.rises)

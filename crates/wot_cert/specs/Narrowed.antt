@@ -1,0 +1,8 @@
+-- Bounds that moments narrow.
+use Rattle.std.specs.Prelude.{◌≡◌, ℕ, nat_lt, max, List, filter}
+use Rattle.wot_cert.specs.declared.spans.Bounds.{Bounds}
+use Rattle.wot_cert.specs.Span.{begin_of, least}
+
+pub record Narrowed (old new : Bounds) (moments : List ℕ) (t : ℕ) : Type 0 where
+  pub from : new.from ≡ max old.from (begin_of moments t)
+  pub until : new.until ≡ least old.until (filter (λ m. nat_lt t m) moments)

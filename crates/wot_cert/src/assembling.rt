@@ -1,0 +1,128 @@
+ghost use Rattle.std.specs.Prelude.{◌≡◌, ◌<◌, ◌≤◌, ◌^◌, ◌+◌, ◌++◌, true, false, OnOk, IfOk, length, take, drop};
+ghost use Rattle.wot_packet.specs.Spelling.{spelled_all, spelled_of};
+ghost use Rattle.wot_cert.specs.Packets.{is_key, begins_component};
+ghost use Rattle.std.specs.Option.{MatchOption};
+ghost use Rattle.wot_key.specs.Key.{is_readable};
+ghost use Rattle.wot_cert.specs.Assembly.{cut_at, certificate_with, certificates_of, skipped_in};
+ghost use Rattle.wot_cert.specs.Answers.{TellsFirstFault};
+ghost use Rattle.wot_cert.specs.Drafting.{seen, sketched, AreShort, BeginsWithKey, certs_in, skipped_by};
+
+use crate::draft::Draft;
+use crate::first_fault::first_fault_of;
+use crate::{Cert, CertFault, CertList};
+use std::alloc::Global;
+use wot_packet::Packet;
+use wot_types::Memory;
+
+/// What the packets behind a key draft.
+fn draft_of<'a>(alloc: Global, packets: &[Packet<'a>]) -> Result<Draft<'a>, Memory>
+    ensures draft { IfOk result (λ draft. seen draft ≡ sketched (spelled_all packets.now)) }
+{
+    let mut draft = Draft::new(alloc);
+    let mut left = packets.len();
+    'back: while left > 0 {
+        left -= 1;
+        draft.put_packet(alloc, &packets[left])?;
+    }
+    Ok(draft)
+}
+
+/// How many packets stand before the next key.
+fn before_key(packets: &[Packet]) -> usize
+    ensures within { result ≤ length packets.now }
+    ensures before { (cut_at is_key (spelled_all packets.now)).0 ≡ take result (spelled_all packets.now) }
+    ensures behind { (cut_at is_key (spelled_all packets.now)).1 ≡ (cut_at is_key (drop result (spelled_all packets.now))).1 }
+    ensures begins { BeginsWithKey (drop result (spelled_all packets.now)) }
+{
+    let mut count = 0;
+    'packets: while count < packets.len() {
+        if packets[count].kind == 6 {
+            return count;
+        }
+        count += 1;
+    }
+    count
+}
+
+/// The certificate of a key and the packets behind it; `None` exactly where the key isn't readable.
+fn certificate(alloc: Global, key: &[u8], behind: &[Packet]) -> Result<Option<Cert>, Memory>
+    requires short { AreShort (spelled_all behind.now) }
+    ensures certificate { IfOk result (λ found. MatchOption found (is_readable key.now ≡ false)
+        (λ c. (c ≡ certificate_with key.now (cut_at begins_component (spelled_all behind.now))) × (is_readable key.now ≡ true))) }
+{
+    let draft = draft_of(alloc, behind)?;
+    Cert::drafted(alloc, key, &draft)
+}
+
+/// The certificates of a list of packets, and how many were skipped since their keys aren't readable.
+#[derive(Drop)]
+pub struct Assembled {
+    /// One for each packet of a readable key, in the order of the packets, none of them judged.
+    pub certs: CertList,
+    /// How many keys aren't readable.
+    pub skipped: u64,
+}
+
+/// Takes a key, and what is behind it up to the next one.
+fn take_key(
+    alloc: Global,
+    certs: &mut Vec<Cert>,
+    skipped: &mut u64,
+    key: &Packet,
+    section: &[Packet],
+) -> Result<(), Memory>
+    requires short { AreShort (spelled_all section.now) }
+    requires few { skipped.old < 2 ^ 28 }
+    ensures certs { OnOk result (certs.new.items ≡ certs.old.items ++ certs_in (spelled_of key.now, spelled_all section.now)) }
+    ensures skipped { OnOk result (skipped.new ≡ skipped.old + skipped_by (spelled_of key.now, spelled_all section.now)) }
+{
+    match certificate(alloc, key.body, section)? {
+        Some(cert) => {
+            certs.push(cert)?;
+            Ok(())
+        }
+        None => {
+            *skipped += 1;
+            Ok(())
+        }
+    }
+}
+
+/// The certificates of the keys among these packets, and how many keys were skipped.
+fn certificates(alloc: Global, packets: &[Packet]) -> Result<Assembled, Memory>
+    requires few { length packets.now < 2 ^ 28 }
+    requires short { AreShort (spelled_all packets.now) }
+    ensures certs { IfOk result (λ assembled. assembled.certs ≡ certificates_of (spelled_all packets.now)) }
+    ensures skipped { IfOk result (λ assembled. assembled.skipped ≡ skipped_in (spelled_all packets.now)) }
+{
+    let mut certs = Vec::new(alloc);
+    let mut skipped = 0;
+    let (_, mut rest) = packets.split_at(before_key(packets));
+    'keys: while let Some((key, behind)) = rest.split_first() {
+        let (section, others) = behind.split_at(before_key(behind));
+        take_key(alloc, &mut certs, &mut skipped, key, section)?;
+        rest = others;
+    }
+    Ok(Assembled {
+        certs: CertList::new(certs),
+        skipped,
+    })
+}
+
+/// Assembles certificates from the packets of a text: one for each packet of a readable key, from that packet and those
+/// behind it up to the next key. Keys that aren't readable are skipped, with what is behind them, and counted. The first
+/// fault in the order of the packets is told, also of a skipped part. No policy is asked, and no mark is set.
+pub fn assemble(alloc: Global, packets: &[Packet<'_>]) -> Result<Assembled, CertFault>
+    requires few { length packets.now < 2 ^ 28 }
+    requires short { AreShort (spelled_all packets.now) }
+    ensures assembled { IfOk result (λ assembled. (assembled.certs ≡ certificates_of (spelled_all packets.now)) × (assembled.skipped ≡ skipped_in (spelled_all packets.now))) }
+    ensures faults { TellsFirstFault (spelled_all packets.now) result }
+{
+    if let Some(fault) = first_fault_of(packets) {
+        return Err(fault);
+    }
+    match certificates(alloc, packets) {
+        Ok(assembled) => Ok(assembled),
+        Err(Memory) => Err(CertFault::Memory),
+    }
+}

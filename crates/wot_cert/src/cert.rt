@@ -1,0 +1,345 @@
+ghost use Rattle.std.specs.Prelude.{◌≡◌, ◌≢◌, ℕ, ◌+◌, ◌++◌, ◌<◌, ◌^◌, MatchBool, MatchResult, Some, true, OnOk, OnErr, IfOk};
+ghost use Rattle.std.specs.Option.{MatchOption};
+ghost use Rattle.wot_key.specs.Key.{is_readable, key_of, fpr_of};
+ghost use Rattle.wot_cert.specs.Answers.{ClashesExactly};
+ghost use Rattle.wot_cert.specs.Assembly.{bare};
+ghost use Rattle.wot_cert.specs.Drafting.{IsWholeSketch, completed, seen};
+ghost use Rattle.wot_cert.specs.Certificate.{unite, unmarked, with_each, on_key, on_user_id, on_attribute, on_subkey};
+ghost use Rattle.wot_cert.specs.Copied.{copied};
+ghost use Rattle.wot_cert.specs.Counts.{items_of, signatures_of};
+ghost use Rattle.wot_cert.specs.Judged.{judged, IsJudged, sound_of};
+ghost use Rattle.wot_cert.specs.New.{judged_beside, sound_beside};
+ghost use Rattle.wot_cert.specs.Text.{size_of, text_of};
+ghost use Rattle.wot_policy.specs.Kept.{IsFaithful, rows_of, asked_more};
+ghost use Rattle.wot_cert.specs.Whole.{IsCertificate, AreSigsAt, ArePartsOf};
+ghost use Rattle.std.specs.Prelude.{false, []};
+
+use crate::adds::added;
+use crate::complete::{ON_ATTRIBUTE, ON_KEY, ON_SUBKEY, ON_USER_ID, parts_with, sigs_with};
+use crate::count::items;
+use crate::draft::Draft;
+use crate::export::append_cert;
+use crate::judge::{judge_new, judge_new_parts};
+use crate::part::{copy_parts, union_parts};
+use crate::sizes::cert_octets;
+use crate::sig::{Marks, copy_sigs, union_sigs};
+use crate::{Adds, MergeFault, Part, Sig};
+use std::alloc::Global;
+use std::marker::Model;
+use wot_key::{Key, fingerprint, read_key};
+use wot_policy::{Ask, Policy};
+use wot_types::{Fpr, Memory};
+
+/// A certificate: a key, and what signatures stand on it, on its user IDs, attributes and subkeys. All lists are in the
+/// order of the bodies, without doubles.
+#[derive(Drop)]
+pub struct Cert {
+    body: Vec<u8>,
+    key: Key,
+    fpr: Fpr,
+    direct: Vec<Sig>,
+    user_ids: Vec<Part>,
+    attributes: Vec<Part>,
+    subkeys: Vec<Part>,
+}
+
+impl Model for Cert {
+    ghost use Rattle.std.specs.Prelude.{◌≡◌, Some};
+    ghost use Rattle.wot_key.specs.Key.{key_of, fpr_of};
+    ghost use Rattle.wot_cert.specs.Certificate.{Certificate};
+    ghost use Rattle.wot_cert.specs.Whole.{IsCertificate};
+
+    ghost Value = { Certificate };
+
+    ghost view = { λ a. record { key = a.body.items; direct = a.direct.items; user_ids = a.user_ids.items; attributes = a.attributes.items; subkeys = a.subkeys.items } };
+
+    ghost invariant = { λ a. (Some a.key ≡ key_of a.body.items) × (a.fpr ≡ fpr_of a.body.items) × IsCertificate (record { key = a.body.items; direct = a.direct.items; user_ids = a.user_ids.items; attributes = a.attributes.items; subkeys = a.subkeys.items }) };
+}
+
+impl Cert {
+    /// The certificate with this key and nothing else; `None` exactly where the key isn't readable.
+    pub fn bare(alloc: Global, body: &[u8]) -> Result<Option<Cert>, Memory>
+        ensures bare { IfOk result (λ found. MatchOption found (is_readable body.now ≡ false) (λ c. c ≡ bare body.now)) }
+    {
+        let Some(key) = read_key(body) else {
+            return Ok(None);
+        };
+        let Some(fpr) = fingerprint(body) else {
+            return Ok(None);
+        };
+        let body = Vec::from_slice(alloc, body)?;
+        Ok(Some(Cert {
+            body,
+            key,
+            fpr,
+            direct: Vec::new(alloc),
+            user_ids: Vec::new(alloc),
+            attributes: Vec::new(alloc),
+            subkeys: Vec::new(alloc),
+        }))
+    }
+
+    /// The certificate with this key and what the packets behind it drafted; `None` exactly where the key isn't readable.
+    pub(crate) fn drafted(alloc: Global, body: &[u8], draft: &Draft) -> Result<Option<Cert>, Memory>
+        requires whole { IsWholeSketch (seen draft.now) }
+        ensures completed { IfOk result (λ found. MatchOption found (is_readable body.now ≡ false) (λ c. (c ≡ completed body.now (seen draft.now)) × (is_readable body.now ≡ true))) }
+    {
+        let Some(key) = read_key(body) else {
+            return Ok(None);
+        };
+        let Some(fpr) = fingerprint(body) else {
+            return Ok(None);
+        };
+        let direct = sigs_with(alloc, body, ON_KEY, &[], &draft.sigs)?;
+        let user_ids = parts_with(alloc, body, ON_USER_ID, &draft.user_ids)?;
+        let attributes = parts_with(alloc, body, ON_ATTRIBUTE, &draft.attributes)?;
+        let subkeys = parts_with(alloc, body, ON_SUBKEY, &draft.subkeys)?;
+        let body = Vec::from_slice(alloc, body)?;
+        Ok(Some(Cert {
+            body,
+            key,
+            fpr,
+            direct,
+            user_ids,
+            attributes,
+            subkeys,
+        }))
+    }
+
+    /// The fingerprint of its key.
+    pub fn fpr(&self) -> Fpr
+        ensures fpr { result ≡ fpr_of self.now.key }
+        ensures whole { IsCertificate self.now }
+    {
+        self.fpr
+    }
+
+    /// What its key says.
+    pub fn key(&self) -> Key
+        ensures key { Some result ≡ key_of self.now.key }
+    {
+        self.key
+    }
+
+    /// The octets of its key's body.
+    pub fn body(&self) -> &[u8]
+        ensures body { result.now ≡ self.now.key }
+        ensures whole { IsCertificate self.now }
+    {
+        &self.body
+    }
+
+    /// The length of its text in octets.
+    pub fn size(&self) -> u64
+        requires small { size_of self.now < 2 ^ 63 }
+        ensures size { result ≡ size_of self.now }
+    {
+        cert_octets(self)
+    }
+
+    /// The signatures on the key itself.
+    pub fn direct(&self) -> &[Sig]
+        ensures direct { result.now ≡ self.now.direct }
+        ensures set { AreSigsAt self.now.key on_key [] self.now.direct }
+    {
+        &self.direct
+    }
+
+    /// The user IDs.
+    pub fn user_ids(&self) -> &[Part]
+        ensures user_ids { result.now ≡ self.now.user_ids }
+        ensures set { ArePartsOf self.now.key on_user_id self.now.user_ids }
+    {
+        &self.user_ids
+    }
+
+    /// The user attributes.
+    pub fn attributes(&self) -> &[Part]
+        ensures attributes { result.now ≡ self.now.attributes }
+        ensures set { ArePartsOf self.now.key on_attribute self.now.attributes }
+    {
+        &self.attributes
+    }
+
+    /// The subkeys.
+    pub fn subkeys(&self) -> &[Part]
+        ensures subkeys { result.now ≡ self.now.subkeys }
+        ensures set { ArePartsOf self.now.key on_subkey self.now.subkeys }
+    {
+        &self.subkeys
+    }
+
+    /// An equal certificate, its marks included.
+    pub fn duplicate(&self, alloc: Global) -> Result<Cert, Memory>
+        ensures equal { IfOk result (λ c. c ≡ self.now) }
+    {
+        self.copied(alloc, Marks::Kept)
+    }
+
+    fn copied(&self, alloc: Global, marks: Marks) -> Result<Cert, Memory>
+        ensures { IfOk result (λ c. c ≡ with_each (copied marks) self.now) }
+    {
+        let body = Vec::from_slice(alloc, &self.body)?;
+        let direct = copy_sigs(alloc, &self.direct, marks)?;
+        let user_ids = copy_parts(alloc, &self.user_ids, marks)?;
+        let attributes = copy_parts(alloc, &self.attributes, marks)?;
+        let subkeys = copy_parts(alloc, &self.subkeys, marks)?;
+        Ok(Cert {
+            body,
+            key: self.key,
+            fpr: self.fpr,
+            direct,
+            user_ids,
+            attributes,
+            subkeys,
+        })
+    }
+
+    /// The union with a certificate of the same key, as a new one.
+    fn union(&self, alloc: Global, other: &Cert) -> Result<Cert, Memory>
+        requires { self.now.key ≡ other.now.key }
+        ensures { IfOk result (λ c. c ≡ unite self.now other.now) }
+    {
+        let body = Vec::from_slice(alloc, &self.body)?;
+        let direct = union_sigs(alloc, &self.direct, &other.direct)?;
+        let user_ids = union_parts(alloc, &self.user_ids, &other.user_ids)?;
+        let attributes = union_parts(alloc, &self.attributes, &other.attributes)?;
+        let subkeys = union_parts(alloc, &self.subkeys, &other.subkeys)?;
+        Ok(Cert {
+            body,
+            key: self.key,
+            fpr: self.fpr,
+            direct,
+            user_ids,
+            attributes,
+            subkeys,
+        })
+    }
+
+    /// Judges those of its signatures that the old certificate doesn't have.
+    fn judge_new<F: Fn(Ask) -> bool>(&mut self, old: &Cert, policy: &mut Policy<F>)
+        requires { IsFaithful F.Fn policy.old }
+        ensures judged { self.new ≡ judged_beside (rows_of policy.old) old.now self.old }
+        ensures asked { (k : ℕ) × (policy.new ≡ asked_more k policy.old) × (k ≡ sound_beside old.now self.old) }
+        ensures faithful { IsFaithful F.Fn policy.new }
+    {
+        judge_new(&mut self.direct, &old.direct, policy);
+        judge_new_parts(&mut self.user_ids, &old.user_ids, policy);
+        judge_new_parts(&mut self.attributes, &old.attributes, policy);
+        judge_new_parts(&mut self.subkeys, &old.subkeys, policy);
+    }
+
+    /// The union with a certificate of the same key, judged, as a new one.
+    fn merged<F: Fn(Ask) -> bool>(
+        &self,
+        alloc: Global,
+        other: &Cert,
+        policy: &mut Policy<F>,
+    ) -> Result<Cert, Memory>
+        requires faithful { IsFaithful F.Fn policy.old }
+        requires whole { IsCertificate self.now × IsCertificate other.now }
+        requires same { self.now.key ≡ other.now.key }
+        ensures union { IfOk result (λ c. c ≡ judged_beside (rows_of policy.old) self.now (unite self.now other.now)) }
+        ensures asked { (k : ℕ) × (policy.new ≡ asked_more k policy.old) × MatchResult result (λ _. k ≡ sound_beside self.now (unite self.now other.now)) (λ _. k ≡ 0) }
+        ensures faithful { IsFaithful F.Fn policy.new }
+    {
+        let mut union = self.union(alloc, other)?;
+        union.judge_new(self, policy);
+        Ok(union)
+    }
+
+    /// Whether both are of one key.
+    pub(crate) fn has_key_of(&self, other: &Cert) -> bool
+        ensures same { MatchBool result (self.now.key ≡ other.now.key) (self.now.key ≢ other.now.key) }
+        ensures whole { IsCertificate self.now × IsCertificate other.now }
+    {
+        self.body.as_slice() == other.body.as_slice()
+    }
+
+    /// The union, with no mark of admission.
+    fn unmarked_union(&self, alloc: Global, other: &Cert) -> Result<Cert, Memory>
+        requires { self.now.key ≡ other.now.key }
+        ensures { IfOk result (λ c. c ≡ unmarked (unite self.now other.now)) }
+    {
+        let union = self.union(alloc, other)?;
+        union.copied(alloc, Marks::Dropped)
+    }
+
+    /// Becomes the union with a certificate of the same key, at each place, with no mark of admission. No policy is asked.
+    /// After a refusal it is as before.
+    pub fn unite(&mut self, alloc: Global, other: &Cert) -> Result<(), MergeFault>
+        ensures union { OnOk result (self.new ≡ unmarked (unite self.old other.now)) }
+        ensures clash { ClashesExactly self.old other.now result }
+        ensures kept { OnErr result (self.new ≡ self.old) }
+    {
+        if !self.has_key_of(other) {
+            return Err(MergeFault::Clash);
+        }
+        match self.unmarked_union(alloc, other) {
+            Ok(union) => {
+                *self = union;
+                Ok(())
+            }
+            Err(Memory) => Err(MergeFault::Memory),
+        }
+    }
+
+    /// Becomes the union with a certificate of the same key, at each place, and asks the policy about each sound signature
+    /// that is new. The answer is how many components and signatures were added. After a refusal the certificate is as
+    /// before, and the policy wasn't asked.
+    pub fn merge<F: Fn(Ask) -> bool>(
+        &mut self,
+        alloc: Global,
+        other: &Cert,
+        policy: &mut Policy<F>,
+    ) -> Result<u64, MergeFault>
+        requires faithful { IsFaithful F.Fn policy.old }
+        requires sizes { size_of self.old + size_of other.now < 2 ^ 63 }
+        ensures union { OnOk result (self.new ≡ unite self.old (judged (rows_of policy.old) other.now)) }
+        ensures judged { IsJudged (rows_of policy.old) self.old → IsJudged (rows_of policy.old) self.new }
+        ensures items { IfOk result (λ items. items + items_of self.old ≡ items_of self.new) }
+        ensures asked { (k : ℕ) × (policy.new ≡ asked_more k policy.old) × MatchResult result (λ _. k + sound_of self.old ≡ sound_of self.new) (λ _. k ≡ 0) }
+        ensures clash { ClashesExactly self.old other.now result }
+        ensures kept { OnErr result (self.new ≡ self.old) }
+        ensures faithful { IsFaithful F.Fn policy.new }
+    {
+        if !self.has_key_of(other) {
+            return Err(MergeFault::Clash);
+        }
+        match self.merged(alloc, other, policy) {
+            Ok(union) => {
+                let added = items(&union) - items(self);
+                *self = union;
+                Ok(added)
+            }
+            Err(Memory) => Err(MergeFault::Memory),
+        }
+    }
+
+    /// Appends its text: the key and its signatures, then the user IDs, the attributes and the subkeys, each before its
+    /// signatures, every packet in its shortest spelling (RFC 9580, section 10.1). After `Memory`, `out` is as before.
+    pub fn export(&self, out: &mut Vec<u8>) -> Result<(), Memory>
+        ensures text { OnOk result (out.new.items ≡ out.old.items ++ text_of self.now) }
+        ensures kept { OnErr result (out.new.items ≡ out.old.items) }
+    {
+        let before = out.len();
+        match append_cert(self, out) {
+            Ok(()) => Ok(()),
+            Err(memory) => {
+                out.truncate(before);
+                Err(memory)
+            }
+        }
+    }
+
+    /// What the union with a certificate of the same key would add.
+    pub fn adds(&self, other: &Cert) -> Adds
+        requires same { self.now.key ≡ other.now.key }
+        requires sizes { size_of self.now + size_of other.now < 2 ^ 63 }
+        ensures items { result.items + items_of self.now ≡ items_of (unite self.now other.now) }
+        ensures signatures { result.signatures + signatures_of self.now ≡ signatures_of (unite self.now other.now) }
+        ensures octets { result.octets + size_of self.now ≡ size_of (unite self.now other.now) }
+    {
+        added(self, other)
+    }
+}

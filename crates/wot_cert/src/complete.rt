@@ -1,0 +1,95 @@
+ghost use Rattle.std.specs.Prelude.{◌≡◌, ◌<◌, ◌^◌, ◌++◌, ◌∷◌, [], OnOk, IfOk, map, length};
+ghost use Rattle.std.specs.List.{AllByRecursion};
+ghost use Rattle.wot_cert.specs.Certificate.{fresh};
+ghost use Rattle.wot_cert.specs.Drafting.{IsShort, IsShortGroup, body_cmp, group_cmp, part_drafted, bodies_in, groups_in};
+ghost use Rattle.wot_cert.specs.Ranked.{IsRising};
+
+use crate::draft::{Bodies, Groups};
+use crate::{Part, Sig};
+use std::alloc::Global;
+use wot_types::Memory;
+
+/// The kinds of place that a signature's number has: on the key, on a user ID, on a user attribute, on a subkey.
+pub(crate) const ON_KEY: u8 = 0;
+
+pub(crate) const ON_USER_ID: u8 = 1;
+
+pub(crate) const ON_ATTRIBUTE: u8 = 2;
+
+pub(crate) const ON_SUBKEY: u8 = 3;
+
+fn push_fresh(
+    alloc: Global,
+    sigs: &mut Vec<Sig>,
+    key: &[u8],
+    kind: u8,
+    component: &[u8],
+    body: &[u8],
+) -> Result<(), Memory>
+    requires key { length key.now < 2 ^ 32 }
+    requires component { length component.now < 2 ^ 32 }
+    requires body { length body.now < 2 ^ 32 }
+    ensures pushed { OnOk result (sigs.new.items ≡ sigs.old.items ++ fresh key.now kind component.now body.now ∷ []) }
+{
+    let sig = Sig::fresh(alloc, key, kind, component, body)?;
+    sigs.push(sig)?;
+    Ok(())
+}
+
+/// The signatures with these bodies at one place, in order.
+pub(crate) fn sigs_with(
+    alloc: Global,
+    key: &[u8],
+    kind: u8,
+    component: &[u8],
+    bodies: &Bodies,
+) -> Result<Vec<Sig>, Memory>
+    requires key { length key.now < 2 ^ 32 }
+    requires component { length component.now < 2 ^ 32 }
+    requires bodies { AllByRecursion IsShort (bodies_in bodies.now) }
+    ensures sigs { IfOk result (λ v. v.items ≡ map (fresh key.now kind component.now) (bodies_in bodies.now)) }
+{
+    let mut sigs = Vec::new(alloc);
+    for body in bodies {
+        push_fresh(alloc, &mut sigs, key, kind, component, body)?;
+    }
+    Ok(sigs)
+}
+
+fn push_drafted(
+    alloc: Global,
+    parts: &mut Vec<Part>,
+    key: &[u8],
+    kind: u8,
+    body: &[u8],
+    sigs: &Bodies,
+) -> Result<(), Memory>
+    requires key { length key.now < 2 ^ 32 }
+    requires body { length body.now < 2 ^ 32 }
+    requires sigs { AllByRecursion IsShort (bodies_in sigs.now) }
+    requires rises { IsRising body_cmp (bodies_in sigs.now) }
+    ensures pushed { OnOk result (parts.new.items ≡ parts.old.items ++ part_drafted key.now kind (body.now, bodies_in sigs.now) ∷ []) }
+{
+    let part = Part::drafted(alloc, key, kind, body, sigs)?;
+    parts.push(part)?;
+    Ok(())
+}
+
+/// The components of one kind, in order.
+pub(crate) fn parts_with(
+    alloc: Global,
+    key: &[u8],
+    kind: u8,
+    groups: &Groups,
+) -> Result<Vec<Part>, Memory>
+    requires key { length key.now < 2 ^ 32 }
+    requires groups { AllByRecursion IsShortGroup (groups_in groups.now.entries) }
+    requires rises { AllByRecursion (λ g. IsRising body_cmp g.1) (groups_in groups.now.entries) }
+    ensures parts { IfOk result (λ v. v.items ≡ map (part_drafted key.now kind) (groups_in groups.now.entries)) }
+{
+    let mut parts = Vec::new(alloc);
+    for (body, sigs) in groups {
+        push_drafted(alloc, &mut parts, key, kind, body, sigs)?;
+    }
+    Ok(parts)
+}

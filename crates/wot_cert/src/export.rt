@@ -1,0 +1,56 @@
+ghost use Rattle.std.specs.Prelude.{◌≡◌, ◌≤◌, ◌++◌, ℕ, List, OnOk};
+ghost use Rattle.std.specs.List.{AllByRecursion};
+ghost use Rattle.wot_cert.specs.Fitting.{SigFits, PartFits};
+ghost use Rattle.wot_cert.specs.Text.{sigs_text, part_text, parts_text, text_of};
+
+use crate::{Cert, Part, Sig};
+use wot_packet::write_packet;
+use wot_types::Memory;
+
+/// Appends the signatures; some of them where no memory was found.
+fn append_sigs(sigs: &[Sig], out: &mut Vec<u8>) -> Result<(), Memory>
+    requires { AllByRecursion SigFits sigs.now }
+    ensures { (more : List ℕ) × (out.new.items ≡ out.old.items ++ more) × OnOk result (more ≡ sigs_text sigs.now) }
+{
+    let mut rest = sigs;
+    'rest: while let Some((sig, others)) = rest.split_first() {
+        write_packet(2, sig.body(), out)?;
+        rest = others;
+    }
+    Ok(())
+}
+
+/// Appends a component and its signatures; some of it where no memory was found.
+fn append_part(kind: u8, part: &Part, out: &mut Vec<u8>) -> Result<(), Memory>
+    requires kind { kind ≤ 63 }
+    requires fits { PartFits part.now }
+    ensures { (more : List ℕ) × (out.new.items ≡ out.old.items ++ more) × OnOk result (more ≡ part_text kind part.now) }
+{
+    write_packet(kind, part.body(), out)?;
+    append_sigs(part.sigs(), out)
+}
+
+/// Appends components of one kind; some of them where no memory was found.
+fn append_parts(kind: u8, parts: &[Part], out: &mut Vec<u8>) -> Result<(), Memory>
+    requires kind { kind ≤ 63 }
+    requires fit { AllByRecursion PartFits parts.now }
+    ensures { (more : List ℕ) × (out.new.items ≡ out.old.items ++ more) × OnOk result (more ≡ parts_text kind parts.now) }
+{
+    let mut rest = parts;
+    'rest: while let Some((part, others)) = rest.split_first() {
+        append_part(kind, part, out)?;
+        rest = others;
+    }
+    Ok(())
+}
+
+/// Appends the text of a certificate; some of it where no memory was found.
+pub(crate) fn append_cert(cert: &Cert, out: &mut Vec<u8>) -> Result<(), Memory>
+    ensures { (more : List ℕ) × (out.new.items ≡ out.old.items ++ more) × OnOk result (more ≡ text_of cert.now) }
+{
+    write_packet(6, cert.body(), out)?;
+    append_sigs(cert.direct(), out)?;
+    append_parts(13, cert.user_ids(), out)?;
+    append_parts(17, cert.attributes(), out)?;
+    append_parts(14, cert.subkeys(), out)
+}

@@ -1,0 +1,25 @@
+/// Why a list of packets is no list of certificates.
+#[derive(Clone, Copy, Debug, PartialEq, Eq)]
+pub enum CertFault {
+    /// A compressed packet.
+    Compressed,
+    /// A secret key, or a secret subkey.
+    Secret,
+    /// A packet of any other type that has no place in a certificate: its type and its place.
+    Kind(u8, usize),
+    /// A signature or a component before the first key: its place.
+    Order(usize),
+    /// No key at all, and no other fault.
+    Empty,
+    /// No memory was found.
+    Memory,
+}
+
+/// Why two certificates were not united.
+#[derive(Clone, Copy, Debug, PartialEq, Eq)]
+pub enum MergeFault {
+    /// Their key bodies differ.
+    Clash,
+    /// No memory was found.
+    Memory,
+}

@@ -1,0 +1,51 @@
+ghost use Rattle.std.specs.Prelude.{◌≡◌};
+ghost use Rattle.wot_cert.specs.Issuer.{issuer_of as issuer_in, allows, good_by, issuer_with};
+
+use crate::Sig;
+use std::cmp::Ordering;
+use wot_signature::SigFacts;
+use wot_types::{Fpr, compare_fprs};
+use wot_verdict::{Verdict, Verdicts};
+
+fn allowed(issuer: Option<Fpr>, fpr: Fpr) -> bool
+    ensures { result ≡ allows issuer fpr }
+{
+    match issuer {
+        None => true,
+        Some(issuer) => compare_fprs(&issuer, &fpr) == Ordering::Equal,
+    }
+}
+
+fn maker(verdict: Option<Verdict>) -> Option<Fpr>
+    ensures { result ≡ good_by verdict }
+{
+    match verdict {
+        Some(Verdict::Good(fpr)) => Some(fpr),
+        Some(Verdict::Bad) => None,
+        None => None,
+    }
+}
+
+fn counted(facts: Option<SigFacts>, admitted: bool, by: Option<Fpr>) -> Option<Fpr>
+    ensures { result ≡ issuer_with facts admitted by }
+{
+    let Some(facts) = facts else { return None };
+    if !admitted {
+        return None;
+    }
+    let Some(fpr) = by else { return None };
+    if facts.sound && allowed(facts.issuer, fpr) {
+        Some(fpr)
+    } else {
+        None
+    }
+}
+
+/// The fingerprint by which a signature counts: it is readable, sound and admitted, the verdict on its number is good by
+/// that fingerprint, and its hashed issuer fingerprint is absent or that one.
+pub fn issuer_of(sig: &Sig, verdicts: &Verdicts) -> Option<Fpr>
+    ensures issuer { result ≡ issuer_in verdicts.now sig.now }
+{
+    let by = maker(verdicts.get(&sig.number()));
+    counted(sig.facts(), sig.admitted(), by)
+}

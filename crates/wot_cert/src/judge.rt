@@ -1,0 +1,115 @@
+ghost use Rattle.std.specs.Prelude.{◌≡◌, ◌+◌, ℕ, List, ◌∷◌};
+ghost use Rattle.wot_policy.specs.Kept.{IsFaithful, rows_of, asked_more};
+ghost use Rattle.wot_cert.specs.New.{judged_sigs, sound_new, judged_parts, sound_new_on, met};
+ghost use Rattle.wot_cert.specs.Certificate.{Signature, Component, sig_cmp, part_cmp};
+ghost use Rattle.wot_cert.specs.Lent.{met_seen, met_part_seen};
+
+use crate::part::order as order_parts;
+use crate::sig::order;
+use crate::{Part, Sig};
+use std::cmp::Ordering;
+use wot_policy::{Ask, Policy};
+
+/// The first of the signatures and the others, where the first has this one's body.
+fn meet<'a>(sig: &Sig, old: &'a [Sig]) -> Option<(&'a Sig, &'a [Sig])>
+    ensures { met_seen result ≡ met sig_cmp sig.now old.now }
+{
+    let (first, others) = old.split_first()?;
+    if order(first, sig) == Ordering::Equal {
+        Some((first, others))
+    } else {
+        None
+    }
+}
+
+/// Judges a signature, unless it is the first of the old ones. The answer is the old ones that are left.
+fn judge_one<'a, F: Fn(Ask) -> bool>(
+    sig: &mut Sig,
+    old: &'a [Sig],
+    policy: &mut Policy<F>,
+) -> &'a [Sig]
+    requires { IsFaithful F.Fn policy.old }
+    ensures judged { (rest : List Signature) → judged_sigs (rows_of policy.old) (sig.old ∷ rest) old.now ≡ sig.new ∷ judged_sigs (rows_of policy.old) rest result.now }
+    ensures asked { (k : ℕ) × (policy.new ≡ asked_more k policy.old) × ((rest : List Signature) → sound_new (sig.old ∷ rest) old.now ≡ k + sound_new rest result.now) }
+    ensures faithful { IsFaithful F.Fn policy.new }
+{
+    match meet(sig, old) {
+        Some((_, others)) => others,
+        None => {
+            sig.judge(policy);
+            old
+        }
+    }
+}
+
+/// Judges those of the signatures that are not among the old ones.
+pub(crate) fn judge_new<F: Fn(Ask) -> bool>(
+    sigs: &mut Vec<Sig>,
+    old: &[Sig],
+    policy: &mut Policy<F>,
+)
+    requires { IsFaithful F.Fn policy.old }
+    ensures judged { sigs.new.items ≡ judged_sigs (rows_of policy.old) sigs.old.items old.now }
+    ensures asked { (k : ℕ) × (policy.new ≡ asked_more k policy.old) × (k ≡ sound_new sigs.old.items old.now) }
+    ensures faithful { IsFaithful F.Fn policy.new }
+{
+    let mut left = old;
+    for at in 0..sigs.len() {
+        let sig = &mut sigs[at];
+        left = judge_one(sig, left, policy);
+    }
+}
+
+/// The first of the parts and the others, where the first has this one's body.
+fn meet_part<'a>(part: &Part, old: &'a [Part]) -> Option<(&'a Part, &'a [Part])>
+    ensures { met_part_seen result ≡ met part_cmp part.now old.now }
+{
+    let (first, others) = old.split_first()?;
+    if order_parts(first, part) == Ordering::Equal {
+        Some((first, others))
+    } else {
+        None
+    }
+}
+
+/// Judges those signatures on a part that are not on the first of the old ones, where that has the same body. The answer
+/// is the old ones that are left.
+fn judge_one_part<'a, F: Fn(Ask) -> bool>(
+    part: &mut Part,
+    old: &'a [Part],
+    policy: &mut Policy<F>,
+) -> &'a [Part]
+    requires { IsFaithful F.Fn policy.old }
+    ensures judged { (rest : List Component) → judged_parts (rows_of policy.old) (part.old ∷ rest) old.now ≡ part.new ∷ judged_parts (rows_of policy.old) rest result.now }
+    ensures asked { (k : ℕ) × (policy.new ≡ asked_more k policy.old) × ((rest : List Component) → sound_new_on (part.old ∷ rest) old.now ≡ k + sound_new_on rest result.now) }
+    ensures faithful { IsFaithful F.Fn policy.new }
+{
+    match meet_part(part, old) {
+        Some((first, others)) => {
+            part.judge_new(first.sigs(), policy);
+            others
+        }
+        None => {
+            part.judge_new(&[], policy);
+            old
+        }
+    }
+}
+
+/// Judges those of the signatures on the parts that are not among the old ones.
+pub(crate) fn judge_new_parts<F: Fn(Ask) -> bool>(
+    parts: &mut Vec<Part>,
+    old: &[Part],
+    policy: &mut Policy<F>,
+)
+    requires { IsFaithful F.Fn policy.old }
+    ensures judged { parts.new.items ≡ judged_parts (rows_of policy.old) parts.old.items old.now }
+    ensures asked { (k : ℕ) × (policy.new ≡ asked_more k policy.old) × (k ≡ sound_new_on parts.old.items old.now) }
+    ensures faithful { IsFaithful F.Fn policy.new }
+{
+    let mut left = old;
+    for at in 0..parts.len() {
+        let part = &mut parts[at];
+        left = judge_one_part(part, left, policy);
+    }
+}

@@ -1,0 +1,31 @@
+//! Certificates: assembled from packets, united, judged, written, and their spans.
+#![tactic(auto)]
+
+mod adds;
+mod assembling;
+mod cert;
+mod cert_list;
+mod complete;
+mod count;
+mod draft;
+mod export;
+mod fault;
+mod first_fault;
+mod issuer;
+mod judge;
+mod moments;
+mod part;
+mod sig;
+mod sizes;
+mod spans;
+
+pub use adds::Adds;
+pub use assembling::{Assembled, assemble};
+pub use cert::Cert;
+pub use cert_list::CertList;
+pub use fault::{CertFault, MergeFault};
+pub use issuer::issuer_of;
+pub use moments::Span;
+pub use part::Part;
+pub use sig::Sig;
+pub use spans::span;

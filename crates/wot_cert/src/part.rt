@@ -1,0 +1,187 @@
+ghost use Rattle.std.specs.Prelude.{◌≡◌, ◌<◌, ◌^◌, ℕ, OnOk, IfOk, [], ◌∷◌, ◌++◌, length, map};
+ghost use Rattle.std.specs.List.{AllByRecursion};
+ghost use Rattle.wot_cert.specs.Drafting.{IsShort, body_cmp, part_drafted, bodies_in};
+ghost use Rattle.wot_cert.specs.Certificate.{sig_cmp, part_cmp, part_with, unite_part, unite_parts};
+ghost use Rattle.wot_cert.specs.Copied.{copied};
+ghost use Rattle.wot_cert.specs.New.{judged_part, sound_new};
+ghost use Rattle.wot_cert.specs.Ranked.{IsRising};
+ghost use Rattle.wot_policy.specs.Kept.{IsFaithful, rows_of, asked_more};
+
+use crate::Sig;
+use crate::complete::sigs_with;
+use crate::draft::Bodies;
+use crate::judge::judge_new;
+use crate::sig::{Marks, copy_sigs, union_sigs};
+use std::alloc::Global;
+use std::cmp::Ordering;
+use std::marker::Model;
+use wot_policy::{Ask, Policy};
+use wot_types::Memory;
+
+/// A user ID, a user attribute or a subkey, and the signatures on it in the order of their bodies, without doubles.
+#[derive(Drop)]
+pub struct Part {
+    body: Vec<u8>,
+    sigs: Vec<Sig>,
+}
+
+impl Model for Part {
+    ghost use Rattle.wot_cert.specs.Certificate.{Component, sig_cmp};
+    ghost use Rattle.wot_cert.specs.Ranked.{IsRising};
+
+    ghost Value = { Component };
+
+    ghost view = { λ a. record { body = a.body.items; sigs = a.sigs.items } };
+
+    ghost invariant = { λ a. IsRising sig_cmp a.sigs.items };
+}
+
+impl Part {
+    /// The octets of its packet's body.
+    pub fn body(&self) -> &[u8]
+        ensures body { result.now ≡ self.now.body }
+    {
+        &self.body
+    }
+
+    /// The signatures on it, in the order of their bodies.
+    pub fn sigs(&self) -> &[Sig]
+        ensures sigs { result.now ≡ self.now.sigs }
+        ensures rises { IsRising sig_cmp self.now.sigs }
+    {
+        &self.sigs
+    }
+
+    /// The part with this body and the signatures with these bodies on it, none of them judged.
+    pub(crate) fn drafted(
+        alloc: Global,
+        key: &[u8],
+        kind: u8,
+        body: &[u8],
+        sigs: &Bodies,
+    ) -> Result<Part, Memory>
+        requires key { length key.now < 2 ^ 32 }
+        requires body { length body.now < 2 ^ 32 }
+        requires sigs { AllByRecursion IsShort (bodies_in sigs.now) }
+        requires rises { IsRising body_cmp (bodies_in sigs.now) }
+        ensures part { IfOk result (λ p. p ≡ part_drafted key.now kind (body.now, bodies_in sigs.now)) }
+    {
+        let sigs = sigs_with(alloc, key, kind, body, sigs)?;
+        let body = Vec::from_slice(alloc, body)?;
+        Ok(Part { body, sigs })
+    }
+
+    pub(crate) fn copied(&self, alloc: Global, marks: Marks) -> Result<Part, Memory>
+        ensures { IfOk result (λ p. p ≡ part_with (copied marks) self.now) }
+    {
+        let body = Vec::from_slice(alloc, &self.body)?;
+        let sigs = copy_sigs(alloc, &self.sigs, marks)?;
+        Ok(Part { body, sigs })
+    }
+
+    /// Judges those of its signatures that are not among the old ones.
+    pub(crate) fn judge_new<F: Fn(Ask) -> bool>(&mut self, old: &[Sig], policy: &mut Policy<F>)
+        requires { IsFaithful F.Fn policy.old }
+        ensures judged { self.new ≡ judged_part (rows_of policy.old) old.now self.old }
+        ensures asked { (k : ℕ) × (policy.new ≡ asked_more k policy.old) × (k ≡ sound_new self.old.sigs old.now) }
+        ensures faithful { IsFaithful F.Fn policy.new }
+    {
+        judge_new(&mut self.sigs, old, policy);
+    }
+
+    /// The union with a part of the same body.
+    pub(crate) fn union(&self, alloc: Global, other: &Part) -> Result<Part, Memory>
+        ensures { IfOk result (λ p. p ≡ unite_part self.now other.now) }
+    {
+        let body = Vec::from_slice(alloc, &self.body)?;
+        let sigs = union_sigs(alloc, &self.sigs, &other.sigs)?;
+        Ok(Part { body, sigs })
+    }
+}
+
+/// How two parts are ordered: by their bodies.
+pub(crate) fn order(a: &Part, b: &Part) -> Ordering
+    ensures { result ≡ part_cmp a.now b.now }
+{
+    a.body().cmp(b.body())
+}
+
+pub(crate) fn push_copy(
+    alloc: Global,
+    out: &mut Vec<Part>,
+    part: &Part,
+    marks: Marks,
+) -> Result<(), Memory>
+    ensures { OnOk result (out.new.items ≡ out.old.items ++ part_with (copied marks) part.now ∷ []) }
+{
+    let copy = part.copied(alloc, marks)?;
+    out.push(copy)?;
+    Ok(())
+}
+
+fn push_union(alloc: Global, out: &mut Vec<Part>, a: &Part, b: &Part) -> Result<(), Memory>
+    ensures { OnOk result (out.new.items ≡ out.old.items ++ unite_part a.now b.now ∷ []) }
+{
+    let union = a.union(alloc, b)?;
+    out.push(union)?;
+    Ok(())
+}
+
+pub(crate) fn push_copies(
+    alloc: Global,
+    out: &mut Vec<Part>,
+    parts: &[Part],
+    marks: Marks,
+) -> Result<(), Memory>
+    ensures { OnOk result (out.new.items ≡ out.old.items ++ map (part_with (copied marks)) parts.now) }
+{
+    let mut rest = parts;
+    'rest: while let Some((part, others)) = rest.split_first() {
+        push_copy(alloc, out, part, marks)?;
+        rest = others;
+    }
+    Ok(())
+}
+
+pub(crate) fn copy_parts(alloc: Global, parts: &[Part], marks: Marks) -> Result<Vec<Part>, Memory>
+    ensures { IfOk result (λ v. v.items ≡ map (part_with (copied marks)) parts.now) }
+{
+    let mut out = Vec::new(alloc);
+    push_copies(alloc, &mut out, parts, marks)?;
+    Ok(out)
+}
+
+/// The union of two lists in order.
+pub(crate) fn union_parts(alloc: Global, a: &[Part], b: &[Part]) -> Result<Vec<Part>, Memory>
+    requires a { IsRising part_cmp a.now }
+    requires b { IsRising part_cmp b.now }
+    ensures union { IfOk result (λ v. v.items ≡ unite_parts a.now b.now) }
+    ensures rises { IfOk result (λ v. IsRising part_cmp v.items) }
+{
+    let mut out = Vec::new(alloc);
+    let mut left = a;
+    let mut right = b;
+    'walk: while let Some((x, xs)) = left.split_first() {
+        let Some((y, ys)) = right.split_first() else {
+            push_copies(alloc, &mut out, left, Marks::Kept)?;
+            return Ok(out);
+        };
+        match order(x, y) {
+            Ordering::Less => {
+                push_copy(alloc, &mut out, x, Marks::Kept)?;
+                left = xs;
+            }
+            Ordering::Equal => {
+                push_union(alloc, &mut out, x, y)?;
+                left = xs;
+                right = ys;
+            }
+            Ordering::Greater => {
+                push_copy(alloc, &mut out, y, Marks::Kept)?;
+                right = ys;
+            }
+        }
+    }
+    push_copies(alloc, &mut out, right, Marks::Kept)?;
+    Ok(out)
+}

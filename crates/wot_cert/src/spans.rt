@@ -1,0 +1,102 @@
+ghost use Rattle.std.specs.Prelude.{◌≡◌, ℕ, ◌≤◌, ◌^◌, List, [], ◌∷◌};
+ghost use Rattle.std.specs.List.{flat_map};
+ghost use Rattle.wot_cert.specs.Counts.{sigs_on};
+ghost use Rattle.wot_cert.specs.Narrowed.{Narrowed};
+ghost use Rattle.wot_cert.specs.Span.{span_of, sig_moments, facts_moments, unless_zero, created_of};
+
+use crate::{Cert, Part, Sig, Span};
+use wot_signature::SigFacts;
+
+/// The last moment so far that is not after a time, and the first one after it.
+#[derive(Drop)]
+pub(crate) struct Bounds {
+    pub(crate) from: u32,
+    pub(crate) until: u64,
+}
+
+fn narrow(bounds: &mut Bounds, moment: u64, t: u32)
+    ensures { Narrowed bounds.old bounds.new (moment ∷ []) t }
+{
+    if moment <= t as u64 {
+        bounds.from = bounds.from.max(moment as u32);
+    } else {
+        bounds.until = bounds.until.min(moment);
+    }
+}
+
+/// A moment that is there where its length is not 0.
+fn narrow_unless_zero(bounds: &mut Bounds, said: u32, moment: u64, t: u32)
+    ensures { Narrowed bounds.old bounds.new (unless_zero said moment) t }
+{
+    if said != 0 {
+        narrow(bounds, moment, t);
+    }
+}
+
+fn narrow_facts(bounds: &mut Bounds, facts: SigFacts, created: u32, t: u32)
+    ensures { Narrowed bounds.old bounds.new (facts_moments created facts) t }
+{
+    let made = facts.made as u64;
+    narrow(bounds, made, t);
+    narrow_unless_zero(bounds, facts.lasts, made + facts.lasts as u64, t);
+    narrow_unless_zero(bounds, facts.key_lasts, created as u64 + facts.key_lasts as u64, t);
+}
+
+fn narrow_sig(bounds: &mut Bounds, sig: &Sig, created: u32, t: u32)
+    ensures { Narrowed bounds.old bounds.new (sig_moments created sig.now) t }
+{
+    match sig.facts() {
+        Some(facts) => narrow_facts(bounds, facts, created, t),
+        None => {}
+    }
+}
+
+fn narrow_sigs(bounds: &mut Bounds, sigs: &[Sig], created: u32, t: u32)
+    ensures { Narrowed bounds.old bounds.new (flat_map (sig_moments created) sigs.now) t }
+{
+    for sig in sigs {
+        narrow_sig(bounds, sig, created, t);
+    }
+}
+
+fn narrow_part(bounds: &mut Bounds, part: &Part, created: u32, t: u32)
+    ensures { Narrowed bounds.old bounds.new (flat_map (sig_moments created) part.now.sigs) t }
+{
+    narrow_sigs(bounds, part.sigs(), created, t);
+}
+
+fn narrow_parts(bounds: &mut Bounds, parts: &[Part], created: u32, t: u32)
+    ensures { Narrowed bounds.old bounds.new (flat_map (sig_moments created) (sigs_on parts.now)) t }
+{
+    for part in parts {
+        narrow_part(bounds, part, created, t);
+    }
+}
+
+fn created(cert: &Cert) -> u32
+    ensures { result ≡ created_of cert.now }
+{
+    cert.key().created
+}
+
+/// The span of a time: from the last moment of the certificate that isn't after it, or 0, up to the moment before the
+/// next one, or the last time that there is. The moments are the key's creation and, of each readable signature, when it
+/// was made, when it ends, and when it lets the key end.
+pub fn span(cert: &Cert, t: u32) -> Span
+    ensures span { result ≡ span_of cert.now t }
+{
+    let mut bounds = Bounds {
+        from: 0,
+        until: 1 << 32,
+    };
+    let created = created(cert);
+    narrow(&mut bounds, created as u64, t);
+    narrow_sigs(&mut bounds, cert.direct(), created, t);
+    narrow_parts(&mut bounds, cert.user_ids(), created, t);
+    narrow_parts(&mut bounds, cert.attributes(), created, t);
+    narrow_parts(&mut bounds, cert.subkeys(), created, t);
+    Span {
+        from: bounds.from,
+        to: (bounds.until - 1) as u32,
+    }
+}
