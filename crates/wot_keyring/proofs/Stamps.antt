@@ -1,0 +1,51 @@
+-- Stamps stay the counts of changes that were made.
+use Rattle.std.proofs.Common.{◌≡◌, ℕ, ◌+◌, ◌<◌, ◌≤◌, Bool, true, false, cond, List, [], ◌∷◌, Option, Some, None, refl, arith}
+use Rattle.std.specs.Option.{IfSome}
+use Rattle.std.specs.Map.{lookup, remove_entry}
+use Rattle.wot_types.specs.declared.fpr.Fpr.{Fpr}
+use Rattle.wot_types.specs.declared.number.SigNumber.{SigNumber}
+use Rattle.wot_keyring.specs.declared.kept.Kept.{Kept}
+use Rattle.wot_keyring.specs.Keyring.{Entries}
+use Rattle.wot_keyring.specs.Kept.{IsStamped, AreStamped}
+use Rattle.wot_keyring.specs.Verdict.{has_number, restamped, restamped_all}
+
+one_more : (a c : ℕ) → a ≤ c → a ≤ c + 1
+one_more a c h = omega (arith, h)
+
+above_zero : (c : ℕ) → 0 < c + 1
+above_zero c = omega arith
+
+itself : (c : ℕ) → c ≤ c
+itself c = omega arith
+
+-- after one change more
+pub still_stamped : (c : ℕ) (es : Entries) → AreStamped c es → AreStamped (c + 1) es
+still_stamped c [] all = tt
+still_stamped c (e ∷ es) all = ((all.0.0, one_more e.1.stamp c all.0.1), still_stamped c es all.1)
+
+-- after a certificate was taken out
+pub removed_stamped : (c : ℕ) (test : Fpr → Bool) (es : Entries) → AreStamped c es → AreStamped (c + 1) (remove_entry test es)
+removed_stamped c test [] all = tt
+removed_stamped c test (e ∷ es) all =
+    elim (test e.0) as (λ b. AreStamped (c + 1) (cond b es (e ∷ remove_entry test es))) [
+      | true ↦ still_stamped c es all.1
+      | false ↦ ((all.0.0, one_more e.1.stamp c all.0.1), removed_stamped c test es all.1)
+    ]
+
+-- after a verdict was altered
+pub restamped_stamped : (c : ℕ) (number : SigNumber) (es : Entries) → AreStamped c es → AreStamped (c + 1) (restamped_all number (c + 1) es)
+restamped_stamped c number [] all = tt
+restamped_stamped c number (e ∷ es) all =
+    (elim (has_number number e.1.cert) as (λ b. (0 < cond b (c + 1) e.1.stamp) × (cond b (c + 1) e.1.stamp ≤ c + 1)) [
+      | true ↦ (above_zero c, itself (c + 1))
+      | false ↦ (all.0.0, one_more e.1.stamp c all.0.1)
+    ], restamped_stamped c number es all.1)
+
+-- what is found has a stamp
+pub found_stamped : (c : ℕ) (test : Fpr → Bool) (es : Entries) → AreStamped c es → IfSome (lookup test es) (λ (x : Kept). (0 < x.stamp) × (x.stamp ≤ c))
+found_stamped c test [] all = tt
+found_stamped c test (e ∷ es) all =
+    elim (test e.0) as (λ b. IfSome (cond b (Some e.1) (lookup test es)) (λ (x : Kept). (0 < x.stamp) × (x.stamp ≤ c))) [
+      | true ↦ all.0
+      | false ↦ found_stamped c test es all.1
+    ]
