@@ -24,7 +24,7 @@ module _ (rows : PolicyRows) (k : Keyring) where
   indeterminate = refl
 
   -- two keys, and then these octets
-  after_keys : List ℕ → List ℕ
+  abbrev after_keys : List ℕ → List ℕ
   after_keys octets = 198 ∷ 7 ∷ 4 ∷ 0 ∷ 0 ∷ 3 ∷ 232 ∷ 27 ∷ 1 ∷ 198 ∷ 7 ∷ 4 ∷ 0 ∷ 0 ∷ 3 ∷ 232 ∷ 27 ∷ 2 ∷ octets
 
   compressed : answer_to rows k (after_keys (200 ∷ 1 ∷ 0 ∷ [])) ≡ Err (Cert Compressed)

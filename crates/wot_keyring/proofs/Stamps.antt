@@ -1,6 +1,6 @@
 -- Stamps stay the counts of changes that were made.
-use Rattle.std.proofs.Common.{◌≡◌, ℕ, ◌+◌, ◌<◌, ◌≤◌, Bool, true, false, cond, List, [], ◌∷◌, Option, Some, None, refl, arith}
-use Rattle.std.specs.Option.{IfSome}
+use Rattle.std.proofs.Common.{◌≡◌, ℕ, ◌+◌, ◌<◌, ◌≤◌, Bool, true, false, cond, List, [], ◌∷◌, Option, Some, None, refl, sym, subst, arith}
+use Rattle.std.specs.Option.{IfSome, MatchOption, option_map}
 use Rattle.std.specs.Map.{lookup, remove_entry}
 use Rattle.wot_types.specs.declared.fpr.Fpr.{Fpr}
 use Rattle.wot_types.specs.declared.number.SigNumber.{SigNumber}
@@ -35,11 +35,13 @@ removed_stamped c test (e ∷ es) all =
 -- after a verdict was altered
 pub restamped_stamped : (c : ℕ) (number : SigNumber) (es : Entries) → AreStamped c es → AreStamped (c + 1) (restamped_all number (c + 1) es)
 restamped_stamped c number [] all = tt
-restamped_stamped c number (e ∷ es) all =
-    (elim (has_number number e.1.cert) as (λ b. (0 < cond b (c + 1) e.1.stamp) × (cond b (c + 1) e.1.stamp ≤ c + 1)) [
-      | true ↦ (above_zero c, itself (c + 1))
-      | false ↦ (all.0.0, one_more e.1.stamp c all.0.1)
-    ], restamped_stamped c number es all.1)
+restamped_stamped c number (e ∷ es) all = (
+  elim (has_number number e.1.cert) as (λ b. (0 < cond b (c + 1) e.1.stamp) × (cond b (c + 1) e.1.stamp ≤ c + 1)) [
+    | true ↦ (above_zero c, itself (c + 1))
+    | false ↦ (all.0.0, one_more e.1.stamp c all.0.1)
+  ],
+  restamped_stamped c number es all.1,
+)
 
 -- what is found has a stamp
 pub found_stamped : (c : ℕ) (test : Fpr → Bool) (es : Entries) → AreStamped c es → IfSome (lookup test es) (λ (x : Kept). (0 < x.stamp) × (x.stamp ≤ c))
@@ -49,3 +51,11 @@ found_stamped c test (e ∷ es) all =
       | true ↦ all.0
       | false ↦ found_stamped c test es all.1
     ]
+
+-- a certificate that is found has the stamp of some change
+pub stamp_found : (c : ℕ) (test : Fpr → Bool) (es : Entries) (kept : Kept) → AreStamped c es → Some kept ≡ lookup test es → (0 < kept.stamp) × (kept.stamp ≤ c)
+stamp_found c test es kept all found =
+    subst (λ (o : Option Kept). IfSome o (λ (x : Kept). (0 < x.stamp) × (x.stamp ≤ c))) (sym found) (found_stamped c test es all)
+
+pub stamp_absent : (o : Option Kept) (kept : Kept) → Some kept ≡ o → 0 < kept.stamp → MatchOption (option_map (λ (x : Kept). x.cert) o) (kept.stamp ≡ 0) (λ _. 0 < kept.stamp)
+stamp_absent o kept found above = subst (λ (o : Option Kept). MatchOption (option_map (λ (x : Kept). x.cert) o) (kept.stamp ≡ 0) (λ _. 0 < kept.stamp)) found above

@@ -59,10 +59,13 @@ after_all rows [] k = k
 after_all rows (c ∷ cs) None = None
 after_all rows (c ∷ cs) (Some k) = after_all rows cs (after rows c k)
 
+-- a certificate, whatever its marks
+abbrev pub plain : Fpr × Certificate → Fpr × Certificate
+plain e = (e.0, unmarked e.1)
+
 -- Both hold the same certificates, whatever their marks, and the same verdicts.
 pub record HoldSame (a b : Keyring) : Type 0 where
-  pub certs : map (λ (e : Fpr × Certificate). (e.0, unmarked e.1)) (certificates_in a)
-      ≡ map (λ (e : Fpr × Certificate). (e.0, unmarked e.1)) (certificates_in b)
+  pub certs : map plain (certificates_in a) ≡ map plain (certificates_in b)
   pub verdicts : a.verdicts ≡ b.verdicts
 
 -- The commands, run in a fresh keyring with the same limits, give what this one holds, and none is refused.

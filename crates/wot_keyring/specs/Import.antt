@@ -130,7 +130,7 @@ abbrev pub answer_united : PolicyRows → Keyring → List Certificate → ℕ �
 answer_united rows old cs skipped =
     if any_clash (map (λ (e : Fpr × Certificate). e.1) (certificates_in old)) cs then Err Clash
     else unless_full (first_full old.limits (with_certs rows (certificates_in old) cs))
-        (record { taken = length cs; skipped = skipped; fresh = fresh_in old (with_certs rows (certificates_in old) cs) })
+    (record { taken = length cs; skipped = skipped; fresh = fresh_in old (with_certs rows (certificates_in old) cs) })
 
 abbrev pub unless_fault : Option CertFault → Result Imported Refusal → Result Imported Refusal
 unless_fault (Some fault) answer = Err (Cert fault)

@@ -1,5 +1,5 @@
 -- What a keyring holds: certificates by fingerprint, and verdicts by the numbers of signatures.
-use Rattle.std.specs.Prelude.{ℕ, Bool, List, [], map, Option}
+use Rattle.std.specs.Prelude.{ℕ, Bool, List, [], map, Option, Some, None, Result, Ok, Err}
 use Rattle.std.specs.Option.{option_map, option_map_or}
 use Rattle.std.specs.BTreeMap.{is_at}
 use Rattle.std.specs.Map.{lookup}
@@ -10,6 +10,8 @@ use Rattle.wot_types.specs.Fpr.{fpr_cmp}
 use Rattle.wot_verdict.specs.Verdicts as verdicts
 use Rattle.wot_verdict.specs.declared.verdict.Verdict.{Verdict}
 use Rattle.wot_cert.specs.Certificate.{Certificate}
+use Rattle.wot_keyring.specs.declared.refusal.ExportFault.{ExportFault}
+use Rattle.wot_keyring.specs.declared.refusal.ExportFault.TheVariants.{Absent, Memory}
 use Rattle.wot_keyring.specs.declared.kept.Kept.{Kept}
 
 -- The kept certificates with their stamps, in the order of the fingerprints.
@@ -53,3 +55,12 @@ Certificates = List (Fpr × Certificate)
 -- the kept certificates without their stamps
 abbrev pub certificates_in : Keyring → Certificates
 certificates_in k = map (λ (e : Fpr × Kept). (e.0, e.1.cert)) k.certs
+
+-- `Absent` is told exactly where nothing is kept; the only other fault is want of memory.
+abbrev pub TellsAbsent : {T : Type 0} → Result T ExportFault → Option Certificate → Type 0
+TellsAbsent (Ok done) (Some c) = Unit {0}
+TellsAbsent (Ok done) None = ⊥
+TellsAbsent (Err Absent) (Some c) = ⊥
+TellsAbsent (Err Absent) None = Unit {0}
+TellsAbsent (Err Memory) (Some c) = Unit {0}
+TellsAbsent (Err Memory) None = ⊥

@@ -1,21 +1,26 @@
 -- What a change of a verdict does.
-use Rattle.std.specs.Prelude.{ℕ, ◌+◌, Bool, ◌&&◌, nat_le, if◌then◌else◌, List, length, map, is_none, true, false, Result, Ok, Err, ◌≡◌}
+use Rattle.std.specs.Prelude.{ℕ, ◌+◌, Bool, ◌&&◌, ◌||◌, nat_le, if◌then◌else◌, List, length, map, is_none, true, false, Result, Ok, Err, ◌≡◌}
 use Rattle.std.specs.List.{list_any}
 use Rattle.wot_types.specs.declared.fpr.Fpr.{Fpr}
 use Rattle.wot_types.specs.declared.number.SigNumber.{SigNumber}
 use Rattle.wot_verdict.specs.Verdicts.{is_number, with_verdict, without_verdict}
 use Rattle.wot_verdict.specs.declared.verdict.Verdict.{Verdict}
 use Rattle.wot_cert.specs.Certificate.{Signature, Certificate}
-use Rattle.wot_cert.specs.Counts.{all_sigs}
+use Rattle.wot_cert.specs.Counts.{sigs_on}
 use Rattle.wot_keyring.specs.declared.kept.Kept.{Kept}
 use Rattle.wot_types.specs.declared.limits.Limit.TheVariants.{Verdicts}
 use Rattle.wot_keyring.specs.declared.refusal.Refusal.{Refusal}
 use Rattle.wot_keyring.specs.declared.refusal.Refusal.TheVariants.{Full, Memory}
 use Rattle.wot_keyring.specs.Keyring.{Entries, Keyring, verdict_on}
 
--- whether a signature of this number stands on it
+-- whether a signature of this number is among them
+abbrev pub is_among : SigNumber → List Signature → Bool
+is_among number sigs = list_any (λ (s : Signature). is_number number s.number) sigs
+
+-- whether a signature of this number stands on the key, or on a user ID, an attribute or a subkey
 abbrev pub has_number : SigNumber → Certificate → Bool
-has_number number c = list_any (λ (s : Signature). is_number number s.number) (all_sigs c)
+has_number number c =
+    is_among number c.direct || (is_among number (sigs_on c.user_ids) || (is_among number (sigs_on c.attributes) || is_among number (sigs_on c.subkeys)))
 
 -- with this stamp, where a signature of that number stands on it
 abbrev pub restamped : SigNumber → ℕ → Kept → Kept

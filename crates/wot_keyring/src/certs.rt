@@ -1,10 +1,10 @@
+ghost use Rattle.std.specs.Iterator.{YieldsFirstRef, item_count};
+
 use crate::kept::Kept;
 use std::collections::btree_map::Iter;
 use std::marker::Model;
 use wot_cert::Cert;
 use wot_types::Fpr;
-
-ghost use Rattle.std.specs.Iterator.{YieldsFirstRef, item_count};
 
 /// The kept certificates that are still to come, in the order of their fingerprints.
 #[derive(Drop)]

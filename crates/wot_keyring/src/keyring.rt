@@ -1,10 +1,10 @@
-ghost use Rattle.std.specs.Prelude.{◌≡◌, ◌≢◌, ◌<◌, ◌≤◌, ◌^◌, ◌↔◌, ◌++◌, map, Some, None, Ok, Err, IsSome, IsSomeAnd, MatchResult, OnOk, OnErr};
-ghost use Rattle.std.specs.Option.{option_copied};
+ghost use Rattle.std.specs.Prelude.{◌≡◌, ◌≢◌, ◌<◌, ◌≤◌, ◌^◌, ◌-◌, ◌++◌, map, Some, Ok, is_ok, is_some, IsSomeAnd, MatchBool, OnOk, OnErr};
+ghost use Rattle.std.specs.Option.{option_copied, MatchOption};
+ghost use Rattle.std.specs.Map.{lookup, remove_entry};
 ghost use Rattle.wot_types.specs.declared.fpr.Fpr.{Fpr as TheFpr};
 ghost use Rattle.wot_cert.specs.Text.{text_of};
 ghost use Rattle.wot_keyring.specs.declared.kept.Kept.{Kept as TheKept};
-ghost use Rattle.wot_keyring.specs.declared.refusal.ExportFault.TheVariants as faults;
-ghost use Rattle.wot_keyring.specs.Keyring.{empty, cert_at, stamp_at, verdict_on};
+ghost use Rattle.wot_keyring.specs.Keyring.{empty, cert_at, stamp_at, verdict_on, is_fpr, TellsAbsent};
 ghost use Rattle.wot_keyring.specs.Kept.{AreSmall};
 ghost use Rattle.wot_keyring.specs.Removal.{without_cert};
 ghost use Rattle.wot_keyring.specs.Verdict.{with_verdict_on, without_verdict_on, would_pass, counted_at, TellsFull};
@@ -85,10 +85,10 @@ impl Keyring {
     /// where it isn't kept.
     pub fn stamp(&self, fpr: &Fpr) -> u64
         ensures stamp { result ≡ stamp_at self.now fpr.now }
-        ensures absent { (result ≡ 0) ↔ (cert_at self.now fpr.now ≡ None) }
+        ensures absent { MatchOption (cert_at self.now fpr.now) (result ≡ 0) (λ _. 0 < result) }
         ensures past { result ≤ self.now.changes }
     {
-        match self.certs.get(fpr) {
+        match find(&self.certs, fpr) {
             Some(kept) => kept.stamp,
             None => 0,
         }
@@ -105,16 +105,15 @@ impl Keyring {
     pub fn remove(&mut self, fpr: &Fpr) -> Result<(), Absent>
         requires countable { self.old.changes < 2 ^ 64 - 1 }
         ensures removed { OnOk result (self.new ≡ without_cert fpr.now self.old) }
-        ensures absent { MatchResult result (λ _. IsSome (cert_at self.old fpr.now)) (λ _. cert_at self.old fpr.now ≡ None) }
+        ensures absent { is_ok result ≡ is_some (cert_at self.old fpr.now) }
         ensures kept { OnErr result (self.new ≡ self.old) }
     {
-        match self.certs.remove(fpr) {
-            Some(_) => {
-                self.changes += 1;
-                Ok(())
-            }
-            None => Err(Absent),
+        if !self.has(fpr) {
+            return Err(Absent);
         }
+        take_out(&mut self.certs, fpr);
+        self.changes += 1;
+        Ok(())
     }
 
     /// Sets the verdict on a number, in place of an earlier one. Where it was this one already nothing changes, and no
@@ -126,15 +125,17 @@ impl Keyring {
         ensures full { TellsFull result self.old number }
         ensures kept { OnErr result (self.new ≡ self.old) }
     {
+        if self.says(&number, verdict) {
+            return Ok(());
+        }
         if self.would_pass(&number) {
             return Err(Refusal::Full(Limit::Verdicts));
         }
         match self.verdicts.set(number, verdict) {
-            Ok(true) => {
+            Ok(_) => {
                 self.altered_at(&number);
                 Ok(())
             }
-            Ok(false) => Ok(()),
             Err(Memory) => Err(Refusal::Memory),
         }
     }
@@ -143,7 +144,7 @@ impl Keyring {
     pub fn clear_verdict(&mut self, number: &SigNumber) -> Result<(), Absent>
         requires countable { self.old.changes < 2 ^ 64 - 1 }
         ensures cleared { OnOk result (self.new ≡ without_verdict_on number.now self.old) }
-        ensures absent { MatchResult result (λ _. IsSome (verdict_on self.old number.now)) (λ _. verdict_on self.old number.now ≡ None) }
+        ensures absent { is_ok result ≡ is_some (verdict_on self.old number.now) }
         ensures kept { OnErr result (self.new ≡ self.old) }
     {
         if self.verdicts.get(number).is_none() {
@@ -157,7 +158,7 @@ impl Keyring {
     /// Appends the text of a kept certificate (RFC 9580, section 10.1). After a fault `out` is as before.
     pub fn export(&self, fpr: &Fpr, out: &mut Vec<u8>) -> Result<(), ExportFault>
         ensures text { OnOk result (IsSomeAnd (cert_at self.now fpr.now) (λ c. out.new.items ≡ out.old.items ++ text_of c)) }
-        ensures absent { (result ≡ Err faults.Absent) ↔ (cert_at self.now fpr.now ≡ None) }
+        ensures absent { TellsAbsent result (cert_at self.now fpr.now) }
         ensures kept { OnErr result (out.new.items ≡ out.old.items) }
     {
         let Some(cert) = self.get(fpr) else {
@@ -167,6 +168,18 @@ impl Keyring {
             Ok(()) => Ok(()),
             Err(Memory) => Err(ExportFault::Memory),
         }
+    }
+
+    fn has(&self, fpr: &Fpr) -> bool
+        ensures has { result ≡ is_some (cert_at self.now fpr.now) }
+    {
+        self.certs.get(fpr).is_some()
+    }
+
+    fn says(&self, number: &SigNumber, verdict: Verdict) -> bool
+        ensures says { MatchBool result (verdict_on self.now number.now ≡ Some verdict) (verdict_on self.now number.now ≢ Some verdict) }
+    {
+        self.verdicts.get(number) == Some(verdict)
     }
 
     fn would_pass(&self, number: &SigNumber) -> bool
@@ -183,4 +196,18 @@ impl Keyring {
         self.changes += 1;
         restamp(&mut self.certs, number, self.changes);
     }
+}
+
+/// What is kept under a fingerprint.
+fn find<'a>(certs: &'a BTreeMap<Fpr, Kept, Global>, fpr: &Fpr) -> Option<&'a Kept>
+    ensures found { option_copied result ≡ lookup (is_fpr fpr.now) certs.now.entries }
+{
+    certs.get(fpr)
+}
+
+/// Takes out what is kept under a fingerprint.
+fn take_out(certs: &mut BTreeMap<Fpr, Kept, Global>, fpr: &Fpr)
+    ensures out { certs.new.entries ≡ remove_entry (is_fpr fpr.now) certs.old.entries }
+{
+    let _ = certs.remove(fpr);
 }

@@ -1,9 +1,6 @@
 ghost use Rattle.std.specs.Prelude.{◌≡◌};
-ghost use Rattle.std.specs.List.{list_any};
-ghost use Rattle.wot_cert.specs.Certificate.{Signature};
 ghost use Rattle.wot_cert.specs.Counts.{sigs_on};
-ghost use Rattle.wot_verdict.specs.Verdicts.{is_number};
-ghost use Rattle.wot_keyring.specs.Verdict.{has_number, restamped, restamped_all};
+ghost use Rattle.wot_keyring.specs.Verdict.{is_among, has_number, restamped, restamped_all};
 
 use crate::kept::Kept;
 use std::alloc::Global;
@@ -13,23 +10,27 @@ use wot_cert::{Cert, Part, Sig};
 use wot_types::{Fpr, SigNumber, compare_numbers};
 
 fn has_sig(sigs: &[Sig], number: &SigNumber) -> bool
-    ensures has { result ≡ list_any (λ (s : Signature). is_number number.now s.number) sigs.now }
+    ensures has { result ≡ is_among number.now sigs.now }
 {
-    for sig in sigs {
+    let mut left = sigs;
+    'sigs: while let Some((sig, rest)) = left.split_first() {
         if compare_numbers(number, &sig.number()) == Ordering::Equal {
             return true;
         }
+        left = rest;
     }
     false
 }
 
 fn has_sig_on(parts: &[Part], number: &SigNumber) -> bool
-    ensures has { result ≡ list_any (λ (s : Signature). is_number number.now s.number) (sigs_on parts.now) }
+    ensures has { result ≡ is_among number.now (sigs_on parts.now) }
 {
-    for part in parts {
+    let mut left = parts;
+    'parts: while let Some((part, rest)) = left.split_first() {
         if has_sig(part.sigs(), number) {
             return true;
         }
+        left = rest;
     }
     false
 }
@@ -38,10 +39,16 @@ fn has_sig_on(parts: &[Part], number: &SigNumber) -> bool
 fn stands_on(cert: &Cert, number: &SigNumber) -> bool
     ensures has { result ≡ has_number number.now cert.now }
 {
-    has_sig(cert.direct(), number)
-        || has_sig_on(cert.user_ids(), number)
-        || has_sig_on(cert.attributes(), number)
-        || has_sig_on(cert.subkeys(), number)
+    if has_sig(cert.direct(), number) {
+        return true;
+    }
+    if has_sig_on(cert.user_ids(), number) {
+        return true;
+    }
+    if has_sig_on(cert.attributes(), number) {
+        return true;
+    }
+    has_sig_on(cert.subkeys(), number)
 }
 
 fn restamp_one(kept: &mut Kept, number: &SigNumber, stamp: u64)
