@@ -1,13 +1,13 @@
 -- Stamps stay the counts of changes that were made.
-use Rattle.std.proofs.Common.{◌≡◌, ℕ, ◌+◌, ◌<◌, ◌≤◌, Bool, true, false, cond, List, [], ◌∷◌, Option, Some, None, refl, sym, subst, arith}
+use Rattle.std.proofs.Common.{◌≡◌, ℕ, ◌+◌, ◌<◌, ◌≤◌, Bool, true, false, cond, [], ◌∷◌, Option, Some, sym, subst, arith}
 use Rattle.std.specs.Option.{IfSome, MatchOption, option_map}
 use Rattle.std.specs.Map.{lookup, remove_entry}
 use Rattle.wot_types.specs.declared.fpr.Fpr.{Fpr}
 use Rattle.wot_types.specs.declared.number.SigNumber.{SigNumber}
 use Rattle.wot_keyring.specs.declared.kept.Kept.{Kept}
 use Rattle.wot_keyring.specs.Keyring.{Entries}
-use Rattle.wot_keyring.specs.Kept.{IsStamped, AreStamped}
-use Rattle.wot_keyring.specs.Verdict.{has_number, restamped, restamped_all}
+use Rattle.wot_keyring.specs.Kept.{AreStamped}
+use Rattle.wot_keyring.specs.Verdict.{has_number, restamped_all}
 
 one_more : (a c : ℕ) → a ≤ c → a ≤ c + 1
 one_more a c h = omega (arith, h)

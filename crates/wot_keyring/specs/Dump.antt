@@ -7,7 +7,6 @@ use Rattle.wot_policy.specs.declared.rows.PolicyRows.{PolicyRows}
 use Rattle.wot_script.specs.declared.command.Command.{Command}
 use Rattle.wot_script.specs.declared.command.Command.TheVariants as commands
 use Rattle.wot_script.specs.Spelling.{spelling}
-use Rattle.wot_verdict.specs.Verdicts as verdicts
 use Rattle.wot_verdict.specs.declared.verdict.Verdict.{Verdict}
 use Rattle.wot_verdict.specs.declared.verdict.Verdict.TheVariants.{Good, Bad}
 use Rattle.wot_cert.specs.Certificate.{Certificate, unmarked}
@@ -15,7 +14,7 @@ use Rattle.wot_cert.specs.Text.{text_of}
 use Rattle.wot_keyring.specs.declared.import.Imported.{Imported}
 use Rattle.wot_keyring.specs.declared.kept.Kept.{Kept}
 use Rattle.wot_keyring.specs.declared.refusal.Refusal.{Refusal}
-use Rattle.wot_keyring.specs.Keyring.{Keyring, Certificates, empty, certificates_in}
+use Rattle.wot_keyring.specs.Keyring.{Keyring, empty, certificates_in}
 use Rattle.wot_keyring.specs.Import.{answer_to, imported}
 use Rattle.wot_keyring.specs.Verdict.{with_verdict_on, would_pass}
 

@@ -1,5 +1,5 @@
 -- What is true of every keyring, and what callers bring.
-use Rattle.std.specs.Prelude.{◌≡◌, ◌≤◌, ◌<◌, ℕ}
+use Rattle.std.specs.Prelude.{◌≤◌, ◌<◌, ℕ}
 use Rattle.std.specs.List.{AllByRecursion}
 use Rattle.wot_types.specs.declared.fpr.Fpr.{Fpr}
 use Rattle.wot_types.specs.declared.limits.Limits.{Limits}
@@ -26,6 +26,14 @@ IsStamped changes e = (0 < e.1.stamp) × (e.1.stamp ≤ changes)
 abbrev pub AreStamped : ℕ → Entries → Type 0
 AreStamped changes entries = AllByRecursion (IsStamped changes) entries
 
--- Each certificate is judged by these rows.
+-- Each of the certificates is judged by these rows.
+abbrev pub AreJudged : PolicyRows → Entries → Type 0
+AreJudged rows entries = AllByRecursion (λ (e : Fpr × Kept). IsJudged rows e.1.cert) entries
+
+-- The keyring is judged by these rows.
 abbrev pub IsJudgedBy : PolicyRows → Keyring → Type 0
-IsJudgedBy rows k = AllByRecursion (λ (e : Fpr × Kept). IsJudged rows e.1.cert) k.certs
+IsJudgedBy rows k = AreJudged rows k.certs
+
+-- By whatever rows the one was judged, the other is.
+abbrev pub StaysJudged : Keyring → Keyring → Type 0
+StaysJudged old new = (rows : PolicyRows) → IsJudgedBy rows old → IsJudgedBy rows new

@@ -5,7 +5,7 @@ ghost use Rattle.wot_types.specs.declared.fpr.Fpr.{Fpr as TheFpr};
 ghost use Rattle.wot_cert.specs.Text.{text_of};
 ghost use Rattle.wot_keyring.specs.declared.kept.Kept.{Kept as TheKept};
 ghost use Rattle.wot_keyring.specs.Keyring.{empty, cert_at, stamp_at, verdict_on, is_fpr, TellsAbsent};
-ghost use Rattle.wot_keyring.specs.Kept.{AreSmall};
+ghost use Rattle.wot_keyring.specs.Kept.{AreSmall, StaysJudged};
 ghost use Rattle.wot_keyring.specs.Removal.{without_cert};
 ghost use Rattle.wot_keyring.specs.Verdict.{with_verdict_on, without_verdict_on, would_pass, counted_at, TellsFull};
 
@@ -102,11 +102,13 @@ impl Keyring {
     }
 
     /// Takes a certificate out; the verdicts on its signatures stay. Takes no memory.
+    #[tactic(auto, using(crate::proofs::Judged::removed_judged))]
     pub fn remove(&mut self, fpr: &Fpr) -> Result<(), Absent>
         requires countable { self.old.changes < 2 ^ 64 - 1 }
         ensures removed { OnOk result (self.new ≡ without_cert fpr.now self.old) }
         ensures absent { is_ok result ≡ is_some (cert_at self.old fpr.now) }
         ensures kept { OnErr result (self.new ≡ self.old) }
+        ensures judged { StaysJudged self.old self.new }
     {
         if !self.has(fpr) {
             return Err(Absent);
@@ -124,6 +126,7 @@ impl Keyring {
         ensures set { OnOk result (verdict_on self.old number ≢ Some verdict → self.new ≡ with_verdict_on number verdict self.old) }
         ensures full { TellsFull result self.old number }
         ensures kept { OnErr result (self.new ≡ self.old) }
+        ensures judged { StaysJudged self.old self.new }
     {
         if self.says(&number, verdict) {
             return Ok(());
@@ -146,6 +149,7 @@ impl Keyring {
         ensures cleared { OnOk result (self.new ≡ without_verdict_on number.now self.old) }
         ensures absent { is_ok result ≡ is_some (verdict_on self.old number.now) }
         ensures kept { OnErr result (self.new ≡ self.old) }
+        ensures judged { StaysJudged self.old self.new }
     {
         if self.verdicts.get(number).is_none() {
             return Err(Absent);
@@ -189,9 +193,11 @@ impl Keyring {
     }
 
     /// Counts a change of the verdict on a number.
+    #[tactic(auto, using(crate::proofs::Judged::restamped_judged))]
     fn altered_at(&mut self, number: &SigNumber)
         requires countable { self.old.changes < 2 ^ 64 - 1 }
         ensures counted { self.new ≡ counted_at number.now self.old }
+        ensures judged { StaysJudged self.old self.new }
     {
         self.changes += 1;
         restamp(&mut self.certs, number, self.changes);
