@@ -1,0 +1,3 @@
+pub mod Stamps
+pub mod Rows
+pub mod Judged

@@ -1,0 +1,149 @@
+-- What an import of octets answers, and what it does: each certificate of them united with the kept one, all or none.
+use Rattle.std.specs.Prelude.{◌≡◌, ◌⊎◌, ℕ, ◌+◌, ◌-◌, Bool, false, not, ◌&&◌, ◌||◌, nat_eq, nat_lt, if◌then◌else◌, List, [], ◌∷◌, map, length, Option, Some, None, Result, Ok, Err}
+use Rattle.std.specs.List.{list_any}
+use Rattle.std.specs.Cmp.Lexicographic.{pointwise}
+use Rattle.std.specs.BTreeMap.{insert_entry}
+use Rattle.std.specs.Map.{lookup}
+use Rattle.wot_types.specs.declared.fpr.Fpr.{Fpr}
+use Rattle.wot_types.specs.declared.limits.Limits.{Limits}
+use Rattle.wot_types.specs.declared.limits.Limit.{Limit}
+use Rattle.wot_types.specs.declared.limits.Limit.TheVariants as limits
+use Rattle.wot_types.specs.Fpr.{fpr_cmp}
+use Rattle.wot_key.specs.Key.{fpr_of}
+use Rattle.wot_packet.specs.declared.packet.PacketFault.{PacketFault}
+use Rattle.wot_packet.specs.Spelling.{Spelled}
+use Rattle.wot_packet.specs.Reading.{packets_of}
+use Rattle.wot_policy.specs.declared.rows.PolicyRows.{PolicyRows}
+use Rattle.wot_cert.specs.declared.fault.CertFault.{CertFault}
+use Rattle.wot_cert.specs.Certificate.{Certificate, unite}
+use Rattle.wot_cert.specs.Assembly.{certificates_of, skipped_in}
+use Rattle.wot_cert.specs.Counts.{sum_of, items_of, signatures_of}
+use Rattle.wot_cert.specs.Fault.{first_fault}
+use Rattle.wot_cert.specs.Judged.{judged, sound_of}
+use Rattle.wot_cert.specs.Text.{size_of}
+use Rattle.wot_keyring.specs.declared.import.Imported.{Imported}
+use Rattle.wot_keyring.specs.declared.kept.Kept.{Kept}
+use Rattle.wot_keyring.specs.declared.refusal.Refusal.{Refusal}
+use Rattle.wot_keyring.specs.declared.refusal.Refusal.TheVariants.{Packet, Cert, Clash, Full, Memory}
+use Rattle.wot_keyring.specs.Keyring.{Keyring, Certificates, is_fpr, kept_at, certificates_in}
+
+-- ---- the union
+
+abbrev pub united_with : Option Certificate → Certificate → Certificate
+united_with (Some kept) c = unite kept c
+united_with None c = c
+
+-- the certificates with this one, judged, united with the one of its fingerprint
+abbrev pub with_cert : PolicyRows → Certificates → Certificate → Certificates
+with_cert rows certs c =
+    insert_entry fpr_cmp certs (fpr_of c.key) (united_with (lookup (is_fpr (fpr_of c.key)) certs) (judged rows c))
+
+-- the same with each of these, from the front
+abbrev pub with_certs : PolicyRows → Certificates → List Certificate → Certificates
+with_certs rows certs [] = certs
+with_certs rows certs (c ∷ cs) = with_certs rows (with_cert rows certs c) cs
+
+-- ---- clashes
+
+-- One fingerprint, and two keys.
+abbrev pub clash : Certificate → Certificate → Bool
+clash c other = is_fpr (fpr_of c.key) (fpr_of other.key) && not (pointwise nat_eq c.key other.key)
+
+-- whether one of these clashes with one of the earlier ones, or with one before it
+abbrev pub any_clash : List Certificate → List Certificate → Bool
+any_clash earlier [] = false
+any_clash earlier (c ∷ cs) = list_any (clash c) earlier || any_clash (c ∷ earlier) cs
+
+-- ---- limits
+
+-- what all the certificates weigh
+abbrev pub weigh : (Certificate → ℕ) → Certificates → ℕ
+weigh weight certs = sum_of (λ (e : Fpr × Certificate). weight e.1) certs
+
+-- whether one of the certificates is greater than the limit
+abbrev pub has_greater : ℕ → Certificates → Bool
+has_greater limit certs = list_any (λ (e : Fpr × Certificate). nat_lt limit (size_of e.1)) certs
+
+-- the first limit that these certificates pass
+abbrev pub first_full : Limits → Certificates → Option Limit
+first_full l certs =
+    if has_greater l.certificate certs then Some limits.Certificate
+    else if nat_lt l.certificates (length certs) then Some limits.Certificates
+    else if nat_lt l.octets (weigh size_of certs) then Some limits.Octets
+    else if nat_lt l.signatures (weigh signatures_of certs) then Some limits.Signatures
+    else None
+
+-- ---- stamps
+
+-- the stamp of a certificate, by what was kept of it: the new one where it wasn't kept or has something new
+abbrev pub stamp_for : ℕ → Option Kept → Certificate → ℕ
+stamp_for stamp None c = stamp
+stamp_for stamp (Some old) c = if nat_lt (items_of old.cert) (items_of c) then stamp else old.stamp
+
+abbrev pub stamped : Keyring → Fpr × Certificate → Fpr × Kept
+stamped old e = (e.0, record { cert = e.1; stamp = stamp_for (old.changes + 1) (kept_at old e.0) e.1 })
+
+-- how many keys, components and signatures were not kept before
+abbrev pub fresh_in : Keyring → Certificates → ℕ
+fresh_in old certs = weigh items_of certs - weigh items_of (certificates_in old)
+
+-- the keyring with these certificates, to which something was added or nothing
+abbrev pub holding : Keyring → Certificates → Keyring
+holding old certs = record {
+  limits = old.limits;
+  certs = map (stamped old) certs;
+  verdicts = old.verdicts;
+  changes = if nat_lt 0 (fresh_in old certs) then old.changes + 1 else old.changes;
+}
+
+-- ---- the whole
+
+abbrev pub of_packets : Result (List Spelled) PacketFault → List Certificate
+of_packets (Ok packets) = certificates_of packets
+of_packets (Err fault) = []
+
+-- the certificates that the octets spell
+abbrev pub spelled_in : List ℕ → List Certificate
+spelled_in octets = of_packets (packets_of octets)
+
+-- the kept certificates with those that the octets spell
+abbrev pub united_in : PolicyRows → Keyring → List ℕ → Certificates
+united_in rows old octets = with_certs rows (certificates_in old) (spelled_in octets)
+
+-- the keyring after the import
+abbrev pub imported : PolicyRows → Keyring → List ℕ → Keyring
+imported rows old octets = holding old (united_in rows old octets)
+
+-- how often the policy is asked: once for each sound signature that is new
+abbrev pub asked_in : PolicyRows → Keyring → List ℕ → ℕ
+asked_in rows old octets = weigh sound_of (united_in rows old octets) - weigh sound_of (certificates_in old)
+
+-- ---- the answer
+
+abbrev pub unless_full : Option Limit → Imported → Result Imported Refusal
+unless_full (Some limit) counts = Err (Full limit)
+unless_full None counts = Ok counts
+
+-- These certificates, of which that many keys were skipped, are united, unless two clash or a limit is passed.
+abbrev pub answer_united : PolicyRows → Keyring → List Certificate → ℕ → Result Imported Refusal
+answer_united rows old cs skipped =
+    if any_clash (map (λ (e : Fpr × Certificate). e.1) (certificates_in old)) cs then Err Clash
+    else unless_full (first_full old.limits (with_certs rows (certificates_in old) cs))
+    (record { taken = length cs; skipped = skipped; fresh = fresh_in old (with_certs rows (certificates_in old) cs) })
+
+abbrev pub unless_fault : Option CertFault → Result Imported Refusal → Result Imported Refusal
+unless_fault (Some fault) answer = Err (Cert fault)
+unless_fault None answer = answer
+
+abbrev pub answer_read : PolicyRows → Keyring → Result (List Spelled) PacketFault → Result Imported Refusal
+answer_read rows old (Err fault) = Err (Packet fault)
+answer_read rows old (Ok packets) =
+    unless_fault (first_fault packets) (answer_united rows old (certificates_of packets) (skipped_in packets))
+
+-- the answer where memory is found: the first refusal in this order, or the counts
+abbrev pub answer_to : PolicyRows → Keyring → List ℕ → Result Imported Refusal
+answer_to rows old octets = answer_read rows old (packets_of octets)
+
+-- That is the answer, unless no memory was found.
+abbrev pub Answers : Result Imported Refusal → PolicyRows → Keyring → List ℕ → Type 0
+Answers result rows old octets = (result ≡ answer_to rows old octets) ⊎ (result ≡ Err Memory)

@@ -1,0 +1,6 @@
+pub mod Keyring
+pub mod Verdict
+pub mod Removal
+pub mod Import
+pub mod Kept
+pub mod Dump

@@ -1,0 +1,61 @@
+-- What a change of a verdict does.
+use Rattle.std.specs.Prelude.{ℕ, ◌+◌, Bool, ◌&&◌, ◌||◌, nat_le, if◌then◌else◌, List, length, map, is_none, true, false, Result, Ok, Err, ◌≡◌}
+use Rattle.std.specs.List.{list_any}
+use Rattle.wot_types.specs.declared.fpr.Fpr.{Fpr}
+use Rattle.wot_types.specs.declared.number.SigNumber.{SigNumber}
+use Rattle.wot_verdict.specs.Verdicts.{is_number, with_verdict, without_verdict}
+use Rattle.wot_verdict.specs.declared.verdict.Verdict.{Verdict}
+use Rattle.wot_cert.specs.Certificate.{Signature, Certificate}
+use Rattle.wot_cert.specs.Counts.{sigs_on}
+use Rattle.wot_keyring.specs.declared.kept.Kept.{Kept}
+use Rattle.wot_types.specs.declared.limits.Limit.TheVariants.{Verdicts}
+use Rattle.wot_keyring.specs.declared.refusal.Refusal.{Refusal}
+use Rattle.wot_keyring.specs.declared.refusal.Refusal.TheVariants.{Full, Memory}
+use Rattle.wot_keyring.specs.Keyring.{Entries, Keyring, verdict_on}
+
+-- whether a signature of this number is among them
+abbrev pub is_among : SigNumber → List Signature → Bool
+is_among number sigs = list_any (λ (s : Signature). is_number number s.number) sigs
+
+-- whether a signature of this number stands on the key, or on a user ID, an attribute or a subkey
+abbrev pub has_number : SigNumber → Certificate → Bool
+has_number number c =
+    is_among number c.direct || (is_among number (sigs_on c.user_ids) || (is_among number (sigs_on c.attributes) || is_among number (sigs_on c.subkeys)))
+
+-- with this stamp, where a signature of that number stands on it
+abbrev pub restamped : SigNumber → ℕ → Kept → Kept
+restamped number stamp kept = record {
+  cert = kept.cert;
+  stamp = if has_number number kept.cert then stamp else kept.stamp;
+}
+
+abbrev pub restamped_all : SigNumber → ℕ → Entries → Entries
+restamped_all number stamp entries = map (λ (e : Fpr × Kept). (e.0, restamped number stamp e.1)) entries
+
+-- the keyring with one change more, which altered the verdict on this number
+abbrev pub counted_at : SigNumber → Keyring → Keyring
+counted_at number k = record {
+  limits = k.limits;
+  certs = restamped_all number (k.changes + 1) k.certs;
+  verdicts = k.verdicts;
+  changes = k.changes + 1;
+}
+
+-- the keyring with this verdict on the number, which it didn't have before
+abbrev pub with_verdict_on : SigNumber → Verdict → Keyring → Keyring
+with_verdict_on number verdict k = counted_at number (record k { verdicts = with_verdict k.verdicts number verdict })
+
+-- the keyring without the verdict on the number, which it had before
+abbrev pub without_verdict_on : SigNumber → Keyring → Keyring
+without_verdict_on number k = counted_at number (record k { verdicts = without_verdict k.verdicts number })
+
+-- whether a verdict on this number would be one more than the limit allows
+abbrev pub would_pass : Keyring → SigNumber → Bool
+would_pass k number = is_none (verdict_on k number) && nat_le k.limits.verdicts (length k.verdicts)
+
+-- `Full` is told exactly where a new verdict would pass the limit; the only other refusal is want of memory.
+abbrev pub TellsFull : {T : Type 0} → Result T Refusal → Keyring → SigNumber → Type 0
+TellsFull (Ok done) k number = would_pass k number ≡ false
+TellsFull (Err (Full Verdicts)) k number = would_pass k number ≡ true
+TellsFull (Err Memory) k number = would_pass k number ≡ false
+TellsFull (Err _) k number = ⊥

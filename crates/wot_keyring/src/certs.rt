@@ -1,0 +1,39 @@
+ghost use Rattle.std.specs.Iterator.{YieldsFirstRef, item_count};
+
+use crate::kept::Kept;
+use std::collections::btree_map::Iter;
+use std::marker::Model;
+use wot_cert::Cert;
+use wot_types::Fpr;
+
+/// The kept certificates that are still to come, in the order of their fingerprints.
+#[derive(Drop)]
+pub struct CertsIter<'a> {
+    pub(crate) entries: Iter<'a, Fpr, Kept>,
+}
+
+impl<'a> Model for CertsIter<'a> {
+    ghost use Rattle.std.specs.Prelude.{List, map};
+    ghost use Rattle.wot_types.specs.declared.fpr.Fpr.{Fpr};
+    ghost use Rattle.wot_cert.specs.Certificate.{Certificate};
+    ghost use Rattle.wot_keyring.specs.declared.kept.Kept.{Kept};
+
+    ghost Value = { List Certificate };
+
+    ghost view = { λ i. map (λ (e : Fpr × Kept). e.1.cert) i.entries };
+}
+
+impl<'a> Iterator for CertsIter<'a> {
+    type Item = &'a Cert;
+
+    ghost next_gives = { YieldsFirstRef (λ i. i) };
+
+    ghost remaining = { item_count (λ i. i) };
+
+    fn next(&mut self) -> Option<&'a Cert> {
+        match self.entries.next() {
+            Some((_, kept)) => Some(&kept.cert),
+            None => None,
+        }
+    }
+}

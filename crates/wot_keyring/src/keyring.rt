@@ -1,0 +1,219 @@
+ghost use Rattle.std.specs.Prelude.{◌≡◌, ◌≢◌, ◌<◌, ◌≤◌, ◌^◌, ◌-◌, ◌++◌, map, Some, Ok, is_ok, is_some, IsSomeAnd, MatchBool, OnOk, OnErr};
+ghost use Rattle.std.specs.Option.{option_copied, MatchOption};
+ghost use Rattle.std.specs.Map.{lookup, remove_entry};
+ghost use Rattle.wot_types.specs.declared.fpr.Fpr.{Fpr as TheFpr};
+ghost use Rattle.wot_cert.specs.Text.{text_of};
+ghost use Rattle.wot_keyring.specs.declared.kept.Kept.{Kept as TheKept};
+ghost use Rattle.wot_keyring.specs.Keyring.{empty, cert_at, stamp_at, verdict_on, is_fpr, TellsAbsent};
+ghost use Rattle.wot_keyring.specs.Kept.{AreSmall, StaysJudged};
+ghost use Rattle.wot_keyring.specs.Removal.{without_cert};
+ghost use Rattle.wot_keyring.specs.Verdict.{with_verdict_on, without_verdict_on, would_pass, counted_at, TellsFull};
+
+use crate::certs::CertsIter;
+use crate::kept::Kept;
+use crate::restamp::restamp;
+use crate::{Absent, ExportFault, Refusal};
+use std::alloc::Global;
+use std::collections::BTreeMap;
+use std::marker::Model;
+use wot_cert::Cert;
+use wot_types::{Fpr, Limit, Limits, Memory, SigNumber};
+use wot_verdict::{Verdict, Verdicts};
+
+/// Certificates by fingerprint and verdicts by signature number, within limits. Each certificate has a stamp: the count of
+/// changes that altered it, or a verdict on one of its signatures, last.
+#[derive(Drop)]
+pub struct Keyring {
+    limits: Limits,
+    certs: BTreeMap<Fpr, Kept, Global>,
+    verdicts: Verdicts,
+    changes: u64,
+}
+
+impl Model for Keyring {
+    ghost use Rattle.wot_keyring.specs.Keyring.{Keyring};
+    ghost use Rattle.wot_keyring.specs.Kept.{AreStamped};
+
+    ghost Value = { Keyring };
+
+    ghost view = { λ a. record { limits = a.limits; certs = a.certs.entries; verdicts = a.verdicts; changes = a.changes } };
+
+    ghost invariant = { λ a. AreStamped a.changes a.certs.entries };
+}
+
+impl Keyring {
+    /// A keyring that holds nothing. Takes no memory.
+    pub fn new(alloc: Global, limits: Limits) -> Keyring
+        requires small { AreSmall limits }
+        ensures empty { result ≡ empty limits }
+    {
+        Keyring {
+            limits,
+            certs: BTreeMap::new(alloc),
+            verdicts: Verdicts::new(alloc),
+            changes: 0,
+        }
+    }
+
+    /// The certificate that is kept under a fingerprint.
+    pub fn get(&self, fpr: &Fpr) -> Option<&Cert>
+        ensures found { option_copied result ≡ cert_at self.now fpr.now }
+    {
+        match self.certs.get(fpr) {
+            Some(kept) => Some(&kept.cert),
+            None => None,
+        }
+    }
+
+    /// The kept certificates, in the order of their fingerprints.
+    pub fn certs(&self) -> CertsIter<'_>
+        ensures certs { result ≡ map (λ (e : TheFpr × TheKept). e.1.cert) self.now.certs }
+    {
+        CertsIter {
+            entries: self.certs.iter(),
+        }
+    }
+
+    /// The verdicts.
+    pub fn verdicts(&self) -> &Verdicts
+        ensures verdicts { result.now ≡ self.now.verdicts }
+    {
+        &self.verdicts
+    }
+
+    /// The count of changes at which a certificate, or a verdict on one of its signatures, was altered last; 0 exactly
+    /// where it isn't kept.
+    pub fn stamp(&self, fpr: &Fpr) -> u64
+        ensures stamp { result ≡ stamp_at self.now fpr.now }
+        ensures absent { MatchOption (cert_at self.now fpr.now) (result ≡ 0) (λ _. 0 < result) }
+        ensures past { result ≤ self.now.changes }
+    {
+        match find(&self.certs, fpr) {
+            Some(kept) => kept.stamp,
+            None => 0,
+        }
+    }
+
+    /// How many calls altered something.
+    pub fn changes(&self) -> u64
+        ensures changes { result ≡ self.now.changes }
+    {
+        self.changes
+    }
+
+    /// Takes a certificate out; the verdicts on its signatures stay. Takes no memory.
+    #[tactic(auto, using(crate::proofs::Judged::removed_judged))]
+    pub fn remove(&mut self, fpr: &Fpr) -> Result<(), Absent>
+        requires countable { self.old.changes < 2 ^ 64 - 1 }
+        ensures removed { OnOk result (self.new ≡ without_cert fpr.now self.old) }
+        ensures absent { is_ok result ≡ is_some (cert_at self.old fpr.now) }
+        ensures kept { OnErr result (self.new ≡ self.old) }
+        ensures judged { StaysJudged self.old self.new }
+    {
+        if !self.has(fpr) {
+            return Err(Absent);
+        }
+        take_out(&mut self.certs, fpr);
+        self.changes += 1;
+        Ok(())
+    }
+
+    /// Sets the verdict on a number, in place of an earlier one. Where it was this one already nothing changes, and no
+    /// memory is needed. A verdict may precede its signature, and outlives it.
+    pub fn set_verdict(&mut self, number: SigNumber, verdict: Verdict) -> Result<(), Refusal>
+        requires countable { self.old.changes < 2 ^ 64 - 1 }
+        ensures same { verdict_on self.old number ≡ Some verdict → (result ≡ Ok tt) × (self.new ≡ self.old) }
+        ensures set { OnOk result (verdict_on self.old number ≢ Some verdict → self.new ≡ with_verdict_on number verdict self.old) }
+        ensures full { TellsFull result self.old number }
+        ensures kept { OnErr result (self.new ≡ self.old) }
+        ensures judged { StaysJudged self.old self.new }
+    {
+        if self.says(&number, verdict) {
+            return Ok(());
+        }
+        if self.would_pass(&number) {
+            return Err(Refusal::Full(Limit::Verdicts));
+        }
+        match self.verdicts.set(number, verdict) {
+            Ok(_) => {
+                self.altered_at(&number);
+                Ok(())
+            }
+            Err(Memory) => Err(Refusal::Memory),
+        }
+    }
+
+    /// Takes the verdict on a number away. Takes no memory.
+    pub fn clear_verdict(&mut self, number: &SigNumber) -> Result<(), Absent>
+        requires countable { self.old.changes < 2 ^ 64 - 1 }
+        ensures cleared { OnOk result (self.new ≡ without_verdict_on number.now self.old) }
+        ensures absent { is_ok result ≡ is_some (verdict_on self.old number.now) }
+        ensures kept { OnErr result (self.new ≡ self.old) }
+        ensures judged { StaysJudged self.old self.new }
+    {
+        if self.verdicts.get(number).is_none() {
+            return Err(Absent);
+        }
+        let _ = self.verdicts.clear(number);
+        self.altered_at(number);
+        Ok(())
+    }
+
+    /// Appends the text of a kept certificate (RFC 9580, section 10.1). After a fault `out` is as before.
+    pub fn export(&self, fpr: &Fpr, out: &mut Vec<u8>) -> Result<(), ExportFault>
+        ensures text { OnOk result (IsSomeAnd (cert_at self.now fpr.now) (λ c. out.new.items ≡ out.old.items ++ text_of c)) }
+        ensures absent { TellsAbsent result (cert_at self.now fpr.now) }
+        ensures kept { OnErr result (out.new.items ≡ out.old.items) }
+    {
+        let Some(cert) = self.get(fpr) else {
+            return Err(ExportFault::Absent);
+        };
+        match cert.export(out) {
+            Ok(()) => Ok(()),
+            Err(Memory) => Err(ExportFault::Memory),
+        }
+    }
+
+    fn has(&self, fpr: &Fpr) -> bool
+        ensures has { result ≡ is_some (cert_at self.now fpr.now) }
+    {
+        self.certs.get(fpr).is_some()
+    }
+
+    fn says(&self, number: &SigNumber, verdict: Verdict) -> bool
+        ensures says { MatchBool result (verdict_on self.now number.now ≡ Some verdict) (verdict_on self.now number.now ≢ Some verdict) }
+    {
+        self.verdicts.get(number) == Some(verdict)
+    }
+
+    fn would_pass(&self, number: &SigNumber) -> bool
+        ensures passes { result ≡ would_pass self.now number.now }
+    {
+        self.verdicts.get(number).is_none() && self.limits.verdicts <= self.verdicts.len() as u64
+    }
+
+    /// Counts a change of the verdict on a number.
+    #[tactic(auto, using(crate::proofs::Judged::restamped_judged))]
+    fn altered_at(&mut self, number: &SigNumber)
+        requires countable { self.old.changes < 2 ^ 64 - 1 }
+        ensures counted { self.new ≡ counted_at number.now self.old }
+        ensures judged { StaysJudged self.old self.new }
+    {
+        self.changes += 1;
+        restamp(&mut self.certs, number, self.changes);
+    }
+}
+
+/// What is kept under a fingerprint.
+fn find<'a>(certs: &'a BTreeMap<Fpr, Kept, Global>, fpr: &Fpr) -> Option<&'a Kept>
+    ensures found { option_copied result ≡ lookup (is_fpr fpr.now) certs.now.entries }
+{
+    certs.get(fpr)
+}
+
+/// Takes out what is kept under a fingerprint.
+fn take_out(certs: &mut BTreeMap<Fpr, Kept, Global>, fpr: &Fpr)
+    ensures out { certs.new.entries ≡ remove_entry (is_fpr fpr.now) certs.old.entries }
+{
+    let _ = certs.remove(fpr);
+}

@@ -1,0 +1,14 @@
+//! The keyring: certificates by fingerprint, verdicts by signature number, limits, stamps, and the dump.
+#![tactic(auto)]
+
+mod certs;
+mod import;
+mod kept;
+mod keyring;
+mod refusal;
+mod restamp;
+
+pub use certs::CertsIter;
+pub use import::Imported;
+pub use keyring::Keyring;
+pub use refusal::{Absent, ExportFault, Refusal};

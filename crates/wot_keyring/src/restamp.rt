@@ -1,0 +1,70 @@
+ghost use Rattle.std.specs.Prelude.{◌≡◌};
+ghost use Rattle.wot_cert.specs.Counts.{sigs_on};
+ghost use Rattle.wot_keyring.specs.Verdict.{is_among, has_number, restamped, restamped_all};
+
+use crate::kept::Kept;
+use std::alloc::Global;
+use std::cmp::Ordering;
+use std::collections::BTreeMap;
+use wot_cert::{Cert, Part, Sig};
+use wot_types::{Fpr, SigNumber, compare_numbers};
+
+fn has_sig(sigs: &[Sig], number: &SigNumber) -> bool
+    ensures has { result ≡ is_among number.now sigs.now }
+{
+    let mut left = sigs;
+    'sigs: while let Some((sig, rest)) = left.split_first() {
+        if compare_numbers(number, &sig.number()) == Ordering::Equal {
+            return true;
+        }
+        left = rest;
+    }
+    false
+}
+
+fn has_sig_on(parts: &[Part], number: &SigNumber) -> bool
+    ensures has { result ≡ is_among number.now (sigs_on parts.now) }
+{
+    let mut left = parts;
+    'parts: while let Some((part, rest)) = left.split_first() {
+        if has_sig(part.sigs(), number) {
+            return true;
+        }
+        left = rest;
+    }
+    false
+}
+
+/// Whether a signature of this number stands on the certificate.
+fn stands_on(cert: &Cert, number: &SigNumber) -> bool
+    ensures has { result ≡ has_number number.now cert.now }
+{
+    if has_sig(cert.direct(), number) {
+        return true;
+    }
+    if has_sig_on(cert.user_ids(), number) {
+        return true;
+    }
+    if has_sig_on(cert.attributes(), number) {
+        return true;
+    }
+    has_sig_on(cert.subkeys(), number)
+}
+
+fn restamp_one(kept: &mut Kept, number: &SigNumber, stamp: u64)
+    ensures restamped { kept.new ≡ restamped number.now stamp kept.old }
+{
+    if stands_on(&kept.cert, number) {
+        kept.stamp = stamp;
+    }
+}
+
+/// Gives each certificate on which a signature of this number stands a new stamp.
+pub fn restamp(certs: &mut BTreeMap<Fpr, Kept, Global>, number: &SigNumber, stamp: u64)
+    ensures restamped { certs.new.entries ≡ restamped_all number.now stamp certs.old.entries }
+{
+    certs.retain(|_, kept| {
+        restamp_one(kept, number, stamp);
+        true
+    });
+}
