@@ -20,7 +20,7 @@ use Rattle.wot_standing.specs.declared.status.Standing.{Standing}
 use Rattle.wot_standing.specs.Kinds.{is_binding, is_soft}
 use Rattle.wot_standing.specs.Own.{is_own_revoked}
 use Rattle.wot_standing.specs.Standing.{own, primacy, self_certification, primary_among, governing, end_by, revokes_key, is_hard_revoked, is_soft_revocation, least_of, soft_moment, standing_of}
-use Rattle.wot_standing.specs.Steady.{Same, SameOn, IsSteady}
+use Rattle.wot_standing.specs.Steady.{Same, SameOn, IsSteady, SameBy}
 use Rattle.wot_standing.specs.Valid.{is_valid, newest_valid}
 
 -- t and u are on one side of m
@@ -167,3 +167,10 @@ pub own_revoked_same : (verdicts : Entries) (fpr : Fpr) (t u : ℕ) (uid : Compo
 own_revoked_same verdicts fpr t u uid h =
     ap (λ b. b && not (is_some (self_certification verdicts fpr t uid))) (list_any_same (revokes_by verdicts fpr t) (revokes_by verdicts fpr u) uid.sigs (all_then (Same t u) _ (revokes_same verdicts fpr t u) uid.sigs h))
     ∙ ap (λ o. list_any (revokes_by verdicts fpr u) uid.sigs && not (is_some o)) (newest_same verdicts fpr t u Certification uid.sigs h)
+
+-- The certifications of each issuer on each user ID are the same at every time of a span.
+pub certifications_same : (c : Certificate) (t u : ℕ) → InSpan (span_of c t) u → (verdicts : Entries) (issuer : Fpr) → AllByRecursion (SameBy verdicts issuer t u) c.user_ids
+certifications_same c t u h verdicts issuer =
+    all_then (SameOn t u) (SameBy verdicts issuer t u)
+    (λ p e. record { certification = newest_same verdicts issuer t u Certification p.sigs e; revoked = own_revoked_same verdicts issuer t u p e })
+    c.user_ids (same_on c t u h).user_ids

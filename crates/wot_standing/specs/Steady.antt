@@ -3,6 +3,10 @@ use Rattle.std.specs.Prelude.{◌≡◌, ℕ}
 use Rattle.std.specs.List.{AllByRecursion}
 use Rattle.wot_cert.specs.Certificate.{Signature, Component, Certificate}
 use Rattle.wot_cert.specs.Time.{is_live}
+use Rattle.wot_types.specs.declared.fpr.Fpr.{Fpr}
+use Rattle.wot_verdict.specs.Verdicts.{Entries}
+use Rattle.wot_standing.specs.Own.{is_own_revoked}
+use Rattle.wot_standing.specs.Standing.{self_certification}
 
 -- live at both times or at neither
 abbrev pub Same : ℕ → ℕ → Signature → Type 0
@@ -15,3 +19,8 @@ SameOn t u p = AllByRecursion (Same t u) p.sigs
 pub record IsSteady (c : Certificate) (t u : ℕ) : Type 0 where
   pub direct : AllByRecursion (Same t u) c.direct
   pub user_ids : AllByRecursion (SameOn t u) c.user_ids
+
+-- The newest certification by this one on a user ID is the same at both times, and so is whether it revoked the user ID.
+pub record SameBy (verdicts : Entries) (issuer : Fpr) (t u : ℕ) (uid : Component) : Type 0 where
+  pub certification : self_certification verdicts issuer t uid ≡ self_certification verdicts issuer u uid
+  pub revoked : is_own_revoked verdicts issuer t uid ≡ is_own_revoked verdicts issuer u uid

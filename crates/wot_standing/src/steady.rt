@@ -1,6 +1,9 @@
 ghost use Rattle.std.specs.Prelude.{ℕ, ◌≡◌};
+ghost use Rattle.std.specs.List.{AllByRecursion};
+ghost use Rattle.wot_types.specs.declared.fpr.Fpr.{Fpr};
+ghost use Rattle.wot_verdict.specs.Verdicts.{Entries};
 ghost use Rattle.wot_cert.specs.Span.{span_of, InSpan};
-ghost use Rattle.wot_standing.specs.Steady.{IsSteady};
+ghost use Rattle.wot_standing.specs.Steady.{IsSteady, SameBy};
 
 use wot_cert::{Cert, Span, span};
 
@@ -8,6 +11,7 @@ use wot_cert::{Cert, Span, span};
 pub fn steady_span(cert: &Cert, t: u32) -> Span
     ensures span { result ≡ span_of cert.now t }
     ensures steady { (u : ℕ) → InSpan result u → IsSteady cert.now t u }
+    ensures certifications { (u : ℕ) → InSpan result u → (verdicts : Entries) (issuer : Fpr) → AllByRecursion (SameBy verdicts issuer t u) cert.now.user_ids }
 {
     span(cert, t)
 }

@@ -1,0 +1,45 @@
+-- The edge of an issuer, a certificate and one of its user IDs.
+use Rattle.std.specs.Prelude.{ℕ, ◌+◌, ◌-◌, ◌==◌, Bool, false, ◌&&◌, if◌then◌else◌, List, [], ◌∷◌, Option, Some, None}
+use Rattle.std.specs.Option.{option_map, option_and_then}
+use Rattle.std.specs.Ordering.{is_eq}
+use Rattle.wot_types.specs.declared.fpr.Fpr.{Fpr}
+use Rattle.wot_signature.specs.declared.facts.SigFacts.{SigFacts}
+use Rattle.wot_verdict.specs.Verdicts.{Entries}
+use Rattle.wot_cert.specs.Certificate.{Signature, Component, Certificate, said_by, sig_cmp}
+use Rattle.wot_cert.specs.Issuer.{same_fpr}
+use Rattle.wot_edge.specs.declared.edge.EdgeFacts.{EdgeFacts}
+use Rattle.wot_standing.specs.Standing.{own, self_certification}
+
+-- what stands at a place, if anything does
+abbrev pub item_at : {A : Type 0} → List A → ℕ → Option A
+item_at [] place = None
+item_at (x ∷ xs) place = if place == 0 then Some x else item_at xs (place - 1)
+
+-- the place of a signature among these, by its body
+abbrev pub place_of : Signature → List Signature → ℕ
+place_of s [] = 0
+place_of s (x ∷ xs) = if is_eq (sig_cmp s x) then 0 else place_of s xs + 1
+
+-- what an edge tells: a certification of one's own has no depth, the full amount and no scope
+abbrev pub edge_facts : Fpr → Fpr → ℕ → ℕ → SigFacts → EdgeFacts
+edge_facts issuer target uid place f = record {
+  issuer = issuer;
+  target = target;
+  uid = uid;
+  sig = place;
+  made = f.made;
+  depth = (if same_fpr issuer target then 0 else f.depth);
+  amount = (if same_fpr issuer target then 120 else f.amount);
+  scoped = (if same_fpr issuer target then false else f.scoped);
+}
+
+abbrev pub edge_by : Fpr → Fpr → ℕ → List Signature → Signature → Option EdgeFacts
+edge_by issuer target uid sigs s = option_map (edge_facts issuer target uid (place_of s sigs)) (said_by s)
+
+-- The newest certification by the issuer on the user ID at this place that is live and unrevoked at t makes the edge.
+abbrev pub edge_on : Entries → Fpr → ℕ → Fpr → ℕ → Component → Option EdgeFacts
+edge_on verdicts target t issuer uid p =
+    option_and_then (edge_by issuer target uid p.sigs) (self_certification verdicts issuer t p)
+
+abbrev pub edge_of : Entries → Certificate → ℕ → Fpr → ℕ → Option EdgeFacts
+edge_of verdicts c t issuer uid = option_and_then (edge_on verdicts (own c) t issuer uid) (item_at c.user_ids uid)

@@ -1,0 +1,4 @@
+//! The edges into one certificate at a time.
+#![tactic(auto)]
+
+pub mod terms;

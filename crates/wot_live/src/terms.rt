@@ -1,0 +1,25 @@
+ghost use Rattle.std.specs.Prelude.{◌≡◌};
+ghost use Rattle.wot_live.specs.Edge.{edge_facts};
+ghost use Rattle.wot_live.specs.Rows.{AreRows, revoked_of};
+
+use std::cmp::Ordering;
+use wot_edge::EdgeFacts;
+use wot_signature::SigFacts;
+use wot_types::{Fpr, compare_fprs};
+
+/// What the edge tells that this certification makes, at these places.
+pub fn terms(issuer: Fpr, target: Fpr, uid: u32, sig: u32, said: SigFacts) -> EdgeFacts
+    ensures { result ≡ edge_facts issuer target uid sig said }
+{
+    let own = compare_fprs(&issuer, &target) == Ordering::Equal;
+    EdgeFacts {
+        issuer,
+        target,
+        uid,
+        sig,
+        made: said.made,
+        depth: if own { 0 } else { said.depth },
+        amount: if own { 120 } else { said.amount },
+        scoped: if own { false } else { said.scoped },
+    }
+}
