@@ -1,0 +1,3 @@
+pub mod Placeholder
+pub mod Told
+pub mod Net
