@@ -1,3 +1,2 @@
-pub mod Placeholder
 pub mod Told
 pub mod Net

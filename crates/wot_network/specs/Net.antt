@@ -14,7 +14,7 @@ use Rattle.wot_keyring.specs.Keyring.{Certificates, Keyring, certificates_in}
 use Rattle.wot_keyring.specs.Import.{weigh}
 use Rattle.wot_standing.specs.Standing.{standing_of}
 use Rattle.wot_standing.specs.declared.status.Standing.{Standing}
-use Rattle.wot_network.specs.Placeholder.{edges_of}
+use Rattle.wot_live.specs.Rows.{edges_of}
 use Rattle.wot_network.specs.Told.{record_of}
 
 -- what was made of a certificate: the edges into it, its standing, and the span through which both are the same

@@ -1,5 +1,6 @@
 -- The certification network: what certificates and verdicts tell of a user ID U at a time t.
 use Rattle.std.specs.Prelude.{ℕ, suc, Bool, true, false, not, ◌||◌, if◌then◌else◌, List, [], ◌∷◌, map, Option, Some, None}
+use Rattle.std.specs.List.{slice_get}
 use Rattle.std.specs.Option.{option_map, option_map_or}
 use Rattle.std.specs.Map.{lookup}
 use Rattle.std.specs.Ordering.{is_eq, nat_cmp}
@@ -14,8 +15,7 @@ use Rattle.wot_keyring.specs.Keyring.{Certificates, is_fpr}
 use Rattle.wot_scope.specs.Deciding.{scope_holds}
 use Rattle.wot_standing.specs.Standing.{standing_of}
 use Rattle.wot_standing.specs.Usable.{is_usable, is_in_order}
-use Rattle.wot_live.specs.Edge.{item_at}
-use Rattle.wot_network.specs.Placeholder.{edges_of}
+use Rattle.wot_live.specs.Rows.{edges_of}
 
 -- ---- usable
 
@@ -27,11 +27,11 @@ is_usable_by verdicts certs t issuer made =
 -- ---- scope
 
 abbrev pub body_in : ℕ → Component → List ℕ
-body_in sig uid = option_map_or (λ (s : Signature). s.body) (item_at uid.sigs sig) []
+body_in sig uid = option_map_or (λ (s : Signature). s.body) (slice_get uid.sigs sig) []
 
 -- the body of the signature at a place on the user ID at a place
 abbrev pub body_at : List Component → ℕ → ℕ → List ℕ
-body_at user_ids uid sig = option_map_or (body_in sig) (item_at user_ids uid) []
+body_at user_ids uid sig = option_map_or (body_in sig) (slice_get user_ids uid) []
 
 -- The edge has no limited scope, or the scope of its signature, which stands on one of these user IDs, holds for U.
 abbrev pub is_in_scope : List Component → List ℕ → EdgeFacts → Bool

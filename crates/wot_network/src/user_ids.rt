@@ -5,7 +5,7 @@ ghost use Rattle.wot_cert.specs.Certificate.{Component};
 ghost use Rattle.wot_standing.specs.Own.{is_own_revoked as is_own_revoked_spec};
 ghost use Rattle.wot_network.specs.Told.{body_in as body_in_spec, body_at as body_at_spec, is_user_id as is_user_id_spec, place_of as place_of_spec};
 
-use wot_cert::{Part, Sig};
+use wot_cert::Part;
 use wot_standing::is_own_revoked;
 use wot_types::Fpr;
 use wot_verdict::Verdicts;
@@ -13,11 +13,9 @@ use wot_verdict::Verdicts;
 fn body_in(sig: u32, uid: &Part) -> &[u8]
     ensures body { result.now ≡ body_in_spec sig uid.now }
 {
-    let sigs = uid.sigs();
-    if (sig as usize) < sigs.len() {
-        sigs[sig as usize].body()
-    } else {
-        &[]
+    match uid.sigs().get(sig as usize) {
+        Some(sig) => sig.body(),
+        None => &[],
     }
 }
 
@@ -25,10 +23,9 @@ fn body_in(sig: u32, uid: &Part) -> &[u8]
 pub(crate) fn body_at(user_ids: &[Part], uid: u32, sig: u32) -> &[u8]
     ensures body { result.now ≡ body_at_spec user_ids.now uid sig }
 {
-    if (uid as usize) < user_ids.len() {
-        body_in(sig, &user_ids[uid as usize])
-    } else {
-        &[]
+    match user_ids.get(uid as usize) {
+        Some(uid) => body_in(sig, uid),
+        None => &[],
     }
 }
 
