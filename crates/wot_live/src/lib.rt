@@ -1,4 +1,9 @@
 //! The edges into one certificate at a time.
 #![tactic(auto)]
 
-pub mod terms;
+mod making;
+mod table;
+mod terms;
+
+pub use making::rows;
+pub use table::Rows;
