@@ -1,12 +1,12 @@
 ghost use Rattle.std.specs.Prelude.{◌≡◌, ◌≢◌, ◌<◌, ◌-◌, ◌^◌, length, Some, None, is_ok, is_some, OnOk, OnErr};
 ghost use Rattle.std.specs.Option.{option_copied, option_map};
 ghost use Rattle.wot_policy.specs.Kept.{IsFaithful, rows_of, asked_more};
-ghost use Rattle.wot_keyring.specs.Keyring.{cert_at, verdict_on};
+ghost use Rattle.wot_keyring.specs.Keyring.{verdict_on};
 ghost use Rattle.wot_keyring.specs.Kept.{AreSmall, IsJudgedBy, StaysJudged};
 ghost use Rattle.wot_keyring.specs.Import.{Answers, AsksFor, imported};
 ghost use Rattle.wot_keyring.specs.Removal.{without_cert};
 ghost use Rattle.wot_keyring.specs.Verdict.{with_verdict_on, without_verdict_on, TellsFull};
-ghost use Rattle.wot_cache.specs.State.{empty};
+ghost use Rattle.wot_cache.specs.State.{empty, state_of, cert_in, importing, removing, judging, unjudging};
 ghost use Rattle.wot_cache.specs.Views.{view_at, with_time, time_fault, with_root, root_fault, without_view, TellsFault};
 
 use crate::view::{NoView, View, ViewFault};
@@ -24,20 +24,16 @@ use wot_verdict::Verdict;
 #[derive(Drop)]
 pub struct Engine {
     alloc: Global,
-    limits: Limits,
     keyring: Keyring,
     views: Views,
 }
 
 impl Model for Engine {
-    ghost use Rattle.std.specs.Prelude.{◌≡◌};
     ghost use Rattle.wot_cache.specs.State.{Engine as TheEngine};
 
     ghost Value = { TheEngine };
 
     ghost view = { λ a. record { keyring = a.keyring; views = a.views.entries } };
-
-    ghost invariant = { λ a. a.limits ≡ a.keyring.limits };
 }
 
 impl Engine {
@@ -48,7 +44,6 @@ impl Engine {
     {
         Engine {
             alloc,
-            limits,
             keyring: Keyring::new(alloc, limits),
             views: BTreeMap::new(alloc),
         }
@@ -69,6 +64,7 @@ impl Engine {
         requires faithful { IsFaithful F.Fn policy.old }
         ensures answer { Answers result (rows_of policy.old) self.old.keyring bytes.now }
         ensures imported { OnOk result (self.new.keyring ≡ imported (rows_of policy.old) self.old.keyring bytes.now) }
+        ensures state { OnOk result (state_of self.new ≡ importing (rows_of policy.old) bytes.now (state_of self.old)) }
         ensures kept { OnErr result (self.new ≡ self.old) }
         ensures asked { AsksFor result (rows_of policy.old) self.old.keyring bytes.now (λ k. policy.new ≡ asked_more k policy.old) }
         ensures judged { IsJudgedBy (rows_of policy.old) self.new.keyring }
@@ -82,7 +78,8 @@ impl Engine {
     pub fn remove(&mut self, fpr: &Fpr) -> Result<(), Absent>
         requires countable { self.old.keyring.changes < 2 ^ 64 - 1 }
         ensures removed { OnOk result (self.new.keyring ≡ without_cert fpr.now self.old.keyring) }
-        ensures absent { is_ok result ≡ is_some (cert_at self.old.keyring fpr.now) }
+        ensures state { OnOk result (state_of self.new ≡ removing fpr.now (state_of self.old)) }
+        ensures absent { is_ok result ≡ is_some (cert_in (state_of self.old) fpr.now) }
         ensures kept { OnErr result (self.new ≡ self.old) }
         ensures judged { StaysJudged self.old.keyring self.new.keyring }
         ensures views { self.new.views ≡ self.old.views }
@@ -94,6 +91,7 @@ impl Engine {
     pub fn set_verdict(&mut self, number: SigNumber, verdict: Verdict) -> Result<(), Refusal>
         requires countable { self.old.keyring.changes < 2 ^ 64 - 1 }
         ensures same { verdict_on self.old.keyring number ≡ Some verdict → (result ≡ Ok tt) × (self.new ≡ self.old) }
+        ensures state { OnOk result (state_of self.new ≡ judging number verdict (state_of self.old)) }
         ensures set { OnOk result (verdict_on self.old.keyring number ≢ Some verdict → self.new.keyring ≡ with_verdict_on number verdict self.old.keyring) }
         ensures full { TellsFull result self.old.keyring number }
         ensures kept { OnErr result (self.new ≡ self.old) }
@@ -107,6 +105,7 @@ impl Engine {
     pub fn clear_verdict(&mut self, number: &SigNumber) -> Result<(), Absent>
         requires countable { self.old.keyring.changes < 2 ^ 64 - 1 }
         ensures cleared { OnOk result (self.new.keyring ≡ without_verdict_on number.now self.old.keyring) }
+        ensures state { OnOk result (state_of self.new ≡ unjudging number.now (state_of self.old)) }
         ensures absent { is_ok result ≡ is_some (verdict_on self.old.keyring number.now) }
         ensures kept { OnErr result (self.new ≡ self.old) }
         ensures judged { StaysJudged self.old.keyring self.new.keyring }
@@ -125,7 +124,7 @@ impl Engine {
         if views::move_time(&mut self.views, view, t) {
             return Ok(());
         }
-        if self.limits.views <= self.views.len() as u64 {
+        if self.keyring.limits().views <= self.views.len() as u64 {
             return Err(ViewFault::Full(Limit::Views));
         }
         match view.duplicate(self.alloc) {
@@ -180,7 +179,7 @@ impl Engine {
         if amount == 0 {
             return Some(ViewFault::Absent);
         }
-        if self.limits.roots <= view.roots.len() as u64 {
+        if self.keyring.limits().roots <= view.roots.len() as u64 {
             return Some(ViewFault::Full(Limit::Roots));
         }
         None
