@@ -1,5 +1,5 @@
 -- How a command is printed.
-use Rattle.std.specs.Prelude.{ℕ, ◌≤◌, List, [], ◌∷◌, codes}
+use Rattle.std.specs.Prelude.{ℕ, ◌≤◌, ◌*◌, length, List, [], ◌∷◌, codes}
 use Rattle.std.specs.Fmt.{decimal}
 use Rattle.hex.specs.Hex.{encode_lower}
 use Rattle.wot_types.specs.Fpr.{digits_of}
@@ -13,6 +13,11 @@ use Rattle.wot_script.specs.declared.command.Command.TheVariants.{Import, Remove
 abbrev pub HasSpelling : Command → Type 0
 HasSpelling (Ask view fpr wanted uid) = 1 ≤ wanted
 HasSpelling _ = Unit {0}
+
+-- The octets of an import are no more than half as many as the size of its line.
+abbrev pub IsWithin : ℕ → Command → Type 0
+IsWithin size (Import octets) = 2 * length octets ≤ size
+IsWithin size _ = Unit {0}
 
 -- the line of a command, without a line feed
 unfoldable pub spelling : Command → List ℕ
