@@ -1,5 +1,5 @@
 -- Views by name, each with a time and roots, and what changes them.
-use Rattle.std.specs.Prelude.{ℕ, ◌==◌, ◌&&◌, nat_lt, nat_le, Bool, if◌then◌else◌, List, [], length, Option, Some, None, is_none, Result, Ok, Err, ◌≡◌}
+use Rattle.std.specs.Prelude.{ℕ, ◌==◌, ◌&&◌, nat_lt, nat_le, Bool, if◌then◌else◌, List, [], length, Option, Some, None, is_none, is_some, true, Result, Ok, Err, ◌≡◌}
 use Rattle.std.specs.Option.{option_map}
 use Rattle.std.specs.BTreeMap.{insert_entry, is_at}
 use Rattle.std.specs.Map.{lookup, remove_entry, set_value}
@@ -9,6 +9,8 @@ use Rattle.wot_types.specs.declared.limits.Limit.TheVariants as words
 use Rattle.wot_types.specs.Fpr.{fpr_cmp}
 use Rattle.wot_types.specs.ViewName.{view_name_cmp}
 use Rattle.wot_edge.specs.Roots.{root_amount}
+use Rattle.wot_cache.specs.declared.view.AskFault.{AskFault}
+use Rattle.wot_cache.specs.declared.view.AskFault.TheVariants as asked
 use Rattle.wot_cache.specs.declared.view.View.{View}
 use Rattle.wot_cache.specs.declared.view.ViewFault.{ViewFault}
 use Rattle.wot_cache.specs.declared.view.ViewFault.TheVariants as faults
@@ -81,3 +83,9 @@ abbrev pub TellsFault : {T : Type 0} → Result T ViewFault → Option ViewFault
 TellsFault (Ok done) fault = fault ≡ None
 TellsFault (Err faults.Memory) fault = fault ≡ None
 TellsFault (Err told) fault = fault ≡ Some told
+
+-- Ok comes only from an open view, and the fault `View` exactly where it isn't open. The only other answer is want of memory.
+abbrev pub TellsOpen : {T : Type 0} → Result T AskFault → Option View → Type 0
+TellsOpen (Ok done) view = is_some view ≡ true
+TellsOpen (Err asked.View) view = view ≡ None
+TellsOpen (Err asked.Memory) view = is_some view ≡ true

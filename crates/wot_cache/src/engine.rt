@@ -1,4 +1,4 @@
-ghost use Rattle.std.specs.Prelude.{◌≡◌, ◌≢◌, ◌<◌, ◌-◌, ◌^◌, length, Some, None, is_ok, is_some, OnOk, OnErr};
+ghost use Rattle.std.specs.Prelude.{◌≡◌, ◌≢◌, ◌<◌, ◌≤◌, ◌-◌, ◌^◌, ◌++◌, length, IfOk, IfSome, Some, None, is_ok, is_some, OnOk, OnErr};
 ghost use Rattle.std.specs.Option.{option_copied, option_map};
 ghost use Rattle.wot_policy.specs.Kept.{IsFaithful, rows_of, asked_more};
 ghost use Rattle.wot_keyring.specs.Keyring.{verdict_on};
@@ -6,18 +6,23 @@ ghost use Rattle.wot_keyring.specs.Kept.{AreSmall, IsJudgedBy, StaysJudged};
 ghost use Rattle.wot_keyring.specs.Import.{Answers, AsksFor, imported};
 ghost use Rattle.wot_keyring.specs.Removal.{without_cert};
 ghost use Rattle.wot_keyring.specs.Verdict.{with_verdict_on, without_verdict_on, TellsFull};
+ghost use Rattle.wot_edge.specs.Answer.{IsAnswer, amount_of};
+ghost use Rattle.wot_keyring.specs.Dump.{lines_of};
+ghost use Rattle.wot_cache.specs.Dump.{commands_of};
+ghost use Rattle.wot_cache.specs.Question.{question_in};
 ghost use Rattle.wot_cache.specs.State.{empty, state_of, cert_in, importing, removing, judging, unjudging};
-ghost use Rattle.wot_cache.specs.Views.{view_at, with_time, time_fault, with_root, root_fault, without_view, TellsFault};
+ghost use Rattle.wot_cache.specs.Views.{view_at, with_time, time_fault, with_root, root_fault, without_view, TellsFault, TellsOpen};
 
-use crate::view::{NoView, View, ViewFault};
+use crate::view::{AskFault, NoView, View, ViewFault};
 use crate::views::{self, Views};
 use std::alloc::Global;
 use std::collections::BTreeMap;
 use std::marker::Model;
+use wot_auth::Answer;
 use wot_edge::Roots;
 use wot_keyring::{Absent, Imported, Keyring, Refusal};
 use wot_policy::{Ask, Policy};
-use wot_types::{Fpr, Limit, Limits, Memory, SigNumber, ViewName};
+use wot_types::{Fpr, Limit, Limits, Memory, SigNumber, Steps, ViewName};
 use wot_verdict::Verdict;
 
 /// One keyring, and views over it. A call that changes the keyring leaves the views, and the other way round.
@@ -29,7 +34,11 @@ pub struct Engine {
 }
 
 impl Model for Engine {
-    ghost use Rattle.wot_cache.specs.State.{Engine as TheEngine};
+    ghost use Rattle.wot_edge.specs.Answer.{IsAnswer, amount_of};
+ghost use Rattle.wot_keyring.specs.Dump.{lines_of};
+ghost use Rattle.wot_cache.specs.Dump.{commands_of};
+ghost use Rattle.wot_cache.specs.Question.{question_in};
+ghost use Rattle.wot_cache.specs.State.{Engine as TheEngine};
 
     ghost Value = { TheEngine };
 
@@ -217,5 +226,27 @@ impl Engine {
             Some(view) => Some(&view.roots),
             None => None,
         }
+    }
+
+    /// The answer to the question how far a user ID belongs to a target, seen from an open view: next paths until their sum
+    /// reaches what is wanted, or no valid path of positive amount is left.
+    pub fn ask(&mut self, view: &ViewName, target: &Fpr, wanted: u32, uid: &[u8], steps: &mut Steps) -> Result<Answer, AskFault>
+        requires wanted { 1 ≤ wanted }
+        ensures answer { IfOk result (λ a. IfSome (view_at self.old.views view.now) (λ v. IsAnswer (question_in (state_of self.old) v target.now uid.now) wanted a.paths)) }
+        ensures sum { IfOk result (λ a. a.sum ≡ amount_of a.paths) }
+        ensures open { TellsOpen result (view_at self.old.views view.now) }
+        ensures kept { self.new ≡ self.old }
+    {
+        Err(AskFault::Memory)
+    }
+
+    /// Appends a line for each certificate, each verdict, and each view with its roots: the commands that make this state
+    /// anew. Tells their number. After `Memory` `out` is as before.
+    pub fn dump(&self, out: &mut Vec<u8>) -> Result<u64, Memory>
+        ensures lines { OnOk result (out.new.items ≡ out.old.items ++ lines_of (commands_of (state_of self.now))) }
+        ensures count { IfOk result (λ count. count ≡ length (commands_of (state_of self.now))) }
+        ensures kept { OnErr result (out.new.items ≡ out.old.items) }
+    {
+        Err(Memory)
     }
 }

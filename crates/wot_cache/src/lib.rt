@@ -6,4 +6,4 @@ mod view;
 mod views;
 
 pub use engine::Engine;
-pub use view::{NoView, View, ViewFault};
+pub use view::{AskFault, NoView, View, ViewFault};

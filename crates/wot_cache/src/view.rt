@@ -24,3 +24,12 @@ pub enum ViewFault {
 /// The view isn't open.
 #[derive(Clone, Copy, Debug, PartialEq, Eq)]
 pub struct NoView;
+
+/// Why there is no answer.
+#[derive(Clone, Copy, Debug, PartialEq, Eq)]
+pub enum AskFault {
+    /// The view isn't open.
+    View,
+    /// No memory was found.
+    Memory,
+}
