@@ -24,5 +24,4 @@ pub mod Sketches
 pub mod Cuts
 pub mod Completing
 pub mod Capped
-pub mod Short
 pub mod SpanLaw
