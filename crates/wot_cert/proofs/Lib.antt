@@ -25,3 +25,4 @@ pub mod Cuts
 pub mod Completing
 pub mod Capped
 pub mod SpanLaw
+pub mod ReadingBack
