@@ -24,5 +24,5 @@ pub mod Sketches
 pub mod Cuts
 pub mod Completing
 pub mod Capped
-pub mod Short
 pub mod SpanLaw
+pub mod ReadingBack

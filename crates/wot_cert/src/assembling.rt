@@ -1,11 +1,11 @@
 ghost use Rattle.std.specs.Prelude.{◌≡◌, ◌<◌, ◌≤◌, ◌^◌, ◌+◌, ◌++◌, true, false, OnOk, IfOk, length, take, drop};
-ghost use Rattle.wot_packet.specs.Spelling.{spelled_all, spelled_of};
+ghost use Rattle.wot_packet.specs.Spelling.{AreShort, spelled_all, spelled_of};
 ghost use Rattle.wot_cert.specs.Packets.{is_key, begins_component};
 ghost use Rattle.std.specs.Option.{MatchOption};
 ghost use Rattle.wot_key.specs.Key.{is_readable};
 ghost use Rattle.wot_cert.specs.Assembly.{cut_at, certificate_with, certificates_of, skipped_in};
 ghost use Rattle.wot_cert.specs.Answers.{TellsFirstFault};
-ghost use Rattle.wot_cert.specs.Drafting.{seen, sketched, AreShort, BeginsWithKey, certs_in, skipped_by};
+ghost use Rattle.wot_cert.specs.Drafting.{seen, sketched, BeginsWithKey, certs_in, skipped_by};
 
 use crate::draft::Draft;
 use crate::first_fault::first_fault_of;
