@@ -33,17 +33,26 @@ pub struct Keyring {
     certs: BTreeMap<Fpr, Kept, Global>,
     verdicts: Verdicts,
     changes: u64,
+    /// The sum of the sizes of the certificates.
+    octets: u64,
+    /// How many signatures stand on the certificates.
+    signatures: u64,
 }
 
 impl Model for Keyring {
-    ghost use Rattle.wot_keyring.specs.Keyring.{Keyring};
-    ghost use Rattle.wot_keyring.specs.Kept.{AreStamped};
+    ghost use Rattle.std.specs.Prelude.{◌≡◌};
+    ghost use Rattle.wot_cert.specs.Counts.{signatures_of};
+    ghost use Rattle.wot_cert.specs.Text.{size_of};
+    ghost use Rattle.wot_keyring.specs.Import.{weigh};
+    ghost use Rattle.wot_keyring.specs.Keyring.{Keyring, certificates_in};
+    ghost use Rattle.wot_keyring.specs.Kept.{IsKeyring};
 
     ghost Value = { Keyring };
 
     ghost view = { λ a. record { limits = a.limits; certs = a.certs.entries; verdicts = a.verdicts; changes = a.changes } };
 
-    ghost invariant = { λ a. AreStamped a.changes a.certs.entries };
+    ghost invariant = { λ a. let k : Keyring = record { limits = a.limits; certs = a.certs.entries; verdicts = a.verdicts; changes = a.changes } in
+        IsKeyring k × (a.octets ≡ weigh size_of (certificates_in k)) × (a.signatures ≡ weigh signatures_of (certificates_in k)) };
 }
 
 impl Keyring {
@@ -57,6 +66,8 @@ impl Keyring {
             certs: BTreeMap::new(alloc),
             verdicts: Verdicts::new(alloc),
             changes: 0,
+            octets: 0,
+            signatures: 0,
         }
     }
 
