@@ -69,6 +69,11 @@ pub record IsKeyring (k : Keyring) : Type 0 where
   pub within : IsWithin k
   pub stamped : AreStamped k.changes k.certs
 
+-- These are the sum of the sizes and the number of the signatures of all certificates.
+pub record AreTotals (k : Keyring) (octets_in signatures_in : ℕ) : Type 0 where
+  pub octets : octets_in ≡ weigh size_of (certificates_in k)
+  pub signatures : signatures_in ≡ weigh signatures_of (certificates_in k)
+
 -- Each of the certificates is judged by these rows.
 abbrev pub AreJudged : PolicyRows → Entries → Type 0
 AreJudged rows entries = AllByRecursion (λ (e : Fpr × Kept). IsJudged rows e.1.cert) entries
