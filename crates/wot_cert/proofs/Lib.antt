@@ -26,3 +26,7 @@ pub mod Completing
 pub mod Capped
 pub mod SpanLaw
 pub mod ReadingBack
+pub mod Alike
+pub mod Uniting
+pub mod Unchanged
+pub mod Assemblies

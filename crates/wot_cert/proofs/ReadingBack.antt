@@ -1,8 +1,7 @@
 -- The text of a certificate is read back as that certificate.
-use Rattle.std.proofs.Common.{◌≡◌, ℕ, ◌+◌, ◌<◌, ◌≤◌, ◌^◌, Bool, true, false, cond, List, [], ◌∷◌, ◌++◌, map, length, Option, None, refl, sym, ap, ◌∙◌, subst, arith, append_assoc}
+use Rattle.std.proofs.Common.{◌≡◌, ℕ, ◌+◌, ◌<◌, ◌≤◌, ◌^◌, Bool, true, false, cond, List, [], ◌∷◌, ◌++◌, map, length, None, refl, sym, ap, ◌∙◌, arith, append_assoc}
 use Rattle.std.specs.Prelude.{◌&&◌, count_by, filter, nat_le, not}
 use Rattle.std.specs.List.{All, AllByRecursion}
-use Rattle.std.specs.declared.cmp.Ordering.TheVariants.{Less, Equal}
 use Rattle.std.specs.Cmp.Lexicographic.{on_texts}
 use Rattle.std.specs.Cmp.{IsTotalOrder}
 use Rattle.std.proofs.lemmas.Bool.{leb-true}
@@ -15,10 +14,10 @@ use Rattle.wot_cert.specs.Assembly.{Section, cut_at, certificate_of, certificate
 use Rattle.wot_cert.specs.Certificate.{Signature, Component, Certificate, fresh, unmarked, unmarked_sig, part_with, sig_cmp, part_cmp, on_key, on_user_id, on_attribute, on_subkey}
 use Rattle.wot_cert.specs.Drafting.{body_cmp, first_stays, Group, group_cmp, unite_group, put_group, Sketch, sketched, with_packet, part_drafted, completed}
 use Rattle.wot_cert.specs.Fault.{fault_at, fault_from, first_fault}
-use Rattle.wot_cert.specs.Packets.{is_key, begins_component}
-use Rattle.wot_cert.specs.Ranked.{put, IsBelow, IsRising}
-use Rattle.wot_cert.specs.Text.{sigs_text, part_text, parts_text, text_of}
-use Rattle.wot_cert.specs.Whole.{IsSigAt, AreSigsAt, IsPartOf, ArePartsOf, IsCertificate}
+use Rattle.wot_cert.specs.Packets.{is_key}
+use Rattle.wot_cert.specs.Ranked.{IsBelow, IsRising}
+use Rattle.wot_cert.specs.Text.{sigs_text, parts_text, text_of}
+use Rattle.wot_cert.specs.Whole.{IsSigAt, IsPartOf, IsCertificate}
 use Rattle.wot_cert.proofs.Completing.{completed-is}
 use Rattle.wot_cert.proofs.Cuts.{at-other}
 use Rattle.wot_cert.proofs.Rank.{put_first}
@@ -95,9 +94,10 @@ sigs-behind key kind component (s ∷ sigs) h = (record { other = refl; fine = �
 module _ (type : ℕ) (other : is_key type ≡ false) (fine : (body : List ℕ) (at : ℕ) → fault_at true (record { kind = type; body = body; at = at }) ≡ None) (few : type < 64) where
   parts-behind : (key : List ℕ) (kind : ℕ) (ps : List Component) → AllByRecursion (IsPartOf key kind) ps → AllByRecursion IsBehind (parts_packets type ps)
   parts-behind key kind [] h = tt
-  parts-behind key kind (p ∷ ps) h =
-      (record { other = other; fine = fine; type = few; size = h.0.0 },
-      all-append IsBehind (sig_packets p.sigs) (parts_packets type ps) (sigs-behind key kind p.body p.sigs h.0.1.1) (parts-behind key kind ps h.1))
+  parts-behind key kind (p ∷ ps) h = (
+    record { other = other; fine = fine; type = few; size = h.0.0 },
+    all-append IsBehind (sig_packets p.sigs) (parts_packets type ps) (sigs-behind key kind p.body p.sigs h.0.1.1) (parts-behind key kind ps h.1),
+  )
 
 pub all-behind : (c : Certificate) → IsCertificate c → AllByRecursion IsBehind (behind_key c)
 all-behind c h =
