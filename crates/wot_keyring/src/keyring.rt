@@ -235,12 +235,6 @@ impl Keyring {
         Err(Memory)
     }
 
-    fn has(&self, fpr: &Fpr) -> bool
-        ensures has { result ≡ is_some (cert_at self.now fpr.now) }
-    {
-        self.certs.get(fpr).is_some()
-    }
-
     fn says(&self, number: &SigNumber, verdict: Verdict) -> bool
         ensures says { MatchBool result (verdict_on self.now number.now ≡ Some verdict) (verdict_on self.now number.now ≢ Some verdict) }
     {
