@@ -2,7 +2,7 @@
 use Rattle.std.proofs.Common.{◌≡◌, ℕ, ◌+◌, ◌≤◌, ◌<◌, ◌^◌, length, arith}
 use Rattle.wot_packet.specs.Writing.{written}
 use Rattle.wot_cert.specs.declared.adds.Adds.{Adds}
-use Rattle.wot_cert.specs.Certificate.{Signature, Component, Certificate, unite}
+use Rattle.wot_cert.specs.Certificate.{Signature, Certificate, unite}
 use Rattle.wot_cert.specs.Counts.{sum_of, weight_of, items_of, signatures_of}
 use Rattle.wot_cert.specs.Sizes.{sig_size, own_size, part_items, part_signatures, part_size, BringsSigs, BringsParts, IsSum, IsFew}
 use Rattle.wot_cert.specs.Text.{size_of}

@@ -9,6 +9,7 @@ ghost use Rattle.wot_cert.specs.Copied.{copied};
 ghost use Rattle.wot_cert.specs.Counts.{items_of, signatures_of};
 ghost use Rattle.wot_cert.specs.Judged.{judged, IsJudged, sound_of};
 ghost use Rattle.wot_cert.specs.New.{judged_beside, sound_beside};
+ghost use Rattle.wot_cert.specs.ReadBack.{ReadBack};
 ghost use Rattle.wot_cert.specs.Text.{size_of, text_of};
 ghost use Rattle.wot_policy.specs.Kept.{IsFaithful, rows_of, asked_more};
 ghost use Rattle.wot_cert.specs.Whole.{IsCertificate, AreSigsAt, ArePartsOf};
@@ -18,7 +19,7 @@ use crate::adds::added;
 use crate::complete::{ON_ATTRIBUTE, ON_KEY, ON_SUBKEY, ON_USER_ID, parts_with, sigs_with};
 use crate::count::items;
 use crate::draft::Draft;
-use crate::export::append_cert;
+use crate::export::{append_cert, reads_back};
 use crate::judge::{judge_new, judge_new_parts};
 use crate::part::{copy_parts, union_parts};
 use crate::sig::{Marks, copy_sigs, union_sigs};
@@ -320,7 +321,10 @@ impl Cert {
     pub fn export(&self, out: &mut Vec<u8>) -> Result<(), Memory>
         ensures text { OnOk result (out.new.items ≡ out.old.items ++ text_of self.now) }
         ensures kept { OnErr result (out.new.items ≡ out.old.items) }
+        // The text is read back as this one certificate.
+        ensures read_back { ReadBack self.now }
     {
+        reads_back(self);
         let before = out.len();
         match append_cert(self, out) {
             Ok(()) => Ok(()),

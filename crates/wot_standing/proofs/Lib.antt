@@ -1,3 +1,2 @@
 pub mod Revoking
 pub mod SpanLaw
-pub mod Short
