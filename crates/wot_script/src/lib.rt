@@ -4,6 +4,7 @@
 mod command;
 mod decimal;
 mod fields;
+mod lined;
 mod lists;
 mod octets;
 mod piece;
