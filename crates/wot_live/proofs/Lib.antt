@@ -1,0 +1,6 @@
+pub mod Orders
+pub mod Putting
+pub mod Exact
+pub mod Counting
+pub mod Places
+pub mod Through
