@@ -1,5 +1,5 @@
 -- Changes of a keyring, without its stamps.
-use Rattle.std.proofs.Common.{◌≡◌, ◌≢◌, ℕ, ◌+◌, Bool, true, false, cond, List, [], ◌∷◌, map, Option, Some, None, Result, Ok, Err, OnOk, refl, sym, ap, ◌∙◌}
+use Rattle.std.proofs.Common.{◌≡◌, ◌≢◌, ℕ, ◌+◌, Bool, true, false, cond, List, [], ◌∷◌, map, Option, Some, None, Result, Ok, Err, OnOk, OnErr, refl, sym, ap, ◌∙◌}
 use Rattle.std.specs.declared.cmp.Ordering.{Ordering}
 use Rattle.std.specs.declared.cmp.Ordering.TheVariants.{Less, Equal, Greater}
 use Rattle.std.specs.Ordering.{is_eq}
@@ -109,3 +109,14 @@ judged_state old k new views number v (Ok done) view kept set = rw (← view) (b
     by : (b : Bool) → is_said k.verdicts number v ≡ b → state_of (engine new views) ≡ judging number v (state_of (engine k views))
     by true e = rw (e, (kept (said v (verdict_at k.verdicts number) e)).1) refl
     by false e = rw (e, set (unsaid v (verdict_at k.verdicts number) e), restamped_bare number (k.changes + 1) k.certs) refl
+
+-- setting a verdict leaves the limits
+pub judged_limits : (old : Engine) (k new : Keyring) (views : Views) (number : SigNumber) (v : Verdict) (r : Result (Unit {0}) Refusal) → engine k views ≡ old
+    → (verdict_at k.verdicts number ≡ Some v → (r ≡ Ok tt) × (new ≡ k)) → OnOk r (verdict_at k.verdicts number ≢ Some v → new ≡ with_verdict_on number v k) → OnErr r (new ≡ k)
+    → new.limits ≡ old.keyring.limits
+judged_limits old k new views number v (Err e) view kept set same = rw (← view, same) refl
+judged_limits old k new views number v (Ok done) view kept set same = rw (← view) (by (is_said k.verdicts number v) refl)
+  where
+    by : (b : Bool) → is_said k.verdicts number v ≡ b → new.limits ≡ k.limits
+    by true e = ap (λ (x : Keyring). x.limits) (kept (said v (verdict_at k.verdicts number) e)).1
+    by false e = ap (λ (x : Keyring). x.limits) (set (unsaid v (verdict_at k.verdicts number) e))

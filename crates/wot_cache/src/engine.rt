@@ -3,7 +3,7 @@ ghost use Rattle.std.specs.Option.{option_copied, option_map};
 ghost use Rattle.wot_policy.specs.Kept.{IsFaithful, rows_of, asked_more};
 ghost use Rattle.wot_keyring.specs.Keyring.{verdict_on};
 ghost use Rattle.wot_keyring.specs.Kept.{AreSmall, IsJudgedBy, StaysJudged};
-ghost use Rattle.wot_keyring.specs.Import.{Answers, AsksFor, imported};
+ghost use Rattle.wot_keyring.specs.Import.{Answers, AsksFor, IsOneChange, imported};
 ghost use Rattle.wot_keyring.specs.Removal.{without_cert};
 ghost use Rattle.wot_keyring.specs.Verdict.{with_verdict_on, without_verdict_on, TellsFull};
 ghost use Rattle.wot_edge.specs.Answer.{IsAnswer, amount_of};
@@ -78,6 +78,8 @@ impl Engine {
         ensures asked { AsksFor result (rows_of policy.old) self.old.keyring bytes.now (λ k. policy.new ≡ asked_more k policy.old) }
         ensures judged { IsJudgedBy (rows_of policy.old) self.new.keyring }
         ensures faithful { IsFaithful F.Fn policy.new }
+        ensures counted { IsOneChange self.old.keyring self.new.keyring }
+        ensures limits { self.new.keyring.limits ≡ self.old.keyring.limits }
         ensures views { self.new.views ≡ self.old.views }
     {
         self.keyring.import(self.alloc, bytes, policy)
@@ -91,6 +93,8 @@ impl Engine {
         ensures absent { is_ok result ≡ is_some (cert_in (state_of self.old) fpr.now) }
         ensures kept { OnErr result (self.new ≡ self.old) }
         ensures judged { StaysJudged self.old.keyring self.new.keyring }
+        ensures counted { IsOneChange self.old.keyring self.new.keyring }
+        ensures limits { self.new.keyring.limits ≡ self.old.keyring.limits }
         ensures views { self.new.views ≡ self.old.views }
     {
         self.keyring.remove(fpr)
@@ -105,6 +109,8 @@ impl Engine {
         ensures full { TellsFull result self.old.keyring number }
         ensures kept { OnErr result (self.new ≡ self.old) }
         ensures judged { StaysJudged self.old.keyring self.new.keyring }
+        ensures counted { IsOneChange self.old.keyring self.new.keyring }
+        ensures limits { self.new.keyring.limits ≡ self.old.keyring.limits }
         ensures views { self.new.views ≡ self.old.views }
     {
         self.keyring.set_verdict(number, verdict)
@@ -118,6 +124,8 @@ impl Engine {
         ensures absent { is_ok result ≡ is_some (verdict_on self.old.keyring number.now) }
         ensures kept { OnErr result (self.new ≡ self.old) }
         ensures judged { StaysJudged self.old.keyring self.new.keyring }
+        ensures counted { IsOneChange self.old.keyring self.new.keyring }
+        ensures limits { self.new.keyring.limits ≡ self.old.keyring.limits }
         ensures views { self.new.views ≡ self.old.views }
     {
         self.keyring.clear_verdict(number)
@@ -237,6 +245,9 @@ impl Engine {
         ensures open { TellsOpen result (view_at self.old.views view.now) }
         ensures kept { self.new ≡ self.old }
     {
+        if views::find(&self.views, view).is_none() {
+            return Err(AskFault::View);
+        }
         Err(AskFault::Memory)
     }
 

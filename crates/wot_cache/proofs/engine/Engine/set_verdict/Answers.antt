@@ -3,7 +3,7 @@ use Rattle.wot_keyring.specs.Keyring.{verdict_on}
 use Rattle.wot_keyring.specs.Kept.{IsJudgedBy}
 use Rattle.wot_keyring.specs.Verdict.{with_verdict_on}
 use Rattle.wot_cache.specs.State.{Engine}
-use Rattle.wot_cache.proofs.Plain.{judged_state}
+use Rattle.wot_cache.proofs.Plain.{judged_state, judged_limits}
 use Rattle.wot_cache.proofs.engine.Engine.set_verdict.Goals as goal
 
 pub returns-clause-judged : goal.returns-clause-judged
@@ -18,3 +18,7 @@ returns-clause-set c =
 pub returns-clause-state : goal.returns-clause-state
 returns-clause-state c =
     judged_state c.args.self.now c.self.inside.keyring c.set_verdict.new.self c.self.inside.views.entries c.args.number c.args.verdict c.set_verdict.result c.self.view_is c.set_verdict.ensures.same c.set_verdict.ensures.set
+
+pub returns-clause-limits : goal.returns-clause-limits
+returns-clause-limits c =
+    judged_limits c.args.self.now c.self.inside.keyring c.set_verdict.new.self c.self.inside.views.entries c.args.number c.args.verdict c.set_verdict.result c.self.view_is c.set_verdict.ensures.same c.set_verdict.ensures.set c.set_verdict.ensures.kept
