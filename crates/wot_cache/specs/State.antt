@@ -1,10 +1,12 @@
 -- The state: what is kept between two lines, and what changes it.
-use Rattle.std.specs.Prelude.{ℕ, Bool, true, false, if◌then◌else◌, List, [], map, Option}
+use Rattle.std.specs.Prelude.{◌≡◌, ℕ, Bool, true, false, if◌then◌else◌, List, [], map, Option}
+use Rattle.std.specs.List.{AllByRecursion}
 use Rattle.std.specs.Option.{option_map_or}
 use Rattle.std.specs.Map.{lookup, remove_entry}
 use Rattle.wot_types.specs.declared.fpr.Fpr.{Fpr}
 use Rattle.wot_types.specs.declared.limits.Limits.{Limits}
 use Rattle.wot_types.specs.declared.number.SigNumber.{SigNumber}
+use Rattle.wot_key.specs.Key.{fpr_of}
 use Rattle.wot_policy.specs.declared.rows.PolicyRows.{PolicyRows}
 use Rattle.wot_verdict.specs.Verdicts as verdicts
 use Rattle.wot_verdict.specs.declared.verdict.Verdict.{Verdict}
@@ -25,6 +27,10 @@ pub record State : Type 0 where
 -- the state before the first line
 abbrev pub start : State
 start = record { certs = []; verdicts = []; views = [] }
+
+-- A state that can be: each certificate stands under the fingerprint of its key.
+abbrev pub IsState : State → Type 0
+IsState s = AllByRecursion (λ (e : Fpr × Certificate). e.0 ≡ fpr_of e.1.key) s.certs
 
 -- the certificate that is kept under a fingerprint
 abbrev pub cert_in : State → Fpr → Option Certificate

@@ -5,9 +5,10 @@ use Rattle.std.proofs.Math.Seq.{take-append-add}
 use Rattle.wot_io.specs.Input.{lines_of, whole_lines_of, HasNoFeed}
 use Rattle.wot_io.specs.Fill.{GivesOf, StopsOf}
 use Rattle.wot_cache.specs.State.{State, start}
+use Rattle.wot_engine.specs.Law.{OneOutcome}
 use Rattle.wot_engine.specs.Step.{Step}
 use Rattle.wot_engine.specs.Transcript.{Run, RepliesTo, Answered, Begun, AnsweredWhole, AnsweredMost}
-use Rattle.wot_engine.proofs.Outcomes.{Run-some, Run-append}
+use Rattle.wot_engine.proofs.Runs.{Run-some, Run-append}
 use Rattle.wot_engine.proofs.CutLines.{lines_of-feed, whole_lines_of-feed, whole_lines_of-none, lines_of-last}
 use Rattle.wot_policy.specs.declared.rows.PolicyRows.{PolicyRows}
 
@@ -121,16 +122,16 @@ module _ (rows : PolicyRows) where
   take-front lines done more e = ap (take (length done)) e ∙ take_at done more (length done) refl
 
   -- The replies to the lines given, and to all others.
-  told_all : (lines done more : List (List ℕ)) (replies : List ℕ) (state : State) → lines ≡ done ++ more → Run rows start done replies state → (others : List ℕ) × RepliesTo rows lines (replies ++ others)
-  told_all lines done more replies state e r =
-      let others = Run-some rows more state in
+  told_all : OneOutcome rows → (lines done more : List (List ℕ)) (replies : List ℕ) (state : State) → lines ≡ done ++ more → Run rows start done replies state → (others : List ℕ) × RepliesTo rows lines (replies ++ others)
+  told_all law lines done more replies state e r =
+      let others = Run-some rows law more state in
       (others.0, record { last = others.1; run = rw e (Run-append rows done more start state others.1 replies others.0 r others.2) })
 
   -- all of the replies so far, and nothing else
-  pub so_far : (input before held : List ℕ) (taken : ℕ) (left written : Option (List ℕ)) (state : State) → Stands input before held taken left written state → Begun rows (lines_of input) before written
-  so_far input before held taken left written state s =
+  pub so_far : OneOutcome rows → (input before held : List ℕ) (taken : ℕ) (left written : Option (List ℕ)) (state : State) → Stands input before held taken left written state → Begun rows (lines_of input) before written
+  so_far law input before held taken left written state s =
       let m = begins input before held taken left written state s in
-      let all = told_all (lines_of input) s.done m.0 s.replies state m.1 s.run in
+      let all = told_all law (lines_of input) s.done m.0 s.replies state m.1 s.run in
       record {
         replies = s.replies ++ all.0;
         told = all.1;
@@ -191,11 +192,11 @@ module _ (rows : PolicyRows) where
       whole gone passed done f h = f.whole passed ∙ ap (λ (ls : List (List ℕ)). done ++ ls) (whole_lines_of-none passed h) ∙ append-nil done
 
   -- a part of the last reply
-  pub takes_more : (input before held : List ℕ) (taken : ℕ) (left : Option (List ℕ)) (state : State) (replies reply : List ℕ) (n : ℕ) (written : Option (List ℕ))
+  pub takes_more : OneOutcome rows → (input before held : List ℕ) (taken : ℕ) (left : Option (List ℕ)) (state : State) (replies reply : List ℕ) (n : ℕ) (written : Option (List ℕ))
       → (s : Stands input before held taken left (Some ((before ++ replies) ++ reply)) state) → n ≤ length reply → written ≡ Some ((before ++ replies) ++ take n reply) → Begun rows (lines_of input) before written
-  takes_more input before held taken left state replies reply n written s le w =
+  takes_more law input before held taken left state replies reply n written s le w =
       let m = begins input before held taken left (Some ((before ++ replies) ++ reply)) state s in
-      let all = told_all (lines_of input) s.done m.0 s.replies state m.1 s.run in
+      let all = told_all law (lines_of input) s.done m.0 s.replies state m.1 s.run in
       let same : before ++ s.replies ≡ before ++ (replies ++ reply) = some-is (before ++ s.replies) (before ++ (replies ++ reply)) (sym s.written_is ∙ ap (λ (x : List ℕ). Some x) (append_assoc before replies reply)) in
       let parts : s.replies ≡ replies ++ reply = append_cancel_left before s.replies (replies ++ reply) same in
       record {

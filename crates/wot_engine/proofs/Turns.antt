@@ -10,10 +10,11 @@ use Rattle.wot_io.specs.Given as given
 use Rattle.wot_io.specs.declared.lines.Line.{Line}
 use Rattle.wot_io.specs.declared.lines.Line.TheVariants.{Text, Long, End}
 use Rattle.wot_cache.specs.State.{State, start}
+use Rattle.wot_engine.specs.Law.{OneOutcome}
 use Rattle.wot_engine.specs.Step.{Step}
 use Rattle.wot_engine.specs.Turn.{Replies}
 use Rattle.wot_engine.specs.Transcript.{Run, Answered, Begun, AnsweredWhole, AnsweredMost, Told}
-use Rattle.wot_engine.proofs.Outcomes.{Run-one, Run-front}
+use Rattle.wot_engine.proofs.Runs.{Run-one, Run-front}
 use Rattle.wot_engine.proofs.Progress.{Stands, starts, goes_on, so_far, at_end, at_stop, at_most, takes_more}
 use Rattle.wot_policy.specs.declared.rows.PolicyRows.{PolicyRows}
 
@@ -68,21 +69,21 @@ module _ (rows : PolicyRows) where
       let b' = rw t.stands.written_is at b in
       goes_on rows input before t.held t.taken t.left written t.state held' taken' left' written' state' t.line reply t.stands t.gives t.step b'
 
-  pub Begun-cut : (left0 written0 : Option (List ℕ)) (held' : List ℕ) (taken' : ℕ) (left' written : Option (List ℕ)) (reply : List ℕ) (state' : State) (written' : Option (List ℕ))
+  pub Begun-cut : OneOutcome rows → (left0 written0 : Option (List ℕ)) (held' : List ℕ) (taken' : ℕ) (left' written : Option (List ℕ)) (reply : List ℕ) (state' : State) (written' : Option (List ℕ))
       → Turns left0 written0 held' taken' left' written reply state' → IfSome written (λ old. GainsPrefix old written' reply) → Told left0 written0 (λ input before. Begun rows (lines_of input) before written')
   unfolding Turns
-  Begun-cut None written0 held' taken' left' written reply state' written' t b = tt
-  Begun-cut (Some input) None held' taken' left' written reply state' written' t b = tt
-  Begun-cut (Some input) (Some before) held' taken' left' written reply state' written' t b =
+  Begun-cut law None written0 held' taken' left' written reply state' written' t b = tt
+  Begun-cut law (Some input) None held' taken' left' written reply state' written' t b = tt
+  Begun-cut law (Some input) (Some before) held' taken' left' written reply state' written' t b =
       let b' = rw t.stands.written_is at b in
       let whole = goes_on rows input before t.held t.taken t.left written t.state held' taken' left' (Some ((before ++ t.stands.replies) ++ reply)) state' t.line reply t.stands t.gives t.step refl in
-      takes_more rows input before held' taken' left' state' t.stands.replies reply b'.0 written' whole (omega (arith, b'.1)) b'.2
+      takes_more rows law input before held' taken' left' state' t.stands.replies reply b'.0 written' whole (omega (arith, b'.1)) b'.2
 
-  pub Begun-here : (left0 written0 : Option (List ℕ)) (held : List ℕ) (taken : ℕ) (left written : Option (List ℕ)) (state : State) → Stood left0 written0 held taken left written state
+  pub Begun-here : OneOutcome rows → (left0 written0 : Option (List ℕ)) (held : List ℕ) (taken : ℕ) (left written : Option (List ℕ)) (state : State) → Stood left0 written0 held taken left written state
       → Told left0 written0 (λ input before. Begun rows (lines_of input) before written)
-  Begun-here None written0 held taken left written state s = tt
-  Begun-here (Some input) None held taken left written state s = tt
-  Begun-here (Some input) (Some before) held taken left written state s = so_far rows input before held taken left written state s
+  Begun-here law None written0 held taken left written state s = tt
+  Begun-here law (Some input) None held taken left written state s = tt
+  Begun-here law (Some input) (Some before) held taken left written state s = so_far rows law input before held taken left written state s
 
   pub Answered-end : (left0 written0 : Option (List ℕ)) (old : Reading) (left written : Option (List ℕ)) (state : State) (new : Reading) (left' : Option (List ℕ))
       → Stood left0 written0 old.held old.taken left written state → given.Answers End old left new left' → Told left0 written0 (λ input before. Answered rows (lines_of input) before written × (left' ≡ Some []))
@@ -114,9 +115,9 @@ module _ (rows : PolicyRows) where
       absurd (omega (arith, lt, f, length-append (before ++ replies) (take n reply), length-append before replies, length-append before ((replies ++ reply) ++ others), length-append (replies ++ reply) others, length-append replies reply, length-take n reply))
 
   -- where a reply was cut, not all of them were written
-  cut_most : (input before held : List ℕ) (taken : ℕ) (left : Option (List ℕ)) (state : State) (replies reply : List ℕ) (n : ℕ) (written : Option (List ℕ))
+  cut_most : OneOutcome rows → (input before held : List ℕ) (taken : ℕ) (left : Option (List ℕ)) (state : State) (replies reply : List ℕ) (n : ℕ) (written : Option (List ℕ))
       → (s : Stands rows input before held taken left (Some ((before ++ replies) ++ reply)) state) → n < length reply → written ≡ Some ((before ++ replies) ++ take n reply) → AnsweredMost rows input before left written → ⊥
-  cut_most input before held taken left state replies reply n written s lt w a =
+  cut_most law input before held taken left state replies reply n written s lt w a =
       let rests : s.rest ≡ a.taken.rest = some-is s.rest a.taken.rest (sym s.left_is ∙ a.taken.left_is) in
       let size : taken ≡ 2 ^ 30 = omega (arith, s.count, a.size, ap length rests, ap length a.taken.input_is, length-append a.octets a.taken.rest) in
       let same : before ++ s.replies ≡ before ++ (replies ++ reply) = some-is (before ++ s.replies) (before ++ (replies ++ reply)) (sym s.written_is ∙ ap (λ (x : List ℕ). Some x) (append_assoc before replies reply)) in
@@ -128,7 +129,7 @@ module _ (rows : PolicyRows) where
             let lines : whole_lines_of a.octets ≡ s.done ++ whole_lines_of held = ap whole_lines_of octets ∙ front.whole held in
             let run : Run rows start (s.done ++ whole_lines_of held) a.answered.replies a.answered.told.last = subst (λ (ls : List (List ℕ)). Run rows start ls a.answered.replies a.answered.told.last) lines a.answered.told.run in
             let first = Run-front rows s.done (whole_lines_of held) start a.answered.replies a.answered.told.last run in
-            let one = Run-one rows s.done start first.0 s.replies first.1 state first.3 s.run in
+            let one = Run-one rows law s.done start tt first.0 s.replies first.1 state first.3 s.run in
             let whole : a.answered.replies ≡ (replies ++ reply) ++ first.2 = first.4 ∙ ap (λ (x : List ℕ). x ++ first.2) (one.0 ∙ all) in
             cut_size before replies reply [] first.2 n lt (sym w ∙ a.answered.written ∙ ap (λ (x : List ℕ). Some (before ++ x)) whole)
         | inr ended ↦ absurd (omega (arith, ended.0, size))
@@ -141,15 +142,15 @@ module _ (rows : PolicyRows) where
       let rests : rest ≡ a.taken.rest = some-is rest a.taken.rest (sym e ∙ a.taken.left_is) in
       omega (arith, n, s.count, a.size, ap length rests, ap length a.taken.input_is, length-append a.octets a.taken.rest)
 
-  pub Most-cut : (left0 written0 : Option (List ℕ)) (held' : List ℕ) (taken' : ℕ) (left' written : Option (List ℕ)) (reply : List ℕ) (state' : State) (written' : Option (List ℕ))
+  pub Most-cut : OneOutcome rows → (left0 written0 : Option (List ℕ)) (held' : List ℕ) (taken' : ℕ) (left' written : Option (List ℕ)) (reply : List ℕ) (state' : State) (written' : Option (List ℕ))
       → Turns left0 written0 held' taken' left' written reply state' → IfSome written (λ old. GainsPrefix old written' reply) → Told left0 written0 (λ input before. AnsweredMost rows input before left' written' → ⊥)
   unfolding Turns
-  Most-cut None written0 held' taken' left' written reply state' written' t b = tt
-  Most-cut (Some input) None held' taken' left' written reply state' written' t b = tt
-  Most-cut (Some input) (Some before) held' taken' left' written reply state' written' t b =
+  Most-cut law None written0 held' taken' left' written reply state' written' t b = tt
+  Most-cut law (Some input) None held' taken' left' written reply state' written' t b = tt
+  Most-cut law (Some input) (Some before) held' taken' left' written reply state' written' t b =
       let b' = rw t.stands.written_is at b in
       let whole = goes_on rows input before t.held t.taken t.left written t.state held' taken' left' (Some ((before ++ t.stands.replies) ++ reply)) state' t.line reply t.stands t.gives t.step refl in
-      λ a. cut_most input before held' taken' left' state' t.stands.replies reply b'.0 written' whole b'.1 b'.2 a
+      λ a. cut_most law input before held' taken' left' state' t.stands.replies reply b'.0 written' whole b'.1 b'.2 a
 
   pub Most-end : (left0 written0 : Option (List ℕ)) (old : Reading) (left written : Option (List ℕ)) (state : State) (new : Reading) (left' : Option (List ℕ))
       → Stood left0 written0 old.held old.taken left written state → given.Answers End old left new left' → Told left0 written0 (λ input before. AnsweredMost rows input before left' written → ⊥)
@@ -174,5 +175,5 @@ module _ (rows : PolicyRows) where
       λ a. let same : input ≡ a.taken.rest = some-is input a.taken.rest a.taken.left_is in absurd (omega (arith, a.size, ap length same, ap length a.taken.input_is, length-append a.octets a.taken.rest))
 
   -- where nothing was taken and nothing written
-  pub Begun-nothing : (left0 written0 : Option (List ℕ)) → Told left0 written0 (λ input before. Begun rows (lines_of input) before written0)
-  Begun-nothing left0 written0 = Begun-here left0 written0 [] 0 left0 written0 start (Stood-init left0 written0)
+  pub Begun-nothing : OneOutcome rows → (left0 written0 : Option (List ℕ)) → Told left0 written0 (λ input before. Begun rows (lines_of input) before written0)
+  Begun-nothing law left0 written0 = Begun-here law left0 written0 [] 0 left0 written0 start (Stood-init left0 written0)
