@@ -48,7 +48,7 @@ judged_so k number verdict = if would_pass k number then None else Some (with_ve
 
 -- the keyring after a command that isn't refused; each number is new
 abbrev pub after : PolicyRows → Command → Keyring → Option Keyring
-after rows (commands.Import octets) k = unless_refused (answer_to rows k octets) (imported rows k octets)
+after rows (commands.Import octets) k = unless_refused (answer_to rows k.limits (certificates_in k) octets) (imported rows k octets)
 after rows (commands.Good number fpr) k = judged_so k number (Good fpr)
 after rows (commands.Bad number) k = judged_so k number Bad
 after rows _ k = None

@@ -1,22 +1,27 @@
-ghost use Rattle.std.specs.Prelude.{◌≡◌, ◌≢◌, ◌<◌, ◌≤◌, ◌^◌, ◌-◌, ◌++◌, map, Some, Ok, is_ok, is_some, IsSomeAnd, MatchBool, OnOk, OnErr};
+ghost use Rattle.std.specs.Prelude.{◌≡◌, ◌≢◌, ◌<◌, ◌≤◌, ◌^◌, ◌-◌, ◌++◌, map, Some, Ok, is_ok, is_some, IsSomeAnd, length, IfOk, MatchBool, OnOk, OnErr};
 ghost use Rattle.std.specs.Option.{option_copied, MatchOption};
 ghost use Rattle.std.specs.Map.{lookup, remove_entry};
 ghost use Rattle.wot_types.specs.declared.fpr.Fpr.{Fpr as TheFpr};
 ghost use Rattle.wot_cert.specs.Text.{text_of};
 ghost use Rattle.wot_keyring.specs.declared.kept.Kept.{Kept as TheKept};
 ghost use Rattle.wot_keyring.specs.Keyring.{empty, cert_at, stamp_at, verdict_on, is_fpr, TellsAbsent};
-ghost use Rattle.wot_keyring.specs.Kept.{AreSmall, StaysJudged};
+ghost use Rattle.wot_keyring.specs.Kept.{AreSmall, IsJudgedBy, StaysJudged};
+ghost use Rattle.wot_policy.specs.declared.rows.PolicyRows.{PolicyRows as Rows};
+ghost use Rattle.wot_policy.specs.Kept.{IsFaithful, rows_of, asked_more};
+ghost use Rattle.wot_keyring.specs.Dump.{commands_of, lines_of, IsRestored};
+ghost use Rattle.wot_keyring.specs.Import.{Answers, AsksFor, IsOneChange, imported};
 ghost use Rattle.wot_keyring.specs.Removal.{without_cert};
 ghost use Rattle.wot_keyring.specs.Verdict.{with_verdict_on, without_verdict_on, would_pass, counted_at, TellsFull};
 
 use crate::certs::CertsIter;
 use crate::kept::Kept;
 use crate::restamp::restamp;
-use crate::{Absent, ExportFault, Refusal};
+use crate::{Absent, ExportFault, Imported, Refusal};
 use std::alloc::Global;
 use std::collections::BTreeMap;
 use std::marker::Model;
 use wot_cert::Cert;
+use wot_policy::{Ask, Policy};
 use wot_types::{Fpr, Limit, Limits, Memory, SigNumber};
 use wot_verdict::{Verdict, Verdicts};
 
@@ -172,6 +177,40 @@ impl Keyring {
             Ok(()) => Ok(()),
             Err(Memory) => Err(ExportFault::Memory),
         }
+    }
+
+    /// Unites the certificates of these octets (RFC 9580, sections 4 and 10.1) with the kept ones: all of them or, where
+    /// anything is refused, none. The policy is asked once for each sound signature that is new.
+    pub fn import<F: Fn(Ask) -> bool>(
+        &mut self,
+        alloc: Global,
+        bytes: &[u8],
+        policy: &mut Policy<F>,
+    ) -> Result<Imported, Refusal>
+        requires countable { self.old.changes < 2 ^ 64 - 1 }
+        requires short { length bytes.now < 2 ^ 29 }
+        requires judged { IsJudgedBy (rows_of policy.old) self.old }
+        requires faithful { IsFaithful F.Fn policy.old }
+        ensures answer { Answers result (rows_of policy.old) self.old bytes.now }
+        ensures imported { OnOk result (self.new ≡ imported (rows_of policy.old) self.old bytes.now) }
+        ensures kept { OnErr result (self.new ≡ self.old) }
+        ensures asked { AsksFor result (rows_of policy.old) self.old bytes.now (λ k. policy.new ≡ asked_more k policy.old) }
+        ensures counted { IsOneChange self.old self.new }
+        ensures judged { IsJudgedBy (rows_of policy.old) self.new }
+        ensures faithful { IsFaithful F.Fn policy.new }
+    {
+        Err(Refusal::Memory)
+    }
+
+    /// Appends a line for each certificate and each verdict: the commands that make this keyring anew. Tells their number.
+    /// After `Memory` `out` is as before.
+    pub fn dump(&self, alloc: Global, out: &mut Vec<u8>) -> Result<u64, Memory>
+        ensures lines { OnOk result (out.new.items ≡ out.old.items ++ lines_of (commands_of self.now)) }
+        ensures count { IfOk result (λ count. count ≡ length (commands_of self.now)) }
+        ensures kept { OnErr result (out.new.items ≡ out.old.items) }
+        ensures restored { OnOk result ((rows : Rows) → IsJudgedBy rows self.now → IsRestored rows self.now) }
+    {
+        Err(Memory)
     }
 
     fn has(&self, fpr: &Fpr) -> bool
