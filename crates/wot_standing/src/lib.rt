@@ -1,6 +1,7 @@
 //! Whether a key stands at a time, and what ends it.
 #![tactic(auto)]
 
+mod certifiers;
 mod governing;
 mod kinds;
 mod latest;
@@ -13,6 +14,7 @@ mod steady;
 mod tests;
 mod usable;
 
+pub use certifiers::Certifiers;
 pub use governing::standing;
 pub use own::is_own_revoked;
 pub use status::Standing;
