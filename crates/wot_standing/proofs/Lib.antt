@@ -1,4 +1,3 @@
 pub mod Revoking
 pub mod SpanLaw
-pub mod Short
 pub mod Certifying
