@@ -12,7 +12,7 @@ use Rattle.wot_edge.specs.Plain.{AreRows}
 use Rattle.wot_edge.specs.Record.{Record}
 use Rattle.wot_keyring.specs.Keyring.{Certificates, Keyring, certificates_in}
 use Rattle.wot_keyring.specs.Import.{weigh}
-use Rattle.wot_standing.specs.Standing.{standing_of}
+use Rattle.wot_standing.specs.Standing.{own, standing_of}
 use Rattle.wot_standing.specs.declared.status.Standing.{Standing}
 use Rattle.wot_live.specs.Rows.{edges_of}
 use Rattle.wot_network.specs.Told.{record_of}
@@ -25,6 +25,10 @@ pub record Line : Type 0 where
 
 abbrev pub line_of : Entries → ℕ → Certificate → Line
 line_of verdicts t c = record { edges = edges_of verdicts c t; standing = standing_of verdicts c t; span = span_of c t }
+
+-- the line of a certificate under its fingerprint
+abbrev pub named_line : Entries → ℕ → Certificate → Fpr × Line
+named_line verdicts t c = (own c, line_of verdicts t c)
 
 abbrev pub Lines : Type 0
 Lines = List (Fpr × Line)

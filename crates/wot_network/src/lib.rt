@@ -3,6 +3,7 @@
 
 pub mod laws;
 mod line;
+mod making;
 mod network;
 mod roads;
 mod user_ids;

@@ -8,9 +8,9 @@ use wot_standing::Standing;
 /// What was made of a certificate.
 #[derive(Drop)]
 pub(crate) struct NetLine {
-    edges: Vec<Edge>,
-    standing: Standing,
-    span: Span,
+    pub(crate) edges: Vec<Edge>,
+    pub(crate) standing: Standing,
+    pub(crate) span: Span,
 }
 
 impl Model for NetLine {

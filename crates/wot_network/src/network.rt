@@ -1,10 +1,11 @@
-ghost use Rattle.std.specs.Prelude.{◌≡◌, ◌≤◌, ◌+◌, min, [], false, OnOk, OnErr};
+ghost use Rattle.std.specs.Prelude.{◌≡◌, ◌≤◌, ◌+◌, min, [], false, OnOk, OnErr, MatchBool};
 ghost use Rattle.std.specs.Option.{option_copied};
 ghost use Rattle.std.specs.Map.{lookup};
 ghost use Rattle.wot_keyring.specs.Keyring.{Keyring as KeyringOf, is_fpr};
 ghost use Rattle.wot_network.specs.Net.{Net, Fits, IsRight, IsCurrent, AreLawful, edges_in, signatures_in};
 
 use crate::line::NetLine;
+use crate::making::keyring_lines;
 use crate::roads::NetRoads;
 use std::alloc::Global;
 use std::collections::BTreeMap;
@@ -71,10 +72,21 @@ impl Network {
         ensures made_most { steps.new.made ≤ steps.old.made + signatures_in keyring.now }
         ensures left { IsCurrent self.old keyring.now t → (steps.new ≡ steps.old) × (self.new ≡ self.old) }
     {
-        if self.made && self.changes == keyring.changes() && self.time == t {
+        if self.is_current(keyring, t) {
             return Ok(());
         }
-        Err(Memory)
+        let lines = keyring_lines(self.alloc, keyring, t, steps)?;
+        self.lines = lines;
+        self.time = t;
+        self.made = true;
+        self.changes = keyring.changes();
+        Ok(())
+    }
+
+    fn is_current(&self, keyring: &Keyring, t: u32) -> bool
+        ensures current { MatchBool result (IsCurrent self.now keyring.now t) (IsCurrent self.now keyring.now t → ⊥) }
+    {
+        self.made && self.changes == keyring.changes() && self.time == t
     }
 
     /// The roads of the network, of which it holds what was made of the keyring.

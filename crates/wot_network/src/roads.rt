@@ -2,13 +2,13 @@ ghost use Rattle.std.specs.Prelude.{◌≡◌};
 ghost use Rattle.wot_network.specs.Net.{IsRight, told_of};
 
 use crate::network::Network;
-use crate::user_ids::{body_at, has_unrevoked, place_of};
+use crate::user_ids::{holds_for, is_in_order, place_of};
 use std::alloc::Global;
 use std::marker::Model;
+use wot_edge::laws::entries_are_record;
 use wot_edge::{Edge, Roads};
 use wot_keyring::Keyring;
-use wot_scope::in_scope;
-use wot_standing::{is_key_in_order, is_usable};
+use wot_standing::is_usable;
 use wot_types::{Fpr, Memory};
 
 /// The roads of a keyring as it is, at one time, by the network that was made of it.
@@ -42,6 +42,7 @@ impl<'a> Roads for NetRoads<'a> {
     ghost told = { λ roads uid. told_of roads uid };
 
     fn rows(&self, target: &Fpr) -> &[Edge] {
+        entries_are_record();
         match self.network.line(target) {
             Some(line) => line.edges(),
             None => &[],
@@ -58,28 +59,24 @@ impl<'a> Roads for NetRoads<'a> {
 
     fn scope(&self, edge: &Edge, uid: &[u8]) -> Result<bool, Memory> {
         let facts = edge.facts();
-        if !facts.scoped {
-            return Ok(true);
-        }
         match self.keyring.get(&facts.target) {
-            Some(cert) => {
-                let body = body_at(cert.user_ids(), facts.uid, facts.sig);
-                in_scope(self.network.allocator(), body, uid)
-            }
+            Some(cert) => holds_for(self.network.allocator(), cert.user_ids(), &facts, uid),
             None => Ok(false),
         }
     }
 
     fn in_order(&self, target: &Fpr, uid: &[u8]) -> bool {
-        let Some(line) = self.network.line(target) else {
-            return false;
-        };
-        let Some(cert) = self.keyring.get(target) else {
-            return false;
-        };
-        let t = self.network.time();
-        is_key_in_order(line.standing(), t)
-            && has_unrevoked(cert.user_ids(), self.keyring.verdicts(), &cert.fpr(), t, uid)
+        entries_are_record();
+        match self.network.line(target) {
+            Some(line) => match self.keyring.get(target) {
+                Some(cert) => {
+                    let t = self.network.time();
+                    is_in_order(cert, line.standing(), self.keyring.verdicts(), t, uid)
+                }
+                None => false,
+            },
+            None => false,
+        }
     }
 
     fn place(&self, target: &Fpr, uid: &[u8]) -> Option<u32> {
