@@ -14,6 +14,7 @@ use Rattle.wot_cert.specs.Text.{text_of}
 use Rattle.wot_keyring.specs.declared.import.Imported.{Imported}
 use Rattle.wot_keyring.specs.declared.kept.Kept.{Kept}
 use Rattle.wot_keyring.specs.declared.refusal.Refusal.{Refusal}
+use Rattle.wot_keyring.specs.Kept.{IsJudgedBy}
 use Rattle.wot_keyring.specs.Keyring.{Keyring, empty, certificates_in}
 use Rattle.wot_keyring.specs.Import.{answer_to, imported}
 use Rattle.wot_keyring.specs.Verdict.{with_verdict_on, would_pass}
@@ -62,11 +63,14 @@ after_all rows (c ∷ cs) (Some k) = after_all rows cs (after rows c k)
 abbrev pub plain : Fpr × Certificate → Fpr × Certificate
 plain e = (e.0, unmarked e.1)
 
--- Both hold the same certificates, whatever their marks, and the same verdicts.
-pub record HoldSame (a b : Keyring) : Type 0 where
-  pub certs : map plain (certificates_in a) ≡ map plain (certificates_in b)
-  pub verdicts : a.verdicts ≡ b.verdicts
+-- The new keyring has the limits of this one, and holds the same certificates, each signature judged by the rows, and the
+-- same verdicts.
+pub record IsAnew (rows : PolicyRows) (k new : Keyring) : Type 0 where
+  pub limits : new.limits ≡ k.limits
+  pub certs : map plain (certificates_in new) ≡ map plain (certificates_in k)
+  pub judged : IsJudgedBy rows new
+  pub verdicts : new.verdicts ≡ k.verdicts
 
 -- The commands, run in a fresh keyring with the same limits, give what this one holds, and none is refused.
 abbrev pub IsRestored : PolicyRows → Keyring → Type 0
-IsRestored rows k = IsSomeAnd (after_all rows (commands_of k) (Some (empty k.limits))) (λ new. HoldSame new k)
+IsRestored rows k = IsSomeAnd (after_all rows (commands_of k) (Some (empty k.limits))) (IsAnew rows k)
