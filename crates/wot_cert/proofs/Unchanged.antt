@@ -5,6 +5,7 @@ use Rattle.std.specs.declared.cmp.Ordering.TheVariants.{Less, Equal, Greater}
 use Rattle.wot_packet.specs.Writing.{written}
 use Rattle.wot_cert.specs.Certificate.{Signature, Component, Certificate, kept, sig_cmp, part_cmp, unite, unite_sigs, unite_part, unite_parts, part_with, with_each, unmarked}
 use Rattle.wot_cert.specs.Counts.{sum_of, part_weight, weight_of, items_of, signatures_of}
+use Rattle.wot_cert.specs.Judged.{if_sound, sound_of}
 use Rattle.wot_cert.specs.Ranked.{put, placed, united}
 use Rattle.wot_cert.specs.Sizes.{sig_size, own_size}
 use Rattle.wot_cert.specs.Text.{sigs_text, parts_text, text_of, size_of}
@@ -119,6 +120,9 @@ items-more a b = more 1 _ _ (unite_more one one (λ x y. refl) a b)
 pub signatures-more : (a b : Certificate) → signatures_of a ≤ signatures_of (unite a b)
 signatures-more a b = unite_more one (λ _. 0) (λ x y. refl) a b
 
+pub sound-more : (a b : Certificate) → sound_of a ≤ sound_of (unite a b)
+sound-more a b = unite_more if_sound (λ _. 0) (λ x y. refl) a b
+
 moved : (k a b n m : ℕ) → n ≡ k + a → m ≡ k + b → a ≤ b → n ≤ m
 moved k a b n m e f h = omega arith
 
@@ -133,6 +137,9 @@ module _ (mark : Signature → Bool) where
 
   pub signatures-marked : (c : Certificate) → signatures_of (with_each (marked_as mark) c) ≡ signatures_of c
   signatures-marked c = marked-weight mark one (λ _. 0) (λ s. refl) (λ p. refl) c
+
+  pub sound-marked : (c : Certificate) → sound_of (with_each (marked_as mark) c) ≡ sound_of c
+  sound-marked c = marked-weight mark if_sound (λ _. 0) (λ s. refl) (λ p. refl) c
 
   sigs-text : (sigs : List Signature) → sigs_text (map (marked_as mark) sigs) ≡ sigs_text sigs
   sigs-text [] = refl

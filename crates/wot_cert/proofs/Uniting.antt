@@ -145,3 +145,11 @@ module _ (a b : Certificate) (h : IsCertificate a) (k : IsCertificate b) (e : a.
   -- Both unions have the same signatures with the same numbers; their marks may differ.
   pub commutes : unmarked (unite a b) ≡ unmarked (unite b a)
   commutes = united-marked (λ _. false) a b ∙ unmarked-commute ∙ sym (united-marked (λ _. false) b a)
+
+-- What a rule marks in a union doesn't depend on the order of the two, where the rule doesn't look at earlier marks.
+pub marked-commute : (mark : Signature → Bool) → ((s : Signature) → mark (unmarked_sig s) ≡ mark s) → (a b : Certificate) → IsCertificate a → IsCertificate b → a.key ≡ b.key
+    → with_each (marked_as mark) (unite a b) ≡ with_each (marked_as mark) (unite b a)
+marked-commute mark e a b h k same =
+    sym (marked-again mark (λ _. false) e (unite a b))
+    ∙ ap (with_each (marked_as mark)) (commutes a b h k same)
+    ∙ marked-again mark (λ _. false) e (unite b a)

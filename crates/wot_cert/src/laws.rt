@@ -51,6 +51,7 @@ pub fn united_grows()
     ensures items { (a b : Certificate) → items_of a ≤ items_of (unite a b) }
     ensures signatures { (a b : Certificate) → signatures_of a ≤ signatures_of (unite a b) }
     ensures sizes { (a b : Certificate) → size_of a ≤ size_of (unite a b) }
+    ensures sound { (a b : Certificate) → sound_of a ≤ sound_of (unite a b) }
     ensures together { (a b : Certificate) → size_of (unite a b) ≤ size_of a + size_of b }
 {}
 
@@ -61,8 +62,8 @@ pub fn united_holds_both()
     ensures sizes { (a b : Certificate) → IsCertificate a → IsCertificate b → a.key ≡ b.key → size_of b ≤ size_of (unite a b) }
 {}
 
-/// Certificates of one key may be united in any order and in any groups, and more than once: the result is the same, but
-/// that a signature of both keeps the mark of the first.
+/// Certificates of one key may be united in any order and in any groups, and more than once: the result has the same
+/// signatures with the same numbers, but that a signature of both keeps the mark of the first.
 pub fn united_in_any_order()
     ensures groups { (a b c : Certificate) → IsCertificate a → IsCertificate b → IsCertificate c → unite (unite a b) c ≡ unite a (unite b c) }
     ensures order { (a b : Certificate) → IsCertificate a → IsCertificate b → a.key ≡ b.key → unmarked (unite a b) ≡ unmarked (unite b a) }
@@ -75,14 +76,20 @@ pub fn marks_weigh_nothing()
     ensures judged_items { (rows : PolicyRows) (c : Certificate) → items_of (judged rows c) ≡ items_of c }
     ensures signatures { (c : Certificate) → signatures_of (unmarked c) ≡ signatures_of c }
     ensures judged_signatures { (rows : PolicyRows) (c : Certificate) → signatures_of (judged rows c) ≡ signatures_of c }
+    ensures sound { (c : Certificate) → sound_of (unmarked c) ≡ sound_of c }
+    ensures judged_sound { (rows : PolicyRows) (c : Certificate) → sound_of (judged rows c) ≡ sound_of c }
     ensures text { (c : Certificate) → text_of (unmarked c) ≡ text_of c }
     ensures judged_text { (rows : PolicyRows) (c : Certificate) → text_of (judged rows c) ≡ text_of c }
 {}
 
-/// Judging looks at no earlier mark, and judging a union is uniting what is judged.
+/// Judging looks at no earlier mark, and judging a union, or taking its marks away, is uniting what is judged or has no
+/// marks. So what is judged after a union doesn't depend on the order of the two.
 pub fn judging()
     ensures unmarked { (rows : PolicyRows) (c : Certificate) → judged rows (unmarked c) ≡ judged rows c }
     ensures united { (rows : PolicyRows) (a b : Certificate) → judged rows (unite a b) ≡ unite (judged rows a) (judged rows b) }
+    ensures unmarked_union { (a b : Certificate) → unmarked (unite a b) ≡ unite (unmarked a) (unmarked b) }
+    ensures order { (rows : PolicyRows) (a b : Certificate) → IsCertificate a → IsCertificate b → a.key ≡ b.key →
+        judged rows (unite a b) ≡ judged rows (unite b a) }
     ensures judged { (rows : PolicyRows) (c : Certificate) → IsJudged rows (judged rows c) }
     ensures forgotten { (rows : PolicyRows) (c : Certificate) → unmarked (judged rows c) ≡ unmarked c }
 {}

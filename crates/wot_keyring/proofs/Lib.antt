@@ -3,3 +3,6 @@ pub mod Rows
 pub mod Behind
 pub mod Replay
 pub mod Judged
+pub mod Keeping
+pub mod Places
+pub mod Weighing
