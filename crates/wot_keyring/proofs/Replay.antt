@@ -1,14 +1,13 @@
 -- The commands of a dump, run in a fresh keyring, give what was dumped.
-use Rattle.std.proofs.Common.{◌≡◌, ℕ, ◌+◌, ◌<◌, ◌≤◌, Bool, true, false, cond, List, [], ◌∷◌, ◌++◌, length, map, Option, Some, None, Result, Ok, Err, refl, sym, ap, ◌∙◌, subst, arith, append_assoc, append-nil, length-append}
+use Rattle.std.proofs.Common.{◌≡◌, ℕ, ◌+◌, ◌<◌, ◌≤◌, Bool, false, List, [], ◌∷◌, ◌++◌, length, map, Option, Some, None, Ok, Err, refl, sym, ap, ◌∙◌, subst, arith, append_assoc, append-nil, length-append}
 use Rattle.std.specs.Prelude.{◌&&◌, ◌||◌, nat_eq, nat_lt, nat_le, not, is_none, IsSomeAnd, if◌then◌else◌}
 use Rattle.std.specs.declared.cmp.Ordering.TheVariants.{Less, Greater}
 use Rattle.std.specs.Cmp.{IsTotalOrder}
 use Rattle.std.specs.Ordering.{ordering_reverse}
 use Rattle.std.specs.Cmp.Lexicographic.{on_texts, pointwise}
-use Rattle.std.specs.BTreeMap.{insert_entry, is_at}
-use Rattle.std.specs.Map.{keys_of, lookup}
+use Rattle.std.specs.BTreeMap.{insert_entry}
+use Rattle.std.specs.Map.{lookup}
 use Rattle.std.specs.List.{AllByRecursion, list_any}
-use Rattle.std.specs.List.Sorted.{IsStrictlySortedBy}
 use Rattle.std.proofs.lemmas.List.{map-append}
 use Rattle.std.proofs.lemmas.Bool.{le-ltb, lt-leb, and_right}
 use Rattle.wot_types.specs.declared.fpr.Fpr.{Fpr}
@@ -16,12 +15,11 @@ use Rattle.wot_types.specs.declared.limits.Limits.{Limits}
 use Rattle.wot_types.specs.declared.limits.Limit.{Limit}
 use Rattle.wot_types.specs.declared.limits.Limit.TheVariants as limits
 use Rattle.wot_types.specs.declared.number.SigNumber.{SigNumber}
-use Rattle.wot_types.specs.Fpr.{fpr_cmp, octets_of}
+use Rattle.wot_types.specs.Fpr.{fpr_cmp}
 use Rattle.wot_types.specs.SigNumber.{number_cmp}
 use Rattle.wot_key.specs.Key.{fpr_of}
 use Rattle.wot_packet.specs.Spelling.{Spelled}
 use Rattle.wot_packet.specs.Reading.{packets_of}
-use Rattle.wot_packet.specs.declared.packet.PacketFault.{PacketFault}
 use Rattle.wot_policy.specs.declared.rows.PolicyRows.{PolicyRows}
 use Rattle.wot_script.specs.declared.command.Command.{Command}
 use Rattle.wot_script.specs.declared.command.Command.TheVariants as commands
@@ -39,13 +37,14 @@ use Rattle.wot_cert.specs.Text.{size_of, text_of}
 use Rattle.wot_cert.specs.Whole.{IsCertificate}
 use Rattle.wot_keyring.specs.declared.import.Imported.{Imported}
 use Rattle.wot_keyring.specs.declared.kept.Kept.{Kept}
-use Rattle.wot_keyring.specs.declared.refusal.Refusal.{Refusal}
 use Rattle.wot_keyring.specs.declared.refusal.Refusal.TheVariants.{Clash}
 use Rattle.wot_keyring.specs.Keyring.{Keyring, Entries, Certificates, certificates_in, empty, is_fpr}
 use Rattle.wot_keyring.specs.Import.{answer_read, answer_to, answer_united, any_clash, clash, first_full, fresh_in, has_greater, holding, imported, of_packets, stamped, united_with, unless_fault, unless_full, weigh, with_cert, with_certs}
-use Rattle.wot_keyring.specs.Verdict.{is_over, restamped_all, with_verdict_on, would_pass}
-use Rattle.wot_keyring.specs.Kept.{AreInOrder, AreJudged, AreNamed, IsNamed, AreSized, AreWhole, IsJudgedBy, IsKeyring}
-use Rattle.wot_keyring.specs.Dump.{after, after_all, commands_of, import_of, plain, setting, setting_of, unless_refused, IsAnew, IsRestored}
+use Rattle.wot_keyring.specs.Verdict.{with_verdict_on, would_pass}
+use Rattle.wot_keyring.specs.Kept.{AreInOrder, AreJudged, AreNamed, IsNamed, AreSized, AreWhole, IsKeyring}
+use Rattle.wot_keyring.specs.Dump.{after, after_all, import_of, plain, setting, setting_of, unless_refused, IsAnew, IsRestored}
+use Rattle.wot_keyring.proofs.Keeping.{certs_of, restamped_same}
+use Rattle.wot_keyring.proofs.Places.{fprs_total}
 use Rattle.wot_keyring.proofs.Behind.{AreBelow, all_at, below_next, none_before, put_behind}
 
 -- what is known of certificates
@@ -57,15 +56,8 @@ pub record Laws : Type 0 where
   pub by_rows : (rows : PolicyRows) (c : Certificate) → IsJudged rows (judged rows c)
   pub forgotten : (rows : PolicyRows) (c : Certificate) → unmarked (judged rows c) ≡ unmarked c
 
-fprs_total : IsTotalOrder fpr_cmp
-fprs_total = on_texts octets_of
-
 numbers_total : IsTotalOrder number_cmp
 numbers_total = on_texts (λ (n : SigNumber). n.0)
-
--- the certificates of entries
-abbrev plain_of : Entries → Certificates
-plain_of es = map (λ (e : Fpr × Kept). (e.0, e.1.cert)) es
 
 -- ---- one import
 
@@ -170,8 +162,8 @@ record CanBeHeld (l : Limits) (all : Entries) : Type 0 where
   in_order : AreInOrder all
   sized : AreSized l.certificate all
   few : length all ≤ l.certificates
-  octets : weigh size_of (plain_of all) ≤ l.octets
-  signatures : weigh signatures_of (plain_of all) ≤ l.signatures
+  octets : weigh size_of (certs_of all) ≤ l.octets
+  signatures : weigh signatures_of (certs_of all) ≤ l.signatures
 
 -- the same keyring but for its certificates, which are these, judged
 record Holds (rows : PolicyRows) (k : Keyring) (all : Entries) (new : Keyring) : Type 0 where
@@ -191,7 +183,7 @@ front_all P (x ∷ front) rest all = (all.0, front_all P front rest all.1)
 
 -- a front weighs no more than the whole
 front_weighs : (rows : PolicyRows) (weight : Certificate → ℕ) (same : (c : Certificate) → weight (judged rows c) ≡ weight c) (front rest : Entries)
-    → weigh weight (map (judged_anew rows) front) ≤ weigh weight (plain_of (front ++ rest))
+    → weigh weight (map (judged_anew rows) front) ≤ weigh weight (certs_of (front ++ rest))
 front_weighs rows weight same [] rest = omega arith
 front_weighs rows weight same (e ∷ front) rest = omega (arith, same e.1.cert, front_weighs rows weight same front rest)
 
@@ -226,8 +218,8 @@ front_fits laws rows l front rest held =
     no_limit (has_greater l.certificate certs) (nat_lt l.certificates (length certs)) (nat_lt l.octets (weigh size_of certs)) (nat_lt l.signatures (weigh signatures_of certs))
     (none_greater rows l.certificate same_size front (front_all (λ (e : Fpr × Kept). size_of e.1.cert ≤ l.certificate) front rest held.sized))
     (within (length certs) (length (front ++ rest)) l.certificates (length-front rows front rest) held.few)
-    (within (weigh size_of certs) (weigh size_of (plain_of (front ++ rest))) l.octets (front_weighs rows size_of same_size front rest) held.octets)
-    (within (weigh signatures_of certs) (weigh signatures_of (plain_of (front ++ rest))) l.signatures
+    (within (weigh size_of certs) (weigh size_of (certs_of (front ++ rest))) l.octets (front_weighs rows size_of same_size front rest) held.octets)
+    (within (weigh signatures_of certs) (weigh signatures_of (certs_of (front ++ rest))) l.signatures
     (front_weighs rows signatures_of (laws.same_count rows) front rest) held.signatures)
 
 -- the next import, where those of a front were done
@@ -281,10 +273,6 @@ setting_step : (rows : PolicyRows) (k : Keyring) (number : SigNumber) (verdict :
 setting_step rows k number (Good fpr) h = ap (λ b. if b then None else Some (with_verdict_on number (Good fpr) k)) h
 setting_step rows k number Bad h = ap (λ b. if b then None else Some (with_verdict_on number Bad k)) h
 
-same_after : (number : SigNumber) (stamp : ℕ) (es : Entries) → plain_of (restamped_all number stamp es) ≡ plain_of es
-same_after number stamp [] = refl
-same_after number stamp (e ∷ es) = ap (λ (rest : Certificates). (e.0, e.1.cert) ∷ rest) (same_after number stamp es)
-
 settings : (rows : PolicyRows) (k : Keyring) (all : verdicts.Entries) → InOrder all → length all ≤ k.limits.verdicts
     → (front rest : verdicts.Entries) → front ++ rest ≡ all → (mid : Keyring) → Says k front mid
     → IsSomeAnd (after_all rows (map setting_of rest) (Some mid)) (Says k all)
@@ -301,7 +289,7 @@ settings rows k all order few front (e ∷ rest) parts mid so_far =
     let below = below_next number_cmp front e rest (subst InOrder (sym parts) order) in
     let says : Says k (front ++ e ∷ []) (with_verdict_on e.0 e.1 mid) = record {
       same_limits = so_far.same_limits;
-      same_certs = same_after e.0 (mid.changes + 1) mid.certs ∙ so_far.same_certs;
+      same_certs = restamped_same e.0 (mid.changes + 1) mid.certs ∙ so_far.same_certs;
       verdicts = ap (λ (es : verdicts.Entries). with_verdict es e.0 e.1) so_far.verdicts ∙ put_behind number_cmp numbers_total front e.0 e.1 below;
     } in
     subst Ends (sym (setting_step rows mid e.0 e.1 free))
@@ -322,7 +310,7 @@ so_also P Q None h f = absurd h
 so_also P Q (Some a) h f = f a h
 
 -- what was judged anew is the same whatever the marks
-same_plain : (laws : Laws) (rows : PolicyRows) (es : Entries) → map plain (map (judged_anew rows) es) ≡ map plain (plain_of es)
+same_plain : (laws : Laws) (rows : PolicyRows) (es : Entries) → map plain (map (judged_anew rows) es) ≡ map plain (certs_of es)
 same_plain laws rows [] = refl
 same_plain laws rows (e ∷ es) =
     ap (λ (c : Certificate). (e.0, c) ∷ map plain (map (judged_anew rows) es)) (laws.forgotten rows e.1.cert)
@@ -332,7 +320,7 @@ all_judged : (laws : Laws) (rows : PolicyRows) (es : Entries) → AllByRecursion
 all_judged laws rows [] = tt
 all_judged laws rows (e ∷ es) = (laws.by_rows rows e.1.cert, all_judged laws rows es)
 
-judged_in : (rows : PolicyRows) (es : Entries) → AllByRecursion (λ (e : Fpr × Certificate). IsJudged rows e.1) (plain_of es) → AreJudged rows es
+judged_in : (rows : PolicyRows) (es : Entries) → AllByRecursion (λ (e : Fpr × Certificate). IsJudged rows e.1) (certs_of es) → AreJudged rows es
 judged_in rows [] all = tt
 judged_in rows (e ∷ es) all = (all.0, judged_in rows es all.1)
 
