@@ -8,8 +8,9 @@ ghost use Rattle.wot_engine.specs.Transcript.{Told, Answered, Begun, AnsweredWho
 ghost use Rattle.wot_engine.specs.Turn.{Replies};
 ghost use Rattle.wot_engine.specs.declared.run.Stop.TheVariants as stops;
 
+use crate::laws::each_line_has_one_outcome;
 use crate::machine::Machine;
-use use std::alloc::Global;
+use std::alloc::Global;
 use wot_policy::{Ask, Policy};
 use wot_script::{Reply, print_reply};
 use wot_io::{Failed, Line, Lines, LinesFault, Sink, Source, write_all};
@@ -92,6 +93,7 @@ pub fn run<S: Source, K: Sink, F: Fn(Ask) -> bool>(
     ensures most_only { Told (S.left input.old) (K.written output.old) (λ octets before.
         AnsweredMost (rows_of policy.old) octets before (S.left input.new) (K.written output.new) → IsErrOf result Stop.TooMuch ⊎ IsErrOf result Stop.Memory) }
 {
+    each_line_has_one_outcome();
     let mut lines = Lines::new(alloc)?;
     let mut machine = Machine::new(alloc);
     let mut out = Vec::new(alloc);

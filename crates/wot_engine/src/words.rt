@@ -4,6 +4,7 @@ ghost use Rattle.wot_io.specs.Counts.{Rose};
 ghost use Rattle.wot_io.specs.Input.{lines_of};
 ghost use Rattle.wot_engine.specs.Transcript.{Told, Answered, Begun, AnsweredWhole, AnsweredMost, IsForm};
 
+use crate::laws::each_line_has_one_outcome;
 use crate::run::{Stop, run};
 use std::alloc::Global;
 use wot_io::{Sink, Source};
@@ -62,6 +63,7 @@ pub fn run_words<S: Source, K: Sink, F: Fn(Ask) -> bool>(
         → (Rose (S.faults input.old) (S.faults input.new) → ⊥) → (Rose (K.faults output.old) (K.faults output.new) → ⊥)
         → (result ≡ 0) ⊎ (result ≡ 5)) }
 {
+    each_line_has_one_outcome();
     if !is_form(words) {
         return 2;
     }
