@@ -104,6 +104,9 @@ lawful_line fpr (l ∷ lines) line all e = by (is_fpr fpr l.0) (λ f. lawful_lin
 
 -- ---- of a network that is right for a keyring, as its roads see both
 
+pub seen : (p : Present) (k : Keyring) (t : ℕ) → p.keyring ≡ k → p.time ≡ t → record { keyring = k; time = t } ≡ p
+seen p k t e f = λ i. record { keyring = (sym e) i; time = (sym f) i }
+
 module _ (n : Net) (k : Keyring) (right : IsRight n k n.time) (p : Present) (view : record { keyring = k; time = n.time } ≡ p) where
   abbrev here : Present
   here = record { keyring = k; time = n.time }
