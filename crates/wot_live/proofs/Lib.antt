@@ -1,0 +1,7 @@
+pub mod Orders
+pub mod Putting
+pub mod Exact
+pub mod Counting
+pub mod Places
+pub mod Through
+pub mod Short

@@ -5,6 +5,7 @@ mod certifiers;
 mod governing;
 mod kinds;
 mod latest;
+pub mod laws;
 mod newest;
 mod own;
 mod revoked;
