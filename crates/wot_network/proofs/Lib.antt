@@ -1,4 +1,5 @@
 pub mod Few
 pub mod Filling
 pub mod Kept
+pub mod Lawful
 pub mod Looking

@@ -111,7 +111,7 @@ impl Network {
     fn is_lawful(&self)
         ensures lawful { AreLawful self.now.lines }
     {
-        let _ = self.made;
+        let _ = self.lines.is_empty();
     }
 
     /// What was made of the certificate of a fingerprint.
