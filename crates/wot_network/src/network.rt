@@ -28,8 +28,8 @@ pub struct Network {
 
 impl Model for Network {
     ghost use Rattle.wot_edge.specs.Lawful.{AreEntries};
-ghost use Rattle.wot_edge.specs.Record.{IsRecord};
-ghost use Rattle.wot_network.specs.Net.{Net, AreLawful};
+    ghost use Rattle.wot_edge.specs.Record.{IsRecord};
+    ghost use Rattle.wot_network.specs.Net.{Net, AreLawful};
 
     ghost Value = { Net };
 
@@ -63,12 +63,7 @@ impl Network {
 
     /// Makes the network that of this keyring at `t`. Its lines are made anew unless they were made at this time for this
     /// count of changes; then nothing is counted. After `Memory` it is as before.
-    pub fn refresh(
-        &mut self,
-        keyring: &Keyring,
-        t: u32,
-        steps: &mut Steps,
-    ) -> Result<(), Memory>
+    pub fn refresh(&mut self, keyring: &Keyring, t: u32, steps: &mut Steps) -> Result<(), Memory>
         requires fits { Fits self.old keyring.now }
         ensures right { OnOk result (IsRight self.new keyring.now t) }
         ensures fits { Fits self.new keyring.now }
