@@ -2,6 +2,9 @@ mod CutLines
 mod Named
 mod Outcomes
 mod Runs
+mod Refusing
+mod Keeping
+mod Short
 mod Steps
 mod Progress
 mod Turns
