@@ -2,5 +2,15 @@ pub mod Stamps
 pub mod Rows
 pub mod Judged
 pub mod Keeping
+pub mod Logs
 pub mod Places
+pub mod Running
+pub mod Steps
+pub mod Unions
 pub mod Weighing
+pub mod Clashes
+pub mod Inserts
+pub mod Transport
+pub mod Unchanged
+pub mod Marks
+pub mod Within

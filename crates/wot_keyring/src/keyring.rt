@@ -262,14 +262,14 @@ impl Keyring {
 }
 
 /// What is kept under a fingerprint.
-fn find<'a>(certs: &'a BTreeMap<Fpr, Kept, Global>, fpr: &Fpr) -> Option<&'a Kept>
+pub(crate) fn find<'a>(certs: &'a BTreeMap<Fpr, Kept, Global>, fpr: &Fpr) -> Option<&'a Kept>
     ensures found { option_copied result ≡ lookup (is_fpr fpr.now) certs.now.entries }
 {
     certs.get(fpr)
 }
 
 /// Takes out what is kept under a fingerprint.
-fn take_out(certs: &mut BTreeMap<Fpr, Kept, Global>, fpr: &Fpr)
+pub(crate) fn take_out(certs: &mut BTreeMap<Fpr, Kept, Global>, fpr: &Fpr)
     ensures out { certs.new.entries ≡ remove_entry (is_fpr fpr.now) certs.old.entries }
     ensures in_order { AreInOrder certs.new.entries }
 {

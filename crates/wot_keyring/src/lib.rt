@@ -7,6 +7,8 @@ mod kept;
 mod keyring;
 mod refusal;
 mod restamp;
+mod staging;
+mod tally;
 
 pub use certs::CertsIter;
 pub use import::Imported;
