@@ -20,12 +20,11 @@ use Rattle.wot_policy.specs.declared.rows.PolicyRows.{PolicyRows}
 use Rattle.wot_cert.specs.Certificate.{Certificate}
 use Rattle.wot_keyring.specs.declared.kept.Kept.{Kept}
 use Rattle.wot_keyring.specs.Import.{clash, any_clash}
-use Rattle.wot_keyring.specs.Keyring.{Entries, is_fpr}
+use Rattle.wot_keyring.specs.Keyring.{Entries, is_fpr, stripped}
 use Rattle.wot_keyring.specs.Kept.{AreNamed, AreInOrder}
 use Rattle.wot_keyring.specs.Staging.{found_for, kept_as, kept_with, clash_at, clash_in}
 use Rattle.wot_keyring.proofs.Places.{fprs_total, same_fpr}
 use Rattle.wot_keyring.proofs.Inserts.{lookup_insert}
-use Rattle.wot_keyring.proofs.Keeping.{certs_of}
 
 -- the kept certificates
 abbrev pub bodies_of : Entries → List Certificate
@@ -49,7 +48,7 @@ clash_kept x (e ∷ es) named sorted =
       | false ↦ λ t. rest
     ]) refl)
 
-pub bodies_same : (es : Entries) → map (λ (e : Fpr × Certificate). e.1) (certs_of es) ≡ bodies_of es
+pub bodies_same : (es : Entries) → map (λ (e : Fpr × Certificate). e.1) (stripped es) ≡ bodies_of es
 bodies_same [] = refl
 bodies_same (e ∷ es) = ap (λ (rest : List Certificate). e.1.cert ∷ rest) (bodies_same es)
 
@@ -65,7 +64,7 @@ pointwise_same (x ∷ xs) (y ∷ ys) h =
       | false ↦ λ t f. absurd cc
     ]) refl h
 
-keys_same : (a b : List ℕ) → not (pointwise nat_eq a b) ≡ false → a ≡ b
+pub keys_same : (a b : List ℕ) → not (pointwise nat_eq a b) ≡ false → a ≡ b
 keys_same a b h = pointwise_same a b (not_not (pointwise nat_eq a b) h)
   where
     not_not : (t : Bool) → not t ≡ false → t ≡ true
@@ -109,6 +108,6 @@ module _ (rows : PolicyRows) (stamp : ℕ) where
       ]) refl)
 
   -- Two clash exactly where one clashes with what is kept.
-  pub clashes_told : (es : Entries) (cs : List Certificate) → AreNamed es → AreInOrder es → any_clash (map (λ (e : Fpr × Certificate). e.1) (certs_of es)) cs ≡ clash_in rows stamp es cs
+  pub clashes_told : (es : Entries) (cs : List Certificate) → AreNamed es → AreInOrder es → any_clash (map (λ (e : Fpr × Certificate). e.1) (stripped es)) cs ≡ clash_in rows stamp es cs
   clashes_told es cs named sorted =
       ap (λ (earlier : List Certificate). any_clash earlier cs) (bodies_same es) ∙ clashes_alike (bodies_of es) es cs (λ x. clash_kept x es named sorted)

@@ -14,3 +14,6 @@ pub mod Transport
 pub mod Unchanged
 pub mod Marks
 pub mod Within
+pub mod Reading
+pub mod Trying
+pub mod Accepting

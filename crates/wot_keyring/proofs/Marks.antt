@@ -11,11 +11,10 @@ use Rattle.wot_cert.specs.Counts.{items_of}
 use Rattle.wot_cert.specs.Judged.{judged}
 use Rattle.wot_keyring.specs.declared.kept.Kept.{Kept}
 use Rattle.wot_keyring.specs.Import.{stamp_for, stamped, with_certs}
-use Rattle.wot_keyring.specs.Keyring.{Entries, Keyring, Certificates, is_fpr, kept_at, certificates_in}
+use Rattle.wot_keyring.specs.Keyring.{Entries, Keyring, Certificates, is_fpr, kept_at, certificates_in, stripped}
 use Rattle.wot_keyring.specs.Kept.{AreInOrder, IsStamped, AreStamped}
 use Rattle.wot_keyring.specs.Staging.{found_for, found_by, joined, kept_as, kept_with, kept_all}
 use Rattle.wot_keyring.proofs.Inserts.{put_at, found_at, found_each, still_present}
-use Rattle.wot_keyring.proofs.Keeping.{certs_of}
 use Rattle.wot_keyring.proofs.Stamps.{still_stamped, found_stamped}
 use Rattle.wot_keyring.proofs.Transport.{certs_all}
 use Rattle.wot_keyring.proofs.Unchanged.{not_below}
@@ -86,7 +85,7 @@ module _ (rows : PolicyRows) (k : Keyring) (grows : (a b : Certificate) → item
       all_marked (kept_with rows s es c) cs (put_at (Marked k) es (fpr_of c.key) (kept_as rows s (found_for es c) c) all (marked_with es c all there))
       (λ q h. still_present q es (fpr_of c.key) (kept_as rows s (found_for es c) c) (there q h))
 
-  stamps_are : (es : Entries) → AllByRecursion (λ (e : Fpr × Kept). Marked k e.0 e.1) es → es ≡ map (stamped k) (certs_of es)
+  stamps_are : (es : Entries) → AllByRecursion (λ (e : Fpr × Kept). Marked k e.0 e.1) es → es ≡ map (stamped k) (stripped es)
   stamps_are [] all = refl
   stamps_are (e ∷ es) all = λ i. (e.0, record { cert = e.1.cert; stamp = all.0.stamp_is i }) ∷ stamps_are es all.1 i
 

@@ -1,5 +1,5 @@
 -- The steps of an import, one after the other.
-use Rattle.std.proofs.Common.{◌≡◌, ◌≤◌, ◌<◌, ◌+◌, ◌-◌, ◌^◌, max, min, ◌⊎◌, inl, inr, ℕ, Bool, true, false, ◌||◌, cond, List, [], ◌∷◌, Option, Some, None, Result, Ok, Err, sym, ap, ◌∙◌, subst, refl, arith}
+use Rattle.std.proofs.Common.{◌≡◌, ◌≤◌, ◌<◌, ◌+◌, ◌-◌, ◌^◌, max, min, ◌⊎◌, inl, inr, ℕ, Bool, true, false, ◌||◌, cond, List, [], ◌∷◌, Option, Some, None, sym, ap, ◌∙◌, subst, refl, arith}
 use Rattle.std.specs.declared.cmp.Ordering.{Ordering}
 use Rattle.std.specs.declared.cmp.Ordering.TheVariants.{Less, Equal, Greater}
 use Rattle.std.specs.Ordering.{match_ordering, ordering_reverse}
@@ -24,7 +24,7 @@ use Rattle.wot_keyring.specs.declared.tally.Weight.{Weight}
 use Rattle.wot_keyring.specs.declared.tally.Tally.{Tally}
 use Rattle.wot_keyring.specs.Keyring.{Entries}
 use Rattle.wot_keyring.specs.Kept.{AreInOrder, AreJudged}
-use Rattle.wot_keyring.specs.Staging.{found_for, found_by, joined, kept_as, kept_with, kept_all, clash_at, clash_in, weigh_kept, IsTally, AskedFor, AskedInAll, StillLeadsBack}
+use Rattle.wot_keyring.specs.Staging.{found_for, found_by, joined, kept_as, kept_with, kept_all, clash_at, clash_in, weigh_kept, IsTally, AskedOnFault, AskedUpTo, StillLeadsBack, IsClashTold}
 use Rattle.wot_keyring.proofs.Places.{fprs_total}
 use Rattle.wot_keyring.proofs.Steps.{weighs_by}
 
@@ -134,6 +134,9 @@ run_on rows stamp limit all first log t left rest c es es' log' log2 t' t2 run s
       judged = λ h. p.judged (run.judged h);
     }
 
+pub none_yet : (a : ℕ) → a + 0 ≡ a
+none_yet a = omega arith
+
 summed : (a k w j v : ℕ) → a + k ≡ w → w + j ≡ v → a + (k + j) ≡ v
 summed a k w j v e f = omega arith
 
@@ -147,8 +150,8 @@ at_most a k w j v u e (inr f) h m = omega arith
 
 pub asked_up_to : ((x y : Certificate) → sound_of x ≤ sound_of (unite x y)) → (rows : PolicyRows) (stamp limit : ℕ) (all : List Certificate) (first : Entries) (log : List Was) (t : Tally) (left rest : List Certificate) (c : Certificate) (es : Entries) (log' : List Was) (t' : Tally) (k j : ℕ) (fault : Fault)
     → Run rows stamp limit all first log t left es log' t' → left ≡ c ∷ rest → weigh_kept sound_of first + k ≡ weigh_kept sound_of es
-    → AskedFor {T = Unit {0}} (Err fault) (weigh_kept sound_of es) (weigh_kept sound_of (kept_with rows stamp es c)) j
-    → AskedInAll {T = Unit {0}} (Err fault) (weigh_kept sound_of first) (weigh_kept sound_of (kept_all rows stamp first all)) (k + j)
+    → AskedOnFault fault (weigh_kept sound_of es) (weigh_kept sound_of (kept_with rows stamp es c)) j
+    → AskedUpTo fault (weigh_kept sound_of first) (weigh_kept sound_of (kept_all rows stamp first all)) (k + j)
 asked_up_to grows rows stamp limit all first log t left rest c es log' t' k j Clash run split e f = tt
 asked_up_to grows rows stamp limit all first log t left rest c es log' t' k j Memory run split e f =
     let whole : kept_all rows stamp es (c ∷ rest) ≡ kept_all rows stamp first all = ap (kept_all rows stamp es) (sym split) ∙ run.same in
@@ -157,7 +160,8 @@ asked_up_to grows rows stamp limit all first log t left rest c es log' t' k j Me
       (more_in_all sound_of grows rows stamp (kept_with rows stamp es c) rest (sorted_insert es (fpr_of c.key) (kept_as rows stamp (found_for es c) c) run.in_order)))
 
 -- a clash is told where there is one
-pub clash_told : (rows : PolicyRows) (stamp limit : ℕ) (all : List Certificate) (first : Entries) (log : List Was) (t : Tally) (left rest : List Certificate) (c : Certificate) (es : Entries) (log' : List Was) (t' : Tally)
-    → Run rows stamp limit all first log t left es log' t' → left ≡ c ∷ rest → clash_at (found_for es c) c ≡ true → clash_in rows stamp first all ≡ true
-clash_told rows stamp limit all first log t left rest c es log' t' run split clashes =
+pub clash_told : (rows : PolicyRows) (stamp limit : ℕ) (all : List Certificate) (first : Entries) (log : List Was) (t : Tally) (left rest : List Certificate) (c : Certificate) (es : Entries) (log' : List Was) (t' : Tally) (fault : Fault)
+    → Run rows stamp limit all first log t left es log' t' → left ≡ c ∷ rest → IsClashTold fault (clash_at (found_for es c) c) → IsClashTold fault (clash_in rows stamp first all)
+clash_told rows stamp limit all first log t left rest c es log' t' Clash run split clashes =
     sym run.clash ∙ ap (clash_in rows stamp es) split ∙ ap (λ b. b || clash_in rows stamp (kept_with rows stamp es c) rest) clashes
+clash_told rows stamp limit all first log t left rest c es log' t' Memory run split clashes = tt

@@ -11,11 +11,10 @@ use Rattle.wot_policy.specs.declared.rows.PolicyRows.{PolicyRows}
 use Rattle.wot_cert.specs.Certificate.{Certificate, unite, unmarked}
 use Rattle.wot_cert.specs.Judged.{judged}
 use Rattle.wot_keyring.specs.declared.kept.Kept.{Kept}
-use Rattle.wot_keyring.specs.Keyring.{Entries, Certificates, is_fpr}
+use Rattle.wot_keyring.specs.Keyring.{Entries, Certificates, is_fpr, stripped}
 use Rattle.wot_keyring.specs.Import.{united_with, with_cert, with_certs, weigh}
 use Rattle.wot_keyring.specs.Staging.{found_for, joined, kept_as, kept_with, kept_all, weigh_kept}
 use Rattle.wot_keyring.proofs.Inserts.{map_insert}
-use Rattle.wot_keyring.proofs.Keeping.{certs_of}
 
 -- the certificates of entries, changed so
 abbrev pub seen_by : (Certificate → Certificate) → Entries → Certificates
@@ -35,7 +34,7 @@ module _ (rows other : PolicyRows) (stamp : ℕ) (change : Certificate → Certi
 as_is : (rows : PolicyRows) (found : Option Kept) (c : Certificate) → joined rows found c ≡ united_with (option_map (λ (x : Kept). x.cert) found) (judged rows c)
 as_is rows found c = refl
 
-pub certs_all : (rows : PolicyRows) (stamp : ℕ) (es : Entries) (cs : List Certificate) → certs_of (kept_all rows stamp es cs) ≡ with_certs rows (certs_of es) cs
+pub certs_all : (rows : PolicyRows) (stamp : ℕ) (es : Entries) (cs : List Certificate) → stripped (kept_all rows stamp es cs) ≡ with_certs rows (stripped es) cs
 certs_all rows stamp es cs = seen_all rows rows stamp (λ (c : Certificate). c) (as_is rows) es cs
 
 -- judged anew, whatever rows judged them

@@ -5,3 +5,4 @@ pub mod Import
 pub mod Kept
 pub mod Dump
 pub mod Staging
+pub mod Importing

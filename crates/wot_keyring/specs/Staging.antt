@@ -63,10 +63,13 @@ clash_in rows stamp es [] = false
 clash_in rows stamp es (c ∷ cs) = clash_at (found_for es c) c || clash_in rows stamp (kept_with rows stamp es c) cs
 
 -- A clash is told exactly where there is one; want of memory in either case.
+abbrev pub IsClashTold : Fault → Bool → Type 0
+IsClashTold Clash clashes = clashes ≡ true
+IsClashTold Memory clashes = Unit {0}
+
 abbrev pub TellsClash : {T : Type 0} → Result T Fault → Bool → Type 0
 TellsClash (Ok done) clashes = clashes ≡ false
-TellsClash (Err Clash) clashes = clashes ≡ true
-TellsClash (Err Memory) clashes = Unit {0}
+TellsClash (Err fault) clashes = IsClashTold fault clashes
 
 -- ---- weights
 
@@ -123,16 +126,22 @@ found_by measure None = 0
 found_by measure (Some kept) = measure kept.cert
 
 -- How often the policy was asked: once for each signature that is sound and new, or never.
+abbrev pub AskedOnFault : Fault → ℕ → ℕ → ℕ → Type 0
+AskedOnFault Clash old new k = k ≡ 0
+AskedOnFault Memory old new k = (k ≡ 0) ⊎ (old + k ≡ new)
+
 abbrev pub AskedFor : {T : Type 0} → Result T Fault → ℕ → ℕ → ℕ → Type 0
 AskedFor (Ok done) old new k = old + k ≡ new
-AskedFor (Err Clash) old new k = k ≡ 0
-AskedFor (Err Memory) old new k = (k ≡ 0) ⊎ (old + k ≡ new)
+AskedFor (Err fault) old new k = AskedOnFault fault old new k
 
 -- the same of several certificates, as far as the answer tells
+abbrev pub AskedUpTo : Fault → ℕ → ℕ → ℕ → Type 0
+AskedUpTo Clash old new k = Unit {0}
+AskedUpTo Memory old new k = old + k ≤ new
+
 abbrev pub AskedInAll : {T : Type 0} → Result T Fault → ℕ → ℕ → ℕ → Type 0
 AskedInAll (Ok done) old new k = old + k ≡ new
-AskedInAll (Err Clash) old new k = Unit {0}
-AskedInAll (Err Memory) old new k = old + k ≤ new
+AskedInAll (Err fault) old new k = AskedUpTo fault old new k
 
 -- It is judged by these rows where it is kept.
 abbrev pub IsFoundJudged : PolicyRows → Option Kept → Type 0

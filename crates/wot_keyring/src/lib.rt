@@ -3,6 +3,7 @@
 
 mod certs;
 mod import;
+mod importing;
 mod kept;
 mod keyring;
 mod refusal;

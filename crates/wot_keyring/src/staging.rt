@@ -192,6 +192,7 @@ fn grow<F: Fn(Ask) -> bool>(
 }
 
 /// The stamp and the limit by which certificates are put among the kept ones.
+#[derive(Clone, Copy)]
 pub(crate) struct Terms {
     /// The stamp of what is altered.
     pub stamp: u64,
