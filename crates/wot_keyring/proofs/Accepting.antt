@@ -37,10 +37,10 @@ pub named_all : (rows : PolicyRows) (stamp : ℕ) (es : Entries) (cs : List Cert
 named_all rows stamp es [] all = all
 named_all rows stamp es (c ∷ cs) all =
     named_all rows stamp (kept_with rows stamp es c) cs (put_at (λ fpr x. fpr ≡ fpr_of x.cert.key) es (fpr_of c.key) (kept_as rows stamp (found_for es c) c) all
-      ((elim (found_for es c) as (λ (o : Option Kept). found_for es c ≡ o → fpr_of c.key ≡ fpr_of (kept_as rows stamp o c).cert.key) [
-        | None ↦ λ none. refl
-        | Some x ↦ λ found. found_at (λ fpr y. fpr ≡ fpr_of y.cert.key) (fpr_of c.key) es x all found
-      ]) refl))
+    ((elim (found_for es c) as (λ (o : Option Kept). found_for es c ≡ o → fpr_of c.key ≡ fpr_of (kept_as rows stamp o c).cert.key) [
+      | None ↦ λ none. refl
+      | Some x ↦ λ found. found_at (λ fpr y. fpr ≡ fpr_of y.cert.key) (fpr_of c.key) es x all found
+    ]) refl))
 
 neither : (a b : Bool) → a || b ≡ false → (a ≡ false) × (b ≡ false)
 neither true b h = absurd cc
@@ -135,8 +135,8 @@ module _ (rows : PolicyRows) (k : Keyring) (cs : List Certificate) (new : Entrie
   answered skipped may =
       ap (λ n. Ok (record { taken = length cs; skipped = skipped; fresh = n })) fresh_is
       ∙ sym (
-        ap (λ b. if b then Err Clash else unless_full (first_full k.limits (with_certs rows (certificates_in k) cs)) (counts skipped)) may.clash
-        ∙ ap (λ (o : Option Limit). unless_full o (counts skipped)) (may.full rows)
+      ap (λ b. if b then Err Clash else unless_full (first_full k.limits (with_certs rows (certificates_in k) cs)) (counts skipped)) may.clash
+      ∙ ap (λ (o : Option Limit). unless_full o (counts skipped)) (may.full rows)
       )
 
   module _ (still : (a b : Certificate) → items_of (unite a b) ≡ items_of a → unite a b ≡ a) where
@@ -157,10 +157,10 @@ module _ (rows : PolicyRows) (k : Keyring) (cs : List Certificate) (new : Entrie
       fits =
           fits_of k.limits total (length new)
           (full_is k.limits (with_certs rows (certificates_in k) cs) total (length new)
-            (t.octets ∙ ap (weigh_kept size_of) put ∙ weighs_all size_of rows (k.changes + 1) k.certs cs)
-            (t.signatures ∙ ap (weigh_kept signatures_of) put ∙ weighs_all signatures_of rows (k.changes + 1) k.certs cs)
-            (t.long ∙ ap (weigh_kept (long_of k.limits.certificate)) put ∙ weighs_all (long_of k.limits.certificate) rows (k.changes + 1) k.certs cs)
-            (ap length put ∙ sym (seen_length (λ (c : Certificate). c) (kept_all rows (k.changes + 1) k.certs cs)) ∙ ap length (certs_all rows (k.changes + 1) k.certs cs))
+          (t.octets ∙ ap (weigh_kept size_of) put ∙ weighs_all size_of rows (k.changes + 1) k.certs cs)
+          (t.signatures ∙ ap (weigh_kept signatures_of) put ∙ weighs_all signatures_of rows (k.changes + 1) k.certs cs)
+          (t.long ∙ ap (weigh_kept (long_of k.limits.certificate)) put ∙ weighs_all (long_of k.limits.certificate) rows (k.changes + 1) k.certs cs)
+          (ap length put ∙ sym (seen_length (λ (c : Certificate). c) (kept_all rows (k.changes + 1) k.certs cs)) ∙ ap length (certs_all rows (k.changes + 1) k.certs cs))
           ∙ may.full rows)
 
       pub totals_after : AreTotals after total.octets total.signatures

@@ -61,9 +61,11 @@ still_present q (e ∷ es) fpr kept there =
     either : (b : Bool) (x : Kept) (o : Option Kept) → is_some o ≡ true → is_some (cond b (Some x) o) ≡ true
     either true x o h = refl
     either false x o h = h
+
     instead : (b : Bool) (x y : Kept) (o : Option Kept) → is_some (cond b (Some x) o) ≡ true → is_some (cond b (Some y) o) ≡ true
     instead true x y o h = refl
     instead false x y o h = h
+
     later : (b : Bool) (x : Kept) (o p : Option Kept) → is_some (cond b (Some x) o) ≡ true → (is_some o ≡ true → is_some p ≡ true) → is_some (cond b (Some x) p) ≡ true
     later true x o p h f = refl
     later false x o p h f = f h

@@ -17,3 +17,4 @@ pub mod Within
 pub mod Reading
 pub mod Trying
 pub mod Accepting
+pub mod Accepted

@@ -90,7 +90,7 @@ leads_back es fpr kept sorted = record {
 pub log_goes_on : (es new : Entries) (log log' : List Was) (fpr : Fpr) (kept : Kept) (was : Option Kept) → AreInOrder es → was ≡ lookup (is_fpr fpr) es → new ≡ insert_entry fpr_cmp es fpr kept → log' ≡ log ++ record { fpr = fpr; kept = was } ∷ [] → StillLeadsBack log es log' new
 log_goes_on es new log log' fpr kept was sorted w n l first leads =
     let step : LeadsBack es (record { fpr = fpr; kept = was }) new =
-        subst (λ (o : Option Kept). LeadsBack es (record { fpr = fpr; kept = o }) new) (sym w) (subst (λ (x : Entries). LeadsBack es (record { fpr = fpr; kept = lookup (is_fpr fpr) es }) x) (sym n) (leads_back es fpr kept sorted)) in
+    subst (λ (o : Option Kept). LeadsBack es (record { fpr = fpr; kept = o }) new) (sym w) (subst (λ (x : Entries). LeadsBack es (record { fpr = fpr; kept = lookup (is_fpr fpr) es }) x) (sym n) (leads_back es fpr kept sorted)) in
     subst (λ (x : List Was). IsLog first x new) (sym l) (log_more first log (record { fpr = fpr; kept = was }) es new leads step)
 
 pub led_back : (first es mid : Entries) (ws log : List Was) (w : Was) → log ≡ ws ++ w ∷ [] → IsLog first log es → ((start : Entries) → LeadsBack start w es → mid ≡ start) → IsLog first ws mid

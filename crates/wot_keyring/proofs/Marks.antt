@@ -108,7 +108,7 @@ pub stamped_after : (rows : PolicyRows) (n : ℕ) (es : Entries) (cs : List Cert
 stamped_after rows n es [] all = all
 stamped_after rows n es (c ∷ cs) all =
     stamped_after rows n (kept_with rows (n + 1) es c) cs (put_at (λ fpr x. (0 < x.stamp) × (x.stamp ≤ n + 1)) es (fpr_of c.key) (kept_as rows (n + 1) (found_for es c) c) all
-      ((elim (found_for es c) as (λ (o : Option Kept). found_for es c ≡ o → (0 < (kept_as rows (n + 1) o c).stamp) × ((kept_as rows (n + 1) o c).stamp ≤ n + 1)) [
-        | None ↦ λ none. above n
-        | Some x ↦ λ found. either_stamp n x.stamp _ (found_at (λ fpr y. (0 < y.stamp) × (y.stamp ≤ n + 1)) (fpr_of c.key) es x all found)
-      ]) refl))
+    ((elim (found_for es c) as (λ (o : Option Kept). found_for es c ≡ o → (0 < (kept_as rows (n + 1) o c).stamp) × ((kept_as rows (n + 1) o c).stamp ≤ n + 1)) [
+      | None ↦ λ none. above n
+      | Some x ↦ λ found. either_stamp n x.stamp _ (found_at (λ fpr y. (0 < y.stamp) × (y.stamp ≤ n + 1)) (fpr_of c.key) es x all found)
+    ]) refl))

@@ -157,7 +157,7 @@ asked_up_to grows rows stamp limit all first log t left rest c es log' t' k j Me
     let whole : kept_all rows stamp es (c ∷ rest) ≡ kept_all rows stamp first all = ap (kept_all rows stamp es) (sym split) ∙ run.same in
     at_most _ k _ j _ _ e f (more_with sound_of grows rows stamp es c run.in_order)
     (subst (λ (x : Entries). weigh_kept sound_of (kept_with rows stamp es c) ≤ weigh_kept sound_of x) whole
-      (more_in_all sound_of grows rows stamp (kept_with rows stamp es c) rest (sorted_insert es (fpr_of c.key) (kept_as rows stamp (found_for es c) c) run.in_order)))
+    (more_in_all sound_of grows rows stamp (kept_with rows stamp es c) rest (sorted_insert es (fpr_of c.key) (kept_as rows stamp (found_for es c) c) run.in_order)))
 
 -- a clash is told where there is one
 pub clash_told : (rows : PolicyRows) (stamp limit : ℕ) (all : List Certificate) (first : Entries) (log : List Was) (t : Tally) (left rest : List Certificate) (c : Certificate) (es : Entries) (log' : List Was) (t' : Tally) (fault : Fault)

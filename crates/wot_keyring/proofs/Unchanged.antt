@@ -48,6 +48,6 @@ module _ (rows : PolicyRows) (stamp : ℕ) (still : (a b : Certificate) → item
   all_same es [] sorted e = refl
   all_same es (c ∷ cs) sorted e =
       let one : kept_with rows stamp es c ≡ es =
-          with_same es c sorted (between _ _ _ (more_with items_of grows rows stamp es c sorted) (more_in_all items_of grows rows stamp (kept_with rows stamp es c) cs (sorted_insert es (fpr_of c.key) (kept_as rows stamp (found_for es c) c) sorted)) e) in
+      with_same es c sorted (between _ _ _ (more_with items_of grows rows stamp es c sorted) (more_in_all items_of grows rows stamp (kept_with rows stamp es c) cs (sorted_insert es (fpr_of c.key) (kept_as rows stamp (found_for es c) c) sorted)) e) in
       let rest : kept_all rows stamp (kept_with rows stamp es c) cs ≡ kept_all rows stamp es cs = ap (λ (x : Entries). kept_all rows stamp x cs) one in
       rest ∙ all_same es cs sorted (ap (weigh_kept items_of) (sym rest) ∙ e)

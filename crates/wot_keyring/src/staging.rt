@@ -121,11 +121,7 @@ struct Start {
 }
 
 /// The kept certificate of the same fingerprint, or the key alone.
-fn begin(
-    alloc: Global,
-    certs: &BTreeMap<Fpr, Kept, Global>,
-    cert: &Cert,
-) -> Result<Start, Memory>
+fn begin(alloc: Global, certs: &BTreeMap<Fpr, Kept, Global>, cert: &Cert) -> Result<Start, Memory>
     ensures cert { IfOk result (λ start. start.cert ≡ begun (found_for certs.now.entries cert.now) cert.now) }
     ensures whole { IsCertificate cert.now }
     ensures stamp { IfOk result (λ start. start.stamp ≡ option_map (λ (x : TheKept). x.stamp) (found_for certs.now.entries cert.now)) }
@@ -217,13 +213,7 @@ fn stamp_of(old: Option<u64>, items: u64, stamp: u64) -> u64
     ensures { result ≡ stamp_over stamp old items }
 {
     match old {
-        Some(old) => {
-            if items == 0 {
-                old
-            } else {
-                stamp
-            }
-        }
+        Some(old) => { if items == 0 { old } else { stamp } }
         None => stamp,
     }
 }
@@ -248,17 +238,39 @@ fn take_step<F: Fn(Ask) -> bool>(
         Ok(start) => start,
         Err(Memory) => return Err(Fault::Memory),
     };
-    let Start { cert: mut united, stamp: old } = start;
+    let Start {
+        cert: mut united,
+        stamp: old,
+    } = start;
     let grown = match grow(alloc, &mut united, cert, terms.limit, policy) {
         Ok(grown) => grown,
         Err(fault) => return Err(fault),
     };
-    let Grown { before, after, items } = grown;
+    let Grown {
+        before,
+        after,
+        items,
+    } = grown;
     let stamp = stamp_of(old, items, terms.stamp);
-    let kept = Kept { cert: united, stamp };
+    let kept = Kept {
+        cert: united,
+        stamp,
+    };
     match old {
-        Some(_) => Ok(Step { kept, before, after, items, keys: 0 }),
-        None => Ok(Step { kept, before: NOTHING, after, items, keys: 1 }),
+        Some(_) => Ok(Step {
+            kept,
+            before,
+            after,
+            items,
+            keys: 0,
+        }),
+        None => Ok(Step {
+            kept,
+            before: NOTHING,
+            after,
+            items,
+            keys: 1,
+        }),
     }
 }
 

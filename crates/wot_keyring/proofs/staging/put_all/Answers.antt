@@ -48,12 +48,11 @@ returns-in-Err-clause-asked g c =
     let more = c.in-Err.ensures.asked in
     let es = c.left.certs.entries in
     let cert = c.in-Some.cert.now in
-    let stamp = c.args.terms.now.stamp in
-    (
+    let stamp = c.args.terms.now.stamp in (
       i.asked.0 + more.0,
       asked_again c.args.policy.now c.left.policy c.put_one.new.policy i.asked.0 more.0 i.asked.1 more.1,
       asked_up_to c.united_grows.ensures.sound (rows_of c.args.policy.now) stamp c.args.terms.now.limit c.args.list.now c.args.certs.now.entries c.args.log.now.items c.args.tally.now c.left.left.now c.in-Some.rest.now cert es c.left.log.items c.left.tally i.asked.0 more.0 c.in-Err.fault i.run c.in-Some.ensures.cases.0 i.asked.2
-        (subst (λ (rows : PolicyRows). AskedOnFault c.in-Err.fault (weigh_kept sound_of es) (weigh_kept sound_of (kept_with rows stamp es cert)) more.0) (ap rows_of i.asked.1) more.2),
+          (subst (λ (rows : PolicyRows). AskedOnFault c.in-Err.fault (weigh_kept sound_of es) (weigh_kept sound_of (kept_with rows stamp es cert)) more.0) (ap rows_of i.asked.1) more.2),
     )
 
 pub returns-in-Err-clause-clash : goal.returns-in-Err-clause-clash

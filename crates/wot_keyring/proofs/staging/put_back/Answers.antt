@@ -7,6 +7,6 @@ pub returns-in-Some : goal.returns-in-Some
 returns-in-Some c = record {
   back = λ first leads.
       let here : LeadsBack first (record { fpr = c.args.was.fpr; kept = Some c.in-Some.kept }) c.args.certs.now.entries =
-          subst (λ (o : Option Kept). LeadsBack first (record { fpr = c.args.was.fpr; kept = o }) c.args.certs.now.entries) c.in-Some.is leads in
+      subst (λ (o : Option Kept). LeadsBack first (record { fpr = c.args.was.fpr; kept = o }) c.args.certs.now.entries) c.in-Some.is leads in
       c.keep_again.ensures.again here.present ∙ here.entries;
 }
