@@ -71,6 +71,13 @@ impl Keyring {
         }
     }
 
+    /// What it may hold at most.
+    pub fn limits(&self) -> Limits
+        ensures limits { result ≡ self.now.limits }
+    {
+        self.limits
+    }
+
     /// The certificate that is kept under a fingerprint.
     pub fn get(&self, fpr: &Fpr) -> Option<&Cert>
         ensures found { option_copied result ≡ cert_at self.now fpr.now }

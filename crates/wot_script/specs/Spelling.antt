@@ -15,6 +15,11 @@ abbrev pub HasSpelling : Command → Type 0
 HasSpelling (Ask view fpr wanted uid) = 1 ≤ wanted
 HasSpelling _ = Unit {0}
 
+-- The octets of an import are no more than half as many as the size of its line.
+abbrev pub IsWithin : ℕ → Command → Type 0
+IsWithin size (Import octets) = 2 * length octets ≤ size
+IsWithin size _ = Unit {0}
+
 -- the line of a command, without a line feed
 unfoldable pub spelling : Command → List ℕ
 spelling (Import octets) = joined (codes "import " ∷ encode_lower octets ∷ [])

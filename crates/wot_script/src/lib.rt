@@ -5,6 +5,7 @@ mod command;
 mod decimal;
 mod fields;
 mod lined;
+pub mod laws;
 mod lists;
 mod octets;
 mod piece;

@@ -1,0 +1,4 @@
+pub mod Few
+pub mod Filling
+pub mod Kept
+pub mod Looking
