@@ -1,1 +1,4 @@
 mod Plain
+pub mod Lines
+pub mod Behind
+pub mod Replay

@@ -1,6 +1,7 @@
 //! The engine: one keyring, and views over it, each with a time and trust roots.
 #![tactic(auto)]
 
+mod dump;
 mod engine;
 mod view;
 mod views;

@@ -74,6 +74,7 @@ impl Keyring {
     /// What it may hold at most.
     pub fn limits(&self) -> Limits
         ensures limits { result ≡ self.now.limits }
+        ensures small { AreSmall result }
     {
         self.limits
     }

@@ -10,6 +10,7 @@ mod refusal;
 mod restamp;
 
 pub use certs::CertsIter;
+pub use dump::put_line;
 pub use import::Imported;
 pub use keyring::Keyring;
 pub use refusal::{Absent, ExportFault, Refusal};
