@@ -1,15 +1,20 @@
 -- Lines that are put one by one.
-use Rattle.std.proofs.Common.{◌≡◌, ℕ, ◌+◌, ◌<◌, ◌^◌, List, [], ◌∷◌, ◌++◌, length, take, arith, length-append, refl, sym, ap, ◌∙◌, append_assoc, append-nil}
+use Rattle.std.proofs.Common.{◌≡◌, ℕ, ◌+◌, ◌*◌, ◌≤◌, ◌<◌, ◌^◌, List, [], ◌∷◌, ◌++◌, length, take, arith, length-append, refl, sym, ap, subst, ◌∙◌, append_assoc, append-nil}
 use Rattle.std.proofs.Math.Seq.{take-append_seam}
 use Rattle.std.proofs.lemmas.Grind.{flat_map-append}
 use Rattle.std.proofs.lemmas.List.{length-map}
-use Rattle.std.specs.List.{flat_map}
+use Rattle.std.specs.List.{AllByRecursion, flat_map}
+use Rattle.wot_types.specs.declared.limits.Limits.{Limits}
+use Rattle.wot_keyring.specs.Kept.{AreSmall}
+use Rattle.wot_keyring.specs.Dump as keyrings
 use Rattle.wot_edge.specs.Roots.{IsRoots}
 use Rattle.wot_script.specs.declared.command.Command.{Command}
 use Rattle.wot_keyring.specs.Dump.{AreLines, line_of, lines_of}
-use Rattle.wot_cache.specs.Views.{Views}
+use Rattle.wot_cache.specs.Views.{Views, IsWithin}
 use Rattle.wot_cache.specs.declared.view.View.{View}
-use Rattle.wot_cache.specs.Dump.{HaveRoots, root_of, view_commands}
+use Rattle.wot_cache.specs.Dump.{HaveRoots, commands_of, root_of, view_commands}
+use Rattle.wot_cache.specs.State.{Engine, state_of}
+use Rattle.wot_cache.proofs.Replay.{engine_commands}
 
 -- The lines of all these commands but the rest were put.
 pub record PutSoFar (before now : List ℕ) (all rest : List Command) : Type 0 where
@@ -71,3 +76,36 @@ view_put before now next all e rest count so_far added lines roots = record {
 pub countable : (before now : List ℕ) (all : Views) (e : List ℕ × View) (rest : Views) (count : ℕ) → ViewsPut before now all (e ∷ rest) count
     → length (flat_map view_commands all) < 2 ^ 32 → count + (1 + length e.1.roots) < 2 ^ 32
 countable before now all e rest count so_far few = omega (arith, so_far.counted, length-view_commands e (flat_map view_commands rest), few)
+
+-- within the limits there are not many commands
+few_commands : (l : Limits) (views : Views) → l.roots ≤ 64 → AllByRecursion (λ (e : List ℕ × View). length e.1.roots ≤ l.roots) views
+    → length (flat_map view_commands views) ≤ 65 * length views
+few_commands l [] small few = omega arith
+few_commands l (e ∷ views) small few =
+    omega (arith, length-view_commands e (flat_map view_commands views), few.0, few_commands l views small few.1)
+
+pub few_lines : (l : Limits) (views : Views) → AreSmall l → IsWithin l views → length (flat_map view_commands views) < 2 ^ 32
+few_lines l views small within =
+    let views_small : l.views ≤ 16 = small.views in
+    omega (arith, few_commands l views small.roots within.few_roots, within.few)
+
+-- ---- an engine
+
+pub dumped : (engine : Engine) (before mid now : List ℕ) → mid ≡ before ++ lines_of (keyrings.commands_of engine.keyring)
+    → now ≡ mid ++ lines_of (flat_map view_commands engine.views) → now ≡ before ++ lines_of (commands_of (state_of engine))
+dumped engine before mid now first last =
+    last
+    ∙ ap (λ text. text ++ lines_of (flat_map view_commands engine.views)) first
+    ∙ append_assoc before (lines_of (keyrings.commands_of engine.keyring)) (lines_of (flat_map view_commands engine.views))
+    ∙ ap (λ text. before ++ text) (sym (lines-append (keyrings.commands_of engine.keyring) (flat_map view_commands engine.views)))
+    ∙ ap (λ commands. before ++ lines_of commands) (sym (engine_commands engine))
+
+pub dumped_lines : (engine : Engine) → AreLines (keyrings.commands_of engine.keyring) → AreLines (flat_map view_commands engine.views)
+    → AreLines (commands_of (state_of engine))
+dumped_lines engine first last =
+    subst AreLines (sym (engine_commands engine)) (both_lines (keyrings.commands_of engine.keyring) (flat_map view_commands engine.views) first last)
+
+pub dumped_count : (engine : Engine) (held opened : ℕ) → held ≡ length (keyrings.commands_of engine.keyring)
+    → opened ≡ length (flat_map view_commands engine.views) → held + opened ≡ length (commands_of (state_of engine))
+dumped_count engine held opened h k =
+    omega (arith, h, k, ap length (engine_commands engine), length-append (keyrings.commands_of engine.keyring) (flat_map view_commands engine.views))

@@ -35,9 +35,9 @@ use Rattle.wot_edge.specs.Roots.{IsRoots, AreAmounts, root_amount}
 use Rattle.wot_cache.specs.declared.view.View.{View}
 use Rattle.wot_cache.specs.declared.view.ViewFault.{ViewFault}
 use Rattle.wot_cache.specs.declared.view.ViewFault.TheVariants as faults
-use Rattle.wot_cache.specs.Views.{Views, amount_fault, root_fault, rooted, time_fault, timed, view_at, with_amount, is_name}
+use Rattle.wot_cache.specs.Views.{Views, IsWithin, amount_fault, root_fault, rooted, time_fault, timed, view_at, with_amount, is_name}
 use Rattle.wot_cache.specs.State.{Engine, State, is_verdict, judging, rooting, start, state_of, timing}
-use Rattle.wot_cache.specs.Dump.{AreInOrder, HaveRoots, IsRestored, IsWithin, after, after_all, commands_of, import_of, root_of, unless_refused, view_commands}
+use Rattle.wot_cache.specs.Dump.{AreInOrder, HaveRoots, IsRestored, after, after_all, commands_of, import_of, root_of, unless_refused, view_commands}
 use Rattle.wot_cache.proofs.Behind.{AreBelow, all_at, below_next, last_found, last_set, none_before, put_behind}
 
 -- ---- what the keyring's commands do

@@ -14,6 +14,7 @@ use Rattle.wot_script.specs.declared.command.Command.{Command}
 use Rattle.wot_script.specs.declared.command.Command.TheVariants.{Import, Good, Bad, Time, Root}
 use Rattle.wot_policy.specs.declared.rows.PolicyRows.{PolicyRows}
 use Rattle.wot_verdict.specs.declared.verdict.Verdict.TheVariants as verdicts
+use Rattle.wot_keyring.specs.Keyring.{Keyring}
 use Rattle.wot_keyring.specs.Dump.{judged_anew, setting_of}
 use Rattle.wot_keyring.specs.Dump as keyrings
 use Rattle.wot_keyring.specs.Import.{answer_to}
@@ -61,12 +62,16 @@ after_all rows l (command ∷ commands) (Some s) = after_all rows l commands (af
 abbrev pub judged_by : PolicyRows → State → State
 judged_by rows s = record s { certs = map (judged_anew rows) s.certs }
 
+-- an engine with this keyring and these views
+abbrev pub engine_of : Keyring → Views → Engine
+engine_of keyring views = record { keyring = keyring; views = views }
+
 -- The commands, run in a fresh engine with the same limits, give this state, judged by the rows, and none is refused.
 abbrev pub IsRestored : PolicyRows → Engine → Type 0
 IsRestored rows engine =
     after_all rows engine.keyring.limits (commands_of (state_of engine)) (Some start) ≡ Some (judged_by rows (state_of engine))
 
--- ---- what is true of every engine's views
+-- ---- what is true of all views
 
 -- The names rise, so that none stands twice.
 abbrev pub AreInOrder : Views → Type 0
@@ -75,8 +80,3 @@ AreInOrder views = IsStrictlySortedBy view_name_cmp (keys_of views)
 -- The roots of each are in order, and none has the amount 0.
 abbrev pub HaveRoots : Views → Type 0
 HaveRoots views = AllByRecursion (λ (e : List ℕ × View). IsRoots e.1.roots) views
-
--- What is open passes no limit.
-pub record IsWithin (l : Limits) (views : Views) : Type 0 where
-  pub few : length views ≤ l.views
-  pub few_roots : AllByRecursion (λ (e : List ℕ × View). length e.1.roots ≤ l.roots) views

@@ -4,14 +4,15 @@ ghost use Rattle.wot_edge.specs.Roots.{IsRoots};
 ghost use Rattle.wot_keyring.specs.Dump.{AreLines, IsLine, line_of, lines_of};
 ghost use Rattle.wot_keyring.specs.Dump as restored;
 ghost use Rattle.wot_policy.specs.declared.rows.PolicyRows.{PolicyRows as Rows};
-ghost use Rattle.wot_cache.specs.State.{Engine as Seen};
-ghost use Rattle.wot_cache.specs.Dump.{AreInOrder, HaveRoots, IsRestored, IsWithin, root_of, view_commands};
+ghost use Rattle.wot_cache.specs.Views.{IsWithin};
+ghost use Rattle.wot_cache.specs.State.{Engine as Seen, state_of};
+ghost use Rattle.wot_cache.specs.Dump.{AreInOrder, HaveRoots, IsRestored, commands_of, engine_of, root_of, view_commands};
 
 use crate::view::View;
 use crate::views::Views;
 use std::alloc::Global;
 use wot_edge::Roots;
-use wot_keyring::put_line;
+use wot_keyring::{Keyring, put_line};
 use wot_script::Command;
 use wot_types::{Fpr, Memory, ViewName};
 
@@ -101,4 +102,31 @@ pub fn put_views(alloc: Global, views: &Views, out: &mut Vec<u8>) -> Result<u64,
         count += 1 + view.roots.len() as u64;
     }
     Ok(count)
+}
+
+/// Appends the commands that make the keyring and the views. Tells their number.
+pub fn put_engine(
+    alloc: Global,
+    keyring: &Keyring,
+    views: &Views,
+    out: &mut Vec<u8>,
+) -> Result<u64, Memory>
+    requires within { IsWithin keyring.now.limits views.now.entries }
+    ensures lines { OnOk result (out.new.items ≡ out.old.items ++ lines_of (commands_of (state_of (engine_of keyring.now views.now.entries)))) }
+    ensures count { IfOk result (λ count. count ≡ length (commands_of (state_of (engine_of keyring.now views.now.entries)))) }
+    ensures kept { OnErr result (out.new.items ≡ out.old.items) }
+    ensures read_back { OnOk result (AreLines (commands_of (state_of (engine_of keyring.now views.now.entries)))) }
+    ensures restored { OnOk result ((rows : Rows) → IsRestored rows (engine_of keyring.now views.now.entries)) }
+{
+    replayed();
+    let _limits = keyring.limits();
+    let start = out.len();
+    let held = keyring.dump(alloc, out)?;
+    match put_views(alloc, views, out) {
+        Ok(opened) => Ok(held + opened),
+        Err(fault) => {
+            out.truncate(start);
+            Err(fault)
+        }
+    }
 }

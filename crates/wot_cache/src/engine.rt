@@ -35,10 +35,10 @@ pub struct Engine {
 
 impl Model for Engine {
     ghost use Rattle.wot_edge.specs.Answer.{IsAnswer, amount_of};
-    ghost use Rattle.wot_keyring.specs.Dump.{lines_of};
-    ghost use Rattle.wot_cache.specs.Dump.{commands_of};
-    ghost use Rattle.wot_cache.specs.Question.{question_in};
-    ghost use Rattle.wot_cache.specs.State.{Engine as TheEngine};
+ghost use Rattle.wot_keyring.specs.Dump.{lines_of};
+ghost use Rattle.wot_cache.specs.Dump.{commands_of};
+ghost use Rattle.wot_cache.specs.Question.{question_in};
+ghost use Rattle.wot_cache.specs.State.{Engine as TheEngine};
 
     ghost Value = { TheEngine };
 
@@ -66,11 +66,7 @@ impl Engine {
     }
 
     /// `Keyring::import`, over the engine's keyring.
-    pub fn import<F: Fn(Ask) -> bool>(
-        &mut self,
-        bytes: &[u8],
-        policy: &mut Policy<F>,
-    ) -> Result<Imported, Refusal>
+    pub fn import<F: Fn(Ask) -> bool>(&mut self, bytes: &[u8], policy: &mut Policy<F>) -> Result<Imported, Refusal>
         requires countable { self.old.keyring.changes < 2 ^ 64 - 1 }
         requires short { length bytes.now < 2 ^ 29 }
         requires judged { IsJudgedBy (rows_of policy.old) self.old.keyring }
@@ -242,14 +238,7 @@ impl Engine {
 
     /// The answer to the question how far a user ID belongs to a target, seen from an open view: next paths until their sum
     /// reaches what is wanted, or no valid path of positive amount is left.
-    pub fn ask(
-        &mut self,
-        view: &ViewName,
-        target: &Fpr,
-        wanted: u32,
-        uid: &[u8],
-        steps: &mut Steps,
-    ) -> Result<Answer, AskFault>
+    pub fn ask(&mut self, view: &ViewName, target: &Fpr, wanted: u32, uid: &[u8], steps: &mut Steps) -> Result<Answer, AskFault>
         requires wanted { 1 ≤ wanted }
         ensures answer { IfOk result (λ a. IfSome (view_at self.old.views view.now) (λ v. IsAnswer (question_in (state_of self.old) v target.now uid.now) wanted a.paths)) }
         ensures sum { IfOk result (λ a. a.sum ≡ amount_of a.paths) }

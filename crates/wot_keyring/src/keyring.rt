@@ -238,6 +238,7 @@ impl Keyring {
     pub fn dump(&self, alloc: Global, out: &mut Vec<u8>) -> Result<u64, Memory>
         ensures lines { OnOk result (out.new.items ≡ out.old.items ++ lines_of (commands_of self.now)) }
         ensures count { IfOk result (λ count. count ≡ length (commands_of self.now)) }
+        ensures few { IfOk result (λ count. count < 2 ^ 32) }
         ensures kept { OnErr result (out.new.items ≡ out.old.items) }
         // Each command is printed as one line, which is read as that command.
         ensures read_back { OnOk result (AreLines (commands_of self.now)) }
