@@ -1,6 +1,5 @@
 -- A certificate has fewer user IDs than its text has octets.
 use Rattle.std.proofs.Common.{◌≡◌, ℕ, ◌+◌, ◌<◌, ◌≤◌, ◌^◌, List, [], ◌∷◌, ◌++◌, length, arith, length-append}
-use Rattle.std.specs.List.{flat_map}
 use Rattle.wot_packet.specs.Writing.{written}
 use Rattle.wot_cert.specs.Certificate.{Component, Certificate}
 use Rattle.wot_cert.specs.Text.{sigs_text, part_text, parts_text, size_of}

@@ -1,7 +1,6 @@
 -- What is looked up in a network and in a keyring is what the certification network tells.
 use Rattle.std.specs.Prelude.{Result, Ok, Err, IfOk}
 use Rattle.std.proofs.Common.{◌≡◌, inl, inr, ℕ, Bool, true, false, cond, List, [], ◌∷◌, map, Option, Some, None, refl, sym, ap, subst, ◌∙◌}
-use Rattle.std.specs.List.{AllByRecursion}
 use Rattle.std.specs.List.Sorted.{IsStrictlySortedBy}
 use Rattle.std.specs.Map.{lookup}
 use Rattle.std.specs.Option.{option_map, option_map_or, unwrap_or}
@@ -11,7 +10,7 @@ use Rattle.wot_verdict.specs.Verdicts.{Entries}
 use Rattle.wot_cert.specs.Certificate.{Certificate}
 use Rattle.wot_edge.specs.declared.edge.EdgeFacts.{EdgeFacts}
 use Rattle.wot_edge.specs.Order.{edge_cmp}
-use Rattle.wot_edge.specs.Record.{Has, Row, Entry, Record, blank, entry_at, rows_into, edges_into}
+use Rattle.wot_edge.specs.Record.{Has, Row, Entry, blank, entry_at, rows_into, edges_into}
 use Rattle.wot_edge.specs.Lawful.{AreEntries}
 use Rattle.wot_edge.specs.Plain.{AreRows}
 use Rattle.wot_keyring.specs.declared.kept.Kept.{Kept}
@@ -103,6 +102,9 @@ lawful_line fpr (l ∷ lines) line all e = by (is_fpr fpr l.0) (λ f. lawful_lin
     by false ih e = ih e
 
 -- ---- of a network that is right for a keyring, as its roads see both
+
+pub seen : (p : Present) (k : Keyring) (t : ℕ) → p.keyring ≡ k → p.time ≡ t → record { keyring = k; time = t } ≡ p
+seen p k t e f = λ i. record { keyring = (sym e) i; time = (sym f) i }
 
 module _ (n : Net) (k : Keyring) (right : IsRight n k n.time) (p : Present) (view : record { keyring = k; time = n.time } ≡ p) where
   abbrev here : Present

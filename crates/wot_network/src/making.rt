@@ -45,11 +45,7 @@ fn line(
     })
 }
 
-fn put(
-    lines: &mut BTreeMap<Fpr, NetLine, Global>,
-    fpr: Fpr,
-    line: NetLine,
-) -> Result<(), Memory>
+fn put(lines: &mut BTreeMap<Fpr, NetLine, Global>, fpr: Fpr, line: NetLine) -> Result<(), Memory>
     ensures entries { OnOk result (lines.new.entries ≡ insert_entry fpr_cmp lines.old.entries fpr line) }
 {
     lines.insert(fpr, line)?;

@@ -1,8 +1,10 @@
-ghost use Rattle.std.specs.Prelude.{◌≡◌, ◌≤◌, ◌+◌, min, [], false, OnOk, OnErr, MatchBool};
+ghost use Rattle.std.specs.Prelude.{◌≡◌, ◌≤◌, ◌+◌, ℕ, List, min, [], false, Ok, OnOk, OnErr, MatchBool};
 ghost use Rattle.std.specs.Option.{option_copied};
 ghost use Rattle.std.specs.Map.{lookup};
 ghost use Rattle.wot_keyring.specs.Keyring.{Keyring as KeyringOf, is_fpr};
-ghost use Rattle.wot_network.specs.Net.{Net, Fits, IsRight, IsCurrent, AreLawful, edges_in, signatures_in};
+ghost use Rattle.wot_edge.specs.Lawful.{AreEntries};
+ghost use Rattle.wot_edge.specs.Record.{IsRecord};
+ghost use Rattle.wot_network.specs.Net.{Net, Fits, IsRight, IsCurrent, AreLawful, edges_in, signatures_in, told_of};
 
 use crate::line::NetLine;
 use crate::making::keyring_lines;
@@ -10,6 +12,7 @@ use crate::roads::NetRoads;
 use std::alloc::Global;
 use std::collections::BTreeMap;
 use std::marker::Model;
+use wot_edge::laws::entries_are_record;
 use wot_keyring::Keyring;
 use wot_types::{Fpr, Memory, Steps};
 
@@ -24,6 +27,8 @@ pub struct Network {
 }
 
 impl Model for Network {
+    ghost use Rattle.wot_edge.specs.Lawful.{AreEntries};
+    ghost use Rattle.wot_edge.specs.Record.{IsRecord};
     ghost use Rattle.wot_network.specs.Net.{Net, AreLawful};
 
     ghost Value = { Net };
@@ -58,19 +63,14 @@ impl Network {
 
     /// Makes the network that of this keyring at `t`. Its lines are made anew unless they were made at this time for this
     /// count of changes; then nothing is counted. After `Memory` it is as before.
-    pub fn refresh(
-        &mut self,
-        keyring: &Keyring,
-        t: u32,
-        steps: &mut Steps,
-    ) -> Result<(), Memory>
+    pub fn refresh(&mut self, keyring: &Keyring, t: u32, steps: &mut Steps) -> Result<(), Memory>
         requires fits { Fits self.old keyring.now }
         ensures right { OnOk result (IsRight self.new keyring.now t) }
         ensures fits { Fits self.new keyring.now }
         ensures kept { OnErr result (self.new ≡ self.old) }
         ensures made_least { OnOk result ((IsCurrent self.old keyring.now t → ⊥) → min (steps.old.made + edges_in self.new.lines) u64.MAX ≤ steps.new.made) }
         ensures made_most { steps.new.made ≤ steps.old.made + signatures_in keyring.now }
-        ensures left { IsCurrent self.old keyring.now t → (steps.new ≡ steps.old) × (self.new ≡ self.old) }
+        ensures left { IsCurrent self.old keyring.now t → (result ≡ Ok tt) × (steps.new ≡ steps.old) × (self.new ≡ self.old) }
     {
         if self.is_current(keyring, t) {
             return Ok(());
@@ -94,8 +94,19 @@ impl Network {
         requires right { IsRight self.now keyring.now self.now.time }
         ensures keyring { result.keyring ≡ keyring.now }
         ensures time { result.time ≡ self.now.time }
+        ensures entries { (u : List ℕ) → AreEntries (told_of result u) }
+        ensures lawful { (u : List ℕ) → IsRecord (told_of result u) }
     {
+        entries_are_record();
+        self.is_lawful();
         NetRoads::of(self, keyring)
+    }
+
+    /// A law: what it holds of each certificate stands in order, into that certificate.
+    fn is_lawful(&self)
+        ensures lawful { AreLawful self.now.lines }
+    {
+        let _ = self.lines.is_empty();
     }
 
     /// What was made of the certificate of a fingerprint.

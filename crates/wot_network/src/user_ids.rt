@@ -73,18 +73,10 @@ pub(crate) fn place_of(user_ids: &[Part], u: &[u8]) -> Option<u32>
 }
 
 /// Whether it is among these, and not revoked by the key of this fingerprint.
-fn has_unrevoked(
-    user_ids: &[Part],
-    verdicts: &Verdicts,
-    fpr: &Fpr,
-    t: u32,
-    u: &[u8],
-) -> bool
+fn has_unrevoked(user_ids: &[Part], verdicts: &Verdicts, fpr: &Fpr, t: u32, u: &[u8]) -> bool
     ensures has { result ≡ list_any (λ (uid : Component). is_user_id_spec u.now uid && not (is_own_revoked_spec verdicts.now fpr.now t uid)) user_ids.now }
 {
-    user_ids
-        .iter()
-        .any(|uid| is_user_id(u, uid) && !is_own_revoked(uid, verdicts, fpr, t))
+    user_ids.iter().any(|uid| is_user_id(u, uid) && !is_own_revoked(uid, verdicts, fpr, t))
 }
 
 /// Whether a certificate, of which this is the standing at `t`, is in order for a user ID.
@@ -98,6 +90,5 @@ pub(crate) fn is_in_order(
     requires standing { standing.now ≡ standing_of verdicts.now cert.now t }
     ensures in_order { result ≡ is_in_order_spec verdicts.now cert.now t (is_user_id_spec u.now) }
 {
-    is_key_in_order(standing, t)
-        && has_unrevoked(cert.user_ids(), verdicts, &cert.fpr(), t, u)
+    is_key_in_order(standing, t) && has_unrevoked(cert.user_ids(), verdicts, &cert.fpr(), t, u)
 }

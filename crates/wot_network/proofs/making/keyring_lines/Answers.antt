@@ -1,4 +1,4 @@
-use Rattle.std.proofs.Common.{◌≡◌, ◌∙◌, ◌≤◌, ◌+◌, ◌<◌, ◌^◌, sym, ap, subst, ℕ, List, map}
+use Rattle.std.proofs.Common.{◌∙◌, ◌≤◌, ◌+◌, ◌<◌, ◌^◌, sym, ap, subst, ℕ, List, map}
 use Rattle.std.specs.List.{AllByRecursion}
 use Rattle.std.specs.List.Sorted.{IsStrictlySortedBy}
 use Rattle.wot_types.specs.Fpr.{fpr_cmp}

@@ -1,9 +1,9 @@
-use Rattle.std.proofs.Common.{◌≡◌, ◌≤◌, ◌<◌, ◌^◌, ◌+◌, ◌∷◌, ◌∙◌, ℕ, List, subst}
+use Rattle.std.proofs.Common.{◌≡◌, ◌≤◌, ◌<◌, ◌^◌, ◌+◌, ◌∷◌, ◌∙◌, List, subst}
 use Rattle.std.specs.List.{AllByRecursion}
 use Rattle.wot_cert.specs.Certificate.{Certificate}
 use Rattle.wot_cert.specs.Counts.{signatures_of, sum_of}
 use Rattle.wot_cert.specs.Text.{size_of}
-use Rattle.wot_network.specs.Net.{Line, Lines, line_of, named_line}
+use Rattle.wot_network.specs.Net.{named_line}
 use Rattle.wot_network.proofs.Filling.{Filled, kept_last, filled_on, lawful_on, least_on, most_on}
 use Rattle.wot_network.proofs.making.lines_from.Goals as goal
 
