@@ -6,3 +6,4 @@ mod Steps
 mod Progress
 mod Turns
 pub mod Rules
+mod Anew
