@@ -2,6 +2,7 @@
 #![tactic(auto)]
 
 mod ask;
+mod dump;
 mod engine;
 mod networks;
 mod view;

@@ -9,3 +9,4 @@ mod Steps
 mod Progress
 mod Turns
 pub mod Rules
+mod Anew

@@ -102,7 +102,7 @@ found_all P test (e ∷ es) kept all found =
 
 -- ---- a verdict altered
 
-pub restamped_same : (number : SigNumber) (stamp : ℕ) (es : Entries) → stripped (restamped_all number stamp es) ≡ stripped es
+restamped_same : (number : SigNumber) (stamp : ℕ) (es : Entries) → stripped (restamped_all number stamp es) ≡ stripped es
 restamped_same number stamp [] = refl
 restamped_same number stamp (e ∷ es) = ap (λ (rest : Certificates). (e.0, e.1.cert) ∷ rest) (restamped_same number stamp es)
 

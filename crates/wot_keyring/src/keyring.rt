@@ -82,6 +82,7 @@ impl Keyring {
     /// What it may hold at most.
     pub fn limits(&self) -> Limits
         ensures limits { result ≡ self.now.limits }
+        ensures small { AreSmall result }
     {
         self.limits
     }
@@ -334,6 +335,7 @@ impl Keyring {
     pub fn dump(&self, alloc: Global, out: &mut Vec<u8>) -> Result<u64, Memory>
         ensures lines { OnOk result (out.new.items ≡ out.old.items ++ lines_of (commands_of self.now)) }
         ensures count { IfOk result (λ count. count ≡ length (commands_of self.now)) }
+        ensures few { IfOk result (λ count. count < 2 ^ 32) }
         ensures kept { OnErr result (out.new.items ≡ out.old.items) }
         // Each command is printed as one line, which is read as that command.
         ensures read_back { OnOk result (AreLines (commands_of self.now)) }

@@ -13,6 +13,7 @@ mod staging;
 mod tally;
 
 pub use certs::CertsIter;
+pub use dump::put_line;
 pub use import::Imported;
 pub use keyring::Keyring;
 pub use refusal::{Absent, ExportFault, Refusal};
