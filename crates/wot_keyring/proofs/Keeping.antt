@@ -1,8 +1,7 @@
 -- Each change keeps what is true of every keyring.
 use Rattle.std.proofs.Common.{◌≡◌, ℕ, ◌+◌, ◌-◌, min, nat_le, ◌<◌, ◌⊎◌, inl, inr, is_none, ◌&&◌, ◌≤◌, ◌^◌, Bool, true, false, cond, List, [], ◌∷◌, length, map, Option, Some, None, refl, sym, ap, ◌∙◌, subst, arith}
 use Rattle.std.specs.List.{AllByRecursion}
-use Rattle.std.specs.Option.{IfSome}
-use Rattle.std.specs.Map.{lookup, remove_entry, keys_of}
+use Rattle.std.specs.Map.{lookup, remove_entry}
 use Rattle.std.specs.List.Sorted.{IsStrictlySortedBy}
 use Rattle.std.specs.Cmp.{IsTotalOrder}
 use Rattle.std.proofs.lemmas.Bool.Decides.{nat_tests}
@@ -23,7 +22,7 @@ use Rattle.wot_cert.specs.Text.{size_of}
 use Rattle.wot_cert.specs.Whole.{IsCertificate}
 use Rattle.wot_keyring.specs.declared.kept.Kept.{Kept}
 use Rattle.wot_keyring.specs.Import.{weigh}
-use Rattle.wot_keyring.specs.Keyring.{Entries, Keyring, Certificates, certificates_in, is_fpr}
+use Rattle.wot_keyring.specs.Keyring.{Entries, Keyring, Certificates, is_fpr}
 use Rattle.wot_keyring.specs.Kept.{AreInOrder, IsKeyring, AreTotals}
 use Rattle.wot_keyring.specs.Removal.{without_cert}
 use Rattle.wot_keyring.specs.Verdict.{restamped, restamped_all, counted_at, is_over}
@@ -107,7 +106,7 @@ found_all P test (e ∷ es) kept all found =
 
 -- ---- a verdict altered
 
-restamped_same : (number : SigNumber) (stamp : ℕ) (es : Entries) → certs_of (restamped_all number stamp es) ≡ certs_of es
+pub restamped_same : (number : SigNumber) (stamp : ℕ) (es : Entries) → certs_of (restamped_all number stamp es) ≡ certs_of es
 restamped_same number stamp [] = refl
 restamped_same number stamp (e ∷ es) = ap (λ (rest : Certificates). (e.0, e.1.cert) ∷ rest) (restamped_same number stamp es)
 
