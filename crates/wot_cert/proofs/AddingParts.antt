@@ -1,15 +1,13 @@
 -- The walk that adds up what components bring.
-use Rattle.std.proofs.Common.{◌≡◌, ℕ, ◌+◌, ◌≤◌, ◌<◌, ◌^◌, List, ◌∷◌, length, sym, subst, arith}
-use Rattle.std.specs.declared.cmp.Ordering.TheVariants.{Less, Equal, Greater}
-use Rattle.std.specs.List.{AllByRecursion}
+use Rattle.std.proofs.Common.{◌≡◌, ℕ, ◌+◌, ◌≤◌, ◌<◌, ◌^◌, List, ◌∷◌, subst, arith}
+use Rattle.std.specs.declared.cmp.Ordering.TheVariants.{Equal}
 use Rattle.wot_cert.specs.declared.adds.Adds.{Adds}
 use Rattle.wot_cert.specs.Certificate.{Signature, Component, part_cmp, sig_cmp, kept, unite_part, unite_parts, unite_sigs}
-use Rattle.wot_cert.specs.Counts.{sum_of, part_weight}
+use Rattle.wot_cert.specs.Counts.{sum_of}
 use Rattle.wot_cert.specs.Fitting.{PartFits}
-use Rattle.wot_cert.specs.Ranked.{IsRising}
 use Rattle.wot_cert.specs.Sizes.{sig_size, own_size, part_items, part_signatures, part_size, Weighs, IsSum, IsFew, BringsSigs, BringsParts}
 use Rattle.wot_cert.proofs.Adding.{Adding, Ahead, adding_equal, few_adds, few_joined, few_alone, few_new}
-use Rattle.wot_cert.proofs.TextSize.{sum_least, some_octet, part_items_least}
+use Rattle.wot_cert.proofs.TextSize.{sum_least, part_items_least}
 use Rattle.wot_cert.proofs.Walk.{parts_total, parts_same}
 use Rattle.wot_cert.proofs.Weights.{united_more}
 

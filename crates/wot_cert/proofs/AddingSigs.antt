@@ -1,14 +1,12 @@
 -- The walk that adds up what signatures bring.
-use Rattle.std.proofs.Common.{◌≡◌, ℕ, ◌+◌, ◌≤◌, ◌<◌, ◌^◌, List, ◌∷◌, length, sym, arith}
-use Rattle.std.specs.declared.cmp.Ordering.TheVariants.{Less, Equal, Greater}
-use Rattle.std.specs.List.{AllByRecursion}
+use Rattle.std.proofs.Common.{◌≡◌, ℕ, ◌+◌, ◌≤◌, ◌<◌, ◌^◌, List, ◌∷◌, arith}
+use Rattle.std.specs.declared.cmp.Ordering.TheVariants.{Equal}
 use Rattle.wot_cert.specs.declared.adds.Adds.{Adds}
 use Rattle.wot_cert.specs.Certificate.{Signature, sig_cmp, kept, unite_sigs}
 use Rattle.wot_cert.specs.Counts.{sum_of}
 use Rattle.wot_cert.specs.Fitting.{SigFits}
-use Rattle.wot_cert.specs.Ranked.{IsRising}
-use Rattle.wot_cert.specs.Sizes.{sig_size, Weighs, IsSum, IsFew, BringsSigs}
-use Rattle.wot_cert.proofs.Adding.{Adding, Ahead, adding_less, adding_equal, adding_new, adding_ended, adding_begun, few_adds, ahead_greater, ahead_none}
+use Rattle.wot_cert.specs.Sizes.{sig_size, Weighs, IsFew}
+use Rattle.wot_cert.proofs.Adding.{Adding, Ahead, adding_equal, few_adds}
 use Rattle.wot_cert.proofs.TextSize.{sum_least, some_octet}
 use Rattle.wot_cert.proofs.Walk.{sigs_total, kept_same}
 

@@ -1,22 +1,21 @@
 -- A certificate with its key.
-use Rattle.std.proofs.Common.{◌≡◌, ℕ, ◌<◌, ◌≤◌, ◌^◌, Bool, true, false, cond, List, [], ◌∷◌, ◌++◌, map, filter, length, refl, sym, ap, ◌∙◌, subst, arith}
+use Rattle.std.proofs.Common.{◌≡◌, ℕ, Bool, true, false, cond, List, [], ◌∷◌, map, filter, refl, sym, ap, ◌∙◌, subst}
 use Rattle.std.specs.Prelude.{◌==◌}
 use Rattle.std.specs.List.{AllByRecursion}
 use Rattle.std.specs.declared.cmp.Ordering.{Ordering}
 use Rattle.std.specs.declared.cmp.Ordering.TheVariants.{Less, Equal, Greater}
-use Rattle.std.proofs.lemmas.Bool.{leb-true}
 use Rattle.std.specs.Int.{w32, from_be_bytes}
-use Rattle.std.specs.Prelude.{Option, Some, None, take, drop, slice_index}
+use Rattle.std.specs.Prelude.{Some, None, take, drop, slice_index}
 use Rattle.wot_types.specs.declared.fpr.Fpr.{Fpr}
 use Rattle.wot_key.specs.declared.key.Key.{Key}
 use Rattle.wot_key.specs.Key.{is_readable, key_of, fpr_of, fingerprint_of}
-use Rattle.wot_packet.specs.Spelling.{Spelled}
+use Rattle.wot_packet.specs.Spelling.{AreShort, Spelled}
 use Rattle.wot_cert.specs.Packets.{is_signature, begins_component}
 use Rattle.wot_cert.specs.Ranked.{put, placed, united, IsBelow, IsRising}
 use Rattle.wot_cert.specs.Certificate.{Signature, Component, Certificate, fresh, kept, sig_cmp, part_cmp, unite_sigs, unite_part, unite_parts, on_key, on_user_id, on_attribute, on_subkey}
-use Rattle.wot_cert.specs.Assembly.{Section, cut_at, cut_on, sigs_in, part_of, parts_of, certificate_with}
+use Rattle.wot_cert.specs.Assembly.{Section, cut_at, sigs_in, part_of, parts_of, certificate_with}
 use Rattle.wot_cert.specs.Whole.{IsSigAt, AreSigsAt, IsPartOf, ArePartsOf, IsCertificate}
-use Rattle.wot_cert.specs.Drafting.{body_cmp, first_stays, unite_bodies, Group, group_cmp, unite_group, unite_groups, put_group, sig_bodies, group_of, groups_of, Sketch, sketch_of, sketched, with_signature, groups_with, with_component, with_packet, IsSketch, part_drafted, completed, IsShort, AreShort, IsShortGroup, IsShortSketch, SigsRise, IsWholeSketch}
+use Rattle.wot_cert.specs.Drafting.{body_cmp, first_stays, unite_bodies, Group, group_cmp, unite_group, sig_bodies, group_of, groups_of, Sketch, sketched, with_signature, groups_with, with_component, part_drafted, completed, IsShort, IsShortGroup, IsShortSketch, SigsRise, IsWholeSketch}
 use Rattle.std.proofs.lemmas.Cmp.{nat_list_cmp_total}
 use Rattle.std.proofs.lemmas.Map.Lookups.{exact_bytes}
 use Rattle.wot_cert.proofs.Rank.{united_rises}

@@ -1,5 +1,5 @@
 -- Copies that keep their marks are equal.
-use Rattle.std.proofs.Common.{◌≡◌, ℕ, List, [], ◌∷◌, ◌++◌, map, refl, sym, ap, ◌∙◌}
+use Rattle.std.proofs.Common.{◌≡◌, List, [], ◌∷◌, ◌++◌, map, refl, ap, ◌∙◌}
 use Rattle.wot_cert.specs.declared.sig.Marks.TheVariants.{Kept}
 use Rattle.wot_cert.specs.Certificate.{Signature, Component, Certificate, part_with, with_each}
 use Rattle.wot_cert.specs.Copied.{copied}

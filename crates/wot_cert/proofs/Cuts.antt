@@ -1,16 +1,15 @@
 -- Lists of packets, cut at keys.
 use Rattle.std.proofs.Common.{◌≡◌, ℕ, zero, suc, ◌+◌, ◌<◌, ◌≤◌, Bool, true, false, cond, List, [], ◌∷◌, ◌++◌, length, map, take, drop, get_or, refl, sym, ap, subst, ◌∙◌, arith, append_assoc, eqb, add-one}
-use Rattle.std.specs.Prelude.{nat_eq, ◌==◌}
 use Rattle.std.proofs.lemmas.Bool.{eqb-true}
 use Rattle.std.proofs.lemmas.List.{append-nil, drop_more}
 use Rattle.wot_packet.specs.declared.packet.Packet.{Packet}
-use Rattle.wot_packet.specs.Spelling.{Spelled, spelled_of, spelled_all}
+use Rattle.wot_packet.specs.Spelling.{AreShort, Spelled, spelled_of, spelled_all}
 use Rattle.wot_cert.specs.Packets.{is_key}
 use Rattle.std.specs.Prelude.{count_by, not, filter}
 use Rattle.std.proofs.lemmas.List.Sums.{sum_by-append}
 use Rattle.wot_cert.specs.Certificate.{Certificate}
-use Rattle.wot_cert.specs.Assembly.{Section, cut_at, cut_on, keys_of, certificate_of, certificates_of, skipped_in, has_readable_key}
-use Rattle.wot_cert.specs.Drafting.{AreShort, BeginsWithKey, certs_in, skipped_by}
+use Rattle.wot_cert.specs.Assembly.{Section, cut_at, keys_of, certificate_of, certificates_of, skipped_in, has_readable_key}
+use Rattle.wot_cert.specs.Drafting.{BeginsWithKey, certs_in, skipped_by}
 
 -- the packets from one on, with it in front
 pub spelled-drop : (ps : List Packet) (i : ℕ) (d : Packet) → i < length ps → spelled_all (drop i ps) ≡ spelled_of (get_or ps i d) ∷ spelled_all (drop (i + 1) ps)

@@ -1,5 +1,5 @@
 -- The bodies of a certificate fit.
-use Rattle.std.proofs.Common.{◌≡◌, ℕ, List, [], ◌∷◌}
+use Rattle.std.proofs.Common.{ℕ, List, [], ◌∷◌}
 use Rattle.std.specs.List.{AllByRecursion}
 use Rattle.wot_cert.specs.Certificate.{Signature, Component}
 use Rattle.wot_cert.specs.Fitting.{SigFits, PartFits}

@@ -24,5 +24,9 @@ pub mod Sketches
 pub mod Cuts
 pub mod Completing
 pub mod Capped
-pub mod Short
 pub mod SpanLaw
+pub mod ReadingBack
+pub mod Alike
+pub mod Uniting
+pub mod Unchanged
+pub mod Assemblies

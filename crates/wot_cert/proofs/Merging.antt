@@ -1,5 +1,5 @@
 -- Judging what is new in a union is uniting with what is judged.
-use Rattle.std.proofs.Common.{◌≡◌, ℕ, ◌+◌, List, [], ◌∷◌, map, refl, sym, ap, ◌∙◌, arith, true}
+use Rattle.std.proofs.Common.{◌≡◌, ℕ, ◌+◌, List, [], ◌∷◌, map, refl, sym, ap, ◌∙◌, arith}
 use Rattle.std.specs.declared.cmp.Ordering.TheVariants.{Equal}
 use Rattle.std.specs.List.{AllByRecursion}
 use Rattle.wot_policy.specs.declared.rows.PolicyRows.{PolicyRows}
@@ -113,11 +113,11 @@ merged_sound a b h k =
 
 -- ---- judged
 
-sigs_judged : (rows : PolicyRows) (ys : List Signature) → AllByRecursion (IsJudgedSig rows) (map (judged_sig rows) ys)
+pub sigs_judged : (rows : PolicyRows) (ys : List Signature) → AllByRecursion (IsJudgedSig rows) (map (judged_sig rows) ys)
 sigs_judged rows [] = tt
 sigs_judged rows (y ∷ ys) = (λ _. refl, sigs_judged rows ys)
 
-parts_judged : (rows : PolicyRows) (ps : List Component) → AllByRecursion (IsJudgedPart rows) (map (part_with (judged_sig rows)) ps)
+pub parts_judged : (rows : PolicyRows) (ps : List Component) → AllByRecursion (IsJudgedPart rows) (map (part_with (judged_sig rows)) ps)
 parts_judged rows [] = tt
 parts_judged rows (p ∷ ps) = (sigs_judged rows p.sigs, parts_judged rows ps)
 

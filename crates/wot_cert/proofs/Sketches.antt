@@ -1,18 +1,15 @@
 -- What packets draft, one more at a time.
-use Rattle.std.proofs.Common.{◌≡◌, ℕ, ◌+◌, ◌-◌, ◌<◌, ◌≤◌, Bool, true, false, cond, List, [], ◌∷◌, ◌++◌, map, filter, length, drop, get_or, refl, sym, ap, ◌∙◌, arith}
+use Rattle.std.proofs.Common.{◌≡◌, ℕ, ◌+◌, ◌-◌, ◌<◌, ◌≤◌, Bool, true, false, cond, List, [], ◌∷◌, map, filter, length, drop, get_or, refl, sym, ap, ◌∙◌, arith}
 use Rattle.std.specs.Prelude.{◌==◌}
-use Rattle.std.specs.declared.cmp.Ordering.{Ordering}
-use Rattle.std.specs.declared.cmp.Ordering.TheVariants.{Equal}
 use Rattle.std.specs.Cmp.{IsTotalOrder}
 use Rattle.std.specs.Cmp.Lexicographic.{on_texts}
 use Rattle.std.proofs.lemmas.Cmp.{nat_list_cmp_total}
 use Rattle.wot_packet.specs.declared.packet.Packet.{Packet}
 use Rattle.wot_packet.specs.Spelling.{Spelled, spelled_of, spelled_all}
 use Rattle.wot_cert.specs.Packets.{is_signature, begins_component}
-use Rattle.wot_cert.specs.Ranked.{put, united, IsRising}
-use Rattle.wot_cert.specs.Certificate.{Signature, Component, Certificate, fresh, kept, sig_cmp, part_cmp, unite_sigs, unite_part, unite_parts, on_key, on_user_id, on_attribute, on_subkey}
-use Rattle.wot_cert.specs.Assembly.{Section, cut_at, cut_on, sigs_in, part_of, parts_of, certificate_with}
-use Rattle.wot_cert.specs.Drafting.{body_cmp, first_stays, unite_bodies, Group, group_cmp, unite_group, unite_groups, put_group, sig_bodies, group_of, groups_of, Sketch, sketch_of, sketched, with_signature, groups_with, with_component, with_packet, IsSketch, part_drafted, completed}
+use Rattle.wot_cert.specs.Ranked.{put}
+use Rattle.wot_cert.specs.Assembly.{Section, cut_at, cut_on}
+use Rattle.wot_cert.specs.Drafting.{body_cmp, first_stays, unite_bodies, Group, group_cmp, unite_group, unite_groups, put_group, sig_bodies, group_of, groups_of, Sketch, sketch_of, sketched, with_signature, with_component, with_packet, IsSketch}
 use Rattle.wot_cert.proofs.Rank.{united_rises}
 use Rattle.wot_cert.proofs.Cuts.{spelled-drop}
 

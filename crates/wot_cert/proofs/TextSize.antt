@@ -1,12 +1,12 @@
 -- How long a certificate's text is.
-use Rattle.std.proofs.Common.{◌≡◌, ℕ, ◌+◌, ◌≤◌, ◌<◌, ◌^◌, List, [], ◌∷◌, ◌++◌, length, refl, sym, ap, ◌∙◌, arith, length-append}
-use Rattle.wot_packet.specs.Writing.{written, shortest_length}
+use Rattle.std.proofs.Common.{◌≡◌, ℕ, ◌+◌, ◌≤◌, ◌<◌, ◌^◌, List, [], ◌∷◌, ◌++◌, length, refl, ap, ◌∙◌, arith, length-append}
+use Rattle.wot_packet.specs.Writing.{written}
 use Rattle.wot_policy.specs.declared.rows.PolicyRows.{PolicyRows}
 use Rattle.wot_cert.specs.Certificate.{Signature, Component, Certificate, unite}
 use Rattle.wot_cert.specs.Counts.{sum_of, part_weight, weight_of, items_of}
 use Rattle.wot_cert.specs.New.{judged_beside}
 use Rattle.wot_cert.specs.Sizes.{sig_size, own_size}
-use Rattle.wot_cert.specs.Text.{sigs_text, part_text, parts_text, text_of, size_of}
+use Rattle.wot_cert.specs.Text.{sigs_text, part_text, parts_text, size_of}
 use Rattle.wot_cert.proofs.Weights.{unite_more, unite_less, beside_weight}
 
 pub sigs_size : (sigs : List Signature) → length (sigs_text sigs) ≡ sum_of sig_size sigs

@@ -1,11 +1,11 @@
 -- What unions and judged certificates weigh.
-use Rattle.std.proofs.Common.{◌≡◌, ℕ, ◌+◌, ◌≤◌, List, [], ◌∷◌, map, Option, Some, None, refl, sym, ap, ◌∙◌, arith}
+use Rattle.std.proofs.Common.{◌≡◌, ℕ, ◌+◌, ◌≤◌, List, [], ◌∷◌, Some, None, refl, arith}
 use Rattle.std.specs.declared.cmp.Ordering.{Ordering}
 use Rattle.std.specs.declared.cmp.Ordering.TheVariants.{Less, Equal, Greater}
 use Rattle.wot_policy.specs.declared.rows.PolicyRows.{PolicyRows}
 use Rattle.wot_cert.specs.Ranked.{put, placed, united}
 use Rattle.wot_cert.specs.Counts.{sum_of, part_weight, weight_of}
-use Rattle.wot_cert.specs.Certificate.{Signature, Component, Certificate, sig_cmp, part_cmp, kept, unite, unite_sigs, unite_part, unite_parts}
+use Rattle.wot_cert.specs.Certificate.{Signature, Component, Certificate, sig_cmp, part_cmp, kept, unite, unite_part}
 use Rattle.wot_cert.specs.Judged.{judged_sig}
 use Rattle.wot_cert.specs.New.{met, marked_on, marked_new, stays, judged_sigs, judged_part, judged_parts, judged_beside}
 
@@ -17,7 +17,7 @@ module _ {A : Type 0} (R : A → A → Ordering) (join : A → A → A) (m : A �
   placed_more Equal x y ys rest h = omega (arith, least y x)
   placed_more Greater x y ys rest h = omega arith
 
-  put_more : (x : A) (ys : List A) → sum_of m ys ≤ sum_of m (put R join x ys)
+  pub put_more : (x : A) (ys : List A) → sum_of m ys ≤ sum_of m (put R join x ys)
   put_more x [] = omega arith
   put_more x (y ∷ ys) = placed_more (R x y) x y ys (put R join x ys) (put_more x ys)
 

@@ -1,5 +1,5 @@
 -- When two certificates clash, and which fault of a list of packets is told.
-use Rattle.std.specs.Prelude.{◌≡◌, ◌≢◌, ◌⊎◌, List, Option, Some, None, Result, Ok, Err}
+use Rattle.std.specs.Prelude.{◌≡◌, ◌≢◌, ◌⊎◌, List, Some, None, Result, Ok, Err}
 use Rattle.wot_packet.specs.Spelling.{Spelled}
 use Rattle.wot_cert.specs.declared.fault.MergeFault.{MergeFault}
 use Rattle.wot_cert.specs.declared.fault.MergeFault.TheVariants.{Clash, Memory}

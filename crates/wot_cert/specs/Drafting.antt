@@ -148,9 +148,6 @@ sigs_at body groups = unwrap_or (lookup (is_at (body_cmp body)) groups) []
 abbrev pub IsShort : List ℕ → Type 0
 IsShort body = length body < 2 ^ 32
 
-abbrev pub AreShort : List Spelled → Type 0
-AreShort packets = AllByRecursion (λ (p : Spelled). IsShort p.body) packets
-
 -- a component and signatures whose lengths four octets tell
 abbrev pub IsShortGroup : Group → Type 0
 IsShortGroup group = IsShort group.0 × AllByRecursion IsShort group.1

@@ -1,5 +1,5 @@
 -- Bodies that a packet can hold.
-use Rattle.std.specs.Prelude.{ℕ, ◌<◌, ◌^◌, List, length}
+use Rattle.std.specs.Prelude.{◌<◌, ◌^◌, length}
 use Rattle.std.specs.List.{AllByRecursion}
 use Rattle.wot_cert.specs.Certificate.{Signature, Component}
 

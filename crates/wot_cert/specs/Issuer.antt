@@ -6,7 +6,7 @@ use Rattle.wot_types.specs.declared.fpr.Fpr.{Fpr}
 use Rattle.wot_types.specs.Fpr.{fpr_cmp}
 use Rattle.wot_signature.specs.declared.facts.SigFacts.{SigFacts}
 use Rattle.wot_verdict.specs.declared.verdict.Verdict.{Verdict}
-use Rattle.wot_verdict.specs.declared.verdict.Verdict.TheVariants.{Good, Bad}
+use Rattle.wot_verdict.specs.declared.verdict.Verdict.TheVariants.{Good}
 use Rattle.wot_verdict.specs.Verdicts.{Entries, verdict_at}
 use Rattle.wot_cert.specs.Certificate.{Signature, said_by}
 

@@ -20,3 +20,4 @@ pub mod Marked
 pub mod Fitting
 pub mod Sizes
 pub mod Drafting
+pub mod ReadBack

@@ -1,14 +1,17 @@
 ghost use Rattle.std.specs.Prelude.{◌≡◌, ◌<◌, ◌≤◌, ◌^◌, ◌+◌, ◌++◌, true, false, OnOk, IfOk, length, take, drop};
-ghost use Rattle.wot_packet.specs.Spelling.{spelled_all, spelled_of};
+ghost use Rattle.std.specs.List.{AllByRecursion};
+ghost use Rattle.wot_packet.specs.Spelling.{AreShort, spelled_all, spelled_of};
 ghost use Rattle.wot_cert.specs.Packets.{is_key, begins_component};
 ghost use Rattle.std.specs.Option.{MatchOption};
 ghost use Rattle.wot_key.specs.Key.{is_readable};
 ghost use Rattle.wot_cert.specs.Assembly.{cut_at, certificate_with, certificates_of, skipped_in};
 ghost use Rattle.wot_cert.specs.Answers.{TellsFirstFault};
-ghost use Rattle.wot_cert.specs.Drafting.{seen, sketched, AreShort, BeginsWithKey, certs_in, skipped_by};
+ghost use Rattle.wot_cert.specs.Drafting.{seen, sketched, BeginsWithKey, certs_in, skipped_by};
+ghost use Rattle.wot_cert.specs.Whole.{IsCertificate};
 
 use crate::draft::Draft;
 use crate::first_fault::first_fault_of;
+use crate::laws::assembled;
 use crate::{Cert, CertFault, CertList};
 use std::alloc::Global;
 use wot_packet::Packet;
@@ -116,8 +119,10 @@ pub fn assemble(alloc: Global, packets: &[Packet<'_>]) -> Result<Assembled, Cert
     requires few { length packets.now < 2 ^ 28 }
     requires short { AreShort (spelled_all packets.now) }
     ensures assembled { IfOk result (λ assembled. (assembled.certs ≡ certificates_of (spelled_all packets.now)) × (assembled.skipped ≡ skipped_in (spelled_all packets.now))) }
+    ensures whole { IfOk result (λ assembled. AllByRecursion IsCertificate assembled.certs) }
     ensures faults { TellsFirstFault (spelled_all packets.now) result }
 {
+    assembled();
     if let Some(fault) = first_fault_of(packets) {
         return Err(fault);
     }

@@ -9,6 +9,7 @@ ghost use Rattle.wot_cert.specs.Copied.{copied};
 ghost use Rattle.wot_cert.specs.Counts.{items_of, signatures_of};
 ghost use Rattle.wot_cert.specs.Judged.{judged, IsJudged, sound_of};
 ghost use Rattle.wot_cert.specs.New.{judged_beside, sound_beside};
+ghost use Rattle.wot_cert.specs.ReadBack.{ReadBack};
 ghost use Rattle.wot_cert.specs.Text.{size_of, text_of};
 ghost use Rattle.wot_policy.specs.Kept.{IsFaithful, rows_of, asked_more};
 ghost use Rattle.wot_cert.specs.Whole.{IsCertificate, AreSigsAt, ArePartsOf};
@@ -16,9 +17,9 @@ ghost use Rattle.std.specs.Prelude.{false, []};
 
 use crate::adds::added;
 use crate::complete::{ON_ATTRIBUTE, ON_KEY, ON_SUBKEY, ON_USER_ID, parts_with, sigs_with};
-use crate::count::items;
+use crate::count::{items, signatures};
 use crate::draft::Draft;
-use crate::export::append_cert;
+use crate::export::{append_cert, reads_back};
 use crate::judge::{judge_new, judge_new_parts};
 use crate::part::{copy_parts, union_parts};
 use crate::sig::{Marks, copy_sigs, union_sigs};
@@ -134,6 +135,14 @@ impl Cert {
         ensures size { result ≡ min (size_of self.now) (2 ^ 64 - 1) }
     {
         cert_octets(self)
+    }
+
+    /// How many signatures it has.
+    pub fn signatures(&self) -> u64
+        requires { size_of self.now < 2 ^ 63 }
+        ensures signatures { result ≡ signatures_of self.now }
+    {
+        signatures(self)
     }
 
     /// The signatures on the key itself.
@@ -320,7 +329,10 @@ impl Cert {
     pub fn export(&self, out: &mut Vec<u8>) -> Result<(), Memory>
         ensures text { OnOk result (out.new.items ≡ out.old.items ++ text_of self.now) }
         ensures kept { OnErr result (out.new.items ≡ out.old.items) }
+        // The text is read back as this one certificate.
+        ensures read_back { ReadBack self.now }
     {
+        reads_back(self);
         let before = out.len();
         match append_cert(self, out) {
             Ok(()) => Ok(()),

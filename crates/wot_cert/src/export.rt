@@ -1,8 +1,10 @@
 ghost use Rattle.std.specs.Prelude.{◌≡◌, ◌≤◌, ◌++◌, ℕ, List, OnOk};
 ghost use Rattle.std.specs.List.{AllByRecursion};
 ghost use Rattle.wot_cert.specs.Fitting.{SigFits, PartFits};
+ghost use Rattle.wot_cert.specs.ReadBack.{ReadBack};
 ghost use Rattle.wot_cert.specs.Text.{sigs_text, part_text, parts_text, text_of};
 
+use crate::laws::read_back;
 use crate::{Cert, Part, Sig};
 use wot_packet::write_packet;
 use wot_types::Memory;
@@ -53,4 +55,12 @@ pub(crate) fn append_cert(cert: &Cert, out: &mut Vec<u8>) -> Result<(), Memory>
     append_parts(13, cert.user_ids(), out)?;
     append_parts(17, cert.attributes(), out)?;
     append_parts(14, cert.subkeys(), out)
+}
+
+/// The text of this certificate is read back as it.
+pub(crate) fn reads_back(cert: &Cert)
+    ensures { ReadBack cert.now }
+{
+    let _ = cert.body();
+    read_back();
 }

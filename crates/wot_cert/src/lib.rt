@@ -13,6 +13,7 @@ mod fault;
 mod first_fault;
 mod issuer;
 mod judge;
+pub mod laws;
 mod moments;
 mod part;
 mod sig;

@@ -1,5 +1,5 @@
 -- What an import of octets answers, and what it does: each certificate of them united with the kept one, all or none.
-use Rattle.std.specs.Prelude.{◌≡◌, ◌⊎◌, ℕ, ◌+◌, ◌-◌, Bool, false, not, ◌&&◌, ◌||◌, nat_eq, nat_lt, if◌then◌else◌, List, [], ◌∷◌, map, length, Option, Some, None, Result, Ok, Err}
+use Rattle.std.specs.Prelude.{◌≡◌, ◌≤◌, ◌⊎◌, ℕ, ◌+◌, ◌-◌, Bool, false, not, ◌&&◌, ◌||◌, nat_eq, nat_lt, if◌then◌else◌, List, [], ◌∷◌, map, length, Option, Some, None, Result, Ok, Err}
 use Rattle.std.specs.List.{list_any}
 use Rattle.std.specs.Cmp.Lexicographic.{pointwise}
 use Rattle.std.specs.BTreeMap.{insert_entry}
@@ -83,9 +83,9 @@ stamp_for stamp (Some old) c = if nat_lt (items_of old.cert) (items_of c) then s
 abbrev pub stamped : Keyring → Fpr × Certificate → Fpr × Kept
 stamped old e = (e.0, record { cert = e.1; stamp = stamp_for (old.changes + 1) (kept_at old e.0) e.1 })
 
--- how many keys, components and signatures were not kept before
-abbrev pub fresh_in : Keyring → Certificates → ℕ
-fresh_in old certs = weigh items_of certs - weigh items_of (certificates_in old)
+-- how many keys, components and signatures the first certificates don't have
+abbrev pub fresh_in : Certificates → Certificates → ℕ
+fresh_in old certs = weigh items_of certs - weigh items_of old
 
 -- the keyring with these certificates, to which something was added or nothing
 abbrev pub holding : Keyring → Certificates → Keyring
@@ -93,7 +93,7 @@ holding old certs = record {
   limits = old.limits;
   certs = map (stamped old) certs;
   verdicts = old.verdicts;
-  changes = if nat_lt 0 (fresh_in old certs) then old.changes + 1 else old.changes;
+  changes = if nat_lt 0 (fresh_in (certificates_in old) certs) then old.changes + 1 else old.changes;
 }
 
 -- ---- the whole
@@ -106,17 +106,17 @@ of_packets (Err fault) = []
 abbrev pub spelled_in : List ℕ → List Certificate
 spelled_in octets = of_packets (packets_of octets)
 
--- the kept certificates with those that the octets spell
-abbrev pub united_in : PolicyRows → Keyring → List ℕ → Certificates
-united_in rows old octets = with_certs rows (certificates_in old) (spelled_in octets)
+-- these certificates with those that the octets spell
+abbrev pub united_in : PolicyRows → Certificates → List ℕ → Certificates
+united_in rows certs octets = with_certs rows certs (spelled_in octets)
 
 -- the keyring after the import
 abbrev pub imported : PolicyRows → Keyring → List ℕ → Keyring
-imported rows old octets = holding old (united_in rows old octets)
+imported rows old octets = holding old (united_in rows (certificates_in old) octets)
 
 -- how often the policy is asked: once for each sound signature that is new
-abbrev pub asked_in : PolicyRows → Keyring → List ℕ → ℕ
-asked_in rows old octets = weigh sound_of (united_in rows old octets) - weigh sound_of (certificates_in old)
+abbrev pub asked_in : PolicyRows → Certificates → List ℕ → ℕ
+asked_in rows certs octets = weigh sound_of (united_in rows certs octets) - weigh sound_of certs
 
 -- ---- the answer
 
@@ -124,26 +124,40 @@ abbrev pub unless_full : Option Limit → Imported → Result Imported Refusal
 unless_full (Some limit) counts = Err (Full limit)
 unless_full None counts = Ok counts
 
--- These certificates, of which that many keys were skipped, are united, unless two clash or a limit is passed.
-abbrev pub answer_united : PolicyRows → Keyring → List Certificate → ℕ → Result Imported Refusal
-answer_united rows old cs skipped =
-    if any_clash (map (λ (e : Fpr × Certificate). e.1) (certificates_in old)) cs then Err Clash
-    else unless_full (first_full old.limits (with_certs rows (certificates_in old) cs))
-    (record { taken = length cs; skipped = skipped; fresh = fresh_in old (with_certs rows (certificates_in old) cs) })
+-- These certificates, of which that many keys were skipped, are united with the kept ones, unless two clash or a limit is passed.
+abbrev pub answer_united : PolicyRows → Limits → Certificates → List Certificate → ℕ → Result Imported Refusal
+answer_united rows limits certs cs skipped =
+    if any_clash (map (λ (e : Fpr × Certificate). e.1) certs) cs then Err Clash
+    else unless_full (first_full limits (with_certs rows certs cs))
+    (record { taken = length cs; skipped = skipped; fresh = fresh_in certs (with_certs rows certs cs) })
 
 abbrev pub unless_fault : Option CertFault → Result Imported Refusal → Result Imported Refusal
 unless_fault (Some fault) answer = Err (Cert fault)
 unless_fault None answer = answer
 
-abbrev pub answer_read : PolicyRows → Keyring → Result (List Spelled) PacketFault → Result Imported Refusal
-answer_read rows old (Err fault) = Err (Packet fault)
-answer_read rows old (Ok packets) =
-    unless_fault (first_fault packets) (answer_united rows old (certificates_of packets) (skipped_in packets))
+abbrev pub answer_read : PolicyRows → Limits → Certificates → Result (List Spelled) PacketFault → Result Imported Refusal
+answer_read rows limits certs (Err fault) = Err (Packet fault)
+answer_read rows limits certs (Ok packets) =
+    unless_fault (first_fault packets) (answer_united rows limits certs (certificates_of packets) (skipped_in packets))
 
 -- the answer where memory is found: the first refusal in this order, or the counts
-abbrev pub answer_to : PolicyRows → Keyring → List ℕ → Result Imported Refusal
-answer_to rows old octets = answer_read rows old (packets_of octets)
+abbrev pub answer_to : PolicyRows → Limits → Certificates → List ℕ → Result Imported Refusal
+answer_to rows limits certs octets = answer_read rows limits certs (packets_of octets)
 
 -- That is the answer, unless no memory was found.
 abbrev pub Answers : Result Imported Refusal → PolicyRows → Keyring → List ℕ → Type 0
-Answers result rows old octets = (result ≡ answer_to rows old octets) ⊎ (result ≡ Err Memory)
+Answers result rows old octets = (result ≡ answer_to rows old.limits (certificates_in old) octets) ⊎ (result ≡ Err Memory)
+
+-- How often the policy was asked, as far as the answer tells: on Ok for all that is new, on a refusal never, and where memory
+-- was missing at most for all that is new.
+abbrev pub IsAsked : Result Imported Refusal → PolicyRows → Keyring → List ℕ → ℕ → Type 0
+IsAsked (Ok counts) rows old octets k = k ≡ asked_in rows (certificates_in old) octets
+IsAsked (Err Memory) rows old octets k = k ≤ asked_in rows (certificates_in old) octets
+IsAsked (Err _) rows old octets k = k ≡ 0
+
+abbrev pub AsksFor : Result Imported Refusal → PolicyRows → Keyring → List ℕ → (ℕ → Type 0) → Type 0
+AsksFor result rows old octets IsRisenBy = (k : ℕ) × IsRisenBy k × IsAsked result rows old octets k
+
+-- Nothing was altered; or something was, and counted as one change.
+abbrev pub IsOneChange : Keyring → Keyring → Type 0
+IsOneChange old new = (new ≡ old) ⊎ (new.changes ≡ old.changes + 1)

@@ -3,6 +3,8 @@ use Rattle.std.specs.Prelude.{ℕ, ◌+◌, Bool, ◌&&◌, ◌||◌, nat_le, if
 use Rattle.std.specs.List.{list_any}
 use Rattle.wot_types.specs.declared.fpr.Fpr.{Fpr}
 use Rattle.wot_types.specs.declared.number.SigNumber.{SigNumber}
+use Rattle.wot_types.specs.declared.limits.Limits.{Limits}
+use Rattle.wot_verdict.specs.Verdicts as verdicts
 use Rattle.wot_verdict.specs.Verdicts.{is_number, with_verdict, without_verdict}
 use Rattle.wot_verdict.specs.declared.verdict.Verdict.{Verdict}
 use Rattle.wot_cert.specs.Certificate.{Signature, Certificate}
@@ -11,7 +13,7 @@ use Rattle.wot_keyring.specs.declared.kept.Kept.{Kept}
 use Rattle.wot_types.specs.declared.limits.Limit.TheVariants.{Verdicts}
 use Rattle.wot_keyring.specs.declared.refusal.Refusal.{Refusal}
 use Rattle.wot_keyring.specs.declared.refusal.Refusal.TheVariants.{Full, Memory}
-use Rattle.wot_keyring.specs.Keyring.{Entries, Keyring, verdict_on}
+use Rattle.wot_keyring.specs.Keyring.{Entries, Keyring}
 
 -- whether a signature of this number is among them
 abbrev pub is_among : SigNumber → List Signature → Bool
@@ -50,8 +52,11 @@ abbrev pub without_verdict_on : SigNumber → Keyring → Keyring
 without_verdict_on number k = counted_at number (record k { verdicts = without_verdict k.verdicts number })
 
 -- whether a verdict on this number would be one more than the limit allows
+abbrev pub is_over : Limits → verdicts.Entries → SigNumber → Bool
+is_over limits entries number = is_none (verdicts.verdict_at entries number) && nat_le limits.verdicts (length entries)
+
 abbrev pub would_pass : Keyring → SigNumber → Bool
-would_pass k number = is_none (verdict_on k number) && nat_le k.limits.verdicts (length k.verdicts)
+would_pass k number = is_over k.limits k.verdicts number
 
 -- `Full` is told exactly where a new verdict would pass the limit; the only other refusal is want of memory.
 abbrev pub TellsFull : {T : Type 0} → Result T Refusal → Keyring → SigNumber → Type 0

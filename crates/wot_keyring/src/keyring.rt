@@ -1,22 +1,31 @@
-ghost use Rattle.std.specs.Prelude.{◌≡◌, ◌≢◌, ◌<◌, ◌≤◌, ◌^◌, ◌-◌, ◌++◌, map, Some, Ok, is_ok, is_some, IsSomeAnd, MatchBool, OnOk, OnErr};
-ghost use Rattle.std.specs.Option.{option_copied, MatchOption};
+ghost use Rattle.std.specs.Prelude.{◌≡◌, ◌≢◌, ◌<◌, ◌≤◌, ◌^◌, ◌-◌, ◌++◌, map, Some, Ok, is_ok, is_some, IsSomeAnd, length, IfOk, MatchBool, OnOk, OnErr};
+ghost use Rattle.std.specs.Option.{option_copied, IfSome, MatchOption};
 ghost use Rattle.std.specs.Map.{lookup, remove_entry};
 ghost use Rattle.wot_types.specs.declared.fpr.Fpr.{Fpr as TheFpr};
-ghost use Rattle.wot_cert.specs.Text.{text_of};
+ghost use Rattle.wot_key.specs.Key.{fpr_of};
+ghost use Rattle.wot_types.specs.Limits.{standard_limits};
+ghost use Rattle.wot_cert.specs.Text.{size_of, text_of};
 ghost use Rattle.wot_keyring.specs.declared.kept.Kept.{Kept as TheKept};
 ghost use Rattle.wot_keyring.specs.Keyring.{empty, cert_at, stamp_at, verdict_on, is_fpr, TellsAbsent};
-ghost use Rattle.wot_keyring.specs.Kept.{AreSmall, StaysJudged};
+ghost use Rattle.wot_keyring.specs.Kept.{AreInOrder, AreNamed, AreSized, AreSmall, IsJudgedBy, StaysJudged};
+ghost use Rattle.wot_policy.specs.declared.rows.PolicyRows.{PolicyRows as Rows};
+ghost use Rattle.wot_policy.specs.Kept.{IsFaithful, rows_of, asked_more};
+ghost use Rattle.wot_keyring.specs.Dump.{commands_of, lines_of, AreLines, IsRestored};
+ghost use Rattle.wot_keyring.specs.Import.{Answers, AsksFor, IsOneChange, imported};
 ghost use Rattle.wot_keyring.specs.Removal.{without_cert};
 ghost use Rattle.wot_keyring.specs.Verdict.{with_verdict_on, without_verdict_on, would_pass, counted_at, TellsFull};
+ghost use Rattle.wot_verdict.specs.Verdicts.{InOrder};
 
 use crate::certs::CertsIter;
+use crate::dump::{put_certs, put_verdicts, replayed};
 use crate::kept::Kept;
 use crate::restamp::restamp;
-use crate::{Absent, ExportFault, Refusal};
+use crate::{Absent, ExportFault, Imported, Refusal};
 use std::alloc::Global;
 use std::collections::BTreeMap;
 use std::marker::Model;
 use wot_cert::Cert;
+use wot_policy::{Ask, Policy};
 use wot_types::{Fpr, Limit, Limits, Memory, SigNumber};
 use wot_verdict::{Verdict, Verdicts};
 
@@ -28,17 +37,22 @@ pub struct Keyring {
     certs: BTreeMap<Fpr, Kept, Global>,
     verdicts: Verdicts,
     changes: u64,
+    /// The sum of the sizes of the certificates.
+    octets: u64,
+    /// How many signatures stand on the certificates.
+    signatures: u64,
 }
 
 impl Model for Keyring {
     ghost use Rattle.wot_keyring.specs.Keyring.{Keyring};
-    ghost use Rattle.wot_keyring.specs.Kept.{AreStamped};
+    ghost use Rattle.wot_keyring.specs.Kept.{IsKeyring, AreTotals};
 
     ghost Value = { Keyring };
 
     ghost view = { λ a. record { limits = a.limits; certs = a.certs.entries; verdicts = a.verdicts; changes = a.changes } };
 
-    ghost invariant = { λ a. AreStamped a.changes a.certs.entries };
+    ghost invariant = { λ a. let k : Keyring = record { limits = a.limits; certs = a.certs.entries; verdicts = a.verdicts; changes = a.changes } in
+        IsKeyring k × AreTotals k a.octets a.signatures };
 }
 
 impl Keyring {
@@ -52,14 +66,25 @@ impl Keyring {
             certs: BTreeMap::new(alloc),
             verdicts: Verdicts::new(alloc),
             changes: 0,
+            octets: 0,
+            signatures: 0,
         }
+    }
+
+    /// What it may hold at most.
+    pub fn limits(&self) -> Limits
+        ensures limits { result ≡ self.now.limits }
+    {
+        self.limits
     }
 
     /// The certificate that is kept under a fingerprint.
     pub fn get(&self, fpr: &Fpr) -> Option<&Cert>
         ensures found { option_copied result ≡ cert_at self.now fpr.now }
+        ensures named { IfSome result (λ c. fpr_of c.now.key ≡ fpr.now) }
+        ensures size { IfSome result (λ c. size_of c.now ≤ standard_limits.certificate) }
     {
-        match self.certs.get(fpr) {
+        match find(&self.certs, fpr) {
             Some(kept) => Some(&kept.cert),
             None => None,
         }
@@ -68,6 +93,9 @@ impl Keyring {
     /// The kept certificates, in the order of their fingerprints.
     pub fn certs(&self) -> CertsIter<'_>
         ensures certs { result ≡ map (λ (e : TheFpr × TheKept). e.1.cert) self.now.certs }
+        ensures named { AreNamed self.now.certs }
+        ensures in_order { AreInOrder self.now.certs }
+        ensures sizes { AreSized standard_limits.certificate self.now.certs }
     {
         CertsIter {
             entries: self.certs.iter(),
@@ -108,12 +136,17 @@ impl Keyring {
         ensures removed { OnOk result (self.new ≡ without_cert fpr.now self.old) }
         ensures absent { is_ok result ≡ is_some (cert_at self.old fpr.now) }
         ensures kept { OnErr result (self.new ≡ self.old) }
+        ensures counted { IsOneChange self.old self.new }
         ensures judged { StaysJudged self.old self.new }
     {
-        if !self.has(fpr) {
+        let Some(kept) = find(&self.certs, fpr) else {
             return Err(Absent);
-        }
+        };
+        let octets = kept.cert.size();
+        let signatures = kept.cert.signatures();
         take_out(&mut self.certs, fpr);
+        self.octets -= octets;
+        self.signatures -= signatures;
         self.changes += 1;
         Ok(())
     }
@@ -126,6 +159,7 @@ impl Keyring {
         ensures set { OnOk result (verdict_on self.old number ≢ Some verdict → self.new ≡ with_verdict_on number verdict self.old) }
         ensures full { TellsFull result self.old number }
         ensures kept { OnErr result (self.new ≡ self.old) }
+        ensures counted { IsOneChange self.old self.new }
         ensures judged { StaysJudged self.old self.new }
     {
         if self.says(&number, verdict) {
@@ -149,6 +183,7 @@ impl Keyring {
         ensures cleared { OnOk result (self.new ≡ without_verdict_on number.now self.old) }
         ensures absent { is_ok result ≡ is_some (verdict_on self.old number.now) }
         ensures kept { OnErr result (self.new ≡ self.old) }
+        ensures counted { IsOneChange self.old self.new }
         ensures judged { StaysJudged self.old self.new }
     {
         if self.verdicts.get(number).is_none() {
@@ -174,10 +209,50 @@ impl Keyring {
         }
     }
 
-    fn has(&self, fpr: &Fpr) -> bool
-        ensures has { result ≡ is_some (cert_at self.now fpr.now) }
+    /// Unites the certificates of these octets (RFC 9580, sections 4 and 10.1) with the kept ones: all of them or, where
+    /// anything is refused, none. The policy is asked once for each sound signature that is new.
+    pub fn import<F: Fn(Ask) -> bool>(
+        &mut self,
+        alloc: Global,
+        bytes: &[u8],
+        policy: &mut Policy<F>,
+    ) -> Result<Imported, Refusal>
+        requires countable { self.old.changes < 2 ^ 64 - 1 }
+        requires short { length bytes.now < 2 ^ 29 }
+        requires judged { IsJudgedBy (rows_of policy.old) self.old }
+        requires faithful { IsFaithful F.Fn policy.old }
+        ensures answer { Answers result (rows_of policy.old) self.old bytes.now }
+        ensures imported { OnOk result (self.new ≡ imported (rows_of policy.old) self.old bytes.now) }
+        ensures kept { OnErr result (self.new ≡ self.old) }
+        ensures asked { AsksFor result (rows_of policy.old) self.old bytes.now (λ k. policy.new ≡ asked_more k policy.old) }
+        ensures counted { IsOneChange self.old self.new }
+        ensures judged { IsJudgedBy (rows_of policy.old) self.new }
+        ensures faithful { IsFaithful F.Fn policy.new }
     {
-        self.certs.get(fpr).is_some()
+        Err(Refusal::Memory)
+    }
+
+    /// Appends a line for each certificate and each verdict: the commands that make this keyring anew. Tells their number.
+    /// After `Memory` `out` is as before.
+    pub fn dump(&self, alloc: Global, out: &mut Vec<u8>) -> Result<u64, Memory>
+        ensures lines { OnOk result (out.new.items ≡ out.old.items ++ lines_of (commands_of self.now)) }
+        ensures count { IfOk result (λ count. count ≡ length (commands_of self.now)) }
+        ensures kept { OnErr result (out.new.items ≡ out.old.items) }
+        // Each command is printed as one line, which is read as that command.
+        ensures read_back { OnOk result (AreLines (commands_of self.now)) }
+        // By whatever rows the fresh keyring judges.
+        ensures restored { OnOk result ((rows : Rows) → IsRestored rows self.now) }
+    {
+        replayed();
+        let start = out.len();
+        put_certs(alloc, self.certs(), out)?;
+        match put_verdicts(&self.verdicts, out) {
+            Ok(()) => Ok(self.certs.len() as u64 + self.verdicts.len() as u64),
+            Err(fault) => {
+                out.truncate(start);
+                Err(fault)
+            }
+        }
     }
 
     fn says(&self, number: &SigNumber, verdict: Verdict) -> bool
@@ -188,8 +263,10 @@ impl Keyring {
 
     fn would_pass(&self, number: &SigNumber) -> bool
         ensures passes { result ≡ would_pass self.now number.now }
+        ensures in_order { InOrder self.now.verdicts }
     {
-        self.verdicts.get(number).is_none() && self.limits.verdicts <= self.verdicts.len() as u64
+        let count = self.verdicts.len() as u64;
+        self.verdicts.get(number).is_none() && self.limits.verdicts <= count
     }
 
     /// Counts a change of the verdict on a number.
@@ -214,6 +291,7 @@ fn find<'a>(certs: &'a BTreeMap<Fpr, Kept, Global>, fpr: &Fpr) -> Option<&'a Kep
 /// Takes out what is kept under a fingerprint.
 fn take_out(certs: &mut BTreeMap<Fpr, Kept, Global>, fpr: &Fpr)
     ensures out { certs.new.entries ≡ remove_entry (is_fpr fpr.now) certs.old.entries }
+    ensures in_order { AreInOrder certs.new.entries }
 {
     let _ = certs.remove(fpr);
 }

@@ -4,4 +4,3 @@ pub mod Exact
 pub mod Counting
 pub mod Places
 pub mod Through
-pub mod Short

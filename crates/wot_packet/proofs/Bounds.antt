@@ -1,12 +1,14 @@
 -- What every packet of a text keeps to.
-use Rattle.std.proofs.Common.{◌≡◌, ⊎_elim, ℕ, ◌+◌, ◌^◌, ◌<◌, ◌≤◌, List, [], ◌∷◌, ◌++◌, length, subst, arith}
+use Rattle.std.proofs.Common.{◌≡◌, ⊎_elim, ℕ, ◌+◌, ◌*◌, ◌^◌, ◌<◌, ◌≤◌, List, [], ◌∷◌, ◌++◌, length, subst, arith}
 use Rattle.std.specs.List.{AllByRecursion, All}
 use Rattle.std.specs.Int.{w32, from_be_bytes}
+use Rattle.std.proofs.lemmas.List.{length-map}
 use Rattle.std.proofs.lemmas.List.Elements.{All-from_recursion}
 use Rattle.wot_packet.specs.Header.{IsOpenpgpLength, IsLegacyLength, IsOpenpgpHeader, IsLegacyHeader, IsHeader}
-use Rattle.wot_packet.specs.Spelling.{Spelled, SpellsFrom, Spells, spelled_all}
+use Rattle.wot_packet.specs.Spelling.{AreShort, Spelled, SpellsFrom, Spells, spelled_of, spelled_all}
 use Rattle.wot_packet.specs.declared.packet.Packet.{Packet}
 use Rattle.wot_packet.proofs.Lengths.{IsOctet}
+use Rattle.wot_packet.proofs.Lists.{packet_length}
 use Rattle.wot_packet.proofs.Looping.{Bytes, octets_from}
 
 number_bound : (a b c d n : ℕ) → AllByRecursion IsOctet (a ∷ b ∷ c ∷ d ∷ []) → n ≡ from_be_bytes w32 (a ∷ b ∷ c ∷ d ∷ []) → n < 2 ^ 32
@@ -61,3 +63,35 @@ seen_bounds (packet ∷ packets) h = (h.0, seen_bounds packets h.1)
 pub packet_bounds : (text : List ℕ) (packets : List Packet) → Bytes text → Spells text (spelled_all packets) → All (λ packet. (packet.kind ≤ 63) × (length packet.body.now < 2 ^ 32)) packets
 packet_bounds text packets b h =
     All-from_recursion (λ packet. (packet.kind ≤ 63) × (length packet.body.now < 2 ^ 32)) packets (seen_bounds packets (list_bounds 0 text (spelled_all packets) (octets_from text b) h))
+
+all_short : (packets : List Spelled) → AllByRecursion InBounds packets → AreShort packets
+all_short [] h = tt
+all_short (packet ∷ packets) h = (h.0.1, all_short packets h.1)
+
+pub packets_short : (text : List ℕ) (packets : List Packet) → Bytes text → Spells text (spelled_all packets) → AreShort (spelled_all packets)
+packets_short text packets b h = all_short (spelled_all packets) (list_bounds 0 text (spelled_all packets) (octets_from text b) h)
+
+-- ---- how many packets
+
+openpgp_two : (header : List ℕ) (kind size : ℕ) → IsOpenpgpHeader header kind size → 2 ≤ length header
+openpgp_two [] kind size h = absurd h
+openpgp_two (tag ∷ []) kind size h = absurd h.2
+openpgp_two (tag ∷ octet ∷ octets) kind size h = omega arith
+
+legacy_two : (header : List ℕ) (kind size : ℕ) → IsLegacyHeader header kind size → 2 ≤ length header
+legacy_two [] kind size h = absurd h
+legacy_two (tag ∷ []) kind size h = absurd h.3
+legacy_two (tag ∷ octet ∷ octets) kind size h = omega arith
+
+header_two : (header : List ℕ) (kind size : ℕ) → IsHeader header kind size → 2 ≤ length header
+header_two header kind size h = ⊎_elim (openpgp_two header kind size) (legacy_two header kind size) h
+
+list_few : (at : ℕ) (octets : List ℕ) (packets : List Spelled) → SpellsFrom at octets packets → 2 * length packets ≤ length octets
+list_few at octets [] h = omega arith
+list_few at octets (packet ∷ packets) h =
+    let two = header_two h.0 packet.kind (length packet.body) h.2 in
+    let whole = packet_length octets h.0 packet.body h.1 packet.kind (length packet.body) h.2 h.3 in
+    omega (arith, two, whole.1, list_few (at + length h.0 + length packet.body) h.1 packets h.5)
+
+pub packets_few : (text : List ℕ) (packets : List Packet) → Spells text (spelled_all packets) → 2 * length packets ≤ length text
+packets_few text packets h = omega (arith, list_few 0 text (spelled_all packets) h, length-map packets spelled_of)

@@ -1,6 +1,6 @@
 -- Texts of packets: the list that they spell, or their first fault (RFC 9580, section 4.2).
-use Rattle.std.specs.Prelude.{◌≡◌, ◌≢◌, ℕ, ◌+◌, ◌*◌, ◌<◌, ◌≤◌, List, [], ◌∷◌, ◌++◌, length, map}
-use Rattle.std.specs.List.{All}
+use Rattle.std.specs.Prelude.{◌≡◌, ◌≢◌, ℕ, ◌+◌, ◌*◌, ◌^◌, ◌<◌, ◌≤◌, List, [], ◌∷◌, ◌++◌, length, map}
+use Rattle.std.specs.List.{All, AllByRecursion}
 use Rattle.wot_packet.specs.Header.{IsHeader}
 use Rattle.wot_packet.specs.declared.packet.Packet.{Packet}
 use Rattle.wot_packet.specs.declared.packet.PacketFault.{PacketFault}
@@ -93,3 +93,7 @@ spelled_all packets = map spelled_of packets
 -- the same packets, each so many places further on
 abbrev pub moved : ℕ → List Spelled → List Spelled
 moved places packets = map (λ packet. record { kind = packet.kind; body = packet.body; at = places + packet.at }) packets
+
+-- The length of each body is one that four octets tell.
+abbrev pub AreShort : List Spelled → Type 0
+AreShort packets = AllByRecursion (λ (p : Spelled). length p.body < 2 ^ 32) packets

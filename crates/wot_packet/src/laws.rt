@@ -43,10 +43,12 @@ pub fn written_first()
         (record { kind = kind; body = body; at = 0 } ∷ moved (length (written kind body)) packets) }
 {}
 
-/// Packets that are written one behind the other are spelled, in that order.
+/// Packets that are written one behind the other are spelled, in that order, and read back so.
 pub fn written_back()
-    ensures { (packets : List (ℕ × List ℕ)) → All (λ packet. CanBeWritten packet.0 packet.1) packets →
+    ensures spelled { (packets : List (ℕ × List ℕ)) → All (λ packet. CanBeWritten packet.0 packet.1) packets →
         Spells (written_all packets) (placed 0 packets) }
+    ensures reader { (packets : List (ℕ × List ℕ)) → All (λ packet. CanBeWritten packet.0 packet.1) packets →
+        packets_of (written_all packets) ≡ Ok (placed 0 packets) }
 {}
 
 /// What is written has the shortest header in the OpenPGP format: each other one is longer.

@@ -1,9 +1,9 @@
-ghost use Rattle.std.specs.Prelude.{◌≡◌, ◌<◌, ◌≤◌, ◌^◌, List, length, IfOk, IfErr};
+ghost use Rattle.std.specs.Prelude.{◌≡◌, ◌<◌, ◌≤◌, ◌*◌, ◌^◌, List, length, IfOk, IfErr};
 ghost use Rattle.std.specs.List.{All};
 ghost use Rattle.wot_packet.specs.Answers.{Finds, IfPacket, Gives, AnswersList, AnswersFault};
 ghost use Rattle.wot_packet.specs.Reading.{first_of, packets_of};
 ghost use Rattle.wot_packet.specs.Seen.{first_seen};
-ghost use Rattle.wot_packet.specs.Spelling.{Spelled, Spells, IsFirstFault, spelled_all};
+ghost use Rattle.wot_packet.specs.Spelling.{AreShort, Spelled, Spells, IsFirstFault, spelled_all};
 ghost use Rattle.wot_packet.specs.declared.packet.PacketFault.{PacketFault};
 
 use crate::header::read_header;
@@ -42,6 +42,9 @@ pub fn read_packets<'a>(alloc: Global, bytes: &'a [u8]) -> Result<Vec<Packet<'a>
     // A packet that was read can be written.
     ensures bounds { IfOk result (λ packets. All (λ packet.
         (packet.kind ≤ 63) × (length packet.body.now < 2 ^ 32)) packets.items) }
+    ensures short { IfOk result (λ packets. AreShort (spelled_all packets.items)) }
+    // Each packet has two octets or more.
+    ensures few { IfOk result (λ packets. 2 * length packets.items ≤ length bytes.now) }
 
     // Each list that the text spells is answered, and each first fault told, unless no memory is found.
     ensures each_list { (packets : List Spelled) → Spells bytes.now packets →

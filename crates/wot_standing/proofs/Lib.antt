@@ -1,5 +1,4 @@
 pub mod Revoking
 pub mod SpanLaw
-pub mod Short
 pub mod Certifying
 pub mod Counting

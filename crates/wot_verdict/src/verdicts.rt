@@ -1,4 +1,4 @@
-ghost use Rattle.std.specs.Prelude.{◌≡◌, ◌≢◌, ◌↔◌, [], Bool, length, IsTrue, IfOk, OnOk, OnErr, Some, None, is_some, cond};
+ghost use Rattle.std.specs.Prelude.{◌≡◌, ◌≢◌, ◌<◌, ◌^◌, ◌↔◌, [], Bool, length, IsTrue, IfOk, OnOk, OnErr, Some, None, is_some, cond};
 ghost use Rattle.std.specs.Iterator.{YieldsFirst, item_count};
 ghost use Rattle.wot_types.specs.declared.number.SigNumber.{SigNumber as SigNumberOf};
 ghost use Rattle.wot_verdict.specs.Verdicts.{verdict_at, with_verdict, without_verdict, is_number, InOrder};
@@ -66,6 +66,7 @@ impl Verdicts {
     /// How many numbers have a verdict.
     pub fn len(&self) -> usize
         ensures count { result ≡ length self.now }
+        ensures few { result < 2 ^ 63 }
         ensures in_order { InOrder self.now }
     {
         self.by_number.len()

@@ -1,4 +1,3 @@
-use Rattle.std.proofs.Common.{◌≡◌}
 use Rattle.wot_cert.specs.Certificate.{unite}
 use Rattle.wot_cert.proofs.AddingParts.{brings_same, brings_same_parts}
 use Rattle.wot_cert.proofs.Fits.{parts_fit}

@@ -1,4 +1,4 @@
-use Rattle.std.proofs.Common.{◌≡◌, sym}
+use Rattle.std.proofs.Common.{sym}
 use Rattle.wot_cert.specs.Certificate.{part_cmp, unite_part}
 use Rattle.wot_cert.specs.Fitting.{PartFits}
 use Rattle.wot_cert.specs.Sizes.{part_items, part_signatures, part_size}

@@ -1,4 +1,4 @@
-use Rattle.std.proofs.Common.{◌≡◌, sym}
+use Rattle.std.proofs.Common.{sym}
 use Rattle.wot_cert.specs.Certificate.{sig_cmp, kept}
 use Rattle.wot_cert.specs.Fitting.{SigFits}
 use Rattle.wot_cert.specs.Sizes.{sig_size}

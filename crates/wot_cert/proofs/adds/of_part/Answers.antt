@@ -1,5 +1,4 @@
-use Rattle.std.proofs.Common.{◌≡◌, ℕ, ◌+◌, List, length, sym, ap, ◌∙◌, arith}
-use Rattle.wot_cert.specs.Certificate.{Signature, Component}
+use Rattle.std.proofs.Common.{◌≡◌, ℕ, ◌+◌, length, sym, ap, ◌∙◌, arith}
 use Rattle.wot_cert.specs.Counts.{sum_of}
 use Rattle.wot_cert.proofs.Counting.{ones}
 use Rattle.wot_cert.proofs.adds.of_part.Goals as goal

@@ -1,7 +1,6 @@
-use Rattle.std.proofs.Common.{◌≡◌, ◌+◌, ◌≤◌, ◌<◌, true, false, nat_eq, drop, length, get_or, List, ◌∷◌, ap, sym, ◌∙◌, arith, eqb}
+use Rattle.std.proofs.Common.{◌+◌, drop, ◌∙◌, arith}
 use Rattle.std.proofs.lemmas.Bool.{eq-eqb}
-use Rattle.wot_packet.specs.Spelling.{Spelled, spelled_all, spelled_of}
-use Rattle.wot_cert.specs.Packets.{is_key}
+use Rattle.wot_packet.specs.Spelling.{spelled_all}
 use Rattle.wot_cert.proofs.Cuts.{spelled-drop, drop-spelled, further, stops, is-other, begins-there}
 use Rattle.wot_cert.proofs.assembling.before_key.Goals as goal
 

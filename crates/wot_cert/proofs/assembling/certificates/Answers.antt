@@ -1,9 +1,9 @@
-use Rattle.std.proofs.Common.{◌≡◌, ℕ, ◌+◌, ◌≤◌, ◌<◌, ◌++◌, ◌∷◌, List, take, drop, length, subst, sym, ap, ◌∙◌, arith, length-drop}
-use Rattle.wot_packet.specs.Spelling.{Spelled, spelled_of, spelled_all}
+use Rattle.std.proofs.Common.{◌≡◌, ◌≤◌, ◌++◌, ◌∷◌, List, take, drop, length, subst, sym, ap, ◌∙◌, arith, length-drop}
+use Rattle.wot_packet.specs.Spelling.{AreShort, Spelled, spelled_of, spelled_all}
 use Rattle.wot_cert.specs.Assembly.{certificates_of, skipped_in}
 use Rattle.wot_cert.specs.Certificate.{Certificate}
-use Rattle.wot_cert.specs.Drafting.{AreShort, BeginsWithKey, skipped_by}
-use Rattle.wot_cert.proofs.Cuts.{KeyTaken, key-taken, key-there, none-before, take-spelled, drop-spelled, short-drop, short-take, certs-on, skipped-on, skipped-most}
+use Rattle.wot_cert.specs.Drafting.{BeginsWithKey, skipped_by}
+use Rattle.wot_cert.proofs.Cuts.{KeyTaken, key-taken, key-there, none-before, take-spelled, drop-spelled, short-drop, certs-on, skipped-on, skipped-most}
 use Rattle.wot_cert.proofs.assembling.certificates.Goals as goal
 
 pub keys-init : goal.keys-init

@@ -1,7 +1,7 @@
 use Rattle.std.proofs.Common.{◌≡◌, ◌≤◌, ◌+◌, ◌++◌, length}
-use Rattle.wot_packet.specs.Spelling.{spelled_all}
+use Rattle.wot_packet.specs.Spelling.{AreShort, spelled_all}
 use Rattle.wot_cert.specs.Assembly.{certificates_of, skipped_in}
-use Rattle.wot_cert.specs.Drafting.{AreShort, BeginsWithKey}
+use Rattle.wot_cert.specs.Drafting.{BeginsWithKey}
 use Rattle.wot_cert.proofs.assembling.certificates.Given as goal
 
 abbrev pub invariant-keys : goal.invariant-keys

@@ -1,7 +1,6 @@
-use Rattle.std.proofs.Common.{◌≡◌, ◌≤◌, ◌<◌, ◌+◌, ◌-◌, ℕ, List, ◌∷◌, drop, length, get_or, subst, sym, ap, ◌∙◌, arith}
-use Rattle.wot_packet.specs.declared.packet.Packet.{Packet}
-use Rattle.wot_packet.specs.Spelling.{Spelled, spelled_all, spelled_of}
-use Rattle.wot_cert.specs.Drafting.{IsSketch, Sketch, sketched, with_packet, seen}
+use Rattle.std.proofs.Common.{◌-◌, drop, get_or, subst, sym, ap, ◌∙◌, arith}
+use Rattle.wot_packet.specs.Spelling.{spelled_all, spelled_of}
+use Rattle.wot_cert.specs.Drafting.{IsSketch, Sketch, with_packet}
 use Rattle.wot_cert.proofs.Sketches.{sketched-rises, sketched-before}
 use Rattle.wot_cert.proofs.assembling.draft_of.Goals as goal
 

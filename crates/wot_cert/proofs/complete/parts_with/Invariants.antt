@@ -1,4 +1,4 @@
-use Rattle.std.proofs.Common.{◌≡◌, ◌++◌, List, ℕ, map}
+use Rattle.std.proofs.Common.{◌≡◌, ◌++◌, map}
 use Rattle.std.specs.List.{AllByRecursion}
 use Rattle.wot_cert.specs.Drafting.{IsShortGroup, body_cmp, part_drafted, groups_in}
 use Rattle.wot_cert.specs.Ranked.{IsRising}

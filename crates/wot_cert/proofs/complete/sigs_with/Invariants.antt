@@ -1,4 +1,4 @@
-use Rattle.std.proofs.Common.{◌≡◌, ◌++◌, List, ℕ, map}
+use Rattle.std.proofs.Common.{◌≡◌, ◌++◌, map}
 use Rattle.std.specs.List.{AllByRecursion}
 use Rattle.wot_cert.specs.Certificate.{fresh}
 use Rattle.wot_cert.specs.Drafting.{IsShort, bodies_in}

@@ -1,5 +1,5 @@
-use Rattle.std.proofs.Common.{◌≡◌, List, ℕ, ap, sym, ◌∙◌, map}
-use Rattle.wot_cert.specs.Drafting.{Group, groups_in, bodies_in, unite_bodies, sigs_at, without}
+use Rattle.std.proofs.Common.{◌≡◌, List, ℕ, ap, ◌∙◌}
+use Rattle.wot_cert.specs.Drafting.{groups_in, bodies_in, unite_bodies, sigs_at}
 use Rattle.wot_cert.proofs.Drafts.{insert_seen, insert_group, put_again}
 use Rattle.wot_cert.proofs.draft.put_group.Goals as goal
 

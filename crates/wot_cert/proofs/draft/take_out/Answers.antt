@@ -1,5 +1,5 @@
 use Rattle.std.proofs.Common.{ap, ◌∙◌, map}
-use Rattle.wot_cert.specs.Drafting.{groups_in, bodies_in}
+use Rattle.wot_cert.specs.Drafting.{groups_in}
 use Rattle.wot_cert.proofs.Drafts.{remove_seen, found_some, found_none}
 use Rattle.wot_cert.proofs.draft.take_out.Goals as goal
 

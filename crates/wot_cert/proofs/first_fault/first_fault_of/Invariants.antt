@@ -1,4 +1,4 @@
-use Rattle.std.proofs.Common.{◌≡◌, map, drop, length, false}
+use Rattle.std.proofs.Common.{◌≡◌, map, drop, false}
 use Rattle.wot_cert.specs.Fault.{fault_from}
 use Rattle.wot_packet.specs.Spelling.{spelled_of}
 use Rattle.wot_cert.proofs.first_fault.first_fault_of.Given as goal

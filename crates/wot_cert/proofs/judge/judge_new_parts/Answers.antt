@@ -1,6 +1,6 @@
-use Rattle.std.proofs.Common.{◌≡◌, ◌<◌, ◌+◌, ◌∷◌, List, length, length-set, ap, sym, ◌∙◌, subst, arith}
+use Rattle.std.proofs.Common.{◌≡◌, ◌<◌, ◌+◌, ◌∷◌, List, length, length-set, ap, ◌∙◌, subst, arith}
 use Rattle.wot_policy.specs.declared.rows.PolicyRows.{PolicyRows}
-use Rattle.wot_policy.specs.Kept.{rows_of, asked_more}
+use Rattle.wot_policy.specs.Kept.{rows_of}
 use Rattle.wot_cert.specs.Certificate.{Component}
 use Rattle.wot_cert.specs.New.{judged_parts, sound_new_on}
 use Rattle.wot_cert.proofs.Asking.{asked_again}

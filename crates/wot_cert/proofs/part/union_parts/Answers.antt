@@ -1,4 +1,4 @@
-use Rattle.std.proofs.Common.{◌≡◌, sym}
+use Rattle.std.proofs.Common.{sym}
 use Rattle.wot_cert.specs.Certificate.{part_cmp, unite_part}
 use Rattle.wot_cert.proofs.Walk.{step_less, step_equal, step_greater, end_left, end_right, rises, parts_total, parts_same}
 use Rattle.wot_cert.proofs.Copies.{part_pushed, parts_pushed}

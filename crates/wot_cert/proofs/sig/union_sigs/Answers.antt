@@ -1,4 +1,4 @@
-use Rattle.std.proofs.Common.{◌≡◌, sym}
+use Rattle.std.proofs.Common.{sym}
 use Rattle.wot_cert.specs.Certificate.{sig_cmp, kept}
 use Rattle.wot_cert.proofs.Walk.{step_less, step_equal, step_greater, end_left, end_right, rises, sigs_total, kept_same}
 use Rattle.wot_cert.proofs.Copies.{sigs_pushed}

@@ -1,4 +1,4 @@
-use Rattle.std.proofs.Common.{◌≡◌, ◌-◌, ◌^◌, min, length, ap, ◌∙◌}
+use Rattle.std.proofs.Common.{length, ap, ◌∙◌}
 use Rattle.wot_packet.specs.Writing.{written}
 use Rattle.wot_cert.specs.Counts.{sum_of}
 use Rattle.wot_cert.specs.Sizes.{sig_size, part_size}

@@ -1,4 +1,4 @@
-use Rattle.std.proofs.Common.{rules, ◌≡◌, ap}
+use Rattle.std.proofs.Common.{rules, ap}
 use Rattle.wot_cert.specs.Counts.{sum_of}
 use Rattle.wot_cert.specs.Sizes.{part_size}
 use Rattle.wot_cert.proofs.Capped.{counted_on}

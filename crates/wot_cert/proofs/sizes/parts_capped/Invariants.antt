@@ -1,4 +1,4 @@
-use Rattle.std.proofs.Common.{◌≡◌, ◌+◌, ◌-◌, ◌^◌, ℕ, min, length}
+use Rattle.std.proofs.Common.{length}
 use Rattle.std.specs.List.{AllByRecursion}
 use Rattle.wot_cert.specs.Counts.{sum_of}
 use Rattle.wot_cert.specs.Fitting.{PartFits}

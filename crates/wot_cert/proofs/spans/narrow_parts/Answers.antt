@@ -1,4 +1,3 @@
-use Rattle.wot_cert.specs.Span.{sig_moments}
 use Rattle.wot_cert.proofs.Narrow.{narrowed-append, parts-more}
 use Rattle.wot_cert.proofs.spans.narrow_parts.Goals as goal
 

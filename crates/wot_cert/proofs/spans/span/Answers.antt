@@ -1,5 +1,5 @@
-use Rattle.std.proofs.Common.{◌≡◌, ◌-◌, ◌<◌, ◌^◌, arith, refl, ap}
-use Rattle.wot_cert.proofs.Narrow.{whole, whole_ends, Whole}
+use Rattle.std.proofs.Common.{arith, refl}
+use Rattle.wot_cert.proofs.Narrow.{whole, whole_ends}
 use Rattle.wot_cert.proofs.SpanLaw.{live_at_same}
 use Rattle.wot_cert.proofs.spans.span.Goals as goal
 

@@ -1,7 +1,7 @@
 use Rattle.std.proofs.Common.{sym, ap, ◌∙◌, arith}
 use Rattle.wot_packet.specs.Reading.{first_of}
 use Rattle.wot_packet.specs.Spelling.{IsFirstFault, spelled_all}
-use Rattle.wot_packet.proofs.Bounds.{packet_bounds}
+use Rattle.wot_packet.proofs.Bounds.{packet_bounds, packets_short, packets_few}
 use Rattle.wot_packet.proofs.Exact.{one_list, one_fault, never_both, list_read, fault_read}
 use Rattle.wot_packet.proofs.Looping.{one_more, all_read, fault_here}
 use Rattle.wot_packet.proofs.read.read_packets.Goals as goal
@@ -41,6 +41,14 @@ returns-clause-each_fault c = λ fault h.
 pub returns-clause-bounds : goal.returns-clause-bounds
 returns-clause-bounds c =
     packet_bounds c.args.bytes.now c.packets.packets.items (λ i. omega (arith, c.type_inv.bytes i)) (all_read c.args.bytes.now c.packets.at c.packets.packets.items c.packets.invariant c.packets-test.false)
+
+pub returns-clause-short : goal.returns-clause-short
+returns-clause-short c =
+    packets_short c.args.bytes.now c.packets.packets.items (λ i. omega (arith, c.type_inv.bytes i)) (all_read c.args.bytes.now c.packets.at c.packets.packets.items c.packets.invariant c.packets-test.false)
+
+pub returns-clause-few : goal.returns-clause-few
+returns-clause-few c =
+    packets_few c.args.bytes.now c.packets.packets.items (all_read c.args.bytes.now c.packets.at c.packets.packets.items c.packets.invariant c.packets-test.false)
 
 pub returns-clause-reader : goal.returns-clause-reader
 returns-clause-reader c =

@@ -1,4 +1,4 @@
-use Rattle.std.proofs.Common.{◌≡◌, ℕ, ◌≤◌, ◌<◌, ◌^◌, arith}
+use Rattle.std.proofs.Common.{ℕ, ◌≤◌, ◌<◌, arith}
 use Rattle.wot_cert.proofs.TextSize.{size_less}
 use Rattle.wot_cert.proofs.cert.Cert.adds.Goals as goal
 

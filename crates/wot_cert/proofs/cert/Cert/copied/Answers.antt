@@ -1,6 +1,6 @@
 use Rattle.std.proofs.Common.{◌≡◌, map, ap, sym, ◌∙◌, subst}
 use Rattle.wot_key.specs.Key.{key_of, fpr_of}
-use Rattle.wot_cert.specs.Certificate.{Certificate, part_with}
+use Rattle.wot_cert.specs.Certificate.{part_with}
 use Rattle.wot_cert.specs.Copied.{copied, mark_under}
 use Rattle.wot_cert.specs.Whole.{IsCertificate}
 use Rattle.wot_cert.proofs.Same.{same_cert}

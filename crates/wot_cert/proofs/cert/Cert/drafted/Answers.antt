@@ -1,6 +1,5 @@
-use Rattle.std.proofs.Common.{◌≡◌}
 use Rattle.wot_cert.specs.Drafting.{seen}
-use Rattle.wot_cert.proofs.Completing.{IsMade, made-whole, made-equal, made-readable}
+use Rattle.wot_cert.proofs.Completing.{made-whole}
 use Rattle.wot_cert.proofs.cert.Cert.drafted.Goals as goal
 
 pub invariant_of-result : goal.invariant_of-result

@@ -1,5 +1,4 @@
-use Rattle.std.proofs.Common.{◌≡◌, ◌∙◌}
-use Rattle.wot_cert.specs.Certificate.{Certificate}
+use Rattle.std.proofs.Common.{◌∙◌}
 use Rattle.wot_cert.proofs.Copies.{cert_kept}
 use Rattle.wot_cert.proofs.Results.{if_ok}
 use Rattle.wot_cert.proofs.cert.Cert.duplicate.Goals as goal

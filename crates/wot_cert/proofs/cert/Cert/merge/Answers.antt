@@ -1,4 +1,4 @@
-use Rattle.std.proofs.Common.{◌≡◌, ◌+◌, ◌-◌, ◌<◌, ◌≤◌, ◌^◌, refl, sym, ap, ◌∙◌, subst, arith}
+use Rattle.std.proofs.Common.{◌+◌, ◌<◌, ◌^◌, refl, sym, ap, ◌∙◌, subst, arith}
 use Rattle.wot_policy.specs.Kept.{rows_of}
 use Rattle.wot_cert.specs.Certificate.{Certificate, unite}
 use Rattle.wot_cert.specs.Counts.{items_of}
