@@ -3,6 +3,7 @@
 
 mod digests;
 mod lines;
+mod live;
 mod packets;
 mod paths;
 mod patterns;
@@ -66,6 +67,10 @@ fn main(rt: HostRuntime) -> io::Result<()> {
             };
             let count = u32::try_from(number(words.next())).unwrap_or(0);
             patterns::on_uids(&rt, pattern.as_str(), count, who.as_str())
+        }
+        "rows" => {
+            let issuers = number(words.next());
+            live::bench(&rt, issuers as u64, number(words.next()) as u64)
         }
         "signatures" => signatures::bench(&rt, number(words.next())),
         _ => println!(rt; "no such bench"),
