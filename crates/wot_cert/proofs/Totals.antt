@@ -108,3 +108,12 @@ module _ (a b : Certificate) (d e f g p q m : Adds) (h : Brought a (unite a b) d
   all_octets =
       sized m.octets (size_of a) (size_of (unite a b)) (length (written 6 a.key)) _ _
       (total (length (written 6 a.key)) _ _ _ _ _ _ _ _ _ _ _ _ _ _ _ r.octets s.octets t.octets h.direct.octets h.user_ids.octets h.attributes.octets h.subkeys.octets) (size_is a) (size_is (unite a b))
+
+fewer : (n k a b c d w x y z : ℕ) → n ≡ k + (w + x + y + z) → a ≤ w → b ≤ x → c ≤ y → d ≤ z → n < 2 ^ 63 → a + b + c + d < 2 ^ 63
+fewer n k a b c d w x y z s e f g h few = omega arith
+
+-- A certificate has fewer signatures than its text has octets.
+pub few_signatures : (c : Certificate) → size_of c < 2 ^ 63 → signatures_of c < 2 ^ 63
+few_signatures c few =
+    let parts = sum_least part_signatures part_size signatures_least in
+    fewer (size_of c) (length (written 6 c.key)) _ _ _ _ _ _ _ _ (size_is c) (ones_least c) (parts c.user_ids) (parts c.attributes) (parts c.subkeys) few

@@ -17,7 +17,7 @@ ghost use Rattle.std.specs.Prelude.{false, []};
 
 use crate::adds::added;
 use crate::complete::{ON_ATTRIBUTE, ON_KEY, ON_SUBKEY, ON_USER_ID, parts_with, sigs_with};
-use crate::count::items;
+use crate::count::{items, signatures};
 use crate::draft::Draft;
 use crate::export::{append_cert, reads_back};
 use crate::judge::{judge_new, judge_new_parts};
@@ -135,6 +135,14 @@ impl Cert {
         ensures size { result ≡ min (size_of self.now) (2 ^ 64 - 1) }
     {
         cert_octets(self)
+    }
+
+    /// How many signatures it has.
+    pub fn signatures(&self) -> u64
+        requires { size_of self.now < 2 ^ 63 }
+        ensures signatures { result ≡ signatures_of self.now }
+    {
+        signatures(self)
     }
 
     /// The signatures on the key itself.

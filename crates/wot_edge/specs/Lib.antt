@@ -8,3 +8,4 @@ pub mod Capacity
 pub mod Agree
 pub mod Leads
 pub mod Plain
+pub mod Lawful

@@ -1,9 +1,8 @@
 mod CutLines
-mod Spelling
-mod Undoing
-mod Uniting
-mod Steps
+mod Named
 mod Outcomes
+mod Runs
+mod Steps
 mod Progress
 mod Turns
 pub mod Rules

@@ -1,12 +1,13 @@
 -- The commands that make a keyring anew, and their text.
-use Rattle.std.specs.Prelude.{◌≡◌, ℕ, if◌then◌else◌, List, [], ◌∷◌, ◌++◌, map, Option, Some, None, Result, Ok, Err, IsSomeAnd}
-use Rattle.std.specs.List.{flat_map}
+use Rattle.std.specs.Prelude.{◌≡◌, ◌≢◌, ◌≤◌, ℕ, if◌then◌else◌, List, [], ◌∷◌, ◌++◌, map, length, Option, Some, None, Result, Ok, Err, IsSomeAnd}
+use Rattle.std.specs.List.{AllByRecursion, flat_map}
 use Rattle.wot_types.specs.declared.fpr.Fpr.{Fpr}
 use Rattle.wot_types.specs.declared.number.SigNumber.{SigNumber}
 use Rattle.wot_policy.specs.declared.rows.PolicyRows.{PolicyRows}
 use Rattle.wot_script.specs.declared.command.Command.{Command}
 use Rattle.wot_script.specs.declared.command.Command.TheVariants as commands
-use Rattle.wot_script.specs.Spelling.{spelling}
+use Rattle.wot_script.specs.Grammar.{command_of}
+use Rattle.wot_script.specs.Spelling.{IsHeard, spelling}
 use Rattle.wot_verdict.specs.declared.verdict.Verdict.{Verdict}
 use Rattle.wot_verdict.specs.declared.verdict.Verdict.TheVariants.{Good, Bad}
 use Rattle.wot_cert.specs.Certificate.{Certificate, unmarked}
@@ -14,13 +15,17 @@ use Rattle.wot_cert.specs.Text.{text_of}
 use Rattle.wot_keyring.specs.declared.import.Imported.{Imported}
 use Rattle.wot_keyring.specs.declared.kept.Kept.{Kept}
 use Rattle.wot_keyring.specs.declared.refusal.Refusal.{Refusal}
+use Rattle.wot_keyring.specs.Kept.{IsJudgedBy}
 use Rattle.wot_keyring.specs.Keyring.{Keyring, empty, certificates_in}
 use Rattle.wot_keyring.specs.Import.{answer_to, imported}
 use Rattle.wot_keyring.specs.Verdict.{with_verdict_on, would_pass}
 
 -- the import of a certificate's text
+abbrev pub text_import : Certificate → Command
+text_import c = commands.Import (text_of c)
+
 abbrev pub import_of : Fpr × Kept → Command
-import_of e = commands.Import (text_of e.1.cert)
+import_of e = text_import e.1.cert
 
 abbrev pub setting : SigNumber → Verdict → Command
 setting number (Good fpr) = commands.Good number fpr
@@ -33,9 +38,22 @@ setting_of e = setting e.0 e.1
 abbrev pub commands_of : Keyring → List Command
 commands_of k = map import_of k.certs ++ map setting_of k.verdicts
 
--- each command on its line
+-- a command on its line
+abbrev pub line_of : Command → List ℕ
+line_of c = spelling c ++ 10 ∷ []
+
 abbrev pub lines_of : List Command → List ℕ
-lines_of commands = flat_map (λ (c : Command). spelling c ++ 10 ∷ []) commands
+lines_of commands = flat_map line_of commands
+
+-- The line of a command is one line, isn't passed over, isn't too long, and is read as this command.
+pub record IsLine (c : Command) : Type 0 where
+  pub no_feed : AllByRecursion (λ octet. octet ≢ 10) (spelling c)
+  pub heard : IsHeard (spelling c)
+  pub short : length (spelling c) ≤ 16777216
+  pub read : command_of (spelling c) ≡ Some c
+
+abbrev pub AreLines : List Command → Type 0
+AreLines commands = AllByRecursion IsLine commands
 
 -- ---- what the commands do in a fresh keyring
 
@@ -62,11 +80,14 @@ after_all rows (c ∷ cs) (Some k) = after_all rows cs (after rows c k)
 abbrev pub plain : Fpr × Certificate → Fpr × Certificate
 plain e = (e.0, unmarked e.1)
 
--- Both hold the same certificates, whatever their marks, and the same verdicts.
-pub record HoldSame (a b : Keyring) : Type 0 where
-  pub certs : map plain (certificates_in a) ≡ map plain (certificates_in b)
-  pub verdicts : a.verdicts ≡ b.verdicts
+-- The new keyring has the limits of this one, and holds the same certificates, each signature judged by the rows, and the
+-- same verdicts.
+pub record IsAnew (rows : PolicyRows) (k new : Keyring) : Type 0 where
+  pub limits : new.limits ≡ k.limits
+  pub certs : map plain (certificates_in new) ≡ map plain (certificates_in k)
+  pub judged : IsJudgedBy rows new
+  pub verdicts : new.verdicts ≡ k.verdicts
 
 -- The commands, run in a fresh keyring with the same limits, give what this one holds, and none is refused.
 abbrev pub IsRestored : PolicyRows → Keyring → Type 0
-IsRestored rows k = IsSomeAnd (after_all rows (commands_of k) (Some (empty k.limits))) (λ new. HoldSame new k)
+IsRestored rows k = IsSomeAnd (after_all rows (commands_of k) (Some (empty k.limits))) (IsAnew rows k)

@@ -1,13 +1,21 @@
 -- What is true of every keyring, and what callers bring.
-use Rattle.std.specs.Prelude.{◌≤◌, ◌<◌, ℕ}
+use Rattle.std.specs.Prelude.{◌≡◌, ◌≤◌, ◌<◌, ℕ, length}
 use Rattle.std.specs.List.{AllByRecursion}
+use Rattle.std.specs.List.Sorted.{IsStrictlySortedBy}
+use Rattle.std.specs.Map.{keys_of}
 use Rattle.wot_types.specs.declared.fpr.Fpr.{Fpr}
 use Rattle.wot_types.specs.declared.limits.Limits.{Limits}
+use Rattle.wot_types.specs.Fpr.{fpr_cmp}
 use Rattle.wot_types.specs.Limits.{standard_limits}
+use Rattle.wot_key.specs.Key.{fpr_of}
 use Rattle.wot_policy.specs.declared.rows.PolicyRows.{PolicyRows}
+use Rattle.wot_cert.specs.Counts.{signatures_of}
 use Rattle.wot_cert.specs.Judged.{IsJudged}
+use Rattle.wot_cert.specs.Text.{size_of}
+use Rattle.wot_cert.specs.Whole.{IsCertificate}
 use Rattle.wot_keyring.specs.declared.kept.Kept.{Kept}
-use Rattle.wot_keyring.specs.Keyring.{Entries, Keyring}
+use Rattle.wot_keyring.specs.Keyring.{Entries, Keyring, certificates_in}
+use Rattle.wot_keyring.specs.Import.{weigh}
 
 -- No limit is above the program's own.
 pub record AreSmall (l : Limits) : Type 0 where
@@ -25,6 +33,46 @@ IsStamped changes e = (0 < e.1.stamp) × (e.1.stamp ≤ changes)
 
 abbrev pub AreStamped : ℕ → Entries → Type 0
 AreStamped changes entries = AllByRecursion (IsStamped changes) entries
+
+-- A certificate stands under the fingerprint of its key.
+abbrev pub IsNamed : Fpr × Kept → Type 0
+IsNamed e = e.0 ≡ fpr_of e.1.cert.key
+
+abbrev pub AreNamed : Entries → Type 0
+AreNamed entries = AllByRecursion IsNamed entries
+
+abbrev pub AreWhole : Entries → Type 0
+AreWhole entries = AllByRecursion (λ (e : Fpr × Kept). IsCertificate e.1.cert) entries
+
+-- The fingerprints rise, so that none stands twice.
+abbrev pub AreInOrder : Entries → Type 0
+AreInOrder entries = IsStrictlySortedBy fpr_cmp (keys_of entries)
+
+-- None of the certificates is longer than this.
+abbrev pub AreSized : ℕ → Entries → Type 0
+AreSized limit entries = AllByRecursion (λ (e : Fpr × Kept). size_of e.1.cert ≤ limit) entries
+
+-- What is held passes no limit.
+pub record IsWithin (k : Keyring) : Type 0 where
+  pub certificate : AreSized k.limits.certificate k.certs
+  pub certificates : length k.certs ≤ k.limits.certificates
+  pub octets : weigh size_of (certificates_in k) ≤ k.limits.octets
+  pub signatures : weigh signatures_of (certificates_in k) ≤ k.limits.signatures
+  pub verdicts : length k.verdicts ≤ k.limits.verdicts
+
+-- What is true of every keyring.
+pub record IsKeyring (k : Keyring) : Type 0 where
+  pub small : AreSmall k.limits
+  pub named : AreNamed k.certs
+  pub whole : AreWhole k.certs
+  pub in_order : AreInOrder k.certs
+  pub within : IsWithin k
+  pub stamped : AreStamped k.changes k.certs
+
+-- These are the sum of the sizes and the number of the signatures of all certificates.
+pub record AreTotals (k : Keyring) (octets_in signatures_in : ℕ) : Type 0 where
+  pub octets : octets_in ≡ weigh size_of (certificates_in k)
+  pub signatures : signatures_in ≡ weigh signatures_of (certificates_in k)
 
 -- Each of the certificates is judged by these rows.
 abbrev pub AreJudged : PolicyRows → Entries → Type 0

@@ -1,19 +1,23 @@
 ghost use Rattle.std.specs.Prelude.{◌≡◌, ◌≢◌, ◌<◌, ◌≤◌, ◌^◌, ◌-◌, ◌++◌, map, Some, Ok, is_ok, is_some, IsSomeAnd, length, IfOk, MatchBool, OnOk, OnErr};
-ghost use Rattle.std.specs.Option.{option_copied, MatchOption};
+ghost use Rattle.std.specs.Option.{option_copied, IfSome, MatchOption};
 ghost use Rattle.std.specs.Map.{lookup, remove_entry};
 ghost use Rattle.wot_types.specs.declared.fpr.Fpr.{Fpr as TheFpr};
-ghost use Rattle.wot_cert.specs.Text.{text_of};
+ghost use Rattle.wot_key.specs.Key.{fpr_of};
+ghost use Rattle.wot_types.specs.Limits.{standard_limits};
+ghost use Rattle.wot_cert.specs.Text.{size_of, text_of};
 ghost use Rattle.wot_keyring.specs.declared.kept.Kept.{Kept as TheKept};
 ghost use Rattle.wot_keyring.specs.Keyring.{empty, cert_at, stamp_at, verdict_on, is_fpr, TellsAbsent};
-ghost use Rattle.wot_keyring.specs.Kept.{AreSmall, IsJudgedBy, StaysJudged};
+ghost use Rattle.wot_keyring.specs.Kept.{AreInOrder, AreNamed, AreSized, AreSmall, IsJudgedBy, StaysJudged};
 ghost use Rattle.wot_policy.specs.declared.rows.PolicyRows.{PolicyRows as Rows};
 ghost use Rattle.wot_policy.specs.Kept.{IsFaithful, rows_of, asked_more};
-ghost use Rattle.wot_keyring.specs.Dump.{commands_of, lines_of, IsRestored};
+ghost use Rattle.wot_keyring.specs.Dump.{commands_of, lines_of, AreLines, IsRestored};
 ghost use Rattle.wot_keyring.specs.Import.{Answers, AsksFor, IsOneChange, imported};
 ghost use Rattle.wot_keyring.specs.Removal.{without_cert};
 ghost use Rattle.wot_keyring.specs.Verdict.{with_verdict_on, without_verdict_on, would_pass, counted_at, TellsFull};
+ghost use Rattle.wot_verdict.specs.Verdicts.{InOrder};
 
 use crate::certs::CertsIter;
+use crate::dump::{put_certs, put_verdicts, replayed};
 use crate::kept::Kept;
 use crate::restamp::restamp;
 use crate::{Absent, ExportFault, Imported, Refusal};
@@ -33,17 +37,22 @@ pub struct Keyring {
     certs: BTreeMap<Fpr, Kept, Global>,
     verdicts: Verdicts,
     changes: u64,
+    /// The sum of the sizes of the certificates.
+    octets: u64,
+    /// How many signatures stand on the certificates.
+    signatures: u64,
 }
 
 impl Model for Keyring {
     ghost use Rattle.wot_keyring.specs.Keyring.{Keyring};
-    ghost use Rattle.wot_keyring.specs.Kept.{AreStamped};
+    ghost use Rattle.wot_keyring.specs.Kept.{IsKeyring, AreTotals};
 
     ghost Value = { Keyring };
 
     ghost view = { λ a. record { limits = a.limits; certs = a.certs.entries; verdicts = a.verdicts; changes = a.changes } };
 
-    ghost invariant = { λ a. AreStamped a.changes a.certs.entries };
+    ghost invariant = { λ a. let k : Keyring = record { limits = a.limits; certs = a.certs.entries; verdicts = a.verdicts; changes = a.changes } in
+        IsKeyring k × AreTotals k a.octets a.signatures };
 }
 
 impl Keyring {
@@ -57,14 +66,25 @@ impl Keyring {
             certs: BTreeMap::new(alloc),
             verdicts: Verdicts::new(alloc),
             changes: 0,
+            octets: 0,
+            signatures: 0,
         }
+    }
+
+    /// What it may hold at most.
+    pub fn limits(&self) -> Limits
+        ensures limits { result ≡ self.now.limits }
+    {
+        self.limits
     }
 
     /// The certificate that is kept under a fingerprint.
     pub fn get(&self, fpr: &Fpr) -> Option<&Cert>
         ensures found { option_copied result ≡ cert_at self.now fpr.now }
+        ensures named { IfSome result (λ c. fpr_of c.now.key ≡ fpr.now) }
+        ensures size { IfSome result (λ c. size_of c.now ≤ standard_limits.certificate) }
     {
-        match self.certs.get(fpr) {
+        match find(&self.certs, fpr) {
             Some(kept) => Some(&kept.cert),
             None => None,
         }
@@ -73,6 +93,9 @@ impl Keyring {
     /// The kept certificates, in the order of their fingerprints.
     pub fn certs(&self) -> CertsIter<'_>
         ensures certs { result ≡ map (λ (e : TheFpr × TheKept). e.1.cert) self.now.certs }
+        ensures named { AreNamed self.now.certs }
+        ensures in_order { AreInOrder self.now.certs }
+        ensures sizes { AreSized standard_limits.certificate self.now.certs }
     {
         CertsIter {
             entries: self.certs.iter(),
@@ -113,12 +136,17 @@ impl Keyring {
         ensures removed { OnOk result (self.new ≡ without_cert fpr.now self.old) }
         ensures absent { is_ok result ≡ is_some (cert_at self.old fpr.now) }
         ensures kept { OnErr result (self.new ≡ self.old) }
+        ensures counted { IsOneChange self.old self.new }
         ensures judged { StaysJudged self.old self.new }
     {
-        if !self.has(fpr) {
+        let Some(kept) = find(&self.certs, fpr) else {
             return Err(Absent);
-        }
+        };
+        let octets = kept.cert.size();
+        let signatures = kept.cert.signatures();
         take_out(&mut self.certs, fpr);
+        self.octets -= octets;
+        self.signatures -= signatures;
         self.changes += 1;
         Ok(())
     }
@@ -131,6 +159,7 @@ impl Keyring {
         ensures set { OnOk result (verdict_on self.old number ≢ Some verdict → self.new ≡ with_verdict_on number verdict self.old) }
         ensures full { TellsFull result self.old number }
         ensures kept { OnErr result (self.new ≡ self.old) }
+        ensures counted { IsOneChange self.old self.new }
         ensures judged { StaysJudged self.old self.new }
     {
         if self.says(&number, verdict) {
@@ -154,6 +183,7 @@ impl Keyring {
         ensures cleared { OnOk result (self.new ≡ without_verdict_on number.now self.old) }
         ensures absent { is_ok result ≡ is_some (verdict_on self.old number.now) }
         ensures kept { OnErr result (self.new ≡ self.old) }
+        ensures counted { IsOneChange self.old self.new }
         ensures judged { StaysJudged self.old self.new }
     {
         if self.verdicts.get(number).is_none() {
@@ -208,15 +238,21 @@ impl Keyring {
         ensures lines { OnOk result (out.new.items ≡ out.old.items ++ lines_of (commands_of self.now)) }
         ensures count { IfOk result (λ count. count ≡ length (commands_of self.now)) }
         ensures kept { OnErr result (out.new.items ≡ out.old.items) }
-        ensures restored { OnOk result ((rows : Rows) → IsJudgedBy rows self.now → IsRestored rows self.now) }
+        // Each command is printed as one line, which is read as that command.
+        ensures read_back { OnOk result (AreLines (commands_of self.now)) }
+        // By whatever rows the fresh keyring judges.
+        ensures restored { OnOk result ((rows : Rows) → IsRestored rows self.now) }
     {
-        Err(Memory)
-    }
-
-    fn has(&self, fpr: &Fpr) -> bool
-        ensures has { result ≡ is_some (cert_at self.now fpr.now) }
-    {
-        self.certs.get(fpr).is_some()
+        replayed();
+        let start = out.len();
+        put_certs(alloc, self.certs(), out)?;
+        match put_verdicts(&self.verdicts, out) {
+            Ok(()) => Ok(self.certs.len() as u64 + self.verdicts.len() as u64),
+            Err(fault) => {
+                out.truncate(start);
+                Err(fault)
+            }
+        }
     }
 
     fn says(&self, number: &SigNumber, verdict: Verdict) -> bool
@@ -227,8 +263,10 @@ impl Keyring {
 
     fn would_pass(&self, number: &SigNumber) -> bool
         ensures passes { result ≡ would_pass self.now number.now }
+        ensures in_order { InOrder self.now.verdicts }
     {
-        self.verdicts.get(number).is_none() && self.limits.verdicts <= self.verdicts.len() as u64
+        let count = self.verdicts.len() as u64;
+        self.verdicts.get(number).is_none() && self.limits.verdicts <= count
     }
 
     /// Counts a change of the verdict on a number.
@@ -253,6 +291,7 @@ fn find<'a>(certs: &'a BTreeMap<Fpr, Kept, Global>, fpr: &Fpr) -> Option<&'a Kep
 /// Takes out what is kept under a fingerprint.
 fn take_out(certs: &mut BTreeMap<Fpr, Kept, Global>, fpr: &Fpr)
     ensures out { certs.new.entries ≡ remove_entry (is_fpr fpr.now) certs.old.entries }
+    ensures in_order { AreInOrder certs.new.entries }
 {
     let _ = certs.remove(fpr);
 }

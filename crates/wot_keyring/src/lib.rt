@@ -2,6 +2,7 @@
 #![tactic(auto)]
 
 mod certs;
+mod dump;
 mod import;
 mod kept;
 mod keyring;
