@@ -1,6 +1,7 @@
 //! The benches: `wot_bench NAME` does the bench of that name and prints what it counted.
 #![tactic(auto)]
 
+mod certificates;
 mod digests;
 mod lines;
 mod live;
@@ -24,6 +25,8 @@ fn main(rt: HostRuntime) -> io::Result<()> {
         return println!(rt; "no bench was named");
     };
     match name.as_str() {
+        "certificates" => certificates::bench(&rt, number(words.next())),
+        "merging" => certificates::merging(&rt, number(words.next())),
         "hex" => {
             let size = number(words.next());
             digests::hex(&rt, size, number(words.next()))
