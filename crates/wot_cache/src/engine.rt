@@ -9,14 +9,16 @@ ghost use Rattle.wot_keyring.specs.Verdict.{with_verdict_on, without_verdict_on,
 ghost use Rattle.wot_edge.specs.Answer.{IsAnswer, amount_of};
 ghost use Rattle.wot_edge.specs.Roots.{IsRoots};
 ghost use Rattle.wot_network.specs.Net.{signatures_in};
-ghost use Rattle.wot_keyring.specs.Dump.{lines_of};
-ghost use Rattle.wot_cache.specs.Dump.{commands_of};
+ghost use Rattle.wot_keyring.specs.Dump.{lines_of, AreLines};
+ghost use Rattle.wot_policy.specs.declared.rows.PolicyRows.{PolicyRows as Rows};
+ghost use Rattle.wot_cache.specs.Dump.{commands_of, IsRestored};
 ghost use Rattle.wot_cache.specs.Question.{question_in};
 ghost use Rattle.wot_cache.specs.State.{empty, state_of, cert_in, importing, removing, judging, unjudging};
 ghost use Rattle.wot_cache.specs.Views.{view_at, with_time, time_fault, with_root, root_fault, without_view, TellsFault, TellsOpen};
 
 use crate::view::{AskFault, NoView, View, ViewFault};
 use crate::ask::answer;
+use crate::dump::put_engine;
 use crate::networks::{self, Networks};
 use crate::views::{self, Views};
 use std::alloc::Global;
@@ -303,7 +305,11 @@ impl Engine {
         ensures lines { OnOk result (out.new.items ≡ out.old.items ++ lines_of (commands_of (state_of self.now))) }
         ensures count { IfOk result (λ count. count ≡ length (commands_of (state_of self.now))) }
         ensures kept { OnErr result (out.new.items ≡ out.old.items) }
+        // Each command is printed as one line, which is read as that command.
+        ensures read_back { OnOk result (AreLines (commands_of (state_of self.now))) }
+        // By whatever rows the fresh engine judges.
+        ensures restored { OnOk result ((rows : Rows) → IsRestored rows self.now) }
     {
-        Err(Memory)
+        put_engine(self.alloc, &self.keyring, &self.views, out)
     }
 }
