@@ -1,6 +1,6 @@
 -- Views by name, each with a time and roots, and what changes them.
-use Rattle.std.specs.Prelude.{ℕ, ◌==◌, ◌&&◌, nat_lt, nat_le, Bool, if◌then◌else◌, List, [], length, Option, Some, None, is_none, is_some, true, Result, Ok, Err, ◌≡◌}
-use Rattle.std.specs.Option.{option_map}
+use Rattle.std.specs.Prelude.{ℕ, ◌≤◌, ◌==◌, ◌&&◌, nat_lt, nat_le, Bool, if◌then◌else◌, List, [], length, Option, Some, None, is_none, is_some, true, Result, Ok, Err, ◌≡◌}
+use Rattle.std.specs.List.{AllByRecursion}
 use Rattle.std.specs.BTreeMap.{insert_entry, is_at}
 use Rattle.std.specs.Map.{lookup, remove_entry, set_value}
 use Rattle.wot_types.specs.declared.fpr.Fpr.{Fpr}
@@ -75,6 +75,11 @@ root_fault limits (Some view) fpr amount = amount_fault limits view.roots fpr am
 -- the views without that one
 abbrev pub without_view : Views → List ℕ → Views
 without_view views name = remove_entry (is_name name) views
+
+-- What is open passes no limit.
+pub record IsWithin (l : Limits) (views : Views) : Type 0 where
+  pub few : length views ≤ l.views
+  pub few_roots : AllByRecursion (λ (e : List ℕ × View). length e.1.roots ≤ l.roots) views
 
 -- ---- refusals
 

@@ -1,4 +1,4 @@
-ghost use Rattle.std.specs.Prelude.{◌≡◌, ◌≢◌, ◌<◌, ◌≤◌, ◌-◌, ◌^◌, ◌++◌, length, IfOk, IfSome, Some, None, is_ok, is_some, OnOk, OnErr};
+ghost use Rattle.std.specs.Prelude.{◌≡◌, ◌≢◌, ◌<◌, ◌≤◌, ◌+◌, ◌-◌, ◌^◌, ◌++◌, length, IfOk, IfSome, Some, None, is_ok, is_some, OnOk, OnErr};
 ghost use Rattle.std.specs.Option.{option_copied, option_map};
 ghost use Rattle.wot_policy.specs.Kept.{IsFaithful, rows_of, asked_more};
 ghost use Rattle.wot_keyring.specs.Keyring.{verdict_on};
@@ -7,13 +7,19 @@ ghost use Rattle.wot_keyring.specs.Import.{Answers, AsksFor, IsOneChange, import
 ghost use Rattle.wot_keyring.specs.Removal.{without_cert};
 ghost use Rattle.wot_keyring.specs.Verdict.{with_verdict_on, without_verdict_on, TellsFull};
 ghost use Rattle.wot_edge.specs.Answer.{IsAnswer, amount_of};
-ghost use Rattle.wot_keyring.specs.Dump.{lines_of};
-ghost use Rattle.wot_cache.specs.Dump.{commands_of};
+ghost use Rattle.wot_edge.specs.Roots.{IsRoots};
+ghost use Rattle.wot_network.specs.Net.{signatures_in};
+ghost use Rattle.wot_keyring.specs.Dump.{lines_of, AreLines};
+ghost use Rattle.wot_policy.specs.declared.rows.PolicyRows.{PolicyRows as Rows};
+ghost use Rattle.wot_cache.specs.Dump.{commands_of, IsRestored};
 ghost use Rattle.wot_cache.specs.Question.{question_in};
 ghost use Rattle.wot_cache.specs.State.{empty, state_of, cert_in, importing, removing, judging, unjudging};
 ghost use Rattle.wot_cache.specs.Views.{view_at, with_time, time_fault, with_root, root_fault, without_view, TellsFault, TellsOpen};
 
 use crate::view::{AskFault, NoView, View, ViewFault};
+use crate::ask::answer;
+use crate::dump::put_engine;
+use crate::networks::{self, Networks};
 use crate::views::{self, Views};
 use std::alloc::Global;
 use std::collections::BTreeMap;
@@ -31,18 +37,18 @@ pub struct Engine {
     alloc: Global,
     keyring: Keyring,
     views: Views,
+    networks: Networks,
 }
 
 impl Model for Engine {
-    ghost use Rattle.wot_edge.specs.Answer.{IsAnswer, amount_of};
-ghost use Rattle.wot_keyring.specs.Dump.{lines_of};
-ghost use Rattle.wot_cache.specs.Dump.{commands_of};
-ghost use Rattle.wot_cache.specs.Question.{question_in};
-ghost use Rattle.wot_cache.specs.State.{Engine as TheEngine};
+    ghost use Rattle.wot_cache.specs.State.{Engine as TheEngine};
+    ghost use Rattle.wot_cache.specs.Inside.{IsEngine};
 
     ghost Value = { TheEngine };
 
     ghost view = { λ a. record { keyring = a.keyring; views = a.views.entries } };
+
+    ghost invariant = { λ a. IsEngine a.keyring a.views.entries a.networks.entries };
 }
 
 impl Engine {
@@ -55,6 +61,7 @@ impl Engine {
             alloc,
             keyring: Keyring::new(alloc, limits),
             views: BTreeMap::new(alloc),
+            networks: BTreeMap::new(alloc),
         }
     }
 
@@ -152,6 +159,7 @@ impl Engine {
 
     fn open(&mut self, name: ViewName, t: u32) -> Result<(), ViewFault>
         requires closed { view_at self.old.views name ≡ None }
+        requires room { length self.old.views < self.old.keyring.limits.views }
         ensures opened { OnOk result (self.new.views ≡ with_time self.old.views name t) }
         ensures fault { OnErr result (result ≡ Err ViewFault.Memory) }
         ensures kept { OnErr result (self.new ≡ self.old) }
@@ -186,17 +194,19 @@ impl Engine {
     /// Why a root's amount isn't set, other than want of memory.
     fn root_fault(&self, view: &ViewName, fpr: &Fpr, amount: u8) -> Option<ViewFault>
         ensures fault { result ≡ root_fault self.now.keyring.limits (view_at self.now.views view.now) fpr.now amount }
+        ensures roots { IfSome (view_at self.now.views view.now) (λ v. IsRoots v.roots) }
     {
         let Some(view) = views::find(&self.views, view) else {
             return Some(ViewFault::View);
         };
+        let count = view.roots.len() as u64;
         if view.roots.get(fpr) > 0 {
             return None;
         }
         if amount == 0 {
             return Some(ViewFault::Absent);
         }
-        if self.keyring.limits().roots <= view.roots.len() as u64 {
+        if self.keyring.limits().roots <= count {
             return Some(ViewFault::Full(Limit::Roots));
         }
         None
@@ -213,6 +223,7 @@ impl Engine {
             return Err(NoView);
         }
         views::close(&mut self.views, view);
+        networks::forget(&mut self.networks, view);
         Ok(())
     }
 
@@ -237,18 +248,55 @@ impl Engine {
     }
 
     /// The answer to the question how far a user ID belongs to a target, seen from an open view: next paths until their sum
-    /// reaches what is wanted, or no valid path of positive amount is left.
-    pub fn ask(&mut self, view: &ViewName, target: &Fpr, wanted: u32, uid: &[u8], steps: &mut Steps) -> Result<Answer, AskFault>
+    /// reaches what is wanted, or no valid path of positive amount is left. The view's network is made anew where the keyring
+    /// or the view's time changed since the last question, and each edge made is counted in `steps`.
+    pub fn ask(
+        &mut self,
+        view: &ViewName,
+        target: &Fpr,
+        wanted: u32,
+        uid: &[u8],
+        steps: &mut Steps,
+    ) -> Result<Answer, AskFault>
         requires wanted { 1 ≤ wanted }
         ensures answer { IfOk result (λ a. IfSome (view_at self.old.views view.now) (λ v. IsAnswer (question_in (state_of self.old) v target.now uid.now) wanted a.paths)) }
         ensures sum { IfOk result (λ a. a.sum ≡ amount_of a.paths) }
         ensures open { TellsOpen result (view_at self.old.views view.now) }
         ensures kept { self.new ≡ self.old }
+        ensures made_most { steps.new.made ≤ steps.old.made + signatures_in self.old.keyring }
     {
-        if views::find(&self.views, view).is_none() {
+        let Some(t) = self.time(view) else {
             return Err(AskFault::View);
+        };
+        match networks::refresh(
+            self.alloc,
+            &mut self.networks,
+            view,
+            &self.keyring,
+            t,
+            steps,
+        ) {
+            Ok(()) => {}
+            Err(Memory) => return Err(AskFault::Memory),
         }
-        Err(AskFault::Memory)
+        let Some(open) = views::find(&self.views, view) else {
+            unreachable!()
+        };
+        let Some(network) = networks::find(&self.networks, view) else {
+            unreachable!()
+        };
+        match answer(
+            self.alloc,
+            network,
+            &self.keyring,
+            &open.roots,
+            target,
+            wanted,
+            uid,
+        ) {
+            Ok(answer) => Ok(answer),
+            Err(Memory) => Err(AskFault::Memory),
+        }
     }
 
     /// Appends a line for each certificate, each verdict, and each view with its roots: the commands that make this state
@@ -257,7 +305,11 @@ impl Engine {
         ensures lines { OnOk result (out.new.items ≡ out.old.items ++ lines_of (commands_of (state_of self.now))) }
         ensures count { IfOk result (λ count. count ≡ length (commands_of (state_of self.now))) }
         ensures kept { OnErr result (out.new.items ≡ out.old.items) }
+        // Each command is printed as one line, which is read as that command.
+        ensures read_back { OnOk result (AreLines (commands_of (state_of self.now))) }
+        // By whatever rows the fresh engine judges.
+        ensures restored { OnOk result ((rows : Rows) → IsRestored rows self.now) }
     {
-        Err(Memory)
+        put_engine(self.alloc, &self.keyring, &self.views, out)
     }
 }

@@ -1,7 +1,10 @@
 //! The engine: one keyring, and views over it, each with a time and trust roots.
 #![tactic(auto)]
 
+mod ask;
+mod dump;
 mod engine;
+mod networks;
 mod view;
 mod views;
 

@@ -1,22 +1,20 @@
 -- What roads in memory tell.
 use Rattle.std.proofs.Common.{◌≡◌, inl, inr, ℕ, Bool, true, false, cond, List, [], ◌∷◌, map, Ordering, Option, Some, None, refl, sym, ap, subst, ◌∙◌, length, arith}
 use Rattle.std.specs.declared.cmp.Ordering.TheVariants.{Less, Equal, Greater}
-use Rattle.std.specs.Ordering.{is_lt, nat_cmp, ordering_then, match_ordering}
+use Rattle.std.specs.Ordering.{is_lt, match_ordering}
 use Rattle.std.specs.Option.{unwrap_or, option_map}
 use Rattle.std.specs.Map.{lookup}
 use Rattle.std.specs.BTreeMap.{is_at, insert_entry}
 use Rattle.std.specs.List.{AllByRecursion, slice_get}
 use Rattle.std.specs.List.Sorted.{IsStrictlySortedBy}
-use Rattle.std.specs.Cmp.{IsTotalOrder}
 use Rattle.std.proofs.lemmas.Map.Made.{lookup-map_values}
-use Rattle.std.proofs.lemmas.Cmp.{tied_itself, nat_cmp_total, on_total, then_total}
 use Rattle.wot_types.specs.declared.fpr.Fpr.{Fpr}
 use Rattle.wot_types.specs.Fpr.{fpr_cmp}
 use Rattle.wot_edge.specs.declared.edge.EdgeFacts.{EdgeFacts}
 use Rattle.wot_edge.specs.Order.{edge_cmp, same_fpr}
 use Rattle.wot_edge.specs.Record.{Has, Row, Entry, IsRecord, blank, entry_at, rows_into, edges_into}
-use Rattle.wot_edge.specs.Lawful.{AreEntries}
-use Rattle.wot_edge.specs.Plain.{Line, Plain, place_of, row_of, entry_of, told_of, AreRows, AreLines, MayPrecede}
+use Rattle.wot_edge.specs.Lawful.{AreEntries, AreRows}
+use Rattle.wot_edge.specs.Plain.{Line, Plain, place_of, row_of, entry_of, told_of, AreLines, MayPrecede}
 use Rattle.wot_edge.proofs.Orders.{same_fpr-true, fpr_exact}
 use Rattle.wot_edge.proofs.Recorded.{is_record, no_rows, edge_total}
 

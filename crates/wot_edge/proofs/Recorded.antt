@@ -1,5 +1,5 @@
 -- A record whose rows stand in order is one.
-use Rattle.std.proofs.Common.{◌≡◌, inl, inr, Bool, true, false, cond, List, [], ◌∷◌, map, Option, Some, refl, sym, ap, subst, ◌∙◌}
+use Rattle.std.proofs.Common.{◌≡◌, inl, inr, Bool, true, false, cond, List, [], ◌∷◌, map, Some, refl, sym, ap, subst, ◌∙◌}
 use Rattle.std.specs.declared.cmp.Ordering.TheVariants.{Less, Equal}
 use Rattle.std.specs.Ordering.{nat_cmp, ordering_then}
 use Rattle.std.specs.Option.{unwrap_or}
@@ -13,9 +13,8 @@ use Rattle.wot_types.specs.declared.fpr.Fpr.{Fpr}
 use Rattle.wot_types.specs.Fpr.{fpr_cmp}
 use Rattle.wot_edge.specs.declared.edge.EdgeFacts.{EdgeFacts}
 use Rattle.wot_edge.specs.Order.{edge_cmp, same_fpr}
-use Rattle.wot_edge.specs.Record.{Has, Row, Entry, Record, IsRecord, blank, rows_into, edges_into}
-use Rattle.wot_edge.specs.Plain.{AreRows}
-use Rattle.wot_edge.specs.Lawful.{AreEntries}
+use Rattle.wot_edge.specs.Record.{Has, Row, Record, IsRecord, blank, rows_into, edges_into}
+use Rattle.wot_edge.specs.Lawful.{AreEntries, AreRows}
 use Rattle.wot_edge.proofs.Orders.{same_fpr-true, fpr_total}
 
 pub edge_total : IsTotalOrder edge_cmp

@@ -30,31 +30,31 @@ is-equal Greater e = absurd cc
 
 pub named_without : (test : Fpr → Bool) (certs : Certificates) → AreNamed certs → AreNamed (remove_entry test certs)
 named_without test [] all = tt
-named_without test (e ∷ es) all = by (test e.0)
-  where
-    by : (b : Bool) → AreNamed (cond b es (e ∷ remove_entry test es))
-    by true = all.1
-    by false = (all.0, named_without test es all.1)
+named_without test (e ∷ es) all =
+    elim (test e.0) as (λ b. AreNamed (cond b es (e ∷ remove_entry test es))) [
+      | true ↦ all.1
+      | false ↦ (all.0, named_without test es all.1)
+    ]
 
 named_with : (certs : Certificates) (fpr : Fpr) (c : Certificate) → fpr ≡ fpr_of c.key → AreNamed certs → AreNamed (insert_entry fpr_cmp certs fpr c)
 named_with [] fpr c e all = (e, tt)
-named_with (x ∷ xs) fpr c e all = by (fpr_cmp fpr x.0) refl
+named_with (x ∷ xs) fpr c e all = by (named_with xs fpr c e all.1) (fpr_cmp fpr x.0) refl
   where
-    by : (o : Ordering) → fpr_cmp fpr x.0 ≡ o → AreNamed (match_ordering o ((fpr, c) ∷ x ∷ xs) ((x.0, c) ∷ xs) (x ∷ insert_entry fpr_cmp xs fpr c))
-    by Less f = (e, all)
-    by Equal f = (sym (exact fpr x.0 f) ∙ e, all.1)
-    by Greater f = (all.0, named_with xs fpr c e all.1)
+    by : AreNamed (insert_entry fpr_cmp xs fpr c) → (o : Ordering) → fpr_cmp fpr x.0 ≡ o → AreNamed (match_ordering o ((fpr, c) ∷ x ∷ xs) ((x.0, c) ∷ xs) (x ∷ insert_entry fpr_cmp xs fpr c))
+    by rest Less f = (e, all)
+    by rest Equal f = (sym (exact fpr x.0 f) ∙ e, all.1)
+    by rest Greater f = (all.0, rest)
 
 -- what is kept under a fingerprint has that fingerprint
 found_named : (certs : Certificates) (fpr : Fpr) (kept : Certificate) → AreNamed certs → lookup (is_fpr fpr) certs ≡ Some kept → fpr ≡ fpr_of kept.key
 found_named [] fpr kept all e = absurd cc
-found_named (x ∷ xs) fpr kept all e = by (is_fpr fpr x.0) refl e
+found_named (x ∷ xs) fpr kept all e = by (found_named xs fpr kept all.1) (is_fpr fpr x.0) refl e
   where
-    by : (b : Bool) → is_fpr fpr x.0 ≡ b → cond b (Some x.1) (lookup (is_fpr fpr) xs) ≡ Some kept → fpr ≡ fpr_of kept.key
-    by true f g =
+    by : (lookup (is_fpr fpr) xs ≡ Some kept → fpr ≡ fpr_of kept.key) → (b : Bool) → is_fpr fpr x.0 ≡ b → cond b (Some x.1) (lookup (is_fpr fpr) xs) ≡ Some kept → fpr ≡ fpr_of kept.key
+    by rest true f g =
         let same : x.1 ≡ kept = cc in
         exact fpr x.0 (is-equal (fpr_cmp fpr x.0) f) ∙ all.0 ∙ ap (λ (c : Certificate). fpr_of c.key) same
-    by false f g = found_named xs fpr kept all.1 g
+    by rest false f g = rest g
 
 united_named : (certs : Certificates) (fpr : Fpr) (o : Option Certificate) (c : Certificate) → AreNamed certs → lookup (is_fpr fpr) certs ≡ o → fpr ≡ fpr_of c.key → fpr ≡ fpr_of (united_with o c).key
 united_named certs fpr None c all e f = f

@@ -5,3 +5,4 @@ pub mod Step
 pub mod Law
 pub mod Transcript
 pub mod Turn
+pub mod Fresh

@@ -5,6 +5,7 @@ use Rattle.wot_types.specs.declared.fpr.Fpr.{Fpr}
 use Rattle.wot_types.specs.declared.limits.Limit.TheVariants as words
 use Rattle.wot_types.specs.declared.number.SigNumber.{SigNumber}
 use Rattle.wot_types.specs.Limits.{standard_limits}
+use Rattle.wot_key.specs.Key.{fpr_of}
 use Rattle.wot_packet.specs.Why.{number_of}
 use Rattle.wot_policy.specs.declared.rows.PolicyRows.{PolicyRows}
 use Rattle.wot_verdict.specs.Verdicts.{verdict_at}
@@ -114,12 +115,12 @@ close s view = if is_some (view_at s.views view) then done (closing view s) else
 -- ---- listing
 
 -- a certificate's line: its fingerprint, and how many user IDs and signatures it has
-abbrev pub key_line : Fpr × Certificate → KeyLine
-key_line e = record { 0 = e.0; 1 = length e.1.user_ids; 2 = signatures_of e.1 }
+abbrev pub line_of : Certificate → KeyLine
+line_of c = record { 0 = fpr_of c.key; 1 = length c.user_ids; 2 = signatures_of c }
 
 -- `keys`: a line for each certificate, in the order of the fingerprints
 abbrev pub keys : State → Outcome
-keys s = only s (replies.Keys (length s.certs) (map key_line s.certs))
+keys s = only s (replies.Keys (length s.certs) (map (λ (e : Fpr × Certificate). line_of e.1) s.certs))
 
 abbrev pub exported : Option Certificate → Reply
 exported (Some c) = replies.Export (text_of c)

@@ -8,6 +8,7 @@ ghost use Rattle.wot_cache.specs.State.{state_of};
 ghost use Rattle.wot_cache.specs.Views.{view_at};
 ghost use Rattle.wot_engine.specs.Answer.{Asks, uid_at, step_line, path_lines, told as told_of};
 
+use crate::listing::cert_of;
 use std::alloc::Global;
 use wot_auth::Answer;
 use wot_cache::{AskFault, Engine};
@@ -90,7 +91,7 @@ fn line_of(alloc: Global, engine: &Engine, step: &Step) -> Result<AnswerLine, Me
 fn uid_at<'a>(engine: &'a Engine, target: &Fpr, place: u32) -> &'a [u8]
     ensures uid { result.now ≡ uid_at (state_of engine.now) target.now place }
 {
-    let Some(cert) = engine.keyring().get(target) else {
+    let Some(cert) = cert_of(engine, target) else {
         return &[];
     };
     match cert.user_ids().get(place as usize) {

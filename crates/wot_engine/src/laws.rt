@@ -6,6 +6,7 @@ ghost use Rattle.wot_engine.specs.Step.{Step};
 ghost use Rattle.wot_engine.specs.Transcript.{Transcript};
 
 use wot_edge::laws::answer_is_one;
+use wot_network::laws::record_is_lawful;
 use wot_script::laws::lines_spell_commands;
 
 /// Each line has a reply and a state after it, and in a state that can be only one of each. What comes after a state that
@@ -16,6 +17,7 @@ pub fn each_line_has_one_outcome()
     ensures stays { (rows : PolicyRows) (old : State) (line reply : List ℕ) (new : State) → IsState old → Step rows old line reply new → IsState new }
 {
     answer_is_one();
+    record_is_lawful();
     lines_spell_commands();
 }
 

@@ -3,6 +3,7 @@
 
 mod answer;
 mod commands;
+mod fresh;
 mod laws;
 mod listing;
 mod machine;
@@ -10,6 +11,7 @@ mod refusal;
 mod run;
 mod words;
 
+pub use fresh::dump_makes_the_state_anew;
 pub use laws::{each_input_has_one_transcript, each_line_has_one_outcome};
 pub use machine::Machine;
 pub use words::run_words;

@@ -27,7 +27,7 @@ fn cert_fault(fault: CertFault) -> Reply
 
 /// The reply to a refused change of the keyring.
 pub fn refused(refusal: Refusal) -> Result<Reply, Memory>
-    ensures reply { IfOk result (λ reply. reply ≡ refusal_of refusal) }
+    ensures reply { IfOk result (λ reply. (reply ≡ refusal_of refusal) × (refusal ≢ refusals.Memory)) }
     ensures short { IfOk result (λ reply. is_short reply ≡ true) }
     ensures memory { OnErr result (refusal ≡ refusals.Memory) }
 {

@@ -1,6 +1,6 @@
 -- The commands of a dump, run in a fresh keyring, give what was dumped.
-use Rattle.std.proofs.Common.{◌≡◌, ℕ, ◌+◌, ◌<◌, ◌≤◌, Bool, false, List, [], ◌∷◌, ◌++◌, length, map, Option, Some, None, Ok, Err, refl, sym, ap, ◌∙◌, subst, arith, append_assoc, append-nil, length-append}
-use Rattle.std.specs.Prelude.{◌&&◌, ◌||◌, nat_eq, nat_lt, nat_le, not, is_none, IsSomeAnd, if◌then◌else◌}
+use Rattle.std.proofs.Common.{◌≡◌, ℕ, ◌<◌, ◌≤◌, Bool, false, List, [], ◌∷◌, ◌++◌, length, map, Option, Some, None, Ok, Err, refl, sym, ap, ◌∙◌, subst, arith, append_assoc, append-nil, length-append}
+use Rattle.std.specs.Prelude.{◌&&◌, ◌||◌, nat_eq, nat_lt, nat_le, not, is_none, if◌then◌else◌}
 use Rattle.std.specs.declared.cmp.Ordering.TheVariants.{Less, Greater}
 use Rattle.std.specs.Cmp.{IsTotalOrder}
 use Rattle.std.specs.Ordering.{ordering_reverse}
@@ -31,19 +31,18 @@ use Rattle.wot_cert.specs.Assembly.{certificates_of, skipped_in}
 use Rattle.wot_cert.specs.Certificate.{Certificate, unmarked}
 use Rattle.wot_cert.specs.Counts.{signatures_of}
 use Rattle.wot_cert.specs.Fault.{first_fault}
-use Rattle.wot_cert.specs.Judged.{IsJudged, judged}
+use Rattle.wot_cert.specs.Judged.{judged}
 use Rattle.wot_cert.specs.ReadBack.{ReadBack}
 use Rattle.wot_cert.specs.Text.{size_of, text_of}
 use Rattle.wot_cert.specs.Whole.{IsCertificate}
 use Rattle.wot_keyring.specs.declared.import.Imported.{Imported}
 use Rattle.wot_keyring.specs.declared.kept.Kept.{Kept}
 use Rattle.wot_keyring.specs.declared.refusal.Refusal.TheVariants.{Clash}
-use Rattle.wot_keyring.specs.Keyring.{Keyring, Entries, Certificates, certificates_in, empty, is_fpr}
-use Rattle.wot_keyring.specs.Import.{answer_read, answer_to, answer_united, any_clash, clash, first_full, fresh_in, has_greater, holding, imported, of_packets, stamped, united_with, unless_fault, unless_full, weigh, with_cert, with_certs}
-use Rattle.wot_keyring.specs.Verdict.{with_verdict_on, would_pass}
-use Rattle.wot_keyring.specs.Kept.{AreInOrder, AreJudged, AreNamed, IsNamed, AreSized, AreWhole, IsKeyring}
-use Rattle.wot_keyring.specs.Dump.{after, after_all, import_of, plain, setting, setting_of, unless_refused, IsAnew, IsRestored}
-use Rattle.wot_keyring.proofs.Keeping.{certs_of, restamped_same}
+use Rattle.wot_keyring.specs.Keyring.{Keyring, Entries, Certificates, is_fpr, stripped}
+use Rattle.wot_keyring.specs.Import.{answer_read, answer_to, answer_united, any_clash, clash, first_full, fresh_in, has_greater, of_packets, united_with, united_in, unless_fault, unless_full, weigh, with_cert, with_certs}
+use Rattle.wot_keyring.specs.Verdict.{is_over}
+use Rattle.wot_keyring.specs.Kept.{AreInOrder, AreNamed, IsNamed, AreSized, AreWhole, IsKeyring}
+use Rattle.wot_keyring.specs.Dump.{Contents, after, after_all, import_of, judged_anew, judged_so, nothing, setting, setting_of, unless_refused, IsRestored}
 use Rattle.wot_keyring.proofs.Places.{fprs_total}
 use Rattle.wot_keyring.proofs.Behind.{AreBelow, all_at, below_next, none_before, put_behind}
 
@@ -53,8 +52,6 @@ pub record Laws : Type 0 where
   pub same_text : (rows : PolicyRows) (c : Certificate) → text_of (judged rows c) ≡ text_of c
   pub same_count : (rows : PolicyRows) (c : Certificate) → signatures_of (judged rows c) ≡ signatures_of c
   pub anew : (rows : PolicyRows) (c : Certificate) → judged rows (unmarked c) ≡ judged rows c
-  pub by_rows : (rows : PolicyRows) (c : Certificate) → IsJudged rows (judged rows c)
-  pub forgotten : (rows : PolicyRows) (c : Certificate) → unmarked (judged rows c) ≡ unmarked c
 
 numbers_total : IsTotalOrder number_cmp
 numbers_total = on_texts (λ (n : SigNumber). n.0)
@@ -62,8 +59,8 @@ numbers_total = on_texts (λ (n : SigNumber). n.0)
 -- ---- one import
 
 -- a kept certificate, judged by the rows
-abbrev pub judged_anew : PolicyRows → Fpr × Kept → Fpr × Certificate
-judged_anew rows e = (e.0, judged rows e.1.cert)
+abbrev anew : PolicyRows → Fpr × Kept → Fpr × Certificate
+anew rows e = (e.0, judged rows e.1.cert)
 
 -- It stands under its own fingerprint, which is below this one.
 abbrev IsBefore : Fpr → Fpr × Certificate → Type 0
@@ -88,7 +85,7 @@ keys_below fpr (e ∷ certs) all = (all.0.1, keys_below fpr certs all.1)
 
 -- the certificate is put behind the others
 put_last : (laws : Laws) (rows : PolicyRows) (certs : Certificates) (e : Fpr × Kept) → e.0 ≡ fpr_of e.1.cert.key → AllByRecursion (IsBefore e.0) certs
-    → with_cert rows certs (unmarked e.1.cert) ≡ certs ++ judged_anew rows e ∷ []
+    → with_cert rows certs (unmarked e.1.cert) ≡ certs ++ anew rows e ∷ []
 put_last laws rows certs e named before =
     let c : Certificate = e.1.cert in
     let below : AreBelow fpr_cmp e.0 certs = keys_below e.0 certs before in
@@ -115,43 +112,34 @@ one_united rows l certs c skipped none fits =
     (never_with (list_any (clash c) (map (λ (e : Fpr × Certificate). e.1) certs)) none) fits
 
 -- an import of octets that spell one certificate, which clashes with none and passes no limit
-import_one : (rows : PolicyRows) (k : Keyring) (octets : List ℕ) (packets : List Spelled) (c : Certificate) (certs : Certificates)
+import_one : (rows : PolicyRows) (l : Limits) (old : Contents) (octets : List ℕ) (packets : List Spelled) (c : Certificate) (certs : Certificates)
     → packets_of octets ≡ Ok packets → first_fault packets ≡ None → certificates_of packets ≡ c ∷ []
-    → list_any (clash c) (map (λ (e : Fpr × Certificate). e.1) (certificates_in k)) ≡ false
-    → with_cert rows (certificates_in k) c ≡ certs → first_full k.limits certs ≡ None
-    → after rows (commands.Import octets) k ≡ Some (holding k certs)
-import_one rows k octets packets c certs read sound one none last fits =
-    let old : Certificates = certificates_in k in
-    let counts : Imported = record { taken = 1; skipped = skipped_in packets; fresh = fresh_in old (with_cert rows old c) } in
-    let fits' : first_full k.limits (with_cert rows old c) ≡ None = ap (first_full k.limits) last ∙ fits in
-    let answer : answer_to rows k.limits old octets ≡ Ok counts =
-    ap (answer_read rows k.limits old) read
-    ∙ ap (λ f. unless_fault f (answer_united rows k.limits old (certificates_of packets) (skipped_in packets))) sound
-    ∙ ap (λ cs. answer_united rows k.limits old cs (skipped_in packets)) one
-    ∙ one_united rows k.limits old c (skipped_in packets) none fits' in
-    let image : imported rows k octets ≡ holding k certs =
-    ap (λ r. holding k (with_certs rows old (of_packets r))) read
-    ∙ ap (λ cs. holding k (with_certs rows old cs)) one
-    ∙ ap (holding k) last in
-    ap (λ a. unless_refused a (imported rows k octets)) answer ∙ ap Some image
+    → list_any (clash c) (map (λ (e : Fpr × Certificate). e.1) old.certs) ≡ false
+    → with_cert rows old.certs c ≡ certs → first_full l certs ≡ None
+    → after rows l (commands.Import octets) old ≡ Some (record old { certs = certs })
+import_one rows l old octets packets c certs read sound one none last fits =
+    let counts : Imported = record { taken = 1; skipped = skipped_in packets; fresh = fresh_in old.certs (with_cert rows old.certs c) } in
+    let fits' : first_full l (with_cert rows old.certs c) ≡ None = ap (first_full l) last ∙ fits in
+    let answer : answer_to rows l old.certs octets ≡ Ok counts =
+    ap (answer_read rows l old.certs) read
+    ∙ ap (λ f. unless_fault f (answer_united rows l old.certs (certificates_of packets) (skipped_in packets))) sound
+    ∙ ap (λ cs. answer_united rows l old.certs cs (skipped_in packets)) one
+    ∙ one_united rows l old.certs c (skipped_in packets) none fits' in
+    let image : united_in rows old.certs octets ≡ certs =
+    ap (λ r. with_certs rows old.certs (of_packets r)) read ∙ ap (with_certs rows old.certs) one ∙ last in
+    let Gives : Certificates → Option Contents = λ held. Some (record old { certs = held }) in
+    ap (λ a. unless_refused {A = Contents} a (record old { certs = united_in rows old.certs octets })) answer ∙ ap Gives image
 
--- the import of a certificate's text into a keyring that holds none of its fingerprint
-import_step : (laws : Laws) (rows : PolicyRows) (k : Keyring) (e : Fpr × Kept) → ReadBack e.1.cert → e.0 ≡ fpr_of e.1.cert.key
-    → AllByRecursion (IsBefore e.0) (certificates_in k) → first_full k.limits (certificates_in k ++ judged_anew rows e ∷ []) ≡ None
-    → after rows (import_of e) k ≡ Some (holding k (certificates_in k ++ judged_anew rows e ∷ []))
-import_step laws rows k e back named before fits =
-    let Before : Fpr → Type 0 = λ f. AllByRecursion (IsBefore f) (certificates_in k) in
-    import_one rows k (text_of e.1.cert) back.packets (unmarked e.1.cert) (certificates_in k ++ judged_anew rows e ∷ [])
+-- the import of a certificate's text where none of its fingerprint is held
+import_step : (laws : Laws) (rows : PolicyRows) (l : Limits) (old : Contents) (e : Fpr × Kept) → ReadBack e.1.cert → e.0 ≡ fpr_of e.1.cert.key
+    → AllByRecursion (IsBefore e.0) old.certs → first_full l (old.certs ++ anew rows e ∷ []) ≡ None
+    → after rows l (import_of e) old ≡ Some (record old { certs = old.certs ++ anew rows e ∷ [] })
+import_step laws rows l old e back named before fits =
+    let Before : Fpr → Type 0 = λ f. AllByRecursion (IsBefore f) old.certs in
+    import_one rows l old (text_of e.1.cert) back.packets (unmarked e.1.cert) (old.certs ++ anew rows e ∷ [])
     back.reader back.fault back.certificates
-    (no_clash (unmarked e.1.cert) (certificates_in k) (subst Before named before))
-    (put_last laws rows (certificates_in k) e named before) fits
-
--- what is held then
-in_holding : (old : Keyring) (certs : Certificates) → certificates_in (holding old certs) ≡ certs
-in_holding old certs = kept_as certs where
-  kept_as : (certs : Certificates) → map (λ (e : Fpr × Kept). (e.0, e.1.cert)) (map (stamped old) certs) ≡ certs
-  kept_as [] = refl
-  kept_as (e ∷ certs) = ap (λ (rest : Certificates). e ∷ rest) (kept_as certs)
+    (no_clash (unmarked e.1.cert) old.certs (subst Before named before))
+    (put_last laws rows old.certs e named before) fits
 
 -- ---- all imports
 
@@ -162,17 +150,11 @@ record CanBeHeld (l : Limits) (all : Entries) : Type 0 where
   in_order : AreInOrder all
   sized : AreSized l.certificate all
   few : length all ≤ l.certificates
-  octets : weigh size_of (certs_of all) ≤ l.octets
-  signatures : weigh signatures_of (certs_of all) ≤ l.signatures
-
--- the same keyring but for its certificates, which are these, judged
-record Holds (rows : PolicyRows) (k : Keyring) (all : Entries) (new : Keyring) : Type 0 where
-  same_limits : new.limits ≡ k.limits
-  verdicts : new.verdicts ≡ k.verdicts
-  certs : certificates_in new ≡ map (judged_anew rows) all
+  octets : weigh size_of (stripped all) ≤ l.octets
+  signatures : weigh signatures_of (stripped all) ≤ l.signatures
 
 front_before : (rows : PolicyRows) (front : Entries) (e : Fpr × Kept) → AreNamed front → AreBelow fpr_cmp e.0 front
-    → AllByRecursion (IsBefore e.0) (map (judged_anew rows) front)
+    → AllByRecursion (IsBefore e.0) (map (anew rows) front)
 front_before rows [] e named below = tt
 front_before rows (f ∷ front) e named below = ((named.0, below.0), front_before rows front e named.1 below.1)
 
@@ -183,7 +165,7 @@ front_all P (x ∷ front) rest all = (all.0, front_all P front rest all.1)
 
 -- a front weighs no more than the whole
 front_weighs : (rows : PolicyRows) (weight : Certificate → ℕ) (same : (c : Certificate) → weight (judged rows c) ≡ weight c) (front rest : Entries)
-    → weigh weight (map (judged_anew rows) front) ≤ weigh weight (certs_of (front ++ rest))
+    → weigh weight (map (anew rows) front) ≤ weigh weight (stripped (front ++ rest))
 front_weighs rows weight same [] rest = omega arith
 front_weighs rows weight same (e ∷ front) rest = omega (arith, same e.1.cert, front_weighs rows weight same front rest)
 
@@ -191,10 +173,10 @@ never_or : (a b : Bool) → a ≡ false → b ≡ false → (a || b) ≡ false
 never_or a b h k = rw (h, k) refl
 
 none_greater : (rows : PolicyRows) (limit : ℕ) (same : (c : Certificate) → size_of (judged rows c) ≡ size_of c) (front : Entries)
-    → AreSized limit front → has_greater limit (map (judged_anew rows) front) ≡ false
+    → AreSized limit front → has_greater limit (map (anew rows) front) ≡ false
 none_greater rows limit same [] sized = refl
 none_greater rows limit same (e ∷ front) sized =
-    never_or (nat_lt limit (size_of (judged rows e.1.cert))) (has_greater limit (map (judged_anew rows) front))
+    never_or (nat_lt limit (size_of (judged rows e.1.cert))) (has_greater limit (map (anew rows) front))
     (ap (nat_lt limit) (same e.1.cert) ∙ le-ltb limit (size_of e.1.cert) sized.0)
     (none_greater rows limit same front sized.1)
 
@@ -205,128 +187,109 @@ no_limit a b c d e f g h = rw (e, f, g, h) refl
 within : (n m limit : ℕ) → n ≤ m → m ≤ limit → nat_lt limit n ≡ false
 within n m limit h k = le-ltb limit n (omega arith)
 
-length-front : (rows : PolicyRows) (front rest : Entries) → length (map (judged_anew rows) front) ≤ length (front ++ rest)
+length-front : (rows : PolicyRows) (front rest : Entries) → length (map (anew rows) front) ≤ length (front ++ rest)
 length-front rows [] rest = omega arith
 length-front rows (e ∷ front) rest = omega (arith, length-front rows front rest)
 
 -- a front of what can be held passes no limit
 front_fits : (laws : Laws) (rows : PolicyRows) (l : Limits) (front rest : Entries) → CanBeHeld l (front ++ rest)
-    → first_full l (map (judged_anew rows) front) ≡ None
+    → first_full l (map (anew rows) front) ≡ None
 front_fits laws rows l front rest held =
     let same_size : (c : Certificate) → size_of (judged rows c) ≡ size_of c = λ c. ap length (laws.same_text rows c) in
-    let certs : Certificates = map (judged_anew rows) front in
+    let certs : Certificates = map (anew rows) front in
     no_limit (has_greater l.certificate certs) (nat_lt l.certificates (length certs)) (nat_lt l.octets (weigh size_of certs)) (nat_lt l.signatures (weigh signatures_of certs))
     (none_greater rows l.certificate same_size front (front_all (λ (e : Fpr × Kept). size_of e.1.cert ≤ l.certificate) front rest held.sized))
     (within (length certs) (length (front ++ rest)) l.certificates (length-front rows front rest) held.few)
-    (within (weigh size_of certs) (weigh size_of (certs_of (front ++ rest))) l.octets (front_weighs rows size_of same_size front rest) held.octets)
-    (within (weigh signatures_of certs) (weigh signatures_of (certs_of (front ++ rest))) l.signatures
+    (within (weigh size_of certs) (weigh size_of (stripped (front ++ rest))) l.octets (front_weighs rows size_of same_size front rest) held.octets)
+    (within (weigh signatures_of certs) (weigh signatures_of (stripped (front ++ rest))) l.signatures
     (front_weighs rows signatures_of (laws.same_count rows) front rest) held.signatures)
 
+-- what is held when these were imported
+abbrev with_imports : PolicyRows → Entries → Contents
+with_imports rows es = record { certs = map (anew rows) es; verdicts = [] }
+
 -- the next import, where those of a front were done
-import_next : (laws : Laws) (rows : PolicyRows) (k : Keyring) (front : Entries) (e : Fpr × Kept) (rest : Entries) (mid : Keyring)
-    → CanBeHeld k.limits (front ++ e ∷ rest) → Holds rows k front mid
-    → after rows (import_of e) mid ≡ Some (holding mid (map (judged_anew rows) (front ++ e ∷ [])))
-import_next laws rows k front e rest mid held so_far =
-    let Before : Certificates → Type 0 = λ certs. AllByRecursion (IsBefore e.0) certs in
-    let Held : Entries → Type 0 = λ all. CanBeHeld k.limits all in
+import_next : (laws : Laws) (rows : PolicyRows) (l : Limits) (front : Entries) (e : Fpr × Kept) (rest : Entries)
+    → CanBeHeld l (front ++ e ∷ rest)
+    → after rows l (import_of e) (with_imports rows front) ≡ Some (with_imports rows (front ++ e ∷ []))
+import_next laws rows l front e rest held =
+    let Held : Entries → Type 0 = λ all. CanBeHeld l all in
+    let Gives : Certificates → Option Contents = λ certs. Some (record { certs = certs; verdicts = [] }) in
     let named = front_all IsNamed front (e ∷ rest) held.named in
     let below = below_next fpr_cmp front e rest held.in_order in
-    let fits = front_fits laws rows k.limits (front ++ e ∷ []) rest (subst Held (sym (append_assoc front (e ∷ []) rest)) held) in
-    let whole : certificates_in mid ++ judged_anew rows e ∷ [] ≡ map (judged_anew rows) (front ++ e ∷ []) =
-    ap (λ (certs : Certificates). certs ++ judged_anew rows e ∷ []) so_far.certs ∙ sym (map-append (judged_anew rows) front (e ∷ [])) in
-    import_step laws rows mid e
+    let fits = front_fits laws rows l (front ++ e ∷ []) rest (subst Held (sym (append_assoc front (e ∷ []) rest)) held) in
+    let whole : map (anew rows) (front ++ e ∷ []) ≡ map (anew rows) front ++ anew rows e ∷ [] = map-append (anew rows) front (e ∷ []) in
+    import_step laws rows l (with_imports rows front) e
     (laws.read_back e.1.cert (all_at (λ (e : Fpr × Kept). IsCertificate e.1.cert) front e rest held.whole))
     (all_at IsNamed front e rest held.named)
-    (subst Before (sym so_far.certs) (front_before rows front e named below))
-    (ap (λ l. first_full l (certificates_in mid ++ judged_anew rows e ∷ [])) so_far.same_limits ∙ ap (first_full k.limits) whole ∙ fits)
-    ∙ ap (λ (certs : Certificates). Some (holding mid certs)) whole
+    (front_before rows front e named below)
+    (ap (first_full l) (sym whole) ∙ fits)
+    ∙ ap Gives (sym whole)
 
-imports : (laws : Laws) (rows : PolicyRows) (k : Keyring) (all : Entries) → CanBeHeld k.limits all
-    → (front rest : Entries) → front ++ rest ≡ all → (mid : Keyring) → Holds rows k front mid
-    → IsSomeAnd (after_all rows (map import_of rest) (Some mid)) (Holds rows k all)
-imports laws rows k all held front [] parts mid so_far =
-    let Held : Entries → Type 0 = λ es. Holds rows k es mid in
-    subst Held (sym (append-nil front) ∙ parts) so_far
-imports laws rows k all held front (e ∷ rest) parts mid so_far =
-    let Held : Entries → Type 0 = λ es. CanBeHeld k.limits es in
-    let Ends : Option Keyring → Type 0 = λ o. IsSomeAnd (after_all rows (map import_of rest) o) (Holds rows k all) in
-    let next = import_next laws rows k front e rest mid (subst Held (sym parts) held) so_far in
-    let new : Keyring = holding mid (map (judged_anew rows) (front ++ e ∷ [])) in
-    let holds : Holds rows k (front ++ e ∷ []) new = record {
-      same_limits = so_far.same_limits;
-      verdicts = so_far.verdicts;
-      certs = in_holding mid (map (judged_anew rows) (front ++ e ∷ []));
-    } in
-    subst Ends (sym next)
-    (imports laws rows k all held (front ++ e ∷ []) rest (append_assoc front (e ∷ []) rest ∙ parts) new holds)
+imports : (laws : Laws) (rows : PolicyRows) (l : Limits) (all : Entries) → CanBeHeld l all → (front rest : Entries) → front ++ rest ≡ all
+    → after_all rows l (map import_of rest) (Some (with_imports rows front)) ≡ Some (with_imports rows all)
+imports laws rows l all held front [] parts = ap (λ es. Some (with_imports rows es)) (sym (append-nil front) ∙ parts)
+imports laws rows l all held front (e ∷ rest) parts =
+    let Held : Entries → Type 0 = λ es. CanBeHeld l es in
+    ap (after_all rows l (map import_of rest)) (import_next laws rows l front e rest (subst Held (sym parts) held))
+    ∙ imports laws rows l all held (front ++ e ∷ []) rest (append_assoc front (e ∷ []) rest ∙ parts)
 
 -- ---- verdicts
 
--- the same keyring but for its verdicts, which are these
-record Says (k : Keyring) (all : verdicts.Entries) (new : Keyring) : Type 0 where
-  same_limits : new.limits ≡ k.limits
-  same_certs : certificates_in new ≡ certificates_in k
-  verdicts : new.verdicts ≡ all
+abbrev with_verdicts : Certificates → verdicts.Entries → Contents
+with_verdicts certs said = record { certs = certs; verdicts = said }
 
-setting_step : (rows : PolicyRows) (k : Keyring) (number : SigNumber) (verdict : Verdict) → would_pass k number ≡ false
-    → after rows (setting number verdict) k ≡ Some (with_verdict_on number verdict k)
-setting_step rows k number (Good fpr) h = ap (λ b. if b then None else Some (with_verdict_on number (Good fpr) k)) h
-setting_step rows k number Bad h = ap (λ b. if b then None else Some (with_verdict_on number Bad k)) h
+settled : (l : Limits) (c : Contents) (number : SigNumber) (verdict : Verdict) (earlier : Option Verdict) (new : verdicts.Entries)
+    → earlier ≡ None → is_over l c.verdicts number ≡ false → with_verdict c.verdicts number verdict ≡ new
+    → judged_so l c number verdict earlier ≡ Some (record c { verdicts = new })
+settled l c number verdict earlier new none free put =
+    let Gives : verdicts.Entries → Option Contents = λ said. Some (record c { verdicts = said }) in
+    ap (judged_so l c number verdict) none
+    ∙ ap (λ b. if b then None else Some (record c { verdicts = with_verdict c.verdicts number verdict })) free
+    ∙ ap Gives put
 
-settings : (rows : PolicyRows) (k : Keyring) (all : verdicts.Entries) → InOrder all → length all ≤ k.limits.verdicts
-    → (front rest : verdicts.Entries) → front ++ rest ≡ all → (mid : Keyring) → Says k front mid
-    → IsSomeAnd (after_all rows (map setting_of rest) (Some mid)) (Says k all)
-settings rows k all order few front [] parts mid so_far =
-    let Said : verdicts.Entries → Type 0 = λ es. Says k es mid in
-    subst Said (sym (append-nil front) ∙ parts) so_far
-settings rows k all order few front (e ∷ rest) parts mid so_far =
-    let Ends : Option Keyring → Type 0 = λ o. IsSomeAnd (after_all rows (map setting_of rest) o) (Says k all) in
-    let room : length mid.verdicts < mid.limits.verdicts =
-    omega (arith, ap length so_far.verdicts, ap (λ (l : Limits). l.verdicts) so_far.same_limits, ap length parts, length-append front (e ∷ rest), few) in
-    let free : would_pass mid e.0 ≡ false =
-    and_right (is_none (verdicts.verdict_at mid.verdicts e.0)) (nat_le mid.limits.verdicts (length mid.verdicts))
-    (lt-leb mid.limits.verdicts (length mid.verdicts) room) in
-    let below = below_next number_cmp front e rest (subst InOrder (sym parts) order) in
-    let says : Says k (front ++ e ∷ []) (with_verdict_on e.0 e.1 mid) = record {
-      same_limits = so_far.same_limits;
-      same_certs = restamped_same e.0 (mid.changes + 1) mid.certs ∙ so_far.same_certs;
-      verdicts = ap (λ (es : verdicts.Entries). with_verdict es e.0 e.1) so_far.verdicts ∙ put_behind number_cmp numbers_total front e.0 e.1 below;
-    } in
-    subst Ends (sym (setting_step rows mid e.0 e.1 free))
-    (settings rows k all order few (front ++ e ∷ []) rest (append_assoc front (e ∷ []) rest ∙ parts) (with_verdict_on e.0 e.1 mid) says)
+setting_is : (rows : PolicyRows) (l : Limits) (c : Contents) (number : SigNumber) (verdict : Verdict)
+    → after rows l (setting number verdict) c ≡ judged_so l c number verdict (verdicts.verdict_at c.verdicts number)
+setting_is rows l c number (Good fpr) = refl
+setting_is rows l c number Bad = refl
+
+setting_next : (rows : PolicyRows) (l : Limits) (certs : Certificates) (front : verdicts.Entries) (e : SigNumber × Verdict) (rest : verdicts.Entries)
+    → InOrder (front ++ e ∷ rest) → length (front ++ e ∷ rest) ≤ l.verdicts
+    → after rows l (setting_of e) (with_verdicts certs front) ≡ Some (with_verdicts certs (front ++ e ∷ []))
+setting_next rows l certs front e rest order few =
+    let below = below_next number_cmp front e rest order in
+    let room : length front < l.verdicts = omega (arith, length-append front (e ∷ rest), few) in
+    setting_is rows l (with_verdicts certs front) e.0 e.1
+    ∙ settled l (with_verdicts certs front) e.0 e.1 (verdicts.verdict_at front e.0) (front ++ e ∷ [])
+    (none_before number_cmp numbers_total front e.0 below)
+    (and_right (is_none (verdicts.verdict_at front e.0)) (nat_le l.verdicts (length front)) (lt-leb l.verdicts (length front) room))
+    (put_behind number_cmp numbers_total front e.0 e.1 below)
+
+settings : (rows : PolicyRows) (l : Limits) (certs : Certificates) (all : verdicts.Entries) → InOrder all → length all ≤ l.verdicts
+    → (front rest : verdicts.Entries) → front ++ rest ≡ all
+    → after_all rows l (map setting_of rest) (Some (with_verdicts certs front)) ≡ Some (with_verdicts certs all)
+settings rows l certs all order few front [] parts = ap (λ es. Some (with_verdicts certs es)) (sym (append-nil front) ∙ parts)
+settings rows l certs all order few front (e ∷ rest) parts =
+    let Few : verdicts.Entries → Type 0 = λ es. length es ≤ l.verdicts in
+    ap (after_all rows l (map setting_of rest))
+    (setting_next rows l certs front e rest (subst InOrder (sym parts) order) (subst Few (sym parts) few))
+    ∙ settings rows l certs all order few (front ++ e ∷ []) rest (append_assoc front (e ∷ []) rest ∙ parts)
 
 -- ---- both
 
-after_both : (rows : PolicyRows) (P Q : Keyring → Type 0) (cs ds : List Command) (k : Option Keyring)
-    → IsSomeAnd (after_all rows cs k) P → ((mid : Keyring) → P mid → IsSomeAnd (after_all rows ds (Some mid)) Q)
-    → IsSomeAnd (after_all rows (cs ++ ds) k) Q
-after_both rows P Q [] ds None h next = absurd h
-after_both rows P Q [] ds (Some k) h next = next k h
-after_both rows P Q (c ∷ cs) ds None h next = absurd h
-after_both rows P Q (c ∷ cs) ds (Some k) h next = after_both rows P Q cs ds (after rows c k) h next
+after_both : (rows : PolicyRows) (l : Limits) (cs ds : List Command) (o : Option Contents)
+    → after_all rows l (cs ++ ds) o ≡ after_all rows l ds (after_all rows l cs o)
+after_both rows l [] ds o = refl
+after_both rows l (c ∷ cs) [] None = refl
+after_both rows l (c ∷ cs) (d ∷ ds) None = refl
+after_both rows l (c ∷ cs) ds (Some held) = after_both rows l cs ds (after rows l c held)
 
-so_also : {A : Type 0} (P Q : A → Type 0) (o : Option A) → IsSomeAnd o P → ((a : A) → P a → Q a) → IsSomeAnd o Q
-so_also P Q None h f = absurd h
-so_also P Q (Some a) h f = f a h
-
--- what was judged anew is the same whatever the marks
-same_plain : (laws : Laws) (rows : PolicyRows) (es : Entries) → map plain (map (judged_anew rows) es) ≡ map plain (certs_of es)
-same_plain laws rows [] = refl
-same_plain laws rows (e ∷ es) =
-    ap (λ (c : Certificate). (e.0, c) ∷ map plain (map (judged_anew rows) es)) (laws.forgotten rows e.1.cert)
-    ∙ ap (λ (rest : Certificates). (e.0, unmarked e.1.cert) ∷ rest) (same_plain laws rows es)
-
-all_judged : (laws : Laws) (rows : PolicyRows) (es : Entries) → AllByRecursion (λ (e : Fpr × Certificate). IsJudged rows e.1) (map (judged_anew rows) es)
-all_judged laws rows [] = tt
-all_judged laws rows (e ∷ es) = (laws.by_rows rows e.1.cert, all_judged laws rows es)
-
-judged_in : (rows : PolicyRows) (es : Entries) → AllByRecursion (λ (e : Fpr × Certificate). IsJudged rows e.1) (certs_of es) → AreJudged rows es
-judged_in rows [] all = tt
-judged_in rows (e ∷ es) all = (all.0, judged_in rows es all.1)
+anew_in : (rows : PolicyRows) (es : Entries) → map (anew rows) es ≡ map (judged_anew rows) (stripped es)
+anew_in rows [] = refl
+anew_in rows (e ∷ es) = ap (λ (rest : Certificates). anew rows e ∷ rest) (anew_in rows es)
 
 pub restored : (laws : Laws) (rows : PolicyRows) (k : Keyring) → IsKeyring k → InOrder k.verdicts → IsRestored rows k
 restored laws rows k keyring order =
-    let fresh : Keyring = empty k.limits in
     let held : CanBeHeld k.limits k.certs = record {
       named = keyring.named;
       whole = keyring.whole;
@@ -336,18 +299,7 @@ restored laws rows k keyring order =
       octets = keyring.within.octets;
       signatures = keyring.within.signatures;
     } in
-    let Few : Limits → Type 0 = λ l. length k.verdicts ≤ l.verdicts in
-    let Judged : Certificates → Type 0 = λ certs. AllByRecursion (λ (e : Fpr × Certificate). IsJudged rows e.1) certs in
-    after_both rows (Holds rows fresh k.certs) (IsAnew rows k) (map import_of k.certs) (map setting_of k.verdicts) (Some fresh)
-    (imports laws rows fresh k.certs held [] k.certs refl fresh (record { same_limits = refl; verdicts = refl; certs = refl }))
-    (λ mid holds. so_also (Says mid k.verdicts) (IsAnew rows k) (after_all rows (map setting_of k.verdicts) (Some mid))
-    (settings rows mid k.verdicts order (subst Few (sym holds.same_limits) keyring.within.verdicts) [] k.verdicts refl mid
-    (record { same_limits = refl; same_certs = refl; verdicts = holds.verdicts }))
-    (λ new says.
-    let certs : certificates_in new ≡ map (judged_anew rows) k.certs = says.same_certs ∙ holds.certs in
-    record {
-      limits = says.same_limits ∙ holds.same_limits;
-      certs = ap (map plain) certs ∙ same_plain laws rows k.certs;
-      verdicts = says.verdicts;
-      judged = judged_in rows new.certs (subst Judged (sym certs) (all_judged laws rows k.certs));
-    }))
+    after_both rows k.limits (map import_of k.certs) (map setting_of k.verdicts) (Some nothing)
+    ∙ ap (after_all rows k.limits (map setting_of k.verdicts)) (imports laws rows k.limits k.certs held [] k.certs refl)
+    ∙ settings rows k.limits (map (anew rows) k.certs) k.verdicts order keyring.within.verdicts [] k.verdicts refl
+    ∙ ap (λ certs. Some (with_verdicts certs k.verdicts)) (anew_in rows k.certs)

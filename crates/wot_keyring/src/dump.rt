@@ -27,8 +27,8 @@ pub fn replayed()
     judging();
 }
 
-/// Appends the line of a command. Like each call of this file it leaves `out` as before after `Memory`.
-fn put_line(command: &Command, out: &mut Vec<u8>) -> Result<(), Memory>
+/// Appends the line of a command, with its line feed. Like each call of this file it leaves `out` as before after `Memory`.
+pub fn put_line(command: &Command, out: &mut Vec<u8>) -> Result<(), Memory>
     requires spelled { HasSpelling command.now }
     requires short { most_octets command.now ≤ 16777216 }
     ensures appended { OnOk result (out.new.items ≡ out.old.items ++ line_of command.now) }

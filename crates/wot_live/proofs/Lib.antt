@@ -4,3 +4,4 @@ pub mod Exact
 pub mod Counting
 pub mod Places
 pub mod Through
+pub mod Worked

@@ -30,6 +30,7 @@ abbrev pub edges_from : Entries → Fpr → ℕ → ℕ → List Component → L
 edges_from verdicts target t uid [] = []
 edges_from verdicts target t uid (p ∷ ps) = edges_on verdicts target t uid p ++ edges_from verdicts target t (uid + 1) ps
 
+-- Two edges of one issuer and user ID are the same: either will do.
 abbrev pub one_of_both : EdgeFacts → EdgeFacts → EdgeFacts
 one_of_both old new = new
 

@@ -29,6 +29,7 @@ fn make_edges(alloc: Global, found: &Found, steps: &mut Steps) -> Result<Vec<Edg
     ensures made_most { steps.new.made ≤ steps.old.made + btree_map_len found.now }
     ensures never_less { steps.old.made ≤ steps.new.made }
 {
+    // The range of the count is known once it was read.
     let _made = steps.made;
     let mut edges = Vec::new(alloc);
     for facts in found.values() {

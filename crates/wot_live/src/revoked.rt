@@ -26,7 +26,7 @@ pub(crate) fn revoked_places(
         if is_own_revoked(part, verdicts, &fpr, t) {
             places.push(place)?;
         }
-        place = place.saturating_add(1);
+        place += 1;
     }
     Ok(places)
 }

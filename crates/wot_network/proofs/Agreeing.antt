@@ -11,12 +11,11 @@ use Rattle.wot_edge.specs.declared.edge.EdgeFacts.{EdgeFacts}
 use Rattle.wot_edge.specs.Agree.{Agree, scoped_edge}
 use Rattle.wot_edge.specs.Path.{asks}
 use Rattle.wot_edge.specs.Record.{Has, Row, Entry, blank, entry_at, rows_into}
-use Rattle.wot_edge.specs.Roots.{root_amount}
 use Rattle.wot_keyring.specs.Keyring.{Certificates, is_fpr}
 use Rattle.wot_live.specs.Rows.{edges_of}
 use Rattle.wot_standing.specs.Standing.{standing_of}
 use Rattle.wot_standing.specs.Usable.{is_usable}
-use Rattle.wot_network.specs.Local.{SameVerdict, AgreeAt, AgreeOn}
+use Rattle.wot_network.specs.Local.{SameVerdict, AgreeAt, AgreeOn, SameAmounts}
 use Rattle.wot_network.specs.Told.{row_of, entry_of, record_of, is_usable_by, is_in_scope, is_user_id}
 use Rattle.wot_network.proofs.Looking.{entry_some, entry_none, row_told}
 use Rattle.wot_network.proofs.Verdicts.{standing_same, edges_same, in_order_same}
@@ -78,8 +77,7 @@ module _ (certs others : Certificates) (verdicts other : Entries) (t : ℕ) (u :
       ap (λ (r : Row). r.usable) a.2 ∙ usable_same x.edge.issuer x.edge.made agree
       ∙ ap (λ (f : EdgeFacts). is_usable_by other others t f.issuer f.made) e ∙ sym (ap (λ (r : Row). r.usable) b.2)
 
-  pub records_agree : (roots amounts : List (Fpr × ℕ)) (target : Fpr) (set : List Fpr) → AgreeOn certs verdicts others other set
-      → ((fpr : Fpr) → Has set fpr → root_amount roots fpr ≡ root_amount amounts fpr)
+  pub records_agree : (roots amounts : List (Fpr × ℕ)) (target : Fpr) (set : List Fpr) → AgreeOn certs verdicts others other set → SameAmounts roots amounts set
       → Agree (asks (record_of certs verdicts t u) roots target) (asks (record_of others other t u) amounts target) set
   records_agree roots amounts target set agree same = record {
     target = refl;

@@ -13,7 +13,7 @@ use Rattle.wot_types.specs.Fpr.{fpr_cmp, octets_of}
 use Rattle.wot_verdict.specs.Verdicts.{Entries}
 use Rattle.wot_cert.specs.Certificate.{Certificate}
 use Rattle.wot_cert.specs.Counts.{sum_of}
-use Rattle.wot_edge.specs.Plain.{AreRows}
+use Rattle.wot_edge.specs.Lawful.{AreRows}
 use Rattle.wot_standing.specs.Standing.{own}
 use Rattle.wot_network.specs.Net.{Line, Lines, line_of, named_line, AreLawful, edges_in}
 

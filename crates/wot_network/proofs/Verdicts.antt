@@ -17,7 +17,7 @@ use Rattle.wot_edge.specs.declared.edge.EdgeFacts.{EdgeFacts}
 use Rattle.wot_standing.specs.declared.status.Standing.{Standing}
 use Rattle.wot_standing.specs.Kinds.{is_certification, is_soft}
 use Rattle.wot_standing.specs.Own.{is_own_revoked}
-use Rattle.wot_standing.specs.Standing.{own, primacy, self_certification, primary_among, governing, end_by, revokes_key, is_hard_revocation, is_hard_revoked, is_soft_revocation, least_of, soft_moment, standing_of}
+use Rattle.wot_standing.specs.Standing.{own, primacy, self_certification, primary_among, governing, end_by, is_hard_revocation, is_hard_revoked, is_soft_revocation, least_of, soft_moment, standing_of}
 use Rattle.wot_standing.specs.Usable.{is_key_in_order, is_in_order}
 use Rattle.wot_live.specs.Edge.{edge_by, edge_on}
 use Rattle.wot_live.specs.Rows.{edge_with, edges_on, edges_from, in_edge_order, edges_of}

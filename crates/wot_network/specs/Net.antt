@@ -8,7 +8,7 @@ use Rattle.wot_cert.specs.Counts.{sum_of, signatures_of}
 use Rattle.wot_cert.specs.Span.{span_of}
 use Rattle.wot_cert.specs.declared.moments.Span.{Span}
 use Rattle.wot_edge.specs.declared.edge.EdgeFacts.{EdgeFacts}
-use Rattle.wot_edge.specs.Plain.{AreRows}
+use Rattle.wot_edge.specs.Lawful.{AreRows}
 use Rattle.wot_edge.specs.Record.{Record}
 use Rattle.wot_keyring.specs.Keyring.{Certificates, Keyring, certificates_in}
 use Rattle.wot_keyring.specs.Import.{weigh}

@@ -6,12 +6,9 @@ ghost use Rattle.wot_key.specs.Key.{fpr_of};
 ghost use Rattle.wot_verdict.specs.Verdicts.{Entries};
 ghost use Rattle.wot_cert.specs.Certificate.{Certificate};
 ghost use Rattle.wot_edge.specs.Lawful.{AreEntries};
-ghost use Rattle.wot_edge.specs.Agree.{Agree};
-ghost use Rattle.wot_edge.specs.Path.{asks};
-ghost use Rattle.wot_edge.specs.Record.{Has, IsRecord};
-ghost use Rattle.wot_edge.specs.Roots.{root_amount};
+ghost use Rattle.wot_edge.specs.Record.{IsRecord};
 ghost use Rattle.wot_keyring.specs.Keyring.{Certificates, Keyring};
-ghost use Rattle.wot_network.specs.Local.{AgreeOn};
+ghost use Rattle.wot_network.specs.Local.{IsLocal};
 ghost use Rattle.wot_network.specs.Net.{Net, Fits};
 ghost use Rattle.wot_network.specs.Told.{record_of};
 
@@ -32,8 +29,8 @@ pub fn record_is_lawful()
     edges_are_rows();
 }
 
-/// Certificates and verdicts that agree on a set of fingerprints, and amounts of roots that do, ask questions that agree on it:
-/// what is told of the set rests on the certificates of the set and on the verdicts on their signatures alone.
+/// What certificates and verdicts tell of a set of fingerprints rests on the certificates of the set and on the verdicts on
+/// their signatures alone.
 pub fn records_agree()
-    ensures agree { (certs others : Certificates) (verdicts other : Entries) (t : ℕ) (u : List ℕ) (roots amounts : List (Fpr × ℕ)) (target : Fpr) (set : List Fpr) → AgreeOn certs verdicts others other set → ((fpr : Fpr) → Has set fpr → root_amount roots fpr ≡ root_amount amounts fpr) → Agree (asks (record_of certs verdicts t u) roots target) (asks (record_of others other t u) amounts target) set }
+    ensures local { (certs : Certificates) (verdicts : Entries) (t : ℕ) → IsLocal certs verdicts t (record_of certs verdicts t) }
 {}

@@ -6,6 +6,8 @@ mod line;
 mod making;
 mod network;
 mod roads;
+#[cfg(test)]
+mod tests;
 mod user_ids;
 
 pub use network::Network;

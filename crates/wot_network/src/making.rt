@@ -7,7 +7,7 @@ ghost use Rattle.wot_types.specs.Fpr.{fpr_cmp};
 ghost use Rattle.wot_cert.specs.Certificate.{Certificate};
 ghost use Rattle.wot_cert.specs.Counts.{signatures_of, sum_of};
 ghost use Rattle.wot_cert.specs.Text.{size_of};
-ghost use Rattle.wot_edge.specs.Plain.{AreRows};
+ghost use Rattle.wot_edge.specs.Lawful.{AreRows};
 ghost use Rattle.wot_keyring.specs.Keyring.{certificates_in};
 ghost use Rattle.wot_standing.specs.Standing.{own};
 ghost use Rattle.wot_network.specs.Net.{line_of, lines_of, named_line, AreLawful, edges_in, signatures_in};

@@ -1,11 +1,13 @@
 ghost use Rattle.std.specs.Prelude.{◌≡◌, ◌≤◌, ◌+◌, ℕ, List, min, [], false, Ok, OnOk, OnErr, MatchBool};
 ghost use Rattle.std.specs.Option.{option_copied};
 ghost use Rattle.std.specs.Map.{lookup};
-ghost use Rattle.wot_keyring.specs.Keyring.{Keyring as KeyringOf, is_fpr};
+ghost use Rattle.wot_keyring.specs.Keyring.{Keyring as KeyringOf, certificates_in, is_fpr};
+ghost use Rattle.wot_network.specs.Local.{IsLocal};
 ghost use Rattle.wot_edge.specs.Lawful.{AreEntries};
 ghost use Rattle.wot_edge.specs.Record.{IsRecord};
 ghost use Rattle.wot_network.specs.Net.{Net, Fits, IsRight, IsCurrent, AreLawful, edges_in, signatures_in, told_of};
 
+use crate::laws::records_agree;
 use crate::line::NetLine;
 use crate::making::keyring_lines;
 use crate::roads::NetRoads;
@@ -28,7 +30,12 @@ pub struct Network {
 
 impl Model for Network {
     ghost use Rattle.wot_edge.specs.Lawful.{AreEntries};
-    ghost use Rattle.wot_edge.specs.Record.{IsRecord};
+    ghost use Rattle.wot_edge.specs.Agree.{Agree};
+    ghost use Rattle.wot_edge.specs.Path.{asks};
+    ghost use Rattle.wot_edge.specs.Record.{Has, IsRecord};
+    ghost use Rattle.wot_edge.specs.Roots.{root_amount};
+    ghost use Rattle.wot_types.specs.declared.fpr.Fpr.{Fpr as FprOf};
+    ghost use Rattle.wot_verdict.specs.Verdicts.{Entries};
     ghost use Rattle.wot_network.specs.Net.{Net, AreLawful};
 
     ghost Value = { Net };
@@ -96,8 +103,10 @@ impl Network {
         ensures time { result.time ≡ self.now.time }
         ensures entries { (u : List ℕ) → AreEntries (told_of result u) }
         ensures lawful { (u : List ℕ) → IsRecord (told_of result u) }
+        ensures local { IsLocal (certificates_in keyring.now) keyring.now.verdicts self.now.time (told_of result) }
     {
         entries_are_record();
+        records_agree();
         self.is_lawful();
         NetRoads::of(self, keyring)
     }

@@ -1,6 +1,6 @@
 use crate::Network;
 use std::test::Fail;
-use wot_edge::{Edge, EdgeFacts, Roads};
+use wot_edge::Roads;
 use wot_keyring::Keyring;
 use wot_types::{Fpr, Limits, SigNumber, Steps};
 use wot_verdict::Verdict;

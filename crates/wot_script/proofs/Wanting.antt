@@ -71,6 +71,7 @@ module _ (size : ℕ) where
       even : (b : Bool) (r : Result (List ℕ) FromHexError) (octets : List ℕ) → (if b then Err OddLength else r) ≡ Ok octets → r ≡ Ok octets
       even true r octets e = absurd cc
       even false r octets e = e
+
       decoded : (r : Result (List ℕ) FromHexError) → decode_of text ≡ r → Spelled (option_map Import (result_ok r))
       decoded (Ok octets) e =
           let pairs : decode_pairs 0 text ≡ Ok octets = even (length text % 2 == 1) (decode_pairs 0 text) octets e in

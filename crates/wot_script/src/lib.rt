@@ -4,8 +4,8 @@
 mod command;
 mod decimal;
 mod fields;
-mod lined;
 pub mod laws;
+mod lined;
 mod lists;
 mod octets;
 mod piece;

@@ -7,6 +7,4 @@ returns c = restored (record {
   same_text = c.marks_weigh_nothing.ensures.judged_text;
   same_count = c.marks_weigh_nothing.ensures.judged_signatures;
   anew = c.judging.ensures.unmarked;
-  by_rows = c.judging.ensures.judged;
-  forgotten = c.judging.ensures.forgotten;
 })
