@@ -35,6 +35,10 @@ fn main(rt: HostRuntime) -> io::Result<()> {
             let size = number(words.next());
             digests::sha1(&rt, size, number(words.next()))
         }
+        "sha2" => {
+            let size = number(words.next());
+            digests::sha2(&rt, size, number(words.next()))
+        }
         "lines" => {
             let length = number(words.next());
             let piece = number(words.next());
