@@ -10,6 +10,8 @@ mod refusal;
 mod restamp;
 mod staging;
 mod tally;
+#[cfg(test)]
+mod tests;
 
 pub use certs::CertsIter;
 pub use import::Imported;
