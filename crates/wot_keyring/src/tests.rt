@@ -1,14 +1,13 @@
-ghost use Rattle.wot_keyring.specs.Kept.{IsJudgedBy};
+ghost use Rattle.wot_keyring.specs.Kept.{AreSmall, IsJudgedBy};
 ghost use Rattle.wot_policy.specs.Kept.{IsFaithful, rows_of};
 
 use crate::{Keyring, Refusal};
 use std::alloc::Global;
-use std::cell::Cell;
 use std::test::Fail;
 use wot_cert::CertFault;
 use wot_packet::{PacketFault, Why};
 use wot_policy::{Ask, Policy, admits, standard_rows};
-use wot_types::{Fpr, Limit, Limits};
+use wot_types::{Fpr, Limit, Limits, SigNumber};
 use wot_verdict::Verdict;
 
 /// The fingerprints of the keys with the bodies 04000003e81b01 and 04000003e81b02.
@@ -44,13 +43,41 @@ fn import<F: Fn(Ask) -> bool>(
     }
 }
 
-/// What a fresh keyring answers by the standard rows, and how many changes it counts then.
-fn answer(alloc: Global, octets: &[u8]) -> (Answer, u64) {
+/// Imports texts, one after the other, and gives what the last one answers.
+fn import_all<F: Fn(Ask) -> bool>(
+    alloc: Global,
+    keyring: &mut Keyring,
+    texts: &[&[u8]],
+    policy: &mut Policy<F>,
+) -> Answer
+    requires judged { IsJudgedBy (rows_of policy.old) keyring.old }
+    requires faithful { IsFaithful F.Fn policy.old }
+{
+    let mut last = Err(Refusal::Memory);
+    for text in texts {
+        last = import(alloc, keyring, text, policy);
+    }
+    last
+}
+
+/// The last answer, how often the policy was asked, how many changes are counted, and the stamps of two keys.
+type Outcome = (Answer, u64, u64, u64, u64);
+
+/// Imports texts into a fresh keyring, by the standard rows.
+fn outcome(alloc: Global, limits: Limits, texts: &[&[u8]]) -> Outcome
+    requires { AreSmall limits }
+{
     let rows = standard_rows();
     let mut policy = Policy::new(rows, |ask| admits(&rows, ask));
-    let mut keyring = Keyring::new(alloc, Limits::standard());
-    let told = import(alloc, &mut keyring, octets, &mut policy);
-    (told, keyring.changes())
+    let mut keyring = Keyring::new(alloc, limits);
+    let last = import_all(alloc, &mut keyring, texts, &mut policy);
+    (
+        last,
+        policy.asked(),
+        keyring.changes(),
+        keyring.stamp(&R),
+        keyring.stamp(&A),
+    )
 }
 
 /// Texts, and what a fresh keyring answers.
@@ -139,156 +166,105 @@ const SECOND_KEY: &[u8] = b"\xc6\x07\x04\x00\x00\x03\xe8\x1b\x02";
 const BOTH_KEYS: &[u8] =
     b"\xc6\x07\x04\x00\x00\x03\xe8\x1b\x01\xc6\x07\x04\x00\x00\x03\xe8\x1b\x02";
 
+/// Texts that are imported in turn (an empty one is refused and changes nothing), and the outcome of the last.
+const OUTCOMES: [([&[u8]; 5], Outcome); 8] = [
+    (
+        [b"", b"", b"", b"", WITH_DIRECT],
+        (Ok((1, 0, 2)), 1, 1, 1, 0),
+    ),
+    (
+        [b"", b"", b"", WITH_DIRECT, WITH_DIRECT],
+        (Ok((1, 0, 0)), 1, 1, 1, 0),
+    ),
+    (
+        [b"", b"", WITH_DIRECT, WITH_DIRECT, REFUSED],
+        (Err(Refusal::Cert(CertFault::Compressed)), 1, 1, 1, 0),
+    ),
+    (
+        [b"", WITH_DIRECT, WITH_DIRECT, REFUSED, WITH_UNSOUND],
+        (Ok((1, 0, 4)), 2, 2, 1, 0),
+    ),
+    (
+        [
+            WITH_DIRECT,
+            WITH_DIRECT,
+            REFUSED,
+            WITH_UNSOUND,
+            WITH_OLD_HASH,
+        ],
+        (Ok((1, 0, 1)), 3, 3, 1, 0),
+    ),
+    (
+        [b"", b"", b"", b"", WITH_SKIPPED],
+        (Ok((2, 1, 2)), 0, 1, 1, 1),
+    ),
+    (
+        [b"", b"", b"", WITH_SKIPPED, WITH_SKIPPED],
+        (Ok((2, 1, 0)), 0, 1, 1, 1),
+    ),
+    (
+        [b"", b"", WITH_SKIPPED, WITH_SKIPPED, WITH_DIRECT],
+        (Ok((1, 0, 1)), 1, 2, 2, 1),
+    ),
+];
+
 #[test]
 fn answers_of_fresh_keyrings(rt: HostRuntime) -> Result<(), Fail> {
-    for (octets, expected) in ANSWERS {
-        let changes = if expected.is_ok() { 1 } else { 0 };
+    for (text, expected) in ANSWERS {
+        let (told, _, _, _, _) = outcome(rt.alloc(), Limits::standard(), &[text]);
+        assert_eq!(rt; told, expected, "{text:?}");
+    }
+    Ok(())
+}
+
+#[test]
+fn imports_one_after_the_other(rt: HostRuntime) -> Result<(), Fail> {
+    for (texts, expected) in OUTCOMES {
         assert_eq!(rt;
-            answer(rt.alloc(), octets),
-            (expected, changes),
-            "{octets:?}"
+            outcome(rt.alloc(), Limits::standard(), texts.as_slice()),
+            expected
         );
     }
     Ok(())
 }
 
 #[test]
-fn each_sound_signature_is_asked_once(rt: HostRuntime) -> Result<(), Fail> {
-    let rows = standard_rows();
-    let calls = Cell::new(0u64);
-    let mut policy = Policy::new(rows, |ask| {
-        calls.set(calls.get().wrapping_add(1));
-        admits(&rows, ask)
-    });
-    let mut keyring = Keyring::new(rt.alloc(), Limits::standard());
-    let first = import(rt.alloc(), &mut keyring, WITH_DIRECT, &mut policy);
-    assert_eq!(rt;
-        (first, policy.asked(), calls.get(), keyring.changes()),
-        (Ok((1, 0, 2)), 1, 1, 1)
-    );
-    let again = import(rt.alloc(), &mut keyring, WITH_DIRECT, &mut policy);
-    assert_eq!(rt;
-        (again, policy.asked(), calls.get(), keyring.changes()),
-        (Ok((1, 0, 0)), 1, 1, 1)
-    );
-    let refused = import(rt.alloc(), &mut keyring, REFUSED, &mut policy);
-    assert_eq!(rt;
-        (refused, policy.asked(), calls.get(), keyring.changes()),
-        (Err(Refusal::Cert(CertFault::Compressed)), 1, 1, 1)
-    );
-    let unsound = import(rt.alloc(), &mut keyring, WITH_UNSOUND, &mut policy);
-    assert_eq!(rt;
-        (unsound, policy.asked(), calls.get(), keyring.changes()),
-        (Ok((1, 0, 4)), 2, 2, 2)
-    );
-    let old = import(rt.alloc(), &mut keyring, WITH_OLD_HASH, &mut policy);
-    assert_eq!(rt;
-        (old, policy.asked(), calls.get(), keyring.changes()),
-        (Ok((1, 0, 1)), 3, 3, 3)
-    );
-    let count = keyring.certs().count();
-    assert_eq!(rt; count, 2);
-    Ok(())
-}
-
-#[test]
-fn stamps_and_changes(rt: HostRuntime) -> Result<(), Fail> {
-    let rows = standard_rows();
-    let mut policy = Policy::new(rows, |ask| admits(&rows, ask));
-    let mut keyring = Keyring::new(rt.alloc(), Limits::standard());
-    let skipped = import(rt.alloc(), &mut keyring, WITH_SKIPPED, &mut policy);
-    assert_eq!(rt;
-        (
-            skipped,
-            keyring.stamp(&R),
-            keyring.stamp(&A),
-            keyring.changes()
-        ),
-        (Ok((2, 1, 2)), 1, 1, 1)
-    );
-    let again = import(rt.alloc(), &mut keyring, WITH_SKIPPED, &mut policy);
-    assert_eq!(rt;
-        (
-            again,
-            keyring.stamp(&R),
-            keyring.stamp(&A),
-            keyring.changes()
-        ),
-        (Ok((2, 1, 0)), 1, 1, 1)
-    );
-    let signed = import(rt.alloc(), &mut keyring, WITH_DIRECT, &mut policy);
-    assert_eq!(rt;
-        (
-            signed,
-            keyring.stamp(&R),
-            keyring.stamp(&A),
-            keyring.changes()
-        ),
-        (Ok((1, 0, 1)), 2, 1, 2)
-    );
-    let number = keyring
-        .get(&R)
-        .ok_or("kept")?
-        .direct()
-        .first()
-        .ok_or("signed")?
-        .number();
-    assert!(rt; keyring.changes() < 1000);
-    assert_eq!(rt; keyring.set_verdict(number, Verdict::Good(R)), Ok(()));
-    assert_eq!(rt;
-        (keyring.stamp(&R), keyring.stamp(&A), keyring.changes()),
-        (3, 1, 3)
-    );
-    assert!(rt; keyring.changes() < 1000);
-    assert_eq!(rt; keyring.set_verdict(number, Verdict::Good(R)), Ok(()));
-    assert_eq!(rt;
-        (keyring.stamp(&R), keyring.stamp(&A), keyring.changes()),
-        (3, 1, 3)
-    );
-    assert!(rt; keyring.changes() < 1000);
-    assert_eq!(rt; keyring.clear_verdict(&number), Ok(()));
-    assert_eq!(rt;
-        (keyring.stamp(&R), keyring.stamp(&A), keyring.changes()),
-        (4, 1, 4)
-    );
-    assert!(rt; keyring.changes() < 1000);
-    assert_eq!(rt; keyring.remove(&A), Ok(()));
-    assert_eq!(rt;
-        (keyring.stamp(&R), keyring.stamp(&A), keyring.changes()),
-        (4, 0, 5)
-    );
-    Ok(())
-}
-
-/// What a keyring of one certificate at most answers to two imports, and what it counts then.
-fn twice(alloc: Global, first: &[u8], second: &[u8]) -> (Answer, Answer, u64) {
-    let rows = standard_rows();
-    let mut policy = Policy::new(rows, |ask| admits(&rows, ask));
-    let standard = Limits::standard();
+fn one_certificate_at_most(rt: HostRuntime) -> Result<(), Fail> {
     let limits = Limits {
         certificates: 1,
-        ..standard
+        ..Limits::standard()
     };
-    let mut keyring = Keyring::new(alloc, limits);
-    let told = import(alloc, &mut keyring, first, &mut policy);
-    let again = import(alloc, &mut keyring, second, &mut policy);
-    (told, again, keyring.changes())
+    let full = Err(Refusal::Full(Limit::Certificates));
+    let two = outcome(rt.alloc(), limits, &[FIRST_KEY, SECOND_KEY]);
+    assert_eq!(rt; two, (full, 0, 1, 1, 0));
+    let both = outcome(rt.alloc(), limits, &[BOTH_KEYS]);
+    assert_eq!(rt; both, (full, 0, 0, 0, 0));
+    let same = outcome(rt.alloc(), limits, &[FIRST_KEY, FIRST_KEY]);
+    assert_eq!(rt; same, (Ok((1, 0, 0)), 0, 1, 1, 0));
+    Ok(())
+}
+
+/// Sets a verdict on a signature of a keyring that changed seldom.
+fn judge(keyring: &mut Keyring, number: SigNumber) -> bool {
+    keyring.changes() < 1000 && keyring.set_verdict(number, Verdict::Good(R)).is_ok()
 }
 
 #[test]
-fn one_certificate_at_most(rt: HostRuntime) -> Result<(), Fail> {
-    let full = Err(Refusal::Full(Limit::Certificates));
-    assert_eq!(rt;
-        twice(rt.alloc(), FIRST_KEY, SECOND_KEY),
-        (Ok((1, 0, 1)), full, 1)
+fn a_verdict_raises_the_stamp(rt: HostRuntime) -> Result<(), Fail> {
+    let rows = standard_rows();
+    let mut policy = Policy::new(rows, |ask| admits(&rows, ask));
+    let mut keyring = Keyring::new(rt.alloc(), Limits::standard());
+    let _ = import_all(
+        rt.alloc(),
+        &mut keyring,
+        &[WITH_SKIPPED, WITH_DIRECT],
+        &mut policy,
     );
-    assert_eq!(rt;
-        twice(rt.alloc(), BOTH_KEYS, FIRST_KEY),
-        (full, Ok((1, 0, 1)), 1)
-    );
-    assert_eq!(rt;
-        twice(rt.alloc(), FIRST_KEY, FIRST_KEY),
-        (Ok((1, 0, 1)), Ok((1, 0, 0)), 1)
-    );
+    let cert = keyring.get(&R).ok_or("kept")?;
+    let number = cert.direct().first().ok_or("signed")?.number();
+    assert!(rt; judge(&mut keyring, number));
+    assert_eq!(rt; (keyring.stamp(&R), keyring.stamp(&A)), (3, 1));
+    assert!(rt; judge(&mut keyring, number));
+    assert_eq!(rt; (keyring.stamp(&R), keyring.changes()), (3, 3));
     Ok(())
 }
