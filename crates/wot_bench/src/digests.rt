@@ -1,6 +1,7 @@
 //! The toolchain's own crates, alone: `wot_bench hex SIZE COUNT` reads the digits of that many octets, and
-//! `wot_bench sha1 SIZE COUNT` hashes them, COUNT times each.
+//! `wot_bench sha1 SIZE COUNT` and `wot_bench sha2 SIZE COUNT` hash them, COUNT times each.
 use sha1::Sha1;
+use sha2::{Digest, Sha256};
 use std::io;
 use std::rt::Clock;
 use std::time::Instant;
@@ -28,6 +29,17 @@ pub fn sha1(rt: &(impl Print + AllocGlobal + Clock), size: usize, count: usize) 
         hasher.update(&octets);
         let digest = hasher.finalize();
         last ^= digest[0];
+    }
+    let seconds = start.elapsed(rt)?.as_secs_f64();
+    println!(rt; "{count} times {size} octets hashed, {seconds} s ({last})")
+}
+
+pub fn sha2(rt: &(impl Print + AllocGlobal + Clock), size: usize, count: usize) -> io::Result<()> {
+    let octets = vec![in rt.alloc(); 0x5au8; size]?;
+    let start = Instant::now(rt)?;
+    let mut last = 0u8;
+    for _ in 0..count {
+        last ^= Sha256::digest(octets.as_slice())[0];
     }
     let seconds = start.elapsed(rt)?.as_secs_f64();
     println!(rt; "{count} times {size} octets hashed, {seconds} s ({last})")

@@ -1,8 +1,10 @@
 //! The benches: `wot_bench NAME` does the bench of that name and prints what it counted.
 #![tactic(auto)]
 
+mod certificates;
 mod digests;
 mod lines;
+mod live;
 mod packets;
 mod paths;
 mod patterns;
@@ -23,6 +25,8 @@ fn main(rt: HostRuntime) -> io::Result<()> {
         return println!(rt; "no bench was named");
     };
     match name.as_str() {
+        "certificates" => certificates::bench(&rt, number(words.next())),
+        "merging" => certificates::merging(&rt, number(words.next())),
         "hex" => {
             let size = number(words.next());
             digests::hex(&rt, size, number(words.next()))
@@ -30,6 +34,10 @@ fn main(rt: HostRuntime) -> io::Result<()> {
         "sha1" => {
             let size = number(words.next());
             digests::sha1(&rt, size, number(words.next()))
+        }
+        "sha2" => {
+            let size = number(words.next());
+            digests::sha2(&rt, size, number(words.next()))
         }
         "lines" => {
             let length = number(words.next());
@@ -66,6 +74,10 @@ fn main(rt: HostRuntime) -> io::Result<()> {
             };
             let count = u32::try_from(number(words.next())).unwrap_or(0);
             patterns::on_uids(&rt, pattern.as_str(), count, who.as_str())
+        }
+        "rows" => {
+            let issuers = number(words.next());
+            live::bench(&rt, issuers as u64, number(words.next()) as u64)
         }
         "signatures" => signatures::bench(&rt, number(words.next())),
         _ => println!(rt; "no such bench"),

@@ -1,4 +1,4 @@
-//! The program: it hands its words, its standard input and its standard output to the engine.
+//! The program: it hands its words, its standard input and output and the standard policy to the engine.
 #![tactic(auto)]
 
 use std::process::ExitCode;
@@ -6,6 +6,7 @@ use std::rt::Env;
 use std::{env, io};
 use wot_engine::run_words;
 use wot_io::{StdSink, StdSource};
+use wot_policy::{Policy, admits, standard_rows};
 
 /// The words after the program's name.
 fn words_of<R: Env + AllocGlobal>(rt: &R) -> io::Result<Vec<String>> {
@@ -23,5 +24,13 @@ fn main(rt: HostRuntime) -> ExitCode {
     };
     let mut input = StdSource::new(rt.stdin());
     let mut output = StdSink::new(rt.stdout());
-    ExitCode::from(run_words(rt.alloc(), &words, &mut input, &mut output))
+    let rows = standard_rows();
+    let mut policy = Policy::new(rows, |ask| admits(&rows, ask));
+    ExitCode::from(run_words(
+        rt.alloc(),
+        &words,
+        &mut input,
+        &mut output,
+        &mut policy,
+    ))
 }

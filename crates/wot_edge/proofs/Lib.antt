@@ -12,3 +12,4 @@ pub mod Answering
 pub mod Fitting
 pub mod Worked
 pub mod PlainTold
+pub mod Recorded

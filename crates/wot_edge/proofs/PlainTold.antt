@@ -1,25 +1,22 @@
 -- What roads in memory tell.
 use Rattle.std.proofs.Common.{◌≡◌, inl, inr, ℕ, Bool, true, false, cond, List, [], ◌∷◌, map, Ordering, Option, Some, None, refl, sym, ap, subst, ◌∙◌, length, arith}
 use Rattle.std.specs.declared.cmp.Ordering.TheVariants.{Less, Equal, Greater}
-use Rattle.std.specs.Ordering.{is_lt, nat_cmp, ordering_then, match_ordering}
+use Rattle.std.specs.Ordering.{is_lt, match_ordering}
 use Rattle.std.specs.Option.{unwrap_or, option_map}
 use Rattle.std.specs.Map.{lookup}
 use Rattle.std.specs.BTreeMap.{is_at, insert_entry}
 use Rattle.std.specs.List.{AllByRecursion, slice_get}
 use Rattle.std.specs.List.Sorted.{IsStrictlySortedBy}
-use Rattle.std.specs.Cmp.{IsTotalOrder}
 use Rattle.std.proofs.lemmas.Map.Made.{lookup-map_values}
-use Rattle.std.proofs.lemmas.Cmp.{tied_itself, nat_cmp_total, on_total, then_total}
 use Rattle.wot_types.specs.declared.fpr.Fpr.{Fpr}
 use Rattle.wot_types.specs.Fpr.{fpr_cmp}
 use Rattle.wot_edge.specs.declared.edge.EdgeFacts.{EdgeFacts}
 use Rattle.wot_edge.specs.Order.{edge_cmp, same_fpr}
 use Rattle.wot_edge.specs.Record.{Has, Row, Entry, IsRecord, blank, entry_at, rows_into, edges_into}
-use Rattle.wot_edge.specs.Plain.{Line, Plain, place_of, row_of, entry_of, told_of, AreRows, AreLines, MayPrecede}
-use Rattle.wot_edge.proofs.Orders.{same_fpr-true, fpr_total, fpr_exact}
-
-pub edge_total : IsTotalOrder edge_cmp
-edge_total = then_total (on_total (λ edge. edge.issuer) fpr_total) (on_total (λ edge. edge.uid) nat_cmp_total)
+use Rattle.wot_edge.specs.Lawful.{AreEntries, AreRows}
+use Rattle.wot_edge.specs.Plain.{Line, Plain, place_of, row_of, entry_of, told_of, AreLines, MayPrecede}
+use Rattle.wot_edge.proofs.Orders.{same_fpr-true, fpr_exact}
+use Rattle.wot_edge.proofs.Recorded.{is_record, no_rows, edge_total}
 
 -- ---- what is told of a fingerprint
 
@@ -62,25 +59,6 @@ told_made plain uid fpr row h = (told_row plain uid fpr row h).3
 
 -- ---- the record is one
 
-all_has : {X : Type 0} (P : X → Type 0) (xs : List X) (x : X) → AllByRecursion P xs → Has xs x → P x
-all_has P [] x all h = absurd h
-all_has P (y ∷ xs) x all (inl e) = subst P (sym e) all.0
-all_has P (y ∷ xs) x all (inr h) = all_has P xs x all.1 h
-
-apart : (x y : EdgeFacts) → edge_cmp x y ≡ Less → x.issuer ≡ y.issuer → x.uid ≡ y.uid → ⊥
-apart x y less e f =
-    let same : edge_cmp x x ≡ edge_cmp x y = λ i. ordering_then (fpr_cmp x.issuer (e i)) (nat_cmp x.uid (f i)) in
-    let tie = tied_itself edge_total x in
-    let clash : Less ≡ Equal = sym less ∙ sym same ∙ tie in cc
-
-sorted_one : (edges : List EdgeFacts) → IsStrictlySortedBy edge_cmp edges → (x y : EdgeFacts) → Has edges x → Has edges y → x.issuer ≡ y.issuer → x.uid ≡ y.uid → x ≡ y
-unfolding IsStrictlySortedBy
-sorted_one [] s x y h k e f = absurd h
-sorted_one (z ∷ edges) s x y (inl h) (inl k) e f = h ∙ sym k
-sorted_one (z ∷ edges) s x y (inl h) (inr k) e f = absurd (apart z y (all_has (λ w. edge_cmp z w ≡ Less) edges y s.0 k) (ap (λ (w : EdgeFacts). w.issuer) (sym h) ∙ e) (ap (λ (w : EdgeFacts). w.uid) (sym h) ∙ f))
-sorted_one (z ∷ edges) s x y (inr h) (inl k) e f = absurd (apart z x (all_has (λ w. edge_cmp z w ≡ Less) edges x s.0 h) (ap (λ (w : EdgeFacts). w.issuer) (sym k) ∙ sym e) (ap (λ (w : EdgeFacts). w.uid) (sym k) ∙ sym f))
-sorted_one (z ∷ edges) s x y (inr h) (inr k) e f = sorted_one edges s.1 x y h k e f
-
 pub line_rows : (lines : List (Fpr × Line)) (fpr : Fpr) (line : Line) → AreLines lines → lookup (is_at (fpr_cmp fpr)) lines ≡ Some line → AreRows fpr line.edges
 line_rows [] fpr line all e = absurd cc
 line_rows (l ∷ lines) fpr line all e = by (λ f. line_rows lines fpr line all.1 f) (same_fpr fpr l.0) refl e
@@ -91,17 +69,12 @@ line_rows (l ∷ lines) fpr line all e = by (λ f. line_rows lines fpr line all.
         subst (λ (x : Line). AreRows fpr x.edges) same (subst (λ (x : Fpr). AreRows x l.1.edges) (sym (same_fpr-true fpr l.0 f)) all.0)
     by ih false f e = ih e
 
+lines_entries : (inside : ℕ) (place : Option ℕ) (lines : List (Fpr × Line)) → AreLines lines → AreEntries (map (λ e. (e.0, entry_of inside place e.1)) lines)
+lines_entries inside place [] all = tt
+lines_entries inside place (l ∷ lines) all = (subst (AreRows l.0) (sym (row_edges inside place l.1.edges)) all.0, lines_entries inside place lines all.1)
+
 pub told_is_record : (plain : Plain) (uid : List ℕ) → AreLines plain.lines → IsRecord (told_of plain uid)
-told_is_record plain uid all = record {
-  into = λ fpr row h. let t = told_row plain uid fpr row h in (line_rows plain.lines fpr t.0 all t.1).into row.edge t.2;
-  one = λ fpr x y h k e f.
-      let t = told_row plain uid fpr x h in
-      let u = told_row plain uid fpr y k in
-      let same : t.0 ≡ u.0 = (let g : Some t.0 ≡ Some u.0 = sym t.1 ∙ u.1 in cc) in
-      let there : Has t.0.edges y.edge = subst (λ (line : Line). Has line.edges y.edge) (sym same) u.2 in
-      let edge : x.edge ≡ y.edge = sorted_one t.0.edges (line_rows plain.lines fpr t.0 all t.1).order x.edge y.edge t.2 there e f in
-      t.3 ∙ ap (row_of plain.inside (place_of uid)) edge ∙ sym u.3;
-}
+told_is_record plain uid all = is_record (told_of plain uid) (lines_entries plain.inside (place_of uid) plain.lines all)
 
 -- ---- rows, checked one by one
 
@@ -116,10 +89,6 @@ rows_before fpr edge (next ∷ rest) m r = record {
   into = λ x h. elim h [ inl e ↦ ap (λ (w : EdgeFacts). w.target) e ∙ m.0 | inr h' ↦ r.into x h' ];
   order = ((m.1, below_all edge next rest m.1 r.order.0), r.order);
 }
-
-pub no_rows : (fpr : Fpr) → AreRows fpr []
-unfolding IsStrictlySortedBy
-no_rows fpr = record { into = λ x h. absurd h; order = tt }
 
 pub lines_put : (lines : List (Fpr × Line)) (fpr : Fpr) (line : Line) → AreLines lines → AreRows fpr line.edges → AreLines (insert_entry fpr_cmp lines fpr line)
 lines_put [] fpr line all r = (r, tt)

@@ -7,4 +7,5 @@ pub mod Answer
 pub mod Capacity
 pub mod Agree
 pub mod Leads
+pub mod Lawful
 pub mod Plain

@@ -2,11 +2,11 @@
 use Rattle.std.specs.Prelude.{◌≡◌, ℕ, ◌&&◌, ◌||◌, not, nat_lt, nat_eq, Bool, true, false, List, [], ◌∷◌, map, Option, Some, None}
 use Rattle.std.specs.declared.cmp.Ordering.TheVariants.{Less}
 use Rattle.std.specs.List.{AllByRecursion}
-use Rattle.std.specs.List.Sorted.{IsStrictlySortedBy}
 use Rattle.wot_types.specs.declared.fpr.Fpr.{Fpr}
 use Rattle.wot_edge.specs.declared.edge.EdgeFacts.{EdgeFacts}
 use Rattle.wot_edge.specs.Order.{edge_cmp}
-use Rattle.wot_edge.specs.Record.{Has, Row, Entry, Record}
+use Rattle.wot_edge.specs.Record.{Row, Entry, Record}
+use Rattle.wot_edge.specs.Lawful.{AreRows}
 
 -- the edges into a certificate, and whether it is in order
 pub record Line : Type 0 where
@@ -40,11 +40,6 @@ entry_of inside place line = record { rows = map (row_of inside place) line.edge
 
 abbrev pub told_of : Plain → List ℕ → Record
 told_of plain uid = map (λ e. (e.0, entry_of plain.inside (place_of uid) e.1)) plain.lines
-
--- the edges are into a fingerprint, in order
-pub record AreRows (fpr : Fpr) (edges : List EdgeFacts) : Type 0 where
-  pub into : (edge : EdgeFacts) → Has edges edge → edge.target ≡ fpr
-  pub order : IsStrictlySortedBy edge_cmp edges
 
 abbrev pub AreLines : List (Fpr × Line) → Type 0
 AreLines lines = AllByRecursion (λ e. AreRows e.0 e.1.edges) lines

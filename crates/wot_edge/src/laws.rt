@@ -2,7 +2,8 @@
 ghost use Rattle.std.specs.Prelude.{◌≡◌, ◌≤◌, ◌*◌, ◌↔◌, ℕ, List, [], length};
 ghost use Rattle.wot_types.specs.declared.fpr.Fpr.{Fpr};
 ghost use Rattle.wot_edge.specs.declared.path.Path.{Path};
-ghost use Rattle.wot_edge.specs.Record.{IsRecord};
+ghost use Rattle.wot_edge.specs.Record.{Record, IsRecord};
+ghost use Rattle.wot_edge.specs.Lawful.{AreEntries};
 ghost use Rattle.wot_edge.specs.Roots.{root_amount};
 ghost use Rattle.wot_edge.specs.Path.{Question, Use, use_of, IsNextPath, IsSpent};
 ghost use Rattle.wot_edge.specs.Answer.{IsAnswer, EachNext, amount_of};
@@ -29,4 +30,9 @@ pub fn paths_fit()
     ensures pairs { (q : Question) (paths : List Path) → EachNext q [] paths → AllFit [] paths }
     ensures roots { (q : Question) (paths : List Path) (fpr : Fpr) → EachNext q [] paths → (use_of paths).root fpr ≤ root_amount q.roots fpr }
     ensures sum { (q : Question) (paths : List Path) → EachNext q [] paths → ((fpr : Fpr) → root_amount q.roots fpr ≤ 255) → amount_of paths ≤ 255 * length q.roots }
+{}
+
+/// Rows into each fingerprint that stand in the order of issuer and user ID are a record.
+pub fn entries_are_record()
+    ensures lawful { (told : Record) → AreEntries told → IsRecord told }
 {}

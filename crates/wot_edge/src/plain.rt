@@ -6,7 +6,8 @@ ghost use Rattle.std.specs.Map.{lookup};
 ghost use Rattle.std.specs.Option.{option_copied};
 ghost use Rattle.wot_types.specs.Fpr.{fpr_cmp};
 ghost use Rattle.wot_edge.specs.Order.{edge_cmp};
-ghost use Rattle.wot_edge.specs.Plain.{AreLines, AreRows, MayPrecede, holds_inside, is_place, told_of, place_of};
+ghost use Rattle.wot_edge.specs.Lawful.{AreRows};
+ghost use Rattle.wot_edge.specs.Plain.{AreLines, MayPrecede, holds_inside, is_place, told_of, place_of};
 
 use crate::maps::{find, put};
 use crate::{Edge, Roads};

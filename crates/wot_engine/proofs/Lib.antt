@@ -1,9 +1,12 @@
 mod CutLines
-mod Spelling
-mod Undoing
-mod Uniting
-mod Steps
+mod Named
 mod Outcomes
+mod Runs
+mod Refusing
+mod Keeping
+mod Short
+mod Steps
 mod Progress
 mod Turns
 pub mod Rules
+mod Anew

@@ -1,19 +1,43 @@
--- Each line and each run has exactly one outcome.
-use Rattle.std.proofs.Common.{◌≡◌, inl, inr, ℕ, Bool, true, false, List, [], ◌∷◌, ◌++◌, length, take, drop, Option, Some, None, refl, sym, ap, subst, ◌∙◌, append_assoc}
-use Rattle.std.proofs.lemmas.List.{take_at, drop_at}
-use Rattle.std.specs.Prelude.{MatchBool, nat_lt}
-use Rattle.std.specs.List.{flat_map}
-use Rattle.wot_engine.specs.State.{State, Certs, start}
-use Rattle.wot_engine.specs.Grammar.{command_of, is_silent, longest}
-use Rattle.wot_engine.specs.Import.{AreKeys, packet, united}
-use Rattle.wot_engine.specs.Reply.{spelled}
-use Rattle.wot_engine.specs.Step.{Step, Spells, Answers, Takes, Only, key_lines_of}
-use Rattle.wot_engine.specs.Transcript.{Run, RepliesTo}
-use Rattle.wot_engine.specs.declared.command.Command.{Command}
-use Rattle.wot_engine.specs.declared.command.Command.TheVariants.{Import, Keys}
-use Rattle.wot_engine.specs.declared.reply.Reply.{Reply}
-use Rattle.wot_engine.specs.declared.reply.Reply.TheVariants as replies
-use Rattle.wot_engine.proofs.Spelling.{keys-or-none}
+-- Each line has exactly one outcome.
+use Rattle.std.proofs.Common.{◌≡◌, ℕ, ◌≤◌, Bool, true, false, cond, List, [], ◌∷◌, length, map, Option, Some, None, Result, Ok, Err, refl, sym, ap, subst, ◌∙◌}
+use Rattle.std.specs.Prelude.{MatchBool, nat_lt, is_some}
+use Rattle.std.specs.List.{AllByRecursion}
+use Rattle.std.specs.Map.{lookup, remove_entry}
+use Rattle.wot_types.specs.declared.fpr.Fpr.{Fpr}
+use Rattle.wot_types.specs.Limits.{standard_limits}
+use Rattle.wot_policy.specs.declared.rows.PolicyRows.{PolicyRows}
+use Rattle.wot_verdict.specs.Verdicts.{Entries, verdict_at}
+use Rattle.wot_verdict.specs.declared.verdict.Verdict.{Verdict}
+use Rattle.wot_verdict.specs.declared.verdict.Verdict.TheVariants as verdicts
+use Rattle.wot_key.specs.Key.{fpr_of}
+use Rattle.wot_cert.specs.Certificate.{Certificate}
+use Rattle.wot_edge.specs.declared.path.Path.{Path}
+use Rattle.wot_edge.specs.Path.{Question}
+use Rattle.wot_edge.specs.Record.{IsRecord}
+use Rattle.wot_edge.specs.Answer.{IsAnswer}
+use Rattle.wot_keyring.specs.declared.import.Imported.{Imported}
+use Rattle.wot_keyring.specs.declared.refusal.Refusal.{Refusal}
+use Rattle.wot_keyring.specs.Keyring.{Certificates, is_fpr}
+use Rattle.wot_keyring.specs.Import.{answer_to, spelled_in}
+use Rattle.wot_keyring.specs.Verdict.{is_over}
+use Rattle.wot_script.specs.declared.command.Command.{Command}
+use Rattle.wot_script.specs.declared.command.Command.TheVariants.{Import, Remove, Good, Bad, Unjudge, Time, Root, Close, Ask, Keys, Export, Dump}
+use Rattle.wot_script.specs.declared.reply.Reply.{Reply}
+use Rattle.wot_script.specs.declared.reply.Reply.TheVariants as replies
+use Rattle.wot_script.specs.Grammar.{command_of}
+use Rattle.wot_script.specs.Replies.{reply_text}
+use Rattle.wot_script.specs.Spelling.{HasSpelling}
+use Rattle.wot_network.specs.Told.{record_of}
+use Rattle.wot_cache.specs.declared.view.View.{View}
+use Rattle.wot_cache.specs.declared.view.ViewFault.{ViewFault}
+use Rattle.wot_cache.specs.Question.{question_in}
+use Rattle.wot_cache.specs.State.{State, IsState, cert_in, judging, is_said}
+use Rattle.wot_cache.specs.Views.{view_at, time_fault, root_fault}
+use Rattle.wot_engine.specs.Lines.{is_silent, longest}
+use Rattle.wot_engine.specs.Outcome.{Outcome, only, imports, remove, judge, unjudge, time, root, close, unless, keys, export, dump, import}
+use Rattle.wot_engine.specs.Answer.{Asks, told}
+use Rattle.wot_engine.specs.Step.{Step, Spells, Answers, Does, Gives}
+use Rattle.wot_engine.proofs.Named.{named_all, named_without}
 
 -- At most one reply and one state.
 abbrev pub IsOne : (R : Type 0) → (R → State → Type 0) → Type 0
@@ -23,45 +47,19 @@ IsOne R P = (r s : R) (m n : State) → P r m → P s n → (r ≡ s) × (m ≡ 
 abbrev pub IsSome : (R : Type 0) → (R → State → Type 0) → Type 0
 IsSome R P = (r : R) × (m : State) × P r m
 
--- ---- at most one
+Gives-one : (outcome : Outcome) → IsOne Reply (Gives outcome)
+Gives-one outcome r s m n p q = (p.0 ∙ sym q.0, p.1 ∙ sym q.1)
 
-Takes-one : (old : State) (count : ℕ) (more : Option (Certs × ℕ)) → IsOne Reply (Takes old count more)
-Takes-one old count None r s m n p q = (p.0 ∙ sym q.0, p.1 ∙ sym q.1)
-Takes-one old count (Some (certs, fresh)) r s m n p q = (p.0 ∙ sym q.0, p.1 ∙ sym q.1)
-
-same-spelling : (bodies others : List (List ℕ)) → flat_map packet bodies ≡ flat_map packet others → bodies ≡ others
-same-spelling [] [] e = refl
-same-spelling [] (y ∷ others) e = let f : [] ≡ packet y ++ flat_map packet others = e in absurd cc
-same-spelling (x ∷ bodies) [] e = let f : packet x ++ flat_map packet bodies ≡ [] = e in absurd cc
-same-spelling (x ∷ bodies) (y ∷ others) e =
-    let f : 198 ∷ length x ∷ (x ++ flat_map packet bodies) ≡ 198 ∷ length y ∷ (y ++ flat_map packet others) = e in
-    let n : length x ≡ length y = cc in
-    let rest : x ++ flat_map packet bodies ≡ y ++ flat_map packet others = cc in
-    let front : x ≡ y = sym (take_at x (flat_map packet bodies) (length y) n) ∙ ap (take (length y)) rest ∙ take_at y (flat_map packet others) (length y) refl in
-    let back : flat_map packet bodies ≡ flat_map packet others = sym (drop_at x (flat_map packet bodies) (length y) n) ∙ ap (drop (length y)) rest ∙ drop_at y (flat_map packet others) (length y) refl in
-    ap (λ (z : List ℕ). z ∷ bodies) front ∙ ap (λ (zs : List (List ℕ)). y ∷ zs) (same-spelling bodies others back)
-
-keys-one : (octets : List ℕ) (bodies others : List (List ℕ)) → AreKeys octets bodies → AreKeys octets others → bodies ≡ others
-keys-one octets bodies others a b = same-spelling bodies others (sym a.spelled ∙ b.spelled)
-
-Answers-one : (old : State) (command : Option Command) → IsOne Reply (Answers old command)
-Answers-one old None r s m n p q = (p.0 ∙ sym q.0, p.1 ∙ sym q.1)
-Answers-one old (Some Keys) r s m n p q = (p.0 ∙ sym q.0, p.1 ∙ sym q.1)
-Answers-one old (Some (Import octets)) r s m n (inl p) (inl q) =
-    let e : q.0 ≡ p.0 = keys-one octets q.0 p.0 q.1 p.1 in
-    let q' : Takes old (length p.0) (united old.certs p.0) s n = subst (λ (b : List (List ℕ)). Takes old (length b) (united old.certs b) s n) e q.2 in
-    Takes-one old (length p.0) (united old.certs p.0) r s m n p.2 q'
-Answers-one old (Some (Import octets)) r s m n (inl p) (inr q) = absurd (q.0 p.0 p.1)
-Answers-one old (Some (Import octets)) r s m n (inr p) (inl q) = absurd (p.0 q.0 q.1)
-Answers-one old (Some (Import octets)) r s m n (inr p) (inr q) = (p.1.0 ∙ sym q.1.0, p.1.1 ∙ sym q.1.1)
-
-Only-one : (old : State) (told : Reply) → IsOne Reply (Only old told)
-Only-one old told r s m n p q = (p.0 ∙ sym q.0, p.1 ∙ sym q.1)
+Gives-some : (outcome : Outcome) → IsSome Reply (Gives outcome)
+Gives-some outcome = (outcome.reply, outcome.state, (refl, refl))
 
 Spells-one : (P : Reply → State → Type 0) → IsOne Reply P → IsOne (List ℕ) (Spells P)
 Spells-one P one r s m n p q =
     let both = one p.reply q.reply m n p.does q.does in
-    (p.octets_are ∙ ap spelled both.0 ∙ sym q.octets_are, both.1)
+    (p.octets_are ∙ ap reply_text both.0 ∙ sym q.octets_are, both.1)
+
+Spells-some : (P : Reply → State → Type 0) → IsSome Reply P → IsSome (List ℕ) (Spells P)
+Spells-some P some = (reply_text some.0, some.1, record { reply = some.0; does = some.2; octets_are = refl })
 
 silent-one : (old : State) → IsOne (List ℕ) (λ r m. (r ≡ []) × (m ≡ old))
 silent-one old r s m n p q = (p.0 ∙ sym q.0, p.1 ∙ sym q.1)
@@ -70,76 +68,137 @@ MatchBool-one : (b : Bool) (P Q : List ℕ → State → Type 0) → IsOne (List
 MatchBool-one true P Q p q = p
 MatchBool-one false P Q p q = q
 
-pub Step-one : (old : State) (line : List ℕ) → IsOne (List ℕ) (Step old line)
-Step-one old line =
-    MatchBool-one (nat_lt longest (length line)) (Spells (Only old replies.Long)) (λ r m. MatchBool (is_silent line) ((r ≡ []) × (m ≡ old)) (Spells (Answers old (command_of line)) r m))
-    (Spells-one (Only old replies.Long) (Only-one old replies.Long))
-    (MatchBool-one (is_silent line) (λ r m. (r ≡ []) × (m ≡ old)) (Spells (Answers old (command_of line))) (silent-one old) (Spells-one (Answers old (command_of line)) (Answers-one old (command_of line))))
-
-pub Run-one : (lines : List (List ℕ)) (old : State) → IsOne (List ℕ) (λ r m. Run old lines r m)
-Run-one [] old r s m n p q = (p.0 ∙ sym q.0, p.1 ∙ sym q.1)
-Run-one (line ∷ lines) old r s m n p q =
-    let first = Step-one old line p.0 q.0 p.1 q.1 p.3 q.3 in
-    let q' : Run p.1 lines q.2 n = subst (λ (c : State). Run c lines q.2 n) (sym first.1) q.4 in
-    let others = Run-one lines p.1 p.2 q.2 m n p.4 q' in
-    (p.5 ∙ ap (λ (x : List ℕ). x ++ p.2) first.0 ∙ ap (λ (x : List ℕ). q.0 ++ x) others.0 ∙ sym q.5, others.1)
-
-pub RepliesTo-one : (lines : List (List ℕ)) (replies others : List ℕ) → RepliesTo lines replies → RepliesTo lines others → replies ≡ others
-RepliesTo-one lines replies others p q = (Run-one lines start replies others p.last q.last p.run q.run).0
-
--- ---- some
-
-Takes-some : (old : State) (count : ℕ) (more : Option (Certs × ℕ)) → IsSome Reply (Takes old count more)
-Takes-some old count None = (replies.Clash, old, (refl, refl))
-Takes-some old count (Some (certs, fresh)) = (replies.Taken count 0 fresh, record old { certs = certs }, (refl, refl))
-
-Answers-some : (old : State) (command : Option Command) → IsSome Reply (Answers old command)
-Answers-some old None = (replies.Line, old, (refl, refl))
-Answers-some old (Some Keys) = (replies.Keys (length old.certs) (key_lines_of old.certs), old, (refl, refl))
-Answers-some old (Some (Import octets)) =
-    elim (keys-or-none octets) [
-      | inl keys ↦
-          let takes = Takes-some old (length keys.0) (united old.certs keys.0) in
-          (takes.0, takes.1, inl (keys.0, keys.1, takes.2))
-      | inr none ↦ (replies.Form, old, inr (none, (refl, refl)))
-    ]
-
-Spells-some : (P : Reply → State → Type 0) → IsSome Reply P → IsSome (List ℕ) (Spells P)
-Spells-some P some = (spelled some.0, some.1, record { reply = some.0; does = some.2; octets_are = refl })
-
 MatchBool-some : (b : Bool) (P Q : List ℕ → State → Type 0) → IsSome (List ℕ) P → IsSome (List ℕ) Q → IsSome (List ℕ) (λ r m. MatchBool b (P r m) (Q r m))
 MatchBool-some true P Q p q = p
 MatchBool-some false P Q p q = q
 
-pub Step-some : (old : State) (line : List ℕ) → IsSome (List ℕ) (Step old line)
-Step-some old line =
-    MatchBool-some (nat_lt longest (length line)) (Spells (Only old replies.Long)) (λ r m. MatchBool (is_silent line) ((r ≡ []) × (m ≡ old)) (Spells (Answers old (command_of line)) r m))
-    (Spells-some (Only old replies.Long) (replies.Long, old, (refl, refl)))
-    (MatchBool-some (is_silent line) (λ r m. (r ≡ []) × (m ≡ old)) (Spells (Answers old (command_of line))) ([], old, (refl, refl)) (Spells-some (Answers old (command_of line)) (Answers-some old (command_of line))))
+-- ---- states that can be
 
-pub Run-some : (lines : List (List ℕ)) (old : State) → IsSome (List ℕ) (λ r m. Run old lines r m)
-Run-some [] old = ([], old, (refl, refl))
-Run-some (line ∷ lines) old =
-    let first = Step-some old line in
-    let others = Run-some lines first.1 in
-    (first.0 ++ others.0, others.1, (first.0, first.1, others.0, first.2, others.2, refl))
+IsState-gives : (outcome : Outcome) (r : Reply) (m : State) → IsState outcome.state → Gives outcome r m → IsState m
+IsState-gives outcome r m s p = subst IsState (sym p.1) s
 
-pub RepliesTo-some : (lines : List (List ℕ)) → (replies : List ℕ) × RepliesTo lines replies
-RepliesTo-some lines = let all = Run-some lines start in (all.0, record { last = all.1; run = all.2 })
+either : (b : Bool) (a c : Outcome) → IsState a.state → IsState c.state → IsState (cond b a c).state
+either true a c s t = s
+either false a c s t = t
 
--- ---- fronts
+unless-state : (s new : State) (fault : Option ViewFault) → IsState s → IsState new → IsState (unless s fault new).state
+unless-state s new None p q = q
+unless-state s new (Some fault) p q = p
 
--- the replies to first lines are a front
-pub Run-front : (lines more : List (List ℕ)) (old : State) (r : List ℕ) (m : State) → Run old (lines ++ more) r m → (s : List ℕ) × (n : State) × (t : List ℕ) × Run old lines s n × (r ≡ s ++ t)
-Run-front [] more old r m p = ([], old, r, (refl, refl), refl)
-Run-front (line ∷ lines) more old r m p =
-    let q = Run-front lines more p.1 p.2 m p.4 in
-    (p.0 ++ q.0, q.1, q.2, (p.0, p.1, q.0, p.3, q.3, refl), p.5 ∙ ap (λ (x : List ℕ). p.0 ++ x) q.4 ∙ sym (append_assoc p.0 q.0 q.2))
+imports-state : (rows : PolicyRows) (s : State) (octets : List ℕ) (answer : Result Imported Refusal) → IsState s → IsState (imports rows s octets answer).state
+imports-state rows s octets (Ok counts) p = named_all rows s.certs (spelled_in octets) p
+imports-state rows s octets (Err fault) p = p
 
--- one run after another
-pub Run-append : (lines more : List (List ℕ)) (old mid new : State) (r s : List ℕ) → Run old lines r mid → Run mid more s new → Run old (lines ++ more) (r ++ s) new
-Run-append [] more old mid new r s p q =
-    let e : s ≡ r ++ s = sym (ap (λ (x : List ℕ). x ++ s) p.0) in
-    subst (λ (x : List ℕ). Run old more x new) e (subst (λ (x : State). Run x more s new) p.1 q)
-Run-append (line ∷ lines) more old mid new r s p q =
-    (p.0, p.1, p.2 ++ s, p.3, Run-append lines more p.1 mid new p.2 s p.4 q, ap (λ (x : List ℕ). x ++ s) p.5 ∙ append_assoc p.0 p.2 s)
+judging-state : (s : State) (number : Rattle.wot_types.specs.declared.number.SigNumber.SigNumber) (v : Verdict) → IsState s → IsState (judging number v s)
+judging-state s number v p = by (is_said s.verdicts number v)
+  where
+    by : (b : Bool) → IsState (cond b s (record s { verdicts = Rattle.wot_verdict.specs.Verdicts.with_verdict s.verdicts number v }))
+    by true = p
+    by false = p
+
+judge-state : (s : State) (number : Rattle.wot_types.specs.declared.number.SigNumber.SigNumber) (v : Verdict) (r : Reply) (m : State) → IsState s → Gives (judge s number v) r m → IsState m
+judge-state s number v r m p g =
+    IsState-gives (judge s number v) r m (either (is_over standard_limits s.verdicts number) (only s (replies.Full Rattle.wot_types.specs.declared.limits.Limit.TheVariants.Verdicts)) (record { reply = replies.Done; state = judging number v s }) p (judging-state s number v p)) g
+
+Does-stays : (rows : PolicyRows) (old : State) (command : Command) (r : Reply) (m : State) → IsState old → Does rows old command r m → IsState m
+Does-stays rows old (Import octets) r m p g = IsState-gives (import rows old octets) r m (imports-state rows old octets (answer_to rows standard_limits old.certs octets) p) g
+Does-stays rows old (Remove fpr) r m p g =
+    IsState-gives (remove old fpr) r m (either (is_some (cert_in old fpr)) (record { reply = replies.Done; state = record old { certs = remove_entry (is_fpr fpr) old.certs } }) (only old replies.Absent) (named_without (is_fpr fpr) old.certs p) p) g
+Does-stays rows old (Good number fpr) r m p g = judge-state old number (verdicts.Good fpr) r m p g
+Does-stays rows old (Bad number) r m p g = judge-state old number verdicts.Bad r m p g
+Does-stays rows old (Unjudge number) r m p g = IsState-gives (unjudge old number) r m (either (is_some (verdict_at old.verdicts number)) (record { reply = replies.Done; state = record old { verdicts = Rattle.wot_verdict.specs.Verdicts.without_verdict old.verdicts number } }) (only old replies.Absent) p p) g
+Does-stays rows old (Time view t) r m p g = IsState-gives (time old view t) r m (unless-state old (record old { views = Rattle.wot_cache.specs.Views.with_time old.views view t }) (time_fault standard_limits old.views view) p p) g
+Does-stays rows old (Root view fpr amount) r m p g = IsState-gives (root old view fpr amount) r m (unless-state old (record old { views = Rattle.wot_cache.specs.Views.with_root old.views view fpr amount }) (root_fault standard_limits (view_at old.views view) fpr amount) p p) g
+Does-stays rows old (Close view) r m p g = IsState-gives (close old view) r m (either (is_some (view_at old.views view)) (record { reply = replies.Done; state = record old { views = Rattle.wot_cache.specs.Views.without_view old.views view } }) (only old replies.View) p p) g
+Does-stays rows old (Ask view target wanted uid) r m p g = subst IsState (sym g.1) p
+Does-stays rows old Keys r m p g = IsState-gives (keys old) r m p g
+Does-stays rows old (Export fpr) r m p g = IsState-gives (export old fpr) r m p g
+Does-stays rows old Dump r m p g = IsState-gives (dump old) r m p g
+
+Answers-stays : (rows : PolicyRows) (old : State) (command : Option Command) (r : Reply) (m : State) → IsState old → Answers rows old command r m → IsState m
+Answers-stays rows old None r m p g = IsState-gives (only old replies.Line) r m p g
+Answers-stays rows old (Some command) r m p g = Does-stays rows old command r m p g
+
+pub Step-stays : (rows : PolicyRows) (old : State) (line reply : List ℕ) (new : State) → IsState old → Step rows old line reply new → IsState new
+Step-stays rows old line reply new p = long (nat_lt longest (length line))
+  where
+    silent : (b : Bool) → MatchBool b ((reply ≡ []) × (new ≡ old)) (Spells (Answers rows old (command_of line)) reply new) → IsState new
+    silent true g = subst IsState (sym g.1) p
+    silent false g = Answers-stays rows old (command_of line) g.reply new p g.does
+    long : (b : Bool) → MatchBool b (Spells (Gives (only old replies.Long)) reply new) (MatchBool (is_silent line) ((reply ≡ []) × (new ≡ old)) (Spells (Answers rows old (command_of line)) reply new)) → IsState new
+    long true g = IsState-gives (only old replies.Long) g.reply new p g.does
+    long false g = silent (is_silent line) g
+
+-- ---- questions
+
+module _
+  (answer_some : (q : Question) (wanted : ℕ) → 1 ≤ wanted → (paths : List Path) × IsAnswer q wanted paths)
+  (answer_one : (q : Question) (wanted : ℕ) (a b : List Path) → IsRecord q.told → IsAnswer q wanted a → IsAnswer q wanted b → a ≡ b)
+  (lawful : (certs : Certificates) (entries : Entries) (t : ℕ) (u : List ℕ) → AllByRecursion (λ (e : Fpr × Certificate). e.0 ≡ fpr_of e.1.key) certs → IsRecord (record_of certs entries t u))
+  (wants : (line : List ℕ) (command : Command) → command_of line ≡ Some command → HasSpelling command)
+  (rows : PolicyRows)
+  where
+  Asks-one : (old : State) (view : Option View) (target : Fpr) (wanted : ℕ) (uid : List ℕ) (r s : Reply) → IsState old → Asks old view target wanted uid r → Asks old view target wanted uid s → r ≡ s
+  Asks-one old None target wanted uid r s p a b = a ∙ sym b
+  Asks-one old (Some view) target wanted uid r s p a b =
+      let same = answer_one (question_in old view target uid) wanted a.0 b.0 (lawful old.certs old.verdicts view.time uid p) a.1 b.1 in
+      a.2 ∙ ap (told old) same ∙ sym b.2
+
+  Asks-some : (old : State) (view : Option View) (target : Fpr) (wanted : ℕ) (uid : List ℕ) → 1 ≤ wanted → (r : Reply) × Asks old view target wanted uid r
+  Asks-some old None target wanted uid h = (replies.View, refl)
+  Asks-some old (Some view) target wanted uid h =
+      let paths = answer_some (question_in old view target uid) wanted h in
+      (told old paths.0, (paths.0, paths.1, refl))
+
+  Does-one : (old : State) (command : Command) → IsState old → IsOne Reply (Does rows old command)
+  Does-one old (Import octets) p = Gives-one (import rows old octets)
+  Does-one old (Remove fpr) p = Gives-one (remove old fpr)
+  Does-one old (Good number fpr) p = Gives-one (judge old number (verdicts.Good fpr))
+  Does-one old (Bad number) p = Gives-one (judge old number verdicts.Bad)
+  Does-one old (Unjudge number) p = Gives-one (unjudge old number)
+  Does-one old (Time view t) p = Gives-one (time old view t)
+  Does-one old (Root view fpr amount) p = Gives-one (root old view fpr amount)
+  Does-one old (Close view) p = Gives-one (close old view)
+  Does-one old (Ask view target wanted uid) p = λ r s m n a b. (Asks-one old (view_at old.views view) target wanted uid r s p a.0 b.0, a.1 ∙ sym b.1)
+  Does-one old Keys p = Gives-one (keys old)
+  Does-one old (Export fpr) p = Gives-one (export old fpr)
+  Does-one old Dump p = Gives-one (dump old)
+
+  Does-some : (old : State) (command : Command) → HasSpelling command → IsSome Reply (Does rows old command)
+  Does-some old (Import octets) h = Gives-some (import rows old octets)
+  Does-some old (Remove fpr) h = Gives-some (remove old fpr)
+  Does-some old (Good number fpr) h = Gives-some (judge old number (verdicts.Good fpr))
+  Does-some old (Bad number) h = Gives-some (judge old number verdicts.Bad)
+  Does-some old (Unjudge number) h = Gives-some (unjudge old number)
+  Does-some old (Time view t) h = Gives-some (time old view t)
+  Does-some old (Root view fpr amount) h = Gives-some (root old view fpr amount)
+  Does-some old (Close view) h = Gives-some (close old view)
+  Does-some old (Ask view target wanted uid) h =
+      let asks = Asks-some old (view_at old.views view) target wanted uid h in
+      (asks.0, old, (asks.1, refl))
+  Does-some old Keys h = Gives-some (keys old)
+  Does-some old (Export fpr) h = Gives-some (export old fpr)
+  Does-some old Dump h = Gives-some (dump old)
+
+  Answers-one : (old : State) (command : Option Command) → IsState old → IsOne Reply (Answers rows old command)
+  Answers-one old None p = Gives-one (only old replies.Line)
+  Answers-one old (Some command) p = Does-one old command p
+
+  Answers-some : (old : State) (line : List ℕ) → IsSome Reply (Answers rows old (command_of line))
+  Answers-some old line = by (command_of line) refl
+    where
+      by : (command : Option Command) → command_of line ≡ command → IsSome Reply (Answers rows old command)
+      by None e = Gives-some (only old replies.Line)
+      by (Some command) e = Does-some old command (wants line command e)
+
+  pub Step-one : (old : State) (line : List ℕ) → IsState old → IsOne (List ℕ) (Step rows old line)
+  Step-one old line p =
+      MatchBool-one (nat_lt longest (length line)) (Spells (Gives (only old replies.Long))) (λ r m. MatchBool (is_silent line) ((r ≡ []) × (m ≡ old)) (Spells (Answers rows old (command_of line)) r m))
+      (Spells-one (Gives (only old replies.Long)) (Gives-one (only old replies.Long)))
+      (MatchBool-one (is_silent line) (λ r m. (r ≡ []) × (m ≡ old)) (Spells (Answers rows old (command_of line))) (silent-one old) (Spells-one (Answers rows old (command_of line)) (Answers-one old (command_of line) p)))
+
+  pub Step-some : (old : State) (line : List ℕ) → IsSome (List ℕ) (Step rows old line)
+  Step-some old line =
+      MatchBool-some (nat_lt longest (length line)) (Spells (Gives (only old replies.Long))) (λ r m. MatchBool (is_silent line) ((r ≡ []) × (m ≡ old)) (Spells (Answers rows old (command_of line)) r m))
+      (Spells-some (Gives (only old replies.Long)) (Gives-some (only old replies.Long)))
+      (MatchBool-some (is_silent line) (λ r m. (r ≡ []) × (m ≡ old)) (Spells (Answers rows old (command_of line))) ([], old, (refl, refl)) (Spells-some (Answers rows old (command_of line)) (Answers-some old line)))

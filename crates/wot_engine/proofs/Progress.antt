@@ -4,209 +4,212 @@ use Rattle.std.proofs.lemmas.List.{append-nil, take_at, take-append-le, append_c
 use Rattle.std.proofs.Math.Seq.{take-append-add}
 use Rattle.wot_io.specs.Input.{lines_of, whole_lines_of, HasNoFeed}
 use Rattle.wot_io.specs.Fill.{GivesOf, StopsOf}
-use Rattle.wot_engine.specs.State.{State, start}
+use Rattle.wot_cache.specs.State.{State, start}
+use Rattle.wot_engine.specs.Law.{OneOutcome}
 use Rattle.wot_engine.specs.Step.{Step}
 use Rattle.wot_engine.specs.Transcript.{Run, RepliesTo, Answered, Begun, AnsweredWhole, AnsweredMost}
-use Rattle.wot_engine.proofs.Outcomes.{Run-some, Run-append}
+use Rattle.wot_engine.proofs.Runs.{Run-some, Run-append}
 use Rattle.wot_engine.proofs.CutLines.{lines_of-feed, whole_lines_of-feed, whole_lines_of-none, lines_of-last}
+use Rattle.wot_policy.specs.declared.rows.PolicyRows.{PolicyRows}
 
--- whatever follows these octets, these are the lines in front
-pub record IsFront (gone : List ℕ) (done : List (List ℕ)) : Type 0 where
-  pub lines : (x : List ℕ) → lines_of (gone ++ x) ≡ done ++ lines_of x
-  pub whole : (x : List ℕ) → whole_lines_of (gone ++ x) ≡ done ++ whole_lines_of x
+module _ (rows : PolicyRows) where
+  -- whatever follows these octets, these are the lines in front
+  pub record IsFront (gone : List ℕ) (done : List (List ℕ)) : Type 0 where
+    pub lines : (x : List ℕ) → lines_of (gone ++ x) ≡ done ++ lines_of x
+    pub whole : (x : List ℕ) → whole_lines_of (gone ++ x) ≡ done ++ whole_lines_of x
 
--- the lines were given, and their replies were written
-pub record Stands (input before held : List ℕ) (taken : ℕ) (left written : Option (List ℕ)) (state : State) : Type 0 where
-  pub gone : List ℕ
-  pub rest : List ℕ
-  pub done : List (List ℕ)
-  pub replies : List ℕ
-  pub left_is : left ≡ Some rest
-  pub count : taken + length rest ≡ length input
-  pub parts : input ≡ gone ++ (held ++ rest)
-  pub run : Run start done replies state
-  pub written_is : written ≡ Some (before ++ replies)
-  pub lines : IsFront gone done ⊎ ((taken < 2 ^ 30) × (held ++ rest ≡ []) × (lines_of input ≡ done))
+  -- the lines were given, and their replies were written
+  pub record Stands (input before held : List ℕ) (taken : ℕ) (left written : Option (List ℕ)) (state : State) : Type 0 where
+    pub gone : List ℕ
+    pub rest : List ℕ
+    pub done : List (List ℕ)
+    pub replies : List ℕ
+    pub left_is : left ≡ Some rest
+    pub count : taken + length rest ≡ length input
+    pub parts : input ≡ gone ++ (held ++ rest)
+    pub run : Run rows start done replies state
+    pub written_is : written ≡ Some (before ++ replies)
+    pub lines : IsFront gone done ⊎ ((taken < 2 ^ 30) × (held ++ rest ≡ []) × (lines_of input ≡ done))
 
-pub starts : (input before : List ℕ) (left written : Option (List ℕ)) → left ≡ Some input → written ≡ Some before → Stands input before [] 0 left written start
-starts input before left written e f = record {
-  gone = [];
-  rest = input;
-  done = [];
-  replies = [];
-  left_is = e;
-  count = omega arith;
-  parts = refl;
-  run = (refl, refl);
-  written_is = f ∙ ap (λ (x : List ℕ). Some x) (sym (append-nil before));
-  lines = inl (record { lines = λ x. refl; whole = λ x. refl });
-}
+  pub starts : (input before : List ℕ) (left written : Option (List ℕ)) → left ≡ Some input → written ≡ Some before → Stands input before [] 0 left written start
+  starts input before left written e f = record {
+    gone = [];
+    rest = input;
+    done = [];
+    replies = [];
+    left_is = e;
+    count = omega arith;
+    parts = refl;
+    run = (refl, refl);
+    written_is = f ∙ ap (λ (x : List ℕ). Some x) (sym (append-nil before));
+    lines = inl (record { lines = λ x. refl; whole = λ x. refl });
+  }
 
-Run-push : (lines : List (List ℕ)) (line replies reply : List ℕ) (old mid new : State) → Run old lines replies mid → Step mid line reply new → Run old (lines ++ line ∷ []) (replies ++ reply) new
-Run-push [] line replies reply old mid new r s =
-    let s' : Step old line reply new = rw r.1 at s in
-    (reply, new, [], s', (refl, refl), rw r.0 (sym (append-nil reply)))
-Run-push (first ∷ lines) line replies reply old mid new r s =
-    (r.0, r.1, r.2 ++ reply, r.3, Run-push lines line r.2 reply r.1 mid new r.4 s, rw r.5 (append_assoc r.0 r.2 reply))
+  Run-push : (lines : List (List ℕ)) (line replies reply : List ℕ) (old mid new : State) → Run rows old lines replies mid → Step rows mid line reply new → Run rows old (lines ++ line ∷ []) (replies ++ reply) new
+  Run-push [] line replies reply old mid new r s =
+      let s' : Step rows old line reply new = rw r.1 at s in
+      (reply, new, [], s', (refl, refl), rw r.0 (sym (append-nil reply)))
+  Run-push (first ∷ lines) line replies reply old mid new r s =
+      (r.0, r.1, r.2 ++ reply, r.3, Run-push lines line r.2 reply r.1 mid new r.4 s, rw r.5 (append_assoc r.0 r.2 reply))
 
-IsFront-push : (gone : List ℕ) (done : List (List ℕ)) (line : List ℕ) → HasNoFeed line → IsFront gone done → IsFront (gone ++ (line ++ 10 ∷ [])) (done ++ line ∷ [])
-IsFront-push gone done line h f = record {
-  lines = λ x. ap lines_of (regroup gone line x) ∙ f.lines (line ++ 10 ∷ x) ∙ ap (λ (ls : List (List ℕ)). done ++ ls) (lines_of-feed line x h) ∙ sym (append_assoc done (line ∷ []) (lines_of x));
-  whole = λ x. ap whole_lines_of (regroup gone line x) ∙ f.whole (line ++ 10 ∷ x) ∙ ap (λ (ls : List (List ℕ)). done ++ ls) (whole_lines_of-feed line x h) ∙ sym (append_assoc done (line ∷ []) (whole_lines_of x));
-}
-  where
-    regroup : (gone line x : List ℕ) → (gone ++ (line ++ 10 ∷ [])) ++ x ≡ gone ++ (line ++ 10 ∷ x)
-    regroup gone line x = simp append_assoc
+  IsFront-push : (gone : List ℕ) (done : List (List ℕ)) (line : List ℕ) → HasNoFeed line → IsFront gone done → IsFront (gone ++ (line ++ 10 ∷ [])) (done ++ line ∷ [])
+  IsFront-push gone done line h f = record {
+    lines = λ x. ap lines_of (regroup gone line x) ∙ f.lines (line ++ 10 ∷ x) ∙ ap (λ (ls : List (List ℕ)). done ++ ls) (lines_of-feed line x h) ∙ sym (append_assoc done (line ∷ []) (lines_of x));
+    whole = λ x. ap whole_lines_of (regroup gone line x) ∙ f.whole (line ++ 10 ∷ x) ∙ ap (λ (ls : List (List ℕ)). done ++ ls) (whole_lines_of-feed line x h) ∙ sym (append_assoc done (line ∷ []) (whole_lines_of x));
+  }
+    where
+      regroup : (gone line x : List ℕ) → (gone ++ (line ++ 10 ∷ [])) ++ x ≡ gone ++ (line ++ 10 ∷ x)
+      regroup gone line x = simp append_assoc
 
-nil-feed : (line rest : List ℕ) → [] ≡ line ++ 10 ∷ rest → ⊥
-nil-feed [] rest e = cc
-nil-feed (x ∷ line) rest e = cc
+  nil-feed : (line rest : List ℕ) → [] ≡ line ++ 10 ∷ rest → ⊥
+  nil-feed [] rest e = cc
+  nil-feed (x ∷ line) rest e = cc
 
-nil-both : (xs ys : List ℕ) → xs ++ ys ≡ [] → (xs ≡ []) × (ys ≡ [])
-nil-both [] ys e = (refl, e)
-nil-both (x ∷ xs) ys e = absurd cc
+  nil-both : (xs ys : List ℕ) → xs ++ ys ≡ [] → (xs ≡ []) × (ys ≡ [])
+  nil-both [] ys e = (refl, e)
+  nil-both (x ∷ xs) ys e = absurd cc
 
--- one line on
-pub goes_on : (input before held : List ℕ) (taken : ℕ) (left written : Option (List ℕ)) (state : State) (held' : List ℕ) (taken' : ℕ) (left' written' : Option (List ℕ)) (state' : State) (line reply : List ℕ)
-    → (s : Stands input before held taken left written state) → GivesOf held s.rest taken held' left' taken' line → Step state line reply state' → written' ≡ Some ((before ++ s.replies) ++ reply)
-    → Stands input before held' taken' left' written' state'
-goes_on input before held taken left written state held' taken' left' written' state' line reply s g step w =
-    elim s.lines [
-      | inl front ↦ elim g.cuts.parts [
-        | inl feed ↦ record {
-          gone = s.gone ++ (line ++ 10 ∷ []);
-          rest = g.rest;
-          done = s.done ++ line ∷ [];
-          replies = s.replies ++ reply;
-          left_is = g.left_is;
-          count = omega (arith, g.count, s.count);
-          parts = s.parts ∙ ap (λ (x : List ℕ). s.gone ++ x) feed ∙ regroup s.gone line (held' ++ g.rest);
-          run = Run-push s.done line s.replies reply start state state' s.run step;
-          written_is = w ∙ ap (λ (x : List ℕ). Some x) (append_assoc before s.replies reply);
-          lines = inl (IsFront-push s.gone s.done line g.cuts.no_feed front);
-        }
-        | inr last ↦ record {
-          gone = s.gone ++ line;
-          rest = g.rest;
-          done = s.done ++ line ∷ [];
-          replies = s.replies ++ reply;
-          left_is = g.left_is;
-          count = omega (arith, g.count, s.count);
-          parts = s.parts ∙ ap (λ (x : List ℕ). s.gone ++ x) last.1 ∙ sym (ap (λ (x : List ℕ). (s.gone ++ line) ++ x) last.2 ∙ append-nil (s.gone ++ line));
-          run = Run-push s.done line s.replies reply start state state' s.run step;
-          written_is = w ∙ ap (λ (x : List ℕ). Some x) (append_assoc before s.replies reply);
-          lines = inr (last.0, last.2, ap lines_of (s.parts ∙ ap (λ (x : List ℕ). s.gone ++ x) last.1) ∙ front.lines line ∙ ap (λ (ls : List (List ℕ)). s.done ++ ls) (lines_of-last line last.3 g.cuts.no_feed));
-        }
+  -- one line on
+  pub goes_on : (input before held : List ℕ) (taken : ℕ) (left written : Option (List ℕ)) (state : State) (held' : List ℕ) (taken' : ℕ) (left' written' : Option (List ℕ)) (state' : State) (line reply : List ℕ)
+      → (s : Stands input before held taken left written state) → GivesOf held s.rest taken held' left' taken' line → Step rows state line reply state' → written' ≡ Some ((before ++ s.replies) ++ reply)
+      → Stands input before held' taken' left' written' state'
+  goes_on input before held taken left written state held' taken' left' written' state' line reply s g step w =
+      elim s.lines [
+        | inl front ↦ elim g.cuts.parts [
+          | inl feed ↦ record {
+            gone = s.gone ++ (line ++ 10 ∷ []);
+            rest = g.rest;
+            done = s.done ++ line ∷ [];
+            replies = s.replies ++ reply;
+            left_is = g.left_is;
+            count = omega (arith, g.count, s.count);
+            parts = s.parts ∙ ap (λ (x : List ℕ). s.gone ++ x) feed ∙ regroup s.gone line (held' ++ g.rest);
+            run = Run-push s.done line s.replies reply start state state' s.run step;
+            written_is = w ∙ ap (λ (x : List ℕ). Some x) (append_assoc before s.replies reply);
+            lines = inl (IsFront-push s.gone s.done line g.cuts.no_feed front);
+          }
+          | inr last ↦ record {
+            gone = s.gone ++ line;
+            rest = g.rest;
+            done = s.done ++ line ∷ [];
+            replies = s.replies ++ reply;
+            left_is = g.left_is;
+            count = omega (arith, g.count, s.count);
+            parts = s.parts ∙ ap (λ (x : List ℕ). s.gone ++ x) last.1 ∙ sym (ap (λ (x : List ℕ). (s.gone ++ line) ++ x) last.2 ∙ append-nil (s.gone ++ line));
+            run = Run-push s.done line s.replies reply start state state' s.run step;
+            written_is = w ∙ ap (λ (x : List ℕ). Some x) (append_assoc before s.replies reply);
+            lines = inr (last.0, last.2, ap lines_of (s.parts ∙ ap (λ (x : List ℕ). s.gone ++ x) last.1) ∙ front.lines line ∙ ap (λ (ls : List (List ℕ)). s.done ++ ls) (lines_of-last line last.3 g.cuts.no_feed));
+          }
+        ]
+        | inr ended ↦ elim g.cuts.parts [
+          | inl feed ↦ absurd (nil-feed line (held' ++ g.rest) (sym ended.1 ∙ feed))
+          | inr last ↦ absurd (last.3 (sym last.1 ∙ ended.1))
+        ]
       ]
-      | inr ended ↦ elim g.cuts.parts [
-        | inl feed ↦ absurd (nil-feed line (held' ++ g.rest) (sym ended.1 ∙ feed))
-        | inr last ↦ absurd (last.3 (sym last.1 ∙ ended.1))
+    where
+      regroup : (gone line x : List ℕ) → gone ++ (line ++ 10 ∷ x) ≡ (gone ++ (line ++ 10 ∷ [])) ++ x
+      regroup gone line x = simp append_assoc
+
+  -- the lines given are first ones of all
+  pub begins : (input before held : List ℕ) (taken : ℕ) (left written : Option (List ℕ)) (state : State) → (s : Stands input before held taken left written state) → (more : List (List ℕ)) × (lines_of input ≡ s.done ++ more)
+  begins input before held taken left written state s =
+      elim s.lines [
+        | inl front ↦ (lines_of (held ++ s.rest), ap lines_of s.parts ∙ front.lines (held ++ s.rest))
+        | inr ended ↦ ([], ended.2 ∙ sym (append-nil s.done))
       ]
-    ]
-  where
-    regroup : (gone line x : List ℕ) → gone ++ (line ++ 10 ∷ x) ≡ (gone ++ (line ++ 10 ∷ [])) ++ x
-    regroup gone line x = simp append_assoc
 
--- the lines given are first ones of all
-pub begins : (input before held : List ℕ) (taken : ℕ) (left written : Option (List ℕ)) (state : State) → (s : Stands input before held taken left written state) → (more : List (List ℕ)) × (lines_of input ≡ s.done ++ more)
-begins input before held taken left written state s =
-    elim s.lines [
-      | inl front ↦ (lines_of (held ++ s.rest), ap lines_of s.parts ∙ front.lines (held ++ s.rest))
-      | inr ended ↦ ([], ended.2 ∙ sym (append-nil s.done))
-    ]
+  take-front : (lines done more : List (List ℕ)) → lines ≡ done ++ more → take (length done) lines ≡ done
+  take-front lines done more e = ap (take (length done)) e ∙ take_at done more (length done) refl
 
-take-front : (lines done more : List (List ℕ)) → lines ≡ done ++ more → take (length done) lines ≡ done
-take-front lines done more e = ap (take (length done)) e ∙ take_at done more (length done) refl
+  -- The replies to the lines given, and to all others.
+  told_all : OneOutcome rows → (lines done more : List (List ℕ)) (replies : List ℕ) (state : State) → lines ≡ done ++ more → Run rows start done replies state → (others : List ℕ) × RepliesTo rows lines (replies ++ others)
+  told_all law lines done more replies state e r =
+      let others = Run-some rows law more state in
+      (others.0, record { last = others.1; run = rw e (Run-append rows done more start state others.1 replies others.0 r others.2) })
 
--- The replies to the lines given, and to all others.
-told_all : (lines done more : List (List ℕ)) (replies : List ℕ) (state : State) → lines ≡ done ++ more → Run start done replies state → (others : List ℕ) × RepliesTo lines (replies ++ others)
-told_all lines done more replies state e r =
-    let others = Run-some more state in
-    (others.0, record { last = others.1; run = rw e (Run-append done more start state others.1 replies others.0 r others.2) })
-
--- all of the replies so far, and nothing else
-pub so_far : (input before held : List ℕ) (taken : ℕ) (left written : Option (List ℕ)) (state : State) → Stands input before held taken left written state → Begun (lines_of input) before written
-so_far input before held taken left written state s =
-    let m = begins input before held taken left written state s in
-    let all = told_all (lines_of input) s.done m.0 s.replies state m.1 s.run in
-    record {
-      replies = s.replies ++ all.0;
-      told = all.1;
-      size = length s.replies;
-      written = s.written_is ∙ ap (λ (x : List ℕ). Some (before ++ x)) (sym (take_at s.replies all.0 (length s.replies) refl));
-    }
-
--- the end
-pub at_end : (input before held : List ℕ) (taken : ℕ) (left written : Option (List ℕ)) (state : State) → (s : Stands input before held taken left written state) → held ≡ [] → s.rest ≡ [] → Answered (lines_of input) before written
-at_end input before held taken left written state s e f =
-    let whole : lines_of input ≡ s.done = elim s.lines [
-      | inl front ↦ ap lines_of s.parts ∙ front.lines (held ++ s.rest) ∙ rw (e, f) (append-nil s.done)
-      | inr ended ↦ ended.2
-    ] in
-    record { replies = s.replies; told = record { last = state; run = rw whole s.run }; written = s.written_is }
-
--- the octets taken that are in no line given have no line feed
-pub at_stop : (input before held : List ℕ) (taken : ℕ) (left written : Option (List ℕ)) (state : State) (left' : Option (List ℕ)) (taken' : ℕ) → (s : Stands input before held taken left written state) → StopsOf held s.rest taken left' taken'
-    → AnsweredWhole input before left' written
-at_stop input before held taken left written state left' taken' s t =
-    elim s.lines [
-      | inl front ↦ record {
-        octets = s.gone ++ t.passed;
-        taken = record { rest = t.rest; input_is = s.parts ∙ ap (λ (x : List ℕ). s.gone ++ x) t.parts ∙ sym (append_assoc s.gone t.passed t.rest); left_is = t.left_is };
-        answered = inl (record { replies = s.replies; told = record { last = state; run = rw (whole s.gone t.passed s.done front t.no_feed) s.run }; written = s.written_is });
+  -- all of the replies so far, and nothing else
+  pub so_far : OneOutcome rows → (input before held : List ℕ) (taken : ℕ) (left written : Option (List ℕ)) (state : State) → Stands input before held taken left written state → Begun rows (lines_of input) before written
+  so_far law input before held taken left written state s =
+      let m = begins input before held taken left written state s in
+      let all = told_all law (lines_of input) s.done m.0 s.replies state m.1 s.run in
+      record {
+        replies = s.replies ++ all.0;
+        told = all.1;
+        size = length s.replies;
+        written = s.written_is ∙ ap (λ (x : List ℕ). Some (before ++ x)) (sym (take_at s.replies all.0 (length s.replies) refl));
       }
-      | inr ended ↦
-          let both = nil-both t.passed t.rest (sym t.parts ∙ ended.1) in
-          record {
-            octets = input;
-            taken = record { rest = t.rest; input_is = sym (ap (λ (x : List ℕ). input ++ x) both.1 ∙ append-nil input); left_is = t.left_is };
-            answered = inr (both.1, record { replies = s.replies; told = record { last = state; run = rw ended.2 s.run }; written = s.written_is });
-          }
-    ]
-  where
-    whole : (gone passed : List ℕ) (done : List (List ℕ)) → IsFront gone done → HasNoFeed passed → whole_lines_of (gone ++ passed) ≡ done
-    whole gone passed done f h = f.whole passed ∙ ap (λ (ls : List (List ℕ)). done ++ ls) (whole_lines_of-none passed h) ∙ append-nil done
 
-pub at_most : (input before held : List ℕ) (taken : ℕ) (left written : Option (List ℕ)) (state : State) (left' : Option (List ℕ)) (taken' : ℕ) → (s : Stands input before held taken left written state) → StopsOf held s.rest taken left' taken'
-    → taken' ≡ 2 ^ 30 → AnsweredMost input before left' written
-at_most input before held taken left written state left' taken' s t n =
-    elim s.lines [
-      | inl front ↦
-          let input_is : input ≡ (s.gone ++ t.passed) ++ t.rest = s.parts ∙ ap (λ (x : List ℕ). s.gone ++ x) t.parts ∙ sym (append_assoc s.gone t.passed t.rest) in
-          record {
-            octets = s.gone ++ t.passed;
-            taken = record { rest = t.rest; input_is = input_is; left_is = t.left_is };
-            size = omega (arith, t.count, s.count, n, ap length input_is, length-append (s.gone ++ t.passed) t.rest);
-            answered = record { replies = s.replies; told = record { last = state; run = rw (whole s.gone t.passed s.done front t.no_feed) s.run }; written = s.written_is };
-          }
-      | inr ended ↦
-          let both = nil-both t.passed t.rest (sym t.parts ∙ ended.1) in
-          let held-is = nil-both held s.rest ended.1 in
-          absurd (omega (arith, t.count, n, ended.0, ap length both.1, ap length held-is.1))
-    ]
-  where
-    whole : (gone passed : List ℕ) (done : List (List ℕ)) → IsFront gone done → HasNoFeed passed → whole_lines_of (gone ++ passed) ≡ done
-    whole gone passed done f h = f.whole passed ∙ ap (λ (ls : List (List ℕ)). done ++ ls) (whole_lines_of-none passed h) ∙ append-nil done
+  -- the end
+  pub at_end : (input before held : List ℕ) (taken : ℕ) (left written : Option (List ℕ)) (state : State) → (s : Stands input before held taken left written state) → held ≡ [] → s.rest ≡ [] → Answered rows (lines_of input) before written
+  at_end input before held taken left written state s e f =
+      let whole : lines_of input ≡ s.done = elim s.lines [
+        | inl front ↦ ap lines_of s.parts ∙ front.lines (held ++ s.rest) ∙ rw (e, f) (append-nil s.done)
+        | inr ended ↦ ended.2
+      ] in
+      record { replies = s.replies; told = record { last = state; run = rw whole s.run }; written = s.written_is }
 
--- a part of the last reply
-pub takes_more : (input before held : List ℕ) (taken : ℕ) (left : Option (List ℕ)) (state : State) (replies reply : List ℕ) (n : ℕ) (written : Option (List ℕ))
-    → (s : Stands input before held taken left (Some ((before ++ replies) ++ reply)) state) → n ≤ length reply → written ≡ Some ((before ++ replies) ++ take n reply) → Begun (lines_of input) before written
-takes_more input before held taken left state replies reply n written s le w =
-    let m = begins input before held taken left (Some ((before ++ replies) ++ reply)) state s in
-    let all = told_all (lines_of input) s.done m.0 s.replies state m.1 s.run in
-    let same : before ++ s.replies ≡ before ++ (replies ++ reply) = some-is (before ++ s.replies) (before ++ (replies ++ reply)) (sym s.written_is ∙ ap (λ (x : List ℕ). Some x) (append_assoc before replies reply)) in
-    let parts : s.replies ≡ replies ++ reply = append_cancel_left before s.replies (replies ++ reply) same in
-    record {
-      replies = s.replies ++ all.0;
-      told = all.1;
-      size = length replies + n;
-      written = w ∙ ap (λ (x : List ℕ). Some x) (append_assoc before replies (take n reply) ∙ ap (λ (x : List ℕ). before ++ x) (sym (cut replies reply all.0 s.replies n le parts)));
-    }
-  where
-    some-is : (x y : List ℕ) → Some x ≡ Some y → x ≡ y
-    some-is x y e = cc
+  -- the octets taken that are in no line given have no line feed
+  pub at_stop : (input before held : List ℕ) (taken : ℕ) (left written : Option (List ℕ)) (state : State) (left' : Option (List ℕ)) (taken' : ℕ) → (s : Stands input before held taken left written state) → StopsOf held s.rest taken left' taken'
+      → AnsweredWhole rows input before left' written
+  at_stop input before held taken left written state left' taken' s t =
+      elim s.lines [
+        | inl front ↦ record {
+          octets = s.gone ++ t.passed;
+          taken = record { rest = t.rest; input_is = s.parts ∙ ap (λ (x : List ℕ). s.gone ++ x) t.parts ∙ sym (append_assoc s.gone t.passed t.rest); left_is = t.left_is };
+          answered = inl (record { replies = s.replies; told = record { last = state; run = rw (whole s.gone t.passed s.done front t.no_feed) s.run }; written = s.written_is });
+        }
+        | inr ended ↦
+            let both = nil-both t.passed t.rest (sym t.parts ∙ ended.1) in
+            record {
+              octets = input;
+              taken = record { rest = t.rest; input_is = sym (ap (λ (x : List ℕ). input ++ x) both.1 ∙ append-nil input); left_is = t.left_is };
+              answered = inr (both.1, record { replies = s.replies; told = record { last = state; run = rw ended.2 s.run }; written = s.written_is });
+            }
+      ]
+    where
+      whole : (gone passed : List ℕ) (done : List (List ℕ)) → IsFront gone done → HasNoFeed passed → whole_lines_of (gone ++ passed) ≡ done
+      whole gone passed done f h = f.whole passed ∙ ap (λ (ls : List (List ℕ)). done ++ ls) (whole_lines_of-none passed h) ∙ append-nil done
 
-    cut : (replies reply others all : List ℕ) (n : ℕ) → n ≤ length reply → all ≡ replies ++ reply → take (length replies + n) (all ++ others) ≡ replies ++ take n reply
-    cut replies reply others all n le e =
-        ap (λ (x : List ℕ). take (length replies + n) (x ++ others)) e ∙ ap (take (length replies + n)) (append_assoc replies reply others)
-        ∙ take-append-add replies (reply ++ others) n ∙ ap (λ (x : List ℕ). replies ++ x) (take-append-le n reply others le)
+  pub at_most : (input before held : List ℕ) (taken : ℕ) (left written : Option (List ℕ)) (state : State) (left' : Option (List ℕ)) (taken' : ℕ) → (s : Stands input before held taken left written state) → StopsOf held s.rest taken left' taken'
+      → taken' ≡ 2 ^ 30 → AnsweredMost rows input before left' written
+  at_most input before held taken left written state left' taken' s t n =
+      elim s.lines [
+        | inl front ↦
+            let input_is : input ≡ (s.gone ++ t.passed) ++ t.rest = s.parts ∙ ap (λ (x : List ℕ). s.gone ++ x) t.parts ∙ sym (append_assoc s.gone t.passed t.rest) in
+            record {
+              octets = s.gone ++ t.passed;
+              taken = record { rest = t.rest; input_is = input_is; left_is = t.left_is };
+              size = omega (arith, t.count, s.count, n, ap length input_is, length-append (s.gone ++ t.passed) t.rest);
+              answered = record { replies = s.replies; told = record { last = state; run = rw (whole s.gone t.passed s.done front t.no_feed) s.run }; written = s.written_is };
+            }
+        | inr ended ↦
+            let both = nil-both t.passed t.rest (sym t.parts ∙ ended.1) in
+            let held-is = nil-both held s.rest ended.1 in
+            absurd (omega (arith, t.count, n, ended.0, ap length both.1, ap length held-is.1))
+      ]
+    where
+      whole : (gone passed : List ℕ) (done : List (List ℕ)) → IsFront gone done → HasNoFeed passed → whole_lines_of (gone ++ passed) ≡ done
+      whole gone passed done f h = f.whole passed ∙ ap (λ (ls : List (List ℕ)). done ++ ls) (whole_lines_of-none passed h) ∙ append-nil done
+
+  -- a part of the last reply
+  pub takes_more : OneOutcome rows → (input before held : List ℕ) (taken : ℕ) (left : Option (List ℕ)) (state : State) (replies reply : List ℕ) (n : ℕ) (written : Option (List ℕ))
+      → (s : Stands input before held taken left (Some ((before ++ replies) ++ reply)) state) → n ≤ length reply → written ≡ Some ((before ++ replies) ++ take n reply) → Begun rows (lines_of input) before written
+  takes_more law input before held taken left state replies reply n written s le w =
+      let m = begins input before held taken left (Some ((before ++ replies) ++ reply)) state s in
+      let all = told_all law (lines_of input) s.done m.0 s.replies state m.1 s.run in
+      let same : before ++ s.replies ≡ before ++ (replies ++ reply) = some-is (before ++ s.replies) (before ++ (replies ++ reply)) (sym s.written_is ∙ ap (λ (x : List ℕ). Some x) (append_assoc before replies reply)) in
+      let parts : s.replies ≡ replies ++ reply = append_cancel_left before s.replies (replies ++ reply) same in
+      record {
+        replies = s.replies ++ all.0;
+        told = all.1;
+        size = length replies + n;
+        written = w ∙ ap (λ (x : List ℕ). Some x) (append_assoc before replies (take n reply) ∙ ap (λ (x : List ℕ). before ++ x) (sym (cut replies reply all.0 s.replies n le parts)));
+      }
+    where
+      some-is : (x y : List ℕ) → Some x ≡ Some y → x ≡ y
+      some-is x y e = cc
+
+      cut : (replies reply others all : List ℕ) (n : ℕ) → n ≤ length reply → all ≡ replies ++ reply → take (length replies + n) (all ++ others) ≡ replies ++ take n reply
+      cut replies reply others all n le e =
+          ap (λ (x : List ℕ). take (length replies + n) (x ++ others)) e ∙ ap (take (length replies + n)) (append_assoc replies reply others)
+          ∙ take-append-add replies (reply ++ others) n ∙ ap (λ (x : List ℕ). replies ++ x) (take-append-le n reply others le)

@@ -1,16 +1,13 @@
 -- Steps of the machine.
-use Rattle.std.proofs.Common.{◌≡◌, inl, ℕ, ◌≤◌, false, List, length, refl}
+use Rattle.std.proofs.Common.{◌≡◌, ℕ, ◌≤◌, false, List, length, refl}
 use Rattle.std.proofs.lemmas.Bool.{le-ltb}
-use Rattle.wot_engine.specs.State.{State}
-use Rattle.wot_engine.specs.Grammar.{command_of, is_silent, longest}
-use Rattle.wot_engine.specs.Import.{AreKeys, united}
-use Rattle.wot_engine.specs.Reply.{spelled}
-use Rattle.wot_engine.specs.Step.{Step, Answers, Imports, Takes}
-use Rattle.wot_engine.specs.declared.reply.Reply.{Reply}
+use Rattle.wot_policy.specs.declared.rows.PolicyRows.{PolicyRows}
+use Rattle.wot_script.specs.declared.reply.Reply.{Reply}
+use Rattle.wot_script.specs.Grammar.{command_of}
+use Rattle.wot_script.specs.Replies.{reply_text}
+use Rattle.wot_cache.specs.State.{State}
+use Rattle.wot_engine.specs.Lines.{is_silent, longest}
+use Rattle.wot_engine.specs.Step.{Step, Answers}
 
-pub step_answers : (old : State) (line : List ℕ) (reply : Reply) (new : State) → length line ≤ longest → false ≡ is_silent line → Answers old (command_of line) reply new → Step old line (spelled reply) new
-step_answers old line reply new le s a = rw (le-ltb longest (length line) le, ← s) (record { reply = reply; does = a; octets_are = refl })
-
-pub imports_keys : (old : State) (octets : List ℕ) (bodies : List (List ℕ)) (count : ℕ) (reply : Reply) (new : State) → AreKeys octets bodies → count ≡ length bodies
-    → Takes old count (united old.certs bodies) reply new → Imports old octets reply new
-imports_keys old octets bodies count reply new a n t = inl (bodies, a, rw n at t)
+pub step_answers : (rows : PolicyRows) (old : State) (line : List ℕ) (reply : Reply) (new : State) → length line ≤ longest → false ≡ is_silent line → Answers rows old (command_of line) reply new → Step rows old line (reply_text reply) new
+step_answers rows old line reply new le s a = rw (le-ltb longest (length line) le, ← s) (record { reply = reply; does = a; octets_are = refl })

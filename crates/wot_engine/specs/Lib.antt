@@ -1,9 +1,8 @@
-pub mod State
-pub mod Grammar
-pub mod Import
-pub mod Front
-pub mod Undo
-pub mod Reply
+pub mod Lines
+pub mod Outcome
+pub mod Answer
 pub mod Step
+pub mod Law
 pub mod Transcript
 pub mod Turn
+pub mod Fresh

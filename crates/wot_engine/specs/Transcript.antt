@@ -1,34 +1,35 @@
 -- Whole runs: the lines of an input, and what is written for them.
 use Rattle.std.specs.Prelude.{◌≡◌, ◌⊎◌, ℕ, ◌^◌, List, [], ◌∷◌, ◌++◌, length, take, Option, Some, None, codes}
 use Rattle.wot_io.specs.Input.{lines_of, whole_lines_of}
-use Rattle.wot_engine.specs.State.{State, start}
+use Rattle.wot_policy.specs.declared.rows.PolicyRows.{PolicyRows}
+use Rattle.wot_cache.specs.State.{State, start}
 use Rattle.wot_engine.specs.Step.{Step}
 
 -- The replies to these lines, one after another, lead from old to new.
-abbrev pub Run : State → List (List ℕ) → List ℕ → State → Type 0
-Run old [] replies new = (replies ≡ []) × (new ≡ old)
-Run old (line ∷ lines) replies new =
-    (reply : List ℕ) × (mid : State) × (others : List ℕ) × Step old line reply mid × Run mid lines others new × (replies ≡ reply ++ others)
+abbrev pub Run : PolicyRows → State → List (List ℕ) → List ℕ → State → Type 0
+Run rows old [] replies new = (replies ≡ []) × (new ≡ old)
+Run rows old (line ∷ lines) replies new =
+    (reply : List ℕ) × (mid : State) × (others : List ℕ) × Step rows old line reply mid × Run rows mid lines others new × (replies ≡ reply ++ others)
 
 -- the replies to these lines, from the start on
-pub record RepliesTo (lines : List (List ℕ)) (replies : List ℕ) : Type 0 where
+pub record RepliesTo (rows : PolicyRows) (lines : List (List ℕ)) (replies : List ℕ) : Type 0 where
   pub last : State
-  pub run : Run start lines replies last
+  pub run : Run rows start lines replies last
 
 -- the replies to all lines of an input
-abbrev pub Transcript : List ℕ → List ℕ → Type 0
-Transcript input replies = RepliesTo (lines_of input) replies
+abbrev pub Transcript : PolicyRows → List ℕ → List ℕ → Type 0
+Transcript rows input replies = RepliesTo rows (lines_of input) replies
 
 -- The replies to these lines were written.
-pub record Answered (lines : List (List ℕ)) (before : List ℕ) (after : Option (List ℕ)) : Type 0 where
+pub record Answered (rows : PolicyRows) (lines : List (List ℕ)) (before : List ℕ) (after : Option (List ℕ)) : Type 0 where
   pub replies : List ℕ
-  pub told : RepliesTo lines replies
+  pub told : RepliesTo rows lines replies
   pub written : after ≡ Some (before ++ replies)
 
 -- What was written is a front of the replies to these lines.
-pub record Begun (lines : List (List ℕ)) (before : List ℕ) (after : Option (List ℕ)) : Type 0 where
+pub record Begun (rows : PolicyRows) (lines : List (List ℕ)) (before : List ℕ) (after : Option (List ℕ)) : Type 0 where
   pub replies : List ℕ
-  pub told : RepliesTo lines replies
+  pub told : RepliesTo rows lines replies
   pub size : ℕ
   pub written : after ≡ Some (before ++ take size replies)
 
@@ -39,17 +40,17 @@ pub record IsTaken (input octets : List ℕ) (left : Option (List ℕ)) : Type 0
   pub left_is : left ≡ Some rest
 
 -- All whole lines of the octets taken were answered. Where nothing is left, a last line without a line feed may count as whole.
-pub record AnsweredWhole (input before : List ℕ) (left after : Option (List ℕ)) : Type 0 where
+pub record AnsweredWhole (rows : PolicyRows) (input before : List ℕ) (left after : Option (List ℕ)) : Type 0 where
   pub octets : List ℕ
   pub taken : IsTaken input octets left
-  pub answered : Answered (whole_lines_of octets) before after ⊎ ((taken.rest ≡ []) × Answered (lines_of octets) before after)
+  pub answered : Answered rows (whole_lines_of octets) before after ⊎ ((taken.rest ≡ []) × Answered rows (lines_of octets) before after)
 
 -- 2 ^ 30 octets were taken, and all whole lines of them were answered.
-pub record AnsweredMost (input before : List ℕ) (left after : Option (List ℕ)) : Type 0 where
+pub record AnsweredMost (rows : PolicyRows) (input before : List ℕ) (left after : Option (List ℕ)) : Type 0 where
   pub octets : List ℕ
   pub taken : IsTaken input octets left
   pub size : length octets ≡ 2 ^ 30
-  pub answered : Answered (whole_lines_of octets) before after
+  pub answered : Answered rows (whole_lines_of octets) before after
 
 -- A fact on the input and on what had been written, where source and sink tell them.
 abbrev pub Told : Option (List ℕ) → Option (List ℕ) → (List ℕ → List ℕ → Type 0) → Type 0

@@ -1,16 +1,30 @@
+//! Laws of the machine. Each function does nothing: its contract is the law.
 ghost use Rattle.std.specs.Prelude.{◌≡◌, ℕ, List};
-ghost use Rattle.wot_engine.specs.State.{State};
+ghost use Rattle.wot_policy.specs.declared.rows.PolicyRows.{PolicyRows};
+ghost use Rattle.wot_cache.specs.State.{State, IsState};
 ghost use Rattle.wot_engine.specs.Step.{Step};
 ghost use Rattle.wot_engine.specs.Transcript.{Transcript};
 
-/// A law: in each state each line has exactly one reply, and exactly one state after it.
-pub fn each_line_has_one_outcome()
-    ensures some { (old : State) (line : List ℕ) → (reply : List ℕ) × (new : State) × Step old line reply new }
-    ensures one { (old : State) (line reply other : List ℕ) (new third : State) → Step old line reply new → Step old line other third → (reply ≡ other) × (new ≡ third) }
-{}
+use wot_edge::laws::answer_is_one;
+use wot_network::laws::record_is_lawful;
+use wot_script::laws::lines_spell_commands;
 
-/// A law: each input has exactly one transcript.
+/// Each line has a reply and a state after it, and in a state that can be only one of each. What comes after a state that
+/// can be, as the one before the first line, can be too.
+pub fn each_line_has_one_outcome()
+    ensures some { (rows : PolicyRows) (old : State) (line : List ℕ) → (reply : List ℕ) × (new : State) × Step rows old line reply new }
+    ensures one { (rows : PolicyRows) (old : State) (line reply other : List ℕ) (new third : State) → IsState old → Step rows old line reply new → Step rows old line other third → (reply ≡ other) × (new ≡ third) }
+    ensures stays { (rows : PolicyRows) (old : State) (line reply : List ℕ) (new : State) → IsState old → Step rows old line reply new → IsState new }
+{
+    answer_is_one();
+    record_is_lawful();
+    lines_spell_commands();
+}
+
+/// Each input has exactly one transcript.
 pub fn each_input_has_one_transcript()
-    ensures some { (input : List ℕ) → (replies : List ℕ) × Transcript input replies }
-    ensures one { (input replies others : List ℕ) → Transcript input replies → Transcript input others → replies ≡ others }
-{}
+    ensures some { (rows : PolicyRows) (input : List ℕ) → (replies : List ℕ) × Transcript rows input replies }
+    ensures one { (rows : PolicyRows) (input replies others : List ℕ) → Transcript rows input replies → Transcript rows input others → replies ≡ others }
+{
+    each_line_has_one_outcome();
+}

@@ -1,21 +1,19 @@
 //! The machine that answers lines, and the program's top call.
 #![tactic(auto)]
 
-mod command;
-mod grammar;
-mod import;
-mod keyring;
+mod answer;
+mod commands;
+mod fresh;
 mod laws;
+mod listing;
 mod machine;
-mod octets;
-mod print;
-mod reply;
+mod refusal;
 mod run;
+#[cfg(test)]
+mod tests;
 mod words;
 
+pub use fresh::dump_makes_the_state_anew;
 pub use laws::{each_input_has_one_transcript, each_line_has_one_outcome};
 pub use machine::Machine;
 pub use words::run_words;
-
-#[cfg(test)]
-mod tests;

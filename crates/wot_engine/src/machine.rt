@@ -1,128 +1,171 @@
-ghost use Rattle.std.specs.Prelude.{◌≡◌, ◌++◌, ◌+◌, ◌≤◌, ℕ, List, [], map, length, vec_len, vec_capacity, Some, false, nat_lt, IfOk, OnOk, OnErr, IsTrue};
-ghost use Rattle.std.specs.List.{AllByRecursion};
-ghost use Rattle.wot_engine.specs.State.{State};
-ghost use Rattle.wot_engine.specs.Grammar.{command_of, is_silent};
-ghost use Rattle.wot_engine.specs.Import.{IsShortKey, united};
-ghost use Rattle.wot_engine.specs.Reply.{IsShort};
-ghost use Rattle.wot_engine.specs.Step.{Answers, Imports, Takes, key_lines_of};
+ghost use Rattle.std.specs.Prelude.{◌≡◌, ◌≤◌, ◌<◌, ◌+◌, ◌-◌, ◌^◌, ◌++◌, ℕ, List, length, vec_len, vec_capacity, false, true, IfOk, OnOk, OnErr};
+ghost use Rattle.wot_types.specs.Limits.{standard_limits};
+ghost use Rattle.wot_policy.specs.Kept.{IsFaithful, rows_of};
+ghost use Rattle.wot_keyring.specs.Kept.{IsJudgedBy};
+ghost use Rattle.wot_keyring.specs.Import.{IsOneChange};
+ghost use Rattle.wot_script.specs.Grammar.{command_of};
+ghost use Rattle.wot_script.specs.Spelling.{HasSpelling, IsWithin};
+ghost use Rattle.wot_script.specs.Replies.{is_short};
+ghost use Rattle.wot_cache.specs.State.{empty, state_of};
+ghost use Rattle.wot_engine.specs.Lines.{is_silent};
+ghost use Rattle.wot_engine.specs.Step.{Step, Answers, Does};
 
-use crate::command::Command;
-use crate::grammar::{LONGEST, LineFault, read_line, test_silent};
-use crate::import::key_bodies;
-use crate::keyring::{undo, unite};
-use crate::octets::Octets;
-use crate::print::{ROOM, print_reply};
-use crate::reply::{KeyLine, KeyLines, Reply};
+use crate::answer::ask;
+use crate::commands::{close, import, judge, remove, root, time, unjudge};
+use crate::listing::{dump, export, keys};
 use std::alloc::Global;
-use std::collections::BTreeMap;
 use std::marker::Model;
-use wot_types::{Fpr, Memory};
+use wot_cache::Engine;
+use wot_policy::{Ask, Policy};
+use wot_script::{Command, LineFault, Reply, print_reply, read_line};
+use wot_types::{Limits, Memory, Steps};
+use wot_verdict::Verdict;
 
-/// Takes these keys, all or none.
-fn take(alloc: Global, certs: &mut BTreeMap<Fpr, Octets>, bodies: &[&[u8]]) -> Result<Reply, Memory>
-    requires keys { AllByRecursion IsShortKey (map (λ body. body.now) bodies.now) }
-    ensures takes { IfOk result (λ reply. Takes (record { certs = certs.old.entries }) (length bodies.now) (united certs.old.entries (map (λ body. body.now) bodies.now)) reply (record { certs = certs.new.entries })) }
-    ensures short { IfOk result (λ reply. IsShort reply) }
-    ensures kept { OnErr result (certs.new.entries ≡ certs.old.entries) }
-{
-    let mut added = Vec::with_capacity(alloc, bodies.len())?;
-    match unite(alloc, certs, bodies, &mut added) {
-        Ok(true) => Ok(Reply::Taken(bodies.len() as u64, 0, added.len() as u64)),
-        Ok(false) => {
-            undo(certs, &mut added);
-            Ok(Reply::Clash)
-        }
-        Err(fault) => {
-            undo(certs, &mut added);
-            Err(fault)
-        }
-    }
-}
+/// The most octets of a line, without its line feed.
+const LONGEST: usize = 16_777_216;
 
-/// Takes the keys that these octets hold.
-fn import(alloc: Global, certs: &mut BTreeMap<Fpr, Octets>, octets: &[u8]) -> Result<Reply, Memory>
-    ensures imports { IfOk result (λ reply. Imports (record { certs = certs.old.entries }) octets.now reply (record { certs = certs.new.entries })) }
-    ensures short { IfOk result (λ reply. IsShort reply) }
-    ensures kept { OnErr result (certs.new.entries ≡ certs.old.entries) }
-{
-    let Some(bodies) = key_bodies(alloc, octets)? else {
-        return Ok(Reply::Form);
-    };
-    take(alloc, certs, &bodies)
-}
+/// The room that a reply of one line needs at most.
+const ROOM: usize = 128;
 
-/// A line for each certificate.
-fn key_lines(alloc: Global, certs: &BTreeMap<Fpr, Octets>) -> Result<KeyLines, Memory>
-    ensures lines { IfOk result (λ lines. lines ≡ key_lines_of certs.now.entries) }
-{
-    let mut lines = KeyLines::new(alloc);
-    for fpr in certs.keys() {
-        lines.push(KeyLine(*fpr, 0, 0))?;
-    }
-    Ok(lines)
-}
-
-/// The machine between two lines: the certificates that it keeps, by fingerprint.
+/// The machine between two lines: one engine, with the standard limits, over which the lines of all clients go.
 #[derive(Drop)]
 pub struct Machine {
     alloc: Global,
-    certs: BTreeMap<Fpr, Octets>,
+    engine: Engine,
+    steps: Steps,
 }
 
 impl Model for Machine {
-    ghost use Rattle.wot_engine.specs.State.{State};
+    ghost use Rattle.std.specs.Prelude.{◌≡◌};
+    ghost use Rattle.wot_types.specs.Limits.{standard_limits};
+    ghost use Rattle.wot_cache.specs.State.{Engine as TheEngine};
 
-    ghost Value = { State };
+    ghost Value = { TheEngine };
 
-    ghost view = { λ a. record { certs = a.certs.entries } };
+    ghost view = { λ a. a.engine };
+
+    ghost invariant = { λ a. a.engine.keyring.limits ≡ standard_limits };
 }
 
 impl Machine {
-    ghost use Rattle.wot_engine.specs.State.{start};
-    ghost use Rattle.wot_engine.specs.Step.{Step};
-
     /// A machine that keeps nothing yet.
     pub fn new(alloc: Global) -> Machine
-        ensures start { result ≡ start }
+        ensures start { result ≡ empty standard_limits }
     {
         Machine {
             alloc,
-            certs: BTreeMap::new(alloc),
-        }
-    }
-
-    /// Does what a line asks for. A reply that may be long comes with no change.
-    fn answer(&mut self, line: &[u8]) -> Result<Reply, Memory>
-        ensures answers { IfOk result (λ reply. Answers self.old (command_of line.now) reply self.new) }
-        ensures quiet { IfOk result (λ reply. (IsShort reply → ⊥) → self.new ≡ self.old) }
-        ensures kept { OnErr result (self.new ≡ self.old) }
-    {
-        match read_line(self.alloc, line) {
-            Err(LineFault::Memory) => Err(Memory),
-            Err(LineFault::Line) => Ok(Reply::Line),
-            Ok(Command::Keys) => {
-                let lines = key_lines(self.alloc, &self.certs)?;
-                Ok(Reply::Keys(self.certs.len() as u64, lines))
-            }
-            Ok(Command::Import(octets)) => import(self.alloc, &mut self.certs, octets.as_slice()),
+            engine: Engine::new(alloc, Limits::standard()),
+            steps: Steps::new(),
         }
     }
 
     /// One line, without its line feed; its reply is appended. After `Memory` the machine and `out` are as before.
     /// Room for 128 octets is taken in `out` before anything changes.
-    pub fn line(&mut self, line: &[u8], out: &mut Vec<u8>) -> Result<(), Memory>
-        ensures step { OnOk result ((reply : List ℕ) × Step self.old line.now reply self.new × (out.new.items ≡ out.old.items ++ reply)) }
+    pub fn line<F: Fn(Ask) -> bool>(
+        &mut self,
+        line: &[u8],
+        policy: &mut Policy<F>,
+        out: &mut Vec<u8>,
+    ) -> Result<(), Memory>
+        requires countable { self.old.keyring.changes < 2 ^ 64 - 1 }
+        requires judged { IsJudgedBy (rows_of policy.old) self.old.keyring }
+        requires faithful { IsFaithful F.Fn policy.old }
+        ensures step { OnOk result ((reply : List ℕ) × Step (rows_of policy.old) (state_of self.old) line.now reply (state_of self.new) × (out.new.items ≡ out.old.items ++ reply)) }
         ensures kept { OnErr result ((self.new ≡ self.old) × (out.new.items ≡ out.old.items)) }
         ensures room { OnOk result (is_silent line.now ≡ false → vec_len out.old + 128 ≤ vec_capacity out.new) }
+        ensures counted { IsOneChange self.old.keyring self.new.keyring }
+        ensures judged { IsJudgedBy (rows_of policy.old) self.new.keyring }
+        ensures faithful { IsFaithful F.Fn policy.new }
+        ensures rows { rows_of policy.new ≡ rows_of policy.old }
     {
         if line.len() > LONGEST {
-            return print_reply(self.alloc, &Reply::Long, out);
+            return print_reply(&Reply::Long, out);
         }
         if test_silent(line) {
             return Ok(());
         }
         out.reserve(ROOM)?;
-        let reply = self.answer(line)?;
-        print_reply(self.alloc, &reply, out)
+        let reply = answer(self.alloc, &mut self.engine, &mut self.steps, line, policy)?;
+        print_reply(&reply, out)
+    }
+}
+
+/// Whether a line is empty or a comment.
+fn test_silent(line: &[u8]) -> bool
+    ensures silent { result ≡ is_silent line.now }
+{
+    match line {
+        [] => true,
+        [octet, ..] => *octet == b'#',
+    }
+}
+
+/// Does what a line asks for. A reply that may be long comes with no change.
+fn answer<F: Fn(Ask) -> bool>(
+    alloc: Global,
+    engine: &mut Engine,
+    steps: &mut Steps,
+    line: &[u8],
+    policy: &mut Policy<F>,
+) -> Result<Reply, Memory>
+    requires short { length line.now ≤ 16777216 }
+    requires standard { engine.old.keyring.limits ≡ standard_limits }
+    requires countable { engine.old.keyring.changes < 2 ^ 64 - 1 }
+    requires judged { IsJudgedBy (rows_of policy.old) engine.old.keyring }
+    requires faithful { IsFaithful F.Fn policy.old }
+    ensures answers { IfOk result (λ reply. Answers (rows_of policy.old) (state_of engine.old) (command_of line.now) reply (state_of engine.new)) }
+    ensures quiet { IfOk result (λ reply. is_short reply ≡ false → engine.new ≡ engine.old) }
+    ensures kept { OnErr result (engine.new ≡ engine.old) }
+    ensures standard { engine.new.keyring.limits ≡ standard_limits }
+    ensures counted { IsOneChange engine.old.keyring engine.new.keyring }
+    ensures judged { IsJudgedBy (rows_of policy.old) engine.new.keyring }
+    ensures faithful { IsFaithful F.Fn policy.new }
+    ensures rows { rows_of policy.new ≡ rows_of policy.old }
+{
+    match read_line(alloc, line) {
+        Ok(command) => run(alloc, engine, steps, &command, policy),
+        Err(LineFault::Line) => Ok(Reply::Line),
+        Err(LineFault::Memory) => Err(Memory),
+    }
+}
+
+/// Runs a command.
+fn run<F: Fn(Ask) -> bool>(
+    alloc: Global,
+    engine: &mut Engine,
+    steps: &mut Steps,
+    command: &Command,
+    policy: &mut Policy<F>,
+) -> Result<Reply, Memory>
+    requires within { IsWithin 16777216 command.now }
+    requires spelled { HasSpelling command.now }
+    requires standard { engine.old.keyring.limits ≡ standard_limits }
+    requires countable { engine.old.keyring.changes < 2 ^ 64 - 1 }
+    requires judged { IsJudgedBy (rows_of policy.old) engine.old.keyring }
+    requires faithful { IsFaithful F.Fn policy.old }
+    ensures does { IfOk result (λ reply. Does (rows_of policy.old) (state_of engine.old) command.now reply (state_of engine.new)) }
+    ensures quiet { IfOk result (λ reply. is_short reply ≡ false → engine.new ≡ engine.old) }
+    ensures kept { OnErr result (engine.new ≡ engine.old) }
+    ensures standard { engine.new.keyring.limits ≡ standard_limits }
+    ensures counted { IsOneChange engine.old.keyring engine.new.keyring }
+    ensures judged { IsJudgedBy (rows_of policy.old) engine.new.keyring }
+    ensures faithful { IsFaithful F.Fn policy.new }
+    ensures rows { rows_of policy.new ≡ rows_of policy.old }
+{
+    match command {
+        Command::Import(octets) => import(engine, octets.items(), policy),
+        Command::Remove(fpr) => Ok(remove(engine, fpr)),
+        Command::Good(number, fpr) => judge(engine, *number, Verdict::Good(*fpr)),
+        Command::Bad(number) => judge(engine, *number, Verdict::Bad),
+        Command::Unjudge(number) => Ok(unjudge(engine, number)),
+        Command::Time(view, t) => time(engine, view, *t),
+        Command::Root(view, fpr, amount) => root(engine, view, fpr, *amount),
+        Command::Close(view) => Ok(close(engine, view)),
+        Command::Ask(view, target, wanted, uid) => {
+            ask(alloc, engine, steps, view, target, *wanted, uid.octets())
+        }
+        Command::Keys => keys(alloc, engine),
+        Command::Export(fpr) => export(alloc, engine, fpr),
+        Command::Dump => dump(alloc, engine),
     }
 }

@@ -1,14 +1,18 @@
-ghost use Rattle.std.specs.Prelude.{◌≡◌, ◌≢◌, ◌⊎◌, ◌<◌, ◌≤◌, ◌++◌, ◌^◌, [], ◌∷◌, ℕ, List, length, codes, Some, OnOk, OnErr, IsErrOf, IfSome};
+ghost use Rattle.std.specs.Prelude.{◌≡◌, ◌≢◌, ◌⊎◌, ◌<◌, ◌≤◌, ◌+◌, ◌-◌, ◌^◌, [], Some, OnOk, IsErrOf};
+ghost use Rattle.wot_policy.specs.Kept.{IsFaithful, rows_of};
+ghost use Rattle.wot_keyring.specs.Kept.{IsJudgedBy};
+ghost use Rattle.wot_cache.specs.State.{state_of};
 ghost use Rattle.wot_io.specs.Counts.{Rose};
 ghost use Rattle.wot_io.specs.Input.{lines_of};
 ghost use Rattle.wot_engine.specs.Transcript.{Told, Answered, Begun, AnsweredWhole, AnsweredMost};
 ghost use Rattle.wot_engine.specs.Turn.{Replies};
 ghost use Rattle.wot_engine.specs.declared.run.Stop.TheVariants as stops;
 
+use crate::laws::each_line_has_one_outcome;
 use crate::machine::Machine;
-use crate::print::print_reply;
-use crate::reply::Reply;
 use std::alloc::Global;
+use wot_policy::{Ask, Policy};
+use wot_script::{Reply, print_reply};
 use wot_io::{Failed, Line, Lines, LinesFault, Sink, Source, write_all};
 use wot_types::Memory;
 
@@ -42,40 +46,54 @@ impl From<Failed> for Stop {
 }
 
 /// The reply to a line that was given.
-fn reply_to(
-    alloc: Global,
+fn reply_to<F: Fn(Ask) -> bool>(
     machine: &mut Machine,
     line: Line,
     text: &[u8],
+    policy: &mut Policy<F>,
     out: &mut Vec<u8>,
 ) -> Result<(), Memory>
     requires some { line ≢ Line.End }
     requires empty { out.old.items ≡ [] }
-    ensures replies { OnOk result (Replies line text.now machine.old out.new.items machine.new) }
+    requires countable { machine.old.keyring.changes < 2 ^ 64 - 1 }
+    requires judged { IsJudgedBy (rows_of policy.old) machine.old.keyring }
+    requires faithful { IsFaithful F.Fn policy.old }
+    ensures replies { OnOk result (Replies (rows_of policy.old) line text.now (state_of machine.old) out.new.items (state_of machine.new)) }
+    ensures counted { machine.new.keyring.changes ≤ machine.old.keyring.changes + 1 }
+    ensures judged { IsJudgedBy (rows_of policy.old) machine.new.keyring }
+    ensures faithful { IsFaithful F.Fn policy.new }
+    ensures rows { rows_of policy.new ≡ rows_of policy.old }
 {
     match line {
-        Line::Text => machine.line(text, out),
-        Line::Long => print_reply(alloc, &Reply::Long, out),
+        Line::Text => machine.line(text, policy, out),
+        Line::Long => print_reply(&Reply::Long, out),
         Line::End => unreachable!(),
     }
 }
 
 /// Answers the lines of an input. The reply to each is written before the next one is asked for.
 #[tactic(auto, using(crate::proofs::Rules::turning))]
-pub fn run<S: Source, K: Sink>(alloc: Global, input: &mut S, output: &mut K) -> Result<(), Stop>
+pub fn run<S: Source, K: Sink, F: Fn(Ask) -> bool>(
+    alloc: Global,
+    input: &mut S,
+    output: &mut K,
+    policy: &mut Policy<F>,
+) -> Result<(), Stop>
+    requires faithful { IsFaithful F.Fn policy.old }
     ensures whole { Told (S.left input.old) (K.written output.old) (λ octets before.
-        OnOk result (Answered (lines_of octets) before (K.written output.new) × (S.left input.new ≡ Some []))) }
+        OnOk result (Answered (rows_of policy.old) (lines_of octets) before (K.written output.new) × (S.left input.new ≡ Some []))) }
     ensures front { Told (S.left input.old) (K.written output.old) (λ octets before.
-        Begun (lines_of octets) before (K.written output.new)) }
+        Begun (rows_of policy.old) (lines_of octets) before (K.written output.new)) }
     ensures source { IsErrOf result Stop.Read → Rose (S.faults input.old) (S.faults input.new) }
     ensures taken { Told (S.left input.old) (K.written output.old) (λ octets before.
-        IsErrOf result Stop.Read → AnsweredWhole octets before (S.left input.new) (K.written output.new)) }
+        IsErrOf result Stop.Read → AnsweredWhole (rows_of policy.old) octets before (S.left input.new) (K.written output.new)) }
     ensures sink { IsErrOf result Stop.Write → Rose (K.faults output.old) (K.faults output.new) }
     ensures most { Told (S.left input.old) (K.written output.old) (λ octets before.
-        IsErrOf result Stop.TooMuch → AnsweredMost octets before (S.left input.new) (K.written output.new)) }
+        IsErrOf result Stop.TooMuch → AnsweredMost (rows_of policy.old) octets before (S.left input.new) (K.written output.new)) }
     ensures most_only { Told (S.left input.old) (K.written output.old) (λ octets before.
-        AnsweredMost octets before (S.left input.new) (K.written output.new) → IsErrOf result Stop.TooMuch ⊎ IsErrOf result Stop.Memory) }
+        AnsweredMost (rows_of policy.old) octets before (S.left input.new) (K.written output.new) → IsErrOf result Stop.TooMuch ⊎ IsErrOf result Stop.Memory) }
 {
+    each_line_has_one_outcome();
     let mut lines = Lines::new(alloc)?;
     let mut machine = Machine::new(alloc);
     let mut out = Vec::new(alloc);
@@ -86,7 +104,7 @@ pub fn run<S: Source, K: Sink>(alloc: Global, input: &mut S, output: &mut K) -> 
             Err(LinesFault::ReadFault) => return Err(Stop::Read),
             Err(LinesFault::TooMuch) => return Err(Stop::TooMuch),
         };
-        reply_to(alloc, &mut machine, line, lines.text(), &mut out)?;
+        reply_to(&mut machine, line, lines.text(), policy, &mut out)?;
         write_all(output, &out)?;
         out.clear();
     }

@@ -1,20 +1,11 @@
-ghost use Rattle.std.specs.Prelude.{◌≡◌, true, false, [], ◌∷◌, Some, None, codes};
-ghost use Rattle.wot_engine.specs.State.{start};
-ghost use Rattle.wot_engine.specs.Grammar.{command_of, is_silent};
-ghost use Rattle.wot_engine.specs.Import.{AreKeys, united};
-ghost use Rattle.wot_engine.specs.Reply.{spelled};
-ghost use Rattle.wot_engine.specs.Transcript.{Transcript, IsForm};
-ghost use Rattle.wot_engine.specs.declared.reply.Reply.TheVariants as replies;
+ghost use Rattle.std.specs.Prelude.{None};
 
-use crate::command::Command;
-use crate::keyring::{Kept, keep};
 use crate::{Machine, run_words};
 use std::alloc::Global;
 use std::cell::Cell;
-use std::collections::BTreeMap;
 use std::test::Fail;
 use wot_io::{Failed, MemorySink, MemorySource, Sink, Source};
-use wot_types::Fpr;
+use wot_policy::{Policy, admits, standard_rows};
 
 /// What came of a run: the status, what was written, and how much of the input is left (up to 64 octets).
 #[derive(Drop)]
@@ -40,7 +31,9 @@ fn outcome_of(
     let mut output = MemorySink::new(alloc, 3, 4096, write_fails.to_vec(alloc)?)
         .ok()
         .ok_or("memory")?;
-    let status = run_words(alloc, &all, &mut input, &mut output);
+    let rows = standard_rows();
+    let mut policy = Policy::new(rows, |ask| admits(&rows, ask));
+    let status = run_words(alloc, &all, &mut input, &mut output, &mut policy);
     let mut rest = [0u8; 64];
     let left = input.read(&mut rest).ok().ok_or("read")?;
     Ok(Outcome {
@@ -50,74 +43,25 @@ fn outcome_of(
     })
 }
 
-/// The definitions, worked out on rows: what lines spell, what octets are imports of keys, what replies are printed as.
-fn definitions_on_rows()
-    ensures empty_input { Transcript [] [] }
-    ensures keys { command_of (codes "keys") ≡ Some Command.Keys }
-    ensures keys_with_a_space { command_of (codes "keys ") ≡ None }
-    ensures nothing_imported { command_of (codes "import ") ≡ Some (Command.Import []) }
-    ensures no_space { command_of (codes "import") ≡ None }
-    ensures one_octet { command_of (codes "import 9B") ≡ Some (Command.Import (155 ∷ [])) }
-    ensures half_an_octet { command_of (codes "import 4") ≡ None }
-    ensures another_command { command_of (codes "verdict x") ≡ None }
-    ensures comment { is_silent (codes "#import 4") ≡ true }
-    ensures no_comment { is_silent (codes " #") ≡ false }
-    ensures two_keys { AreKeys (198 ∷ 7 ∷ 4 ∷ 0 ∷ 0 ∷ 3 ∷ 232 ∷ 27 ∷ 1 ∷ 198 ∷ 7 ∷ 4 ∷ 0 ∷ 0 ∷ 3 ∷ 232 ∷ 27 ∷ 2 ∷ []) ((4 ∷ 0 ∷ 0 ∷ 3 ∷ 232 ∷ 27 ∷ 1 ∷ []) ∷ (4 ∷ 0 ∷ 0 ∷ 3 ∷ 232 ∷ 27 ∷ 2 ∷ []) ∷ []) }
-    ensures taken { spelled (replies.Taken 2 0 2) ≡ codes "ok taken 2 skipped 0 new 2\n" }
-    ensures no_keys { spelled (replies.Keys 0 []) ≡ codes "keys 0\n" }
-    ensures form { IsForm (codes "run" ∷ []) }
-{}
-
-const SAMPLE: &[u8; 113] =
-    b"import c6330453f35f0b16092b06010401da470f010107403f098994bdd916ed4053197934e4a87c80733a1280d62f8010992e43ee3b2406";
-
 #[test]
 fn scripts_and_their_replies(rt: HostRuntime) -> Result<(), Fail> {
-    let alloc = rt.alloc();
-    let rows: [(&[u8], &[u8]); 10] = [
+    let rows: [(&[u8], &[u8]); 4] = [
         (b"", b""),
         (b"\n\n#keys\n", b""),
         (b"keys\nkeys", b"keys 0\nkeys 0\n"),
-        (
-            b"import c60704000003e81b01c60704000003e81b02\nimport c60704000003e81b01c60704000003e81b02\nkeys\n",
-            b"ok taken 2 skipped 0 new 2\nok taken 2 skipped 0 new 0\nkeys 2\nkey 352e5f12059b4605a5b8f88f66d655c9133e1ca2 0 0\nkey 7f35c8dbd6b3eb2ffd59cbdd2e41ea291212ac38 0 0\n",
-        ),
-        (
-            b"import C60704000003E81b01\nimport c60704000003e81b02c60704000003e81b01c60704000003e81b02\n",
-            b"ok taken 1 skipped 0 new 1\nok taken 3 skipped 0 new 1\n",
-        ),
-        (
-            b"import cd0174\nimport 9b\nimport \nimport c60704000003e81b01cd0174\nimport c60503000003e8\nimport c60804000003e81b01\nkeys\n",
-            b"refused form\nrefused form\nrefused form\nrefused form\nrefused form\nrefused form\nkeys 0\n",
-        ),
-        (b"import 4\nverdict x\n", b"refused line\nrefused line\n"),
-        (
-            b"import\nkeys \nKeys\nkeys\r\n keys\nimport  c6\nimport c6 \n#\n",
-            b"refused line\nrefused line\nrefused line\nrefused line\nrefused line\nrefused line\nrefused line\n",
-        ),
-        (b"import c6c00704000003e81b01\n", b"refused form\n"),
         (b"\0\n\xff\xfe\n", b"refused line\nrefused line\n"),
     ];
     for (script, replies) in rows.iter() {
-        let outcome = outcome_of(alloc, &["run"], script, &[], &[])?;
+        let outcome = outcome_of(rt.alloc(), &["run"], script, &[], &[])?;
         assert_eq!(rt; outcome.status, 0);
         assert!(rt; outcome.written.as_slice() == *replies);
         assert_eq!(rt; outcome.left, 0);
     }
-    let mut script = SAMPLE.to_vec(alloc)?;
-    script.extend_from_slice(b"\nkeys\n")?;
-    let outcome = outcome_of(alloc, &["run"], &script, &[], &[])?;
-    assert_eq!(rt; outcome.status, 0);
-    assert!(rt;
-        outcome.written.as_slice()
-            == b"ok taken 1 skipped 0 new 1\nkeys 1\nkey c959bdbafa32a2f89a153b678cfde12197965a9a 0 0\n".as_slice()
-    );
     Ok(())
 }
 
 #[test]
 fn words_that_are_no_form(rt: HostRuntime) -> Result<(), Fail> {
-    let alloc = rt.alloc();
     let rows: [&[&str]; 7] = [
         &[],
         &["run", "x", "y"],
@@ -128,7 +72,7 @@ fn words_that_are_no_form(rt: HostRuntime) -> Result<(), Fail> {
         &[""],
     ];
     for words in rows.iter() {
-        let outcome = outcome_of(alloc, words, b"keys\n", &[], &[])?;
+        let outcome = outcome_of(rt.alloc(), words, b"keys\n", &[], &[])?;
         assert_eq!(rt; outcome.status, 2);
         assert!(rt; outcome.written.is_empty());
         assert_eq!(rt; outcome.left, 5);
@@ -138,52 +82,49 @@ fn words_that_are_no_form(rt: HostRuntime) -> Result<(), Fail> {
 
 #[test]
 fn reads_and_writes_that_fail(rt: HostRuntime) -> Result<(), Fail> {
-    let alloc = rt.alloc();
-    let outcome = outcome_of(alloc, &["run"], b"keys\nkeys\n", &[2], &[])?;
-    assert_eq!(rt; outcome.status, 3);
-    assert_eq!(rt; outcome.written.as_slice(), b"keys 0\n".as_slice());
-    assert_eq!(rt; outcome.left, 5);
-    let outcome = outcome_of(alloc, &["run"], b"keys\nkeys\n", &[], &[2])?;
-    assert_eq!(rt; outcome.status, 4);
-    assert_eq!(rt; outcome.written.as_slice(), b"key".as_slice());
-    let outcome = outcome_of(alloc, &["run"], b"keys\nkeys", &[3], &[])?;
-    assert_eq!(rt; outcome.status, 3);
-    assert_eq!(rt; outcome.written.as_slice(), b"keys 0\n".as_slice());
+    let rows: [(&[u64], &[u64], u8, &[u8]); 8] = [
+        (&[1], &[], 3, b""),
+        (&[2], &[], 3, b"keys 0\n"),
+        (&[3], &[], 3, b"keys 0\nkeys 0\n"),
+        (&[], &[], 0, b"keys 0\nkeys 0\n"),
+        (&[], &[1], 4, b""),
+        (&[], &[2], 4, b"key"),
+        (&[], &[3], 4, b"keys 0"),
+        (&[], &[4], 4, b"keys 0\n"),
+    ];
+    for (read_fails, write_fails, status, replies) in rows.iter() {
+        let outcome = outcome_of(
+            rt.alloc(),
+            &["run"],
+            b"keys\nkeys\n",
+            read_fails,
+            write_fails,
+        )?;
+        assert_eq!(rt; outcome.status, *status);
+        assert!(rt; outcome.written.as_slice() == *replies);
+    }
     Ok(())
 }
 
 #[test]
 fn lines_that_are_too_long(rt: HostRuntime) -> Result<(), Fail> {
     let alloc = rt.alloc();
+    let rows = standard_rows();
+    let mut policy = Policy::new(rows, |ask| admits(&rows, ask));
     let mut machine = Machine::new(alloc);
     let mut out = Vec::new(alloc);
     let mut line = vec![in alloc; b'#'; 16777216]?;
-    machine.line(&line, &mut out).ok().ok_or("memory")?;
+    machine
+        .line(&line, &mut policy, &mut out)
+        .ok()
+        .ok_or("memory")?;
     assert!(rt; out.is_empty());
     line.push(b'#')?;
-    machine.line(&line, &mut out).ok().ok_or("memory")?;
+    machine
+        .line(&line, &mut policy, &mut out)
+        .ok()
+        .ok_or("memory")?;
     assert_eq!(rt; out.as_slice(), b"refused long\n".as_slice());
-    Ok(())
-}
-
-/// No octets that anyone has hash to one fingerprint twice but a collision of SHA-1: the fingerprint is handed in.
-#[test]
-fn two_keys_of_one_fingerprint(rt: HostRuntime) -> Result<(), Fail> {
-    let alloc = rt.alloc();
-    let mut certs = BTreeMap::new(alloc);
-    let fpr = Fpr::V4([7; 20]);
-    let steps = [
-        (b"\x04\x00\x00\x03\xe8\x1b\x01", Kept::New),
-        (b"\x04\x00\x00\x03\xe8\x1b\x02", Kept::Clash),
-        (b"\x04\x00\x00\x03\xe8\x1b\x01", Kept::Same),
-    ];
-    for (body, kept) in steps.iter() {
-        let found = keep(alloc, &mut certs, fpr, body.as_slice())
-            .ok()
-            .ok_or("memory")?;
-        assert!(rt; found == *kept);
-    }
-    assert_eq!(rt; certs.len(), 1);
     Ok(())
 }
 
@@ -241,8 +182,123 @@ fn each_reply_is_written_before_more_is_read(rt: HostRuntime) -> Result<(), Fail
         input: MemorySource::new(script, 5, Vec::new(alloc)),
     };
     let mut output = HeardSink { log: &log };
-    let status = run_words(alloc, &words, &mut input, &mut output);
+    let rows = standard_rows();
+    let mut policy = Policy::new(rows, |ask| admits(&rows, ask));
+    let status = run_words(alloc, &words, &mut input, &mut output, &mut policy);
     assert_eq!(rt; status, 0);
     assert_eq!(rt; log.get(), 1_212_121);
+    Ok(())
+}
+
+/// A key that is a root of both views, a key whose user ID it certifies, and no verdict on that certification yet.
+const SETUP: [&[u8]; 8] = [
+    b"import c60704000003e81b01c210041f1b0800060502000003e800000000\n",
+    b"import c60704000003e81b04c210041f1b0800060502000003e800000000cd0174c21004101b0800060502000007d000000000\n",
+    b"verdict 68d0eb5f8ca13914fcddf1b23e5f608bf9847603834da284f01a707208051209 good 7f35c8dbd6b3eb2ffd59cbdd2e41ea291212ac38\n",
+    b"verdict 6f340f6bdd375d28b7edb40f930d95bf4ad33f807483dfd6a9600c1af4e334bd good 3c98b8180e0fcaca1032499082a5de8fa5d98232\n",
+    b"view p time 5000\n",
+    b"view p root 7f35c8dbd6b3eb2ffd59cbdd2e41ea291212ac38 120\n",
+    b"view q time 5000\n",
+    b"view q root 7f35c8dbd6b3eb2ffd59cbdd2e41ea291212ac38 40\n",
+];
+
+/// The lines of the client that asks through the view p.
+const FIRST: [&[u8]; 3] = [
+    b"ask p 3c98b8180e0fcaca1032499082a5de8fa5d98232 120 t\n",
+    b"verdict 7331b37825bdca65502938381c08cd08d9da47de1940c67bdae7bdf1dfab72d5 bad\n",
+    b"ask p 3c98b8180e0fcaca1032499082a5de8fa5d98232 120 t\n",
+];
+
+/// The lines of the client that asks through the view q.
+const SECOND: [&[u8]; 3] = [
+    b"verdict 7331b37825bdca65502938381c08cd08d9da47de1940c67bdae7bdf1dfab72d5 good 7f35c8dbd6b3eb2ffd59cbdd2e41ea291212ac38\n",
+    b"ask q 3c98b8180e0fcaca1032499082a5de8fa5d98232 120 t\n",
+    b"drop 3c98b8180e0fcaca1032499082a5de8fa5d98232\n",
+];
+
+/// Every way in which the two clients' lines may be interleaved, and what is replied to them, a letter for each reply.
+const INTERLEAVED: [(&[u8; 6], &[u8; 6]); 20] = [
+    (b"111222", b"0k0kqk"),
+    (b"112122", b"0kkpqk"),
+    (b"112212", b"0kkqpk"),
+    (b"112221", b"0kkqk0"),
+    (b"121122", b"0kk00k"),
+    (b"121212", b"0kk00k"),
+    (b"121221", b"0kk0k0"),
+    (b"122112", b"0kqk0k"),
+    (b"122121", b"0kqkk0"),
+    (b"122211", b"0kqkk0"),
+    (b"211122", b"kpk00k"),
+    (b"211212", b"kpk00k"),
+    (b"211221", b"kpk0k0"),
+    (b"212112", b"kpqk0k"),
+    (b"212121", b"kpqkk0"),
+    (b"212211", b"kpqkk0"),
+    (b"221112", b"kqpk0k"),
+    (b"221121", b"kqpkk0"),
+    (b"221211", b"kqpkk0"),
+    (b"222111", b"kqk0k0"),
+];
+
+/// The reply that a letter stands for: a change, no path, and the one path seen from each view.
+fn reply_of(letter: u8) -> &'static [u8] {
+    match letter {
+        b'k' => b"ok\n",
+        b'p' =>
+            b"amount 120 paths 1\npath 120 steps 1 root 7f35c8dbd6b3eb2ffd59cbdd2e41ea291212ac38\nstep 7f35c8dbd6b3eb2ffd59cbdd2e41ea291212ac38 3c98b8180e0fcaca1032499082a5de8fa5d98232 0 120 t\n",
+        b'q' =>
+            b"amount 40 paths 1\npath 40 steps 1 root 7f35c8dbd6b3eb2ffd59cbdd2e41ea291212ac38\nstep 7f35c8dbd6b3eb2ffd59cbdd2e41ea291212ac38 3c98b8180e0fcaca1032499082a5de8fa5d98232 0 120 t\n",
+        _ => b"amount 0 paths 0\n",
+    }
+}
+
+/// The next line of the client with this number.
+fn next_of<'a>(client: u8, first: &mut &'a [&'a [u8]], second: &mut &'a [&'a [u8]]) -> &'a [u8] {
+    let lines = if client == b'1' { first } else { second };
+    match lines.split_first() {
+        Some((line, rest)) => {
+            *lines = rest;
+            line
+        }
+        None => b"",
+    }
+}
+
+fn script_of(alloc: Global, order: &[u8]) -> Result<Vec<u8>, Fail> {
+    let mut script = Vec::new(alloc);
+    for line in SETUP.iter() {
+        script.extend_from_slice(line)?;
+    }
+    let mut first = FIRST.as_slice();
+    let mut second = SECOND.as_slice();
+    for client in order.iter() {
+        script.extend_from_slice(next_of(*client, &mut first, &mut second))?;
+    }
+    Ok(script)
+}
+
+fn replies_of(alloc: Global, letters: &[u8]) -> Result<Vec<u8>, Fail> {
+    let mut replies = b"ok taken 1 skipped 0 new 2\nok taken 1 skipped 0 new 4\n".to_vec(alloc)?;
+    for letter in b"kkkkkk".iter().chain(letters) {
+        replies.extend_from_slice(reply_of(*letter))?;
+    }
+    Ok(replies)
+}
+
+#[test]
+fn two_clients_interleaved_in_every_way(rt: HostRuntime) -> Result<(), Fail> {
+    let alloc = rt.alloc();
+    for (order, letters) in INTERLEAVED.iter() {
+        let outcome = outcome_of(
+            alloc,
+            &["run"],
+            &script_of(alloc, order.as_slice())?,
+            &[],
+            &[],
+        )?;
+        assert_eq!(rt; outcome.status, 0);
+        let replies = replies_of(alloc, letters.as_slice())?;
+        assert!(rt; outcome.written.as_slice() == replies.as_slice());
+    }
     Ok(())
 }

@@ -1,5 +1,8 @@
 pub mod Stamps
 pub mod Rows
+pub mod Behind
+pub mod Replay
+pub mod Lines
 pub mod Judged
 pub mod Keeping
 pub mod Logs

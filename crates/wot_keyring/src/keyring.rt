@@ -12,7 +12,7 @@ ghost use Rattle.wot_keyring.specs.Keyring.{empty, certificates_in, cert_at, sta
 ghost use Rattle.wot_keyring.specs.Kept.{AreInOrder, AreNamed, AreSized, AreSmall, IsJudgedBy, IsKeyring, StaysJudged};
 ghost use Rattle.wot_policy.specs.declared.rows.PolicyRows.{PolicyRows as Rows};
 ghost use Rattle.wot_policy.specs.Kept.{IsFaithful, rows_of, asked_more};
-ghost use Rattle.wot_keyring.specs.Dump.{commands_of, lines_of, IsRestored};
+ghost use Rattle.wot_keyring.specs.Dump.{commands_of, lines_of, AreLines, IsRestored};
 ghost use Rattle.wot_keyring.specs.Import.{Answers, AsksFor, IsOneChange, holding, imported, with_certs};
 ghost use Rattle.wot_keyring.specs.Importing.{AnswersUnited, IsAskedOf, MayUnite, TellsUnion, asked_for};
 ghost use Rattle.wot_keyring.specs.Staging.{IsTally};
@@ -21,6 +21,7 @@ ghost use Rattle.wot_keyring.specs.Verdict.{with_verdict_on, without_verdict_on,
 ghost use Rattle.wot_verdict.specs.Verdicts.{InOrder};
 
 use crate::certs::CertsIter;
+use crate::dump::{put_certs, put_verdicts, replayed};
 use crate::importing::{read_certs, try_all, unite_all};
 use crate::kept::Kept;
 use crate::restamp::restamp;
@@ -76,6 +77,14 @@ impl Keyring {
             octets: 0,
             signatures: 0,
         }
+    }
+
+    /// What it may hold at most.
+    pub fn limits(&self) -> Limits
+        ensures limits { result ≡ self.now.limits }
+        ensures small { AreSmall result }
+    {
+        self.limits
     }
 
     /// The certificate that is kept under a fingerprint.
@@ -326,10 +335,23 @@ impl Keyring {
     pub fn dump(&self, alloc: Global, out: &mut Vec<u8>) -> Result<u64, Memory>
         ensures lines { OnOk result (out.new.items ≡ out.old.items ++ lines_of (commands_of self.now)) }
         ensures count { IfOk result (λ count. count ≡ length (commands_of self.now)) }
+        ensures few { IfOk result (λ count. count < 2 ^ 32) }
         ensures kept { OnErr result (out.new.items ≡ out.old.items) }
-        ensures restored { OnOk result ((rows : Rows) → IsJudgedBy rows self.now → IsRestored rows self.now) }
+        // Each command is printed as one line, which is read as that command.
+        ensures read_back { OnOk result (AreLines (commands_of self.now)) }
+        // By whatever rows the fresh keyring judges.
+        ensures restored { OnOk result ((rows : Rows) → IsRestored rows self.now) }
     {
-        Err(Memory)
+        replayed();
+        let start = out.len();
+        put_certs(alloc, self.certs(), out)?;
+        match put_verdicts(&self.verdicts, out) {
+            Ok(()) => Ok(self.certs.len() as u64 + self.verdicts.len() as u64),
+            Err(fault) => {
+                out.truncate(start);
+                Err(fault)
+            }
+        }
     }
 
     fn says(&self, number: &SigNumber, verdict: Verdict) -> bool

@@ -2,6 +2,7 @@
 #![tactic(auto)]
 
 mod certs;
+mod dump;
 mod import;
 mod importing;
 mod kept;
@@ -14,6 +15,7 @@ mod tally;
 mod tests;
 
 pub use certs::CertsIter;
+pub use dump::put_line;
 pub use import::Imported;
 pub use keyring::Keyring;
 pub use refusal::{Absent, ExportFault, Refusal};

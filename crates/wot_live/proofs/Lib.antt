@@ -1,1 +1,7 @@
-pub mod EdgeLaw
+pub mod Orders
+pub mod Putting
+pub mod Exact
+pub mod Counting
+pub mod Places
+pub mod Through
+pub mod Worked

@@ -1,19 +1,15 @@
 -- The edge of an issuer, a certificate and one of its user IDs.
-use Rattle.std.specs.Prelude.{ℕ, ◌+◌, ◌-◌, ◌==◌, Bool, false, ◌&&◌, if◌then◌else◌, List, [], ◌∷◌, Option, Some, None}
+use Rattle.std.specs.Prelude.{ℕ, ◌+◌, false, if◌then◌else◌, List, [], ◌∷◌, Option}
+use Rattle.std.specs.List.{slice_get}
 use Rattle.std.specs.Option.{option_map, option_and_then}
 use Rattle.std.specs.Ordering.{is_eq}
 use Rattle.wot_types.specs.declared.fpr.Fpr.{Fpr}
 use Rattle.wot_signature.specs.declared.facts.SigFacts.{SigFacts}
 use Rattle.wot_verdict.specs.Verdicts.{Entries}
 use Rattle.wot_cert.specs.Certificate.{Signature, Component, Certificate, said_by, sig_cmp}
-use Rattle.wot_cert.specs.Issuer.{same_fpr}
 use Rattle.wot_edge.specs.declared.edge.EdgeFacts.{EdgeFacts}
+use Rattle.wot_edge.specs.Order.{same_fpr}
 use Rattle.wot_standing.specs.Standing.{own, self_certification}
-
--- what stands at a place, if anything does
-abbrev pub item_at : {A : Type 0} → List A → ℕ → Option A
-item_at [] place = None
-item_at (x ∷ xs) place = if place == 0 then Some x else item_at xs (place - 1)
 
 -- the place of a signature among these, by its body
 abbrev pub place_of : Signature → List Signature → ℕ
@@ -42,4 +38,4 @@ edge_on verdicts target t issuer uid p =
     option_and_then (edge_by issuer target uid p.sigs) (self_certification verdicts issuer t p)
 
 abbrev pub edge_of : Entries → Certificate → ℕ → Fpr → ℕ → Option EdgeFacts
-edge_of verdicts c t issuer uid = option_and_then (edge_on verdicts (own c) t issuer uid) (item_at c.user_ids uid)
+edge_of verdicts c t issuer uid = option_and_then (edge_on verdicts (own c) t issuer uid) (slice_get c.user_ids uid)

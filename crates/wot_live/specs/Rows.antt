@@ -1,30 +1,66 @@
 -- All edges into a certificate, and the user IDs that its own key revoked.
-use Rattle.std.specs.Prelude.{◌≡◌, ℕ, ◌+◌, ◌==◌, Bool, ◌&&◌, if◌then◌else◌, List, [], ◌∷◌, Option, Some, None}
-use Rattle.std.specs.declared.cmp.Ordering.{Ordering}
-use Rattle.std.specs.Ordering.{nat_cmp, ordering_then}
+use Rattle.std.specs.Prelude.{◌≡◌, ℕ, ◌+◌, ◌==◌, Bool, ◌&&◌, if◌then◌else◌, List, [], ◌∷◌, ◌++◌, Option, Some, None}
+use Rattle.std.specs.List.{filter_map}
+use Rattle.std.specs.List.Sorted.{IsStrictlySortedBy}
+use Rattle.std.specs.Option.{option_and_then}
 use Rattle.wot_types.specs.declared.fpr.Fpr.{Fpr}
-use Rattle.wot_types.specs.Fpr.{fpr_cmp}
 use Rattle.wot_verdict.specs.Verdicts.{Entries}
-use Rattle.wot_cert.specs.Certificate.{Component, Certificate}
-use Rattle.wot_cert.specs.Issuer.{same_fpr}
-use Rattle.wot_cert.specs.Ranked.{IsRising}
+use Rattle.wot_cert.specs.Certificate.{Signature, Component, Certificate}
+use Rattle.wot_cert.specs.Issuer.{issuer_of}
+use Rattle.wot_cert.specs.Ranked.{united}
 use Rattle.wot_edge.specs.declared.edge.EdgeFacts.{EdgeFacts}
+use Rattle.wot_edge.specs.Order.{edge_cmp, same_fpr}
+use Rattle.wot_edge.specs.Record.{Has}
 use Rattle.wot_standing.specs.Own.{is_own_revoked}
 use Rattle.wot_standing.specs.Standing.{own}
-use Rattle.wot_live.specs.Edge.{edge_of}
+use Rattle.wot_live.specs.Edge.{edge_on, edge_of}
 
--- by the issuer, then the user ID
-abbrev pub edge_cmp : EdgeFacts → EdgeFacts → Ordering
-edge_cmp a b = ordering_then (fpr_cmp a.issuer b.issuer) (nat_cmp a.uid b.uid)
+-- ---- the edges
+
+-- the edge that the issuer of a signature has on the user ID
+abbrev pub edge_with : Entries → Fpr → ℕ → ℕ → Component → Signature → Option EdgeFacts
+edge_with verdicts target t uid p s = option_and_then (λ issuer. edge_on verdicts target t issuer uid p) (issuer_of verdicts s)
+
+-- those of all signatures on the user ID; an issuer of several has its edge there several times
+abbrev pub edges_on : Entries → Fpr → ℕ → ℕ → Component → List EdgeFacts
+edges_on verdicts target t uid p = filter_map (edge_with verdicts target t uid p) p.sigs
+
+-- those on these user IDs, the first of which stands at this place
+abbrev pub edges_from : Entries → Fpr → ℕ → ℕ → List Component → List EdgeFacts
+edges_from verdicts target t uid [] = []
+edges_from verdicts target t uid (p ∷ ps) = edges_on verdicts target t uid p ++ edges_from verdicts target t (uid + 1) ps
+
+-- Two edges of one issuer and user ID are the same: either will do.
+abbrev pub one_of_both : EdgeFacts → EdgeFacts → EdgeFacts
+one_of_both old new = new
+
+-- These edges in the order of issuer and user ID, each once.
+abbrev pub in_edge_order : List EdgeFacts → List EdgeFacts
+in_edge_order edges = united edge_cmp one_of_both [] edges
+
+-- all edges into a certificate at t, in the order of issuer and user ID, each once
+abbrev pub edges_of : Entries → Certificate → ℕ → List EdgeFacts
+edges_of verdicts c t = in_edge_order (edges_from verdicts (own c) t 0 c.user_ids)
+
+-- ---- what they are
+
+abbrev pub is_edge_of : Fpr → ℕ → EdgeFacts → Bool
+is_edge_of issuer uid e = same_fpr e.issuer issuer && (e.uid == uid)
 
 abbrev pub edge_at : List EdgeFacts → Fpr → ℕ → Option EdgeFacts
 edge_at [] issuer uid = None
-edge_at (e ∷ es) issuer uid = if same_fpr e.issuer issuer && (e.uid == uid) then Some e else edge_at es issuer uid
+edge_at (e ∷ es) issuer uid = if is_edge_of issuer uid e then Some e else edge_at es issuer uid
 
 -- These are all edges into the certificate at t, each once, in order.
 pub record AreRows (verdicts : Entries) (c : Certificate) (t : ℕ) (edges : List EdgeFacts) : Type 0 where
-  pub in_order : IsRising edge_cmp edges
+  pub in_order : IsStrictlySortedBy edge_cmp edges
   pub exact : (issuer : Fpr) (uid : ℕ) → edge_at edges issuer uid ≡ edge_of verdicts c t issuer uid
+
+-- All of them are into this one.
+abbrev pub AreInto : Fpr → List EdgeFacts → Type 0
+AreInto target edges = (edge : EdgeFacts) → Has edges edge → edge.target ≡ target
+
+-- ---- revoked user IDs
 
 -- the places, from this one on, where the test holds
 abbrev pub places_where : {A : Type 0} → (A → Bool) → ℕ → List A → List ℕ

@@ -1,4 +1,14 @@
 //! The edges into one certificate at a time.
 #![tactic(auto)]
 
-pub mod terms;
+mod found;
+pub mod laws;
+mod making;
+mod revoked;
+mod table;
+mod terms;
+#[cfg(test)]
+mod tests;
+
+pub use making::rows;
+pub use table::Rows;

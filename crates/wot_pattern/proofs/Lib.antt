@@ -1,10 +1,12 @@
 pub mod Building
 pub mod Complete
+pub mod Deciding
 pub mod Flows
 pub mod Law
 pub mod Loops
 pub mod Lists
 pub mod Marking
 pub mod Sound
+pub mod Telling
 pub mod Tells
 pub mod Walk

@@ -1,3 +1,4 @@
+pub mod Deciding
 pub mod Grammar
 pub mod Marks
 pub mod Meaning

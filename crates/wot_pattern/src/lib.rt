@@ -6,6 +6,7 @@ mod builder;
 mod fault;
 mod flow;
 mod item;
+pub mod laws;
 mod leaf;
 mod mark;
 mod matcher;

@@ -1,7 +1,9 @@
-ghost use Rattle.std.specs.Prelude.{◌↔◌, ◌∷◌, IsTrue, IfOk};
+ghost use Rattle.std.specs.Prelude.{◌≡◌, ◌↔◌, ◌∷◌, IsTrue, IfOk};
 ghost use Rattle.wot_signature.specs.Signature.{scopes_of};
 ghost use Rattle.wot_scope.specs.Scope.{TextMatches, OneMatches, ScopeHolds};
+ghost use Rattle.wot_scope.specs.Deciding.{scope_holds};
 
+use crate::laws::scope_is_told;
 use std::alloc::Global;
 use std::str;
 use wot_pattern::{Matcher, PatternFault, one_reading, parse};
@@ -11,6 +13,14 @@ use wot_types::Memory;
 /// Whether the scope of this signature body holds for the user ID: the body has no pattern, or the user ID is UTF-8 and one
 /// of its readable patterns matches it.
 pub fn in_scope(alloc: Global, body: &[u8], uid: &[u8]) -> Result<bool, Memory>
+    ensures holds { IfOk result (λ holds. IsTrue holds ↔ ScopeHolds (scopes_of body.now) uid.now) }
+    ensures told { IfOk result (λ holds. holds ≡ scope_holds (scopes_of body.now) uid.now) }
+{
+    scope_is_told();
+    holds(alloc, body, uid)
+}
+
+fn holds(alloc: Global, body: &[u8], uid: &[u8]) -> Result<bool, Memory>
     ensures holds { IfOk result (λ holds. IsTrue holds ↔ ScopeHolds (scopes_of body.now) uid.now) }
 {
     let mut texts = scopes(body);

@@ -6,3 +6,4 @@ pub mod Spaceless
 pub mod Readings
 pub mod Sizes
 pub mod Wanting
+pub mod OneLine

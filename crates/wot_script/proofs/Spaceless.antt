@@ -1,8 +1,8 @@
--- Fields have no space in them, so a line that was joined of them is cut there again.
-use Rattle.std.proofs.Common.{◌≡◌, ℕ, zero, suc, ◌/◌, ◌%◌, ◌<◌, ◌^◌, ◌==◌, Bool, true, not, ◌&&◌, List, [], ◌∷◌, ◌++◌, Some, refl, ap, ◌∙◌, arith}
-use Rattle.std.specs.Prelude.{slice_index}
+-- Octets that a text doesn't have. Fields have no space in them, so a line that was joined of them is cut there again.
+use Rattle.std.proofs.Common.{◌≡◌, ℕ, zero, suc, ◌/◌, ◌%◌, ◌<◌, ◌^◌, ◌==◌, Bool, true, false, not, ◌&&◌, List, [], ◌∷◌, ◌++◌, Some, refl, ap, ◌∙◌, arith}
+use Rattle.std.specs.Prelude.{◌≢◌, slice_index}
 use Rattle.std.specs.Option.{option_map}
-use Rattle.std.specs.List.{list_all}
+use Rattle.std.specs.List.{AllByRecursion, list_all}
 use Rattle.std.specs.Char.{is_ascii_digit}
 use Rattle.std.specs.Str.{all_ascii_digits}
 use Rattle.std.specs.Fmt.{decimal}
@@ -13,10 +13,13 @@ use Rattle.wot_script.specs.Fields.{cut}
 use Rattle.wot_script.proofs.Cutting.{cut-cons}
 use Rattle.wot_script.proofs.Numerals.{digits-decimal}
 
+-- no octet is this one
+abbrev pub Lacks : ℕ → List ℕ → Type 0
+Lacks x octets = AllByRecursion (λ octet. octet ≢ x) octets
+
 -- no octet is a space
 abbrev pub Spaceless : List ℕ → Type 0
-Spaceless [] = Unit {0}
-Spaceless (octet ∷ octets) = (octet ≡ 32 → ⊥) × Spaceless octets
+Spaceless octets = Lacks 32 octets
 
 pub cut_spaceless : (field rest : List ℕ) → Spaceless field → cut (field ++ 32 ∷ rest) ≡ Some (field, rest)
 cut_spaceless [] rest none = refl
@@ -25,63 +28,72 @@ cut_spaceless (octet ∷ octets) rest none =
     ∙ ap (option_map (λ parts. (octet ∷ parts.0, parts.1))) (cut_spaceless octets rest none.1)
 
 -- each place of a table
-spaceless_place : (table : List ℕ) (k : ℕ) → Spaceless table → slice_index table k ≡ 32 → ⊥
-spaceless_place [] k none e = absurd (omega arith)
-spaceless_place (octet ∷ octets) zero none e = none.0 e
-spaceless_place (octet ∷ octets) (suc k) none e = spaceless_place octets k none.1 e
+lacks_place : (x : ℕ) (table : List ℕ) (k : ℕ) → 0 < x → Lacks x table → slice_index table k ≡ x → ⊥
+lacks_place x [] k some none e = absurd (omega arith)
+lacks_place x (octet ∷ octets) zero some none e = none.0 e
+lacks_place x (octet ∷ octets) (suc k) some none e = lacks_place x octets k some none.1 e
 
-spaceless_encoded : (table octets : List ℕ) → Spaceless table → Spaceless (encode_with table octets)
+lacks_encoded : (x : ℕ) (table octets : List ℕ) → 0 < x → Lacks x table → Lacks x (encode_with table octets)
 unfolding encode_with
-spaceless_encoded table [] none = tt
-spaceless_encoded table (octet ∷ octets) none =
-    (spaceless_place table (octet / 16) none, (spaceless_place table (octet % 16) none, spaceless_encoded table octets none))
+lacks_encoded x table [] some none = tt
+lacks_encoded x table (octet ∷ octets) some none =
+    (lacks_place x table (octet / 16) some none, (lacks_place x table (octet % 16) some none, lacks_encoded x table octets some none))
 
 -- a test that computes
-spaceless_test : List ℕ → Bool
-spaceless_test [] = true
-spaceless_test (octet ∷ octets) = not (octet == 32) && spaceless_test octets
+unfoldable pub lacks_test : ℕ → List ℕ → Bool
+lacks_test x [] = true
+lacks_test x (octet ∷ octets) = not (octet == x) && lacks_test x octets
 
-spaceless_octet : (octet : ℕ) → not (octet == 32) ≡ true → octet ≡ 32 → ⊥
-spaceless_octet octet h e = both_ways (octet == 32) (not-true (octet == 32) h) (eq-eqb octet 32 e)
+lacks_octet : (x octet : ℕ) → not (octet == x) ≡ true → octet ≡ x → ⊥
+lacks_octet x octet h e = both_ways (octet == x) (not-true (octet == x) h) (eq-eqb octet x e)
 
-spaceless_from_test : (octets : List ℕ) → spaceless_test octets ≡ true → Spaceless octets
-unfolding spaceless_test
-spaceless_from_test [] h = tt
-spaceless_from_test (octet ∷ octets) h =
-    let parts = and_parts (not (octet == 32)) (spaceless_test octets) h in
-    (spaceless_octet octet parts.0, spaceless_from_test octets parts.1)
+pub lacks_from_test : (x : ℕ) (octets : List ℕ) → lacks_test x octets ≡ true → Lacks x octets
+unfolding lacks_test
+lacks_from_test x [] h = tt
+lacks_from_test x (octet ∷ octets) h =
+    let parts = and_parts (not (octet == x)) (lacks_test x octets) h in
+    (lacks_octet x octet parts.0, lacks_from_test x octets parts.1)
 
-lower_digits_test : spaceless_test lower_digits ≡ true
-unfolding spaceless_test
-lower_digits_test = refl
+spaceless_lower : lacks_test 32 lower_digits ≡ true
+unfolding lacks_test
+spaceless_lower = refl
+
+feedless_lower : lacks_test 10 lower_digits ≡ true
+unfolding lacks_test
+feedless_lower = refl
 
 pub spaceless_digits : (octets : List ℕ) → Spaceless (encode_lower octets)
-spaceless_digits octets = spaceless_encoded lower_digits octets (spaceless_from_test lower_digits lower_digits_test)
+spaceless_digits octets = lacks_encoded 32 lower_digits octets (omega arith) (lacks_from_test 32 lower_digits spaceless_lower)
 
-name_octet_apart : (octet : ℕ) → is_name_octet octet ≡ true → octet ≡ 32 → ⊥
-name_octet_apart octet h e =
-    let at : is_name_octet 32 ≡ true = rw e at h in
-    both_ways _ refl at
+pub feedless_digits : (octets : List ℕ) → Lacks 10 (encode_lower octets)
+feedless_digits octets = lacks_encoded 10 lower_digits octets (omega arith) (lacks_from_test 10 lower_digits feedless_lower)
 
-spaceless_name_octets : (octets : List ℕ) → list_all is_name_octet octets ≡ true → Spaceless octets
-spaceless_name_octets [] h = tt
-spaceless_name_octets (octet ∷ octets) h =
-    let parts = and_parts (is_name_octet octet) (list_all is_name_octet octets) h in
-    (name_octet_apart octet parts.0, spaceless_name_octets octets parts.1)
+-- an octet that the test refuses isn't among those that it takes
+refused_apart : (test : ℕ → Bool) (x octet : ℕ) → test x ≡ false → test octet ≡ true → octet ≡ x → ⊥
+refused_apart test x octet out h e =
+    let at : test x ≡ true = rw e at h in
+    both_ways (test x) out at
+
+lacks_refused : (test : ℕ → Bool) (x : ℕ) (octets : List ℕ) → test x ≡ false → list_all test octets ≡ true → Lacks x octets
+lacks_refused test x [] out h = tt
+lacks_refused test x (octet ∷ octets) out h =
+    let parts = and_parts (test octet) (list_all test octets) h in
+    (refused_apart test x octet out parts.0, lacks_refused test x octets out parts.1)
+
+pub lacks_view_name : (x : ℕ) (name : List ℕ) → is_name_octet x ≡ false → is_view_name name ≡ true → Lacks x name
+lacks_view_name x name out h = lacks_refused is_name_octet x name out (and_parts _ (list_all is_name_octet name) h).1
+
+lacks_ascii_digits : (x : ℕ) (octets : List ℕ) → is_ascii_digit x ≡ false → all_ascii_digits octets ≡ true → Lacks x octets
+lacks_ascii_digits x [] out h = tt
+lacks_ascii_digits x (octet ∷ octets) out h =
+    let parts = and_parts (is_ascii_digit octet) (all_ascii_digits octets) h in
+    (refused_apart is_ascii_digit x octet out parts.0, lacks_ascii_digits x octets out parts.1)
+
+pub lacks_decimal : (x n : ℕ) → is_ascii_digit x ≡ false → n < 2 ^ 64 → Lacks x (decimal n)
+lacks_decimal x n out small = lacks_ascii_digits x (decimal n) out (digits-decimal n small)
 
 pub spaceless_view_name : (name : List ℕ) → is_view_name name ≡ true → Spaceless name
-spaceless_view_name name h = spaceless_name_octets name (and_parts _ (list_all is_name_octet name) h).1
-
-digit_apart : (octet : ℕ) → is_ascii_digit octet ≡ true → octet ≡ 32 → ⊥
-digit_apart octet h e =
-    let at : is_ascii_digit 32 ≡ true = rw e at h in
-    both_ways _ refl at
-
-spaceless_ascii_digits : (octets : List ℕ) → all_ascii_digits octets ≡ true → Spaceless octets
-spaceless_ascii_digits [] h = tt
-spaceless_ascii_digits (octet ∷ octets) h =
-    let parts = and_parts (is_ascii_digit octet) (all_ascii_digits octets) h in
-    (digit_apart octet parts.0, spaceless_ascii_digits octets parts.1)
+spaceless_view_name name h = lacks_view_name 32 name refl h
 
 pub spaceless_decimal : (n : ℕ) → n < 2 ^ 64 → Spaceless (decimal n)
-spaceless_decimal n small = spaceless_ascii_digits (decimal n) (digits-decimal n small)
+spaceless_decimal n small = lacks_decimal 32 n refl small

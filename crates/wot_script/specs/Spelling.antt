@@ -1,5 +1,6 @@
 -- How a command is printed.
-use Rattle.std.specs.Prelude.{ℕ, ◌≤◌, List, [], ◌∷◌, codes}
+use Rattle.std.specs.Prelude.{ℕ, ◌≢◌, ◌≤◌, ◌+◌, ◌*◌, List, [], ◌∷◌, length, codes}
+use Rattle.std.specs.List.{AllByRecursion}
 use Rattle.std.specs.Fmt.{decimal}
 use Rattle.hex.specs.Hex.{encode_lower}
 use Rattle.wot_types.specs.Fpr.{digits_of}
@@ -13,6 +14,11 @@ use Rattle.wot_script.specs.declared.command.Command.TheVariants.{Import, Remove
 abbrev pub HasSpelling : Command → Type 0
 HasSpelling (Ask view fpr wanted uid) = 1 ≤ wanted
 HasSpelling _ = Unit {0}
+
+-- The octets of an import are no more than half as many as the size of its line.
+abbrev pub IsWithin : ℕ → Command → Type 0
+IsWithin size (Import octets) = 2 * length octets ≤ size
+IsWithin size _ = Unit {0}
 
 -- the line of a command, without a line feed
 unfoldable pub spelling : Command → List ℕ
@@ -30,3 +36,22 @@ spelling (Ask view fpr wanted uid) =
 spelling Keys = codes "keys"
 spelling (Export fpr) = joined (codes "export " ∷ digits_of fpr ∷ [])
 spelling Dump = codes "dump"
+
+-- ---- lines
+
+-- how long the line of a command is at most
+abbrev pub most_octets : Command → ℕ
+most_octets (Import octets) = 7 + 2 * length octets
+most_octets (Ask view fpr wanted uid) = 128 + 4 * length uid
+most_octets _ = 128
+
+-- It isn't empty and no comment.
+abbrev pub IsHeard : List ℕ → Type 0
+IsHeard [] = ⊥
+IsHeard (octet ∷ octets) = octet ≢ 35
+
+-- This text is one line, which isn't passed over, and no longer than the line of the command can be.
+pub record IsLineFor (command : Command) (text : List ℕ) : Type 0 where
+  pub no_feed : AllByRecursion (λ octet. octet ≢ 10) text
+  pub heard : IsHeard text
+  pub short : length text ≤ most_octets command

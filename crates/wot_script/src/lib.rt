@@ -4,6 +4,8 @@
 mod command;
 mod decimal;
 mod fields;
+pub mod laws;
+mod lined;
 mod lists;
 mod octets;
 mod piece;

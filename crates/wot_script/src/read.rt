@@ -1,10 +1,10 @@
-ghost use Rattle.std.specs.Prelude.{◌≡◌, ◌≤◌, Some, None, IfOk, IsErrOf};
+ghost use Rattle.std.specs.Prelude.{◌≡◌, ◌≤◌, length, Some, None, IfOk, IsErrOf};
 ghost use Rattle.std.specs.Option.{option_map};
 ghost use Rattle.wot_types.specs.Fpr.{fpr_of_digits};
 ghost use Rattle.wot_script.specs.Fields.{octets_of_hex};
 ghost use Rattle.wot_script.specs.Decimal.{decimal_up_to};
 ghost use Rattle.wot_script.specs.Grammar.{ask_of, asked_of, command_of, drop_of, export_of, import_of, judgement_of, root_of, setting_of, single_of, verdict_of, view_of};
-ghost use Rattle.wot_script.specs.Spelling.{HasSpelling};
+ghost use Rattle.wot_script.specs.Spelling.{HasSpelling, IsWithin};
 
 use crate::decimal::{read_decimal, read_positive};
 use crate::fields::{after_front, cut_field};
@@ -217,6 +217,8 @@ pub fn read_line(alloc: Global, line: &[u8]) -> Result<Command, LineFault>
     ensures line { IsErrOf result LineFault.Line → command_of line.now ≡ None }
     // A question that was read wants at least 1.
     ensures spelled { IfOk result HasSpelling }
+    // An import's octets are two digits each.
+    ensures within { IfOk result (IsWithin (length line.now)) }
 {
     match read_command(alloc, line) {
         Ok(Some(command)) => Ok(command),

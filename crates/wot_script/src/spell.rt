@@ -1,8 +1,9 @@
 ghost use Rattle.std.specs.Prelude.{◌≡◌, ◌++◌, OnOk, OnErr};
 ghost use Rattle.wot_script.specs.Grammar.{command_of};
-ghost use Rattle.wot_script.specs.Spelling.{HasSpelling, spelling};
+ghost use Rattle.wot_script.specs.Spelling.{HasSpelling, IsLineFor, spelling};
 
 use crate::Command;
+use crate::lined::spelling_is_line;
 use crate::piece::Piece::{Decimal, Hex, Key, Signature, Text, Uid};
 use crate::piece::put_pieces;
 use crate::spelled::spelling_is_read;
@@ -111,7 +112,10 @@ pub fn print_command(command: &Command, out: &mut Vec<u8>) -> Result<(), Memory>
     ensures kept { OnErr result (out.new.items ≡ out.old.items) }
     // What is printed is read as this command.
     ensures read_back { command_of (spelling command.now) ≡ Some command.now }
+    // It is one line, and not passed over.
+    ensures line { IsLineFor command.now (spelling command.now) }
 {
     spelling_is_read(command);
+    spelling_is_line(command);
     put_command(command, out)
 }

@@ -1,2 +1,4 @@
 pub mod Revoking
 pub mod SpanLaw
+pub mod Certifying
+pub mod Counting

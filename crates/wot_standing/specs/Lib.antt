@@ -6,3 +6,4 @@ pub mod Usable
 pub mod Latest
 pub mod Throughout
 pub mod Steady
+pub mod Certifiers

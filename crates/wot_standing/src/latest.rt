@@ -34,7 +34,7 @@ pub(crate) fn latest_revocation(
     best
 }
 
-fn later(made: u32, best: Option<u32>) -> u32
+pub(crate) fn later(made: u32, best: Option<u32>) -> u32
     ensures { result ≡ option_map_or (max made) best made }
 {
     match best {

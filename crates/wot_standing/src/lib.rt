@@ -1,9 +1,11 @@
 //! Whether a key stands at a time, and what ends it.
 #![tactic(auto)]
 
+mod certifiers;
 mod governing;
 mod kinds;
 mod latest;
+pub mod laws;
 mod newest;
 mod own;
 mod revoked;
@@ -13,6 +15,7 @@ mod steady;
 mod tests;
 mod usable;
 
+pub use certifiers::Certifiers;
 pub use governing::standing;
 pub use own::is_own_revoked;
 pub use status::Standing;

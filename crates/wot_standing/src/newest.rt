@@ -15,7 +15,7 @@ use wot_types::{Fpr, compare_numbers};
 use wot_verdict::Verdicts;
 
 /// By the time made, then the number, then the body.
-fn compare_newness(a: &Sig, b: &Sig) -> Ordering
+pub(crate) fn compare_newness(a: &Sig, b: &Sig) -> Ordering
     ensures { result ≡ newness a.now b.now }
 {
     match made(a).cmp(&made(b)) {
@@ -48,7 +48,7 @@ fn higher<'a>(order: Ordering, a: &'a Sig, b: &'a Sig) -> &'a Sig
     }
 }
 
-fn is_valid_after(
+pub(crate) fn is_valid_after(
     sig: &Sig,
     verdicts: &Verdicts,
     fpr: &Fpr,

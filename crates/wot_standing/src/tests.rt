@@ -1,7 +1,9 @@
-use crate::{Standing, standing};
+use crate::{
+    Certifiers, Standing, is_key_in_order, is_own_revoked, is_usable, standing, steady_span,
+};
 use std::alloc::Global;
 use std::test::Fail;
-use wot_cert::{Assembled, Cert, Sig, Span, assemble};
+use wot_cert::{Assembled, Cert, Part, Sig, Span, assemble};
 use wot_packet::read_packets;
 use wot_policy::{Policy, admits, standard_rows};
 use wot_types::Fpr;
@@ -125,6 +127,14 @@ const TEXT_13: &[u8] =
 /// Revocations by another key have no effect.
 const TEXT_14: &[u8] =
     b"\xc6\x07\x04\x00\x00\x03\xe8\x1b\x04\xc2\x10\x04\x1f\x1b\x08\x00\x06\x05\x02\x00\x00\x03\xe8\x00\x00\x00\x00\xc2\x2a\x04\x20\x1b\x08\x00\x20\x05\x02\x00\x00\x07\xd0\x02\x1d\x02\x16\x21\x04\x7f\x35\xc8\xdb\xd6\xb3\xeb\x2f\xfd\x59\xcb\xdd\x2e\x41\xea\x29\x12\x12\xac\x38\x00\x00\x00\x00\xc2\x27\x04\x30\x1b\x08\x00\x1d\x05\x02\x00\x00\x07\xd0\x16\x21\x04\x7f\x35\xc8\xdb\xd6\xb3\xeb\x2f\xfd\x59\xcb\xdd\x2e\x41\xea\x29\x12\x12\xac\x38\x00\x00\x00\x00";
+
+/// Issuers of several user IDs.
+const TEXT_15: &[u8] =
+    b"\xc6\x07\x04\x00\x00\x03\xe8\x1b\x04\xc2\x10\x04\x1f\x1b\x08\x00\x06\x05\x02\x00\x00\x03\xe8\x00\x00\x00\x00\xcd\x01\x74\xc2\x2b\x04\x10\x1b\x08\x00\x21\x05\x02\x00\x00\x07\xd0\x03\x05\x01\x3c\x16\x21\x04\x7f\x35\xc8\xdb\xd6\xb3\xeb\x2f\xfd\x59\xcb\xdd\x2e\x41\xea\x29\x12\x12\xac\x38\x00\x00\x00\x00\xc2\x10\x04\x13\x1b\x08\x00\x06\x05\x02\x00\x00\x08\x34\x00\x00\x00\x00\xc2\x2f\x04\x11\x1b\x08\x00\x25\x05\x02\x00\x00\x08\x98\x03\x05\xff\x01\x03\x06\x78\x00\x16\x21\x04\x35\x2e\x5f\x12\x05\x9b\x46\x05\xa5\xb8\xf8\x8f\x66\xd6\x55\xc9\x13\x3e\x1c\xa2\x00\x00\x00\x00\xcd\x01\x73\xc2\x27\x04\x12\x1b\x08\x00\x1d\x05\x02\x00\x00\x08\xfc\x16\x21\x04\x35\x2e\x5f\x12\x05\x9b\x46\x05\xa5\xb8\xf8\x8f\x66\xd6\x55\xc9\x13\x3e\x1c\xa2\x00\x00\x00\x00\xc2\x2b\x04\x10\x1b\x08\x00\x21\x05\x02\x00\x00\x09\x60\x03\x05\x02\x78\x16\x21\x04\x7f\x35\xc8\xdb\xd6\xb3\xeb\x2f\xfd\x59\xcb\xdd\x2e\x41\xea\x29\x12\x12\xac\x38\x00\x00\x00\x00\xc2\x27\x04\x30\x1b\x08\x00\x1d\x05\x02\x00\x00\x09\x92\x16\x21\x04\x7f\x35\xc8\xdb\xd6\xb3\xeb\x2f\xfd\x59\xcb\xdd\x2e\x41\xea\x29\x12\x12\xac\x38\x00\x00\x00\x00\xc2\x2b\x04\x13\x1b\x08\x00\x21\x05\x02\x00\x00\x09\xc4\x03\x05\x00\x1e\x16\x21\x04\x7f\x35\xc8\xdb\xd6\xb3\xeb\x2f\xfd\x59\xcb\xdd\x2e\x41\xea\x29\x12\x12\xac\x38\x00\x00\x00\x00";
+
+/// User IDs that their own key revoked; the second was certified again.
+const TEXT_16: &[u8] =
+    b"\xc6\x07\x04\x00\x00\x03\xe8\x1b\x04\xc2\x10\x04\x1f\x1b\x08\x00\x06\x05\x02\x00\x00\x03\xe8\x00\x00\x00\x00\xcd\x01\x73\xc2\x10\x04\x13\x1b\x08\x00\x06\x05\x02\x00\x00\x07\xd0\x00\x00\x00\x00\xc2\x10\x04\x30\x1b\x08\x00\x06\x05\x02\x00\x00\x09\xc4\x00\x00\x00\x00\xcd\x01\x74\xc2\x10\x04\x13\x1b\x08\x00\x06\x05\x02\x00\x00\x07\xd0\x00\x00\x00\x00\xc2\x10\x04\x30\x1b\x08\x00\x06\x05\x02\x00\x00\x09\xc4\x00\x00\x00\x00\xc2\x10\x04\x13\x1b\x08\x00\x06\x05\x02\x00\x00\x0b\xb8\x00\x00\x00\x00\xcd\x01\x75\xc2\x10\x04\x30\x1b\x08\x00\x06\x05\x02\x00\x00\x09\xc4\x00\x00\x00\x00\xc2\x27\x04\x10\x1b\x08\x00\x1d\x05\x02\x00\x00\x07\xd0\x16\x21\x04\x7f\x35\xc8\xdb\xd6\xb3\xeb\x2f\xfd\x59\xcb\xdd\x2e\x41\xea\x29\x12\x12\xac\x38\x00\x00\x00\x00";
 
 const CASES: [Case; 23] = [
     (
@@ -307,6 +317,93 @@ fn standings_and_spans(rt: HostRuntime) -> Result<(), Fail> {
             (expected, Span { from, to }),
             "{what} at {t}"
         );
+    }
+    Ok(())
+}
+
+/// What a certificate is, its text, a time, whether an edge that it made at 2000 is usable then, and whether its key is in
+/// order.
+type Use = (&'static str, &'static [u8], u32, bool, bool);
+
+const USES: [Use; 6] = [
+    ("retired at 2001", TEXT_1, 5000, true, false),
+    ("retired at 2000", TEXT_2, 5000, false, false),
+    ("compromised", TEXT_3, 5000, false, false),
+    (
+        "the certificate of the table of spans",
+        TEXT_0,
+        5000,
+        true,
+        true,
+    ),
+    ("before it ended", TEXT_5, 1499, false, true),
+    ("when it ended", TEXT_5, 1500, false, false),
+];
+
+#[test]
+fn usable_and_in_order(rt: HostRuntime) -> Result<(), Fail> {
+    for (what, text, t, usable, in_order) in USES {
+        let cert = judged(rt.alloc(), text).ok_or("judged")?;
+        let verdicts = good(rt.alloc(), &cert).ok_or("verdicts")?;
+        let (standing, span) = standing(&cert, &verdicts, t);
+        assert_eq!(rt; is_usable(&standing, 2000), usable, "edge of {what}");
+        assert_eq!(rt; is_key_in_order(&standing, t), in_order, "key of {what}");
+        assert_eq!(rt; steady_span(&cert, t), span, "span of {what}");
+    }
+    Ok(())
+}
+
+const R: Fpr = Fpr::V4([
+    0x7f, 0x35, 0xc8, 0xdb, 0xd6, 0xb3, 0xeb, 0x2f, 0xfd, 0x59, 0xcb, 0xdd, 0x2e, 0x41, 0xea, 0x29,
+    0x12, 0x12, 0xac, 0x38,
+]);
+
+const A: Fpr = Fpr::V4([
+    0x35, 0x2e, 0x5f, 0x12, 0x05, 0x9b, 0x46, 0x05, 0xa5, 0xb8, 0xf8, 0x8f, 0x66, 0xd6, 0x55, 0xc9,
+    0x13, 0x3e, 0x1c, 0xa2,
+]);
+
+const T: Fpr = Fpr::V4([
+    0x3c, 0x98, 0xb8, 0x18, 0x0e, 0x0f, 0xca, 0xca, 0x10, 0x32, 0x49, 0x90, 0x82, 0xa5, 0xde, 0x8f,
+    0xa5, 0xd9, 0x82, 0x32,
+]);
+
+/// Where the certifications of R, A and T stand on a user ID at a time, and whether its own key revoked it.
+fn places(
+    alloc: Global,
+    uid: &Part,
+    verdicts: &Verdicts,
+    t: u32,
+) -> Option<([Option<u32>; 3], bool)> {
+    if uid.sigs().len() >= 1000 {
+        return None;
+    }
+    let found = Certifiers::new(alloc, uid, verdicts, t).ok()?;
+    let revoked = is_own_revoked(uid, verdicts, &T, t);
+    Some(([found.place(&R), found.place(&A), found.place(&T)], revoked))
+}
+
+/// A text, a time, the place of a user ID, and what `places` gives there.
+type Certified = (&'static [u8], u32, usize, [Option<u32>; 3], bool);
+
+const CERTIFIED: [Certified; 7] = [
+    (TEXT_15, 5000, 0, [Some(2), Some(1), None], false),
+    (TEXT_15, 5000, 1, [Some(0), Some(1), Some(2)], false),
+    (TEXT_15, 2460, 0, [None, Some(1), None], false),
+    (TEXT_16, 5000, 0, [None, None, None], true),
+    (TEXT_16, 5000, 1, [None, None, Some(1)], false),
+    (TEXT_16, 5000, 2, [Some(0), None, None], true),
+    (TEXT_16, 2400, 0, [None, None, Some(0)], false),
+];
+
+#[test]
+fn certifiers_of_user_ids(rt: HostRuntime) -> Result<(), Fail> {
+    for (text, t, uid, expected, revoked) in CERTIFIED {
+        let cert = judged(rt.alloc(), text).ok_or("judged")?;
+        let verdicts = good(rt.alloc(), &cert).ok_or("verdicts")?;
+        let part = cert.user_ids().get(uid).ok_or("a user ID")?;
+        let found = places(rt.alloc(), part, &verdicts, t).ok_or("places")?;
+        assert_eq!(rt; found, (expected, revoked), "user ID {uid} at {t}");
     }
     Ok(())
 }

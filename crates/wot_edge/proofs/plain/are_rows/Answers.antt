@@ -1,5 +1,5 @@
 use Rattle.std.proofs.Common.{refl, sym, subst}
-use Rattle.wot_edge.specs.Plain.{AreRows}
+use Rattle.wot_edge.specs.Lawful.{AreRows}
 use Rattle.wot_edge.proofs.PlainTold.{rows_before, rows_end}
 use Rattle.wot_edge.proofs.plain.are_rows.Goals as goal
 

@@ -1,5 +1,5 @@
 use Rattle.std.proofs.Common.{length}
-use Rattle.wot_edge.specs.Plain.{AreRows}
+use Rattle.wot_edge.specs.Lawful.{AreRows}
 use Rattle.wot_edge.proofs.plain.are_rows.Given as goal
 
 abbrev pub invariant-rest : goal.invariant-rest

@@ -1,9 +1,18 @@
 use Rattle.wot_io.specs.Input.{lines_of}
-use Rattle.wot_engine.proofs.Outcomes.{RepliesTo-one, RepliesTo-some}
+use Rattle.wot_policy.specs.declared.rows.PolicyRows.{PolicyRows}
+use Rattle.wot_engine.specs.Law.{OneOutcome}
+use Rattle.wot_engine.proofs.Runs.{RepliesTo-one, RepliesTo-some}
 use Rattle.wot_engine.proofs.laws.each_input_has_one_transcript.Goals as goal
 
+law : (c : goal.After-each_line_has_one_outcome) (rows : PolicyRows) → OneOutcome rows
+law c rows = record {
+  some = c.each_line_has_one_outcome.ensures.some rows;
+  one = c.each_line_has_one_outcome.ensures.one rows;
+  stays = c.each_line_has_one_outcome.ensures.stays rows;
+}
+
 pub returns-clause-some : goal.returns-clause-some
-returns-clause-some c = λ input. RepliesTo-some (lines_of input)
+returns-clause-some c rows input = RepliesTo-some rows (law c rows) (lines_of input)
 
 pub returns-clause-one : goal.returns-clause-one
-returns-clause-one c = λ input replies others p q. RepliesTo-one (lines_of input) replies others p q
+returns-clause-one c rows input replies others p q = RepliesTo-one rows (law c rows) (lines_of input) replies others p q

@@ -1,54 +1,61 @@
-use Rattle.std.proofs.Common.{◌≡◌, ◌^◌, ◌<◌, refl, arith}
+use Rattle.std.proofs.Common.{◌≡◌, ◌^◌, ◌<◌, refl, arith, ◌∙◌}
+use Rattle.wot_policy.specs.Kept.{rows_of}
+use Rattle.wot_cache.specs.State.{state_of}
 use Rattle.wot_engine.proofs.Turns.{Answered-end, Answered-stop, Told-weaker, Turns-reply, Stood-write, Begun-cut, Begun-nothing, Most-cut, Most-stop}
 use Rattle.wot_engine.proofs.run.run.Goals as goal
 
 pub returns-in-Err-ReadFault-clause-taken : goal.returns-in-Err-ReadFault-clause-taken
 returns-in-Err-ReadFault-clause-taken g c =
-    Told-weaker (g.S.Source.left c.args.input.now) (g.K.Sink.written c.args.output.now) _ _ (λ input before both e. both.0)
-    (Answered-stop (g.S.Source.left c.args.input.now) (g.K.Sink.written c.args.output.now) c.lines.lines.held c.lines.lines.taken (g.S.Source.left c.lines.input) (g.K.Sink.written c.lines.output) c.lines.machine (g.S.Source.left c.next.new.from) c.next.new.self.taken c.lines.invariant.stood (c.in-Err-ReadFault.ensures.stops c.lines.invariant.no_fault))
+    Told-weaker (rows_of c.args.policy.now) (g.S.Source.left c.args.input.now) (g.K.Sink.written c.args.output.now) _ _ (λ input before both e. both.0)
+    (Answered-stop (rows_of c.args.policy.now) (g.S.Source.left c.args.input.now) (g.K.Sink.written c.args.output.now) c.lines.lines.held c.lines.lines.taken (g.S.Source.left c.lines.input) (g.K.Sink.written c.lines.output) (state_of c.lines.machine) (g.S.Source.left c.next.new.from) c.next.new.self.taken c.lines.invariant.stood (c.in-Err-ReadFault.ensures.stops c.lines.invariant.no_fault))
 
 pub returns-in-Err-TooMuch-clause-most : goal.returns-in-Err-TooMuch-clause-most
 returns-in-Err-TooMuch-clause-most g c =
     let n : c.next.new.self.taken ≡ 2 ^ 30 = (rw c.in-Err-TooMuch.field-0-is at c.in-Err-TooMuch.ensures.too_much) c.lines.invariant.no_fault refl in
-    Told-weaker (g.S.Source.left c.args.input.now) (g.K.Sink.written c.args.output.now) _ _ (λ input before both e. both.1 n)
-    (Answered-stop (g.S.Source.left c.args.input.now) (g.K.Sink.written c.args.output.now) c.lines.lines.held c.lines.lines.taken (g.S.Source.left c.lines.input) (g.K.Sink.written c.lines.output) c.lines.machine (g.S.Source.left c.next.new.from) c.next.new.self.taken c.lines.invariant.stood (c.in-Err-TooMuch.ensures.stops c.lines.invariant.no_fault))
+    Told-weaker (rows_of c.args.policy.now) (g.S.Source.left c.args.input.now) (g.K.Sink.written c.args.output.now) _ _ (λ input before both e. both.1 n)
+    (Answered-stop (rows_of c.args.policy.now) (g.S.Source.left c.args.input.now) (g.K.Sink.written c.args.output.now) c.lines.lines.held c.lines.lines.taken (g.S.Source.left c.lines.input) (g.K.Sink.written c.lines.output) (state_of c.lines.machine) (g.S.Source.left c.next.new.from) c.next.new.self.taken c.lines.invariant.stood (c.in-Err-TooMuch.ensures.stops c.lines.invariant.no_fault))
 
 pub returns-in_err-write_all-clause-front : goal.returns-in_err-write_all-clause-front
 returns-in_err-write_all-clause-front g c =
-    let replies = rw c.text.ensures at c.in_ok-reply_to.ensures.replies in
-    let t = Turns-reply (g.S.Source.left c.args.input.now) (g.K.Sink.written c.args.output.now) c.lines.lines (g.S.Source.left c.lines.input) (g.K.Sink.written c.lines.output) c.lines.machine c.next.new.self (g.S.Source.left c.next.new.from) c.reply_to.new.machine c.in-Ok.line c.reply_to.new.out.items c.lines.invariant.stood c.in-Ok.ensures.ok replies in
-    Begun-cut (g.S.Source.left c.args.input.now) (g.K.Sink.written c.args.output.now) c.next.new.self.held c.next.new.self.taken (g.S.Source.left c.next.new.from) (g.K.Sink.written c.lines.output) c.reply_to.new.out.items c.reply_to.new.machine (g.K.Sink.written c.write_all.new.to) t (rw c.deref.ensures.value at c.in_err-write_all.ensures.err)
+    let replies = rw (c.text.ensures, c.lines.invariant.rows) at c.in_ok-reply_to.ensures.replies in
+    let t = Turns-reply (rows_of c.args.policy.now) (g.S.Source.left c.args.input.now) (g.K.Sink.written c.args.output.now) c.lines.lines (g.S.Source.left c.lines.input) (g.K.Sink.written c.lines.output) (state_of c.lines.machine) c.next.new.self (g.S.Source.left c.next.new.from) (state_of c.reply_to.new.machine) c.in-Ok.line c.reply_to.new.out.items c.lines.invariant.stood c.in-Ok.ensures.ok replies in
+    Begun-cut (rows_of c.args.policy.now) c.lines.invariant.law (g.S.Source.left c.args.input.now) (g.K.Sink.written c.args.output.now) c.next.new.self.held c.next.new.self.taken (g.S.Source.left c.next.new.from) (g.K.Sink.written c.lines.output) c.reply_to.new.out.items (state_of c.reply_to.new.machine) (g.K.Sink.written c.write_all.new.to) t (rw c.deref.ensures.value at c.in_err-write_all.ensures.err)
 
 pub lines-preserved : goal.lines-preserved
 lines-preserved g c =
-    let replies = rw c.text.ensures at c.in_ok-reply_to.ensures.replies in
-    let t = Turns-reply (g.S.Source.left c.args.input.now) (g.K.Sink.written c.args.output.now) c.lines.lines (g.S.Source.left c.lines.input) (g.K.Sink.written c.lines.output) c.lines.machine c.next.new.self (g.S.Source.left c.next.new.from) c.reply_to.new.machine c.in-Ok.line c.reply_to.new.out.items c.lines.invariant.stood c.in-Ok.ensures.ok replies in
+    let replies = rw (c.text.ensures, c.lines.invariant.rows) at c.in_ok-reply_to.ensures.replies in
+    let t = Turns-reply (rows_of c.args.policy.now) (g.S.Source.left c.args.input.now) (g.K.Sink.written c.args.output.now) c.lines.lines (g.S.Source.left c.lines.input) (g.K.Sink.written c.lines.output) (state_of c.lines.machine) c.next.new.self (g.S.Source.left c.next.new.from) (state_of c.reply_to.new.machine) c.in-Ok.line c.reply_to.new.out.items c.lines.invariant.stood c.in-Ok.ensures.ok replies in
     record {
-      stood = Stood-write (g.S.Source.left c.args.input.now) (g.K.Sink.written c.args.output.now) c.next.new.self.held c.next.new.self.taken (g.S.Source.left c.next.new.from) (g.K.Sink.written c.lines.output) c.reply_to.new.out.items c.reply_to.new.machine (g.K.Sink.written c.write_all.new.to) t (rw c.deref.ensures.value at c.in_ok-write_all.ensures.ok);
+      law = c.lines.invariant.law;
+      stood = Stood-write (rows_of c.args.policy.now) (g.S.Source.left c.args.input.now) (g.K.Sink.written c.args.output.now) c.next.new.self.held c.next.new.self.taken (g.S.Source.left c.next.new.from) (g.K.Sink.written c.lines.output) c.reply_to.new.out.items (state_of c.reply_to.new.machine) (g.K.Sink.written c.write_all.new.to) t (rw c.deref.ensures.value at c.in_ok-write_all.ensures.ok);
       no_fault = c.in-Ok.ensures.well.1;
       within = c.next.ensures.within;
       empty = c.clear.ensures.items;
       source = omega (arith, c.next.ensures.later, c.lines.invariant.source);
       sink = omega (arith, c.write_all.ensures.later, c.lines.invariant.sink);
+      changes = ?;
+      judged = rw c.lines.invariant.rows at c.reply_to.ensures.judged;
+      rows = c.reply_to.ensures.rows ∙ c.lines.invariant.rows;
+      faithful = c.reply_to.ensures.faithful;
     }
 
 pub returns-in_err-write_all-clause-most_only : goal.returns-in_err-write_all-clause-most_only
 returns-in_err-write_all-clause-most_only g c =
-    let replies = rw c.text.ensures at c.in_ok-reply_to.ensures.replies in
-    let t = Turns-reply (g.S.Source.left c.args.input.now) (g.K.Sink.written c.args.output.now) c.lines.lines (g.S.Source.left c.lines.input) (g.K.Sink.written c.lines.output) c.lines.machine c.next.new.self (g.S.Source.left c.next.new.from) c.reply_to.new.machine c.in-Ok.line c.reply_to.new.out.items c.lines.invariant.stood c.in-Ok.ensures.ok replies in
-    Told-weaker (g.S.Source.left c.args.input.now) (g.K.Sink.written c.args.output.now) _ _ (λ input before no most. absurd (no most))
-    (Most-cut (g.S.Source.left c.args.input.now) (g.K.Sink.written c.args.output.now) c.next.new.self.held c.next.new.self.taken (g.S.Source.left c.next.new.from) (g.K.Sink.written c.lines.output) c.reply_to.new.out.items c.reply_to.new.machine (g.K.Sink.written c.write_all.new.to) t (rw c.deref.ensures.value at c.in_err-write_all.ensures.err))
+    let replies = rw (c.text.ensures, c.lines.invariant.rows) at c.in_ok-reply_to.ensures.replies in
+    let t = Turns-reply (rows_of c.args.policy.now) (g.S.Source.left c.args.input.now) (g.K.Sink.written c.args.output.now) c.lines.lines (g.S.Source.left c.lines.input) (g.K.Sink.written c.lines.output) (state_of c.lines.machine) c.next.new.self (g.S.Source.left c.next.new.from) (state_of c.reply_to.new.machine) c.in-Ok.line c.reply_to.new.out.items c.lines.invariant.stood c.in-Ok.ensures.ok replies in
+    Told-weaker (rows_of c.args.policy.now) (g.S.Source.left c.args.input.now) (g.K.Sink.written c.args.output.now) _ _ (λ input before no most. absurd (no most))
+    (Most-cut (rows_of c.args.policy.now) c.lines.invariant.law (g.S.Source.left c.args.input.now) (g.K.Sink.written c.args.output.now) c.next.new.self.held c.next.new.self.taken (g.S.Source.left c.next.new.from) (g.K.Sink.written c.lines.output) c.reply_to.new.out.items (state_of c.reply_to.new.machine) (g.K.Sink.written c.write_all.new.to) t (rw c.deref.ensures.value at c.in_err-write_all.ensures.err))
 
 pub returns-in-Err-ReadFault-clause-most_only : goal.returns-in-Err-ReadFault-clause-most_only
 returns-in-Err-ReadFault-clause-most_only g c =
     let lt : c.next.new.self.taken < 2 ^ 30 = (rw c.in-Err-ReadFault.field-0-is at c.in-Err-ReadFault.ensures.open) c.lines.invariant.no_fault refl in
-    Told-weaker (g.S.Source.left c.args.input.now) (g.K.Sink.written c.args.output.now) _ _ (λ input before no most. absurd (no most))
-    (Most-stop (g.S.Source.left c.args.input.now) (g.K.Sink.written c.args.output.now) c.lines.lines.held c.lines.lines.taken (g.S.Source.left c.lines.input) (g.K.Sink.written c.lines.output) c.lines.machine (g.S.Source.left c.next.new.from) c.next.new.self.taken c.lines.invariant.stood (c.in-Err-ReadFault.ensures.stops c.lines.invariant.no_fault) lt)
+    Told-weaker (rows_of c.args.policy.now) (g.S.Source.left c.args.input.now) (g.K.Sink.written c.args.output.now) _ _ (λ input before no most. absurd (no most))
+    (Most-stop (rows_of c.args.policy.now) (g.S.Source.left c.args.input.now) (g.K.Sink.written c.args.output.now) c.lines.lines.held c.lines.lines.taken (g.S.Source.left c.lines.input) (g.K.Sink.written c.lines.output) (state_of c.lines.machine) (g.S.Source.left c.next.new.from) c.next.new.self.taken c.lines.invariant.stood (c.in-Err-ReadFault.ensures.stops c.lines.invariant.no_fault) lt)
 
 pub returns-in_err-lines-clause-front : goal.returns-in_err-lines-clause-front
-returns-in_err-lines-clause-front g c = Begun-nothing (g.S.Source.left c.args.input.now) (g.K.Sink.written c.args.output.now)
+returns-in_err-lines-clause-front g c = Begun-nothing (rows_of c.args.policy.now) (law_of c) (g.S.Source.left c.args.input.now) (g.K.Sink.written c.args.output.now)
 
 pub returns-in-Ok-End-clause-whole : goal.returns-in-Ok-End-clause-whole
 returns-in-Ok-End-clause-whole g c =
-    Answered-end (g.S.Source.left c.args.input.now) (g.K.Sink.written c.args.output.now) c.lines.lines (g.S.Source.left c.lines.input) (g.K.Sink.written c.lines.output) c.lines.machine c.next.new.self (g.S.Source.left c.next.new.from)
+    Answered-end (rows_of c.args.policy.now) (g.S.Source.left c.args.input.now) (g.K.Sink.written c.args.output.now) c.lines.lines (g.S.Source.left c.lines.input) (g.K.Sink.written c.lines.output) (state_of c.lines.machine) c.next.new.self (g.S.Source.left c.next.new.from)
     c.lines.invariant.stood (rw c.in-Ok-End.field-0-is at c.in-Ok-End.ensures.ok)

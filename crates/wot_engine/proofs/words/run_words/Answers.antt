@@ -1,9 +1,10 @@
+use Rattle.wot_policy.specs.Kept.{rows_of}
 use Rattle.wot_engine.proofs.Turns.{Told-weaker, Most-untouched, Begun-nothing}
 use Rattle.wot_engine.proofs.words.run_words.Goals as goal
 
 pub returns-then-not-is_form-clause-most_only : goal.returns-then-not-is_form-clause-most_only
 returns-then-not-is_form-clause-most_only g c =
-    Told-weaker (g.S.Source.left c.args.input.now) (g.K.Sink.written c.args.output.now) _ _ (λ input before no most. absurd (no most)) (Most-untouched (g.S.Source.left c.args.input.now) (g.K.Sink.written c.args.output.now))
+    Told-weaker (rows_of c.args.policy.now) (g.S.Source.left c.args.input.now) (g.K.Sink.written c.args.output.now) _ _ (λ input before no most. absurd (no most)) (Most-untouched (rows_of c.args.policy.now) (g.S.Source.left c.args.input.now) (g.K.Sink.written c.args.output.now))
 
 pub returns-then-not-is_form-clause-front : goal.returns-then-not-is_form-clause-front
-returns-then-not-is_form-clause-front g c = Begun-nothing (g.S.Source.left c.args.input.now) (g.K.Sink.written c.args.output.now)
+returns-then-not-is_form-clause-front g c = Begun-nothing (rows_of c.args.policy.now) ? (g.S.Source.left c.args.input.now) (g.K.Sink.written c.args.output.now)

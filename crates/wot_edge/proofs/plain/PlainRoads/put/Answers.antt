@@ -1,5 +1,6 @@
 use Rattle.std.proofs.Common.{refl, sym, subst}
-use Rattle.wot_edge.specs.Plain.{AreRows, AreLines}
+use Rattle.wot_edge.specs.Lawful.{AreRows}
+use Rattle.wot_edge.specs.Plain.{AreLines}
 use Rattle.wot_edge.proofs.PlainTold.{lines_put}
 use Rattle.wot_edge.proofs.plain.PlainRoads.put.Goals as goal
 

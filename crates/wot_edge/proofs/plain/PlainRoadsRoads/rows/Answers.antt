@@ -2,7 +2,8 @@ use Rattle.std.proofs.Common.{◌∙◌, sym, subst, List}
 use Rattle.std.specs.List.Sorted.{IsStrictlySortedBy}
 use Rattle.wot_edge.specs.declared.edge.EdgeFacts.{EdgeFacts}
 use Rattle.wot_edge.specs.Order.{edge_cmp}
-use Rattle.wot_edge.proofs.PlainTold.{line_edges, no_edges, line_rows, no_rows, told_is_record}
+use Rattle.wot_edge.proofs.PlainTold.{line_edges, no_edges, line_rows, told_is_record}
+use Rattle.wot_edge.proofs.Recorded.{no_rows}
 use Rattle.wot_edge.proofs.plain.PlainRoadsRoads.rows.Goals as goal
 
 pub returns-in-Some-clause-rows : goal.returns-in-Some-clause-rows

@@ -1,0 +1,5 @@
+mod Plain
+mod Inside
+pub mod Lines
+pub mod Behind
+pub mod Replay

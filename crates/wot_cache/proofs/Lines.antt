@@ -1,0 +1,111 @@
+-- Lines that are put one by one.
+use Rattle.std.proofs.Common.{◌≡◌, ℕ, ◌+◌, ◌*◌, ◌≤◌, ◌<◌, ◌^◌, List, [], ◌∷◌, ◌++◌, length, take, arith, length-append, refl, sym, ap, subst, ◌∙◌, append_assoc, append-nil}
+use Rattle.std.proofs.Math.Seq.{take-append_seam}
+use Rattle.std.proofs.lemmas.Grind.{flat_map-append}
+use Rattle.std.proofs.lemmas.List.{length-map}
+use Rattle.std.specs.List.{AllByRecursion, flat_map}
+use Rattle.wot_types.specs.declared.limits.Limits.{Limits}
+use Rattle.wot_keyring.specs.Kept.{AreSmall}
+use Rattle.wot_keyring.specs.Dump as keyrings
+use Rattle.wot_edge.specs.Roots.{IsRoots}
+use Rattle.wot_script.specs.declared.command.Command.{Command}
+use Rattle.wot_keyring.specs.Dump.{AreLines, line_of, lines_of}
+use Rattle.wot_cache.specs.Views.{Views, IsWithin}
+use Rattle.wot_cache.specs.declared.view.View.{View}
+use Rattle.wot_cache.specs.Dump.{HaveRoots, commands_of, root_of, view_commands}
+use Rattle.wot_cache.specs.State.{Engine, state_of}
+use Rattle.wot_cache.proofs.Replay.{engine_commands}
+
+-- The lines of all these commands but the rest were put.
+pub record PutSoFar (before now : List ℕ) (all rest : List Command) : Type 0 where
+  pub made : List ℕ
+  pub text : now ≡ before ++ made
+  pub left : made ++ lines_of rest ≡ lines_of all
+  pub lined : AreLines rest → AreLines all
+
+pub none_put : (before : List ℕ) (all : List Command) → PutSoFar before before all all
+none_put before all = record { made = []; text = sym (append-nil before); left = refl; lined = λ h. h }
+
+lines-append : (cs ds : List Command) → lines_of (cs ++ ds) ≡ lines_of cs ++ lines_of ds
+lines-append cs ds = flat_map-append line_of cs ds
+
+pub both_lines : (cs ds : List Command) → AreLines cs → AreLines ds → AreLines (cs ++ ds)
+both_lines [] ds h k = k
+both_lines (c ∷ cs) ds h k = (h.0, both_lines cs ds h.1 k)
+
+pub some_put : (before now next : List ℕ) (all cs rest : List Command) → PutSoFar before now all (cs ++ rest)
+    → next ≡ now ++ lines_of cs → AreLines cs → PutSoFar before next all rest
+some_put before now next all cs rest so_far added lines = record {
+  made = so_far.made ++ lines_of cs;
+  text = added ∙ ap (λ text. text ++ lines_of cs) so_far.text ∙ append_assoc before so_far.made (lines_of cs);
+  left = append_assoc so_far.made (lines_of cs) (lines_of rest) ∙ ap (λ text. so_far.made ++ text) (sym (lines-append cs rest)) ∙ so_far.left;
+  lined = λ h. so_far.lined (both_lines cs rest lines h);
+}
+
+pub all_put : (before now : List ℕ) (all : List Command) → PutSoFar before now all [] → now ≡ before ++ lines_of all
+all_put before now all so_far = so_far.text ∙ ap (λ made. before ++ made) (sym (append-nil so_far.made) ∙ so_far.left)
+
+-- What was there before is got back.
+pub undone : (before now : List ℕ) (all rest : List Command) → PutSoFar before now all rest → take (length before) now ≡ before
+undone before now all rest so_far = ap (take (length before)) so_far.text ∙ take-append_seam before so_far.made
+
+-- ---- views
+
+-- The commands of all these views but the rest were put.
+pub record ViewsPut (before now : List ℕ) (all rest : Views) (count : ℕ) : Type 0 where
+  pub lines : PutSoFar before now (flat_map view_commands all) (flat_map view_commands rest)
+  pub counted : count + length (flat_map view_commands rest) ≡ length (flat_map view_commands all)
+  pub roots : HaveRoots rest → HaveRoots all
+
+pub no_view_put : (before : List ℕ) (all : Views) → ViewsPut before before all all 0
+no_view_put before all = record { lines = none_put before (flat_map view_commands all); counted = omega arith; roots = λ h. h }
+
+length-view_commands : (e : List ℕ × View) (rest : List Command) → length (view_commands e ++ rest) ≡ 1 + length e.1.roots + length rest
+length-view_commands e rest = omega (arith, length-append (view_commands e) rest, length-map e.1.roots (root_of e.0))
+
+pub view_put : (before now next : List ℕ) (all : Views) (e : List ℕ × View) (rest : Views) (count : ℕ) → ViewsPut before now all (e ∷ rest) count
+    → next ≡ now ++ lines_of (view_commands e) → AreLines (view_commands e) → IsRoots e.1.roots
+    → ViewsPut before next all rest (count + (1 + length e.1.roots))
+view_put before now next all e rest count so_far added lines roots = record {
+  lines = some_put before now next (flat_map view_commands all) (view_commands e) (flat_map view_commands rest) so_far.lines added lines;
+  counted = omega (arith, so_far.counted, length-view_commands e (flat_map view_commands rest));
+  roots = λ h. so_far.roots (roots, h);
+}
+
+-- there is room to count the next view
+pub countable : (before now : List ℕ) (all : Views) (e : List ℕ × View) (rest : Views) (count : ℕ) → ViewsPut before now all (e ∷ rest) count
+    → length (flat_map view_commands all) < 2 ^ 32 → count + (1 + length e.1.roots) < 2 ^ 32
+countable before now all e rest count so_far few = omega (arith, so_far.counted, length-view_commands e (flat_map view_commands rest), few)
+
+-- within the limits there are not many commands
+few_commands : (l : Limits) (views : Views) → l.roots ≤ 64 → AllByRecursion (λ (e : List ℕ × View). length e.1.roots ≤ l.roots) views
+    → length (flat_map view_commands views) ≤ 65 * length views
+few_commands l [] small few = omega arith
+few_commands l (e ∷ views) small few =
+    omega (arith, length-view_commands e (flat_map view_commands views), few.0, few_commands l views small few.1)
+
+pub few_lines : (l : Limits) (views : Views) → AreSmall l → IsWithin l views → length (flat_map view_commands views) < 2 ^ 32
+few_lines l views small within =
+    let views_small : l.views ≤ 16 = small.views in
+    omega (arith, few_commands l views small.roots within.few_roots, within.few)
+
+-- ---- an engine
+
+pub dumped : (engine : Engine) (before mid now : List ℕ) → mid ≡ before ++ lines_of (keyrings.commands_of engine.keyring)
+    → now ≡ mid ++ lines_of (flat_map view_commands engine.views) → now ≡ before ++ lines_of (commands_of (state_of engine))
+dumped engine before mid now first last =
+    last
+    ∙ ap (λ text. text ++ lines_of (flat_map view_commands engine.views)) first
+    ∙ append_assoc before (lines_of (keyrings.commands_of engine.keyring)) (lines_of (flat_map view_commands engine.views))
+    ∙ ap (λ text. before ++ text) (sym (lines-append (keyrings.commands_of engine.keyring) (flat_map view_commands engine.views)))
+    ∙ ap (λ commands. before ++ lines_of commands) (sym (engine_commands engine))
+
+pub dumped_lines : (engine : Engine) → AreLines (keyrings.commands_of engine.keyring) → AreLines (flat_map view_commands engine.views)
+    → AreLines (commands_of (state_of engine))
+dumped_lines engine first last =
+    subst AreLines (sym (engine_commands engine)) (both_lines (keyrings.commands_of engine.keyring) (flat_map view_commands engine.views) first last)
+
+pub dumped_count : (engine : Engine) (held opened : ℕ) → held ≡ length (keyrings.commands_of engine.keyring)
+    → opened ≡ length (flat_map view_commands engine.views) → held + opened ≡ length (commands_of (state_of engine))
+dumped_count engine held opened h k =
+    omega (arith, h, k, ap length (engine_commands engine), length-append (keyrings.commands_of engine.keyring) (flat_map view_commands engine.views))

@@ -1,0 +1,5 @@
+use Rattle.wot_cache.proofs.Replay.{restored}
+use Rattle.wot_cache.proofs.dump.replayed.Goals as goal
+
+pub returns : goal.returns
+returns c = restored

@@ -1,0 +1,5 @@
+pub mod Views
+pub mod Inside
+pub mod State
+pub mod Question
+pub mod Dump

@@ -1,0 +1,132 @@
+ghost use Rattle.std.specs.Prelude.{◌≡◌, ◌<◌, ◌^◌, ◌++◌, length, map, IfOk, OnOk, OnErr};
+ghost use Rattle.std.specs.List.{flat_map};
+ghost use Rattle.wot_edge.specs.Roots.{IsRoots};
+ghost use Rattle.wot_keyring.specs.Dump.{AreLines, IsLine, line_of, lines_of};
+ghost use Rattle.wot_keyring.specs.Dump as restored;
+ghost use Rattle.wot_policy.specs.declared.rows.PolicyRows.{PolicyRows as Rows};
+ghost use Rattle.wot_cache.specs.Views.{IsWithin};
+ghost use Rattle.wot_cache.specs.State.{Engine as Seen, state_of};
+ghost use Rattle.wot_cache.specs.Dump.{AreInOrder, HaveRoots, IsRestored, commands_of, engine_of, root_of, view_commands};
+
+use crate::view::View;
+use crate::views::Views;
+use std::alloc::Global;
+use wot_edge::Roots;
+use wot_keyring::{Keyring, put_line};
+use wot_script::Command;
+use wot_types::{Fpr, Memory, ViewName};
+
+/// A law: where the keyring's commands give what it holds, those of the engine give its state.
+pub fn replayed()
+    ensures { (rows : Rows) (engine : Seen) → restored.IsRestored rows engine.keyring → IsWithin engine.keyring.limits engine.views → HaveRoots engine.views → AreInOrder engine.views → IsRestored rows engine }
+{}
+
+/// Appends the command that opens a view at its time. Like each call of this file it leaves `out` as before after `Memory`.
+fn put_time(alloc: Global, view: &ViewName, t: u32, out: &mut Vec<u8>) -> Result<(), Memory>
+    ensures appended { OnOk result (out.new.items ≡ out.old.items ++ line_of (Command.Time view.now t)) }
+    ensures line { OnOk result (IsLine (Command.Time view.now t)) }
+    ensures kept { OnErr result (out.new.items ≡ out.old.items) }
+{
+    let view = view.duplicate(alloc)?;
+    put_line(&Command::Time(view, t), out)
+}
+
+/// Appends the command that sets a root's amount.
+fn put_root(
+    alloc: Global,
+    view: &ViewName,
+    fpr: Fpr,
+    amount: u8,
+    out: &mut Vec<u8>,
+) -> Result<(), Memory>
+    ensures appended { OnOk result (out.new.items ≡ out.old.items ++ line_of (Command.Root view.now fpr amount)) }
+    ensures line { OnOk result (IsLine (Command.Root view.now fpr amount)) }
+    ensures kept { OnErr result (out.new.items ≡ out.old.items) }
+{
+    let view = view.duplicate(alloc)?;
+    put_line(&Command::Root(view, fpr, amount), out)
+}
+
+/// Appends the command that sets it for each root.
+fn put_roots(alloc: Global, view: &ViewName, roots: &Roots, out: &mut Vec<u8>) -> Result<(), Memory>
+    ensures appended { OnOk result (out.new.items ≡ out.old.items ++ lines_of (map (root_of view.now) roots.now)) }
+    ensures lines { OnOk result (AreLines (map (root_of view.now) roots.now)) }
+    ensures roots { IsRoots roots.now }
+    ensures kept { OnErr result (out.new.items ≡ out.old.items) }
+{
+    let start = out.len();
+    'roots: for (fpr, amount) in roots.iter() {
+        if let Err(fault) = put_root(alloc, view, fpr, amount, out) {
+            out.truncate(start);
+            return Err(fault);
+        }
+    }
+    Ok(())
+}
+
+/// Appends the commands that make a view.
+fn put_view(alloc: Global, name: &ViewName, view: &View, out: &mut Vec<u8>) -> Result<(), Memory>
+    ensures appended { OnOk result (out.new.items ≡ out.old.items ++ lines_of (view_commands (name.now, view.now))) }
+    ensures lines { OnOk result (AreLines (view_commands (name.now, view.now))) }
+    ensures roots { OnOk result (IsRoots view.now.roots) }
+    ensures kept { OnErr result (out.new.items ≡ out.old.items) }
+{
+    let start = out.len();
+    put_time(alloc, name, view.time, out)?;
+    match put_roots(alloc, name, &view.roots, out) {
+        Ok(()) => Ok(()),
+        Err(fault) => {
+            out.truncate(start);
+            Err(fault)
+        }
+    }
+}
+
+/// Appends the commands that make each view. Tells their number.
+pub fn put_views(alloc: Global, views: &Views, out: &mut Vec<u8>) -> Result<u64, Memory>
+    requires few { length (flat_map view_commands views.now.entries) < 2 ^ 32 }
+    ensures appended { OnOk result (out.new.items ≡ out.old.items ++ lines_of (flat_map view_commands views.now.entries)) }
+    ensures lines { OnOk result (AreLines (flat_map view_commands views.now.entries)) }
+    ensures count { IfOk result (λ count. count ≡ length (flat_map view_commands views.now.entries)) }
+    ensures roots { OnOk result (HaveRoots views.now.entries) }
+    ensures in_order { AreInOrder views.now.entries }
+    ensures kept { OnErr result (out.new.items ≡ out.old.items) }
+{
+    let start = out.len();
+    let mut count = 0;
+    'views: for (name, view) in views.iter() {
+        if let Err(fault) = put_view(alloc, name, view, out) {
+            out.truncate(start);
+            return Err(fault);
+        }
+        count += 1 + view.roots.len() as u64;
+    }
+    Ok(count)
+}
+
+/// Appends the commands that make the keyring and the views. Tells their number.
+pub fn put_engine(
+    alloc: Global,
+    keyring: &Keyring,
+    views: &Views,
+    out: &mut Vec<u8>,
+) -> Result<u64, Memory>
+    requires within { IsWithin keyring.now.limits views.now.entries }
+    ensures lines { OnOk result (out.new.items ≡ out.old.items ++ lines_of (commands_of (state_of (engine_of keyring.now views.now.entries)))) }
+    ensures count { IfOk result (λ count. count ≡ length (commands_of (state_of (engine_of keyring.now views.now.entries)))) }
+    ensures kept { OnErr result (out.new.items ≡ out.old.items) }
+    ensures read_back { OnOk result (AreLines (commands_of (state_of (engine_of keyring.now views.now.entries)))) }
+    ensures restored { OnOk result ((rows : Rows) → IsRestored rows (engine_of keyring.now views.now.entries)) }
+{
+    replayed();
+    let _limits = keyring.limits();
+    let start = out.len();
+    let held = keyring.dump(alloc, out)?;
+    match put_views(alloc, views, out) {
+        Ok(opened) => Ok(held + opened),
+        Err(fault) => {
+            out.truncate(start);
+            Err(fault)
+        }
+    }
+}

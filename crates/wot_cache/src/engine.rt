@@ -1,0 +1,315 @@
+ghost use Rattle.std.specs.Prelude.{◌≡◌, ◌≢◌, ◌<◌, ◌≤◌, ◌+◌, ◌-◌, ◌^◌, ◌++◌, length, IfOk, IfSome, Some, None, is_ok, is_some, OnOk, OnErr};
+ghost use Rattle.std.specs.Option.{option_copied, option_map};
+ghost use Rattle.wot_policy.specs.Kept.{IsFaithful, rows_of, asked_more};
+ghost use Rattle.wot_keyring.specs.Keyring.{verdict_on};
+ghost use Rattle.wot_keyring.specs.Kept.{AreSmall, IsJudgedBy, StaysJudged};
+ghost use Rattle.wot_keyring.specs.Import.{Answers, AsksFor, IsOneChange, imported};
+ghost use Rattle.wot_keyring.specs.Removal.{without_cert};
+ghost use Rattle.wot_keyring.specs.Verdict.{with_verdict_on, without_verdict_on, TellsFull};
+ghost use Rattle.wot_edge.specs.Answer.{IsAnswer, amount_of};
+ghost use Rattle.wot_edge.specs.Roots.{IsRoots};
+ghost use Rattle.wot_network.specs.Net.{signatures_in};
+ghost use Rattle.wot_keyring.specs.Dump.{lines_of, AreLines};
+ghost use Rattle.wot_policy.specs.declared.rows.PolicyRows.{PolicyRows as Rows};
+ghost use Rattle.wot_cache.specs.Dump.{commands_of, IsRestored};
+ghost use Rattle.wot_cache.specs.Question.{question_in};
+ghost use Rattle.wot_cache.specs.State.{empty, state_of, cert_in, importing, removing, judging, unjudging};
+ghost use Rattle.wot_cache.specs.Views.{view_at, with_time, time_fault, with_root, root_fault, without_view, TellsFault, TellsOpen};
+
+use crate::view::{AskFault, NoView, View, ViewFault};
+use crate::ask::answer;
+use crate::dump::put_engine;
+use crate::networks::{self, Networks};
+use crate::views::{self, Views};
+use std::alloc::Global;
+use std::collections::BTreeMap;
+use std::marker::Model;
+use wot_auth::Answer;
+use wot_edge::Roots;
+use wot_keyring::{Absent, Imported, Keyring, Refusal};
+use wot_policy::{Ask, Policy};
+use wot_types::{Fpr, Limit, Limits, Memory, SigNumber, Steps, ViewName};
+use wot_verdict::Verdict;
+
+/// One keyring, and views over it. A call that changes the keyring leaves the views, and the other way round.
+#[derive(Drop)]
+pub struct Engine {
+    alloc: Global,
+    keyring: Keyring,
+    views: Views,
+    networks: Networks,
+}
+
+impl Model for Engine {
+    ghost use Rattle.wot_cache.specs.State.{Engine as TheEngine};
+    ghost use Rattle.wot_cache.specs.Inside.{IsEngine};
+
+    ghost Value = { TheEngine };
+
+    ghost view = { λ a. record { keyring = a.keyring; views = a.views.entries } };
+
+    ghost invariant = { λ a. IsEngine a.keyring a.views.entries a.networks.entries };
+}
+
+impl Engine {
+    /// An engine with no certificates, no verdicts and no views. Takes no memory.
+    pub fn new(alloc: Global, limits: Limits) -> Engine
+        requires small { AreSmall limits }
+        ensures empty { result ≡ empty limits }
+    {
+        Engine {
+            alloc,
+            keyring: Keyring::new(alloc, limits),
+            views: BTreeMap::new(alloc),
+            networks: BTreeMap::new(alloc),
+        }
+    }
+
+    /// The keyring.
+    pub fn keyring(&self) -> &Keyring
+        ensures keyring { result.now ≡ self.now.keyring }
+    {
+        &self.keyring
+    }
+
+    /// `Keyring::import`, over the engine's keyring.
+    pub fn import<F: Fn(Ask) -> bool>(&mut self, bytes: &[u8], policy: &mut Policy<F>) -> Result<Imported, Refusal>
+        requires countable { self.old.keyring.changes < 2 ^ 64 - 1 }
+        requires short { length bytes.now < 2 ^ 29 }
+        requires judged { IsJudgedBy (rows_of policy.old) self.old.keyring }
+        requires faithful { IsFaithful F.Fn policy.old }
+        ensures answer { Answers result (rows_of policy.old) self.old.keyring bytes.now }
+        ensures imported { OnOk result (self.new.keyring ≡ imported (rows_of policy.old) self.old.keyring bytes.now) }
+        ensures state { OnOk result (state_of self.new ≡ importing (rows_of policy.old) bytes.now (state_of self.old)) }
+        ensures kept { OnErr result (self.new ≡ self.old) }
+        ensures asked { AsksFor result (rows_of policy.old) self.old.keyring bytes.now (λ k. policy.new ≡ asked_more k policy.old) }
+        ensures judged { IsJudgedBy (rows_of policy.old) self.new.keyring }
+        ensures faithful { IsFaithful F.Fn policy.new }
+        ensures counted { IsOneChange self.old.keyring self.new.keyring }
+        ensures limits { self.new.keyring.limits ≡ self.old.keyring.limits }
+        ensures views { self.new.views ≡ self.old.views }
+    {
+        self.keyring.import(self.alloc, bytes, policy)
+    }
+
+    /// `Keyring::remove`, over the engine's keyring. Takes no memory.
+    pub fn remove(&mut self, fpr: &Fpr) -> Result<(), Absent>
+        requires countable { self.old.keyring.changes < 2 ^ 64 - 1 }
+        ensures removed { OnOk result (self.new.keyring ≡ without_cert fpr.now self.old.keyring) }
+        ensures state { OnOk result (state_of self.new ≡ removing fpr.now (state_of self.old)) }
+        ensures absent { is_ok result ≡ is_some (cert_in (state_of self.old) fpr.now) }
+        ensures kept { OnErr result (self.new ≡ self.old) }
+        ensures judged { StaysJudged self.old.keyring self.new.keyring }
+        ensures counted { IsOneChange self.old.keyring self.new.keyring }
+        ensures limits { self.new.keyring.limits ≡ self.old.keyring.limits }
+        ensures views { self.new.views ≡ self.old.views }
+    {
+        self.keyring.remove(fpr)
+    }
+
+    /// `Keyring::set_verdict`, over the engine's keyring.
+    pub fn set_verdict(&mut self, number: SigNumber, verdict: Verdict) -> Result<(), Refusal>
+        requires countable { self.old.keyring.changes < 2 ^ 64 - 1 }
+        ensures same { verdict_on self.old.keyring number ≡ Some verdict → (result ≡ Ok tt) × (self.new ≡ self.old) }
+        ensures state { OnOk result (state_of self.new ≡ judging number verdict (state_of self.old)) }
+        ensures set { OnOk result (verdict_on self.old.keyring number ≢ Some verdict → self.new.keyring ≡ with_verdict_on number verdict self.old.keyring) }
+        ensures full { TellsFull result self.old.keyring number }
+        ensures kept { OnErr result (self.new ≡ self.old) }
+        ensures judged { StaysJudged self.old.keyring self.new.keyring }
+        ensures counted { IsOneChange self.old.keyring self.new.keyring }
+        ensures limits { self.new.keyring.limits ≡ self.old.keyring.limits }
+        ensures views { self.new.views ≡ self.old.views }
+    {
+        self.keyring.set_verdict(number, verdict)
+    }
+
+    /// `Keyring::clear_verdict`, over the engine's keyring. Takes no memory.
+    pub fn clear_verdict(&mut self, number: &SigNumber) -> Result<(), Absent>
+        requires countable { self.old.keyring.changes < 2 ^ 64 - 1 }
+        ensures cleared { OnOk result (self.new.keyring ≡ without_verdict_on number.now self.old.keyring) }
+        ensures state { OnOk result (state_of self.new ≡ unjudging number.now (state_of self.old)) }
+        ensures absent { is_ok result ≡ is_some (verdict_on self.old.keyring number.now) }
+        ensures kept { OnErr result (self.new ≡ self.old) }
+        ensures judged { StaysJudged self.old.keyring self.new.keyring }
+        ensures counted { IsOneChange self.old.keyring self.new.keyring }
+        ensures limits { self.new.keyring.limits ≡ self.old.keyring.limits }
+        ensures views { self.new.views ≡ self.old.views }
+    {
+        self.keyring.clear_verdict(number)
+    }
+
+    /// Opens a view with this time and no roots, or moves the time of an open one, which keeps its roots.
+    pub fn view_time(&mut self, view: &ViewName, t: u32) -> Result<(), ViewFault>
+        ensures timed { OnOk result (self.new.views ≡ with_time self.old.views view.now t) }
+        ensures fault { TellsFault result (time_fault self.old.keyring.limits self.old.views view.now) }
+        ensures kept { OnErr result (self.new ≡ self.old) }
+        ensures keyring { self.new.keyring ≡ self.old.keyring }
+    {
+        if views::move_time(&mut self.views, view, t) {
+            return Ok(());
+        }
+        if self.keyring.limits().views <= self.views.len() as u64 {
+            return Err(ViewFault::Full(Limit::Views));
+        }
+        match view.duplicate(self.alloc) {
+            Ok(name) => self.open(name, t),
+            Err(Memory) => Err(ViewFault::Memory),
+        }
+    }
+
+    fn open(&mut self, name: ViewName, t: u32) -> Result<(), ViewFault>
+        requires closed { view_at self.old.views name ≡ None }
+        requires room { length self.old.views < self.old.keyring.limits.views }
+        ensures opened { OnOk result (self.new.views ≡ with_time self.old.views name t) }
+        ensures fault { OnErr result (result ≡ Err ViewFault.Memory) }
+        ensures kept { OnErr result (self.new ≡ self.old) }
+        ensures keyring { self.new.keyring ≡ self.old.keyring }
+    {
+        let view = View {
+            time: t,
+            roots: Roots::new(self.alloc),
+        };
+        match views::open(&mut self.views, name, view) {
+            Ok(()) => Ok(()),
+            Err(Memory) => Err(ViewFault::Memory),
+        }
+    }
+
+    /// Sets the amount of a root in an open view; 0 takes the root away. A root needs no certificate in the keyring.
+    pub fn view_root(&mut self, view: &ViewName, fpr: &Fpr, amount: u8) -> Result<(), ViewFault>
+        ensures rooted { OnOk result (self.new.views ≡ with_root self.old.views view.now fpr.now amount) }
+        ensures fault { TellsFault result (root_fault self.old.keyring.limits (view_at self.old.views view.now) fpr.now amount) }
+        ensures kept { OnErr result (self.new ≡ self.old) }
+        ensures keyring { self.new.keyring ≡ self.old.keyring }
+    {
+        if let Some(fault) = self.root_fault(view, fpr, amount) {
+            return Err(fault);
+        }
+        match views::set_amount(&mut self.views, view, *fpr, amount) {
+            Ok(()) => Ok(()),
+            Err(Memory) => Err(ViewFault::Memory),
+        }
+    }
+
+    /// Why a root's amount isn't set, other than want of memory.
+    fn root_fault(&self, view: &ViewName, fpr: &Fpr, amount: u8) -> Option<ViewFault>
+        ensures fault { result ≡ root_fault self.now.keyring.limits (view_at self.now.views view.now) fpr.now amount }
+        ensures roots { IfSome (view_at self.now.views view.now) (λ v. IsRoots v.roots) }
+    {
+        let Some(view) = views::find(&self.views, view) else {
+            return Some(ViewFault::View);
+        };
+        let count = view.roots.len() as u64;
+        if view.roots.get(fpr) > 0 {
+            return None;
+        }
+        if amount == 0 {
+            return Some(ViewFault::Absent);
+        }
+        if self.keyring.limits().roots <= count {
+            return Some(ViewFault::Full(Limit::Roots));
+        }
+        None
+    }
+
+    /// Closes a view and forgets its roots. Takes no memory.
+    pub fn view_close(&mut self, view: &ViewName) -> Result<(), NoView>
+        ensures closed { OnOk result (self.new.views ≡ without_view self.old.views view.now) }
+        ensures absent { is_ok result ≡ is_some (view_at self.old.views view.now) }
+        ensures kept { OnErr result (self.new ≡ self.old) }
+        ensures keyring { self.new.keyring ≡ self.old.keyring }
+    {
+        if views::find(&self.views, view).is_none() {
+            return Err(NoView);
+        }
+        views::close(&mut self.views, view);
+        networks::forget(&mut self.networks, view);
+        Ok(())
+    }
+
+    /// The time of an open view.
+    pub fn time(&self, view: &ViewName) -> Option<u32>
+        ensures time { result ≡ option_map (λ v. v.time) (view_at self.now.views view.now) }
+    {
+        match views::find(&self.views, view) {
+            Some(view) => Some(view.time),
+            None => None,
+        }
+    }
+
+    /// The roots of an open view.
+    pub fn roots(&self, view: &ViewName) -> Option<&Roots>
+        ensures roots { option_copied result ≡ option_map (λ v. v.roots) (view_at self.now.views view.now) }
+    {
+        match views::find(&self.views, view) {
+            Some(view) => Some(&view.roots),
+            None => None,
+        }
+    }
+
+    /// The answer to the question how far a user ID belongs to a target, seen from an open view: next paths until their sum
+    /// reaches what is wanted, or no valid path of positive amount is left. The view's network is made anew where the keyring
+    /// or the view's time changed since the last question, and each edge made is counted in `steps`.
+    pub fn ask(
+        &mut self,
+        view: &ViewName,
+        target: &Fpr,
+        wanted: u32,
+        uid: &[u8],
+        steps: &mut Steps,
+    ) -> Result<Answer, AskFault>
+        requires wanted { 1 ≤ wanted }
+        ensures answer { IfOk result (λ a. IfSome (view_at self.old.views view.now) (λ v. IsAnswer (question_in (state_of self.old) v target.now uid.now) wanted a.paths)) }
+        ensures sum { IfOk result (λ a. a.sum ≡ amount_of a.paths) }
+        ensures open { TellsOpen result (view_at self.old.views view.now) }
+        ensures kept { self.new ≡ self.old }
+        ensures made_most { steps.new.made ≤ steps.old.made + signatures_in self.old.keyring }
+    {
+        let Some(t) = self.time(view) else {
+            return Err(AskFault::View);
+        };
+        match networks::refresh(
+            self.alloc,
+            &mut self.networks,
+            view,
+            &self.keyring,
+            t,
+            steps,
+        ) {
+            Ok(()) => {}
+            Err(Memory) => return Err(AskFault::Memory),
+        }
+        let Some(open) = views::find(&self.views, view) else {
+            unreachable!()
+        };
+        let Some(network) = networks::find(&self.networks, view) else {
+            unreachable!()
+        };
+        match answer(
+            self.alloc,
+            network,
+            &self.keyring,
+            &open.roots,
+            target,
+            wanted,
+            uid,
+        ) {
+            Ok(answer) => Ok(answer),
+            Err(Memory) => Err(AskFault::Memory),
+        }
+    }
+
+    /// Appends a line for each certificate, each verdict, and each view with its roots: the commands that make this state
+    /// anew. Tells their number. After `Memory` `out` is as before.
+    pub fn dump(&self, out: &mut Vec<u8>) -> Result<u64, Memory>
+        ensures lines { OnOk result (out.new.items ≡ out.old.items ++ lines_of (commands_of (state_of self.now))) }
+        ensures count { IfOk result (λ count. count ≡ length (commands_of (state_of self.now))) }
+        ensures kept { OnErr result (out.new.items ≡ out.old.items) }
+        // Each command is printed as one line, which is read as that command.
+        ensures read_back { OnOk result (AreLines (commands_of (state_of self.now))) }
+        // By whatever rows the fresh engine judges.
+        ensures restored { OnOk result ((rows : Rows) → IsRestored rows self.now) }
+    {
+        put_engine(self.alloc, &self.keyring, &self.views, out)
+    }
+}

@@ -1,0 +1,35 @@
+use wot_edge::Roots;
+use wot_types::Limit;
+
+/// From where and when is looked: a time in seconds since 1970, and trust roots with their amounts.
+#[derive(Drop)]
+pub struct View {
+    pub time: u32,
+    pub roots: Roots,
+}
+
+/// Why a view is left as it was.
+#[derive(Clone, Copy, Debug, PartialEq, Eq)]
+pub enum ViewFault {
+    /// It isn't open.
+    View,
+    /// There is no such root to take away.
+    Absent,
+    /// One more would pass this limit.
+    Full(Limit),
+    /// No memory was found.
+    Memory,
+}
+
+/// The view isn't open.
+#[derive(Clone, Copy, Debug, PartialEq, Eq)]
+pub struct NoView;
+
+/// Why there is no answer.
+#[derive(Clone, Copy, Debug, PartialEq, Eq)]
+pub enum AskFault {
+    /// The view isn't open.
+    View,
+    /// No memory was found.
+    Memory,
+}

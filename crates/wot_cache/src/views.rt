@@ -1,0 +1,63 @@
+//! The map of views, call by call.
+ghost use Rattle.std.specs.Prelude.{◌≡◌, Some, None, OnOk, OnErr, is_some, true, false};
+ghost use Rattle.std.specs.Option.{option_copied, MatchOption};
+ghost use Rattle.std.specs.BTreeMap.{insert_entry};
+ghost use Rattle.std.specs.Map.{set_value};
+ghost use Rattle.wot_types.specs.ViewName.{view_name_cmp};
+ghost use Rattle.wot_cache.specs.Views.{view_at, is_name, with_amount, without_view};
+
+use crate::view::View;
+use std::alloc::Global;
+use std::collections::BTreeMap;
+use wot_edge::Roots;
+use wot_types::{Fpr, Memory, ViewName};
+
+pub type Views = BTreeMap<ViewName, View, Global>;
+
+/// The view of a name.
+pub fn find<'a>(views: &'a Views, name: &ViewName) -> Option<&'a View>
+    ensures found { option_copied result ≡ view_at views.now.entries name.now }
+{
+    views.get(name)
+}
+
+/// Opens a view that isn't open.
+pub fn open(views: &mut Views, name: ViewName, view: View) -> Result<(), Memory>
+    ensures opened { OnOk result (views.new.entries ≡ insert_entry view_name_cmp views.old.entries name view) }
+    ensures kept { OnErr result (views.new.entries ≡ views.old.entries) }
+{
+    views.insert(name, view)?;
+    Ok(())
+}
+
+/// Moves the time of a view; whether it is open.
+pub fn move_time(views: &mut Views, name: &ViewName, t: u32) -> bool
+    ensures moved { MatchOption (view_at views.old.entries name.now) ((result ≡ false) × (views.new.entries ≡ views.old.entries)) (λ view. (result ≡ true) × (views.new.entries ≡ set_value (is_name name.now) views.old.entries (record view { time = t }))) }
+{
+    match views.get_mut(name) {
+        Some(view) => {
+            view.time = t;
+            true
+        }
+        None => false,
+    }
+}
+
+/// Sets a root's amount in an open view.
+pub fn set_amount(views: &mut Views, name: &ViewName, fpr: Fpr, amount: u8) -> Result<(), Memory>
+    requires open { is_some (view_at views.old.entries name.now) ≡ true }
+    ensures set { OnOk result (MatchOption (view_at views.old.entries name.now) ⊥ (λ view. views.new.entries ≡ set_value (is_name name.now) views.old.entries (record view { roots = with_amount view.roots fpr amount }))) }
+    ensures kept { OnErr result (views.new.entries ≡ views.old.entries) }
+{
+    match views.get_mut(name) {
+        Some(view) => view.roots.set(fpr, amount),
+        None => unreachable!(),
+    }
+}
+
+/// Closes a view.
+pub fn close(views: &mut Views, name: &ViewName)
+    ensures closed { views.new.entries ≡ without_view views.old.entries name.now }
+{
+    let _ = views.remove(name);
+}

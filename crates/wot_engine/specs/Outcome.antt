@@ -1,0 +1,135 @@
+-- What each command but a question comes to: a reply, and the state after it.
+use Rattle.std.specs.Prelude.{ℕ, Bool, if◌then◌else◌, List, ◌++◌, length, map, Option, Some, None, is_some, Result, Ok, Err}
+use Rattle.std.specs.List.{flat_map}
+use Rattle.wot_types.specs.declared.fpr.Fpr.{Fpr}
+use Rattle.wot_types.specs.declared.limits.Limit.TheVariants as words
+use Rattle.wot_types.specs.declared.number.SigNumber.{SigNumber}
+use Rattle.wot_types.specs.Limits.{standard_limits}
+use Rattle.wot_key.specs.Key.{fpr_of}
+use Rattle.wot_packet.specs.Why.{number_of}
+use Rattle.wot_policy.specs.declared.rows.PolicyRows.{PolicyRows}
+use Rattle.wot_verdict.specs.Verdicts.{verdict_at}
+use Rattle.wot_verdict.specs.declared.verdict.Verdict.{Verdict}
+use Rattle.wot_cert.specs.declared.fault.CertFault.{CertFault}
+use Rattle.wot_cert.specs.declared.fault.CertFault.TheVariants as certs
+use Rattle.wot_cert.specs.Certificate.{Certificate}
+use Rattle.wot_cert.specs.Counts.{signatures_of}
+use Rattle.wot_cert.specs.Text.{text_of}
+use Rattle.wot_keyring.specs.declared.import.Imported.{Imported}
+use Rattle.wot_keyring.specs.declared.refusal.Refusal.{Refusal}
+use Rattle.wot_keyring.specs.declared.refusal.Refusal.TheVariants as refusals
+use Rattle.wot_keyring.specs.Dump.{lines_of}
+use Rattle.wot_keyring.specs.Import.{answer_to}
+use Rattle.wot_keyring.specs.Verdict.{is_over}
+use Rattle.wot_script.specs.declared.reply.KeyLine.{KeyLine}
+use Rattle.wot_script.specs.declared.reply.Reply.{Reply}
+use Rattle.wot_script.specs.declared.reply.Reply.TheVariants as replies
+use Rattle.wot_cache.specs.declared.view.ViewFault.{ViewFault}
+use Rattle.wot_cache.specs.declared.view.ViewFault.TheVariants as faults
+use Rattle.wot_cache.specs.Views.{view_at, time_fault, root_fault}
+use Rattle.wot_cache.specs.State.{State, cert_in, importing, removing, judging, unjudging, timing, rooting, closing}
+use Rattle.wot_cache.specs.Dump.{commands_of}
+
+-- a reply, and the state after it
+pub record Outcome : Type 0 where
+  pub reply : Reply
+  pub state : State
+
+-- a reply, and nothing changes
+abbrev pub only : State → Reply → Outcome
+only s reply = record { reply = reply; state = s }
+
+-- `ok`, and this is the state
+abbrev pub done : State → Outcome
+done s = record { reply = replies.Done; state = s }
+
+-- ---- import
+
+-- Assembly tells no want of memory.
+abbrev pub cert_refusal : CertFault → Reply
+cert_refusal certs.Compressed = replies.Compressed
+cert_refusal certs.Secret = replies.Secret
+cert_refusal (certs.Kind kind place) = replies.Kind kind place
+cert_refusal (certs.Order place) = replies.Order place
+cert_refusal certs.Empty = replies.Empty
+cert_refusal certs.Memory = replies.Empty
+
+-- An import tells no misfiled entry, and want of memory is no reply.
+abbrev pub refusal : Refusal → Reply
+refusal (refusals.Packet fault) = replies.Packet (number_of fault.why) fault.at
+refusal (refusals.Cert fault) = cert_refusal fault
+refusal refusals.Misfiled = replies.Clash
+refusal refusals.Clash = replies.Clash
+refusal (refusals.Full limit) = replies.Full limit
+refusal refusals.Memory = replies.Clash
+
+abbrev pub imports : PolicyRows → State → List ℕ → Result Imported Refusal → Outcome
+imports rows s octets (Ok counts) = record { reply = replies.Taken counts.taken counts.skipped counts.fresh; state = importing rows octets s }
+imports rows s octets (Err told) = only s (refusal told)
+
+-- `import`: the certificates of the octets are taken, all or none
+abbrev pub import : PolicyRows → State → List ℕ → Outcome
+import rows s octets = imports rows s octets (answer_to rows standard_limits s.certs octets)
+
+-- ---- certificates and verdicts
+
+-- `drop`
+abbrev pub remove : State → Fpr → Outcome
+remove s fpr = if is_some (cert_in s fpr) then done (removing fpr s) else only s replies.Absent
+
+-- `verdict NUM good FPR` and `verdict NUM bad`
+abbrev pub judge : State → SigNumber → Verdict → Outcome
+judge s number verdict =
+    if is_over standard_limits s.verdicts number then only s (replies.Full words.Verdicts) else done (judging number verdict s)
+
+-- `verdict NUM none`
+abbrev pub unjudge : State → SigNumber → Outcome
+unjudge s number = if is_some (verdict_at s.verdicts number) then done (unjudging number s) else only s replies.Absent
+
+-- ---- views
+
+-- Want of memory is no reply.
+abbrev pub view_refusal : ViewFault → Reply
+view_refusal faults.View = replies.View
+view_refusal faults.Absent = replies.Absent
+view_refusal (faults.Full limit) = replies.Full limit
+view_refusal faults.Memory = replies.View
+
+-- refused for that reason, or done
+abbrev pub unless : State → Option ViewFault → State → Outcome
+unless s (Some fault) new = only s (view_refusal fault)
+unless s None new = done new
+
+-- `view V time T`
+abbrev pub time : State → List ℕ → ℕ → Outcome
+time s view t = unless s (time_fault standard_limits s.views view) (timing view t s)
+
+-- `view V root FPR A`
+abbrev pub root : State → List ℕ → Fpr → ℕ → Outcome
+root s view fpr amount = unless s (root_fault standard_limits (view_at s.views view) fpr amount) (rooting view fpr amount s)
+
+-- `view V close`
+abbrev pub close : State → List ℕ → Outcome
+close s view = if is_some (view_at s.views view) then done (closing view s) else only s replies.View
+
+-- ---- listing
+
+-- a certificate's line: its fingerprint, and how many user IDs and signatures it has
+abbrev pub line_of : Certificate → KeyLine
+line_of c = record { 0 = fpr_of c.key; 1 = length c.user_ids; 2 = signatures_of c }
+
+-- `keys`: a line for each certificate, in the order of the fingerprints
+abbrev pub keys : State → Outcome
+keys s = only s (replies.Keys (length s.certs) (map (λ (e : Fpr × Certificate). line_of e.1) s.certs))
+
+abbrev pub exported : Option Certificate → Reply
+exported (Some c) = replies.Export (text_of c)
+exported None = replies.Absent
+
+-- `export`
+abbrev pub export : State → Fpr → Outcome
+export s fpr = only s (exported (cert_in s fpr))
+
+-- `dump`: the commands that make this state anew, each on its line
+abbrev pub dump : State → Outcome
+dump s = only s (replies.Dump (length (commands_of s)) (lines_of (commands_of s)))

@@ -1,0 +1,146 @@
+//! What each changing command does to the engine, with its reply.
+ghost use Rattle.std.specs.Prelude.{◌≡◌, ◌≤◌, ◌<◌, ◌+◌, ◌-◌, ◌^◌, length, true, IfOk, OnErr};
+ghost use Rattle.wot_types.specs.Limits.{standard_limits};
+ghost use Rattle.wot_policy.specs.Kept.{IsFaithful, rows_of};
+ghost use Rattle.wot_keyring.specs.Kept.{IsJudgedBy, StaysJudged};
+ghost use Rattle.wot_keyring.specs.Import.{IsOneChange};
+ghost use Rattle.wot_script.specs.Replies.{is_short};
+ghost use Rattle.wot_cache.specs.State.{state_of};
+ghost use Rattle.wot_engine.specs.Outcome.{import as import_of, remove as remove_of, judge as judge_of, unjudge as unjudge_of, time as time_of, root as root_of, close as close_of};
+ghost use Rattle.wot_engine.specs.Step.{Gives};
+
+use crate::refusal::{refused, view_refused};
+use wot_cache::{Engine, NoView, ViewFault};
+use wot_keyring::{Absent, Imported, Refusal};
+use wot_policy::{Ask, Policy};
+use wot_script::Reply;
+use wot_types::{Fpr, Memory, SigNumber, ViewName};
+use wot_verdict::Verdict;
+
+/// `import HEX`.
+pub fn import<F: Fn(Ask) -> bool>(
+    engine: &mut Engine,
+    octets: &[u8],
+    policy: &mut Policy<F>,
+) -> Result<Reply, Memory>
+    requires standard { engine.old.keyring.limits ≡ standard_limits }
+    requires countable { engine.old.keyring.changes < 2 ^ 64 - 1 }
+    requires small { length octets.now < 2 ^ 29 }
+    requires judged { IsJudgedBy (rows_of policy.old) engine.old.keyring }
+    requires faithful { IsFaithful F.Fn policy.old }
+    ensures gives { IfOk result (λ reply. Gives (import_of (rows_of policy.old) (state_of engine.old) octets.now) reply (state_of engine.new)) }
+    ensures short { IfOk result (λ reply. is_short reply ≡ true) }
+    ensures kept { OnErr result (engine.new ≡ engine.old) }
+    ensures counted { IsOneChange engine.old.keyring engine.new.keyring }
+    ensures standard { engine.new.keyring.limits ≡ standard_limits }
+    ensures judged { IsJudgedBy (rows_of policy.old) engine.new.keyring }
+    ensures faithful { IsFaithful F.Fn policy.new }
+    ensures rows { rows_of policy.new ≡ rows_of policy.old }
+{
+    match engine.import(octets, policy) {
+        Ok(Imported {
+            taken,
+            skipped,
+            fresh,
+        }) => Ok(Reply::Taken(taken, skipped, fresh)),
+        Err(refusal) => refused(refusal),
+    }
+}
+
+/// `drop FPR`.
+pub fn remove(engine: &mut Engine, fpr: &Fpr) -> Reply
+    requires standard { engine.old.keyring.limits ≡ standard_limits }
+    requires countable { engine.old.keyring.changes < 2 ^ 64 - 1 }
+    ensures gives { Gives (remove_of (state_of engine.old) fpr.now) result (state_of engine.new) }
+    ensures short { is_short result ≡ true }
+    ensures counted { IsOneChange engine.old.keyring engine.new.keyring }
+    ensures standard { engine.new.keyring.limits ≡ standard_limits }
+    ensures judged { StaysJudged engine.old.keyring engine.new.keyring }
+{
+    match engine.remove(fpr) {
+        Ok(()) => Reply::Done,
+        Err(Absent) => Reply::Absent,
+    }
+}
+
+/// `verdict NUM good FPR` and `verdict NUM bad`.
+pub fn judge(
+    engine: &mut Engine,
+    number: SigNumber,
+    verdict: Verdict,
+) -> Result<Reply, Memory>
+    requires standard { engine.old.keyring.limits ≡ standard_limits }
+    requires countable { engine.old.keyring.changes < 2 ^ 64 - 1 }
+    ensures gives { IfOk result (λ reply. Gives (judge_of (state_of engine.old) number verdict) reply (state_of engine.new)) }
+    ensures short { IfOk result (λ reply. is_short reply ≡ true) }
+    ensures kept { OnErr result (engine.new ≡ engine.old) }
+    ensures counted { IsOneChange engine.old.keyring engine.new.keyring }
+    ensures standard { engine.new.keyring.limits ≡ standard_limits }
+    ensures judged { StaysJudged engine.old.keyring engine.new.keyring }
+{
+    match engine.set_verdict(number, verdict) {
+        Ok(()) => Ok(Reply::Done),
+        Err(refusal) => refused(refusal),
+    }
+}
+
+/// `verdict NUM none`.
+pub fn unjudge(engine: &mut Engine, number: &SigNumber) -> Reply
+    requires standard { engine.old.keyring.limits ≡ standard_limits }
+    requires countable { engine.old.keyring.changes < 2 ^ 64 - 1 }
+    ensures gives { Gives (unjudge_of (state_of engine.old) number.now) result (state_of engine.new) }
+    ensures short { is_short result ≡ true }
+    ensures counted { IsOneChange engine.old.keyring engine.new.keyring }
+    ensures standard { engine.new.keyring.limits ≡ standard_limits }
+    ensures judged { StaysJudged engine.old.keyring engine.new.keyring }
+{
+    match engine.clear_verdict(number) {
+        Ok(()) => Reply::Done,
+        Err(Absent) => Reply::Absent,
+    }
+}
+
+/// `view V time T`.
+pub fn time(engine: &mut Engine, view: &ViewName, t: u32) -> Result<Reply, Memory>
+    requires standard { engine.old.keyring.limits ≡ standard_limits }
+    ensures gives { IfOk result (λ reply. Gives (time_of (state_of engine.old) view.now t) reply (state_of engine.new)) }
+    ensures short { IfOk result (λ reply. is_short reply ≡ true) }
+    ensures kept { OnErr result (engine.new ≡ engine.old) }
+    ensures keyring { engine.new.keyring ≡ engine.old.keyring }
+{
+    match engine.view_time(view, t) {
+        Ok(()) => Ok(Reply::Done),
+        Err(fault) => view_refused(fault),
+    }
+}
+
+/// `view V root FPR A`.
+pub fn root(
+    engine: &mut Engine,
+    view: &ViewName,
+    fpr: &Fpr,
+    amount: u8,
+) -> Result<Reply, Memory>
+    requires standard { engine.old.keyring.limits ≡ standard_limits }
+    ensures gives { IfOk result (λ reply. Gives (root_of (state_of engine.old) view.now fpr.now amount) reply (state_of engine.new)) }
+    ensures short { IfOk result (λ reply. is_short reply ≡ true) }
+    ensures kept { OnErr result (engine.new ≡ engine.old) }
+    ensures keyring { engine.new.keyring ≡ engine.old.keyring }
+{
+    match engine.view_root(view, fpr, amount) {
+        Ok(()) => Ok(Reply::Done),
+        Err(fault) => view_refused(fault),
+    }
+}
+
+/// `view V close`.
+pub fn close(engine: &mut Engine, view: &ViewName) -> Reply
+    ensures gives { Gives (close_of (state_of engine.old) view.now) result (state_of engine.new) }
+    ensures short { is_short result ≡ true }
+    ensures keyring { engine.new.keyring ≡ engine.old.keyring }
+{
+    match engine.view_close(view) {
+        Ok(()) => Reply::Done,
+        Err(NoView) => Reply::View,
+    }
+}

@@ -1,0 +1,121 @@
+// The edges of all issuers into one certificate, in order.
+ghost use Rattle.std.specs.Prelude.{◌≡◌, ◌<◌, ◌^◌, List, [], length, OnOk, IfOk};
+ghost use Rattle.std.specs.List.{AllByRecursion, cons_option};
+ghost use Rattle.wot_edge.specs.declared.edge.EdgeFacts.{EdgeFacts as Facts};
+ghost use Rattle.wot_live.specs.Found.{by_place, edge_at_place as edge_at_place_spec, edge_kept, with_edge, with_edges, HasFew};
+ghost use Rattle.wot_live.specs.Rows.{edges_of, edges_on};
+
+use crate::terms::terms;
+use std::alloc::Global;
+use std::collections::BTreeMap;
+use wot_cert::{Cert, Part, Sig, issuer_of};
+use wot_edge::EdgeFacts;
+use wot_standing::Certifiers;
+use wot_types::{Fpr, Memory};
+use wot_verdict::Verdicts;
+
+/// An issuer, and the place of a user ID.
+#[derive(Clone, Copy, Debug, PartialEq, Eq, PartialOrd, Ord)]
+pub(crate) struct EdgePlace {
+    issuer: Fpr,
+    uid: u32,
+}
+
+pub(crate) type Found = BTreeMap<EdgePlace, EdgeFacts, Global>;
+
+fn put_edge(found: &mut Found, edge: EdgeFacts) -> Result<(), Memory>
+    ensures { OnOk result ((edges : List Facts) → found.old.entries ≡ by_place edges → found.new.entries ≡ by_place (with_edge edge edges)) }
+{
+    let place = EdgePlace {
+        issuer: edge.issuer,
+        uid: edge.uid,
+    };
+    found.insert(place, edge)?;
+    Ok(())
+}
+
+/// The edge of the signature that stands at this place on a user ID.
+fn edge_at_place(part: &Part, place: u32, issuer: Fpr, target: Fpr, uid: u32) -> Option<EdgeFacts>
+    ensures { result ≡ edge_at_place_spec issuer target uid part.now place }
+{
+    let sig = part.sigs().get(place as usize)?;
+    let said = sig.facts()?;
+    Some(terms(issuer, target, uid, place, said))
+}
+
+/// The edge that the issuer of a signature has on the user ID.
+fn edge_with(
+    sig: &Sig,
+    part: &Part,
+    uid: u32,
+    target: Fpr,
+    verdicts: &Verdicts,
+    certifiers: &Certifiers,
+) -> Option<EdgeFacts>
+    ensures { result ≡ edge_kept verdicts.now target uid part.now certifiers.now sig.now }
+{
+    let issuer = issuer_of(sig, verdicts)?;
+    let place = certifiers.place(&issuer)?;
+    edge_at_place(part, place, issuer, target, uid)
+}
+
+fn put_some(found: &mut Found, edge: Option<EdgeFacts>) -> Result<(), Memory>
+    ensures { OnOk result ((edges : List Facts) → found.old.entries ≡ by_place edges → found.new.entries ≡ by_place (with_edges edges (cons_option edge []))) }
+{
+    match edge {
+        Some(edge) => put_edge(found, edge),
+        None => Ok(()),
+    }
+}
+
+/// Puts in the edges of all issuers on one user ID, which stands at this place.
+fn put_edges_on(
+    alloc: Global,
+    found: &mut Found,
+    part: &Part,
+    uid: u32,
+    target: Fpr,
+    verdicts: &Verdicts,
+    t: u32,
+) -> Result<(), Memory>
+    requires few { HasFew part.now }
+    ensures { OnOk result ((edges : List Facts) → found.old.entries ≡ by_place edges → found.new.entries ≡ by_place (with_edges edges (edges_on verdicts.now target t uid part.now))) }
+{
+    let certifiers = Certifiers::new(alloc, part, verdicts, t)?;
+    let mut rest = part.sigs();
+    'back: while let Some((sig, front)) = rest.split_last() {
+        rest = front;
+        let edge = edge_with(sig, part, uid, target, verdicts, &certifiers);
+        put_some(found, edge)?;
+    }
+    Ok(())
+}
+
+/// The edges into a certificate, by issuer and user ID.
+pub(crate) fn find_edges(
+    alloc: Global,
+    cert: &Cert,
+    verdicts: &Verdicts,
+    t: u32,
+) -> Result<Found, Memory>
+    requires few { AllByRecursion HasFew cert.now.user_ids }
+    requires count { length cert.now.user_ids < 2 ^ 32 }
+    ensures { IfOk result (λ found. found.entries ≡ by_place (edges_of verdicts.now cert.now t)) }
+{
+    let mut found = BTreeMap::new(alloc);
+    let target = cert.fpr();
+    let mut rest = cert.user_ids();
+    'back: while let Some((part, front)) = rest.split_last() {
+        rest = front;
+        put_edges_on(
+            alloc,
+            &mut found,
+            part,
+            front.len() as u32,
+            target,
+            verdicts,
+            t,
+        )?;
+    }
+    Ok(found)
+}

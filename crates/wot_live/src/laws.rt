@@ -1,0 +1,16 @@
+//! Laws of the definitions. Each function does nothing: its contract is the law.
+ghost use Rattle.std.specs.Prelude.{ℕ};
+ghost use Rattle.wot_verdict.specs.Verdicts.{Entries};
+ghost use Rattle.wot_cert.specs.Certificate.{Certificate};
+ghost use Rattle.wot_standing.specs.Standing.{own};
+ghost use Rattle.wot_live.specs.Rows.{AreInto, AreRows, edges_of};
+
+use wot_standing::laws::certifications_count;
+
+/// The edges into a certificate are in the order of issuer and user ID, and are those of each issuer and user ID.
+pub fn edges_are_rows()
+    ensures rows { (verdicts : Entries) (c : Certificate) (t : ℕ) → AreRows verdicts c t (edges_of verdicts c t) }
+    ensures into { (verdicts : Entries) (c : Certificate) (t : ℕ) → AreInto (own c) (edges_of verdicts c t) }
+{
+    certifications_count();
+}

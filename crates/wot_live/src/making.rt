@@ -1,0 +1,71 @@
+ghost use Rattle.std.specs.Prelude.{◌≡◌, ◌<◌, ◌≤◌, ◌+◌, ◌^◌, min, length, IfOk};
+ghost use Rattle.std.specs.BTreeMap.{btree_map_len, values};
+ghost use Rattle.std.specs.List.{AllByRecursion};
+ghost use Rattle.std.specs.List.Sorted.{IsStrictlySortedBy};
+ghost use Rattle.wot_cert.specs.Counts.{signatures_of};
+ghost use Rattle.wot_cert.specs.Span.{span_of};
+ghost use Rattle.wot_cert.specs.Text.{size_of};
+ghost use Rattle.wot_edge.specs.Order.{edge_cmp};
+ghost use Rattle.wot_standing.specs.Standing.{own};
+ghost use Rattle.wot_standing.specs.Throughout.{IsThroughout};
+ghost use Rattle.wot_live.specs.Found.{HasFew};
+ghost use Rattle.wot_live.specs.Rows.{AreInto, AreRows, edges_of, revoked_of};
+
+use crate::Rows;
+use crate::found::{Found, find_edges};
+use crate::laws::edges_are_rows;
+use crate::revoked::revoked_places;
+use std::alloc::Global;
+use wot_cert::{Cert, Span};
+use wot_edge::Edge;
+use wot_standing::steady_span;
+use wot_types::{Memory, Steps};
+use wot_verdict::Verdicts;
+
+/// Makes the edges that were found.
+fn make_edges(alloc: Global, found: &Found, steps: &mut Steps) -> Result<Vec<Edge>, Memory>
+    ensures edges { IfOk result (λ edges. edges.items ≡ values found.now) }
+    ensures made { IfOk result (λ edges. min (steps.old.made + length edges.items) u64.MAX ≤ steps.new.made) }
+    ensures made_most { steps.new.made ≤ steps.old.made + btree_map_len found.now }
+    ensures never_less { steps.old.made ≤ steps.new.made }
+{
+    // The range of the count is known once it was read.
+    let _made = steps.made;
+    let mut edges = Vec::new(alloc);
+    for facts in found.values() {
+        edges.push(Edge::make(*facts, steps))?;
+    }
+    Ok(edges)
+}
+
+/// The edges into a certificate at a time, the user IDs that its own key revoked, and the span of times through which
+/// both are the same.
+///
+/// The edge of an issuer and a user ID is the newest certification there that counts by the issuer, is live and
+/// unrevoked. A certification of one's own has no depth, the amount 120 and no scope. Each edge that is made is counted.
+pub fn rows(
+    alloc: Global,
+    cert: &Cert,
+    verdicts: &Verdicts,
+    t: u32,
+    steps: &mut Steps,
+) -> Result<(Rows, Span), Memory>
+    requires size { size_of cert.now < 2 ^ 32 }
+    ensures edges { IfOk result (λ done. done.0.edges.items ≡ edges_of verdicts.now cert.now t) }
+    ensures exact { IfOk result (λ done. AreRows verdicts.now cert.now t done.0.edges.items) }
+    ensures order { IfOk result (λ done. IsStrictlySortedBy edge_cmp done.0.edges.items) }
+    ensures into { IfOk result (λ done. AreInto (own cert.now) done.0.edges.items) }
+    ensures revoked { IfOk result (λ done. done.0.revoked.items ≡ revoked_of verdicts.now cert.now t) }
+    ensures span { IfOk result (λ done. done.1 ≡ span_of cert.now t) }
+    ensures throughout { IfOk result (λ done. IsThroughout done.1 (edges_of verdicts.now cert.now) done.0.edges.items) }
+    ensures revoked_throughout { IfOk result (λ done. IsThroughout done.1 (revoked_of verdicts.now cert.now) done.0.revoked.items) }
+    ensures made_least { IfOk result (λ done. min (steps.old.made + length done.0.edges.items) u64.MAX ≤ steps.new.made) }
+    ensures made_most { steps.new.made ≤ steps.old.made + signatures_of cert.now }
+    ensures never_less { steps.old.made ≤ steps.new.made }
+{
+    let found = find_edges(alloc, cert, verdicts, t)?;
+    let revoked = revoked_places(alloc, cert, verdicts, t)?;
+    let edges = make_edges(alloc, &found, steps)?;
+    edges_are_rows();
+    Ok((Rows { edges, revoked }, steady_span(cert, t)))
+}

@@ -1,0 +1,376 @@
+use crate::{Rows, rows};
+use std::alloc::Global;
+use std::test::Fail;
+use wot_cert::{Assembled, Cert, Sig, Span, assemble};
+use wot_edge::Edge;
+use wot_packet::read_packets;
+use wot_policy::{Policy, admits, standard_rows};
+use wot_types::{Fpr, Steps};
+use wot_verdict::{Verdict, Verdicts};
+
+fn assembled(alloc: Global, text: &[u8]) -> Option<Assembled> {
+    match read_packets(alloc, text) {
+        Ok(packets) => {
+            if packets.len() < 1 << 28 {
+                assemble(alloc, &packets).ok()
+            } else {
+                None
+            }
+        }
+        Err(_) => None,
+    }
+}
+
+/// The first certificate of a small text, judged by the standard rows.
+fn judged(alloc: Global, text: &[u8]) -> Option<Cert> {
+    let found = assembled(alloc, text)?;
+    let first = found.certs.as_slice().first()?;
+    let mut cert = Cert::bare(alloc, first.body()).ok().flatten()?;
+    if cert.size() >= 1000 || first.size() >= 1000 {
+        return None;
+    }
+    let rows = standard_rows();
+    let mut policy = Policy::new(rows, |ask| admits(&rows, ask));
+    match cert.merge(alloc, first, &mut policy) {
+        Ok(_) => Some(cert),
+        Err(_) => None,
+    }
+}
+
+/// Says that each of these is good by the issuer that it names, or else by this one.
+fn say_good(verdicts: &mut Verdicts, sigs: &[Sig], own: Fpr) -> Option<()> {
+    for sig in sigs {
+        let issuer = sig.facts()?.issuer.unwrap_or(own);
+        if verdicts.set(sig.number(), Verdict::Good(issuer)).is_err() {
+            return None;
+        }
+    }
+    Some(())
+}
+
+fn good(alloc: Global, cert: &Cert) -> Option<Verdicts> {
+    let mut verdicts = Verdicts::new(alloc);
+    say_good(&mut verdicts, cert.direct(), cert.fpr())?;
+    for uid in cert.user_ids() {
+        say_good(&mut verdicts, uid.sigs(), cert.fpr())?;
+    }
+    Some(verdicts)
+}
+
+fn rows_at(
+    alloc: Global,
+    cert: &Cert,
+    verdicts: &Verdicts,
+    t: u32,
+    steps: &mut Steps,
+) -> Option<(Rows, Span)> {
+    if cert.size() >= 1000 {
+        return None;
+    }
+    rows(alloc, cert, verdicts, t, steps).ok()
+}
+
+/// Whose fingerprint it is.
+fn letter(fpr: Fpr) -> u8 {
+    let Fpr::V4(octets) = fpr;
+    match octets[0] {
+        0x7f => b'R',
+        0x35 => b'A',
+        0x3c => b'T',
+        _ => b'?',
+    }
+}
+
+/// An edge into T: its issuer, the places of the user ID and of the signature, when it was made, its depth and amount, and
+/// whether its scope is limited.
+type Row = (u8, u32, u32, u32, u8, u8, bool);
+
+fn shown(edge: &Edge) -> Row {
+    let facts = edge.facts();
+    let issuer = if letter(facts.target) == b'T' {
+        letter(facts.issuer)
+    } else {
+        b'?'
+    };
+    (
+        issuer,
+        facts.uid,
+        facts.sig,
+        facts.made,
+        facts.depth,
+        facts.amount,
+        facts.scoped,
+    )
+}
+
+fn all_shown(alloc: Global, edges: &[Edge]) -> Option<Vec<Row>> {
+    let mut all = Vec::new(alloc);
+    for edge in edges {
+        all.push(shown(edge)).ok()?;
+    }
+    Some(all)
+}
+
+/// What a certificate is, its text, a time, the edges into it then, the places of the user IDs that its own key revoked, and
+/// the span of that time.
+type Case = (
+    &'static str,
+    &'static [u8],
+    u32,
+    &'static [Row],
+    &'static [u32],
+    (u32, u32),
+);
+
+/// The certificate of the table of spans.
+const TEXT_0: &[u8] =
+    b"\xc6\x07\x04\x00\x00\x03\xe8\x1b\x04\xc2\x10\x04\x1f\x1b\x08\x00\x06\x05\x02\x00\x00\x03\xe8\x00\x00\x00\x00\xcd\x01\x74\xc2\x2b\x04\x10\x1b\x08\x00\x21\x05\x02\x00\x00\x07\xd0\x03\x05\x00\x3c\x16\x21\x04\x7f\x35\xc8\xdb\xd6\xb3\xeb\x2f\xfd\x59\xcb\xdd\x2e\x41\xea\x29\x12\x12\xac\x38\x00\x00\x00\x00\xc2\x31\x04\x10\x1b\x08\x00\x27\x05\x02\x00\x00\x0b\xb8\x05\x03\x00\x00\x00\x64\x03\x05\x00\x78\x16\x21\x04\x7f\x35\xc8\xdb\xd6\xb3\xeb\x2f\xfd\x59\xcb\xdd\x2e\x41\xea\x29\x12\x12\xac\x38\x00\x00\x00\x00";
+
+/// Revoked by its issuer at the same moment.
+const TEXT_1: &[u8] =
+    b"\xc6\x07\x04\x00\x00\x03\xe8\x1b\x04\xc2\x10\x04\x1f\x1b\x08\x00\x06\x05\x02\x00\x00\x03\xe8\x00\x00\x00\x00\xcd\x01\x74\xc2\x27\x04\x10\x1b\x08\x00\x1d\x05\x02\x00\x00\x07\xd0\x16\x21\x04\x7f\x35\xc8\xdb\xd6\xb3\xeb\x2f\xfd\x59\xcb\xdd\x2e\x41\xea\x29\x12\x12\xac\x38\x00\x00\x00\x00\xc2\x27\x04\x30\x1b\x08\x00\x1d\x05\x02\x00\x00\x07\xd0\x16\x21\x04\x7f\x35\xc8\xdb\xd6\xb3\xeb\x2f\xfd\x59\xcb\xdd\x2e\x41\xea\x29\x12\x12\xac\x38\x00\x00\x00\x00";
+
+/// Revoked before it was made.
+const TEXT_2: &[u8] =
+    b"\xc6\x07\x04\x00\x00\x03\xe8\x1b\x04\xc2\x10\x04\x1f\x1b\x08\x00\x06\x05\x02\x00\x00\x03\xe8\x00\x00\x00\x00\xcd\x01\x74\xc2\x27\x04\x10\x1b\x08\x00\x1d\x05\x02\x00\x00\x07\xd0\x16\x21\x04\x7f\x35\xc8\xdb\xd6\xb3\xeb\x2f\xfd\x59\xcb\xdd\x2e\x41\xea\x29\x12\x12\xac\x38\x00\x00\x00\x00\xc2\x27\x04\x30\x1b\x08\x00\x1d\x05\x02\x00\x00\x07\xcf\x16\x21\x04\x7f\x35\xc8\xdb\xd6\xb3\xeb\x2f\xfd\x59\xcb\xdd\x2e\x41\xea\x29\x12\x12\xac\x38\x00\x00\x00\x00";
+
+/// Revoked by a revocation that expired.
+const TEXT_3: &[u8] =
+    b"\xc6\x07\x04\x00\x00\x03\xe8\x1b\x04\xc2\x10\x04\x1f\x1b\x08\x00\x06\x05\x02\x00\x00\x03\xe8\x00\x00\x00\x00\xcd\x01\x74\xc2\x27\x04\x10\x1b\x08\x00\x1d\x05\x02\x00\x00\x07\xd0\x16\x21\x04\x7f\x35\xc8\xdb\xd6\xb3\xeb\x2f\xfd\x59\xcb\xdd\x2e\x41\xea\x29\x12\x12\xac\x38\x00\x00\x00\x00\xc2\x2d\x04\x30\x1b\x08\x00\x23\x05\x02\x00\x00\x09\xc4\x05\x03\x00\x00\x00\x64\x16\x21\x04\x7f\x35\xc8\xdb\xd6\xb3\xeb\x2f\xfd\x59\xcb\xdd\x2e\x41\xea\x29\x12\x12\xac\x38\x00\x00\x00\x00";
+
+/// Not revocable.
+const TEXT_4: &[u8] =
+    b"\xc6\x07\x04\x00\x00\x03\xe8\x1b\x04\xc2\x10\x04\x1f\x1b\x08\x00\x06\x05\x02\x00\x00\x03\xe8\x00\x00\x00\x00\xcd\x01\x74\xc2\x2a\x04\x10\x1b\x08\x00\x20\x05\x02\x00\x00\x07\xd0\x02\x07\x00\x16\x21\x04\x7f\x35\xc8\xdb\xd6\xb3\xeb\x2f\xfd\x59\xcb\xdd\x2e\x41\xea\x29\x12\x12\xac\x38\x00\x00\x00\x00\xc2\x27\x04\x30\x1b\x08\x00\x1d\x05\x02\x00\x00\x09\xc4\x16\x21\x04\x7f\x35\xc8\xdb\xd6\xb3\xeb\x2f\xfd\x59\xcb\xdd\x2e\x41\xea\x29\x12\x12\xac\x38\x00\x00\x00\x00";
+
+/// Revoked by another.
+const TEXT_5: &[u8] =
+    b"\xc6\x07\x04\x00\x00\x03\xe8\x1b\x04\xc2\x10\x04\x1f\x1b\x08\x00\x06\x05\x02\x00\x00\x03\xe8\x00\x00\x00\x00\xcd\x01\x74\xc2\x27\x04\x10\x1b\x08\x00\x1d\x05\x02\x00\x00\x07\xd0\x16\x21\x04\x7f\x35\xc8\xdb\xd6\xb3\xeb\x2f\xfd\x59\xcb\xdd\x2e\x41\xea\x29\x12\x12\xac\x38\x00\x00\x00\x00\xc2\x27\x04\x30\x1b\x08\x00\x1d\x05\x02\x00\x00\x09\xc4\x16\x21\x04\x35\x2e\x5f\x12\x05\x9b\x46\x05\xa5\xb8\xf8\x8f\x66\xd6\x55\xc9\x13\x3e\x1c\xa2\x00\x00\x00\x00";
+
+/// By a hash that isn't admitted.
+const TEXT_6: &[u8] =
+    b"\xc6\x07\x04\x00\x00\x03\xe8\x1b\x04\xc2\x10\x04\x1f\x1b\x08\x00\x06\x05\x02\x00\x00\x03\xe8\x00\x00\x00\x00\xcd\x01\x74\xc2\x27\x04\x10\x1b\x01\x00\x1d\x05\x02\x00\x00\x07\xd0\x16\x21\x04\x7f\x35\xc8\xdb\xd6\xb3\xeb\x2f\xfd\x59\xcb\xdd\x2e\x41\xea\x29\x12\x12\xac\x38\x00\x00\x00\x00";
+
+/// A self-certification with trust and a pattern.
+const TEXT_7: &[u8] =
+    b"\xc6\x07\x04\x00\x00\x03\xe8\x1b\x04\xc2\x10\x04\x1f\x1b\x08\x00\x06\x05\x02\x00\x00\x03\xe8\x00\x00\x00\x00\xcd\x01\x74\xc2\x46\x04\x13\x1b\x08\x00\x3c\x05\x02\x00\x00\x07\xd0\x03\x05\x03\x07\x1a\x06\x3c\x5b\x5e\x3e\x5d\x2b\x5b\x40\x2e\x5d\x65\x78\x61\x6d\x70\x6c\x65\x5c\x2e\x6f\x72\x67\x3e\x24\x00\x16\x21\x04\x3c\x98\xb8\x18\x0e\x0f\xca\xca\x10\x32\x49\x90\x82\xa5\xde\x8f\xa5\xd9\x82\x32\x00\x00\x00\x00";
+
+/// Issuers of several user IDs.
+const TEXT_8: &[u8] =
+    b"\xc6\x07\x04\x00\x00\x03\xe8\x1b\x04\xc2\x10\x04\x1f\x1b\x08\x00\x06\x05\x02\x00\x00\x03\xe8\x00\x00\x00\x00\xcd\x01\x74\xc2\x2b\x04\x10\x1b\x08\x00\x21\x05\x02\x00\x00\x07\xd0\x03\x05\x01\x3c\x16\x21\x04\x7f\x35\xc8\xdb\xd6\xb3\xeb\x2f\xfd\x59\xcb\xdd\x2e\x41\xea\x29\x12\x12\xac\x38\x00\x00\x00\x00\xc2\x10\x04\x13\x1b\x08\x00\x06\x05\x02\x00\x00\x08\x34\x00\x00\x00\x00\xc2\x2f\x04\x11\x1b\x08\x00\x25\x05\x02\x00\x00\x08\x98\x03\x05\xff\x01\x03\x06\x78\x00\x16\x21\x04\x35\x2e\x5f\x12\x05\x9b\x46\x05\xa5\xb8\xf8\x8f\x66\xd6\x55\xc9\x13\x3e\x1c\xa2\x00\x00\x00\x00\xcd\x01\x73\xc2\x27\x04\x12\x1b\x08\x00\x1d\x05\x02\x00\x00\x08\xfc\x16\x21\x04\x35\x2e\x5f\x12\x05\x9b\x46\x05\xa5\xb8\xf8\x8f\x66\xd6\x55\xc9\x13\x3e\x1c\xa2\x00\x00\x00\x00\xc2\x2b\x04\x10\x1b\x08\x00\x21\x05\x02\x00\x00\x09\x60\x03\x05\x02\x78\x16\x21\x04\x7f\x35\xc8\xdb\xd6\xb3\xeb\x2f\xfd\x59\xcb\xdd\x2e\x41\xea\x29\x12\x12\xac\x38\x00\x00\x00\x00\xc2\x27\x04\x30\x1b\x08\x00\x1d\x05\x02\x00\x00\x09\x92\x16\x21\x04\x7f\x35\xc8\xdb\xd6\xb3\xeb\x2f\xfd\x59\xcb\xdd\x2e\x41\xea\x29\x12\x12\xac\x38\x00\x00\x00\x00\xc2\x2b\x04\x13\x1b\x08\x00\x21\x05\x02\x00\x00\x09\xc4\x03\x05\x00\x1e\x16\x21\x04\x7f\x35\xc8\xdb\xd6\xb3\xeb\x2f\xfd\x59\xcb\xdd\x2e\x41\xea\x29\x12\x12\xac\x38\x00\x00\x00\x00";
+
+/// User IDs that their own key revoked.
+const TEXT_9: &[u8] =
+    b"\xc6\x07\x04\x00\x00\x03\xe8\x1b\x04\xc2\x10\x04\x1f\x1b\x08\x00\x06\x05\x02\x00\x00\x03\xe8\x00\x00\x00\x00\xcd\x01\x73\xc2\x10\x04\x13\x1b\x08\x00\x06\x05\x02\x00\x00\x07\xd0\x00\x00\x00\x00\xc2\x10\x04\x30\x1b\x08\x00\x06\x05\x02\x00\x00\x09\xc4\x00\x00\x00\x00\xcd\x01\x74\xc2\x10\x04\x13\x1b\x08\x00\x06\x05\x02\x00\x00\x07\xd0\x00\x00\x00\x00\xc2\x10\x04\x30\x1b\x08\x00\x06\x05\x02\x00\x00\x09\xc4\x00\x00\x00\x00\xc2\x10\x04\x13\x1b\x08\x00\x06\x05\x02\x00\x00\x0b\xb8\x00\x00\x00\x00\xcd\x01\x75\xc2\x10\x04\x30\x1b\x08\x00\x06\x05\x02\x00\x00\x09\xc4\x00\x00\x00\x00\xc2\x27\x04\x10\x1b\x08\x00\x1d\x05\x02\x00\x00\x07\xd0\x16\x21\x04\x7f\x35\xc8\xdb\xd6\xb3\xeb\x2f\xfd\x59\xcb\xdd\x2e\x41\xea\x29\x12\x12\xac\x38\x00\x00\x00\x00";
+
+/// Two of one moment.
+const TEXT_10: &[u8] =
+    b"\xc6\x07\x04\x00\x00\x03\xe8\x1b\x04\xc2\x10\x04\x1f\x1b\x08\x00\x06\x05\x02\x00\x00\x03\xe8\x00\x00\x00\x00\xcd\x01\x74\xc2\x2b\x04\x10\x1b\x08\x00\x21\x05\x02\x00\x00\x07\xd0\x03\x05\x01\x0a\x16\x21\x04\x7f\x35\xc8\xdb\xd6\xb3\xeb\x2f\xfd\x59\xcb\xdd\x2e\x41\xea\x29\x12\x12\xac\x38\x00\x00\x00\x00\xc2\x2b\x04\x10\x1b\x08\x00\x21\x05\x02\x00\x00\x07\xd0\x03\x05\x02\x14\x16\x21\x04\x7f\x35\xc8\xdb\xd6\xb3\xeb\x2f\xfd\x59\xcb\xdd\x2e\x41\xea\x29\x12\x12\xac\x38\x00\x00\x00\x00\xc2\x2b\x04\x10\x1b\x08\x00\x21\x05\x02\x00\x00\x07\xd0\x03\x05\x03\x1e\x16\x21\x04\x7f\x35\xc8\xdb\xd6\xb3\xeb\x2f\xfd\x59\xcb\xdd\x2e\x41\xea\x29\x12\x12\xac\x38\x00\x00\x00\x00";
+
+const CASES: [Case; 21] = [
+    (
+        "the certificate of the table of spans",
+        TEXT_0,
+        999,
+        &[],
+        &[],
+        (0, 999),
+    ),
+    (
+        "the certificate of the table of spans",
+        TEXT_0,
+        1999,
+        &[],
+        &[],
+        (1000, 1999),
+    ),
+    (
+        "the certificate of the table of spans",
+        TEXT_0,
+        2500,
+        &[(b'R', 0, 0, 2000, 0, 60, false)],
+        &[],
+        (2000, 2999),
+    ),
+    (
+        "the certificate of the table of spans",
+        TEXT_0,
+        3050,
+        &[(b'R', 0, 1, 3000, 0, 120, false)],
+        &[],
+        (3000, 3099),
+    ),
+    (
+        "the certificate of the table of spans",
+        TEXT_0,
+        3099,
+        &[(b'R', 0, 1, 3000, 0, 120, false)],
+        &[],
+        (3000, 3099),
+    ),
+    (
+        "the certificate of the table of spans",
+        TEXT_0,
+        3100,
+        &[(b'R', 0, 0, 2000, 0, 60, false)],
+        &[],
+        (3100, 4294967295),
+    ),
+    (
+        "the certificate of the table of spans",
+        TEXT_0,
+        5000,
+        &[(b'R', 0, 0, 2000, 0, 60, false)],
+        &[],
+        (3100, 4294967295),
+    ),
+    (
+        "revoked by its issuer at the same moment",
+        TEXT_1,
+        5000,
+        &[],
+        &[],
+        (2000, 4294967295),
+    ),
+    (
+        "revoked before it was made",
+        TEXT_2,
+        5000,
+        &[(b'R', 0, 0, 2000, 0, 120, false)],
+        &[],
+        (2000, 4294967295),
+    ),
+    (
+        "revoked by a revocation that expired",
+        TEXT_3,
+        2550,
+        &[],
+        &[],
+        (2500, 2599),
+    ),
+    (
+        "revoked by a revocation that expired",
+        TEXT_3,
+        2600,
+        &[(b'R', 0, 0, 2000, 0, 120, false)],
+        &[],
+        (2600, 4294967295),
+    ),
+    (
+        "not revocable",
+        TEXT_4,
+        5000,
+        &[(b'R', 0, 0, 2000, 0, 120, false)],
+        &[],
+        (2500, 4294967295),
+    ),
+    (
+        "revoked by another",
+        TEXT_5,
+        5000,
+        &[(b'R', 0, 0, 2000, 0, 120, false)],
+        &[],
+        (2500, 4294967295),
+    ),
+    (
+        "by a hash that isn't admitted",
+        TEXT_6,
+        5000,
+        &[],
+        &[],
+        (2000, 4294967295),
+    ),
+    (
+        "a self-certification with trust and a pattern",
+        TEXT_7,
+        5000,
+        &[(b'T', 0, 0, 2000, 0, 120, false)],
+        &[],
+        (2000, 4294967295),
+    ),
+    (
+        "issuers of several user IDs",
+        TEXT_8,
+        2460,
+        &[
+            (b'A', 0, 1, 2300, 0, 120, false),
+            (b'A', 1, 1, 2200, 255, 1, true),
+            (b'T', 1, 2, 2100, 0, 120, false),
+            (b'R', 1, 0, 2000, 1, 60, false),
+        ],
+        &[],
+        (2450, 2499),
+    ),
+    (
+        "issuers of several user IDs",
+        TEXT_8,
+        5000,
+        &[
+            (b'A', 0, 1, 2300, 0, 120, false),
+            (b'A', 1, 1, 2200, 255, 1, true),
+            (b'T', 1, 2, 2100, 0, 120, false),
+            (b'R', 0, 2, 2500, 0, 30, false),
+            (b'R', 1, 0, 2000, 1, 60, false),
+        ],
+        &[],
+        (2500, 4294967295),
+    ),
+    (
+        "user IDs that their own key revoked",
+        TEXT_9,
+        2400,
+        &[
+            (b'T', 0, 0, 2000, 0, 120, false),
+            (b'T', 1, 0, 2000, 0, 120, false),
+            (b'R', 2, 0, 2000, 0, 120, false),
+        ],
+        &[],
+        (2000, 2499),
+    ),
+    (
+        "user IDs that their own key revoked",
+        TEXT_9,
+        2600,
+        &[(b'R', 2, 0, 2000, 0, 120, false)],
+        &[0, 1, 2],
+        (2500, 2999),
+    ),
+    (
+        "user IDs that their own key revoked",
+        TEXT_9,
+        5000,
+        &[
+            (b'T', 1, 1, 3000, 0, 120, false),
+            (b'R', 2, 0, 2000, 0, 120, false),
+        ],
+        &[0, 2],
+        (3000, 4294967295),
+    ),
+    (
+        "two of one moment",
+        TEXT_10,
+        5000,
+        &[(b'R', 0, 0, 2000, 1, 10, false)],
+        &[],
+        (2000, 4294967295),
+    ),
+];
+
+#[test]
+fn rows_and_spans(rt: HostRuntime) -> Result<(), Fail> {
+    for (what, text, t, edges, revoked, (from, to)) in CASES {
+        let cert = judged(rt.alloc(), text).ok_or("judged")?;
+        let verdicts = good(rt.alloc(), &cert).ok_or("verdicts")?;
+        let mut steps = Steps::new();
+        let (found, span) = rows_at(rt.alloc(), &cert, &verdicts, t, &mut steps).ok_or("rows")?;
+        let found_edges = all_shown(rt.alloc(), &found.edges).ok_or("edges")?;
+        assert_eq!(rt; found_edges.as_slice(), edges, "edges of {what} at {t}");
+        assert_eq!(rt;
+            found.revoked.as_slice(),
+            revoked,
+            "user IDs of {what} at {t}"
+        );
+        assert_eq!(rt; span, Span { from, to }, "span of {what} at {t}");
+        assert_eq!(rt; steps.made, edges.len() as u64, "made for {what} at {t}");
+    }
+    Ok(())
+}

@@ -1,0 +1,69 @@
+-- The certification network: what certificates and verdicts tell of a user ID U at a time t.
+use Rattle.std.specs.Prelude.{ℕ, suc, Bool, false, not, ◌||◌, if◌then◌else◌, List, [], ◌∷◌, map, Option, Some, None}
+use Rattle.std.specs.List.{slice_get}
+use Rattle.std.specs.Option.{option_map, option_map_or}
+use Rattle.std.specs.Map.{lookup}
+use Rattle.std.specs.Ordering.{is_eq, nat_cmp}
+use Rattle.std.specs.Cmp.Lexicographic.{slice_cmp}
+use Rattle.wot_types.specs.declared.fpr.Fpr.{Fpr}
+use Rattle.wot_verdict.specs.Verdicts.{Entries}
+use Rattle.wot_signature.specs.Signature.{scopes_of}
+use Rattle.wot_cert.specs.Certificate.{Signature, Component, Certificate}
+use Rattle.wot_edge.specs.declared.edge.EdgeFacts.{EdgeFacts}
+use Rattle.wot_edge.specs.Record.{Row, Entry, Record}
+use Rattle.wot_keyring.specs.Keyring.{Certificates, is_fpr}
+use Rattle.wot_scope.specs.Deciding.{scope_holds}
+use Rattle.wot_standing.specs.Standing.{standing_of}
+use Rattle.wot_standing.specs.Usable.{is_usable, is_in_order}
+use Rattle.wot_live.specs.Rows.{edges_of}
+
+-- ---- usable
+
+-- An edge made then by this one is usable: the issuer is kept, and stands so that what it made then may be relied on.
+abbrev pub is_usable_by : Entries → Certificates → ℕ → Fpr → ℕ → Bool
+is_usable_by verdicts certs t issuer made =
+    option_map_or (λ (c : Certificate). is_usable (standing_of verdicts c t) made) (lookup (is_fpr issuer) certs) false
+
+-- ---- scope
+
+abbrev pub body_in : ℕ → Component → List ℕ
+body_in sig uid = option_map_or (λ (s : Signature). s.body) (slice_get uid.sigs sig) []
+
+-- the body of the signature at a place on the user ID at a place
+abbrev pub body_at : List Component → ℕ → ℕ → List ℕ
+body_at user_ids uid sig = option_map_or (body_in sig) (slice_get user_ids uid) []
+
+-- The edge has no limited scope, or the scope of its signature, which stands on one of these user IDs, holds for U.
+abbrev pub is_in_scope : List Component → List ℕ → EdgeFacts → Bool
+is_in_scope user_ids u edge = not edge.scoped || scope_holds (scopes_of (body_at user_ids edge.uid edge.sig)) u
+
+-- ---- the user ID
+
+abbrev pub is_user_id : List ℕ → Component → Bool
+is_user_id u uid = is_eq (slice_cmp nat_cmp u uid.body)
+
+-- the place of U among user IDs
+abbrev pub place_of : List ℕ → List Component → Option ℕ
+place_of u [] = None
+place_of u (uid ∷ uids) = if is_user_id u uid then Some 0 else option_map suc (place_of u uids)
+
+-- ---- the record
+
+abbrev pub row_of : Entries → Certificates → ℕ → List ℕ → Certificate → EdgeFacts → Row
+row_of verdicts certs t u c edge = record {
+  edge = edge;
+  usable = is_usable_by verdicts certs t edge.issuer edge.made;
+  scope = is_in_scope c.user_ids u edge;
+}
+
+-- what is told of a certificate: the edges into it, the place of U among its user IDs, and whether it is in order for U
+abbrev pub entry_of : Entries → Certificates → ℕ → List ℕ → Certificate → Entry
+entry_of verdicts certs t u c = record {
+  rows = map (row_of verdicts certs t u c) (edges_of verdicts c t);
+  place = place_of u c.user_ids;
+  in_order = is_in_order verdicts c t (is_user_id u);
+}
+
+-- the record of U
+abbrev pub record_of : Certificates → Entries → ℕ → List ℕ → Record
+record_of certs verdicts t u = map (λ (e : Fpr × Certificate). (e.0, entry_of verdicts certs t u e.1)) certs

@@ -1,0 +1,14 @@
+//! The certification network of a keyring at a time.
+#![tactic(auto)]
+
+pub mod laws;
+mod line;
+mod making;
+mod network;
+mod roads;
+#[cfg(test)]
+mod tests;
+mod user_ids;
+
+pub use network::Network;
+pub use roads::NetRoads;

@@ -1,0 +1,88 @@
+ghost use Rattle.std.specs.Prelude.{◌≡◌};
+ghost use Rattle.wot_network.specs.Net.{IsRight, told_of};
+
+use crate::network::Network;
+use crate::user_ids::{holds_for, is_in_order, place_of};
+use std::alloc::Global;
+use std::marker::Model;
+use wot_edge::laws::entries_are_record;
+use wot_edge::{Edge, Roads};
+use wot_keyring::Keyring;
+use wot_standing::is_usable;
+use wot_types::{Fpr, Memory};
+
+/// The roads of a keyring as it is, at one time, by the network that was made of it.
+#[derive(Drop)]
+pub struct NetRoads<'a> {
+    network: &'a Network,
+    keyring: &'a Keyring,
+}
+
+impl<'a> Model for NetRoads<'a> {
+    ghost use Rattle.wot_network.specs.Net.{Present, IsRight};
+
+    ghost Value = { Present };
+
+    ghost view = { λ a. record { keyring = a.keyring.now; time = a.network.now.time } };
+
+    ghost invariant = { λ a. IsRight a.network.now a.keyring.now a.network.now.time };
+}
+
+impl<'a> NetRoads<'a> {
+    pub(crate) fn of(network: &'a Network, keyring: &'a Keyring) -> NetRoads<'a>
+        requires right { IsRight network.now keyring.now network.now.time }
+        ensures keyring { result.keyring ≡ keyring.now }
+        ensures time { result.time ≡ network.now.time }
+    {
+        NetRoads { network, keyring }
+    }
+}
+
+impl<'a> Roads for NetRoads<'a> {
+    ghost told = { λ roads uid. told_of roads uid };
+
+    fn rows(&self, target: &Fpr) -> &[Edge] {
+        entries_are_record();
+        match self.network.line(target) {
+            Some(line) => line.edges(),
+            None => &[],
+        }
+    }
+
+    fn usable(&self, edge: &Edge) -> bool {
+        let facts = edge.facts();
+        match self.network.line(&facts.issuer) {
+            Some(line) => is_usable(line.standing(), facts.made),
+            None => false,
+        }
+    }
+
+    fn scope(&self, edge: &Edge, uid: &[u8]) -> Result<bool, Memory> {
+        let facts = edge.facts();
+        match self.keyring.get(&facts.target) {
+            Some(cert) => holds_for(self.network.allocator(), cert.user_ids(), &facts, uid),
+            None => Ok(false),
+        }
+    }
+
+    fn in_order(&self, target: &Fpr, uid: &[u8]) -> bool {
+        entries_are_record();
+        match self.network.line(target) {
+            Some(line) => match self.keyring.get(target) {
+                Some(cert) => {
+                    let t = self.network.time();
+                    is_in_order(cert, line.standing(), self.keyring.verdicts(), t, uid)
+                }
+                None => false,
+            },
+            None => false,
+        }
+    }
+
+    fn place(&self, target: &Fpr, uid: &[u8]) -> Option<u32> {
+        match self.keyring.get(target) {
+            Some(cert) => place_of(cert.user_ids(), uid),
+            None => None,
+        }
+    }
+}

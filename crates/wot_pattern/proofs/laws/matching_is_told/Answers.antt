@@ -1,0 +1,5 @@
+use Rattle.wot_pattern.proofs.Telling.{matching_tells}
+use Rattle.wot_pattern.proofs.laws.matching_is_told.Goals as goal
+
+pub returns : goal.returns
+returns c = record { told = λ text reading. ((matching_tells text reading).says, (matching_tells text reading).said) }

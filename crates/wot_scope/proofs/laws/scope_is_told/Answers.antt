@@ -1,0 +1,5 @@
+use Rattle.wot_scope.proofs.Deciding.{scope_told}
+use Rattle.wot_scope.proofs.laws.scope_is_told.Goals as goal
+
+pub returns : goal.returns
+returns c = record { told = scope_told c.reading_is_told.ensures.told c.matching_is_told.ensures.told }

@@ -1,0 +1,5 @@
+use Rattle.wot_script.proofs.Wanting.{spelled_at}
+use Rattle.wot_script.proofs.laws.lines_spell_commands.Goals as goal
+
+pub returns : goal.returns
+returns c = record { spelled = λ line command e. (spelled_at line command e).0 }

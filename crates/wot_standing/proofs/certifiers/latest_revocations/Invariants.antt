@@ -1,0 +1,14 @@
+use Rattle.std.proofs.Common.{◌≡◌, ◌++◌, List, length}
+use Rattle.wot_cert.specs.Certificate.{Signature}
+use Rattle.wot_standing.specs.Certifiers.{KeepsLatest}
+use Rattle.wot_standing.proofs.certifiers.latest_revocations.Given as goal
+
+abbrev pub invariant-back : goal.invariant-back
+invariant-back l = record {
+  seen : List Signature;
+  all : l.place ≡ l.rest ++ seen;
+  latest : KeepsLatest l.verdicts l.t seen l.latest.entries;
+}
+
+abbrev pub decreases-back : goal.decreases-back
+decreases-back l = length l.rest

@@ -1,0 +1,5 @@
+use Rattle.wot_standing.proofs.Counting.{only_counting}
+use Rattle.wot_standing.proofs.laws.certifications_count.Goals as goal
+
+pub returns : goal.returns
+returns c = record { only = only_counting }

@@ -1,0 +1,46 @@
+-- The newest certification of each issuer on a user ID, known by its place there.
+use Rattle.std.specs.Prelude.{◌≡◌, ℕ, max, if◌then◌else◌, List, Option, Some}
+use Rattle.std.specs.BTreeMap.{is_at}
+use Rattle.std.specs.List.{slice_get}
+use Rattle.std.specs.Map.{lookup}
+use Rattle.std.specs.Option.{option_map_or, option_and_then}
+use Rattle.wot_types.specs.declared.fpr.Fpr.{Fpr}
+use Rattle.wot_types.specs.Fpr.{fpr_cmp}
+use Rattle.wot_verdict.specs.Verdicts.{Entries}
+use Rattle.wot_cert.specs.Certificate.{Signature, Component}
+use Rattle.wot_cert.specs.Ranked.{higher_of}
+use Rattle.wot_cert.specs.Revoked.{revokes_by}
+use Rattle.wot_cert.specs.Time.{made_of, newness}
+use Rattle.wot_standing.specs.declared.kinds.Binding.TheVariants.{Certification}
+use Rattle.wot_standing.specs.Latest.{revoked_at, is_valid_after}
+use Rattle.wot_standing.specs.Standing.{self_certification}
+
+-- ---- numbers by issuer
+
+-- the number that is kept for an issuer, if one is
+abbrev pub number_for : List (Fpr × ℕ) → Fpr → Option ℕ
+number_for numbers issuer = lookup (is_at (fpr_cmp issuer)) numbers
+
+-- the signature at the place that is kept for an issuer
+abbrev pub kept_for : List (Fpr × ℕ) → List Signature → Fpr → Option Signature
+kept_for places sigs issuer = option_and_then (slice_get sigs) (number_for places issuer)
+
+-- The places are those of the newest certification of each issuer that is live and unrevoked.
+abbrev pub KeepsNewest : Entries → ℕ → Component → List (Fpr × ℕ) → Type 0
+KeepsNewest verdicts t uid places = (issuer : Fpr) → kept_for places uid.sigs issuer ≡ self_certification verdicts issuer t uid
+
+-- ---- one signature more, in front
+
+-- The numbers are those of the latest live revocation of each issuer.
+abbrev pub KeepsLatest : Entries → ℕ → List Signature → List (Fpr × ℕ) → Type 0
+KeepsLatest verdicts t place numbers = (issuer : Fpr) → number_for numbers issuer ≡ revoked_at verdicts issuer t place
+
+-- what the latest revocation by an issuer becomes with this signature
+abbrev pub later_by : Entries → Fpr → ℕ → Signature → Option ℕ → Option ℕ
+later_by verdicts issuer t s best =
+    if revokes_by verdicts issuer t s then Some (option_map_or (max (made_of s)) best (made_of s)) else best
+
+-- what the newest valid certification by an issuer becomes with this signature
+abbrev pub newer_by : Entries → Fpr → ℕ → List Signature → Signature → Option Signature → Option Signature
+newer_by verdicts issuer t place s best =
+    if is_valid_after verdicts issuer t Certification (revoked_at verdicts issuer t place) s then higher_of newness s best else best

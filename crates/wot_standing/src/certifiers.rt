@@ -1,0 +1,185 @@
+// The newest certifications of all issuers on a user ID, in one walk.
+ghost use Rattle.std.specs.Prelude.{◌≡◌, ◌<◌, ◌^◌, length, cond, Some, OnOk, IfOk, if◌then◌else◌};
+ghost use Rattle.std.specs.List.{slice_get};
+ghost use Rattle.std.specs.Option.{option_copied};
+ghost use Rattle.wot_types.specs.declared.fpr.Fpr.{Fpr as TheFpr};
+ghost use Rattle.wot_cert.specs.Ranked.{higher_of};
+ghost use Rattle.wot_cert.specs.Time.{newness};
+ghost use Rattle.wot_cert.specs.Issuer.{same_fpr};
+ghost use Rattle.wot_standing.specs.declared.kinds.Binding.TheVariants.{Certification};
+ghost use Rattle.wot_standing.specs.Valid.{newest_valid};
+ghost use Rattle.wot_standing.specs.Certifiers.{KeepsLatest, KeepsNewest, kept_for, later_by, newer_by, number_for};
+
+use crate::kinds::{Binding, made};
+use crate::latest::{later, revokes};
+use crate::newest::{compare_newness, is_valid_after};
+use std::alloc::Global;
+use std::cmp::Ordering;
+use std::collections::BTreeMap;
+use std::marker::Model;
+use wot_cert::{Part, Sig, issuer_of};
+use wot_types::{Fpr, Memory};
+use wot_verdict::Verdicts;
+
+type Numbers = BTreeMap<Fpr, u32, Global>;
+
+/// The newest certification of each issuer on one user ID, by its place there.
+#[derive(Drop)]
+pub struct Certifiers {
+    places: BTreeMap<Fpr, u32, Global>,
+}
+
+impl Model for Certifiers {
+    ghost use Rattle.std.specs.Prelude.{List, ℕ};
+    ghost use Rattle.wot_types.specs.declared.fpr.Fpr.{Fpr};
+
+    ghost Value = { List (Fpr × ℕ) };
+
+    ghost view = { λ certifiers. certifiers.places.entries };
+}
+
+impl Certifiers {
+    /// Of each issuer the newest certification on the user ID that counts by it, is live at `t` and unrevoked.
+    pub fn new(alloc: Global, uid: &Part, verdicts: &Verdicts, t: u32) -> Result<Certifiers, Memory>
+        requires few { length uid.now.sigs < 2 ^ 32 }
+        ensures newest { IfOk result (λ found. KeepsNewest verdicts.now t uid.now found) }
+    {
+        let latest = latest_revocations(alloc, uid.sigs(), verdicts, t)?;
+        let places = newest_places(alloc, uid.sigs(), verdicts, t, &latest)?;
+        Ok(Certifiers { places })
+    }
+
+    /// The place of an issuer's certification among the signatures on the user ID.
+    pub fn place(&self, issuer: &Fpr) -> Option<u32>
+        ensures place { result ≡ number_for self.now issuer.now }
+    {
+        number(&self.places, issuer)
+    }
+}
+
+fn number(numbers: &Numbers, issuer: &Fpr) -> Option<u32>
+    ensures { result ≡ number_for numbers.now.entries issuer.now }
+{
+    numbers.get(issuer).copied()
+}
+
+fn keep(numbers: &mut Numbers, issuer: Fpr, number: u32) -> Result<(), Memory>
+    ensures { OnOk result ((q : TheFpr) → number_for numbers.new.entries q ≡ cond (same_fpr issuer q) (Some number) (number_for numbers.old.entries q)) }
+{
+    numbers.insert(issuer, number)?;
+    Ok(())
+}
+
+/// When each issuer made its latest live revocation at a place.
+fn latest_revocations(
+    alloc: Global,
+    place: &[Sig],
+    verdicts: &Verdicts,
+    t: u32,
+) -> Result<Numbers, Memory>
+    ensures { IfOk result (λ latest. KeepsLatest verdicts.now t place.now latest.entries) }
+{
+    let mut latest = BTreeMap::new(alloc);
+    let mut rest = place;
+    'back: while let Some((sig, front)) = rest.split_last() {
+        rest = front;
+        note_revocation(&mut latest, sig, verdicts, t)?;
+    }
+    Ok(latest)
+}
+
+/// Takes a signature into the latest revocations.
+fn note_revocation(
+    latest: &mut Numbers,
+    sig: &Sig,
+    verdicts: &Verdicts,
+    t: u32,
+) -> Result<(), Memory>
+    ensures { OnOk result ((q : TheFpr) → number_for latest.new.entries q ≡ later_by verdicts.now q t sig.now (number_for latest.old.entries q)) }
+{
+    let Some(issuer) = issuer_of(sig, verdicts) else {
+        return Ok(());
+    };
+    if !revokes(sig, verdicts, &issuer, t) {
+        return Ok(());
+    }
+    let best = later(made(sig), number(latest, &issuer));
+    keep(latest, issuer, best)?;
+    Ok(())
+}
+
+/// The place of each issuer's newest valid certification.
+fn newest_places(
+    alloc: Global,
+    place: &[Sig],
+    verdicts: &Verdicts,
+    t: u32,
+    latest: &Numbers,
+) -> Result<Numbers, Memory>
+    requires few { length place.now < 2 ^ 32 }
+    requires latest { KeepsLatest verdicts.now t place.now latest.now.entries }
+    ensures { IfOk result (λ places. (q : TheFpr) → kept_for places.entries place.now q ≡ newest_valid verdicts.now q t Certification place.now) }
+{
+    let mut places = BTreeMap::new(alloc);
+    let mut rest = place;
+    'back: while let Some((sig, front)) = rest.split_last() {
+        rest = front;
+        note_certification(
+            &mut places,
+            place,
+            front.len() as u32,
+            sig,
+            verdicts,
+            t,
+            latest,
+        )?;
+    }
+    Ok(places)
+}
+
+/// Takes a signature, which stands at this place, into the newest certifications.
+fn note_certification(
+    places: &mut Numbers,
+    place: &[Sig],
+    at: u32,
+    sig: &Sig,
+    verdicts: &Verdicts,
+    t: u32,
+    latest: &Numbers,
+) -> Result<(), Memory>
+    requires here { slice_get place.now at ≡ Some sig.now }
+    requires latest { KeepsLatest verdicts.now t place.now latest.now.entries }
+    ensures { OnOk result ((q : TheFpr) → kept_for places.new.entries place.now q ≡ newer_by verdicts.now q t place.now sig.now (kept_for places.old.entries place.now q)) }
+{
+    let Some(issuer) = issuer_of(sig, verdicts) else {
+        return Ok(());
+    };
+    let revoked = number(latest, &issuer);
+    if !is_valid_after(sig, verdicts, &issuer, t, Binding::Certification, revoked) {
+        return Ok(());
+    }
+    if !is_newest(sig, kept(places, place, &issuer)) {
+        return Ok(());
+    }
+    keep(places, issuer, at)?;
+    Ok(())
+}
+
+fn kept<'a>(places: &Numbers, place: &'a [Sig], issuer: &Fpr) -> Option<&'a Sig>
+    ensures { option_copied result ≡ kept_for places.now.entries place.now issuer.now }
+{
+    match number(places, issuer) {
+        Some(at) => place.get(at as usize),
+        None => None,
+    }
+}
+
+/// Whether it is newer than the other one, if there is one.
+fn is_newest(sig: &Sig, other: Option<&Sig>) -> bool
+    ensures { higher_of newness sig.now (option_copied other.entry) ≡ (if result then Some sig.now else option_copied other.entry) }
+{
+    match other {
+        Some(other) => compare_newness(sig, other) != Ordering::Less,
+        None => true,
+    }
+}
