@@ -87,11 +87,19 @@ pub(crate) fn try_all(
     marks_weigh_nothing();
     let rows = nobody();
     let mut policy = Policy::new(rows, |ask| admits(&rows, ask));
-    let mut log = Vec::new(alloc);
+    let mut trial = Vec::new(alloc);
     let mut tally = Tally { total, fresh: 0 };
-    let tried = put_all(alloc, certs, &mut log, &mut tally, list, terms, &mut policy);
+    let tried = put_all(
+        alloc,
+        certs,
+        &mut trial,
+        &mut tally,
+        list,
+        terms,
+        &mut policy,
+    );
     let count = certs.len() as u64;
-    take_back(certs, log);
+    take_back(certs, trial);
     match tried {
         Ok(()) => Ok(first_full_of(limits, &tally.total, count)),
         Err(fault) => Err(fault),

@@ -11,6 +11,8 @@ mod refusal;
 mod restamp;
 mod staging;
 mod tally;
+#[cfg(test)]
+mod tests;
 
 pub use certs::CertsIter;
 pub use dump::put_line;

@@ -17,7 +17,7 @@ returns-in-Ok-clause-full c = λ rows.
 pub returns-in-Ok-clause-same : goal.returns-in-Ok-clause-same
 returns-in-Ok-clause-same c =
     let es = c.args.certs.now.entries in
-    c.take_back.ensures.back es (c.put_all-tried.ensures.log es (subst (λ (ws : List Was). IsLog es ws es) (sym c.new-log.ensures.items) refl))
+    c.take_back.ensures.back es (c.put_all-tried.ensures.log es (subst (λ (ws : List Was). IsLog es ws es) (sym c.new-trial.ensures.items) refl))
 
 pub returns-in-Ok-clause-clash : goal.returns-in-Ok-clause-clash
 returns-in-Ok-clause-clash c =
@@ -26,7 +26,7 @@ returns-in-Ok-clause-clash c =
 pub returns-in-Err-clause-same : goal.returns-in-Err-clause-same
 returns-in-Err-clause-same c =
     let es = c.args.certs.now.entries in
-    c.take_back.ensures.back es (c.put_all-tried.ensures.log es (subst (λ (ws : List Was). IsLog es ws es) (sym c.new-log.ensures.items) refl))
+    c.take_back.ensures.back es (c.put_all-tried.ensures.log es (subst (λ (ws : List Was). IsLog es ws es) (sym c.new-trial.ensures.items) refl))
 
 pub returns-in-Err-clause-clash : goal.returns-in-Err-clause-clash
 returns-in-Err-clause-clash c =
