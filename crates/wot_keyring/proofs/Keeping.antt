@@ -22,16 +22,12 @@ use Rattle.wot_cert.specs.Text.{size_of}
 use Rattle.wot_cert.specs.Whole.{IsCertificate}
 use Rattle.wot_keyring.specs.declared.kept.Kept.{Kept}
 use Rattle.wot_keyring.specs.Import.{weigh}
-use Rattle.wot_keyring.specs.Keyring.{Entries, Keyring, Certificates, is_fpr}
+use Rattle.wot_keyring.specs.Keyring.{Entries, Keyring, Certificates, certificates_in, is_fpr, stripped}
 use Rattle.wot_keyring.specs.Kept.{AreInOrder, IsKeyring, AreTotals}
 use Rattle.wot_keyring.specs.Removal.{without_cert}
 use Rattle.wot_keyring.specs.Verdict.{restamped, restamped_all, counted_at, is_over}
 use Rattle.wot_keyring.proofs.Stamps.{removed_stamped, restamped_stamped}
 use Rattle.wot_keyring.proofs.Weighing.{removed_fewer, insert_weighs, found_weight, ones}
-
--- the certificates of entries
-abbrev pub certs_of : Entries → Certificates
-certs_of es = map (λ (e : Fpr × Kept). (e.0, e.1.cert)) es
 
 -- ---- a certificate taken out
 
@@ -52,11 +48,11 @@ less_both w a r h = omega arith
 reach : (n : ℕ) → n ≤ n
 reach n = omega arith
 
-removed_less : (weight : Certificate → ℕ) (test : Fpr → Bool) (es : Entries) → weigh weight (certs_of (remove_entry test es)) ≤ weigh weight (certs_of es)
+removed_less : (weight : Certificate → ℕ) (test : Fpr → Bool) (es : Entries) → weigh weight (stripped (remove_entry test es)) ≤ weigh weight (stripped es)
 removed_less weight test [] = reach 0
 removed_less weight test (e ∷ es) =
-    elim (test e.0) as (λ b. weigh weight (certs_of (cond b es (e ∷ remove_entry test es))) ≤ weight e.1.cert + weigh weight (certs_of es)) [
-      | true ↦ less_by (weight e.1.cert) _ _ (reach (weigh weight (certs_of es)))
+    elim (test e.0) as (λ b. weigh weight (stripped (cond b es (e ∷ remove_entry test es))) ≤ weight e.1.cert + weigh weight (stripped es)) [
+      | true ↦ less_by (weight e.1.cert) _ _ (reach (weigh weight (stripped es)))
       | false ↦ less_both (weight e.1.cert) _ _ (removed_less weight test es)
     ]
 
@@ -87,12 +83,12 @@ there a b r w h = omega arith
 
 -- What was taken out weighed so much.
 pub removed_weighs : (weight : Certificate → ℕ) (test : Fpr → Bool) (es : Entries) (kept : Kept) → lookup test es ≡ Some kept
-    → weigh weight (certs_of (remove_entry test es)) + weight kept.cert ≡ weigh weight (certs_of es)
+    → weigh weight (stripped (remove_entry test es)) + weight kept.cert ≡ weigh weight (stripped es)
 removed_weighs weight test [] kept found = cc
 removed_weighs weight test (e ∷ es) kept found =
-    (elim (test e.0) as (λ b. cond b (Some e.1) (lookup test es) ≡ Some kept → weigh weight (certs_of (cond b es (e ∷ remove_entry test es))) + weight kept.cert ≡ weight e.1.cert + weigh weight (certs_of es)) [
-      | true ↦ λ f. let same : e.1 ≡ kept = cc in ap (λ (x : Kept). weigh weight (certs_of es) + weight x.cert) (sym same) ∙ here (weigh weight (certs_of es)) (weight e.1.cert)
-      | false ↦ λ f. there (weigh weight (certs_of es)) (weight e.1.cert) _ (weight kept.cert) (removed_weighs weight test es kept f)
+    (elim (test e.0) as (λ b. cond b (Some e.1) (lookup test es) ≡ Some kept → weigh weight (stripped (cond b es (e ∷ remove_entry test es))) + weight kept.cert ≡ weight e.1.cert + weigh weight (stripped es)) [
+      | true ↦ λ f. let same : e.1 ≡ kept = cc in ap (λ (x : Kept). weigh weight (stripped es) + weight x.cert) (sym same) ∙ here (weigh weight (stripped es)) (weight e.1.cert)
+      | false ↦ λ f. there (weigh weight (stripped es)) (weight e.1.cert) _ (weight kept.cert) (removed_weighs weight test es kept f)
     ]) found
 
 -- what is true of each is true of what is found
@@ -106,7 +102,7 @@ found_all P test (e ∷ es) kept all found =
 
 -- ---- a verdict altered
 
-restamped_same : (number : SigNumber) (stamp : ℕ) (es : Entries) → certs_of (restamped_all number stamp es) ≡ certs_of es
+restamped_same : (number : SigNumber) (stamp : ℕ) (es : Entries) → stripped (restamped_all number stamp es) ≡ stripped es
 restamped_same number stamp [] = refl
 restamped_same number stamp (e ∷ es) = ap (λ (rest : Certificates). (e.0, e.1.cert) ∷ rest) (restamped_same number stamp es)
 
@@ -118,7 +114,7 @@ restamped_each : (P : Fpr → Certificate → Type 0) (number : SigNumber) (stam
 restamped_each P number stamp [] all = tt
 restamped_each P number stamp (e ∷ es) all = (all.0, restamped_each P number stamp es all.1)
 
-pub restamped_weigh : (weight : Certificate → ℕ) (number : SigNumber) (stamp : ℕ) (es : Entries) → weigh weight (certs_of (restamped_all number stamp es)) ≡ weigh weight (certs_of es)
+pub restamped_weigh : (weight : Certificate → ℕ) (number : SigNumber) (stamp : ℕ) (es : Entries) → weigh weight (stripped (restamped_all number stamp es)) ≡ weigh weight (stripped es)
 restamped_weigh weight number stamp es = ap (weigh weight) (restamped_same number stamp es)
 
 pub restamped_keyring : (k : Keyring) (number : SigNumber) → IsKeyring k → IsKeyring (counted_at number k)

@@ -38,12 +38,11 @@ use Rattle.wot_cert.specs.Whole.{IsCertificate}
 use Rattle.wot_keyring.specs.declared.import.Imported.{Imported}
 use Rattle.wot_keyring.specs.declared.kept.Kept.{Kept}
 use Rattle.wot_keyring.specs.declared.refusal.Refusal.TheVariants.{Clash}
-use Rattle.wot_keyring.specs.Keyring.{Keyring, Entries, Certificates, is_fpr}
+use Rattle.wot_keyring.specs.Keyring.{Keyring, Entries, Certificates, is_fpr, stripped}
 use Rattle.wot_keyring.specs.Import.{answer_read, answer_to, answer_united, any_clash, clash, first_full, fresh_in, has_greater, of_packets, united_with, united_in, unless_fault, unless_full, weigh, with_cert, with_certs}
 use Rattle.wot_keyring.specs.Verdict.{is_over}
 use Rattle.wot_keyring.specs.Kept.{AreInOrder, AreNamed, IsNamed, AreSized, AreWhole, IsKeyring}
 use Rattle.wot_keyring.specs.Dump.{Contents, after, after_all, import_of, judged_anew, judged_so, nothing, setting, setting_of, unless_refused, IsRestored}
-use Rattle.wot_keyring.proofs.Keeping.{certs_of}
 use Rattle.wot_keyring.proofs.Places.{fprs_total}
 use Rattle.wot_keyring.proofs.Behind.{AreBelow, all_at, below_next, none_before, put_behind}
 
@@ -151,8 +150,8 @@ record CanBeHeld (l : Limits) (all : Entries) : Type 0 where
   in_order : AreInOrder all
   sized : AreSized l.certificate all
   few : length all ≤ l.certificates
-  octets : weigh size_of (certs_of all) ≤ l.octets
-  signatures : weigh signatures_of (certs_of all) ≤ l.signatures
+  octets : weigh size_of (stripped all) ≤ l.octets
+  signatures : weigh signatures_of (stripped all) ≤ l.signatures
 
 front_before : (rows : PolicyRows) (front : Entries) (e : Fpr × Kept) → AreNamed front → AreBelow fpr_cmp e.0 front
     → AllByRecursion (IsBefore e.0) (map (anew rows) front)
@@ -166,7 +165,7 @@ front_all P (x ∷ front) rest all = (all.0, front_all P front rest all.1)
 
 -- a front weighs no more than the whole
 front_weighs : (rows : PolicyRows) (weight : Certificate → ℕ) (same : (c : Certificate) → weight (judged rows c) ≡ weight c) (front rest : Entries)
-    → weigh weight (map (anew rows) front) ≤ weigh weight (certs_of (front ++ rest))
+    → weigh weight (map (anew rows) front) ≤ weigh weight (stripped (front ++ rest))
 front_weighs rows weight same [] rest = omega arith
 front_weighs rows weight same (e ∷ front) rest = omega (arith, same e.1.cert, front_weighs rows weight same front rest)
 
@@ -201,8 +200,8 @@ front_fits laws rows l front rest held =
     no_limit (has_greater l.certificate certs) (nat_lt l.certificates (length certs)) (nat_lt l.octets (weigh size_of certs)) (nat_lt l.signatures (weigh signatures_of certs))
     (none_greater rows l.certificate same_size front (front_all (λ (e : Fpr × Kept). size_of e.1.cert ≤ l.certificate) front rest held.sized))
     (within (length certs) (length (front ++ rest)) l.certificates (length-front rows front rest) held.few)
-    (within (weigh size_of certs) (weigh size_of (certs_of (front ++ rest))) l.octets (front_weighs rows size_of same_size front rest) held.octets)
-    (within (weigh signatures_of certs) (weigh signatures_of (certs_of (front ++ rest))) l.signatures
+    (within (weigh size_of certs) (weigh size_of (stripped (front ++ rest))) l.octets (front_weighs rows size_of same_size front rest) held.octets)
+    (within (weigh signatures_of certs) (weigh signatures_of (stripped (front ++ rest))) l.signatures
     (front_weighs rows signatures_of (laws.same_count rows) front rest) held.signatures)
 
 -- what is held when these were imported
@@ -285,7 +284,7 @@ after_both rows l (c ∷ cs) [] None = refl
 after_both rows l (c ∷ cs) (d ∷ ds) None = refl
 after_both rows l (c ∷ cs) ds (Some held) = after_both rows l cs ds (after rows l c held)
 
-anew_in : (rows : PolicyRows) (es : Entries) → map (anew rows) es ≡ map (judged_anew rows) (certs_of es)
+anew_in : (rows : PolicyRows) (es : Entries) → map (anew rows) es ≡ map (judged_anew rows) (stripped es)
 anew_in rows [] = refl
 anew_in rows (e ∷ es) = ap (λ (rest : Certificates). anew rows e ∷ rest) (anew_in rows es)
 

@@ -52,9 +52,13 @@ verdict_on k number = verdicts.verdict_at k.verdicts number
 abbrev pub Certificates : Type 0
 Certificates = List (Fpr × Certificate)
 
+-- entries without their stamps
+abbrev pub stripped : Entries → Certificates
+stripped entries = map (λ (e : Fpr × Kept). (e.0, e.1.cert)) entries
+
 -- the kept certificates without their stamps
 abbrev pub certificates_in : Keyring → Certificates
-certificates_in k = map (λ (e : Fpr × Kept). (e.0, e.1.cert)) k.certs
+certificates_in k = stripped k.certs
 
 -- `Absent` is told exactly where nothing is kept; the only other fault is want of memory.
 abbrev pub TellsAbsent : {T : Type 0} → Result T ExportFault → Option Certificate → Type 0

@@ -4,3 +4,5 @@ pub mod Removal
 pub mod Import
 pub mod Kept
 pub mod Dump
+pub mod Staging
+pub mod Importing

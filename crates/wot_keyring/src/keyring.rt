@@ -1,30 +1,38 @@
-ghost use Rattle.std.specs.Prelude.{◌≡◌, ◌≢◌, ◌<◌, ◌≤◌, ◌^◌, ◌-◌, ◌++◌, map, Some, Ok, is_ok, is_some, IsSomeAnd, length, IfOk, MatchBool, OnOk, OnErr};
+ghost use Rattle.std.specs.Prelude.{◌≡◌, ◌≢◌, ◌<◌, ◌≤◌, ◌^◌, ◌+◌, ◌-◌, ◌++◌, ℕ, nat_lt, if◌then◌else◌, map, Some, Ok, is_ok, is_some, IsSomeAnd, length, IfOk, MatchBool, OnOk, OnErr};
 ghost use Rattle.std.specs.Option.{option_copied, IfSome, MatchOption};
 ghost use Rattle.std.specs.Map.{lookup, remove_entry};
 ghost use Rattle.wot_types.specs.declared.fpr.Fpr.{Fpr as TheFpr};
 ghost use Rattle.wot_key.specs.Key.{fpr_of};
 ghost use Rattle.wot_types.specs.Limits.{standard_limits};
+ghost use Rattle.std.specs.List.{AllByRecursion};
 ghost use Rattle.wot_cert.specs.Text.{size_of, text_of};
+ghost use Rattle.wot_cert.specs.Whole.{IsCertificate};
 ghost use Rattle.wot_keyring.specs.declared.kept.Kept.{Kept as TheKept};
-ghost use Rattle.wot_keyring.specs.Keyring.{empty, cert_at, stamp_at, verdict_on, is_fpr, TellsAbsent};
-ghost use Rattle.wot_keyring.specs.Kept.{AreInOrder, AreNamed, AreSized, AreSmall, IsJudgedBy, StaysJudged};
+ghost use Rattle.wot_keyring.specs.Keyring.{empty, certificates_in, cert_at, stamp_at, verdict_on, is_fpr, TellsAbsent};
+ghost use Rattle.wot_keyring.specs.Kept.{AreInOrder, AreNamed, AreSized, AreSmall, IsJudgedBy, IsKeyring, StaysJudged};
 ghost use Rattle.wot_policy.specs.declared.rows.PolicyRows.{PolicyRows as Rows};
 ghost use Rattle.wot_policy.specs.Kept.{IsFaithful, rows_of, asked_more};
 ghost use Rattle.wot_keyring.specs.Dump.{commands_of, lines_of, AreLines, IsRestored};
-ghost use Rattle.wot_keyring.specs.Import.{Answers, AsksFor, IsOneChange, imported};
+ghost use Rattle.wot_keyring.specs.Import.{Answers, AsksFor, IsOneChange, holding, imported, with_certs};
+ghost use Rattle.wot_keyring.specs.Importing.{AnswersUnited, IsAskedOf, MayUnite, TellsUnion, asked_for};
+ghost use Rattle.wot_keyring.specs.Staging.{IsTally};
 ghost use Rattle.wot_keyring.specs.Removal.{without_cert};
 ghost use Rattle.wot_keyring.specs.Verdict.{with_verdict_on, without_verdict_on, would_pass, counted_at, TellsFull};
 ghost use Rattle.wot_verdict.specs.Verdicts.{InOrder};
 
 use crate::certs::CertsIter;
 use crate::dump::{put_certs, put_verdicts, replayed};
+use crate::importing::{read_certs, try_all, unite_all};
 use crate::kept::Kept;
 use crate::restamp::restamp;
+use crate::staging::{Fault, Terms};
+use crate::tally::Weight;
 use crate::{Absent, ExportFault, Imported, Refusal};
 use std::alloc::Global;
 use std::collections::BTreeMap;
 use std::marker::Model;
-use wot_cert::Cert;
+use wot_cert::laws::{nothing_added, united_grows, united_whole};
+use wot_cert::{Assembled, Cert};
 use wot_policy::{Ask, Policy};
 use wot_types::{Fpr, Limit, Limits, Memory, SigNumber};
 use wot_verdict::{Verdict, Verdicts};
@@ -230,7 +238,96 @@ impl Keyring {
         ensures judged { IsJudgedBy (rows_of policy.old) self.new }
         ensures faithful { IsFaithful F.Fn policy.new }
     {
-        Err(Refusal::Memory)
+        let read = match read_certs(alloc, bytes) {
+            Ok(read) => read,
+            Err(refusal) => return Err(refusal),
+        };
+        if let Some(refusal) = self.refusal(alloc, read.certs.as_slice()) {
+            return Err(refusal);
+        }
+        self.accept(alloc, &read, policy)
+    }
+
+    /// Why these certificates may not be united with the kept ones. All stays as it is, and no policy of others is asked.
+    fn refusal(&mut self, alloc: Global, list: &[Cert]) -> Option<Refusal>
+        requires countable { self.old.changes < 2 ^ 64 - 1 }
+        ensures told { TellsUnion result self.old.limits (certificates_in self.old) list.now }
+        ensures same { self.new ≡ self.old }
+    {
+        let terms = self.terms();
+        let total = self.total();
+        match try_all(alloc, &mut self.certs, total, list, &terms, &self.limits) {
+            Ok(Some(limit)) => Some(Refusal::Full(limit)),
+            Ok(None) => None,
+            Err(Fault::Clash) => Some(Refusal::Clash),
+            Err(Fault::Memory) => Some(Refusal::Memory),
+        }
+    }
+
+    /// Unites certificates with the kept ones that may be.
+    fn accept<F: Fn(Ask) -> bool>(
+        &mut self,
+        alloc: Global,
+        read: &Assembled,
+        policy: &mut Policy<F>,
+    ) -> Result<Imported, Refusal>
+        requires countable { self.old.changes < 2 ^ 64 - 1 }
+        requires judged { IsJudgedBy (rows_of policy.old) self.old }
+        requires faithful { IsFaithful F.Fn policy.old }
+        requires whole { AllByRecursion IsCertificate read.now.certs }
+        requires may { MayUnite self.old.limits (certificates_in self.old) read.now.certs }
+        ensures answer { AnswersUnited result (rows_of policy.old) self.old read.now.certs read.now.skipped }
+        ensures united { OnOk result (self.new ≡ holding self.old (with_certs (rows_of policy.old) (certificates_in self.old) read.now.certs)) }
+        ensures kept { OnErr result (self.new ≡ self.old) }
+        ensures asked { (k : ℕ) × (policy.new ≡ asked_more k policy.old) × IsAskedOf result (asked_for (rows_of policy.old) self.old read.now.certs) k }
+        ensures counted { IsOneChange self.old self.new }
+        ensures judged { IsJudgedBy (rows_of policy.old) self.new }
+        ensures faithful { IsFaithful F.Fn policy.new }
+    {
+        united_grows();
+        united_whole();
+        nothing_added();
+        let list = read.certs.as_slice();
+        let terms = self.terms();
+        let total = self.total();
+        match unite_all(alloc, &mut self.certs, total, list, &terms, policy) {
+            Ok(tally) => {
+                self.octets = tally.total.octets;
+                self.signatures = tally.total.signatures;
+                self.changes = raised(self.changes, tally.fresh);
+                Ok(Imported {
+                    taken: list.len() as u64,
+                    skipped: read.skipped,
+                    fresh: tally.fresh,
+                })
+            }
+            Err(Fault::Clash) => Err(Refusal::Clash),
+            Err(Fault::Memory) => Err(Refusal::Memory),
+        }
+    }
+
+    /// The stamp of what is altered next, and the size that a certificate may have.
+    fn terms(&self) -> Terms
+        requires countable { self.now.changes < 2 ^ 64 - 1 }
+        ensures stamp { result.stamp ≡ self.now.changes + 1 }
+        ensures limit { result.limit ≡ self.now.limits.certificate }
+    {
+        Terms {
+            stamp: self.changes + 1,
+            limit: self.limits.certificate,
+        }
+    }
+
+    /// What is held weighs so much.
+    fn total(&self) -> Weight
+        ensures total { IsTally self.now.limits.certificate self.now.certs result }
+        ensures keyring { IsKeyring self.now }
+    {
+        Weight {
+            octets: self.octets,
+            signatures: self.signatures,
+            long: 0,
+        }
     }
 
     /// Appends a line for each certificate and each verdict: the commands that make this keyring anew. Tells their number.
@@ -283,15 +380,23 @@ impl Keyring {
     }
 }
 
+/// The count of changes after one that added so many items.
+fn raised(changes: u64, fresh: u64) -> u64
+    requires countable { changes < 2 ^ 64 - 1 }
+    ensures raised { result ≡ (if nat_lt 0 fresh then changes + 1 else changes) }
+{
+    if fresh > 0 { changes + 1 } else { changes }
+}
+
 /// What is kept under a fingerprint.
-fn find<'a>(certs: &'a BTreeMap<Fpr, Kept, Global>, fpr: &Fpr) -> Option<&'a Kept>
+pub(crate) fn find<'a>(certs: &'a BTreeMap<Fpr, Kept, Global>, fpr: &Fpr) -> Option<&'a Kept>
     ensures found { option_copied result ≡ lookup (is_fpr fpr.now) certs.now.entries }
 {
     certs.get(fpr)
 }
 
 /// Takes out what is kept under a fingerprint.
-fn take_out(certs: &mut BTreeMap<Fpr, Kept, Global>, fpr: &Fpr)
+pub(crate) fn take_out(certs: &mut BTreeMap<Fpr, Kept, Global>, fpr: &Fpr)
     ensures out { certs.new.entries ≡ remove_entry (is_fpr fpr.now) certs.old.entries }
     ensures in_order { AreInOrder certs.new.entries }
 {

@@ -4,10 +4,13 @@
 mod certs;
 mod dump;
 mod import;
+mod importing;
 mod kept;
 mod keyring;
 mod refusal;
 mod restamp;
+mod staging;
+mod tally;
 
 pub use certs::CertsIter;
 pub use dump::put_line;

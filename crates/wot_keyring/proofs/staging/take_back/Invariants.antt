@@ -1,0 +1,9 @@
+use Rattle.std.proofs.Common.{vec_len}
+use Rattle.wot_keyring.specs.Staging.{StillLeadsBack}
+use Rattle.wot_keyring.proofs.staging.take_back.Given as goal
+
+abbrev pub invariant-log : goal.invariant-log
+invariant-log l = StillLeadsBack l.initial.log.items l.initial.certs.entries l.log.items l.certs.entries
+
+abbrev pub decreases-log : goal.decreases-log
+decreases-log l = vec_len l.log

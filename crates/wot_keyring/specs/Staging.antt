@@ -1,0 +1,183 @@
+-- How an import puts certificates among the kept ones, one after the other, and how that is taken back.
+use Rattle.std.specs.Prelude.{◌≡◌, ◌≤◌, ◌⊎◌, ℕ, ◌+◌, Bool, true, false, not, ◌||◌, nat_eq, nat_lt, if◌then◌else◌, List, [], ◌∷◌, Option, Some, None, is_some, Result, Ok, Err}
+use Rattle.std.specs.Option.{option_map}
+use Rattle.std.specs.Cmp.Lexicographic.{pointwise}
+use Rattle.std.specs.BTreeMap.{insert_entry}
+use Rattle.std.specs.Map.{lookup, remove_entry}
+use Rattle.wot_types.specs.declared.fpr.Fpr.{Fpr}
+use Rattle.wot_types.specs.declared.limits.Limits.{Limits}
+use Rattle.wot_types.specs.declared.limits.Limit.{Limit}
+use Rattle.wot_types.specs.declared.limits.Limit.TheVariants as limits
+use Rattle.wot_types.specs.Fpr.{fpr_cmp}
+use Rattle.wot_key.specs.Key.{fpr_of}
+use Rattle.wot_policy.specs.declared.rows.PolicyRows.{PolicyRows}
+use Rattle.wot_cert.specs.Assembly.{bare}
+use Rattle.wot_cert.specs.Certificate.{Certificate}
+use Rattle.wot_cert.specs.Counts.{sum_of, items_of, signatures_of}
+use Rattle.wot_cert.specs.Judged.{IsJudged, judged, sound_of}
+use Rattle.wot_cert.specs.Text.{size_of}
+use Rattle.wot_keyring.specs.declared.kept.Kept.{Kept}
+use Rattle.wot_keyring.specs.declared.staging.Was.{Was}
+use Rattle.wot_keyring.specs.declared.staging.Fault.{Fault}
+use Rattle.wot_keyring.specs.declared.staging.Fault.TheVariants.{Clash, Memory}
+use Rattle.wot_keyring.specs.declared.staging.Step.{Step}
+use Rattle.wot_keyring.specs.declared.tally.Weight.{Weight}
+use Rattle.wot_keyring.specs.Keyring.{Entries, is_fpr}
+use Rattle.wot_keyring.specs.Import.{united_with, stamp_for}
+
+-- ---- one certificate
+
+-- what is kept under a certificate's fingerprint
+abbrev pub found_for : Entries → Certificate → Option Kept
+found_for es c = lookup (is_fpr (fpr_of c.key)) es
+
+-- the certificate that is united with it: the kept one, or the key alone
+abbrev pub begun : Option Kept → Certificate → Certificate
+begun None c = bare c.key
+begun (Some kept) c = kept.cert
+
+abbrev pub joined : PolicyRows → Option Kept → Certificate → Certificate
+joined rows found c = united_with (option_map (λ (x : Kept). x.cert) found) (judged rows c)
+
+abbrev pub kept_as : PolicyRows → ℕ → Option Kept → Certificate → Kept
+kept_as rows stamp found c = record { cert = joined rows found c; stamp = stamp_for stamp found (joined rows found c) }
+
+-- the entries with this certificate, judged, united with the one of its fingerprint
+abbrev pub kept_with : PolicyRows → ℕ → Entries → Certificate → Entries
+kept_with rows stamp es c = insert_entry fpr_cmp es (fpr_of c.key) (kept_as rows stamp (found_for es c) c)
+
+-- the same with each of these, from the front
+abbrev pub kept_all : PolicyRows → ℕ → Entries → List Certificate → Entries
+kept_all rows stamp es [] = es
+kept_all rows stamp es (c ∷ cs) = kept_all rows stamp (kept_with rows stamp es c) cs
+
+-- ---- clashes
+
+abbrev pub clash_at : Option Kept → Certificate → Bool
+clash_at None c = false
+clash_at (Some kept) c = not (pointwise nat_eq c.key kept.cert.key)
+
+-- whether one of these clashes with what is kept under its fingerprint when its turn comes
+abbrev pub clash_in : PolicyRows → ℕ → Entries → List Certificate → Bool
+clash_in rows stamp es [] = false
+clash_in rows stamp es (c ∷ cs) = clash_at (found_for es c) c || clash_in rows stamp (kept_with rows stamp es c) cs
+
+-- A clash is told exactly where there is one; want of memory in either case.
+abbrev pub IsClashTold : Fault → Bool → Type 0
+IsClashTold Clash clashes = clashes ≡ true
+IsClashTold Memory clashes = Unit {0}
+
+abbrev pub TellsClash : {T : Type 0} → Result T Fault → Bool → Type 0
+TellsClash (Ok done) clashes = clashes ≡ false
+TellsClash (Err fault) clashes = IsClashTold fault clashes
+
+-- ---- weights
+
+-- one where a certificate is longer than the limit
+abbrev pub long_of : ℕ → Certificate → ℕ
+long_of limit c = if nat_lt limit (size_of c) then 1 else 0
+
+pub record Weighs (limit : ℕ) (w : Weight) (c : Certificate) : Type 0 where
+  pub octets : w.octets ≡ size_of c
+  pub signatures : w.signatures ≡ signatures_of c
+  pub long : w.long ≡ long_of limit c
+
+-- what a certificate weighs that is kept, and nothing where none is
+abbrev pub WeighsFound : ℕ → Weight → Option Kept → Type 0
+WeighsFound limit w None = (w.octets ≡ 0) × (w.signatures ≡ 0) × (w.long ≡ 0)
+WeighsFound limit w (Some kept) = Weighs limit w kept.cert
+
+-- what the kept certificates weigh
+abbrev pub weigh_kept : (Certificate → ℕ) → Entries → ℕ
+weigh_kept measure es = sum_of (λ (e : Fpr × Kept). measure e.1.cert) es
+
+-- the totals of what is kept
+pub record IsTally (limit : ℕ) (es : Entries) (total : Weight) : Type 0 where
+  pub octets : total.octets ≡ weigh_kept size_of es
+  pub signatures : total.signatures ≡ weigh_kept signatures_of es
+  pub long : total.long ≡ weigh_kept (long_of limit) es
+
+-- the first limit that so many certificates with these totals pass
+abbrev pub full_by : Limits → Weight → ℕ → Option Limit
+full_by l total count =
+    if nat_lt 0 total.long then Some limits.Certificate
+    else if nat_lt l.certificates count then Some limits.Certificates
+    else if nat_lt l.octets total.octets then Some limits.Octets
+    else if nat_lt l.signatures total.signatures then Some limits.Signatures
+    else None
+
+-- One weight can be put in the place of another.
+pub record CanMove (before after total : Weight) : Type 0 where
+  pub octets : before.octets ≤ total.octets + after.octets
+  pub signatures : before.signatures ≤ total.signatures + after.signatures
+  pub long : before.long ≤ total.long + after.long
+
+-- One weight is put in the place of another.
+pub record Moves (before after : Weight) (old new : Weight) : Type 0 where
+  pub octets : new.octets + before.octets ≡ old.octets + after.octets
+  pub signatures : new.signatures + before.signatures ≡ old.signatures + after.signatures
+  pub long : new.long + before.long ≡ old.long + after.long
+
+-- ---- what is new of a certificate
+
+-- what of it was kept, by a measure
+abbrev pub found_by : (Certificate → ℕ) → Option Kept → ℕ
+found_by measure None = 0
+found_by measure (Some kept) = measure kept.cert
+
+-- How often the policy was asked: once for each signature that is sound and new, or never.
+abbrev pub AskedOnFault : Fault → ℕ → ℕ → ℕ → Type 0
+AskedOnFault Clash old new k = k ≡ 0
+AskedOnFault Memory old new k = (k ≡ 0) ⊎ (old + k ≡ new)
+
+abbrev pub AskedFor : {T : Type 0} → Result T Fault → ℕ → ℕ → ℕ → Type 0
+AskedFor (Ok done) old new k = old + k ≡ new
+AskedFor (Err fault) old new k = AskedOnFault fault old new k
+
+-- the same of several certificates, as far as the answer tells
+abbrev pub AskedUpTo : Fault → ℕ → ℕ → ℕ → Type 0
+AskedUpTo Clash old new k = Unit {0}
+AskedUpTo Memory old new k = old + k ≤ new
+
+abbrev pub AskedInAll : {T : Type 0} → Result T Fault → ℕ → ℕ → ℕ → Type 0
+AskedInAll (Ok done) old new k = old + k ≡ new
+AskedInAll (Err fault) old new k = AskedUpTo fault old new k
+
+-- It is judged by these rows where it is kept.
+abbrev pub IsFoundJudged : PolicyRows → Option Kept → Type 0
+IsFoundJudged rows None = Unit {0}
+IsFoundJudged rows (Some kept) = IsJudged rows kept.cert
+
+-- the stamp of a certificate to which so many items are added, by its stamp where it is kept
+abbrev pub stamp_over : ℕ → Option ℕ → ℕ → ℕ
+stamp_over stamp None items = stamp
+stamp_over stamp (Some old) items = if nat_eq items 0 then old else stamp
+
+-- What becomes of the kept certificates by one that is united with what was found.
+pub record IsStep (rows : PolicyRows) (stamp limit : ℕ) (found : Option Kept) (c : Certificate) (s : Step) : Type 0 where
+  pub kept : s.kept ≡ kept_as rows stamp found c
+  pub before : WeighsFound limit s.before found
+  pub after : Weighs limit s.after s.kept.cert
+  pub items : s.items + s.keys + found_by items_of found ≡ items_of s.kept.cert
+  pub judged : IsFoundJudged rows found → IsJudged rows s.kept.cert
+
+-- ---- taking back
+
+-- the entries with what was kept under a fingerprint before
+abbrev pub back : Entries → Fpr → Option Kept → Entries
+back es fpr None = remove_entry (is_fpr fpr) es
+back es fpr (Some kept) = insert_entry fpr_cmp es fpr kept
+
+-- What this says was there leads back to the first entries, and takes no memory.
+pub record LeadsBack (first : Entries) (w : Was) (es : Entries) : Type 0 where
+  pub entries : back es w.fpr w.kept ≡ first
+  pub present : is_some (lookup (is_fpr w.fpr) es) ≡ true
+
+-- The log leads back to the first entries, from its end on.
+abbrev pub IsLog : Entries → List Was → Entries → Type 0
+IsLog first [] es = es ≡ first
+IsLog first (w ∷ ws) es = (mid : Entries) × LeadsBack first w mid × IsLog mid ws es
+
+-- what the one log leads back to, the other does
+abbrev pub StillLeadsBack : List Was → Entries → List Was → Entries → Type 0
+StillLeadsBack log es log' es' = (first : Entries) → IsLog first log es → IsLog first log' es'

@@ -1,0 +1,132 @@
+ghost use Rattle.std.specs.Prelude.{◌≡◌, ◌<◌, ◌^◌, ◌+◌, ℕ, length, IfOk, OnOk, OnErr};
+ghost use Rattle.wot_policy.specs.Kept.{IsFaithful, rows_of, asked_more};
+ghost use Rattle.wot_policy.specs.declared.rows.PolicyRows.{PolicyRows as Rows};
+ghost use Rattle.wot_cert.specs.Counts.{items_of};
+ghost use Rattle.wot_cert.specs.Judged.{sound_of};
+ghost use Rattle.wot_keyring.specs.Import.{any_clash, first_full, with_certs};
+ghost use Rattle.wot_keyring.specs.Importing.{alone, TellsRead};
+ghost use Rattle.wot_keyring.specs.Kept.{AreInOrder, AreJudged, AreNamed};
+ghost use Rattle.wot_keyring.specs.Keyring.{stripped};
+ghost use Rattle.wot_keyring.specs.Staging.{kept_all, clash_in, full_by, weigh_kept, AskedInAll, IsTally, TellsClash};
+
+use crate::kept::Kept;
+use crate::refusal::Refusal;
+use crate::staging::{Fault, Terms, put_all, take_back};
+use crate::tally::{Tally, Weight};
+use std::alloc::Global;
+use std::collections::BTreeMap;
+use wot_cert::laws::{assembled, judging, marks_weigh_nothing};
+use wot_cert::{Assembled, Cert, CertFault, assemble};
+use wot_packet::{ReadFault, read_packets};
+use wot_policy::{Ask, Policy, PolicyRows, Row, admits};
+use wot_types::{Fpr, Limit, Limits};
+
+/// The certificates that these octets spell, none of them judged, or why they spell none.
+pub(crate) fn read_certs(alloc: Global, bytes: &[u8]) -> Result<Assembled, Refusal>
+    requires short { length bytes.now < 2 ^ 29 }
+    ensures read { TellsRead result bytes.now }
+{
+    assembled();
+    let packets = match read_packets(alloc, bytes) {
+        Ok(packets) => packets,
+        Err(ReadFault::Packet(fault)) => return Err(Refusal::Packet(fault)),
+        Err(ReadFault::Memory) => return Err(Refusal::Memory),
+    };
+    match assemble(alloc, &packets) {
+        Ok(found) => Ok(found),
+        Err(CertFault::Memory) => Err(Refusal::Memory),
+        Err(fault) => Err(Refusal::Cert(fault)),
+    }
+}
+
+/// The first limit that so many certificates with these totals pass.
+fn first_full_of(limits: &Limits, total: &Weight, count: u64) -> Option<Limit>
+    ensures { result ≡ full_by limits.now total.now count }
+{
+    if total.long > 0 {
+        return Some(Limit::Certificate);
+    }
+    if count > limits.certificates {
+        return Some(Limit::Certificates);
+    }
+    if total.octets > limits.octets {
+        return Some(Limit::Octets);
+    }
+    if total.signatures > limits.signatures {
+        return Some(Limit::Signatures);
+    }
+    None
+}
+
+/// A policy that admits nothing.
+fn nobody() -> PolicyRows {
+    PolicyRows {
+        plain: [Row::Never; 256],
+    }
+}
+
+/// Tries the union, takes it back, and tells the first limit that it would pass. What is held doesn't depend on what a
+/// policy admits, so the trial asks one of its own.
+pub(crate) fn try_all(
+    alloc: Global,
+    certs: &mut BTreeMap<Fpr, Kept, Global>,
+    total: Weight,
+    list: &[Cert],
+    terms: &Terms,
+    limits: &Limits,
+) -> Result<Option<Limit>, Fault>
+    requires named { AreNamed certs.old.entries }
+    requires in_order { AreInOrder certs.old.entries }
+    requires tallied { IsTally terms.now.limit certs.old.entries total }
+    requires limit { terms.now.limit ≡ limits.now.certificate }
+    ensures same { certs.new.entries ≡ certs.old.entries }
+    ensures full { IfOk result (λ full. (rows : Rows) → full ≡ first_full limits.now (with_certs rows (stripped certs.old.entries) list.now)) }
+    ensures clash { TellsClash result (any_clash (alone (stripped certs.old.entries)) list.now) }
+{
+    judging();
+    marks_weigh_nothing();
+    let rows = nobody();
+    let mut policy = Policy::new(rows, |ask| admits(&rows, ask));
+    let mut log = Vec::new(alloc);
+    let mut tally = Tally { total, fresh: 0 };
+    let tried = put_all(alloc, certs, &mut log, &mut tally, list, terms, &mut policy);
+    let count = certs.len() as u64;
+    take_back(certs, log);
+    match tried {
+        Ok(()) => Ok(first_full_of(limits, &tally.total, count)),
+        Err(fault) => Err(fault),
+    }
+}
+
+/// Unites all with the kept ones, by a policy, or leaves them as they are.
+pub(crate) fn unite_all<F: Fn(Ask) -> bool>(
+    alloc: Global,
+    certs: &mut BTreeMap<Fpr, Kept, Global>,
+    total: Weight,
+    list: &[Cert],
+    terms: &Terms,
+    policy: &mut Policy<F>,
+) -> Result<Tally, Fault>
+    requires faithful { IsFaithful F.Fn policy.old }
+    requires in_order { AreInOrder certs.old.entries }
+    requires tallied { IsTally terms.now.limit certs.old.entries total }
+    ensures put { OnOk result (certs.new.entries ≡ kept_all (rows_of policy.old) terms.now.stamp certs.old.entries list.now) }
+    ensures same { OnErr result (certs.new.entries ≡ certs.old.entries) }
+    ensures in_order { OnOk result (AreInOrder certs.new.entries) }
+    ensures tallied { IfOk result (λ tally. IsTally terms.now.limit certs.new.entries tally.total) }
+    ensures fresh { IfOk result (λ tally. tally.fresh + weigh_kept items_of certs.old.entries ≡ weigh_kept items_of certs.new.entries) }
+    ensures clash { TellsClash result (clash_in (rows_of policy.old) terms.now.stamp certs.old.entries list.now) }
+    ensures asked { (k : ℕ) × (policy.new ≡ asked_more k policy.old) × AskedInAll result (weigh_kept sound_of certs.old.entries) (weigh_kept sound_of (kept_all (rows_of policy.old) terms.now.stamp certs.old.entries list.now)) k }
+    ensures judged { OnOk result (AreJudged (rows_of policy.old) certs.old.entries → AreJudged (rows_of policy.old) certs.new.entries) }
+    ensures faithful { IsFaithful F.Fn policy.new }
+{
+    let mut log = Vec::new(alloc);
+    let mut tally = Tally { total, fresh: 0 };
+    match put_all(alloc, certs, &mut log, &mut tally, list, terms, policy) {
+        Ok(()) => Ok(tally),
+        Err(fault) => {
+            take_back(certs, log);
+            Err(fault)
+        }
+    }
+}

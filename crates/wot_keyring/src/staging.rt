@@ -1,0 +1,348 @@
+ghost use Rattle.std.specs.Prelude.{◌≡◌, ◌<◌, ◌+◌, ◌++◌, ◌∷◌, [], ℕ, true, is_some, vec_len, vec_capacity, IfOk, OnOk, OnErr, None, MatchResult, not, nat_eq};
+ghost use Rattle.std.specs.Option.{option_map};
+ghost use Rattle.std.specs.BTreeMap.{insert_entry};
+ghost use Rattle.std.specs.Map.{lookup};
+ghost use Rattle.std.specs.Cmp.Lexicographic.{pointwise};
+ghost use Rattle.wot_types.specs.Fpr.{fpr_cmp};
+ghost use Rattle.wot_policy.specs.Kept.{IsFaithful, rows_of, asked_more};
+ghost use Rattle.wot_cert.specs.Certificate.{unite};
+ghost use Rattle.wot_cert.specs.Counts.{items_of};
+ghost use Rattle.wot_cert.specs.Judged.{IsJudged, judged, sound_of};
+ghost use Rattle.wot_cert.specs.Whole.{IsCertificate};
+ghost use Rattle.wot_keyring.specs.Kept.{AreInOrder, AreJudged};
+ghost use Rattle.wot_keyring.specs.declared.kept.Kept.{Kept as TheKept};
+ghost use Rattle.wot_keyring.specs.Keyring.{Entries, is_fpr};
+ghost use Rattle.wot_keyring.specs.Staging.{begun, found_for, found_by, stamp_over, IsStep, IsTally, clash_at, kept_with, kept_all, clash_in, weigh_kept, AskedFor, AskedInAll, TellsClash, Weighs, IsLog, LeadsBack, StillLeadsBack};
+
+use crate::kept::Kept;
+use crate::keyring::{find, take_out};
+use crate::tally::{NOTHING, Tally, Weight, are_held, count, weigh_cert};
+use std::alloc::Global;
+use std::collections::BTreeMap;
+use wot_cert::laws::{marks_weigh_nothing, united_grows, united_whole, united_with_nothing};
+use wot_cert::{Cert, MergeFault};
+use wot_policy::{Ask, Policy};
+use wot_types::{Fpr, Memory};
+
+/// What was kept under a fingerprint before it was altered.
+#[derive(Drop)]
+pub(crate) struct Was {
+    pub fpr: Fpr,
+    pub kept: Option<Kept>,
+}
+
+/// Why certificates were not put among the kept ones.
+#[derive(Clone, Copy)]
+pub(crate) enum Fault {
+    /// Two keys have one fingerprint.
+    Clash,
+    /// No memory was found.
+    Memory,
+}
+
+/// Keeps something under a fingerprint, and gives what was there. After `Memory` all is as before.
+fn keep(
+    certs: &mut BTreeMap<Fpr, Kept, Global>,
+    fpr: Fpr,
+    kept: Kept,
+) -> Result<Option<Kept>, Memory>
+    ensures was { IfOk result (λ was. was ≡ lookup (is_fpr fpr) certs.old.entries) }
+    ensures entries { OnOk result (certs.new.entries ≡ insert_entry fpr_cmp certs.old.entries fpr kept) }
+    ensures absent { OnErr result (lookup (is_fpr fpr) certs.old.entries ≡ None) }
+    ensures same { OnErr result (certs.new.entries ≡ certs.old.entries) }
+    ensures was_in_order { AreInOrder certs.old.entries }
+    ensures in_order { AreInOrder certs.new.entries }
+{
+    match certs.insert(fpr, kept) {
+        Ok(was) => Ok(was),
+        Err(_) => Err(Memory),
+    }
+}
+
+/// Keeps under a fingerprint that is there what was kept before. Takes no memory.
+fn keep_again(certs: &mut BTreeMap<Fpr, Kept, Global>, fpr: Fpr, kept: Kept)
+    ensures again { is_some (lookup (is_fpr fpr) certs.old.entries) ≡ true → certs.new.entries ≡ insert_entry fpr_cmp certs.old.entries fpr kept }
+{
+    let Err(_) = keep(certs, fpr, kept) else {
+        return;
+    };
+}
+
+/// Puts back what was kept under a fingerprint. Takes no memory.
+fn put_back(certs: &mut BTreeMap<Fpr, Kept, Global>, was: Was)
+    ensures back { (first : Entries) → LeadsBack first was certs.old.entries → certs.new.entries ≡ first }
+{
+    let Was { fpr, kept } = was;
+    match kept {
+        Some(kept) => keep_again(certs, fpr, kept),
+        None => take_out(certs, &fpr),
+    }
+}
+
+/// Takes back all that a log tells of, from its end on.
+pub(crate) fn take_back(certs: &mut BTreeMap<Fpr, Kept, Global>, mut log: Vec<Was>)
+    ensures back { (first : Entries) → IsLog first log.items certs.old.entries → certs.new.entries ≡ first }
+{
+    'log: while let Some(was) = log.pop() {
+        put_back(certs, was);
+    }
+}
+
+/// Notes what was kept, where there is room.
+fn note(log: &mut Vec<Was>, was: Was)
+    requires room { vec_len log.old < vec_capacity log.old }
+    ensures noted { log.new.items ≡ log.old.items ++ was ∷ [] }
+{
+    let _ = log.push(was);
+}
+
+/// Keeps something under a fingerprint, and notes in the log what was there.
+pub(crate) fn put(
+    certs: &mut BTreeMap<Fpr, Kept, Global>,
+    log: &mut Vec<Was>,
+    fpr: Fpr,
+    kept: Kept,
+) -> Result<(), Memory>
+    ensures entries { OnOk result (certs.new.entries ≡ insert_entry fpr_cmp certs.old.entries fpr kept) }
+    ensures in_order { OnOk result (AreInOrder certs.old.entries × AreInOrder certs.new.entries) }
+    ensures log { StillLeadsBack log.old.items certs.old.entries log.new.items certs.new.entries }
+{
+    log.reserve(1)?;
+    let was = keep(certs, fpr, kept)?;
+    note(log, Was { fpr, kept: was });
+    Ok(())
+}
+
+/// A certificate that another is to be united with, and its stamp where it is kept.
+#[derive(Drop)]
+struct Start {
+    cert: Cert,
+    stamp: Option<u64>,
+}
+
+/// The kept certificate of the same fingerprint, or the key alone.
+fn begin(alloc: Global, certs: &BTreeMap<Fpr, Kept, Global>, cert: &Cert) -> Result<Start, Memory>
+    ensures cert { IfOk result (λ start. start.cert ≡ begun (found_for certs.now.entries cert.now) cert.now) }
+    ensures whole { IsCertificate cert.now }
+    ensures stamp { IfOk result (λ start. start.stamp ≡ option_map (λ (x : TheKept). x.stamp) (found_for certs.now.entries cert.now)) }
+{
+    let fpr = cert.fpr();
+    match find(certs, &fpr) {
+        Some(kept) => {
+            let stamp = Some(kept.stamp);
+            match kept.cert.duplicate(alloc) {
+                Ok(cert) => Ok(Start { cert, stamp }),
+                Err(Memory) => Err(Memory),
+            }
+        }
+        // The key of a certificate is readable.
+        None => match Cert::bare(alloc, cert.body()) {
+            Ok(Some(cert)) => Ok(Start { cert, stamp: None }),
+            _ => Err(Memory),
+        },
+    }
+}
+
+/// What a union did.
+#[derive(Clone, Copy)]
+struct Grown {
+    before: Weight,
+    after: Weight,
+    /// The components and signatures that are new.
+    items: u64,
+}
+
+/// Unites a certificate with another, by a policy.
+fn grow<F: Fn(Ask) -> bool>(
+    alloc: Global,
+    start: &mut Cert,
+    cert: &Cert,
+    limit: u64,
+    policy: &mut Policy<F>,
+) -> Result<Grown, Fault>
+    requires faithful { IsFaithful F.Fn policy.old }
+    ensures united { OnOk result (start.new ≡ unite start.old (judged (rows_of policy.old) cert.now)) }
+    ensures clash { TellsClash result (not (pointwise nat_eq cert.now.key start.old.key)) }
+    ensures before { IfOk result (λ grown. Weighs limit grown.before start.old) }
+    ensures after { IfOk result (λ grown. Weighs limit grown.after start.new) }
+    ensures items { IfOk result (λ grown. grown.items + items_of start.old ≡ items_of start.new) }
+    ensures asked { (k : ℕ) × (policy.new ≡ asked_more k policy.old) × MatchResult result (λ _. k + sound_of start.old ≡ sound_of start.new) (λ _. k ≡ 0) }
+    ensures judged { IsJudged (rows_of policy.old) start.old → IsJudged (rows_of policy.old) start.new }
+    ensures faithful { IsFaithful F.Fn policy.new }
+{
+    united_grows();
+    marks_weigh_nothing();
+    if !are_held(start, cert) {
+        return Err(Fault::Memory);
+    }
+    let before = weigh_cert(start, limit);
+    match start.merge(alloc, cert, policy) {
+        Ok(items) => Ok(Grown {
+            before,
+            after: weigh_cert(start, limit),
+            items,
+        }),
+        Err(MergeFault::Clash) => Err(Fault::Clash),
+        Err(MergeFault::Memory) => Err(Fault::Memory),
+    }
+}
+
+/// The stamp and the limit by which certificates are put among the kept ones.
+#[derive(Clone, Copy)]
+pub(crate) struct Terms {
+    /// The stamp of what is altered.
+    pub stamp: u64,
+    /// The size that a certificate may have.
+    pub limit: u64,
+}
+
+/// What becomes of the kept certificates by one that is united with them.
+#[derive(Drop)]
+pub(crate) struct Step {
+    /// What is kept from now on.
+    pub kept: Kept,
+    pub before: Weight,
+    pub after: Weight,
+    /// The components and signatures that are new.
+    pub items: u64,
+    /// One where the key is new.
+    pub keys: u64,
+}
+
+fn stamp_of(old: Option<u64>, items: u64, stamp: u64) -> u64
+    ensures { result ≡ stamp_over stamp old items }
+{
+    match old {
+        Some(old) => { if items == 0 { old } else { stamp } }
+        None => stamp,
+    }
+}
+
+/// Unites a certificate with what is kept under its fingerprint, by a policy.
+fn take_step<F: Fn(Ask) -> bool>(
+    alloc: Global,
+    certs: &BTreeMap<Fpr, Kept, Global>,
+    cert: &Cert,
+    terms: &Terms,
+    policy: &mut Policy<F>,
+) -> Result<Step, Fault>
+    requires faithful { IsFaithful F.Fn policy.old }
+    ensures step { IfOk result (λ step. IsStep (rows_of policy.old) terms.now.stamp terms.now.limit (found_for certs.now.entries cert.now) cert.now step) }
+    ensures clash { TellsClash result (clash_at (found_for certs.now.entries cert.now) cert.now) }
+    ensures asked { (k : ℕ) × (policy.new ≡ asked_more k policy.old) × MatchResult result (λ step. k + found_by sound_of (found_for certs.now.entries cert.now) ≡ sound_of step.kept.cert) (λ _. k ≡ 0) }
+    ensures faithful { IsFaithful F.Fn policy.new }
+{
+    united_with_nothing();
+    united_whole();
+    let start = match begin(alloc, certs, cert) {
+        Ok(start) => start,
+        Err(Memory) => return Err(Fault::Memory),
+    };
+    let Start {
+        cert: mut united,
+        stamp: old,
+    } = start;
+    let grown = match grow(alloc, &mut united, cert, terms.limit, policy) {
+        Ok(grown) => grown,
+        Err(fault) => return Err(fault),
+    };
+    let Grown {
+        before,
+        after,
+        items,
+    } = grown;
+    let stamp = stamp_of(old, items, terms.stamp);
+    let kept = Kept {
+        cert: united,
+        stamp,
+    };
+    match old {
+        Some(_) => Ok(Step {
+            kept,
+            before,
+            after,
+            items,
+            keys: 0,
+        }),
+        None => Ok(Step {
+            kept,
+            before: NOTHING,
+            after,
+            items,
+            keys: 1,
+        }),
+    }
+}
+
+/// Unites a certificate with the kept ones, by a policy, notes what was kept, and counts. After a fault the log still leads
+/// back.
+fn put_one<F: Fn(Ask) -> bool>(
+    alloc: Global,
+    certs: &mut BTreeMap<Fpr, Kept, Global>,
+    log: &mut Vec<Was>,
+    tally: &mut Tally,
+    cert: &Cert,
+    terms: &Terms,
+    policy: &mut Policy<F>,
+) -> Result<(), Fault>
+    requires faithful { IsFaithful F.Fn policy.old }
+    requires in_order { AreInOrder certs.old.entries }
+    requires tallied { IsTally terms.now.limit certs.old.entries tally.old.total }
+    ensures put { OnOk result (certs.new.entries ≡ kept_with (rows_of policy.old) terms.now.stamp certs.old.entries cert.now) }
+    ensures in_order { OnOk result (AreInOrder certs.new.entries) }
+    ensures log { StillLeadsBack log.old.items certs.old.entries log.new.items certs.new.entries }
+    ensures tallied { OnOk result (IsTally terms.now.limit certs.new.entries tally.new.total) }
+    ensures fresh { OnOk result (tally.new.fresh + weigh_kept items_of certs.old.entries ≡ tally.old.fresh + weigh_kept items_of certs.new.entries) }
+    ensures clash { TellsClash result (clash_at (found_for certs.old.entries cert.now) cert.now) }
+    ensures asked { (k : ℕ) × (policy.new ≡ asked_more k policy.old) × AskedFor result (weigh_kept sound_of certs.old.entries) (weigh_kept sound_of (kept_with (rows_of policy.old) terms.now.stamp certs.old.entries cert.now)) k }
+    ensures judged { OnOk result (AreJudged (rows_of policy.old) certs.old.entries → AreJudged (rows_of policy.old) certs.new.entries) }
+    ensures faithful { IsFaithful F.Fn policy.new }
+{
+    let step = match take_step(alloc, certs, cert, terms, policy) {
+        Ok(step) => step,
+        Err(fault) => return Err(fault),
+    };
+    let Ok(()) = count(tally, &step) else {
+        return Err(Fault::Memory);
+    };
+    match put(certs, log, cert.fpr(), step.kept) {
+        Ok(()) => Ok(()),
+        Err(Memory) => Err(Fault::Memory),
+    }
+}
+
+/// Unites certificates with the kept ones, one after the other, by a policy, notes what was kept, and counts. After a fault
+/// the log still leads back.
+pub(crate) fn put_all<F: Fn(Ask) -> bool>(
+    alloc: Global,
+    certs: &mut BTreeMap<Fpr, Kept, Global>,
+    log: &mut Vec<Was>,
+    tally: &mut Tally,
+    list: &[Cert],
+    terms: &Terms,
+    policy: &mut Policy<F>,
+) -> Result<(), Fault>
+    requires faithful { IsFaithful F.Fn policy.old }
+    requires in_order { AreInOrder certs.old.entries }
+    requires tallied { IsTally terms.now.limit certs.old.entries tally.old.total }
+    ensures put { OnOk result (certs.new.entries ≡ kept_all (rows_of policy.old) terms.now.stamp certs.old.entries list.now) }
+    ensures in_order { OnOk result (AreInOrder certs.new.entries) }
+    ensures log { StillLeadsBack log.old.items certs.old.entries log.new.items certs.new.entries }
+    ensures tallied { OnOk result (IsTally terms.now.limit certs.new.entries tally.new.total) }
+    ensures fresh { OnOk result (tally.new.fresh + weigh_kept items_of certs.old.entries ≡ tally.old.fresh + weigh_kept items_of certs.new.entries) }
+    ensures clash { TellsClash result (clash_in (rows_of policy.old) terms.now.stamp certs.old.entries list.now) }
+    ensures asked { (k : ℕ) × (policy.new ≡ asked_more k policy.old) × AskedInAll result (weigh_kept sound_of certs.old.entries) (weigh_kept sound_of (kept_all (rows_of policy.old) terms.now.stamp certs.old.entries list.now)) k }
+    ensures judged { OnOk result (AreJudged (rows_of policy.old) certs.old.entries → AreJudged (rows_of policy.old) certs.new.entries) }
+    ensures faithful { IsFaithful F.Fn policy.new }
+{
+    united_grows();
+    let mut left = list;
+    'left: while let Some((cert, rest)) = left.split_first() {
+        match put_one(alloc, certs, log, tally, cert, terms, policy) {
+            Ok(()) => {}
+            Err(fault) => return Err(fault),
+        }
+        left = rest;
+    }
+    Ok(())
+}
