@@ -123,6 +123,7 @@ few_amounts l roots fpr amount are few none = by (amount == 0) (nat_lt 0 (root_a
     kept : (o : Option ℕ) → lookup (is_at (fpr_cmp fpr)) roots ≡ o → nat_lt 0 (unwrap_or o 0) ≡ true → length (insert_entry fpr_cmp roots fpr amount) ≤ l.roots
     kept None e h = absurd cc
     kept (Some w) e h = let same = length_replaced fpr_cmp fpr_total roots fpr amount w are.order e in omega (arith, same, few)
+
     by : (zero : Bool) (some : Bool) → nat_lt 0 (root_amount roots fpr) ≡ some → (full : Bool) → nat_le l.roots (length roots) ≡ full
         → cond some None (cond zero (Some Rattle.wot_cache.specs.declared.view.ViewFault.TheVariants.Absent) (cond full (Some (Rattle.wot_cache.specs.declared.view.ViewFault.TheVariants.Full Rattle.wot_types.specs.declared.limits.Limit.TheVariants.Roots)) None)) ≡ None
         → length (cond zero (remove_entry (is_at (fpr_cmp fpr)) roots) (insert_entry fpr_cmp roots fpr amount)) ≤ l.roots

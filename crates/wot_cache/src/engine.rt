@@ -16,10 +16,10 @@ ghost use Rattle.wot_cache.specs.Question.{question_in};
 ghost use Rattle.wot_cache.specs.State.{empty, state_of, cert_in, importing, removing, judging, unjudging};
 ghost use Rattle.wot_cache.specs.Views.{view_at, with_time, time_fault, with_root, root_fault, without_view, TellsFault, TellsOpen};
 
-use crate::view::{AskFault, NoView, View, ViewFault};
 use crate::ask::answer;
 use crate::dump::put_engine;
 use crate::networks::{self, Networks};
+use crate::view::{AskFault, NoView, View, ViewFault};
 use crate::views::{self, Views};
 use std::alloc::Global;
 use std::collections::BTreeMap;
@@ -73,7 +73,11 @@ impl Engine {
     }
 
     /// `Keyring::import`, over the engine's keyring.
-    pub fn import<F: Fn(Ask) -> bool>(&mut self, bytes: &[u8], policy: &mut Policy<F>) -> Result<Imported, Refusal>
+    pub fn import<F: Fn(Ask) -> bool>(
+        &mut self,
+        bytes: &[u8],
+        policy: &mut Policy<F>,
+    ) -> Result<Imported, Refusal>
         requires countable { self.old.keyring.changes < 2 ^ 64 - 1 }
         requires short { length bytes.now < 2 ^ 29 }
         requires judged { IsJudgedBy (rows_of policy.old) self.old.keyring }

@@ -26,11 +26,5 @@ fn main(rt: HostRuntime) -> ExitCode {
     let mut output = StdSink::new(rt.stdout());
     let rows = standard_rows();
     let mut policy = Policy::new(rows, |ask| admits(&rows, ask));
-    ExitCode::from(run_words(
-        rt.alloc(),
-        &words,
-        &mut input,
-        &mut output,
-        &mut policy,
-    ))
+    ExitCode::from(run_words(rt.alloc(), &words, &mut input, &mut output, &mut policy))
 }

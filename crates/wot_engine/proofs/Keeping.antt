@@ -27,7 +27,6 @@ pub lines_bare : (es : Entries) → map line_of (map (λ (e : Fpr × Kept). e.1.
 lines_bare [] = refl
 lines_bare (e ∷ es) = ap (λ (xs : List KeyLine). line_of e.1.cert ∷ xs) (lines_bare es)
 
-
 pub keys_told : (k : Keyring) (lines : List KeyLine) → lines ≡ map line_of (map (λ (e : Fpr × Kept). e.1.cert) k.certs)
     → replies.Keys (length lines) lines ≡ replies.Keys (length (certificates_in k)) (map (λ (e : Fpr × Certificate). line_of e.1) (certificates_in k))
 keys_told k lines e =

@@ -125,6 +125,7 @@ Step-stays rows old line reply new p = long (nat_lt longest (length line))
     silent : (b : Bool) → MatchBool b ((reply ≡ []) × (new ≡ old)) (Spells (Answers rows old (command_of line)) reply new) → IsState new
     silent true g = subst IsState (sym g.1) p
     silent false g = Answers-stays rows old (command_of line) g.reply new p g.does
+
     long : (b : Bool) → MatchBool b (Spells (Gives (only old replies.Long)) reply new) (MatchBool (is_silent line) ((reply ≡ []) × (new ≡ old)) (Spells (Answers rows old (command_of line)) reply new)) → IsState new
     long true g = IsState-gives (only old replies.Long) g.reply new p g.does
     long false g = silent (is_silent line) g
@@ -132,73 +133,73 @@ Step-stays rows old line reply new p = long (nat_lt longest (length line))
 -- ---- questions
 
 module _
-  (answer_some : (q : Question) (wanted : ℕ) → 1 ≤ wanted → (paths : List Path) × IsAnswer q wanted paths)
-  (answer_one : (q : Question) (wanted : ℕ) (a b : List Path) → IsRecord q.told → IsAnswer q wanted a → IsAnswer q wanted b → a ≡ b)
-  (lawful : (certs : Certificates) (entries : Entries) (t : ℕ) (u : List ℕ) → AllByRecursion (λ (e : Fpr × Certificate). e.0 ≡ fpr_of e.1.key) certs → IsRecord (record_of certs entries t u))
-  (wants : (line : List ℕ) (command : Command) → command_of line ≡ Some command → HasSpelling command)
-  (rows : PolicyRows)
+    (answer_some : (q : Question) (wanted : ℕ) → 1 ≤ wanted → (paths : List Path) × IsAnswer q wanted paths)
+    (answer_one : (q : Question) (wanted : ℕ) (a b : List Path) → IsRecord q.told → IsAnswer q wanted a → IsAnswer q wanted b → a ≡ b)
+    (lawful : (certs : Certificates) (entries : Entries) (t : ℕ) (u : List ℕ) → AllByRecursion (λ (e : Fpr × Certificate). e.0 ≡ fpr_of e.1.key) certs → IsRecord (record_of certs entries t u))
+    (wants : (line : List ℕ) (command : Command) → command_of line ≡ Some command → HasSpelling command)
+    (rows : PolicyRows)
   where
-  Asks-one : (old : State) (view : Option View) (target : Fpr) (wanted : ℕ) (uid : List ℕ) (r s : Reply) → IsState old → Asks old view target wanted uid r → Asks old view target wanted uid s → r ≡ s
-  Asks-one old None target wanted uid r s p a b = a ∙ sym b
-  Asks-one old (Some view) target wanted uid r s p a b =
-      let same = answer_one (question_in old view target uid) wanted a.0 b.0 (lawful old.certs old.verdicts view.time uid p) a.1 b.1 in
-      a.2 ∙ ap (told old) same ∙ sym b.2
+    Asks-one : (old : State) (view : Option View) (target : Fpr) (wanted : ℕ) (uid : List ℕ) (r s : Reply) → IsState old → Asks old view target wanted uid r → Asks old view target wanted uid s → r ≡ s
+    Asks-one old None target wanted uid r s p a b = a ∙ sym b
+    Asks-one old (Some view) target wanted uid r s p a b =
+        let same = answer_one (question_in old view target uid) wanted a.0 b.0 (lawful old.certs old.verdicts view.time uid p) a.1 b.1 in
+        a.2 ∙ ap (told old) same ∙ sym b.2
 
-  Asks-some : (old : State) (view : Option View) (target : Fpr) (wanted : ℕ) (uid : List ℕ) → 1 ≤ wanted → (r : Reply) × Asks old view target wanted uid r
-  Asks-some old None target wanted uid h = (replies.View, refl)
-  Asks-some old (Some view) target wanted uid h =
-      let paths = answer_some (question_in old view target uid) wanted h in
-      (told old paths.0, (paths.0, paths.1, refl))
+    Asks-some : (old : State) (view : Option View) (target : Fpr) (wanted : ℕ) (uid : List ℕ) → 1 ≤ wanted → (r : Reply) × Asks old view target wanted uid r
+    Asks-some old None target wanted uid h = (replies.View, refl)
+    Asks-some old (Some view) target wanted uid h =
+        let paths = answer_some (question_in old view target uid) wanted h in
+        (told old paths.0, (paths.0, paths.1, refl))
 
-  Does-one : (old : State) (command : Command) → IsState old → IsOne Reply (Does rows old command)
-  Does-one old (Import octets) p = Gives-one (import rows old octets)
-  Does-one old (Remove fpr) p = Gives-one (remove old fpr)
-  Does-one old (Good number fpr) p = Gives-one (judge old number (verdicts.Good fpr))
-  Does-one old (Bad number) p = Gives-one (judge old number verdicts.Bad)
-  Does-one old (Unjudge number) p = Gives-one (unjudge old number)
-  Does-one old (Time view t) p = Gives-one (time old view t)
-  Does-one old (Root view fpr amount) p = Gives-one (root old view fpr amount)
-  Does-one old (Close view) p = Gives-one (close old view)
-  Does-one old (Ask view target wanted uid) p = λ r s m n a b. (Asks-one old (view_at old.views view) target wanted uid r s p a.0 b.0, a.1 ∙ sym b.1)
-  Does-one old Keys p = Gives-one (keys old)
-  Does-one old (Export fpr) p = Gives-one (export old fpr)
-  Does-one old Dump p = Gives-one (dump old)
+    Does-one : (old : State) (command : Command) → IsState old → IsOne Reply (Does rows old command)
+    Does-one old (Import octets) p = Gives-one (import rows old octets)
+    Does-one old (Remove fpr) p = Gives-one (remove old fpr)
+    Does-one old (Good number fpr) p = Gives-one (judge old number (verdicts.Good fpr))
+    Does-one old (Bad number) p = Gives-one (judge old number verdicts.Bad)
+    Does-one old (Unjudge number) p = Gives-one (unjudge old number)
+    Does-one old (Time view t) p = Gives-one (time old view t)
+    Does-one old (Root view fpr amount) p = Gives-one (root old view fpr amount)
+    Does-one old (Close view) p = Gives-one (close old view)
+    Does-one old (Ask view target wanted uid) p = λ r s m n a b. (Asks-one old (view_at old.views view) target wanted uid r s p a.0 b.0, a.1 ∙ sym b.1)
+    Does-one old Keys p = Gives-one (keys old)
+    Does-one old (Export fpr) p = Gives-one (export old fpr)
+    Does-one old Dump p = Gives-one (dump old)
 
-  Does-some : (old : State) (command : Command) → HasSpelling command → IsSome Reply (Does rows old command)
-  Does-some old (Import octets) h = Gives-some (import rows old octets)
-  Does-some old (Remove fpr) h = Gives-some (remove old fpr)
-  Does-some old (Good number fpr) h = Gives-some (judge old number (verdicts.Good fpr))
-  Does-some old (Bad number) h = Gives-some (judge old number verdicts.Bad)
-  Does-some old (Unjudge number) h = Gives-some (unjudge old number)
-  Does-some old (Time view t) h = Gives-some (time old view t)
-  Does-some old (Root view fpr amount) h = Gives-some (root old view fpr amount)
-  Does-some old (Close view) h = Gives-some (close old view)
-  Does-some old (Ask view target wanted uid) h =
-      let asks = Asks-some old (view_at old.views view) target wanted uid h in
-      (asks.0, old, (asks.1, refl))
-  Does-some old Keys h = Gives-some (keys old)
-  Does-some old (Export fpr) h = Gives-some (export old fpr)
-  Does-some old Dump h = Gives-some (dump old)
+    Does-some : (old : State) (command : Command) → HasSpelling command → IsSome Reply (Does rows old command)
+    Does-some old (Import octets) h = Gives-some (import rows old octets)
+    Does-some old (Remove fpr) h = Gives-some (remove old fpr)
+    Does-some old (Good number fpr) h = Gives-some (judge old number (verdicts.Good fpr))
+    Does-some old (Bad number) h = Gives-some (judge old number verdicts.Bad)
+    Does-some old (Unjudge number) h = Gives-some (unjudge old number)
+    Does-some old (Time view t) h = Gives-some (time old view t)
+    Does-some old (Root view fpr amount) h = Gives-some (root old view fpr amount)
+    Does-some old (Close view) h = Gives-some (close old view)
+    Does-some old (Ask view target wanted uid) h =
+        let asks = Asks-some old (view_at old.views view) target wanted uid h in
+        (asks.0, old, (asks.1, refl))
+    Does-some old Keys h = Gives-some (keys old)
+    Does-some old (Export fpr) h = Gives-some (export old fpr)
+    Does-some old Dump h = Gives-some (dump old)
 
-  Answers-one : (old : State) (command : Option Command) → IsState old → IsOne Reply (Answers rows old command)
-  Answers-one old None p = Gives-one (only old replies.Line)
-  Answers-one old (Some command) p = Does-one old command p
+    Answers-one : (old : State) (command : Option Command) → IsState old → IsOne Reply (Answers rows old command)
+    Answers-one old None p = Gives-one (only old replies.Line)
+    Answers-one old (Some command) p = Does-one old command p
 
-  Answers-some : (old : State) (line : List ℕ) → IsSome Reply (Answers rows old (command_of line))
-  Answers-some old line = by (command_of line) refl
-    where
-      by : (command : Option Command) → command_of line ≡ command → IsSome Reply (Answers rows old command)
-      by None e = Gives-some (only old replies.Line)
-      by (Some command) e = Does-some old command (wants line command e)
+    Answers-some : (old : State) (line : List ℕ) → IsSome Reply (Answers rows old (command_of line))
+    Answers-some old line = by (command_of line) refl
+      where
+        by : (command : Option Command) → command_of line ≡ command → IsSome Reply (Answers rows old command)
+        by None e = Gives-some (only old replies.Line)
+        by (Some command) e = Does-some old command (wants line command e)
 
-  pub Step-one : (old : State) (line : List ℕ) → IsState old → IsOne (List ℕ) (Step rows old line)
-  Step-one old line p =
-      MatchBool-one (nat_lt longest (length line)) (Spells (Gives (only old replies.Long))) (λ r m. MatchBool (is_silent line) ((r ≡ []) × (m ≡ old)) (Spells (Answers rows old (command_of line)) r m))
-      (Spells-one (Gives (only old replies.Long)) (Gives-one (only old replies.Long)))
-      (MatchBool-one (is_silent line) (λ r m. (r ≡ []) × (m ≡ old)) (Spells (Answers rows old (command_of line))) (silent-one old) (Spells-one (Answers rows old (command_of line)) (Answers-one old (command_of line) p)))
+    pub Step-one : (old : State) (line : List ℕ) → IsState old → IsOne (List ℕ) (Step rows old line)
+    Step-one old line p =
+        MatchBool-one (nat_lt longest (length line)) (Spells (Gives (only old replies.Long))) (λ r m. MatchBool (is_silent line) ((r ≡ []) × (m ≡ old)) (Spells (Answers rows old (command_of line)) r m))
+        (Spells-one (Gives (only old replies.Long)) (Gives-one (only old replies.Long)))
+        (MatchBool-one (is_silent line) (λ r m. (r ≡ []) × (m ≡ old)) (Spells (Answers rows old (command_of line))) (silent-one old) (Spells-one (Answers rows old (command_of line)) (Answers-one old (command_of line) p)))
 
-  pub Step-some : (old : State) (line : List ℕ) → IsSome (List ℕ) (Step rows old line)
-  Step-some old line =
-      MatchBool-some (nat_lt longest (length line)) (Spells (Gives (only old replies.Long))) (λ r m. MatchBool (is_silent line) ((r ≡ []) × (m ≡ old)) (Spells (Answers rows old (command_of line)) r m))
-      (Spells-some (Gives (only old replies.Long)) (Gives-some (only old replies.Long)))
-      (MatchBool-some (is_silent line) (λ r m. (r ≡ []) × (m ≡ old)) (Spells (Answers rows old (command_of line))) ([], old, (refl, refl)) (Spells-some (Answers rows old (command_of line)) (Answers-some old line)))
+    pub Step-some : (old : State) (line : List ℕ) → IsSome (List ℕ) (Step rows old line)
+    Step-some old line =
+        MatchBool-some (nat_lt longest (length line)) (Spells (Gives (only old replies.Long))) (λ r m. MatchBool (is_silent line) ((r ≡ []) × (m ≡ old)) (Spells (Answers rows old (command_of line)) r m))
+        (Spells-some (Gives (only old replies.Long)) (Gives-some (only old replies.Long)))
+        (MatchBool-some (is_silent line) (λ r m. (r ≡ []) × (m ≡ old)) (Spells (Answers rows old (command_of line))) ([], old, (refl, refl)) (Spells-some (Answers rows old (command_of line)) (Answers-some old line)))

@@ -78,13 +78,7 @@ fn line_of(alloc: Global, engine: &Engine, step: &Step) -> Result<AnswerLine, Me
     ensures line { IfOk result (λ line. line ≡ step_line (state_of engine.now) step.now) }
 {
     let uid = UserId::new(alloc, uid_at(engine, &step.target, step.uid))?;
-    Ok(AnswerLine::Step(
-        step.issuer,
-        step.target,
-        step.depth,
-        step.amount,
-        uid,
-    ))
+    Ok(AnswerLine::Step(step.issuer, step.target, step.depth, step.amount, uid))
 }
 
 /// The user ID at a place of a certificate.

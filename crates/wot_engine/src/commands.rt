@@ -38,11 +38,13 @@ pub fn import<F: Fn(Ask) -> bool>(
     ensures rows { rows_of policy.new ≡ rows_of policy.old }
 {
     match engine.import(octets, policy) {
-        Ok(Imported {
-            taken,
-            skipped,
-            fresh,
-        }) => Ok(Reply::Taken(taken, skipped, fresh)),
+        Ok(
+            Imported {
+                taken,
+                skipped,
+                fresh,
+            },
+        ) => Ok(Reply::Taken(taken, skipped, fresh)),
         Err(refusal) => refused(refusal),
     }
 }
@@ -64,11 +66,7 @@ pub fn remove(engine: &mut Engine, fpr: &Fpr) -> Reply
 }
 
 /// `verdict NUM good FPR` and `verdict NUM bad`.
-pub fn judge(
-    engine: &mut Engine,
-    number: SigNumber,
-    verdict: Verdict,
-) -> Result<Reply, Memory>
+pub fn judge(engine: &mut Engine, number: SigNumber, verdict: Verdict) -> Result<Reply, Memory>
     requires standard { engine.old.keyring.limits ≡ standard_limits }
     requires countable { engine.old.keyring.changes < 2 ^ 64 - 1 }
     ensures gives { IfOk result (λ reply. Gives (judge_of (state_of engine.old) number verdict) reply (state_of engine.new)) }
@@ -115,12 +113,7 @@ pub fn time(engine: &mut Engine, view: &ViewName, t: u32) -> Result<Reply, Memor
 }
 
 /// `view V root FPR A`.
-pub fn root(
-    engine: &mut Engine,
-    view: &ViewName,
-    fpr: &Fpr,
-    amount: u8,
-) -> Result<Reply, Memory>
+pub fn root(engine: &mut Engine, view: &ViewName, fpr: &Fpr, amount: u8) -> Result<Reply, Memory>
     requires standard { engine.old.keyring.limits ≡ standard_limits }
     ensures gives { IfOk result (λ reply. Gives (root_of (state_of engine.old) view.now fpr.now amount) reply (state_of engine.new)) }
     ensures short { IfOk result (λ reply. is_short reply ≡ true) }

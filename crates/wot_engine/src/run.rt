@@ -11,9 +11,9 @@ ghost use Rattle.wot_engine.specs.declared.run.Stop.TheVariants as stops;
 use crate::laws::each_line_has_one_outcome;
 use crate::machine::Machine;
 use std::alloc::Global;
+use wot_io::{Failed, Line, Lines, LinesFault, Sink, Source, write_all};
 use wot_policy::{Ask, Policy};
 use wot_script::{Reply, print_reply};
-use wot_io::{Failed, Line, Lines, LinesFault, Sink, Source, write_all};
 use wot_types::Memory;
 
 /// Why a run ended before its input did.
