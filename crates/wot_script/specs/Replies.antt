@@ -11,7 +11,7 @@ use Rattle.wot_script.specs.declared.reply.AnswerLine.{AnswerLine}
 use Rattle.wot_script.specs.declared.reply.AnswerLine.TheVariants.{Path, Step}
 use Rattle.wot_script.specs.declared.reply.KeyLine.{KeyLine}
 use Rattle.wot_script.specs.declared.reply.Reply.{Reply}
-use Rattle.wot_script.specs.declared.reply.Reply.TheVariants.{Taken, Done, Amount, Keys, Export, Dump, Long, Line, View, Packet, Compressed, Secret, Kind, Order, Empty, Clash, Absent, Full, Form}
+use Rattle.wot_script.specs.declared.reply.Reply.TheVariants.{Taken, Done, Amount, Keys, Export, Dump, Long, Line, View, Packet, Compressed, Secret, Kind, Order, Empty, Clash, Absent, Full}
 
 -- `path AMOUNT steps L root FPR`, or `step ISSUER TARGET DEPTH AMOUNT UID`
 abbrev pub answer_line : AnswerLine → List ℕ
@@ -51,7 +51,6 @@ reply_text Empty = refused (codes "empty" ∷ [])
 reply_text Clash = refused (codes "clash" ∷ [])
 reply_text Absent = refused (codes "absent" ∷ [])
 reply_text (Full limit) = refused (codes "full " ∷ limit_word limit ∷ [])
-reply_text Form = refused (codes "form" ∷ [])
 
 -- no element
 abbrev pub is_empty : {A : Type 0} → List A → Bool

@@ -40,8 +40,6 @@ pub enum Reply {
     Absent,
     /// The change would pass this limit.
     Full(Limit),
-    /// The octets aren't of the form that is taken so far.
-    Form,
 }
 
 /// A line of an answer.

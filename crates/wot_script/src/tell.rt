@@ -226,7 +226,7 @@ fn put_refusal(reply: &Reply, out: &mut Vec<u8>) -> Result<(), Memory>
                 out,
             )
         }
-        _ => put_refused(b"form", out),
+        _ => unreachable!(),
     }
 }
 

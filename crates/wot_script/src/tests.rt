@@ -239,7 +239,6 @@ fn short_replies(export: Octets, dump: Octets) -> [(Reply, &'static [u8]); 19] {
             Reply::Full(Limit::Certificates),
             b"refused full certificates\n",
         ),
-        (Reply::Form, b"refused form\n"),
     ]
 }
 
