@@ -1,5 +1,10 @@
-use Rattle.std.proofs.Common.{◌≡◌, ◌∙◌, ap}
+use Rattle.std.proofs.Common.{◌≡◌, ◌∙◌, ap, map}
 use Rattle.wot_types.specs.Limits.{standard_limits}
+use Rattle.wot_types.specs.declared.fpr.Fpr.{Fpr}
+use Rattle.wot_cert.specs.Certificate.{Certificate}
+use Rattle.wot_keyring.specs.declared.kept.Kept.{Kept}
+use Rattle.wot_keyring.specs.Keyring.{Keyring}
+use Rattle.wot_engine.specs.Outcome.{line_of}
 use Rattle.wot_engine.proofs.Keeping.{sized, keys_told}
 use Rattle.wot_engine.proofs.listing.keys.Goals as goal
 
@@ -8,5 +13,9 @@ key_lines-requires c = rw c.certs.ensures.certs (sized standard_limits.certifica
 
 pub returns : goal.returns
 returns c = record {
-  keys = rw (c.items.ensures.whole, c.keyring.ensures.keyring) (keys_told c.args.engine.now.keyring c.in_ok-lines.lines ?);
+  keys = rw c.items.ensures.whole (keys_told c.args.engine.now.keyring c.in_ok-lines.lines (
+    c.in_ok-lines.ensures.lines
+    ∙ ap (map line_of) c.certs.ensures.certs
+    ∙ ap (λ (k : Keyring). map line_of (map (λ (e : Fpr × Kept). e.1.cert) k.certs)) c.keyring.ensures.keyring
+  ));
 }

@@ -53,7 +53,7 @@ returns-in-Err-ReadFault-clause-most_only g c =
     (Most-stop (rows_of c.args.policy.now) (g.S.Source.left c.args.input.now) (g.K.Sink.written c.args.output.now) c.lines.lines.held c.lines.lines.taken (g.S.Source.left c.lines.input) (g.K.Sink.written c.lines.output) (state_of c.lines.machine) (g.S.Source.left c.next.new.from) c.next.new.self.taken c.lines.invariant.stood (c.in-Err-ReadFault.ensures.stops c.lines.invariant.no_fault) lt)
 
 pub returns-in_err-lines-clause-front : goal.returns-in_err-lines-clause-front
-returns-in_err-lines-clause-front g c = Begun-nothing (rows_of c.args.policy.now) (law_of c) (g.S.Source.left c.args.input.now) (g.K.Sink.written c.args.output.now)
+returns-in_err-lines-clause-front g c = Begun-nothing (rows_of c.args.policy.now) (record { some = c.each_line_has_one_outcome.ensures.some (rows_of c.args.policy.now); one = c.each_line_has_one_outcome.ensures.one (rows_of c.args.policy.now); stays = c.each_line_has_one_outcome.ensures.stays (rows_of c.args.policy.now) }) (g.S.Source.left c.args.input.now) (g.K.Sink.written c.args.output.now)
 
 pub returns-in-Ok-End-clause-whole : goal.returns-in-Ok-End-clause-whole
 returns-in-Ok-End-clause-whole g c =
