@@ -13,5 +13,5 @@ each_short q earlier (path ∷ paths) each = (each.0.steps.0.0.few, each_short q
 
 -- the same of an answer from a view that is open
 pub answer_short : (o : Option View) (q : View → Question) (wanted : ℕ) (paths : List Path) → is_some o ≡ true → IfSome o (λ (v : View). IsAnswer (q v) wanted paths) → AllByRecursion (λ (p : Path). length p.steps ≤ 255) paths
-answer_short None q wanted paths open answer = absurd cc
-answer_short (Some v) q wanted paths open answer = each_short (q v) [] paths answer.each
+answer_short None q wanted paths some answer = absurd cc
+answer_short (Some v) q wanted paths some answer = each_short (q v) [] paths answer.each

@@ -78,13 +78,14 @@ impl Machine {
         ensures faithful { IsFaithful F.Fn policy.new }
         ensures rows { rows_of policy.new ≡ rows_of policy.old }
     {
-        if line.len() > LONGEST {
-            return print_reply(&Reply::Long, out);
-        }
-        if test_silent(line) {
+        let long = line.len() > LONGEST;
+        if !long && test_silent(line) {
             return Ok(());
         }
         out.reserve(ROOM)?;
+        if long {
+            return print_reply(&Reply::Long, out);
+        }
         let reply = answer(self.alloc, &mut self.engine, &mut self.steps, line, policy)?;
         print_reply(&reply, out)
     }

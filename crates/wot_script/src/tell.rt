@@ -122,6 +122,7 @@ fn put_amount(sum: u32, paths: u64, lines: &AnswerLines, out: &mut Vec<u8>) -> R
     ensures appended { OnOk result (out.new.items ≡ out.old.items ++ reply_text (Reply.Amount sum paths lines.now)) }
     ensures kept { OnErr result (out.new.items ≡ out.old.items) }
     ensures full { OnErr result (vec_capacity out.old < vec_len out.old + length (reply_text (Reply.Amount sum paths lines.now))) }
+    ensures grows { vec_capacity out.old ≤ vec_capacity out.new }
 {
     use Piece::{Decimal, Text};
     let start = out.len();
@@ -148,6 +149,7 @@ fn put_keys(count: u64, lines: &KeyLines, out: &mut Vec<u8>) -> Result<(), Memor
     ensures appended { OnOk result (out.new.items ≡ out.old.items ++ reply_text (Reply.Keys count lines.now)) }
     ensures kept { OnErr result (out.new.items ≡ out.old.items) }
     ensures full { OnErr result (vec_capacity out.old < vec_len out.old + length (reply_text (Reply.Keys count lines.now))) }
+    ensures grows { vec_capacity out.old ≤ vec_capacity out.new }
 {
     use Piece::{Decimal, Text};
     let start = out.len();
@@ -163,6 +165,7 @@ fn put_refused(word: &[u8], out: &mut Vec<u8>) -> Result<(), Memory>
     ensures appended { OnOk result (out.new.items ≡ out.old.items ++ refused (word.now ∷ [])) }
     ensures kept { OnErr result (out.new.items ≡ out.old.items) }
     ensures full { OnErr result (vec_capacity out.old < vec_len out.old + length (refused (word.now ∷ []))) }
+    ensures grows { vec_capacity out.old ≤ vec_capacity out.new }
 {
     put_pieces(
         &[
@@ -178,6 +181,7 @@ fn put_refused_at(word: &[u8], number: u8, place: usize, out: &mut Vec<u8>) -> R
     ensures appended { OnOk result (out.new.items ≡ out.old.items ++ refused (word.now ∷ decimal number ∷ codes " " ∷ decimal place ∷ [])) }
     ensures kept { OnErr result (out.new.items ≡ out.old.items) }
     ensures full { OnErr result (vec_capacity out.old < vec_len out.old + length (refused (word.now ∷ decimal number ∷ codes " " ∷ decimal place ∷ []))) }
+    ensures grows { vec_capacity out.old ≤ vec_capacity out.new }
 {
     use Piece::{Decimal, Text};
     let number = Decimal(u64::from(number));
@@ -201,6 +205,7 @@ fn put_refusal(reply: &Reply, out: &mut Vec<u8>) -> Result<(), Memory>
     ensures appended { OnOk result (out.new.items ≡ out.old.items ++ reply_text reply.now) }
     ensures kept { OnErr result (out.new.items ≡ out.old.items) }
     ensures full { OnErr result (vec_capacity out.old < vec_len out.old + length (reply_text reply.now)) }
+    ensures grows { vec_capacity out.old ≤ vec_capacity out.new }
 {
     use Piece::{Decimal, Text};
     match reply {
@@ -235,6 +240,7 @@ fn put_reply(reply: &Reply, out: &mut Vec<u8>) -> Result<(), Memory>
     ensures appended { OnOk result (out.new.items ≡ out.old.items ++ reply_text reply.now) }
     ensures kept { OnErr result (out.new.items ≡ out.old.items) }
     ensures full { OnErr result (vec_capacity out.old < vec_len out.old + length (reply_text reply.now)) }
+    ensures grows { vec_capacity out.old ≤ vec_capacity out.new }
 {
     use Piece::{Decimal, Hex, Text};
     match reply {
@@ -284,6 +290,7 @@ pub fn print_reply(reply: &Reply, out: &mut Vec<u8>) -> Result<(), Memory>
     ensures room { is_short reply.now ≡ true → vec_len out.old + 128 ≤ vec_capacity out.old → IsOk result }
     // It fails only where the capacity lacked.
     ensures full { OnErr result (vec_capacity out.old < vec_len out.old + length (reply_text reply.now)) }
+    ensures grows { vec_capacity out.old ≤ vec_capacity out.new }
 {
     short_replies_fit(reply);
     put_reply(reply, out)
