@@ -8,5 +8,6 @@ mod Short
 mod Steps
 mod Progress
 mod Turns
+mod Replying
 pub mod Rules
 mod Anew

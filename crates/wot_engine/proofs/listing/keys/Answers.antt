@@ -14,8 +14,8 @@ key_lines-requires c = rw c.certs.ensures.certs (sized standard_limits.certifica
 pub returns : goal.returns
 returns c = record {
   keys = rw c.items.ensures.whole (keys_told c.args.engine.now.keyring c.in_ok-lines.lines (
-    c.in_ok-lines.ensures.lines
-    ∙ ap (map line_of) c.certs.ensures.certs
-    ∙ ap (λ (k : Keyring). map line_of (map (λ (e : Fpr × Kept). e.1.cert) k.certs)) c.keyring.ensures.keyring
-  ));
+      c.in_ok-lines.ensures.lines
+      ∙ ap (map line_of) c.certs.ensures.certs
+      ∙ ap (λ (k : Keyring). map line_of (map (λ (e : Fpr × Kept). e.1.cert) k.certs)) c.keyring.ensures.keyring
+      ));
 }

@@ -1,7 +1,10 @@
-use Rattle.std.proofs.Common.{◌≡◌, ◌^◌, ◌<◌, refl, arith, ◌∙◌}
+use Rattle.std.proofs.Common.{◌≡◌, ◌^◌, ◌<◌, refl, arith, subst, ◌∙◌}
+use Rattle.wot_policy.specs.declared.rows.PolicyRows.{PolicyRows}
 use Rattle.wot_policy.specs.Kept.{rows_of}
+use Rattle.wot_keyring.specs.Kept.{IsJudgedBy}
 use Rattle.wot_cache.specs.State.{state_of}
-use Rattle.wot_engine.proofs.Turns.{Answered-end, Answered-stop, Told-weaker, Turns-reply, Stood-write, Begun-cut, Begun-nothing, Most-cut, Most-stop}
+use Rattle.wot_engine.proofs.Turns.{Answered-end, Answered-stop, Told-weaker, Turns-reply, Stood-write, Begun-cut, Begun-here, Begun-nothing, Most-cut, Most-stop}
+use Rattle.wot_engine.proofs.Replying.{answered, not_end, begins, no_fault, within, counted, judged}
 use Rattle.wot_engine.proofs.run.run.Goals as goal
 
 pub returns-in-Err-ReadFault-clause-taken : goal.returns-in-Err-ReadFault-clause-taken
@@ -17,13 +20,13 @@ returns-in-Err-TooMuch-clause-most g c =
 
 pub returns-in_err-write_all-clause-front : goal.returns-in_err-write_all-clause-front
 returns-in_err-write_all-clause-front g c =
-    let replies = rw (c.text.ensures, c.lines.invariant.rows) at c.in_ok-reply_to.ensures.replies in
+    let replies = answered (rows_of c.lines.policy) (rows_of c.args.policy.now) c.in-Ok.line c.text.result.now c.next.new.self.text (state_of c.lines.machine) c.reply_to.new.out.items (state_of c.reply_to.new.machine) c.lines.invariant.rows c.text.ensures c.in_ok-reply_to.ensures.replies in
     let t = Turns-reply (rows_of c.args.policy.now) (g.S.Source.left c.args.input.now) (g.K.Sink.written c.args.output.now) c.lines.lines (g.S.Source.left c.lines.input) (g.K.Sink.written c.lines.output) (state_of c.lines.machine) c.next.new.self (g.S.Source.left c.next.new.from) (state_of c.reply_to.new.machine) c.in-Ok.line c.reply_to.new.out.items c.lines.invariant.stood c.in-Ok.ensures.ok replies in
     Begun-cut (rows_of c.args.policy.now) c.lines.invariant.law (g.S.Source.left c.args.input.now) (g.K.Sink.written c.args.output.now) c.next.new.self.held c.next.new.self.taken (g.S.Source.left c.next.new.from) (g.K.Sink.written c.lines.output) c.reply_to.new.out.items (state_of c.reply_to.new.machine) (g.K.Sink.written c.write_all.new.to) t (rw c.deref.ensures.value at c.in_err-write_all.ensures.err)
 
 pub lines-preserved : goal.lines-preserved
 lines-preserved g c =
-    let replies = rw (c.text.ensures, c.lines.invariant.rows) at c.in_ok-reply_to.ensures.replies in
+    let replies = answered (rows_of c.lines.policy) (rows_of c.args.policy.now) c.in-Ok.line c.text.result.now c.next.new.self.text (state_of c.lines.machine) c.reply_to.new.out.items (state_of c.reply_to.new.machine) c.lines.invariant.rows c.text.ensures c.in_ok-reply_to.ensures.replies in
     let t = Turns-reply (rows_of c.args.policy.now) (g.S.Source.left c.args.input.now) (g.K.Sink.written c.args.output.now) c.lines.lines (g.S.Source.left c.lines.input) (g.K.Sink.written c.lines.output) (state_of c.lines.machine) c.next.new.self (g.S.Source.left c.next.new.from) (state_of c.reply_to.new.machine) c.in-Ok.line c.reply_to.new.out.items c.lines.invariant.stood c.in-Ok.ensures.ok replies in
     record {
       law = c.lines.invariant.law;
@@ -33,15 +36,15 @@ lines-preserved g c =
       empty = c.clear.ensures.items;
       source = omega (arith, c.next.ensures.later, c.lines.invariant.source);
       sink = omega (arith, c.write_all.ensures.later, c.lines.invariant.sink);
-      changes = ?;
-      judged = rw c.lines.invariant.rows at c.reply_to.ensures.judged;
+      changes = omega (arith, c.reply_to.ensures.counted, c.in-Ok.ensures.shorter (not_end (rows_of c.args.policy.now) c.in-Ok.line c.next.new.self.text (state_of c.lines.machine) c.reply_to.new.out.items (state_of c.reply_to.new.machine) replies), c.lines.invariant.changes, c.next.ensures.within, c.lines.invariant.within);
+      judged = subst (λ (r : PolicyRows). IsJudgedBy r c.reply_to.new.machine.keyring) c.lines.invariant.rows c.reply_to.ensures.judged;
       rows = c.reply_to.ensures.rows ∙ c.lines.invariant.rows;
       faithful = c.reply_to.ensures.faithful;
     }
 
 pub returns-in_err-write_all-clause-most_only : goal.returns-in_err-write_all-clause-most_only
 returns-in_err-write_all-clause-most_only g c =
-    let replies = rw (c.text.ensures, c.lines.invariant.rows) at c.in_ok-reply_to.ensures.replies in
+    let replies = answered (rows_of c.lines.policy) (rows_of c.args.policy.now) c.in-Ok.line c.text.result.now c.next.new.self.text (state_of c.lines.machine) c.reply_to.new.out.items (state_of c.reply_to.new.machine) c.lines.invariant.rows c.text.ensures c.in_ok-reply_to.ensures.replies in
     let t = Turns-reply (rows_of c.args.policy.now) (g.S.Source.left c.args.input.now) (g.K.Sink.written c.args.output.now) c.lines.lines (g.S.Source.left c.lines.input) (g.K.Sink.written c.lines.output) (state_of c.lines.machine) c.next.new.self (g.S.Source.left c.next.new.from) (state_of c.reply_to.new.machine) c.in-Ok.line c.reply_to.new.out.items c.lines.invariant.stood c.in-Ok.ensures.ok replies in
     Told-weaker (rows_of c.args.policy.now) (g.S.Source.left c.args.input.now) (g.K.Sink.written c.args.output.now) _ _ (λ input before no most. absurd (no most))
     (Most-cut (rows_of c.args.policy.now) c.lines.invariant.law (g.S.Source.left c.args.input.now) (g.K.Sink.written c.args.output.now) c.next.new.self.held c.next.new.self.taken (g.S.Source.left c.next.new.from) (g.K.Sink.written c.lines.output) c.reply_to.new.out.items (state_of c.reply_to.new.machine) (g.K.Sink.written c.write_all.new.to) t (rw c.deref.ensures.value at c.in_err-write_all.ensures.err))
@@ -59,3 +62,22 @@ pub returns-in-Ok-End-clause-whole : goal.returns-in-Ok-End-clause-whole
 returns-in-Ok-End-clause-whole g c =
     Answered-end (rows_of c.args.policy.now) (g.S.Source.left c.args.input.now) (g.K.Sink.written c.args.output.now) c.lines.lines (g.S.Source.left c.lines.input) (g.K.Sink.written c.lines.output) (state_of c.lines.machine) c.next.new.self (g.S.Source.left c.next.new.from)
     c.lines.invariant.stood (rw c.in-Ok-End.field-0-is at c.in-Ok-End.ensures.ok)
+
+pub returns-in_err-reply_to-clause-front : goal.returns-in_err-reply_to-clause-front
+returns-in_err-reply_to-clause-front g c =
+    Begun-here (rows_of c.args.policy.now) c.lines.invariant.law (g.S.Source.left c.args.input.now) (g.K.Sink.written c.args.output.now) c.lines.lines.held c.lines.lines.taken (g.S.Source.left c.lines.input) (g.K.Sink.written c.lines.output) (state_of c.lines.machine) c.lines.invariant.stood
+
+pub lines-init : goal.lines-init
+lines-init g c = record {
+  law = (record { some = c.each_line_has_one_outcome.ensures.some (rows_of c.args.policy.now); one = c.each_line_has_one_outcome.ensures.one (rows_of c.args.policy.now); stays = c.each_line_has_one_outcome.ensures.stays (rows_of c.args.policy.now) });
+  stood = begins (rows_of c.args.policy.now) (g.S.Source.left c.args.input.now) (g.K.Sink.written c.args.output.now) c.in_ok-lines.lines c.new-machine.result c.in_ok-lines.ensures c.new-machine.ensures.start;
+  no_fault = no_fault c.in_ok-lines.lines c.in_ok-lines.ensures;
+  within = within c.in_ok-lines.lines c.in_ok-lines.ensures;
+  empty = c.new-out.ensures.items;
+  source = omega arith;
+  sink = omega arith;
+  changes = counted c.in_ok-lines.lines c.new-machine.result c.in_ok-lines.ensures c.new-machine.ensures.start;
+  judged = judged (rows_of c.args.policy.now) c.new-machine.result c.new-machine.ensures.start;
+  rows = refl;
+  faithful = c.requires.faithful;
+}
