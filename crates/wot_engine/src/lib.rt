@@ -9,8 +9,6 @@ mod listing;
 mod machine;
 mod refusal;
 mod run;
-#[cfg(test)]
-mod tests;
 mod words;
 
 pub use fresh::dump_makes_the_state_anew;
