@@ -212,7 +212,7 @@ fn is_printed(alloc: Global, reply: &Reply, text: &[u8]) -> Result<bool, Fail> {
 }
 
 /// Replies of one line, and how they are printed.
-fn short_replies(export: Octets, dump: Octets) -> [(Reply, &'static [u8]); 19] {
+fn short_replies(export: Octets, dump: Octets) -> [(Reply, &'static [u8]); 18] {
     let most = u64::MAX;
     [
         (Reply::Taken(2, 1, 20), b"ok taken 2 skipped 1 new 20\n"),
