@@ -18,3 +18,6 @@ mod turn;
 
 pub use consulted::{Consulted, ConsultedIter};
 pub use next::next_path;
+
+#[cfg(test)]
+mod tests;
