@@ -36,57 +36,48 @@ struct Case {
     second: (u8, &'static [(u8, u8)]),
 }
 
+/// A question about the user ID `t` whose one root is the key 1, and to which there's no path.
+const ASKED: Case = Case {
+    rows: &[],
+    roots: &[(1, 120)],
+    uid: T,
+    scoped: 0,
+    gone: 0,
+    first: (0, &[]),
+    second: (0, &[]),
+};
+
 // What a listing of all simple paths by another program gives.
 static CASES: [Case; 25] = [
     // direct
     Case {
         rows: &[Row(1, 4, T, 0, 120)],
-        roots: &[(1, 120)],
-        uid: T,
-        scoped: 0,
-        gone: 0,
         first: (120, &[(1, T)]),
-        second: (0, &[]),
+        ..ASKED
     },
     // another user ID
     Case {
         rows: &[Row(1, 4, T, 0, 120)],
-        roots: &[(1, 120)],
         uid: U,
-        scoped: 0,
-        gone: 0,
-        first: (0, &[]),
-        second: (0, &[]),
+        ..ASKED
     },
     // a root that is the target
     Case {
         rows: &[Row(4, 4, T, 0, 120)],
         roots: &[(4, 100)],
-        uid: T,
-        scoped: 0,
-        gone: 0,
         first: (100, &[(4, T)]),
-        second: (0, &[]),
+        ..ASKED
     },
     // two edges
     Case {
         rows: &[Row(1, 2, A, 1, 120), Row(2, 4, T, 0, 120)],
-        roots: &[(1, 120)],
-        uid: T,
-        scoped: 0,
-        gone: 0,
         first: (120, &[(1, A), (2, T)]),
-        second: (0, &[]),
+        ..ASKED
     },
     // no depth
     Case {
         rows: &[Row(1, 2, A, 0, 120), Row(2, 4, T, 0, 120)],
-        roots: &[(1, 120)],
-        uid: T,
-        scoped: 0,
-        gone: 0,
-        first: (0, &[]),
-        second: (0, &[]),
+        ..ASKED
     },
     // three edges
     Case {
@@ -95,12 +86,8 @@ static CASES: [Case; 25] = [
             Row(2, 3, B, 1, 120),
             Row(3, 4, T, 0, 120),
         ],
-        roots: &[(1, 120)],
-        uid: T,
-        scoped: 0,
-        gone: 0,
         first: (120, &[(1, A), (2, B), (3, T)]),
-        second: (0, &[]),
+        ..ASKED
     },
     // depth falls short
     Case {
@@ -109,12 +96,7 @@ static CASES: [Case; 25] = [
             Row(2, 3, B, 255, 120),
             Row(3, 4, T, 0, 120),
         ],
-        roots: &[(1, 120)],
-        uid: T,
-        scoped: 0,
-        gone: 0,
-        first: (0, &[]),
-        second: (0, &[]),
+        ..ASKED
     },
     // shortest before widest
     Case {
@@ -123,12 +105,9 @@ static CASES: [Case; 25] = [
             Row(1, 4, T, 0, 1),
             Row(2, 4, T, 0, 120),
         ],
-        roots: &[(1, 120)],
-        uid: T,
-        scoped: 0,
-        gone: 0,
         first: (1, &[(1, T)]),
         second: (119, &[(1, A), (2, T)]),
+        ..ASKED
     },
     // residual amounts
     Case {
@@ -139,12 +118,8 @@ static CASES: [Case; 25] = [
             Row(3, 4, T, 0, 120),
             Row(5, 4, T, 0, 120),
         ],
-        roots: &[(1, 120)],
-        uid: T,
-        scoped: 0,
-        gone: 0,
         first: (60, &[(1, A), (2, B), (3, T)]),
-        second: (0, &[]),
+        ..ASKED
     },
     // first suffix lacks depth
     Case {
@@ -153,12 +128,7 @@ static CASES: [Case; 25] = [
             Row(2, 3, B, 2, 120),
             Row(3, 4, T, 0, 120),
         ],
-        roots: &[(1, 120)],
-        uid: T,
-        scoped: 0,
-        gone: 0,
-        first: (0, &[]),
-        second: (0, &[]),
+        ..ASKED
     },
     // another suffix has it
     Case {
@@ -168,12 +138,8 @@ static CASES: [Case; 25] = [
             Row(2, 3, B, 2, 120),
             Row(3, 4, T, 0, 120),
         ],
-        roots: &[(1, 120)],
-        uid: T,
-        scoped: 0,
-        gone: 0,
         first: (70, &[(1, B), (3, T)]),
-        second: (0, &[]),
+        ..ASKED
     },
     // the wider
     Case {
@@ -183,12 +149,9 @@ static CASES: [Case; 25] = [
             Row(2, 4, T, 0, 120),
             Row(3, 4, T, 0, 120),
         ],
-        roots: &[(1, 120)],
-        uid: T,
-        scoped: 0,
-        gone: 0,
         first: (70, &[(1, B), (3, T)]),
         second: (50, &[(1, A), (2, T)]),
+        ..ASKED
     },
     // the width behind
     Case {
@@ -199,12 +162,9 @@ static CASES: [Case; 25] = [
             Row(3, 5, C, 1, 80),
             Row(5, 4, T, 0, 120),
         ],
-        roots: &[(1, 120)],
-        uid: T,
-        scoped: 0,
-        gone: 0,
         first: (80, &[(1, B), (3, C), (5, T)]),
         second: (30, &[(1, A), (2, C), (5, T)]),
+        ..ASKED
     },
     // two user IDs, one pair
     Case {
@@ -213,12 +173,8 @@ static CASES: [Case; 25] = [
             Row(1, 2, B, 1, 60),
             Row(2, 4, T, 0, 120),
         ],
-        roots: &[(1, 120)],
-        uid: T,
-        scoped: 0,
-        gone: 0,
         first: (60, &[(1, A), (2, T)]),
-        second: (0, &[]),
+        ..ASKED
     },
     // the wider user ID
     Case {
@@ -227,32 +183,19 @@ static CASES: [Case; 25] = [
             Row(1, 2, B, 1, 90),
             Row(2, 4, T, 0, 120),
         ],
-        roots: &[(1, 120)],
-        uid: T,
-        scoped: 0,
-        gone: 0,
         first: (90, &[(1, B), (2, T)]),
-        second: (0, &[]),
+        ..ASKED
     },
     // through the target's own
     Case {
         rows: &[Row(1, 4, S, 1, 50), Row(4, 4, T, 0, 120)],
-        roots: &[(1, 120)],
-        uid: T,
-        scoped: 0,
-        gone: 0,
         first: (50, &[(1, S), (4, T)]),
-        second: (0, &[]),
+        ..ASKED
     },
     // its own lacks depth
     Case {
         rows: &[Row(1, 4, S, 0, 50), Row(4, 4, T, 0, 120)],
-        roots: &[(1, 120)],
-        uid: T,
-        scoped: 0,
-        gone: 0,
-        first: (0, &[]),
-        second: (0, &[]),
+        ..ASKED
     },
     // the target in the middle
     Case {
@@ -261,72 +204,51 @@ static CASES: [Case; 25] = [
             Row(2, 4, T, 0, 120),
             Row(4, 2, A, 255, 50),
         ],
-        roots: &[(1, 120)],
-        uid: T,
-        scoped: 0,
-        gone: 0,
-        first: (0, &[]),
-        second: (0, &[]),
+        ..ASKED
     },
     // scope holds
     Case {
         rows: &[Row(1, 2, A, 1, 120), Row(2, 4, T, 0, 120)],
-        roots: &[(1, 120)],
-        uid: T,
         scoped: 1,
-        gone: 0,
         first: (120, &[(1, A), (2, T)]),
-        second: (0, &[]),
+        ..ASKED
     },
     // scope doesn't hold
     Case {
         rows: &[Row(1, 2, A, 1, 120), Row(2, 4, U, 0, 120)],
-        roots: &[(1, 120)],
         uid: U,
         scoped: 1,
-        gone: 0,
-        first: (0, &[]),
-        second: (0, &[]),
+        ..ASKED
     },
     // no scope is asked of the last
     Case {
         rows: &[Row(1, 4, U, 0, 120)],
-        roots: &[(1, 120)],
         uid: U,
         scoped: 1,
-        gone: 0,
         first: (120, &[(1, U)]),
-        second: (0, &[]),
+        ..ASKED
     },
     // not usable
     Case {
         rows: &[Row(1, 2, A, 1, 120), Row(2, 4, T, 0, 120)],
-        roots: &[(1, 120)],
-        uid: T,
-        scoped: 0,
         gone: 2,
-        first: (0, &[]),
-        second: (0, &[]),
+        ..ASKED
     },
     // two roots
     Case {
         rows: &[Row(1, 4, T, 0, 50), Row(9, 4, T, 0, 60)],
         roots: &[(1, 120), (9, 30)],
-        uid: T,
-        scoped: 0,
-        gone: 0,
         first: (50, &[(1, T)]),
         second: (30, &[(9, T)]),
+        ..ASKED
     },
     // two roots that tie
     Case {
         rows: &[Row(1, 4, T, 0, 50), Row(9, 4, T, 0, 50)],
         roots: &[(1, 120), (9, 80)],
-        uid: T,
-        scoped: 0,
-        gone: 0,
         first: (50, &[(1, T)]),
         second: (50, &[(9, T)]),
+        ..ASKED
     },
     // the root's amount is used
     Case {
@@ -337,11 +259,8 @@ static CASES: [Case; 25] = [
             Row(3, 4, T, 0, 120),
         ],
         roots: &[(1, 90)],
-        uid: T,
-        scoped: 0,
-        gone: 0,
         first: (90, &[(1, A), (2, T)]),
-        second: (0, &[]),
+        ..ASKED
     },
 ];
 
