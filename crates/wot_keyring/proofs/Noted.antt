@@ -6,9 +6,9 @@ use Rattle.std.specs.Ordering.{is_eq}
 use Rattle.std.specs.Option.{option_map, option_map_or, MatchOption}
 use Rattle.std.specs.List.{AllByRecursion}
 use Rattle.std.specs.Map.{lookup, remove_entry, set_value, keys_of}
-use Rattle.std.proofs.lemmas.Cmp.{tied_itself}
-use Rattle.std.proofs.lemmas.Map.{lookup-none}
-use Rattle.std.proofs.lemmas.Map.Keys.{sorted_head, sorted_tail}
+use Rattle.std.proofs.lemmas.Cmp.{eq_by_cmp_equiv, tied_itself}
+use Rattle.std.proofs.lemmas.Map.{lookup-remove_entry}
+use Rattle.std.proofs.lemmas.Map.Keys.{IsDistinct-from_sorted, sorted_head, sorted_tail}
 use Rattle.std.proofs.lemmas.Map.Made.{lookup-map_values}
 use Rattle.wot_types.specs.declared.fpr.Fpr.{Fpr}
 use Rattle.wot_types.specs.declared.number.SigNumber.{SigNumber}
@@ -135,14 +135,19 @@ module _ (n : SigNumber) (fpr q : Fpr) (place : Option Fpr) (es : Entries) (note
   out true h = out_there h
   out false h = out_not_there h
 
+-- what is found without an entry
+found_without : (q fpr : Fpr) (es : Entries) → AreInOrder es → lookup (is_fpr q) (remove_entry (is_fpr fpr) es) ≡ cond (is_fpr fpr q) None (lookup (is_fpr q) es)
+found_without q fpr es sorted =
+    lookup-remove_entry (eq_by_cmp_equiv fprs_total) (is_fpr fpr) (λ x y h. ap (λ (z : Fpr). is_fpr z y) (same_fpr fpr x h)) q es (IsDistinct-from_sorted fpr_cmp (keys_of es) sorted)
+
 -- What stood on a certificate that is taken out isn't noted any more.
-pub indexed_without : (old new : Index) (es es' : Entries) (fpr : Fpr) (kept : Kept) → Some kept ≡ lookup (is_fpr fpr) es → ((q : Fpr) → lookup (is_fpr q) es' ≡ cond (is_fpr fpr q) None (lookup (is_fpr q) es)) → new.exact ≡ old.exact
-    → ((n : SigNumber) → place_of new.places.entries n ≡ unless (has_number n kept.cert) (place_of old.places.entries n)) → IsIndexOf old es → IsIndexOf new es'
-indexed_without old new es es' fpr kept found rest same places before exact n q =
+pub indexed_without : (old new : Index) (es : Entries) (fpr : Fpr) (kept : Kept) → AreInOrder es → Some kept ≡ lookup (is_fpr fpr) es → new.exact ≡ old.exact → ((n : SigNumber) → place_of new.places.entries n ≡ unless (has_number n kept.cert) (place_of old.places.entries n)) → IsIndexOf old es
+    → IsIndexOf new (remove_entry (is_fpr fpr) es)
+indexed_without old new es fpr kept sorted found same places before exact n q =
     let noted = before (sym same ∙ exact) n in
     ap (λ (p : Option Fpr). is_place p q) (places n)
     ∙ out n fpr q (place_of old.places.entries n) es noted (has_number n kept.cert) (noted fpr ∙ ap (on_found n) (sym found))
-    ∙ ap (on_found n) (sym (rest q))
+    ∙ ap (on_found n) (sym (found_without q fpr es sorted))
 
 -- ---- a verdict altered
 

@@ -1,4 +1,4 @@
-ghost use Rattle.std.specs.Prelude.{◌≡◌, ◌≢◌, ◌<◌, ◌≤◌, ◌^◌, ◌+◌, ◌-◌, ◌++◌, ℕ, nat_lt, if◌then◌else◌, cond, map, Some, None, Ok, is_ok, is_some, IsSomeAnd, length, IfOk, MatchBool, OnOk, OnErr};
+ghost use Rattle.std.specs.Prelude.{◌≡◌, ◌≢◌, ◌<◌, ◌≤◌, ◌^◌, ◌+◌, ◌-◌, ◌++◌, ℕ, nat_lt, if◌then◌else◌, map, Some, Ok, is_ok, is_some, IsSomeAnd, length, IfOk, MatchBool, OnOk, OnErr};
 ghost use Rattle.std.specs.Option.{option_copied, IfSome, MatchOption};
 ghost use Rattle.std.specs.Map.{lookup, remove_entry};
 ghost use Rattle.wot_types.specs.declared.fpr.Fpr.{Fpr as TheFpr};
@@ -413,7 +413,6 @@ pub(crate) fn find<'a>(certs: &'a BTreeMap<Fpr, Kept, Global>, fpr: &Fpr) -> Opt
 /// Takes out what is kept under a fingerprint.
 pub(crate) fn take_out(certs: &mut BTreeMap<Fpr, Kept, Global>, fpr: &Fpr)
     ensures out { certs.new.entries ≡ remove_entry (is_fpr fpr.now) certs.old.entries }
-    ensures found { (q : TheFpr) → lookup (is_fpr q) certs.new.entries ≡ cond (is_fpr fpr.now q) None (lookup (is_fpr q) certs.old.entries) }
     ensures in_order { AreInOrder certs.new.entries }
 {
     let _ = certs.remove(fpr);
