@@ -1,6 +1,5 @@
 -- The index, number by number: what is noted, what is logged, and what is taken out again.
 use Rattle.std.proofs.Common.{◌≡◌, Bool, true, false, ◌&&◌, ◌||◌, cond, List, [], ◌∷◌, ◌++◌, Option, Some, None, Result, Ok, Err, OnOk, sym, ap, ◌∙◌, subst, refl}
-use Rattle.std.specs.List.{list_any}
 use Rattle.std.specs.Cmp.{IsTotalOrder}
 use Rattle.std.specs.Ordering.{is_eq}
 use Rattle.std.proofs.lemmas.Cmp.{nat_list_cmp_total, on_total, tied_itself}
@@ -16,7 +15,7 @@ use Rattle.wot_cert.specs.Certificate.{Signature, Component, Certificate}
 use Rattle.wot_cert.specs.Counts.{sigs_on}
 use Rattle.wot_keyring.specs.declared.index.Index.{Index}
 use Rattle.wot_keyring.specs.Keyring.{is_fpr}
-use Rattle.wot_keyring.specs.Index.{Places, place_of, is_place, is_noted, unless, is_logged, place_without, Notes, NotesOn, NotesNothing, StillLogged}
+use Rattle.wot_keyring.specs.Index.{Places, place_of, is_place, is_noted, unless, is_logged, place_without, Notes, NotesOn, StillLogged}
 use Rattle.wot_keyring.specs.Verdict.{is_among, has_number}
 
 -- ---- numbers

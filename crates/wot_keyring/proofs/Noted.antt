@@ -1,7 +1,6 @@
 -- The index stays that of what is kept: after an import, a removal and a change of a verdict.
-use Rattle.std.proofs.Common.{◌≡◌, ℕ, Bool, true, false, not, ◌&&◌, ◌||◌, cond, List, [], ◌∷◌, map, Option, Some, None, sym, ap, ◌∙◌, subst, refl}
-use Rattle.std.specs.declared.cmp.Ordering.{Ordering}
-use Rattle.std.specs.declared.cmp.Ordering.TheVariants.{Less, Equal, Greater}
+use Rattle.std.proofs.Common.{◌≡◌, ℕ, Bool, true, false, ◌&&◌, ◌||◌, cond, List, [], ◌∷◌, Option, Some, None, sym, ap, ◌∙◌, subst, refl}
+use Rattle.std.specs.declared.cmp.Ordering.TheVariants.{Less}
 use Rattle.std.specs.Ordering.{is_eq}
 use Rattle.std.specs.Option.{option_map, option_map_or, MatchOption}
 use Rattle.std.specs.List.{AllByRecursion}
@@ -20,7 +19,7 @@ use Rattle.wot_cert.specs.Judged.{judged}
 use Rattle.wot_cert.specs.Whole.{IsCertificate}
 use Rattle.wot_keyring.specs.declared.index.Index.{Index}
 use Rattle.wot_keyring.specs.declared.kept.Kept.{Kept}
-use Rattle.wot_keyring.specs.Index.{place_of, is_place, is_noted, stands_at, stands_among, unless, IsIndexOf, Notes, NotesNothing}
+use Rattle.wot_keyring.specs.Index.{place_of, is_place, stands_at, stands_among, unless, IsIndexOf, Notes, NotesNothing}
 use Rattle.wot_keyring.specs.Keyring.{Entries, is_fpr}
 use Rattle.wot_keyring.specs.Kept.{AreInOrder, AreWhole}
 use Rattle.wot_keyring.specs.Staging.{found_for, kept_as, kept_with, kept_all, clash_at, clash_in}

@@ -23,6 +23,7 @@ impl Index {
     /// The index of no certificates. Takes no memory.
     pub(crate) fn new(alloc: Global) -> Index
         ensures empty { result.places.entries ≡ [] }
+        ensures exact { result.exact ≡ true }
     {
         Index {
             places: BTreeMap::new(alloc),
