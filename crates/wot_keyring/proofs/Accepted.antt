@@ -1,18 +1,16 @@
 -- The same, as it stands after the union in place: whatever the stamp, the limit and the list are called.
-use Rattle.std.proofs.Common.{◌≡◌, ◌≤◌, ◌+◌, ◌⊎◌, inl, inr, ℕ, Bool, true, false, if◌then◌else◌, nat_lt, List, length, Result, Ok, Err, sym, ap, ◌∙◌, subst, refl}
+use Rattle.std.proofs.Common.{◌≡◌, ◌≤◌, ◌+◌, inl, ℕ, Bool, true, false, if◌then◌else◌, nat_lt, List, length, Ok, sym, ap, ◌∙◌, subst}
 use Rattle.std.specs.List.{AllByRecursion}
 use Rattle.wot_policy.specs.declared.rows.PolicyRows.{PolicyRows}
 use Rattle.wot_cert.specs.Certificate.{Certificate, unite}
 use Rattle.wot_cert.specs.Counts.{items_of}
 use Rattle.wot_cert.specs.Judged.{judged, sound_of}
 use Rattle.wot_cert.specs.Whole.{IsCertificate}
-use Rattle.wot_keyring.specs.declared.import.Imported.{Imported}
-use Rattle.wot_keyring.specs.declared.refusal.Refusal.{Refusal}
 use Rattle.wot_keyring.specs.declared.staging.Fault.{Fault}
 use Rattle.wot_keyring.specs.declared.staging.Fault.TheVariants.{Clash, Memory}
 use Rattle.wot_keyring.specs.declared.tally.Weight.{Weight}
-use Rattle.wot_keyring.specs.Import.{with_certs, holding, any_clash, IsOneChange}
-use Rattle.wot_keyring.specs.Importing.{alone, MayUnite, AnswersUnited, asked_for}
+use Rattle.wot_keyring.specs.Import.{with_certs, holding, IsOneChange}
+use Rattle.wot_keyring.specs.Importing.{MayUnite, AnswersUnited, asked_for}
 use Rattle.wot_keyring.specs.Keyring.{Entries, Keyring, certificates_in}
 use Rattle.wot_keyring.specs.Kept.{AreInOrder, IsKeyring, AreTotals}
 use Rattle.wot_keyring.specs.Staging.{kept_all, clash_in, weigh_kept, IsTally, AskedUpTo, IsClashTold}

@@ -1,10 +1,7 @@
 -- What an import that nothing refuses leaves.
-use Rattle.std.proofs.Common.{◌≡◌, ◌≤◌, ◌<◌, ◌+◌, ◌-◌, ◌⊎◌, inl, inr, ℕ, Bool, true, false, not, ◌||◌, cond, if◌then◌else◌, nat_eq, nat_lt, List, [], ◌∷◌, length, map, Option, Some, None, Result, Ok, Err, sym, ap, ◌∙◌, subst, refl, arith}
-use Rattle.std.specs.Cmp.Lexicographic.{pointwise}
+use Rattle.std.proofs.Common.{◌≡◌, ◌≤◌, ◌+◌, ◌-◌, inl, inr, ℕ, Bool, true, false, ◌||◌, if◌then◌else◌, nat_lt, List, [], ◌∷◌, length, Option, Some, None, Ok, Err, sym, ap, ◌∙◌, subst, refl, arith}
 use Rattle.std.specs.List.{AllByRecursion}
-use Rattle.std.specs.Map.{lookup}
 use Rattle.std.proofs.lemmas.Bool.Decides.{nat_tests}
-use Rattle.wot_types.specs.declared.fpr.Fpr.{Fpr}
 use Rattle.wot_key.specs.Key.{fpr_of}
 use Rattle.wot_policy.specs.declared.rows.PolicyRows.{PolicyRows}
 use Rattle.wot_types.specs.declared.limits.Limit.{Limit}
@@ -15,14 +12,13 @@ use Rattle.wot_cert.specs.Text.{size_of}
 use Rattle.wot_cert.specs.Whole.{IsCertificate}
 use Rattle.wot_keyring.specs.declared.import.Imported.{Imported}
 use Rattle.wot_keyring.specs.declared.kept.Kept.{Kept}
-use Rattle.wot_keyring.specs.declared.refusal.Refusal.{Refusal}
 use Rattle.wot_keyring.specs.declared.refusal.Refusal.TheVariants.{Clash}
 use Rattle.wot_keyring.specs.declared.tally.Weight.{Weight}
-use Rattle.wot_keyring.specs.Import.{weigh, with_certs, stamped, fresh_in, holding, answer_united, unless_full, any_clash, first_full, IsOneChange}
-use Rattle.wot_keyring.specs.Importing.{alone, MayUnite}
-use Rattle.wot_keyring.specs.Keyring.{Entries, Keyring, Certificates, certificates_in, stripped, is_fpr}
+use Rattle.wot_keyring.specs.Import.{weigh, with_certs, fresh_in, holding, answer_united, unless_full, first_full, IsOneChange}
+use Rattle.wot_keyring.specs.Importing.{MayUnite}
+use Rattle.wot_keyring.specs.Keyring.{Entries, Keyring, certificates_in, stripped}
 use Rattle.wot_keyring.specs.Kept.{AreNamed, AreWhole, AreInOrder, AreSized, AreStamped, IsKeyring, AreTotals}
-use Rattle.wot_keyring.specs.Staging.{found_for, kept_as, kept_with, kept_all, clash_at, clash_in, weigh_kept, long_of, IsTally, full_by}
+use Rattle.wot_keyring.specs.Staging.{found_for, kept_as, kept_with, kept_all, clash_at, clash_in, weigh_kept, long_of, IsTally}
 use Rattle.wot_keyring.proofs.Clashes.{keys_same}
 use Rattle.wot_keyring.proofs.Inserts.{put_at, found_at}
 use Rattle.wot_keyring.proofs.Marks.{stamped_all, stamped_after}

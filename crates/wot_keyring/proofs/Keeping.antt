@@ -1,5 +1,5 @@
 -- Each change keeps what is true of every keyring.
-use Rattle.std.proofs.Common.{◌≡◌, ℕ, ◌+◌, ◌-◌, min, nat_le, ◌<◌, ◌⊎◌, inl, inr, is_none, ◌&&◌, ◌≤◌, ◌^◌, Bool, true, false, cond, List, [], ◌∷◌, length, map, Option, Some, None, refl, sym, ap, ◌∙◌, subst, arith}
+use Rattle.std.proofs.Common.{◌≡◌, ℕ, ◌+◌, ◌-◌, min, nat_le, ◌<◌, ◌⊎◌, inl, inr, is_none, ◌&&◌, ◌≤◌, ◌^◌, Bool, true, false, cond, List, [], ◌∷◌, length, Option, Some, None, refl, sym, ap, ◌∙◌, subst, arith}
 use Rattle.std.specs.List.{AllByRecursion}
 use Rattle.std.specs.Map.{lookup, remove_entry}
 use Rattle.std.specs.List.Sorted.{IsStrictlySortedBy}
@@ -22,7 +22,7 @@ use Rattle.wot_cert.specs.Text.{size_of}
 use Rattle.wot_cert.specs.Whole.{IsCertificate}
 use Rattle.wot_keyring.specs.declared.kept.Kept.{Kept}
 use Rattle.wot_keyring.specs.Import.{weigh}
-use Rattle.wot_keyring.specs.Keyring.{Entries, Keyring, Certificates, certificates_in, is_fpr, stripped}
+use Rattle.wot_keyring.specs.Keyring.{Entries, Keyring, Certificates, is_fpr, stripped}
 use Rattle.wot_keyring.specs.Kept.{AreInOrder, IsKeyring, AreTotals}
 use Rattle.wot_keyring.specs.Removal.{without_cert}
 use Rattle.wot_keyring.specs.Verdict.{restamped, restamped_all, counted_at, is_over}

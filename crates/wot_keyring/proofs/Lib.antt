@@ -21,3 +21,6 @@ pub mod Reading
 pub mod Trying
 pub mod Accepting
 pub mod Accepted
+pub mod Indexed
+pub mod Numbers
+pub mod Noted

@@ -11,11 +11,10 @@ use Rattle.wot_cert.specs.Counts.{items_of}
 use Rattle.wot_cert.specs.Judged.{judged}
 use Rattle.wot_keyring.specs.declared.kept.Kept.{Kept}
 use Rattle.wot_keyring.specs.Import.{stamp_for, stamped, with_certs}
-use Rattle.wot_keyring.specs.Keyring.{Entries, Keyring, Certificates, is_fpr, kept_at, certificates_in, stripped}
-use Rattle.wot_keyring.specs.Kept.{AreInOrder, IsStamped, AreStamped}
-use Rattle.wot_keyring.specs.Staging.{found_for, found_by, joined, kept_as, kept_with, kept_all}
+use Rattle.wot_keyring.specs.Keyring.{Entries, Keyring, is_fpr, kept_at, certificates_in, stripped}
+use Rattle.wot_keyring.specs.Kept.{AreInOrder, AreStamped}
+use Rattle.wot_keyring.specs.Staging.{found_for, found_by, kept_as, kept_with, kept_all}
 use Rattle.wot_keyring.proofs.Inserts.{put_at, found_at, found_each, still_present}
-use Rattle.wot_keyring.proofs.Stamps.{still_stamped, found_stamped}
 use Rattle.wot_keyring.proofs.Transport.{certs_all}
 use Rattle.wot_keyring.proofs.Unchanged.{not_below}
 

@@ -1,6 +1,5 @@
 -- The steps of an import, one after the other.
-use Rattle.std.proofs.Common.{◌≡◌, ◌≤◌, ◌<◌, ◌+◌, ◌-◌, ◌^◌, max, min, ◌⊎◌, inl, inr, ℕ, Bool, true, false, ◌||◌, cond, List, [], ◌∷◌, Option, Some, None, sym, ap, ◌∙◌, subst, refl, arith}
-use Rattle.std.specs.declared.cmp.Ordering.{Ordering}
+use Rattle.std.proofs.Common.{◌≡◌, ◌≤◌, ◌+◌, ◌-◌, ◌^◌, max, min, ◌⊎◌, inl, inr, ℕ, false, ◌||◌, List, [], ◌∷◌, Option, Some, None, sym, ap, ◌∙◌, subst, refl, arith}
 use Rattle.std.specs.declared.cmp.Ordering.TheVariants.{Less, Equal, Greater}
 use Rattle.std.specs.Ordering.{match_ordering, ordering_reverse}
 use Rattle.std.specs.List.{AllByRecursion}
@@ -20,7 +19,6 @@ use Rattle.wot_keyring.specs.declared.kept.Kept.{Kept}
 use Rattle.wot_keyring.specs.declared.staging.Was.{Was}
 use Rattle.wot_keyring.specs.declared.staging.Fault.{Fault}
 use Rattle.wot_keyring.specs.declared.staging.Fault.TheVariants.{Clash, Memory}
-use Rattle.wot_keyring.specs.declared.tally.Weight.{Weight}
 use Rattle.wot_keyring.specs.declared.tally.Tally.{Tally}
 use Rattle.wot_keyring.specs.Keyring.{Entries}
 use Rattle.wot_keyring.specs.Kept.{AreInOrder, AreJudged}

@@ -1,6 +1,5 @@
 -- One step of an import: a certificate united with what is kept under its fingerprint.
-use Rattle.std.proofs.Common.{◌≡◌, ◌≤◌, ◌+◌, ℕ, Bool, true, false, cond, List, [], ◌∷◌, Option, Some, None, sym, ap, ◌∙◌, subst, refl, arith}
-use Rattle.std.specs.declared.cmp.Ordering.{Ordering}
+use Rattle.std.proofs.Common.{◌≡◌, ◌≤◌, ◌+◌, ℕ, Bool, true, false, cond, [], ◌∷◌, Option, Some, None, sym, ap, ◌∙◌, subst, refl, arith}
 use Rattle.std.specs.declared.cmp.Ordering.TheVariants.{Less, Equal, Greater}
 use Rattle.std.specs.Ordering.{match_ordering}
 use Rattle.std.specs.List.{AllByRecursion}
@@ -19,7 +18,7 @@ use Rattle.wot_keyring.specs.declared.staging.Step.{Step}
 use Rattle.wot_keyring.specs.declared.tally.Weight.{Weight}
 use Rattle.wot_keyring.specs.Keyring.{Entries, is_fpr}
 use Rattle.wot_keyring.specs.Kept.{AreInOrder, AreJudged}
-use Rattle.wot_keyring.specs.Staging.{found_for, found_by, kept_with, long_of, Weighs, WeighsFound, weigh_kept, IsTally, CanMove, Moves, IsFoundJudged, IsStep}
+use Rattle.wot_keyring.specs.Staging.{found_for, found_by, kept_with, long_of, WeighsFound, weigh_kept, IsTally, CanMove, Moves, IsFoundJudged, IsStep}
 use Rattle.wot_keyring.proofs.Places.{fprs_total}
 use Rattle.wot_keyring.proofs.Weighing.{found_weight, insert_weighs}
 

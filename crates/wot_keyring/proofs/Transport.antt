@@ -2,7 +2,6 @@
 use Rattle.std.proofs.Common.{◌≡◌, List, [], ◌∷◌, map, length, Option, Some, None, sym, ap, ◌∙◌, refl, ℕ, ◌+◌, arith}
 use Rattle.std.specs.Option.{option_map}
 use Rattle.std.specs.BTreeMap.{insert_entry}
-use Rattle.std.specs.Map.{lookup}
 use Rattle.std.proofs.lemmas.Map.Made.{lookup-map_values}
 use Rattle.wot_types.specs.declared.fpr.Fpr.{Fpr}
 use Rattle.wot_types.specs.Fpr.{fpr_cmp}

@@ -1,7 +1,6 @@
 -- What a trial by any rows says of the union.
-use Rattle.std.proofs.Common.{◌≡◌, ℕ, Bool, nat_lt, cond, if◌then◌else◌, List, length, Option, Result, Ok, Err, sym, ap, ◌∙◌, subst, refl}
+use Rattle.std.proofs.Common.{◌≡◌, ℕ, nat_lt, if◌then◌else◌, List, length, sym, ap, ◌∙◌, refl}
 use Rattle.wot_types.specs.declared.limits.Limits.{Limits}
-use Rattle.wot_types.specs.declared.limits.Limit.{Limit}
 use Rattle.wot_policy.specs.declared.rows.PolicyRows.{PolicyRows}
 use Rattle.wot_cert.specs.Certificate.{Certificate, unite, unmarked}
 use Rattle.wot_cert.specs.Counts.{signatures_of}
@@ -9,7 +8,7 @@ use Rattle.wot_cert.specs.Judged.{judged}
 use Rattle.wot_cert.specs.Text.{size_of, text_of}
 use Rattle.wot_keyring.specs.declared.tally.Weight.{Weight}
 use Rattle.wot_keyring.specs.Import.{weigh, with_certs, first_full}
-use Rattle.wot_keyring.specs.Keyring.{Entries, Certificates, stripped}
+use Rattle.wot_keyring.specs.Keyring.{Entries, stripped}
 use Rattle.wot_keyring.specs.Staging.{kept_all, long_of, weigh_kept, IsTally, full_by}
 use Rattle.wot_keyring.proofs.Transport.{seen_by, judged_all, certs_all, seen_weighs, seen_length}
 use Rattle.wot_keyring.proofs.Within.{full_is}

@@ -1,7 +1,6 @@
 -- Where nothing was added, nothing changed.
-use Rattle.std.proofs.Common.{◌≡◌, ◌≤◌, ◌+◌, ℕ, Bool, true, false, cond, nat_lt, List, [], ◌∷◌, Option, Some, None, sym, ap, ◌∙◌, subst, refl, arith}
+use Rattle.std.proofs.Common.{◌≡◌, ◌≤◌, ◌+◌, ℕ, false, cond, nat_lt, List, [], ◌∷◌, Option, Some, None, sym, ap, ◌∙◌, refl, arith}
 use Rattle.std.specs.BTreeMap.{insert_entry}
-use Rattle.std.specs.Map.{lookup}
 use Rattle.std.proofs.lemmas.Bool.Decides.{nat_tests}
 use Rattle.wot_types.specs.Fpr.{fpr_cmp}
 use Rattle.wot_key.specs.Key.{fpr_of}

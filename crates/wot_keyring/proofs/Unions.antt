@@ -1,5 +1,5 @@
 -- What the steps of an import need to know of unions.
-use Rattle.std.proofs.Common.{◌≡◌, ◌<◌, ◌≤◌, ◌+◌, ◌^◌, ℕ, zero, suc, Bool, true, false, cond, if◌then◌else◌, nat_eq, nat_lt, Option, Some, None, length, sym, ap, ◌∙◌, subst, refl, arith}
+use Rattle.std.proofs.Common.{◌≡◌, ◌<◌, ◌≤◌, ◌+◌, ◌^◌, ℕ, zero, suc, true, false, cond, if◌then◌else◌, nat_eq, nat_lt, Option, Some, None, length, sym, ap, ◌∙◌, subst, refl, arith}
 use Rattle.std.specs.Option.{option_map}
 use Rattle.std.proofs.lemmas.Bool.Decides.{nat_tests}
 use Rattle.wot_policy.specs.declared.rows.PolicyRows.{PolicyRows}
@@ -12,7 +12,7 @@ use Rattle.wot_cert.specs.Whole.{IsCertificate}
 use Rattle.wot_keyring.specs.declared.kept.Kept.{Kept}
 use Rattle.wot_keyring.specs.declared.tally.Weight.{Weight}
 use Rattle.wot_keyring.specs.Import.{stamp_for}
-use Rattle.wot_keyring.specs.Staging.{begun, stamp_over, Weighs, WeighsFound, IsStep}
+use Rattle.wot_keyring.specs.Staging.{begun, stamp_over, Weighs, IsStep}
 
 below : (n a b j m : ℕ) → n ≡ m → m ≤ a + j → j ≡ b → a + b < 2 ^ 63 → n < 2 ^ 63
 below n a b j m e h f few = omega arith

@@ -1,20 +1,16 @@
 -- Limits, by the totals.
-use Rattle.std.proofs.Common.{◌≡◌, ◌≤◌, ◌<◌, ◌+◌, ℕ, Bool, true, false, ◌||◌, cond, if◌then◌else◌, nat_lt, List, [], ◌∷◌, length, Option, Some, None, sym, ap, ◌∙◌, subst, refl, arith}
-use Rattle.std.specs.List.{AllByRecursion, list_any}
+use Rattle.std.proofs.Common.{◌≡◌, ◌≤◌, ◌+◌, ℕ, Bool, true, false, ◌||◌, if◌then◌else◌, nat_lt, [], ◌∷◌, length, Option, Some, None, sym, ap, ◌∙◌, refl, arith}
 use Rattle.std.proofs.lemmas.Bool.Decides.{nat_tests}
-use Rattle.wot_types.specs.declared.fpr.Fpr.{Fpr}
 use Rattle.wot_types.specs.declared.limits.Limits.{Limits}
 use Rattle.wot_types.specs.declared.limits.Limit.{Limit}
 use Rattle.wot_types.specs.declared.limits.Limit.TheVariants as limits
-use Rattle.wot_cert.specs.Certificate.{Certificate}
 use Rattle.wot_cert.specs.Counts.{signatures_of}
 use Rattle.wot_cert.specs.Text.{size_of}
-use Rattle.wot_keyring.specs.declared.kept.Kept.{Kept}
 use Rattle.wot_keyring.specs.declared.tally.Weight.{Weight}
 use Rattle.wot_keyring.specs.Import.{weigh, has_greater, first_full}
 use Rattle.wot_keyring.specs.Keyring.{Entries, Certificates}
 use Rattle.wot_keyring.specs.Kept.{AreSized}
-use Rattle.wot_keyring.specs.Staging.{long_of, weigh_kept, IsTally, full_by}
+use Rattle.wot_keyring.specs.Staging.{long_of, weigh_kept, full_by}
 
 above_zero : (n : ℕ) → nat_lt 0 (1 + n) ≡ true
 above_zero n = grind (arith, nat_tests)

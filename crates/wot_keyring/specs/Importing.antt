@@ -10,7 +10,7 @@ use Rattle.wot_cert.specs.Judged.{sound_of}
 use Rattle.wot_cert.specs.Whole.{IsCertificate}
 use Rattle.wot_keyring.specs.declared.import.Imported.{Imported}
 use Rattle.wot_keyring.specs.declared.refusal.Refusal.{Refusal}
-use Rattle.wot_keyring.specs.declared.refusal.Refusal.TheVariants.{Packet, Cert, Misfiled, Clash, Full, Memory}
+use Rattle.wot_keyring.specs.declared.refusal.Refusal.TheVariants.{Memory}
 use Rattle.wot_keyring.specs.Keyring.{Certificates, Keyring, certificates_in}
 use Rattle.wot_keyring.specs.Import.{weigh, with_certs, any_clash, first_full, spelled_in, answer_united, answer_to}
 

@@ -6,3 +6,4 @@ pub mod Kept
 pub mod Dump
 pub mod Staging
 pub mod Importing
+pub mod Index

@@ -14,7 +14,7 @@ use Rattle.wot_policy.specs.declared.rows.PolicyRows.{PolicyRows}
 use Rattle.wot_cert.specs.Assembly.{bare}
 use Rattle.wot_cert.specs.Certificate.{Certificate}
 use Rattle.wot_cert.specs.Counts.{sum_of, items_of, signatures_of}
-use Rattle.wot_cert.specs.Judged.{IsJudged, judged, sound_of}
+use Rattle.wot_cert.specs.Judged.{IsJudged, judged}
 use Rattle.wot_cert.specs.Text.{size_of}
 use Rattle.wot_keyring.specs.declared.kept.Kept.{Kept}
 use Rattle.wot_keyring.specs.declared.staging.Was.{Was}

@@ -5,11 +5,14 @@ ghost use Rattle.wot_cert.specs.Counts.{items_of};
 ghost use Rattle.wot_cert.specs.Judged.{sound_of};
 ghost use Rattle.wot_keyring.specs.Import.{any_clash, first_full, with_certs};
 ghost use Rattle.wot_keyring.specs.Importing.{alone, TellsRead};
+ghost use Rattle.wot_keyring.specs.Index.{stands_among, Notes, NotesNothing};
 ghost use Rattle.wot_keyring.specs.Kept.{AreInOrder, AreJudged, AreNamed};
 ghost use Rattle.wot_keyring.specs.Keyring.{stripped};
 ghost use Rattle.wot_keyring.specs.Staging.{kept_all, clash_in, full_by, weigh_kept, AskedInAll, IsTally, TellsClash};
 
+use crate::index::Index;
 use crate::kept::Kept;
+use crate::noting::note_all;
 use crate::refusal::Refusal;
 use crate::staging::{Fault, Terms, put_all, take_back};
 use crate::tally::{Tally, Weight};
@@ -19,7 +22,7 @@ use wot_cert::laws::{assembled, judging, marks_weigh_nothing};
 use wot_cert::{Assembled, Cert, CertFault, assemble};
 use wot_packet::{ReadFault, read_packets};
 use wot_policy::{Ask, Policy, PolicyRows, Row, admits};
-use wot_types::{Fpr, Limit, Limits};
+use wot_types::{Fpr, Limit, Limits, Memory};
 
 /// The certificates that these octets spell, none of them judged, or why they spell none.
 pub(crate) fn read_certs(alloc: Global, bytes: &[u8]) -> Result<Assembled, Refusal>
@@ -106,10 +109,11 @@ pub(crate) fn try_all(
     }
 }
 
-/// Unites all with the kept ones, by a policy, or leaves them as they are.
+/// Unites all with the kept ones, by a policy, and notes where their signatures stand, or leaves all as it is.
 pub(crate) fn unite_all<F: Fn(Ask) -> bool>(
     alloc: Global,
     certs: &mut BTreeMap<Fpr, Kept, Global>,
+    index: &mut Index,
     total: Weight,
     list: &[Cert],
     terms: &Terms,
@@ -127,11 +131,19 @@ pub(crate) fn unite_all<F: Fn(Ask) -> bool>(
     ensures asked { (k : ℕ) × (policy.new ≡ asked_more k policy.old) × AskedInAll result (weigh_kept sound_of certs.old.entries) (weigh_kept sound_of (kept_all (rows_of policy.old) terms.now.stamp certs.old.entries list.now)) k }
     ensures judged { OnOk result (AreJudged (rows_of policy.old) certs.old.entries → AreJudged (rows_of policy.old) certs.new.entries) }
     ensures faithful { IsFaithful F.Fn policy.new }
+    ensures noted { OnOk result (Notes index.old index.new (stands_among list.now)) }
+    ensures not_noted { OnErr result (NotesNothing index.old index.new) }
 {
     let mut log = Vec::new(alloc);
     let mut tally = Tally { total, fresh: 0 };
     match put_all(alloc, certs, &mut log, &mut tally, list, terms, policy) {
-        Ok(()) => Ok(tally),
+        Ok(()) => match note_all(alloc, index, list) {
+            Ok(()) => Ok(tally),
+            Err(Memory) => {
+                take_back(certs, log);
+                Err(Fault::Memory)
+            }
+        },
         Err(fault) => {
             take_back(certs, log);
             Err(fault)

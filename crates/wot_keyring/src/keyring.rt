@@ -22,9 +22,11 @@ ghost use Rattle.wot_verdict.specs.Verdicts.{InOrder};
 
 use crate::certs::CertsIter;
 use crate::dump::{put_certs, put_verdicts, replayed};
+use crate::forgetting::forget_cert;
 use crate::importing::{read_certs, try_all, unite_all};
+use crate::index::Index;
 use crate::kept::Kept;
-use crate::restamp::restamp;
+use crate::restamp::restamp_noted;
 use crate::staging::{Fault, Terms};
 use crate::tally::Weight;
 use crate::{Absent, ExportFault, Imported, Refusal};
@@ -49,10 +51,13 @@ pub struct Keyring {
     octets: u64,
     /// How many signatures stand on the certificates.
     signatures: u64,
+    /// On which certificate each signature stands.
+    index: Index,
 }
 
 impl Model for Keyring {
     ghost use Rattle.wot_keyring.specs.Keyring.{Keyring};
+    ghost use Rattle.wot_keyring.specs.Index.{IsIndexOf};
     ghost use Rattle.wot_keyring.specs.Kept.{IsKeyring, AreTotals};
 
     ghost Value = { Keyring };
@@ -60,7 +65,7 @@ impl Model for Keyring {
     ghost view = { λ a. record { limits = a.limits; certs = a.certs.entries; verdicts = a.verdicts; changes = a.changes } };
 
     ghost invariant = { λ a. let k : Keyring = record { limits = a.limits; certs = a.certs.entries; verdicts = a.verdicts; changes = a.changes } in
-        IsKeyring k × AreTotals k a.octets a.signatures };
+        IsKeyring k × AreTotals k a.octets a.signatures × IsIndexOf a.index k.certs };
 }
 
 impl Keyring {
@@ -76,6 +81,7 @@ impl Keyring {
             changes: 0,
             octets: 0,
             signatures: 0,
+            index: Index::new(alloc),
         }
     }
 
@@ -153,6 +159,7 @@ impl Keyring {
         };
         let octets = kept.cert.size();
         let signatures = kept.cert.signatures();
+        forget_cert(&mut self.index.places, &kept.cert);
         take_out(&mut self.certs, fpr);
         self.octets -= octets;
         self.signatures -= signatures;
@@ -290,7 +297,15 @@ impl Keyring {
         let list = read.certs.as_slice();
         let terms = self.terms();
         let total = self.total();
-        match unite_all(alloc, &mut self.certs, total, list, &terms, policy) {
+        match unite_all(
+            alloc,
+            &mut self.certs,
+            &mut self.index,
+            total,
+            list,
+            &terms,
+            policy,
+        ) {
             Ok(tally) => {
                 self.octets = tally.total.octets;
                 self.signatures = tally.total.signatures;
@@ -376,7 +391,7 @@ impl Keyring {
         ensures judged { StaysJudged self.old self.new }
     {
         self.changes += 1;
-        restamp(&mut self.certs, number, self.changes);
+        restamp_noted(&mut self.certs, &self.index, number, self.changes);
     }
 }
 

@@ -3,10 +3,13 @@
 
 mod certs;
 mod dump;
+mod forgetting;
 mod import;
 mod importing;
+mod index;
 mod kept;
 mod keyring;
+mod noting;
 mod refusal;
 mod restamp;
 mod staging;

@@ -1,7 +1,13 @@
 ghost use Rattle.std.specs.Prelude.{◌≡◌};
+ghost use Rattle.std.specs.Map.{lookup, set_value};
+ghost use Rattle.std.specs.Option.{MatchOption};
 ghost use Rattle.wot_cert.specs.Counts.{sigs_on};
+ghost use Rattle.wot_keyring.specs.Index.{IsIndexOf};
+ghost use Rattle.wot_keyring.specs.Keyring.{is_fpr};
+ghost use Rattle.wot_keyring.specs.Kept.{AreInOrder};
 ghost use Rattle.wot_keyring.specs.Verdict.{is_among, has_number, restamped, restamped_all};
 
+use crate::index::Index;
 use crate::kept::Kept;
 use std::alloc::Global;
 use std::cmp::Ordering;
@@ -67,4 +73,36 @@ pub fn restamp(certs: &mut BTreeMap<Fpr, Kept, Global>, number: &SigNumber, stam
         restamp_one(kept, number, stamp);
         true
     });
+}
+
+/// Gives what is kept under a fingerprint a new stamp.
+fn restamp_at(certs: &mut BTreeMap<Fpr, Kept, Global>, fpr: &Fpr, stamp: u64)
+    ensures restamped { MatchOption (lookup (is_fpr fpr.now) certs.old.entries) (certs.new.entries ≡ certs.old.entries) (λ kept. certs.new.entries ≡ set_value (is_fpr fpr.now) certs.old.entries (record kept { stamp = stamp })) }
+{
+    match certs.get_mut(fpr) {
+        Some(kept) => {
+            kept.stamp = stamp;
+        }
+        None => {}
+    }
+}
+
+/// Does what `restamp` does, by the index: no other certificate is looked at.
+pub(crate) fn restamp_noted(
+    certs: &mut BTreeMap<Fpr, Kept, Global>,
+    index: &Index,
+    number: &SigNumber,
+    stamp: u64,
+)
+    requires in_order { AreInOrder certs.old.entries }
+    requires indexed { IsIndexOf index.now certs.old.entries }
+    ensures restamped { certs.new.entries ≡ restamped_all number.now stamp certs.old.entries }
+{
+    if !index.exact {
+        return restamp(certs, number, stamp);
+    }
+    match index.places.get(number) {
+        Some(fpr) => restamp_at(certs, fpr, stamp),
+        None => {}
+    }
 }

@@ -268,3 +268,96 @@ fn a_verdict_raises_the_stamp(rt: HostRuntime) -> Result<(), Fail> {
     assert_eq!(rt; (keyring.stamp(&R), keyring.changes()), (3, 3));
     Ok(())
 }
+
+/// The number of the direct key signature of the first key, by SHA-256 of its five fields.
+const NUMBER: SigNumber = SigNumber([
+    104, 208, 235, 95, 140, 161, 57, 20, 252, 221, 241, 178, 62, 95, 96, 139, 249, 132, 118, 3,
+    131, 77, 162, 132, 240, 26, 112, 114, 8, 5, 18, 9,
+]);
+
+/// What a keyring is told of the first key and its direct key signature.
+#[derive(Clone, Copy)]
+enum Told {
+    Import(&'static [u8]),
+    Set(Verdict),
+    Clear,
+    Remove,
+}
+
+/// Tells it a keyring that changed seldom. Whether it was done.
+fn tell<F: Fn(Ask) -> bool>(
+    alloc: Global,
+    keyring: &mut Keyring,
+    told: Told,
+    policy: &mut Policy<F>,
+) -> bool
+    requires judged { IsJudgedBy (rows_of policy.old) keyring.old }
+    requires faithful { IsFaithful F.Fn policy.old }
+    ensures judged { IsJudgedBy (rows_of policy.new) keyring.new }
+    ensures faithful { IsFaithful F.Fn policy.new }
+{
+    if keyring.changes() >= 1000 {
+        return false;
+    }
+    match told {
+        Told::Import(octets) => import(alloc, keyring, octets, policy).is_ok(),
+        Told::Set(verdict) => keyring.set_verdict(NUMBER, verdict).is_ok(),
+        Told::Clear => keyring.clear_verdict(&NUMBER).is_ok(),
+        Told::Remove => keyring.remove(&R).is_ok(),
+    }
+}
+
+/// Whether it was done, how many changes are counted, and the stamps of two keys.
+type State = (bool, u64, u64, u64);
+
+/// The first state that isn't the expected one.
+fn first_other<F: Fn(Ask) -> bool>(
+    alloc: Global,
+    keyring: &mut Keyring,
+    rows: &[(Told, State)],
+    policy: &mut Policy<F>,
+) -> Option<State>
+    requires judged { IsJudgedBy (rows_of policy.old) keyring.old }
+    requires faithful { IsFaithful F.Fn policy.old }
+{
+    for row in rows {
+        let done = tell(alloc, keyring, row.0, policy);
+        let state = (
+            done,
+            keyring.changes(),
+            keyring.stamp(&R),
+            keyring.stamp(&A),
+        );
+        if state != row.1 {
+            return Some(state);
+        }
+    }
+    None
+}
+
+/// A verdict raises the stamp of the certificate on which its signature stands at that time, and of no other.
+const VERDICTS: [(Told, State); 13] = [
+    (Told::Set(Verdict::Good(R)), (true, 1, 0, 0)),
+    (Told::Import(WITH_DIRECT), (true, 2, 2, 0)),
+    (Told::Import(SECOND_KEY), (true, 3, 2, 3)),
+    (Told::Set(Verdict::Bad), (true, 4, 4, 3)),
+    (Told::Remove, (true, 5, 0, 3)),
+    (Told::Set(Verdict::Good(A)), (true, 6, 0, 3)),
+    (Told::Import(FIRST_KEY), (true, 7, 7, 3)),
+    (Told::Clear, (true, 8, 7, 3)),
+    (Told::Clear, (false, 8, 7, 3)),
+    (Told::Import(WITH_DIRECT), (true, 9, 9, 3)),
+    (Told::Set(Verdict::Bad), (true, 10, 10, 3)),
+    (Told::Import(WITH_DIRECT), (true, 10, 10, 3)),
+    (Told::Clear, (true, 11, 11, 3)),
+];
+
+#[test]
+fn a_verdict_finds_its_certificate(rt: HostRuntime) -> Result<(), Fail> {
+    let rows = standard_rows();
+    let mut policy = Policy::new(rows, |ask| admits(&rows, ask));
+    let mut keyring = Keyring::new(rt.alloc(), Limits::standard());
+    let other = first_other(rt.alloc(), &mut keyring, VERDICTS.as_slice(), &mut policy);
+    assert_eq!(rt; other, None);
+    Ok(())
+}

@@ -1,4 +1,4 @@
-use Rattle.std.proofs.Common.{Option, Some, ◌∙◌, sym, subst}
+use Rattle.std.proofs.Common.{Option, Some, ◌∙◌, subst}
 use Rattle.wot_keyring.specs.declared.kept.Kept.{Kept}
 use Rattle.wot_keyring.specs.Staging.{LeadsBack}
 use Rattle.wot_keyring.proofs.staging.put_back.Goals as goal

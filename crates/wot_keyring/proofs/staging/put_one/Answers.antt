@@ -1,4 +1,4 @@
-use Rattle.std.proofs.Common.{◌≡◌, ap, ◌∙◌, inr, refl}
+use Rattle.std.proofs.Common.{ap, ◌∙◌, inr, refl}
 use Rattle.std.specs.BTreeMap.{insert_entry}
 use Rattle.wot_types.specs.declared.fpr.Fpr.{Fpr}
 use Rattle.wot_types.specs.Fpr.{fpr_cmp}

@@ -11,4 +11,5 @@ pub invariant_of-self : goal.invariant_of-self
 invariant_of-self c = rw c.clear.ensures.cleared (
   judged_keyring (record { limits = c.self.inside.limits; certs = c.self.inside.certs.entries; verdicts = c.self.inside.verdicts; changes = c.self.inside.changes }) _ c.self.invariant.0 (cleared_few c.self.inside.limits c.self.inside.verdicts c.args.number.now c.self.invariant.0.within.verdicts),
   record { octets = c.self.invariant.1.octets; signatures = c.self.invariant.1.signatures },
+  c.self.invariant.2,
 )

@@ -16,4 +16,5 @@ invariant_of-self c =
     rw c.in-Ok.ensures.set (
       judged_keyring (record { limits = c.self.inside.limits; certs = c.self.inside.certs.entries; verdicts = c.self.inside.verdicts; changes = c.self.inside.changes }) _ c.self.invariant.0 (set_few c.self.inside.limits c.self.inside.verdicts c.args.number c.args.verdict sorted passes c.self.invariant.0.within.verdicts),
       record { octets = c.self.invariant.1.octets; signatures = c.self.invariant.1.signatures },
+      c.self.invariant.2,
     )

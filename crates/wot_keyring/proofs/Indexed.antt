@@ -1,0 +1,205 @@
+-- The index, number by number: what is noted, what is logged, and what is taken out again.
+use Rattle.std.proofs.Common.{◌≡◌, Bool, true, false, ◌&&◌, ◌||◌, cond, List, [], ◌∷◌, ◌++◌, Option, Some, None, Result, Ok, Err, OnOk, sym, ap, ◌∙◌, subst, refl}
+use Rattle.std.specs.Cmp.{IsTotalOrder}
+use Rattle.std.specs.Ordering.{is_eq}
+use Rattle.std.proofs.lemmas.Cmp.{nat_list_cmp_total, on_total, tied_itself}
+use Rattle.std.proofs.lemmas.List.Folds.{list_any-append}
+use Rattle.std.proofs.lemmas.Map.Lookups.{CmpEqualImpliesEq, exact_bytes}
+use Rattle.std.proofs.lemmas.Map.Views.{tells_apart}
+use Rattle.wot_types.specs.declared.fpr.Fpr.{Fpr}
+use Rattle.wot_types.specs.declared.number.SigNumber.{SigNumber}
+use Rattle.wot_types.specs.SigNumber.{number_cmp}
+use Rattle.wot_key.specs.Key.{fpr_of}
+use Rattle.wot_verdict.specs.Verdicts.{is_number}
+use Rattle.wot_cert.specs.Certificate.{Signature, Component, Certificate}
+use Rattle.wot_cert.specs.Counts.{sigs_on}
+use Rattle.wot_keyring.specs.declared.index.Index.{Index}
+use Rattle.wot_keyring.specs.Keyring.{is_fpr}
+use Rattle.wot_keyring.specs.Index.{Places, place_of, is_place, is_noted, unless, is_logged, place_without, Notes, NotesOn, StillLogged}
+use Rattle.wot_keyring.specs.Verdict.{is_among, has_number}
+
+-- ---- numbers
+
+numbers_total : IsTotalOrder number_cmp
+numbers_total = on_total (λ (n : SigNumber). n.0) nat_list_cmp_total
+
+exact : CmpEqualImpliesEq number_cmp
+exact a b e = let octets = exact_bytes a.0 b.0 e in λ i. record { 0 = octets i }
+
+pub same_number : (a b : SigNumber) → is_number a b ≡ true → a ≡ b
+same_number a b h = tells_apart exact a b h
+
+pub itself : (a : SigNumber) → is_number a a ≡ true
+itself a = ap is_eq (tied_itself numbers_total a)
+
+-- ---- tests
+
+or_false : (a : Bool) → a || false ≡ a
+or_false true = refl
+or_false false = refl
+
+or_true : (a b : Bool) → b ≡ true → a || b ≡ true
+or_true true b h = refl
+or_true false b h = h
+
+or_itself : (a : Bool) → a || a ≡ a
+or_itself true = refl
+or_itself false = refl
+
+or_more : (a b c : Bool) → (a || b) || c ≡ a || (b || c)
+or_more true b c = refl
+or_more false b c = refl
+
+pub and_each : (a b f : Bool) → (a || b) && f ≡ (a && f) || (b && f)
+and_each true b true = refl
+and_each true true false = refl
+and_each true false false = refl
+and_each false b f = refl
+
+either_way : (a b : Bool) → (a ≡ true → b ≡ true) → (b ≡ true → a ≡ true) → a ≡ b
+either_way true b f g = sym (f refl)
+either_way false true f g = g refl
+either_way false false f g = refl
+
+pub turned : (a b : SigNumber) → is_number a b ≡ is_number b a
+turned a b = either_way (is_number a b) (is_number b a) (λ h. subst (λ (x : SigNumber). is_number x a ≡ true) (same_number a b h) (itself a)) (λ h. subst (λ (x : SigNumber). is_number x b ≡ true) (same_number b a h) (itself b))
+
+both : (a b : Bool) → a && b ≡ true → (a ≡ true) × (b ≡ true)
+both true b h = (refl, h)
+both false b h = absurd cc
+
+-- ---- one number noted
+
+-- Where nothing else was noted for it, one number more is noted, and nothing else changes.
+module _ (places places' : Places) (number : SigNumber) (fpr : Fpr) (put : (n : SigNumber) → place_of places' n ≡ cond (is_number number n) (Some fpr) (place_of places n)) where
+  elsewhere : (n : SigNumber) → is_number n number ≡ false → place_of places' n ≡ place_of places n
+  elsewhere n other = put n ∙ ap (λ b. cond b (Some fpr) (place_of places n)) (turned number n ∙ other)
+
+  here : (n : SigNumber) → is_number n number ≡ true → place_of places' n ≡ Some fpr
+  here n same = put n ∙ ap (λ b. cond b (Some fpr) (place_of places n)) (turned number n ∙ same)
+
+  place_more : (o : Option Fpr) (q : Fpr) → (o ≡ None) → is_fpr fpr q ≡ (is_place o q || is_fpr fpr q)
+  place_more o q none = sym (ap (λ (x : Option Fpr). is_place x q || is_fpr fpr q) none)
+
+  place_again : (o : Option Fpr) (q : Fpr) → (o ≡ Some fpr) → is_fpr fpr q ≡ (is_place o q || is_fpr fpr q)
+  place_again o q some = sym (ap (λ (x : Option Fpr). is_place x q || is_fpr fpr q) some ∙ or_itself (is_fpr fpr q))
+
+  noted_by : ((q : Fpr) → is_fpr fpr q ≡ (is_place (place_of places number) q || is_fpr fpr q)) → (n : SigNumber) (q : Fpr) → is_place (place_of places' n) q ≡ (is_place (place_of places n) q || (is_number n number && is_fpr fpr q))
+  noted_by more n q =
+      (elim (is_number n number) as (λ b. is_number n number ≡ b → is_place (place_of places' n) q ≡ (is_place (place_of places n) q || (b && is_fpr fpr q))) [
+        | true ↦ λ same.
+            ap (λ (x : Option Fpr). is_place x q) (here n same) ∙ more q ∙ ap (λ (x : SigNumber). is_place (place_of places x) q || is_fpr fpr q) (sym (same_number n number same))
+        | false ↦ λ other. ap (λ (x : Option Fpr). is_place x q) (elsewhere n other) ∙ sym (or_false (is_place (place_of places n) q))
+      ]) refl
+
+  pub noted_new : place_of places number ≡ None → (n : SigNumber) (q : Fpr) → is_place (place_of places' n) q ≡ (is_place (place_of places n) q || (is_number n number && is_fpr fpr q))
+  noted_new none = noted_by (λ q. place_more (place_of places number) q none)
+
+  pub noted_again : place_of places number ≡ Some fpr → (n : SigNumber) (q : Fpr) → is_place (place_of places' n) q ≡ (is_place (place_of places n) q || (is_number n number && is_fpr fpr q))
+  noted_again some = noted_by (λ q. place_again (place_of places number) q some)
+
+  unless_none : (b : Bool) → unless b None ≡ None
+  unless_none true = refl
+  unless_none false = refl
+
+  pub logged_new : (log log' : List SigNumber) → log' ≡ log ++ number ∷ [] → place_of places number ≡ None → (n : SigNumber) → place_without log' places' n ≡ place_without log places n
+  logged_new log log' l none n =
+      ap (λ (x : List SigNumber). unless (is_logged n x) (place_of places' n)) l
+      ∙ ap (λ b. unless b (place_of places' n)) (list_any-append (is_number n) log (number ∷ []))
+      ∙ ((elim (is_number n number) as (λ b. is_number n number ≡ b → unless (is_logged n log || (b || false)) (place_of places' n) ≡ place_without log places n) [
+        | true ↦ λ same.
+            ap (λ b. unless b (place_of places' n)) (or_true (is_logged n log) true refl)
+            ∙ sym (ap (unless (is_logged n log)) (ap (place_of places) (same_number n number same) ∙ none) ∙ unless_none (is_logged n log))
+        | false ↦ λ other. ap (λ b. unless b (place_of places' n)) (or_false (is_logged n log)) ∙ ap (unless (is_logged n log)) (elsewhere n other)
+      ]) refl)
+
+  pub logged_again : (log : List SigNumber) → place_of places number ≡ Some fpr → (n : SigNumber) → place_without log places' n ≡ place_without log places n
+  logged_again log some n =
+      ap (unless (is_logged n log))
+      ((elim (is_number n number) as (λ b. is_number n number ≡ b → place_of places' n ≡ place_of places n) [
+        | true ↦ λ same. here n same ∙ sym (ap (place_of places) (same_number n number same) ∙ some)
+        | false ↦ λ other. elsewhere n other
+      ]) refl)
+
+-- ---- several numbers noted
+
+pub notes_begin : (i : Index) (all : SigNumber → Fpr → Bool) → NotesOn i i all all
+notes_begin i all exact = (exact, λ n q. refl)
+
+pub notes_on : (old mid new : Index) (one rest rest' all : SigNumber → Fpr → Bool) → NotesOn old mid rest all → ((n : SigNumber) (q : Fpr) → rest n q ≡ (one n q || rest' n q)) → Notes mid new one → NotesOn old new rest' all
+notes_on old mid new one rest rest' all before split step exact =
+    let s = step exact in
+    let b = before s.0 in
+    (b.0, λ n q. ap (λ t. t || rest' n q) (s.1 n q) ∙ or_more (is_noted mid n q) (one n q) (rest' n q) ∙ ap (λ t. is_noted mid n q || t) (sym (split n q)) ∙ b.1 n q)
+
+pub notes_done : (old new : Index) (rest all : SigNumber → Fpr → Bool) → NotesOn old new rest all → ((n : SigNumber) (q : Fpr) → rest n q ≡ false) → Notes old new all
+notes_done old new rest all before none exact =
+    let b = before exact in
+    (b.0, λ n q. sym (or_false (is_noted new n q)) ∙ ap (λ t. is_noted new n q || t) (sym (none n q)) ∙ b.1 n q)
+
+pub notes_both : (old mid new : Index) (one other : SigNumber → Fpr → Bool) → Notes old mid one → Notes mid new other → Notes old new (λ n q. one n q || other n q)
+notes_both old mid new one other first second exact =
+    let s = second exact in
+    let f = first s.0 in
+    (f.0, λ n q. s.1 n q ∙ ap (λ t. t || other n q) (f.1 n q) ∙ or_more (is_noted old n q) (one n q) (other n q))
+
+pub notes_same : (old new : Index) (these those : SigNumber → Fpr → Bool) → Notes old new these → ((n : SigNumber) (q : Fpr) → these n q ≡ those n q) → Notes old new those
+notes_same old new these those notes same exact =
+    let s = notes exact in
+    (s.0, λ n q. s.1 n q ∙ ap (λ t. is_noted old n q || t) (same n q))
+
+pub still_logged : (old mid new : Index) (log log' log2 : List SigNumber) → StillLogged old log mid log' → StillLogged mid log' new log2 → StillLogged old log new log2
+still_logged old mid new log log' log2 first second exact =
+    let s = second exact in
+    let f = first s.0 in
+    (f.0, λ n. s.1 n ∙ f.1 n)
+
+-- signatures on four kinds of places
+pub each_of : (d u a s f : Bool) → ((d && f) || (u && f)) || ((a && f) || (s && f)) ≡ (d || (u || (a || s))) && f
+each_of d u a s f =
+    sym (
+    and_each d (u || (a || s)) f
+    ∙ ap (λ t. (d && f) || t) (and_each u (a || s) f ∙ ap (λ t. (u && f) || t) (and_each a s f))
+    ∙ sym (or_more (d && f) (u && f) ((a && f) || (s && f)))
+    )
+
+on_ok : {T E : Type 0} (P Q : Type 0) (r : Result T E) → (P → Q) → OnOk r P → OnOk r Q
+on_ok P Q (Ok done) f h = f h
+on_ok P Q (Err fault) f h = tt
+
+-- What stands on a certificate is noted once what stands at each kind of place is.
+pub noted_cert : {T E : Type 0} (i0 i1 i2 i3 i4 : Index) (r : Result T E) (c : Certificate) (f : Fpr) (d : List Signature) (u a s : List Component) → f ≡ fpr_of c.key → d ≡ c.direct → u ≡ c.user_ids → a ≡ c.attributes → s ≡ c.subkeys
+    → Notes i0 i1 (λ n q. is_among n d && is_fpr f q) → Notes i1 i2 (λ n q. is_among n (sigs_on u) && is_fpr f q) → Notes i2 i3 (λ n q. is_among n (sigs_on a) && is_fpr f q) → OnOk r (Notes i3 i4 (λ n q. is_among n (sigs_on s) && is_fpr f q))
+    → OnOk r (Notes i0 i4 (λ n q. has_number n c && is_fpr (fpr_of c.key) q))
+noted_cert i0 i1 i2 i3 i4 r c f d u a s ef ed eu ea es first second third last =
+    let D : SigNumber → Fpr → Bool = λ n q. is_among n d && is_fpr f q in
+    let U : SigNumber → Fpr → Bool = λ n q. is_among n (sigs_on u) && is_fpr f q in
+    let A : SigNumber → Fpr → Bool = λ n q. is_among n (sigs_on a) && is_fpr f q in
+    let S : SigNumber → Fpr → Bool = λ n q. is_among n (sigs_on s) && is_fpr f q in
+    on_ok (Notes i3 i4 S) (Notes i0 i4 (λ n q. has_number n c && is_fpr (fpr_of c.key) q)) r
+    (λ fourth. notes_same i0 i4 (λ n q. (D n q || U n q) || (A n q || S n q)) (λ n q. has_number n c && is_fpr (fpr_of c.key) q)
+    (notes_both i0 i2 i4 (λ n q. D n q || U n q) (λ n q. A n q || S n q) (notes_both i0 i1 i2 D U first second) (notes_both i2 i3 i4 A S third fourth))
+    (λ n q.
+    each_of (is_among n d) (is_among n (sigs_on u)) (is_among n (sigs_on a)) (is_among n (sigs_on s)) (is_fpr f q)
+    ∙ (λ i. (is_among n (ed i) || (is_among n (sigs_on (eu i)) || (is_among n (sigs_on (ea i)) || is_among n (sigs_on (es i))))) && is_fpr (ef i) q)))
+    last
+
+-- ---- numbers taken out
+
+pub unless_either : (a b : Bool) (o : Option Fpr) → unless b (unless a o) ≡ unless (a || b) o
+unless_either true true o = refl
+unless_either true false o = refl
+unless_either false b o = refl
+
+-- the last number of a log
+pub logged_last : (places mid : Places) (log ws : List SigNumber) (number : SigNumber) → log ≡ ws ++ number ∷ [] → ((n : SigNumber) → place_of mid n ≡ unless (is_number n number) (place_of places n)) → (n : SigNumber) → place_without ws mid n ≡ place_without log places n
+logged_last places mid log ws number l out n =
+    ap (unless (is_logged n ws)) (out n)
+    ∙ unless_either (is_number n number) (is_logged n ws) (place_of places n)
+    ∙ ap (λ b. unless b (place_of places n)) (swapped (is_number n number) (is_logged n ws) ∙ sym (ap (is_logged n) l ∙ list_any-append (is_number n) ws (number ∷ [])))
+  where
+    swapped : (a b : Bool) → a || b ≡ b || (a || false)
+    swapped true true = refl
+    swapped true false = refl
+    swapped false true = refl
+    swapped false false = refl

@@ -1,0 +1,75 @@
+-- On which certificate each signature stands, by its number: how a change of a verdict finds the certificate.
+use Rattle.std.specs.Prelude.{◌≡◌, Bool, true, false, ◌&&◌, ◌||◌, cond, List, Option, None}
+use Rattle.std.specs.Option.{option_map_or}
+use Rattle.std.specs.List.{list_any}
+use Rattle.std.specs.Map.{lookup}
+use Rattle.wot_types.specs.declared.fpr.Fpr.{Fpr}
+use Rattle.wot_types.specs.declared.number.SigNumber.{SigNumber}
+use Rattle.wot_key.specs.Key.{fpr_of}
+use Rattle.wot_verdict.specs.Verdicts.{is_number}
+use Rattle.wot_cert.specs.Certificate.{Certificate}
+use Rattle.wot_keyring.specs.declared.kept.Kept.{Kept}
+use Rattle.wot_keyring.specs.declared.index.Index.{Index}
+use Rattle.wot_keyring.specs.Keyring.{Entries, is_fpr}
+use Rattle.wot_keyring.specs.Verdict.{has_number}
+
+-- ---- what is noted
+
+abbrev pub Places : Type 0
+Places = List (SigNumber × Fpr)
+
+-- the fingerprint that is noted for a number
+abbrev pub place_of : Places → SigNumber → Option Fpr
+place_of places n = lookup (is_number n) places
+
+-- whether it is this one
+abbrev pub is_place : Option Fpr → Fpr → Bool
+is_place place fpr = option_map_or (λ (p : Fpr). is_fpr p fpr) place false
+
+-- whether a number is noted at a fingerprint
+abbrev pub is_noted : Index → SigNumber → Fpr → Bool
+is_noted i n fpr = is_place (place_of i.places.entries n) fpr
+
+-- whether a signature of this number stands on what is kept under a fingerprint
+abbrev pub stands_at : Entries → SigNumber → Fpr → Bool
+stands_at es n fpr = option_map_or (λ (x : Kept). has_number n x.cert) (lookup (is_fpr fpr) es) false
+
+-- Each signature is noted at the certificate on which it stands, and nothing else is noted; nothing is said of an index that
+-- isn't exact.
+abbrev pub IsIndexOf : Index → Entries → Type 0
+IsIndexOf i es = i.exact ≡ true → (n : SigNumber) (fpr : Fpr) → is_noted i n fpr ≡ stands_at es n fpr
+
+-- ---- noting
+
+-- whether a signature of this number stands on one of these certificates that has this fingerprint
+abbrev pub stands_among : List Certificate → SigNumber → Fpr → Bool
+stands_among cs n fpr = list_any (λ (c : Certificate). has_number n c && is_fpr (fpr_of c.key) fpr) cs
+
+-- The new index has noted what the old one has, and these too.
+abbrev pub Notes : Index → Index → (SigNumber → Fpr → Bool) → Type 0
+Notes old new these = new.exact ≡ true → (old.exact ≡ true) × ((n : SigNumber) (fpr : Fpr) → is_noted new n fpr ≡ (is_noted old n fpr || these n fpr))
+
+-- The new index, once the rest is noted, has noted what the old one has, and all of these too.
+abbrev pub NotesOn : Index → Index → (SigNumber → Fpr → Bool) → (SigNumber → Fpr → Bool) → Type 0
+NotesOn old new rest all = new.exact ≡ true → (old.exact ≡ true) × ((n : SigNumber) (fpr : Fpr) → (is_noted new n fpr || rest n fpr) ≡ (is_noted old n fpr || all n fpr))
+
+-- Both have noted the same.
+abbrev pub NotesNothing : Index → Index → Type 0
+NotesNothing old new = new.exact ≡ true → (old.exact ≡ true) × ((n : SigNumber) → place_of new.places.entries n ≡ place_of old.places.entries n)
+
+-- ---- taking out
+
+-- nothing, where the test says so
+abbrev pub unless : Bool → Option Fpr → Option Fpr
+unless out place = cond out None place
+
+abbrev pub is_logged : SigNumber → List SigNumber → Bool
+is_logged n log = list_any (is_number n) log
+
+-- what is noted for a number without the logged ones
+abbrev pub place_without : List SigNumber → Places → SigNumber → Option Fpr
+place_without log places n = unless (is_logged n log) (place_of places n)
+
+-- Taking out what the new log tells of gives what taking out what the old one tells of gave.
+abbrev pub StillLogged : Index → List SigNumber → Index → List SigNumber → Type 0
+StillLogged old log new log' = new.exact ≡ true → (old.exact ≡ true) × ((n : SigNumber) → place_without log' new.places.entries n ≡ place_without log old.places.entries n)

@@ -1,0 +1,89 @@
+//! The index by the numbers of signatures, one number at a time.
+ghost use Rattle.std.specs.Prelude.{◌≡◌, ◌≢◌, ◌<◌, ◌&&◌, ◌++◌, ◌∷◌, [], true, vec_len, vec_capacity, MatchBool, OnOk};
+ghost use Rattle.wot_types.specs.declared.fpr.Fpr.{Fpr as TheFpr};
+ghost use Rattle.wot_types.specs.declared.number.SigNumber.{SigNumber as TheNumber};
+ghost use Rattle.wot_verdict.specs.Verdicts.{is_number};
+ghost use Rattle.wot_keyring.specs.Keyring.{is_fpr};
+ghost use Rattle.wot_keyring.specs.Index.{place_of, place_without, unless, Notes, StillLogged};
+
+use std::alloc::Global;
+use std::collections::BTreeMap;
+use wot_types::{Fpr, Memory, SigNumber};
+
+/// Where each signature stands: by its number the fingerprint of the certificate.
+#[derive(Drop)]
+pub(crate) struct Index {
+    pub places: BTreeMap<SigNumber, Fpr, Global>,
+    /// False once one number was seen on two certificates, which takes a collision of SHA-256. From then on the places say
+    /// nothing.
+    pub exact: bool,
+}
+
+impl Index {
+    /// The index of no certificates. Takes no memory.
+    pub(crate) fn new(alloc: Global) -> Index
+        ensures empty { result.places.entries ≡ [] }
+        ensures exact { result.exact ≡ true }
+    {
+        Index {
+            places: BTreeMap::new(alloc),
+            exact: true,
+        }
+    }
+}
+
+/// Logs a number, where there is room.
+fn put_in_log(log: &mut Vec<SigNumber>, number: SigNumber)
+    requires room { vec_len log.old < vec_capacity log.old }
+    ensures logged { log.new.items ≡ log.old.items ++ number ∷ [] }
+{
+    let _ = log.push(number);
+}
+
+/// Whether an index in which a number is noted again stays exact: where it is noted at the same certificate.
+fn stays_exact(exact: bool, before: Fpr, now: Fpr) -> bool
+    ensures stays { MatchBool result ((exact ≡ true) × (before ≡ now)) (exact ≡ true → before ≢ now) }
+{
+    exact && before == now
+}
+
+/// Notes that a signature of this number stands on the certificate of this fingerprint, and logs the number where it is
+/// new. After `Memory` the log still tells what was new.
+pub(crate) fn note(
+    index: &mut Index,
+    log: &mut Vec<SigNumber>,
+    number: SigNumber,
+    fpr: Fpr,
+) -> Result<(), Memory>
+    ensures noted { OnOk result (Notes index.old index.new (λ (n : TheNumber) (q : TheFpr). is_number n number && is_fpr fpr q)) }
+    ensures log { StillLogged index.old log.old.items index.new log.new.items }
+{
+    log.reserve(1)?;
+    match index.places.insert(number, fpr) {
+        Ok(None) => {
+            put_in_log(log, number);
+            Ok(())
+        }
+        Ok(Some(before)) => {
+            index.exact = stays_exact(index.exact, before, fpr);
+            Ok(())
+        }
+        Err(_) => Err(Memory),
+    }
+}
+
+/// Takes out what is noted for a number. Takes no memory.
+pub(crate) fn forget(places: &mut BTreeMap<SigNumber, Fpr, Global>, number: &SigNumber)
+    ensures forgotten { (n : TheNumber) → place_of places.new.entries n ≡ unless (is_number n number.now) (place_of places.old.entries n) }
+{
+    let _ = places.remove(number);
+}
+
+/// Takes out all numbers of a log. Takes no memory.
+pub(crate) fn forget_logged(places: &mut BTreeMap<SigNumber, Fpr, Global>, mut log: Vec<SigNumber>)
+    ensures forgotten { (n : TheNumber) → place_of places.new.entries n ≡ place_without log.items places.old.entries n }
+{
+    'log: while let Some(number) = log.pop() {
+        forget(places, &number);
+    }
+}
