@@ -3,3 +3,4 @@ pub mod Inside
 pub mod State
 pub mod Question
 pub mod Dump
+pub mod Lent
