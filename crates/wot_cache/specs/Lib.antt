@@ -3,4 +3,3 @@ pub mod Inside
 pub mod State
 pub mod Question
 pub mod Dump
-pub mod Lent

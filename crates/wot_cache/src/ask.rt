@@ -1,5 +1,5 @@
 //! The answer over roads.
-ghost use Rattle.std.specs.Prelude.{◌≡◌, ◌≤◌, ◌↔◌, List, [], length, IfOk};
+ghost use Rattle.std.specs.Prelude.{◌≡◌, ◌≤◌, ◌↔◌, List, [], length, IfOk, OnErr};
 ghost use Rattle.wot_types.specs.declared.fpr.Fpr.{Fpr as TheFpr};
 ghost use Rattle.wot_edge.specs.declared.path.Path.{Path as ThePath};
 ghost use Rattle.wot_edge.specs.Answer.{IsAnswer, amount_of};
@@ -8,6 +8,7 @@ ghost use Rattle.wot_edge.specs.Path.{asks, use_of, IsSpent};
 ghost use Rattle.wot_edge.specs.Roots.{root_amount};
 ghost use Rattle.wot_network.specs.Net.{told_of};
 
+use crate::view::AskFault;
 use std::alloc::Global;
 use wot_auth::{Answer, authenticate};
 use wot_edge::Roots;
@@ -23,7 +24,7 @@ pub fn answer(
     target: &Fpr,
     wanted: u32,
     uid: &[u8],
-) -> Result<Answer, Memory>
+) -> Result<Answer, AskFault>
     requires wanted { 1 ≤ wanted }
     requires few { length roots.now ≤ 64 }
     ensures answer { IfOk result (λ a. IsAnswer (asks (told_of roads.now uid.now) roots.now target.now) wanted a.paths) }
@@ -31,8 +32,12 @@ pub fn answer(
     ensures sum { IfOk result (λ a. a.sum ≡ amount_of a.paths) }
     ensures zero { IfOk result (λ a. (a.sum ≡ 0) ↔ IsSpent (asks (told_of roads.now uid.now) roots.now target.now) (use_of [])) }
     ensures pairs { IfOk result (λ a. AllFit [] a.paths) }
+    ensures memory { OnErr result (result ≡ Err AskFault.Memory) }
     ensures roots { IfOk result (λ a. (fpr : TheFpr) → (use_of a.paths).root fpr ≤ root_amount roots.now fpr) }
 {
     let mut consulted = Consulted::new(alloc);
-    authenticate(alloc, roads, roots, target, uid, wanted, &mut consulted)
+    match authenticate(alloc, roads, roots, target, uid, wanted, &mut consulted) {
+        Ok(answer) => Ok(answer),
+        Err(Memory) => Err(AskFault::Memory),
+    }
 }

@@ -1,21 +1,18 @@
-ghost use Rattle.std.specs.Prelude.{◌≡◌, ◌≢◌, ◌<◌, ◌≤◌, ◌+◌, ◌-◌, ◌^◌, ◌++◌, ◌↔◌, ℕ, List, [], length, IfOk, IfSome, Some, None, is_ok, is_some, OnOk, OnErr};
+ghost use Rattle.std.specs.Prelude.{◌≡◌, ◌≢◌, ◌<◌, ◌≤◌, ◌+◌, ◌-◌, ◌^◌, ◌++◌, ◌↔◌, List, [], length, IfOk, IfSome, Some, None, is_ok, is_some, OnOk, OnErr};
 ghost use Rattle.std.specs.Option.{option_copied, option_map};
 ghost use Rattle.wot_policy.specs.Kept.{IsFaithful, rows_of, asked_more};
 ghost use Rattle.wot_types.specs.declared.fpr.Fpr.{Fpr as TheFpr};
-ghost use Rattle.wot_keyring.specs.Keyring.{certificates_in, verdict_on};
+ghost use Rattle.wot_keyring.specs.Keyring.{verdict_on};
 ghost use Rattle.wot_keyring.specs.Kept.{AreSmall, IsJudgedBy, StaysJudged};
 ghost use Rattle.wot_keyring.specs.Import.{Answers, AsksFor, IsOneChange, imported};
 ghost use Rattle.wot_keyring.specs.Removal.{without_cert};
 ghost use Rattle.wot_keyring.specs.Verdict.{with_verdict_on, without_verdict_on, TellsFull};
 ghost use Rattle.wot_edge.specs.Answer.{IsAnswer, amount_of};
 ghost use Rattle.wot_edge.specs.Capacity.{AllFit};
-ghost use Rattle.wot_edge.specs.Lawful.{AreEntries};
 ghost use Rattle.wot_edge.specs.Path.{use_of, IsSpent};
-ghost use Rattle.wot_edge.specs.Record.{IsRecord};
 ghost use Rattle.wot_edge.specs.Roots.{root_amount, IsRoots};
 ghost use Rattle.wot_edge.specs.declared.path.Path.{Path as ThePath};
-ghost use Rattle.wot_network.specs.Local.{IsLocal};
-ghost use Rattle.wot_network.specs.Net.{signatures_in, told_of};
+ghost use Rattle.wot_network.specs.Net.{signatures_in};
 ghost use Rattle.wot_keyring.specs.Dump.{lines_of, AreLines};
 ghost use Rattle.wot_policy.specs.declared.rows.PolicyRows.{PolicyRows as Rows};
 ghost use Rattle.wot_cache.specs.Dump.{commands_of, IsRestored};
@@ -35,7 +32,6 @@ use std::marker::Model;
 use wot_auth::Answer;
 use wot_edge::Roots;
 use wot_keyring::{Absent, Imported, Keyring, Refusal};
-use wot_network::NetRoads;
 use wot_policy::{Ask, Policy};
 use wot_types::{Fpr, Limit, Limits, Memory, SigNumber, Steps, ViewName};
 use wot_verdict::Verdict;
@@ -61,9 +57,6 @@ impl Model for Engine {
 }
 
 impl Engine {
-    ghost use Rattle.std.specs.Borrow.{sem};
-    ghost use Rattle.wot_cache.specs.Lent.{IsKept};
-
     /// An engine with no certificates, no verdicts and no views. Takes no memory.
     pub fn new(alloc: Global, limits: Limits) -> Engine
         requires small { AreSmall limits }
@@ -300,33 +293,7 @@ impl Engine {
             unreachable!()
         };
         let roads = present::roads(&self.networks, &self.views, &self.keyring, view);
-        match answer(self.alloc, &roads, &open.roots, target, wanted, uid) {
-            Ok(answer) => Ok(answer),
-            Err(Memory) => Err(AskFault::Memory),
-        }
-    }
-
-    /// The roads that a question from an open view is asked over: those of the keyring as it is, at the view's time. The view's
-    /// network is made anew first, as `ask` makes it. The engine stays as it was.
-    pub fn roads(&mut self, view: &ViewName, steps: &mut Steps) -> Result<NetRoads<'_>, AskFault>
-        ensures* kept { sem 𝓛 (IsKept self.entry) }
-        ensures keyring { IfOk result (λ r. r.keyring ≡ self.old.keyring) }
-        ensures time { IfOk result (λ r. IfSome (view_at self.old.views view.now) (λ v. r.time ≡ v.time)) }
-        ensures entries { IfOk result (λ r. (u : List ℕ) → AreEntries (told_of r u)) }
-        ensures lawful { IfOk result (λ r. (u : List ℕ) → IsRecord (told_of r u)) }
-        ensures local { IfOk result (λ r. IfSome (view_at self.old.views view.now) (λ v. IsLocal (certificates_in self.old.keyring) self.old.keyring.verdicts v.time (told_of r))) }
-        ensures open { TellsOpen result (view_at self.old.views view.now) }
-        ensures made_most { steps.new.made ≤ steps.old.made + signatures_in self.old.keyring }
-    {
-        present::refresh(
-            self.alloc,
-            &mut self.networks,
-            &self.views,
-            &self.keyring,
-            view,
-            steps,
-        )?;
-        Ok(present::roads(&self.networks, &self.views, &self.keyring, view))
+        answer(self.alloc, &roads, &open.roots, target, wanted, uid)
     }
 
     /// Appends a line for each certificate, each verdict, and each view with its roots: the commands that make this state
