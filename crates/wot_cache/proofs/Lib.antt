@@ -1,5 +1,6 @@
 mod Plain
 mod Inside
+mod Asking
 pub mod Lines
 pub mod Behind
 pub mod Replay

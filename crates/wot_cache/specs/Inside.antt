@@ -1,10 +1,12 @@
 -- What is true of every engine: of its keyring, its views, and the networks that it keeps for them.
-use Rattle.std.specs.Prelude.{ℕ, List}
+use Rattle.std.specs.Prelude.{ℕ, List, IsSomeAnd}
 use Rattle.std.specs.List.{AllByRecursion}
+use Rattle.std.specs.Map.{lookup}
 use Rattle.wot_keyring.specs.Keyring.{Keyring}
 use Rattle.wot_keyring.specs.Kept.{AreSmall}
-use Rattle.wot_network.specs.Net.{Net, Fits}
-use Rattle.wot_cache.specs.Views.{Views, IsWithin}
+use Rattle.wot_network.specs.Net.{Net, Fits, IsRight}
+use Rattle.wot_cache.specs.declared.view.View.{View}
+use Rattle.wot_cache.specs.Views.{Views, IsWithin, is_name, view_at}
 
 -- networks by the names of views
 abbrev pub Networks : Type 0
@@ -17,3 +19,8 @@ pub record IsEngine (k : Keyring) (views : Views) (networks : Networks) : Type 0
   pub small : AreSmall k.limits
   pub within : IsWithin k.limits views
   pub fit : AllFit networks k
+
+-- A view is open, and its network is that of the keyring as it is, at the view's time.
+abbrev pub IsPresent : Networks → Views → Keyring → List ℕ → Type 0
+IsPresent networks views k name =
+    IsSomeAnd (view_at views name) (λ (v : View). IsSomeAnd (lookup (is_name name) networks) (λ (n : Net). IsRight n k v.time))

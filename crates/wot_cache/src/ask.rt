@@ -1,36 +1,43 @@
-//! The answer from a network that is right.
-ghost use Rattle.std.specs.Prelude.{◌≡◌, ◌≤◌, length, IfOk};
+//! The answer over roads.
+ghost use Rattle.std.specs.Prelude.{◌≡◌, ◌≤◌, ◌↔◌, List, [], length, IfOk, OnErr};
+ghost use Rattle.wot_types.specs.declared.fpr.Fpr.{Fpr as TheFpr};
+ghost use Rattle.wot_edge.specs.declared.path.Path.{Path as ThePath};
 ghost use Rattle.wot_edge.specs.Answer.{IsAnswer, amount_of};
-ghost use Rattle.wot_edge.specs.Path.{asks};
-ghost use Rattle.wot_keyring.specs.Keyring.{certificates_in};
-ghost use Rattle.wot_network.specs.Net.{IsRight};
-ghost use Rattle.wot_network.specs.Told.{record_of};
+ghost use Rattle.wot_edge.specs.Capacity.{AllFit};
+ghost use Rattle.wot_edge.specs.Path.{asks, use_of, IsSpent};
+ghost use Rattle.wot_edge.specs.Roots.{root_amount};
+ghost use Rattle.wot_network.specs.Net.{told_of};
 
+use crate::view::AskFault;
 use std::alloc::Global;
 use wot_auth::{Answer, authenticate};
 use wot_edge::Roots;
-use wot_keyring::Keyring;
-use wot_network::Network;
+use wot_network::NetRoads;
 use wot_search::Consulted;
 use wot_types::{Fpr, Memory};
 
-/// The answer from these roots, by a network that was made of this keyring as it is.
+/// The answer from these roots, over the roads of a keyring as it is.
 pub fn answer(
     alloc: Global,
-    network: &Network,
-    keyring: &Keyring,
+    roads: &NetRoads<'_>,
     roots: &Roots,
     target: &Fpr,
     wanted: u32,
     uid: &[u8],
-) -> Result<Answer, Memory>
-    requires right { IsRight network.now keyring.now network.now.time }
+) -> Result<Answer, AskFault>
     requires wanted { 1 ≤ wanted }
     requires few { length roots.now ≤ 64 }
-    ensures answer { IfOk result (λ a. IsAnswer (asks (record_of (certificates_in keyring.now) keyring.now.verdicts network.now.time uid.now) roots.now target.now) wanted a.paths) }
+    ensures answer { IfOk result (λ a. IsAnswer (asks (told_of roads.now uid.now) roots.now target.now) wanted a.paths) }
+    ensures one { IfOk result (λ a. (paths : List ThePath) → IsAnswer (asks (told_of roads.now uid.now) roots.now target.now) wanted paths → paths ≡ a.paths) }
     ensures sum { IfOk result (λ a. a.sum ≡ amount_of a.paths) }
+    ensures zero { IfOk result (λ a. (a.sum ≡ 0) ↔ IsSpent (asks (told_of roads.now uid.now) roots.now target.now) (use_of [])) }
+    ensures pairs { IfOk result (λ a. AllFit [] a.paths) }
+    ensures memory { OnErr result (result ≡ Err AskFault.Memory) }
+    ensures roots { IfOk result (λ a. (fpr : TheFpr) → (use_of a.paths).root fpr ≤ root_amount roots.now fpr) }
 {
-    let roads = network.roads(keyring);
     let mut consulted = Consulted::new(alloc);
-    authenticate(alloc, &roads, roots, target, uid, wanted, &mut consulted)
+    match authenticate(alloc, roads, roots, target, uid, wanted, &mut consulted) {
+        Ok(answer) => Ok(answer),
+        Err(Memory) => Err(AskFault::Memory),
+    }
 }

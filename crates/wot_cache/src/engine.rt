@@ -1,13 +1,17 @@
-ghost use Rattle.std.specs.Prelude.{◌≡◌, ◌≢◌, ◌<◌, ◌≤◌, ◌+◌, ◌-◌, ◌^◌, ◌++◌, length, IfOk, IfSome, Some, None, is_ok, is_some, OnOk, OnErr};
+ghost use Rattle.std.specs.Prelude.{◌≡◌, ◌≢◌, ◌<◌, ◌≤◌, ◌+◌, ◌-◌, ◌^◌, ◌++◌, ◌↔◌, List, [], length, IfOk, IfSome, Some, None, is_ok, is_some, OnOk, OnErr};
 ghost use Rattle.std.specs.Option.{option_copied, option_map};
 ghost use Rattle.wot_policy.specs.Kept.{IsFaithful, rows_of, asked_more};
+ghost use Rattle.wot_types.specs.declared.fpr.Fpr.{Fpr as TheFpr};
 ghost use Rattle.wot_keyring.specs.Keyring.{verdict_on};
 ghost use Rattle.wot_keyring.specs.Kept.{AreSmall, IsJudgedBy, StaysJudged};
 ghost use Rattle.wot_keyring.specs.Import.{Answers, AsksFor, IsOneChange, imported};
 ghost use Rattle.wot_keyring.specs.Removal.{without_cert};
 ghost use Rattle.wot_keyring.specs.Verdict.{with_verdict_on, without_verdict_on, TellsFull};
 ghost use Rattle.wot_edge.specs.Answer.{IsAnswer, amount_of};
-ghost use Rattle.wot_edge.specs.Roots.{IsRoots};
+ghost use Rattle.wot_edge.specs.Capacity.{AllFit};
+ghost use Rattle.wot_edge.specs.Path.{use_of, IsSpent};
+ghost use Rattle.wot_edge.specs.Roots.{root_amount, IsRoots};
+ghost use Rattle.wot_edge.specs.declared.path.Path.{Path as ThePath};
 ghost use Rattle.wot_network.specs.Net.{signatures_in};
 ghost use Rattle.wot_keyring.specs.Dump.{lines_of, AreLines};
 ghost use Rattle.wot_policy.specs.declared.rows.PolicyRows.{PolicyRows as Rows};
@@ -19,6 +23,7 @@ ghost use Rattle.wot_cache.specs.Views.{view_at, with_time, time_fault, with_roo
 use crate::ask::answer;
 use crate::dump::put_engine;
 use crate::networks::{self, Networks};
+use crate::present;
 use crate::view::{AskFault, NoView, View, ViewFault};
 use crate::views::{self, Views};
 use std::alloc::Global;
@@ -264,43 +269,31 @@ impl Engine {
     ) -> Result<Answer, AskFault>
         requires wanted { 1 ≤ wanted }
         ensures answer { IfOk result (λ a. IfSome (view_at self.old.views view.now) (λ v. IsAnswer (question_in (state_of self.old) v target.now uid.now) wanted a.paths)) }
+        // No other list of paths is an answer to it.
+        ensures one { IfOk result (λ a. IfSome (view_at self.old.views view.now) (λ v. (paths : List ThePath) → IsAnswer (question_in (state_of self.old) v target.now uid.now) wanted paths → paths ≡ a.paths)) }
         ensures sum { IfOk result (λ a. a.sum ≡ amount_of a.paths) }
+        // The amount is 0 exactly where there is no valid path of positive amount at all.
+        ensures zero { IfOk result (λ a. IfSome (view_at self.old.views view.now) (λ v. (a.sum ≡ 0) ↔ IsSpent (question_in (state_of self.old) v target.now uid.now) (use_of []))) }
+        // No path takes more of an edge than those before it left, and all together take no more of a root than its amount.
+        ensures pairs { IfOk result (λ a. AllFit [] a.paths) }
+        ensures roots { IfOk result (λ a. IfSome (view_at self.old.views view.now) (λ v. (fpr : TheFpr) → (use_of a.paths).root fpr ≤ root_amount v.roots fpr)) }
         ensures open { TellsOpen result (view_at self.old.views view.now) }
         ensures kept { self.new ≡ self.old }
         ensures made_most { steps.new.made ≤ steps.old.made + signatures_in self.old.keyring }
     {
-        let Some(t) = self.time(view) else {
-            return Err(AskFault::View);
-        };
-        match networks::refresh(
+        present::refresh(
             self.alloc,
             &mut self.networks,
-            view,
+            &self.views,
             &self.keyring,
-            t,
+            view,
             steps,
-        ) {
-            Ok(()) => {}
-            Err(Memory) => return Err(AskFault::Memory),
-        }
+        )?;
         let Some(open) = views::find(&self.views, view) else {
             unreachable!()
         };
-        let Some(network) = networks::find(&self.networks, view) else {
-            unreachable!()
-        };
-        match answer(
-            self.alloc,
-            network,
-            &self.keyring,
-            &open.roots,
-            target,
-            wanted,
-            uid,
-        ) {
-            Ok(answer) => Ok(answer),
-            Err(Memory) => Err(AskFault::Memory),
-        }
+        let roads = present::roads(&self.networks, &self.views, &self.keyring, view);
+        answer(self.alloc, &roads, &open.roots, target, wanted, uid)
     }
 
     /// Appends a line for each certificate, each verdict, and each view with its roots: the commands that make this state

@@ -5,6 +5,9 @@ mod ask;
 mod dump;
 mod engine;
 mod networks;
+mod present;
+#[cfg(test)]
+mod tests;
 mod view;
 mod views;
 
