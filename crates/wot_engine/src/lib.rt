@@ -9,6 +9,8 @@ mod listing;
 mod machine;
 mod refusal;
 mod run;
+#[cfg(test)]
+mod tests;
 mod words;
 
 pub use fresh::dump_makes_the_state_anew;
