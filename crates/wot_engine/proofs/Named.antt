@@ -12,7 +12,7 @@ use Rattle.wot_types.specs.declared.fpr.Fpr.TheVariants.{V4}
 use Rattle.wot_types.specs.Fpr.{fpr_cmp}
 use Rattle.wot_key.specs.Key.{fpr_of}
 use Rattle.wot_policy.specs.declared.rows.PolicyRows.{PolicyRows}
-use Rattle.wot_cert.specs.Certificate.{Certificate, unite}
+use Rattle.wot_cert.specs.Certificate.{Certificate}
 use Rattle.wot_cert.specs.Judged.{judged}
 use Rattle.wot_keyring.specs.Keyring.{Certificates, is_fpr}
 use Rattle.wot_keyring.specs.Import.{united_with, with_cert, with_certs}

@@ -1,13 +1,10 @@
 -- Each line has exactly one outcome.
-use Rattle.std.proofs.Common.{◌≡◌, ℕ, ◌≤◌, Bool, true, false, cond, List, [], ◌∷◌, length, map, Option, Some, None, Result, Ok, Err, refl, sym, ap, subst, ◌∙◌}
-use Rattle.std.specs.Prelude.{MatchBool, nat_lt, is_some}
+use Rattle.std.proofs.Common.{◌≡◌, ℕ, ◌≤◌, Bool, true, false, List, [], length, Option, Some, None, refl, sym, ap, ◌∙◌}
+use Rattle.std.specs.Prelude.{MatchBool, nat_lt}
 use Rattle.std.specs.List.{AllByRecursion}
-use Rattle.std.specs.Map.{lookup, remove_entry}
 use Rattle.wot_types.specs.declared.fpr.Fpr.{Fpr}
-use Rattle.wot_types.specs.Limits.{standard_limits}
 use Rattle.wot_policy.specs.declared.rows.PolicyRows.{PolicyRows}
-use Rattle.wot_verdict.specs.Verdicts.{Entries, verdict_at}
-use Rattle.wot_verdict.specs.declared.verdict.Verdict.{Verdict}
+use Rattle.wot_verdict.specs.Verdicts.{Entries}
 use Rattle.wot_verdict.specs.declared.verdict.Verdict.TheVariants as verdicts
 use Rattle.wot_key.specs.Key.{fpr_of}
 use Rattle.wot_cert.specs.Certificate.{Certificate}
@@ -15,11 +12,7 @@ use Rattle.wot_edge.specs.declared.path.Path.{Path}
 use Rattle.wot_edge.specs.Path.{Question}
 use Rattle.wot_edge.specs.Record.{IsRecord}
 use Rattle.wot_edge.specs.Answer.{IsAnswer}
-use Rattle.wot_keyring.specs.declared.import.Imported.{Imported}
-use Rattle.wot_keyring.specs.declared.refusal.Refusal.{Refusal}
-use Rattle.wot_keyring.specs.Keyring.{Certificates, is_fpr}
-use Rattle.wot_keyring.specs.Import.{answer_to, spelled_in}
-use Rattle.wot_keyring.specs.Verdict.{is_over}
+use Rattle.wot_keyring.specs.Keyring.{Certificates}
 use Rattle.wot_script.specs.declared.command.Command.{Command}
 use Rattle.wot_script.specs.declared.command.Command.TheVariants.{Import, Remove, Good, Bad, Unjudge, Time, Root, Close, Ask, Keys, Export, Dump}
 use Rattle.wot_script.specs.declared.reply.Reply.{Reply}
@@ -29,12 +22,11 @@ use Rattle.wot_script.specs.Replies.{reply_text}
 use Rattle.wot_script.specs.Spelling.{HasSpelling}
 use Rattle.wot_network.specs.Told.{record_of}
 use Rattle.wot_cache.specs.declared.view.View.{View}
-use Rattle.wot_cache.specs.declared.view.ViewFault.{ViewFault}
 use Rattle.wot_cache.specs.Question.{question_in}
-use Rattle.wot_cache.specs.State.{State, IsState, cert_in, judging, is_said}
-use Rattle.wot_cache.specs.Views.{view_at, time_fault, root_fault}
+use Rattle.wot_cache.specs.State.{State, IsState}
+use Rattle.wot_cache.specs.Views.{view_at}
 use Rattle.wot_engine.specs.Lines.{is_silent, longest}
-use Rattle.wot_engine.specs.Outcome.{Outcome, only, imports, remove, judge, unjudge, time, root, close, unless, keys, export, dump, import}
+use Rattle.wot_engine.specs.Outcome.{Outcome, only, remove, judge, unjudge, time, root, close, keys, export, dump, import}
 use Rattle.wot_engine.specs.Answer.{Asks, told}
 use Rattle.wot_engine.specs.Step.{Step, Spells, Answers, Does, Gives}
 use Rattle.wot_engine.proofs.Named.{AreNamed, named_all, named_without}

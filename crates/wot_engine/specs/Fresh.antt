@@ -1,5 +1,5 @@
 -- What a dump does in a fresh machine.
-use Rattle.std.specs.Prelude.{◌≡◌, false, List, [], ◌∷◌, Option, Some, None, ℕ, codes}
+use Rattle.std.specs.Prelude.{◌≡◌, false, List, [], ◌∷◌, ℕ, codes}
 use Rattle.std.specs.List.{AllByRecursion, flat_map}
 use Rattle.wot_io.specs.Input as inputs
 use Rattle.wot_policy.specs.declared.rows.PolicyRows.{PolicyRows}
