@@ -24,11 +24,3 @@ on_dump line command P e p d =
 -- it has a reading
 pub dump_is_read : (line : List ℕ) (P : Type 0) → command_of line ≡ None → IsDump line → P
 dump_is_read line P e d = let none : None ≡ Some Dump = read_so line None e d in absurd (cc none)
-
--- it isn't passed over
-pub dump_is_heard : (line : List ℕ) (P : Type 0) → is_silent line ≡ true → IsDump line → P
-dump_is_heard line P e d = let no : true ≡ false = sym e ∙ ap is_silent d in absurd (cc no)
-
--- it isn't too long
-pub dump_is_short : (line : List ℕ) (P : Type 0) → 16777216 < length line → IsDump line → P
-dump_is_short line P long d = let four : length line ≡ 4 = ap length d in absurd (omega (arith, four, long))
