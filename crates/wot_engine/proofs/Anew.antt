@@ -33,7 +33,7 @@ use Rattle.wot_engine.specs.Lines.{is_silent, longest}
 use Rattle.wot_engine.specs.Outcome.{Outcome, done, import, imports, judge, only, root, time, unless}
 use Rattle.wot_engine.specs.Step.{Answers, Does, Gives, Spells, Step}
 use Rattle.wot_engine.specs.Transcript.{Run}
-use Rattle.wot_engine.specs.Fresh.{IsMadeAnew}
+use Rattle.wot_engine.specs.Fresh.{HaveReplies, IsMadeAnew, dumped}
 use Rattle.wot_engine.proofs.CutLines.{lines_of-feed}
 
 -- a reply that is no refusal
@@ -109,6 +109,7 @@ stepped rows c s new line t =
 record Runs (rows : PolicyRows) (s : State) (commands : List Command) (new : State) : Type 0 where
   replies_are : List Reply
   well : AllByRecursion (λ reply. is_refusal reply ≡ false) replies_are
+  each : HaveReplies rows s (map spelling commands) replies_are new
   run : Run rows s (map spelling commands) (flat_map reply_text replies_are) new
 
 refused_stays : (rows : PolicyRows) (l : Limits) (commands : List Command) → after_all rows l commands None ≡ None
@@ -125,12 +126,18 @@ further rows c commands s new line rest (Some mid) was e =
     record {
       replies_are = t.reply ∷ more.replies_are;
       well = (t.well, more.well);
+      each = (mid, stepped rows c s mid line t, more.each);
       run = (reply_text t.reply, mid, flat_map reply_text more.replies_are, stepped rows c s mid line t, more.run, refl);
     }
 
 runs : (rows : PolicyRows) (commands : List Command) (s new : State) → AreLines commands
     → after_all rows standard_limits commands (Some s) ≡ Some new → Runs rows s commands new
-runs rows [] s new lines e = record { replies_are = []; well = tt; run = (refl, sym (same_Some s new e)) }
+runs rows [] s new lines e = record {
+  replies_are = [];
+  well = tt;
+  each = sym (same_Some s new e);
+  run = (refl, sym (same_Some s new e));
+}
 runs rows (c ∷ commands) s new lines e =
     further rows c commands s new lines.0 (λ mid. runs rows commands mid new lines.1) (after rows standard_limits c s) refl e
 
@@ -140,5 +147,7 @@ made_anew rows engine standard restored lines =
     let s : State = state_of engine in
     let From : Limits → Type 0 = λ l. after_all rows l (commands_of s) (Some start) ≡ Some (judged_by rows s) in
     let all : Runs rows start (commands_of s) (judged_by rows s) = runs rows (commands_of s) start (judged_by rows s) lines (subst From standard restored) in
+    let cut : map spelling (commands_of s) ≡ dumped s = sym (cut_lines (commands_of s) lines) in
+    let Each : List (List ℕ) → Type 0 = λ lines. HaveReplies rows start lines all.replies_are (judged_by rows s) in
     let Ran : List (List ℕ) → Type 0 = λ lines. Run rows start lines (flat_map reply_text all.replies_are) (judged_by rows s) in
-    record { replies = all.replies_are; well = all.well; run = subst Ran (sym (cut_lines (commands_of s) lines)) all.run }
+    record { replies = all.replies_are; well = all.well; each = subst Each cut all.each; run = subst Ran cut all.run }

@@ -1,5 +1,7 @@
 mod CutLines
+mod Stays
 mod Named
+mod Marked
 mod Outcomes
 mod Runs
 mod Refusing
@@ -11,3 +13,4 @@ mod Turns
 mod Replying
 pub mod Rules
 mod Anew
+mod Dumping

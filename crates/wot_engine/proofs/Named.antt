@@ -12,12 +12,13 @@ use Rattle.wot_types.specs.declared.fpr.Fpr.TheVariants.{V4}
 use Rattle.wot_types.specs.Fpr.{fpr_cmp}
 use Rattle.wot_key.specs.Key.{fpr_of}
 use Rattle.wot_policy.specs.declared.rows.PolicyRows.{PolicyRows}
-use Rattle.wot_cert.specs.Certificate.{Certificate, unite}
+use Rattle.wot_cert.specs.Certificate.{Certificate}
 use Rattle.wot_cert.specs.Judged.{judged}
 use Rattle.wot_keyring.specs.Keyring.{Certificates, is_fpr}
 use Rattle.wot_keyring.specs.Import.{united_with, with_cert, with_certs}
+use Rattle.wot_engine.proofs.Stays.{all_without}
 
-abbrev AreNamed : Certificates → Type 0
+abbrev pub AreNamed : Certificates → Type 0
 AreNamed certs = AllByRecursion (λ (e : Fpr × Certificate). e.0 ≡ fpr_of e.1.key) certs
 
 exact : (a b : Fpr) → fpr_cmp a b ≡ Equal → a ≡ b
@@ -28,13 +29,8 @@ is-equal Less e = absurd cc
 is-equal Equal e = refl
 is-equal Greater e = absurd cc
 
-pub named_without : (test : Fpr → Bool) (certs : Certificates) → AreNamed certs → AreNamed (remove_entry test certs)
-named_without test [] all = tt
-named_without test (e ∷ es) all =
-    elim (test e.0) as (λ b. AreNamed (cond b es (e ∷ remove_entry test es))) [
-      | true ↦ all.1
-      | false ↦ (all.0, named_without test es all.1)
-    ]
+pub named_without : (fpr : Fpr) (certs : Certificates) → AreNamed certs → AreNamed (remove_entry (is_fpr fpr) certs)
+named_without fpr certs all = all_without (λ (e : Fpr × Certificate). e.0 ≡ fpr_of e.1.key) (is_fpr fpr) certs all
 
 named_with : (certs : Certificates) (fpr : Fpr) (c : Certificate) → fpr ≡ fpr_of c.key → AreNamed certs → AreNamed (insert_entry fpr_cmp certs fpr c)
 named_with [] fpr c e all = (e, tt)

@@ -1,13 +1,10 @@
 -- Each line has exactly one outcome.
-use Rattle.std.proofs.Common.{◌≡◌, ℕ, ◌≤◌, Bool, true, false, cond, List, [], ◌∷◌, length, map, Option, Some, None, Result, Ok, Err, refl, sym, ap, subst, ◌∙◌}
-use Rattle.std.specs.Prelude.{MatchBool, nat_lt, is_some}
+use Rattle.std.proofs.Common.{◌≡◌, ℕ, ◌≤◌, Bool, true, false, List, [], length, Option, Some, None, refl, sym, ap, ◌∙◌}
+use Rattle.std.specs.Prelude.{MatchBool, nat_lt}
 use Rattle.std.specs.List.{AllByRecursion}
-use Rattle.std.specs.Map.{lookup, remove_entry}
 use Rattle.wot_types.specs.declared.fpr.Fpr.{Fpr}
-use Rattle.wot_types.specs.Limits.{standard_limits}
 use Rattle.wot_policy.specs.declared.rows.PolicyRows.{PolicyRows}
-use Rattle.wot_verdict.specs.Verdicts.{Entries, verdict_at}
-use Rattle.wot_verdict.specs.declared.verdict.Verdict.{Verdict}
+use Rattle.wot_verdict.specs.Verdicts.{Entries}
 use Rattle.wot_verdict.specs.declared.verdict.Verdict.TheVariants as verdicts
 use Rattle.wot_key.specs.Key.{fpr_of}
 use Rattle.wot_cert.specs.Certificate.{Certificate}
@@ -15,11 +12,7 @@ use Rattle.wot_edge.specs.declared.path.Path.{Path}
 use Rattle.wot_edge.specs.Path.{Question}
 use Rattle.wot_edge.specs.Record.{IsRecord}
 use Rattle.wot_edge.specs.Answer.{IsAnswer}
-use Rattle.wot_keyring.specs.declared.import.Imported.{Imported}
-use Rattle.wot_keyring.specs.declared.refusal.Refusal.{Refusal}
-use Rattle.wot_keyring.specs.Keyring.{Certificates, is_fpr}
-use Rattle.wot_keyring.specs.Import.{answer_to, spelled_in}
-use Rattle.wot_keyring.specs.Verdict.{is_over}
+use Rattle.wot_keyring.specs.Keyring.{Certificates}
 use Rattle.wot_script.specs.declared.command.Command.{Command}
 use Rattle.wot_script.specs.declared.command.Command.TheVariants.{Import, Remove, Good, Bad, Unjudge, Time, Root, Close, Ask, Keys, Export, Dump}
 use Rattle.wot_script.specs.declared.reply.Reply.{Reply}
@@ -29,15 +22,15 @@ use Rattle.wot_script.specs.Replies.{reply_text}
 use Rattle.wot_script.specs.Spelling.{HasSpelling}
 use Rattle.wot_network.specs.Told.{record_of}
 use Rattle.wot_cache.specs.declared.view.View.{View}
-use Rattle.wot_cache.specs.declared.view.ViewFault.{ViewFault}
 use Rattle.wot_cache.specs.Question.{question_in}
-use Rattle.wot_cache.specs.State.{State, IsState, cert_in, judging, is_said}
-use Rattle.wot_cache.specs.Views.{view_at, time_fault, root_fault}
+use Rattle.wot_cache.specs.State.{State, IsState}
+use Rattle.wot_cache.specs.Views.{view_at}
 use Rattle.wot_engine.specs.Lines.{is_silent, longest}
-use Rattle.wot_engine.specs.Outcome.{Outcome, only, imports, remove, judge, unjudge, time, root, close, unless, keys, export, dump, import}
+use Rattle.wot_engine.specs.Outcome.{Outcome, only, remove, judge, unjudge, time, root, close, keys, export, dump, import}
 use Rattle.wot_engine.specs.Answer.{Asks, told}
 use Rattle.wot_engine.specs.Step.{Step, Spells, Answers, Does, Gives}
-use Rattle.wot_engine.proofs.Named.{named_all, named_without}
+use Rattle.wot_engine.proofs.Named.{AreNamed, named_all, named_without}
+use Rattle.wot_engine.proofs.Stays.{step_stays}
 
 -- At most one reply and one state.
 abbrev pub IsOne : (R : Type 0) → (R → State → Type 0) → Type 0
@@ -74,61 +67,8 @@ MatchBool-some false P Q p q = q
 
 -- ---- states that can be
 
-IsState-gives : (outcome : Outcome) (r : Reply) (m : State) → IsState outcome.state → Gives outcome r m → IsState m
-IsState-gives outcome r m s p = subst IsState (sym p.1) s
-
-either : (b : Bool) (a c : Outcome) → IsState a.state → IsState c.state → IsState (cond b a c).state
-either true a c s t = s
-either false a c s t = t
-
-unless-state : (s new : State) (fault : Option ViewFault) → IsState s → IsState new → IsState (unless s fault new).state
-unless-state s new None p q = q
-unless-state s new (Some fault) p q = p
-
-imports-state : (rows : PolicyRows) (s : State) (octets : List ℕ) (answer : Result Imported Refusal) → IsState s → IsState (imports rows s octets answer).state
-imports-state rows s octets (Ok counts) p = named_all rows s.certs (spelled_in octets) p
-imports-state rows s octets (Err fault) p = p
-
-judging-state : (s : State) (number : Rattle.wot_types.specs.declared.number.SigNumber.SigNumber) (v : Verdict) → IsState s → IsState (judging number v s)
-judging-state s number v p = by (is_said s.verdicts number v)
-  where
-    by : (b : Bool) → IsState (cond b s (record s { verdicts = Rattle.wot_verdict.specs.Verdicts.with_verdict s.verdicts number v }))
-    by true = p
-    by false = p
-
-judge-state : (s : State) (number : Rattle.wot_types.specs.declared.number.SigNumber.SigNumber) (v : Verdict) (r : Reply) (m : State) → IsState s → Gives (judge s number v) r m → IsState m
-judge-state s number v r m p g =
-    IsState-gives (judge s number v) r m (either (is_over standard_limits s.verdicts number) (only s (replies.Full Rattle.wot_types.specs.declared.limits.Limit.TheVariants.Verdicts)) (record { reply = replies.Done; state = judging number v s }) p (judging-state s number v p)) g
-
-Does-stays : (rows : PolicyRows) (old : State) (command : Command) (r : Reply) (m : State) → IsState old → Does rows old command r m → IsState m
-Does-stays rows old (Import octets) r m p g = IsState-gives (import rows old octets) r m (imports-state rows old octets (answer_to rows standard_limits old.certs octets) p) g
-Does-stays rows old (Remove fpr) r m p g =
-    IsState-gives (remove old fpr) r m (either (is_some (cert_in old fpr)) (record { reply = replies.Done; state = record old { certs = remove_entry (is_fpr fpr) old.certs } }) (only old replies.Absent) (named_without (is_fpr fpr) old.certs p) p) g
-Does-stays rows old (Good number fpr) r m p g = judge-state old number (verdicts.Good fpr) r m p g
-Does-stays rows old (Bad number) r m p g = judge-state old number verdicts.Bad r m p g
-Does-stays rows old (Unjudge number) r m p g = IsState-gives (unjudge old number) r m (either (is_some (verdict_at old.verdicts number)) (record { reply = replies.Done; state = record old { verdicts = Rattle.wot_verdict.specs.Verdicts.without_verdict old.verdicts number } }) (only old replies.Absent) p p) g
-Does-stays rows old (Time view t) r m p g = IsState-gives (time old view t) r m (unless-state old (record old { views = Rattle.wot_cache.specs.Views.with_time old.views view t }) (time_fault standard_limits old.views view) p p) g
-Does-stays rows old (Root view fpr amount) r m p g = IsState-gives (root old view fpr amount) r m (unless-state old (record old { views = Rattle.wot_cache.specs.Views.with_root old.views view fpr amount }) (root_fault standard_limits (view_at old.views view) fpr amount) p p) g
-Does-stays rows old (Close view) r m p g = IsState-gives (close old view) r m (either (is_some (view_at old.views view)) (record { reply = replies.Done; state = record old { views = Rattle.wot_cache.specs.Views.without_view old.views view } }) (only old replies.View) p p) g
-Does-stays rows old (Ask view target wanted uid) r m p g = subst IsState (sym g.1) p
-Does-stays rows old Keys r m p g = IsState-gives (keys old) r m p g
-Does-stays rows old (Export fpr) r m p g = IsState-gives (export old fpr) r m p g
-Does-stays rows old Dump r m p g = IsState-gives (dump old) r m p g
-
-Answers-stays : (rows : PolicyRows) (old : State) (command : Option Command) (r : Reply) (m : State) → IsState old → Answers rows old command r m → IsState m
-Answers-stays rows old None r m p g = IsState-gives (only old replies.Line) r m p g
-Answers-stays rows old (Some command) r m p g = Does-stays rows old command r m p g
-
 pub Step-stays : (rows : PolicyRows) (old : State) (line reply : List ℕ) (new : State) → IsState old → Step rows old line reply new → IsState new
-Step-stays rows old line reply new p = long (nat_lt longest (length line))
-  where
-    silent : (b : Bool) → MatchBool b ((reply ≡ []) × (new ≡ old)) (Spells (Answers rows old (command_of line)) reply new) → IsState new
-    silent true g = subst IsState (sym g.1) p
-    silent false g = Answers-stays rows old (command_of line) g.reply new p g.does
-
-    long : (b : Bool) → MatchBool b (Spells (Gives (only old replies.Long)) reply new) (MatchBool (is_silent line) ((reply ≡ []) × (new ≡ old)) (Spells (Answers rows old (command_of line)) reply new)) → IsState new
-    long true g = IsState-gives (only old replies.Long) g.reply new p g.does
-    long false g = silent (is_silent line) g
+Step-stays rows = step_stays rows AreNamed (named_all rows) named_without
 
 -- ---- questions
 

@@ -1,10 +1,12 @@
 //! Laws of the machine. Each function does nothing: its contract is the law.
 ghost use Rattle.std.specs.Prelude.{◌≡◌, ℕ, List};
 ghost use Rattle.wot_policy.specs.declared.rows.PolicyRows.{PolicyRows};
-ghost use Rattle.wot_cache.specs.State.{State, IsState};
+ghost use Rattle.wot_cache.specs.Dump.{judged_by};
+ghost use Rattle.wot_cache.specs.State.{State, IsState, start};
 ghost use Rattle.wot_engine.specs.Step.{Step};
-ghost use Rattle.wot_engine.specs.Transcript.{Transcript};
+ghost use Rattle.wot_engine.specs.Transcript.{Run, Transcript};
 
+use wot_cert::laws::judging;
 use wot_edge::laws::answer_is_one;
 use wot_network::laws::record_is_lawful;
 use wot_script::laws::lines_spell_commands;
@@ -27,4 +29,12 @@ pub fn each_input_has_one_transcript()
     ensures one { (rows : PolicyRows) (input replies others : List ℕ) → Transcript rows input replies → Transcript rows input others → replies ≡ others }
 {
     each_line_has_one_outcome();
+}
+
+/// In each state that lines lead to from the start on, every signature has the mark that the rows give it, so that judging
+/// them anew changes nothing. So what the lines of a dump make anew there is this very state.
+pub fn reached_states_are_judged()
+    ensures { (rows : PolicyRows) (lines : List (List ℕ)) (replies : List ℕ) (state : State) → Run rows start lines replies state → judged_by rows state ≡ state }
+{
+    judging();
 }

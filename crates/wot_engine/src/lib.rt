@@ -9,9 +9,13 @@ mod listing;
 mod machine;
 mod refusal;
 mod run;
+#[cfg(test)]
+mod tests;
 mod words;
 
 pub use fresh::dump_makes_the_state_anew;
-pub use laws::{each_input_has_one_transcript, each_line_has_one_outcome};
+pub use laws::{
+    each_input_has_one_transcript, each_line_has_one_outcome, reached_states_are_judged,
+};
 pub use machine::Machine;
 pub use words::run_words;

@@ -1,13 +1,16 @@
 //! Replies that list: certificates, an exported one, the dump.
-ghost use Rattle.std.specs.Prelude.{◌≡◌, ◌≤◌, map, IfOk};
+ghost use Rattle.std.specs.Prelude.{◌≡◌, ◌≤◌, map, IfOk, OnOk};
 ghost use Rattle.std.specs.List.{AllByRecursion};
 ghost use Rattle.std.specs.Option.{option_copied};
 ghost use Rattle.wot_types.specs.Limits.{standard_limits};
+ghost use Rattle.wot_policy.specs.declared.rows.PolicyRows.{PolicyRows};
 ghost use Rattle.wot_cert.specs.Certificate.{Certificate};
 ghost use Rattle.wot_cert.specs.Text.{size_of};
 ghost use Rattle.wot_cache.specs.State.{state_of, cert_in};
 ghost use Rattle.wot_engine.specs.Outcome.{line_of, keys as keys_of, export as export_of, dump as dump_of};
+ghost use Rattle.wot_engine.specs.Fresh.{IsMadeAnew};
 
+use crate::fresh::dump_makes_the_state_anew;
 use std::alloc::Global;
 use wot_cache::Engine;
 use wot_cert::Cert;
@@ -56,8 +59,11 @@ pub fn export(alloc: Global, engine: &Engine, fpr: &Fpr) -> Result<Reply, Memory
 
 /// The commands that make the state anew.
 pub fn dump(alloc: Global, engine: &Engine) -> Result<Reply, Memory>
+    requires standard { engine.now.keyring.limits ≡ standard_limits }
     ensures dump { IfOk result (λ reply. reply ≡ (dump_of (state_of engine.now)).reply) }
+    ensures anew { OnOk result ((rows : PolicyRows) → IsMadeAnew rows (state_of engine.now)) }
 {
+    dump_makes_the_state_anew();
     let mut text = Vec::new(alloc);
     let count = engine.dump(&mut text)?;
     Ok(Reply::Dump(count, Octets::from_vec(text)))

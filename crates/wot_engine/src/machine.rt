@@ -1,5 +1,6 @@
 ghost use Rattle.std.specs.Prelude.{◌≡◌, ◌≤◌, ◌<◌, ◌+◌, ◌-◌, ◌^◌, ◌++◌, ℕ, List, length, vec_len, vec_capacity, false, true, IfOk, OnOk, OnErr};
 ghost use Rattle.wot_types.specs.Limits.{standard_limits};
+ghost use Rattle.wot_policy.specs.declared.rows.PolicyRows.{PolicyRows};
 ghost use Rattle.wot_policy.specs.Kept.{IsFaithful, rows_of};
 ghost use Rattle.wot_keyring.specs.Kept.{IsJudgedBy};
 ghost use Rattle.wot_keyring.specs.Import.{IsOneChange};
@@ -9,6 +10,7 @@ ghost use Rattle.wot_script.specs.Replies.{is_short};
 ghost use Rattle.wot_cache.specs.State.{empty, state_of};
 ghost use Rattle.wot_engine.specs.Lines.{is_silent};
 ghost use Rattle.wot_engine.specs.Step.{Step, Answers, Does};
+ghost use Rattle.wot_engine.specs.Fresh.{IsDump, OnDump, IsMadeAnew};
 
 use crate::answer::ask;
 use crate::commands::{close, import, judge, remove, root, time, unjudge};
@@ -71,6 +73,8 @@ impl Machine {
         requires judged { IsJudgedBy (rows_of policy.old) self.old.keyring }
         requires faithful { IsFaithful F.Fn policy.old }
         ensures step { OnOk result ((reply : List ℕ) × Step (rows_of policy.old) (state_of self.old) line.now reply (state_of self.new) × (out.new.items ≡ out.old.items ++ reply)) }
+        // The lines that the reply to `dump` holds make the state anew in a fresh machine, by whatever rows it judges.
+        ensures anew { OnOk result (IsDump line.now → (rows : PolicyRows) → IsMadeAnew rows (state_of self.old)) }
         ensures kept { OnErr result ((self.new ≡ self.old) × (out.new.items ≡ out.old.items)) }
         ensures room { OnOk result (is_silent line.now ≡ false → vec_len out.old + 128 ≤ vec_capacity out.new) }
         ensures counted { IsOneChange self.old.keyring self.new.keyring }
@@ -115,6 +119,7 @@ fn answer<F: Fn(Ask) -> bool>(
     requires judged { IsJudgedBy (rows_of policy.old) engine.old.keyring }
     requires faithful { IsFaithful F.Fn policy.old }
     ensures answers { IfOk result (λ reply. Answers (rows_of policy.old) (state_of engine.old) (command_of line.now) reply (state_of engine.new)) }
+    ensures anew { OnOk result (IsDump line.now → (rows : PolicyRows) → IsMadeAnew rows (state_of engine.old)) }
     ensures quiet { IfOk result (λ reply. is_short reply ≡ false → engine.new ≡ engine.old) }
     ensures kept { OnErr result (engine.new ≡ engine.old) }
     ensures standard { engine.new.keyring.limits ≡ standard_limits }
@@ -145,6 +150,7 @@ fn run<F: Fn(Ask) -> bool>(
     requires judged { IsJudgedBy (rows_of policy.old) engine.old.keyring }
     requires faithful { IsFaithful F.Fn policy.old }
     ensures does { IfOk result (λ reply. Does (rows_of policy.old) (state_of engine.old) command.now reply (state_of engine.new)) }
+    ensures anew { OnOk result (OnDump command.now ((rows : PolicyRows) → IsMadeAnew rows (state_of engine.old))) }
     ensures quiet { IfOk result (λ reply. is_short reply ≡ false → engine.new ≡ engine.old) }
     ensures kept { OnErr result (engine.new ≡ engine.old) }
     ensures standard { engine.new.keyring.limits ≡ standard_limits }
