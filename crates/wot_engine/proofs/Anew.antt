@@ -1,6 +1,6 @@
 -- The lines of a dump, answered from the start on.
-use Rattle.std.proofs.Common.{◌≡◌, ℕ, ◌<◌, ◌≤◌, ◌==◌, Bool, true, false, List, [], ◌∷◌, ◌++◌, length, map, Option, Some, None, Result, Ok, Err, refl, sym, ap, ◌∙◌, subst, arith, append_assoc}
-use Rattle.std.specs.Prelude.{◌≢◌, nat_lt, if◌then◌else◌, MatchBool}
+use Rattle.std.proofs.Common.{◌≡◌, ℕ, Bool, true, false, List, [], ◌∷◌, length, map, Option, Some, None, Result, Ok, Err, refl, sym, ap, ◌∙◌, subst, append_assoc}
+use Rattle.std.specs.Prelude.{nat_lt, if◌then◌else◌, MatchBool}
 use Rattle.std.specs.List.{AllByRecursion, flat_map}
 use Rattle.std.proofs.lemmas.Bool.{le-ltb, ne_eqb}
 use Rattle.std.proofs.lemmas.Option.{same_Some}
@@ -14,7 +14,6 @@ use Rattle.wot_script.specs.declared.command.Command.{Command}
 use Rattle.wot_script.specs.declared.command.Command.TheVariants.{Import, Remove, Good, Bad, Unjudge, Time, Root, Close, Ask, Keys, Export, Dump}
 use Rattle.wot_script.specs.declared.reply.Reply.{Reply}
 use Rattle.wot_script.specs.declared.reply.Reply.TheVariants as replies
-use Rattle.wot_script.specs.Grammar.{command_of}
 use Rattle.wot_script.specs.Replies.{is_refusal, reply_text}
 use Rattle.wot_script.specs.Spelling.{IsHeard, spelling}
 use Rattle.wot_verdict.specs.declared.verdict.Verdict.{Verdict}
@@ -30,8 +29,8 @@ use Rattle.wot_cache.specs.Views.{root_fault, time_fault, view_at}
 use Rattle.wot_cache.specs.State.{Engine, State, start, state_of, importing, judging, rooting, timing}
 use Rattle.wot_cache.specs.Dump.{IsRestored, after, after_all, commands_of, judged_by, unless_refused}
 use Rattle.wot_engine.specs.Lines.{is_silent, longest}
-use Rattle.wot_engine.specs.Outcome.{Outcome, done, import, imports, judge, only, root, time, unless}
-use Rattle.wot_engine.specs.Step.{Answers, Does, Gives, Spells, Step}
+use Rattle.wot_engine.specs.Outcome.{Outcome, done, imports, judge, only, unless}
+use Rattle.wot_engine.specs.Step.{Answers, Does, Gives, Step}
 use Rattle.wot_engine.specs.Transcript.{Run}
 use Rattle.wot_engine.specs.Fresh.{HaveReplies, IsMadeAnew, dumped}
 use Rattle.wot_engine.proofs.CutLines.{lines_of-feed}

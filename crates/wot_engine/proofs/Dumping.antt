@@ -1,11 +1,10 @@
 -- The line `dump`.
-use Rattle.std.proofs.Common.{◌≡◌, ℕ, ◌<◌, false, true, List, length, Option, Some, None, refl, sym, ap, subst, ◌∙◌, arith}
+use Rattle.std.proofs.Common.{◌≡◌, ℕ, List, Option, Some, None, refl, sym, ap, subst, ◌∙◌}
 use Rattle.std.specs.Prelude.{codes}
 use Rattle.std.proofs.lemmas.Option.{same_Some}
 use Rattle.wot_script.specs.declared.command.Command.{Command}
 use Rattle.wot_script.specs.declared.command.Command.TheVariants.{Dump}
 use Rattle.wot_script.specs.Grammar.{command_of, single_of}
-use Rattle.wot_engine.specs.Lines.{is_silent}
 use Rattle.wot_engine.specs.Fresh.{IsDump, OnDump}
 
 dump_read : command_of (codes "dump") ≡ Some Dump

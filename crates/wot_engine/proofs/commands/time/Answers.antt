@@ -1,4 +1,4 @@
-use Rattle.std.proofs.Common.{◌≡◌, ap, ◌∙◌}
+use Rattle.std.proofs.Common.{ap}
 use Rattle.wot_types.specs.Limits.{standard_limits}
 use Rattle.wot_cache.specs.State.{state_of, timing}
 use Rattle.wot_cache.specs.Views.{time_fault}

@@ -1,4 +1,4 @@
-use Rattle.std.proofs.Common.{rules, ◌≡◌}
+use Rattle.std.proofs.Common.{rules}
 use Rattle.wot_engine.proofs.Keeping.{found}
 use Rattle.wot_engine.proofs.listing.cert_of.Goals as goal
 
