@@ -102,10 +102,7 @@ lawful_line fpr (l ∷ lines) line all e = by (is_fpr fpr l.0) (λ f. lawful_lin
 
 -- ---- of a network that is right for a keyring, as its roads see both
 
-pub seen : (p : Present) (k : Keyring) (t : ℕ) → p.keyring ≡ k → p.time ≡ t → record { keyring = k; time = t } ≡ p
-seen p k t e f = λ i. record { keyring = (sym e) i; time = (sym f) i }
-
-module _ (n : Net) (k : Keyring) (right : IsRight n k n.time) (p : Present) (view : record { keyring = k; time = n.time } ≡ p) where
+module _ (n : Net) (k : Keyring) (right : IsRight n k n.time) where
   abbrev here : Present
   here = record { keyring = k; time = n.time }
 
@@ -115,69 +112,67 @@ module _ (n : Net) (k : Keyring) (right : IsRight n k n.time) (p : Present) (vie
   no_line : (fpr : Fpr) → lookup (is_fpr fpr) n.lines ≡ None → lookup (is_fpr fpr) (certificates_in k) ≡ None
   no_line fpr e = line_none (certificates_in k) k.verdicts n.time fpr (subst (λ (l : Lines). lookup (is_fpr fpr) l ≡ None) right.lines e)
 
-  pub rows_some : (u : List ℕ) (fpr : Fpr) (line : Line) → lookup (is_fpr fpr) n.lines ≡ Some line → line.edges ≡ edges_into (told_of p u) fpr
+  pub rows_some : (u : List ℕ) (fpr : Fpr) (line : Line) → lookup (is_fpr fpr) n.lines ≡ Some line → line.edges ≡ edges_into (told_of here u) fpr
   rows_some u fpr line e =
       let (c, f, s) = found_line fpr line e in
-      subst (λ (q : Present). line.edges ≡ edges_into (told_of q u) fpr) view (ap (λ (l : Line). l.edges) (sym s) ∙ sym (edges_some (certificates_in k) k.verdicts n.time u fpr c f))
+      ap (λ (l : Line). l.edges) (sym s) ∙ sym (edges_some (certificates_in k) k.verdicts n.time u fpr c f)
 
-  pub rows_none : (u : List ℕ) (fpr : Fpr) → lookup (is_fpr fpr) n.lines ≡ None → ◌≡◌ {A = List EdgeFacts} [] (edges_into (told_of p u) fpr)
-  rows_none u fpr e = subst (λ (q : Present). ◌≡◌ {A = List EdgeFacts} [] (edges_into (told_of q u) fpr)) view (sym (edges_none (certificates_in k) k.verdicts n.time u fpr (no_line fpr e)))
+  pub rows_none : (u : List ℕ) (fpr : Fpr) → lookup (is_fpr fpr) n.lines ≡ None → ◌≡◌ {A = List EdgeFacts} [] (edges_into (told_of here u) fpr)
+  rows_none u fpr e = sym (edges_none (certificates_in k) k.verdicts n.time u fpr (no_line fpr e))
 
-  pub entries_here : (u : List ℕ) → AreLawful n.lines → AreEntries (told_of p u)
-  entries_here u h = subst (λ (q : Present). AreEntries (told_of q u)) view (lawful_entries (certificates_in k) k.verdicts n.time u (subst AreLawful right.lines h))
+  pub entries_here : (u : List ℕ) → AreLawful n.lines → AreEntries (told_of here u)
+  entries_here u h = lawful_entries (certificates_in k) k.verdicts n.time u (subst AreLawful right.lines h)
 
-  row_here : (u : List ℕ) (fpr : Fpr) (row : Row) → Has (rows_into (told_of p u) fpr) row
+  row_here : (u : List ℕ) (fpr : Fpr) (row : Row) → Has (rows_into (told_of here u) fpr) row
       → (c : Certificate) × (lookup (is_fpr fpr) (certificates_in k) ≡ Some c) × (row ≡ row_of k.verdicts (certificates_in k) n.time u c row.edge)
-  row_here u fpr row h = row_told (certificates_in k) k.verdicts n.time u fpr row (subst (λ (q : Present). Has (rows_into (told_of q u) fpr) row) (sym view) h)
+  row_here u fpr row h = row_told (certificates_in k) k.verdicts n.time u fpr row h
 
-  usable_here : (u : List ℕ) (fpr : Fpr) (row : Row) (f : EdgeFacts) → Has (rows_into (told_of p u) fpr) row → row.edge ≡ f → row.usable ≡ is_usable_by k.verdicts (certificates_in k) n.time f.issuer f.made
+  usable_here : (u : List ℕ) (fpr : Fpr) (row : Row) (f : EdgeFacts) → Has (rows_into (told_of here u) fpr) row → row.edge ≡ f → row.usable ≡ is_usable_by k.verdicts (certificates_in k) n.time f.issuer f.made
   usable_here u fpr row f h e =
       let (c, g, s) = row_here u fpr row h in
       ap (λ (r : Row). r.usable) s ∙ ap (λ (x : EdgeFacts). is_usable_by k.verdicts (certificates_in k) n.time x.issuer x.made) e
 
   pub usable_some : (u : List ℕ) (fpr : Fpr) (row : Row) (f : EdgeFacts) (line : Line) → lookup (is_fpr f.issuer) n.lines ≡ Some line
-      → Has (rows_into (told_of p u) fpr) row → row.edge ≡ f → row.usable ≡ is_usable line.standing f.made
+      → Has (rows_into (told_of here u) fpr) row → row.edge ≡ f → row.usable ≡ is_usable line.standing f.made
   usable_some u fpr row f line l h e =
       let (c, g, s) = found_line f.issuer line l in
       usable_here u fpr row f h e
       ∙ ap (λ (o : Option Certificate). option_map_or (λ (x : Certificate). is_usable (standing_of k.verdicts x n.time) f.made) o false) g
       ∙ ap (λ (x : Line). is_usable x.standing f.made) s
 
-  pub usable_none : (u : List ℕ) (fpr : Fpr) (row : Row) (f : EdgeFacts) → lookup (is_fpr f.issuer) n.lines ≡ None → Has (rows_into (told_of p u) fpr) row → row.edge ≡ f → row.usable ≡ false
+  pub usable_none : (u : List ℕ) (fpr : Fpr) (row : Row) (f : EdgeFacts) → lookup (is_fpr f.issuer) n.lines ≡ None → Has (rows_into (told_of here u) fpr) row → row.edge ≡ f → row.usable ≡ false
   usable_none u fpr row f l h e =
       usable_here u fpr row f h e
       ∙ ap (λ (o : Option Certificate). option_map_or (λ (x : Certificate). is_usable (standing_of k.verdicts x n.time) f.made) o false) (no_line f.issuer l)
 
-  scope_here : (u : List ℕ) (fpr : Fpr) (row : Row) (f : EdgeFacts) → Has (rows_into (told_of p u) fpr) row → row.edge ≡ f
+  scope_here : (u : List ℕ) (fpr : Fpr) (row : Row) (f : EdgeFacts) → Has (rows_into (told_of here u) fpr) row → row.edge ≡ f
       → (c : Certificate) × (lookup (is_fpr fpr) (certificates_in k) ≡ Some c) × (row.scope ≡ is_in_scope c.user_ids u f)
   scope_here u fpr row f h e =
       let (c, g, s) = row_here u fpr row h in
       (c, g, ap (λ (r : Row). r.scope) s ∙ ap (λ (x : EdgeFacts). is_in_scope c.user_ids u x) e)
 
-  pub scope_some : (u : List ℕ) (row : Row) (f : EdgeFacts) (c : Certificate) → cert_at k f.target ≡ Some c → Has (rows_into (told_of p u) f.target) row → row.edge ≡ f → row.scope ≡ is_in_scope c.user_ids u f
+  pub scope_some : (u : List ℕ) (row : Row) (f : EdgeFacts) (c : Certificate) → cert_at k f.target ≡ Some c → Has (rows_into (told_of here u) f.target) row → row.edge ≡ f → row.scope ≡ is_in_scope c.user_ids u f
   scope_some u row f c at h e =
       let (d, g, r) = scope_here u f.target row f h e in
       let same : d ≡ c = (let q : Some d ≡ Some c = sym g ∙ kept_at k f.target ∙ at in cc) in
       r ∙ ap (λ (x : Certificate). is_in_scope x.user_ids u f) same
 
-  pub scope_none : (u : List ℕ) (row : Row) (f : EdgeFacts) → cert_at k f.target ≡ None → Has (rows_into (told_of p u) f.target) row → ⊥
+  pub scope_none : (u : List ℕ) (row : Row) (f : EdgeFacts) → cert_at k f.target ≡ None → Has (rows_into (told_of here u) f.target) row → ⊥
   scope_none u row f at h =
       let (d, g, r) = row_here u f.target row h in
       let q : Some d ≡ None = sym g ∙ kept_at k f.target ∙ at in cc
 
-  pub absent : (u : List ℕ) (fpr : Fpr) → lookup (is_fpr fpr) (certificates_in k) ≡ None → blank ≡ entry_at (told_of p u) fpr
-  absent u fpr e = subst (λ (q : Present). blank ≡ entry_at (told_of q u) fpr) view (sym (entry_none (certificates_in k) k.verdicts n.time u fpr e))
+  pub absent : (u : List ℕ) (fpr : Fpr) → lookup (is_fpr fpr) (certificates_in k) ≡ None → blank ≡ entry_at (told_of here u) fpr
+  absent u fpr e = sym (entry_none (certificates_in k) k.verdicts n.time u fpr e)
 
-  pub absent_line : (u : List ℕ) (fpr : Fpr) → lookup (is_fpr fpr) n.lines ≡ None → blank ≡ entry_at (told_of p u) fpr
+  pub absent_line : (u : List ℕ) (fpr : Fpr) → lookup (is_fpr fpr) n.lines ≡ None → blank ≡ entry_at (told_of here u) fpr
   absent_line u fpr e = absent u fpr (no_line fpr e)
 
-  pub absent_cert : (u : List ℕ) (fpr : Fpr) → cert_at k fpr ≡ None → blank ≡ entry_at (told_of p u) fpr
+  pub absent_cert : (u : List ℕ) (fpr : Fpr) → cert_at k fpr ≡ None → blank ≡ entry_at (told_of here u) fpr
   absent_cert u fpr e = absent u fpr (kept_at k fpr ∙ e)
 
-  pub present : (u : List ℕ) (fpr : Fpr) (c : Certificate) → cert_at k fpr ≡ Some c → entry_of k.verdicts (certificates_in k) n.time u c ≡ entry_at (told_of p u) fpr
-  present u fpr c e =
-      subst (λ (q : Present). entry_of k.verdicts (certificates_in k) n.time u c ≡ entry_at (told_of q u) fpr) view
-      (sym (entry_some (certificates_in k) k.verdicts n.time u fpr c (kept_at k fpr ∙ e)))
+  pub present : (u : List ℕ) (fpr : Fpr) (c : Certificate) → cert_at k fpr ≡ Some c → entry_of k.verdicts (certificates_in k) n.time u c ≡ entry_at (told_of here u) fpr
+  present u fpr c e = sym (entry_some (certificates_in k) k.verdicts n.time u fpr c (kept_at k fpr ∙ e))
 
   pub standing_here : (fpr : Fpr) (line : Line) (c : Certificate) → lookup (is_fpr fpr) n.lines ≡ Some line → cert_at k fpr ≡ Some c → line.standing ≡ standing_of k.verdicts c n.time
   standing_here fpr line c l e =

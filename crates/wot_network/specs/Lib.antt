@@ -1,3 +1,4 @@
 pub mod Told
 pub mod Net
 pub mod Local
+pub mod Roads

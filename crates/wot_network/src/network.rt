@@ -46,6 +46,8 @@ impl Model for Network {
 }
 
 impl Network {
+    ghost use Rattle.wot_network.specs.Roads.{present_of};
+
     /// A network with the time `t`, of which nothing was made yet. It fits every keyring. Takes no memory.
     pub fn new(alloc: Global, t: u32) -> Network
         ensures time { result.time ≡ t }
@@ -99,16 +101,19 @@ impl Network {
     /// The roads of the network, of which it holds what was made of the keyring.
     pub fn roads<'a>(&'a self, keyring: &'a Keyring) -> NetRoads<'a>
         requires right { IsRight self.now keyring.now self.now.time }
-        ensures keyring { result.keyring ≡ keyring.now }
-        ensures time { result.time ≡ self.now.time }
-        ensures entries { (u : List ℕ) → AreEntries (told_of result u) }
-        ensures lawful { (u : List ℕ) → IsRecord (told_of result u) }
-        ensures local { IsLocal (certificates_in keyring.now) keyring.now.verdicts self.now.time (told_of result) }
+        ensures keyring { (present_of result).keyring ≡ keyring.now }
+        ensures time { (present_of result).time ≡ self.now.time }
+        ensures entries { (u : List ℕ) → AreEntries (told_of (present_of result) u) }
+        ensures lawful { (u : List ℕ) → IsRecord (told_of (present_of result) u) }
+        ensures local { IsLocal (certificates_in keyring.now) keyring.now.verdicts self.now.time (told_of (present_of result)) }
     {
         entries_are_record();
         records_agree();
         self.is_lawful();
-        NetRoads::of(self, keyring)
+        NetRoads {
+            network: self,
+            keyring,
+        }
     }
 
     /// A law: what it holds of each certificate stands in order, into that certificate.

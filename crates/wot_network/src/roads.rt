@@ -1,10 +1,8 @@
-ghost use Rattle.std.specs.Prelude.{◌≡◌};
-ghost use Rattle.wot_network.specs.Net.{IsRight, told_of};
+ghost use Rattle.wot_network.specs.Net.{IsRight};
 
 use crate::network::Network;
 use crate::user_ids::{holds_for, is_in_order, place_of};
 use std::alloc::Global;
-use std::marker::Model;
 use wot_edge::laws::entries_are_record;
 use wot_edge::{Edge, Roads};
 use wot_keyring::Keyring;
@@ -14,32 +12,16 @@ use wot_types::{Fpr, Memory};
 /// The roads of a keyring as it is, at one time, by the network that was made of it.
 #[derive(Drop)]
 pub struct NetRoads<'a> {
-    network: &'a Network,
-    keyring: &'a Keyring,
-}
-
-impl<'a> Model for NetRoads<'a> {
-    ghost use Rattle.wot_network.specs.Net.{Present, IsRight};
-
-    ghost Value = { Present };
-
-    ghost view = { λ a. record { keyring = a.keyring.now; time = a.network.now.time } };
-
-    ghost invariant = { λ a. IsRight a.network.now a.keyring.now a.network.now.time };
-}
-
-impl<'a> NetRoads<'a> {
-    pub(crate) fn of(network: &'a Network, keyring: &'a Keyring) -> NetRoads<'a>
-        requires right { IsRight network.now keyring.now network.now.time }
-        ensures keyring { result.keyring ≡ keyring.now }
-        ensures time { result.time ≡ network.now.time }
-    {
-        NetRoads { network, keyring }
-    }
+    pub(crate) network: &'a Network,
+    pub(crate) keyring: &'a Keyring,
+    ghost right: { IsRight network.now keyring.now network.now.time },
 }
 
 impl<'a> Roads for NetRoads<'a> {
-    ghost told = { λ roads uid. told_of roads uid };
+    ghost use Rattle.wot_network.specs.Net.{told_of};
+    ghost use Rattle.wot_network.specs.Roads.{present_of};
+
+    ghost told = { λ roads uid. told_of (present_of roads) uid };
 
     fn rows(&self, target: &Fpr) -> &[Edge] {
         entries_are_record();

@@ -15,10 +15,10 @@ pub returns-in-Some : goal.returns-in-Some
 returns-in-Some c = record {
   place = c.place_of.ensures.place
       ∙ ap (λ (uids : List Component). place_of c.args.uid.now uids) c.user_ids.ensures.user_ids
-      ∙ ap (λ (e : Entry). e.place) (present c.self.inside.network.now c.self.inside.keyring.now c.self.invariant c.args.self.now c.self.view_is c.args.uid.now c.args.target.now c.in-Some.cert.now (sym c.in-Some.ensures.found));
+      ∙ ap (λ (e : Entry). e.place) (present c.args.self.now.network.now c.args.self.now.keyring.now c.args.self.now.right c.args.uid.now c.args.target.now c.in-Some.cert.now (sym c.in-Some.ensures.found));
 }
 
 pub returns-in-None : goal.returns-in-None
 returns-in-None c = record {
-  place = ap (λ (e : Entry). e.place) (absent_cert c.self.inside.network.now c.self.inside.keyring.now c.self.invariant c.args.self.now c.self.view_is c.args.uid.now c.args.target.now (sym c.in-None.ensures.found));
+  place = ap (λ (e : Entry). e.place) (absent_cert c.args.self.now.network.now c.args.self.now.keyring.now c.args.self.now.right c.args.uid.now c.args.target.now (sym c.in-None.ensures.found));
 }

@@ -3,32 +3,33 @@ use Rattle.std.specs.List.Sorted.{IsStrictlySortedBy}
 use Rattle.wot_edge.specs.declared.edge.EdgeFacts.{EdgeFacts}
 use Rattle.wot_edge.specs.Order.{edge_cmp}
 use Rattle.wot_network.specs.Net.{told_of}
+use Rattle.wot_network.specs.Roads.{present_of}
 use Rattle.wot_network.proofs.Looking.{rows_some, rows_none, entries_here, lawful_line, none_in_order}
 use Rattle.wot_network.proofs.roads.NetRoadsRoads.rows.Goals as goal
 
 pub returns-in-Some-clause-rows : goal.returns-in-Some-clause-rows
 returns-in-Some-clause-rows c uid =
     c.edges.ensures.edges
-    ∙ rows_some c.self.inside.network.now c.self.inside.keyring.now c.self.invariant c.args.self.now c.self.view_is uid c.args.target.now c.in-Some.line.now (sym c.in-Some.ensures.found)
+    ∙ rows_some c.args.self.now.network.now c.args.self.now.keyring.now c.args.self.now.right uid c.args.target.now c.in-Some.line.now (sym c.in-Some.ensures.found)
 
 pub returns-in-Some-clause-order : goal.returns-in-Some-clause-order
 returns-in-Some-clause-order c =
     subst (λ (edges : List EdgeFacts). IsStrictlySortedBy edge_cmp edges) (sym c.edges.ensures.edges)
-    (lawful_line c.args.target.now c.self.inside.network.now.lines c.in-Some.line.now c.line.ensures.lawful (sym c.in-Some.ensures.found))
+    (lawful_line c.args.target.now c.args.self.now.network.now.lines c.in-Some.line.now c.line.ensures.lawful (sym c.in-Some.ensures.found))
 
 pub returns-in-Some-clause-lawful : goal.returns-in-Some-clause-lawful
 returns-in-Some-clause-lawful c uid =
-    c.entries_are_record.ensures.lawful (told_of c.args.self.now uid)
-    (entries_here c.self.inside.network.now c.self.inside.keyring.now c.self.invariant c.args.self.now c.self.view_is uid c.line.ensures.lawful)
+    c.entries_are_record.ensures.lawful (told_of (present_of c.args.self.now) uid)
+    (entries_here c.args.self.now.network.now c.args.self.now.keyring.now c.args.self.now.right uid c.line.ensures.lawful)
 
 pub returns-in-None-clause-rows : goal.returns-in-None-clause-rows
 returns-in-None-clause-rows c uid =
-    rows_none c.self.inside.network.now c.self.inside.keyring.now c.self.invariant c.args.self.now c.self.view_is uid c.args.target.now (sym c.in-None.ensures.found)
+    rows_none c.args.self.now.network.now c.args.self.now.keyring.now c.args.self.now.right uid c.args.target.now (sym c.in-None.ensures.found)
 
 pub returns-in-None-clause-order : goal.returns-in-None-clause-order
 returns-in-None-clause-order c = none_in_order
 
 pub returns-in-None-clause-lawful : goal.returns-in-None-clause-lawful
 returns-in-None-clause-lawful c uid =
-    c.entries_are_record.ensures.lawful (told_of c.args.self.now uid)
-    (entries_here c.self.inside.network.now c.self.inside.keyring.now c.self.invariant c.args.self.now c.self.view_is uid c.line.ensures.lawful)
+    c.entries_are_record.ensures.lawful (told_of (present_of c.args.self.now) uid)
+    (entries_here c.args.self.now.network.now c.args.self.now.keyring.now c.args.self.now.right uid c.line.ensures.lawful)
