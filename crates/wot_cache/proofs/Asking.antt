@@ -1,7 +1,6 @@
 -- What is asked over the roads of an open view is the view's question.
-use Rattle.std.proofs.Common.{◌≡◌, ℕ, List, Option, Some, None, Result, Ok, Err, sym, ap, subst}
+use Rattle.std.proofs.Common.{◌≡◌, ℕ, List, Option, Some, None, Result, Ok, Err, sym, ap, subst, ◌∙◌}
 use Rattle.std.specs.Prelude.{IfOk, IfSome, IsSomeAnd}
-use Rattle.std.specs.Map.{lookup}
 use Rattle.wot_types.specs.declared.fpr.Fpr.{Fpr}
 use Rattle.wot_verdict.specs.Verdicts.{Entries}
 use Rattle.wot_edge.specs.Path.{Question, asks}
@@ -10,23 +9,27 @@ use Rattle.wot_keyring.specs.Keyring.{Certificates, Keyring}
 use Rattle.wot_network.specs.Local.{IsLocal}
 use Rattle.wot_network.specs.Net.{Net, IsRight, Present, told_of}
 use Rattle.wot_cache.specs.declared.view.View.{View}
-use Rattle.wot_cache.specs.Inside.{IsPresent, Networks}
+use Rattle.wot_cache.specs.Inside.{HasRight, IsTimely, Networks, network_at}
 use Rattle.wot_cache.specs.Question.{question_in}
 use Rattle.wot_cache.specs.State.{Engine, state_of}
-use Rattle.wot_cache.specs.Views.{Views, is_name, view_at}
+use Rattle.wot_cache.specs.Views.{Views, view_at}
 
 pub if_ok : {A E : Type 0} (r : Result A E) (P Q : A → Type 0) → ((a : A) → P a → Q a) → IfOk r P → IfOk r Q
 if_ok (Ok a) P Q step p = step a p
 if_ok (Err e) P Q step p = tt
 
--- the network of a view that is present has the view's time
-pub present_time : (networks : Networks) (views : Views) (k : Keyring) (name : List ℕ) (n : Net) → IsPresent networks views k name
-    → lookup (is_name name) networks ≡ Some n → IfSome (view_at views name) (λ (v : View). n.time ≡ v.time)
-present_time networks views k name n present found = by (view_at views name) present
+-- ---- the network of a view
+
+-- what is of the network's time is of the view's
+pub time_then : (views : Views) (name : List ℕ) (networks : Networks) (k : Keyring) (t : ℕ) → HasRight networks k name → IsTimely networks views name
+    → IfSome (network_at networks name) (λ (n : Net). t ≡ n.time) → IfSome (view_at views name) (λ (v : View). t ≡ v.time)
+time_then views name networks k t = by (view_at views name) (network_at networks name)
   where
-    by : (o : Option View) → IsSomeAnd o (λ (v : View). IsSomeAnd (lookup (is_name name) networks) (λ (n : Net). IsRight n k v.time)) → IfSome o (λ (v : View). n.time ≡ v.time)
-    by None h = absurd h
-    by (Some v) h = (subst (λ (m : Option Net). IsSomeAnd m (λ (n : Net). IsRight n k v.time)) found h).time
+    by : (o : Option View) (p : Option Net) → IsSomeAnd p (λ (n : Net). IsRight n k n.time) → IfSome o (λ (v : View). IfSome p (λ (n : Net). n.time ≡ v.time))
+        → IfSome p (λ (n : Net). t ≡ n.time) → IfSome o (λ (v : View). t ≡ v.time)
+    by None p right timely same = tt
+    by (Some v) None right timely same = absurd right
+    by (Some v) (Some n) right timely same = same ∙ timely
 
 -- what is local at a time is local at each time that is the same
 pub local_then : (certs : Certificates) (verdicts : Entries) (told : List ℕ → Record) (t : ℕ) (o : Option View) → IfSome o (λ (v : View). t ≡ v.time)
@@ -53,3 +56,7 @@ as_asked P engine k views name shown p target uid seen found same time holds =
     subst P (at_time k views shown p target uid same timely) holds in
     subst (λ (e : Engine). IfSome (view_at e.views name) (λ (v : View). P (question_in (state_of e) v target uid))) seen
     (subst (λ (o : Option View). IfSome o (λ (v : View). P (question_in (state_of (record { keyring = k; views = views })) v target uid))) (sym found) here)
+
+-- an engine with another network is as it was
+pub same_engine : (engine : Engine) (k new : Keyring) (views : Views) → record { keyring = k; views = views } ≡ engine → new ≡ k → record { keyring = new; views = views } ≡ engine
+same_engine engine k new views seen same = ap (λ (k : Keyring). record { keyring = k; views = views }) same ∙ seen

@@ -1,5 +1,5 @@
 -- What is true of every engine: of its keyring, its views, and the networks that it keeps for them.
-use Rattle.std.specs.Prelude.{ℕ, List, IsSomeAnd}
+use Rattle.std.specs.Prelude.{◌≡◌, ℕ, List, Option, IfSome, IsSomeAnd}
 use Rattle.std.specs.List.{AllByRecursion}
 use Rattle.std.specs.Map.{lookup}
 use Rattle.wot_keyring.specs.Keyring.{Keyring}
@@ -20,7 +20,15 @@ pub record IsEngine (k : Keyring) (views : Views) (networks : Networks) : Type 0
   pub within : IsWithin k.limits views
   pub fit : AllFit networks k
 
--- A view is open, and its network is that of the keyring as it is, at the view's time.
-abbrev pub IsPresent : Networks → Views → Keyring → List ℕ → Type 0
-IsPresent networks views k name =
-    IsSomeAnd (view_at views name) (λ (v : View). IsSomeAnd (lookup (is_name name) networks) (λ (n : Net). IsRight n k v.time))
+-- the network that is kept for a view
+abbrev pub network_at : Networks → List ℕ → Option Net
+network_at networks name = lookup (is_name name) networks
+
+-- There is one, and it is that of the keyring as it is, at its time.
+abbrev pub HasRight : Networks → Keyring → List ℕ → Type 0
+HasRight networks k name = IsSomeAnd (network_at networks name) (λ (n : Net). IsRight n k n.time)
+
+-- Its time is the view's.
+abbrev pub IsTimely : Networks → Views → List ℕ → Type 0
+IsTimely networks views name =
+    IfSome (view_at views name) (λ (v : View). IfSome (network_at networks name) (λ (n : Net). n.time ≡ v.time))

@@ -7,6 +7,7 @@ ghost use Rattle.wot_edge.specs.Capacity.{AllFit};
 ghost use Rattle.wot_edge.specs.Path.{asks, use_of, IsSpent};
 ghost use Rattle.wot_edge.specs.Roots.{root_amount};
 ghost use Rattle.wot_network.specs.Net.{told_of};
+ghost use Rattle.wot_network.specs.Roads.{present_of};
 
 use crate::view::AskFault;
 use std::alloc::Global;
@@ -27,10 +28,10 @@ pub fn answer(
 ) -> Result<Answer, AskFault>
     requires wanted { 1 ≤ wanted }
     requires few { length roots.now ≤ 64 }
-    ensures answer { IfOk result (λ a. IsAnswer (asks (told_of roads.now uid.now) roots.now target.now) wanted a.paths) }
-    ensures one { IfOk result (λ a. (paths : List ThePath) → IsAnswer (asks (told_of roads.now uid.now) roots.now target.now) wanted paths → paths ≡ a.paths) }
+    ensures answer { IfOk result (λ a. IsAnswer (asks (told_of (present_of roads.now) uid.now) roots.now target.now) wanted a.paths) }
+    ensures one { IfOk result (λ a. (paths : List ThePath) → IsAnswer (asks (told_of (present_of roads.now) uid.now) roots.now target.now) wanted paths → paths ≡ a.paths) }
     ensures sum { IfOk result (λ a. a.sum ≡ amount_of a.paths) }
-    ensures zero { IfOk result (λ a. (a.sum ≡ 0) ↔ IsSpent (asks (told_of roads.now uid.now) roots.now target.now) (use_of [])) }
+    ensures zero { IfOk result (λ a. (a.sum ≡ 0) ↔ IsSpent (asks (told_of (present_of roads.now) uid.now) roots.now target.now) (use_of [])) }
     ensures pairs { IfOk result (λ a. AllFit [] a.paths) }
     ensures memory { OnErr result (result ≡ Err AskFault.Memory) }
     ensures roots { IfOk result (λ a. (fpr : TheFpr) → (use_of a.paths).root fpr ≤ root_amount roots.now fpr) }

@@ -1,18 +1,22 @@
-ghost use Rattle.std.specs.Prelude.{◌≡◌, ◌≢◌, ◌<◌, ◌≤◌, ◌+◌, ◌-◌, ◌^◌, ◌++◌, ◌↔◌, List, [], length, IfOk, IfSome, Some, None, is_ok, is_some, OnOk, OnErr};
+ghost use Rattle.std.specs.Prelude.{◌≡◌, ◌≢◌, ◌<◌, ◌≤◌, ◌+◌, ◌-◌, ◌^◌, ◌++◌, ◌↔◌, ℕ, List, [], length, IfOk, IfSome, Some, None, is_ok, is_some, OnOk, OnErr};
 ghost use Rattle.std.specs.Option.{option_copied, option_map};
 ghost use Rattle.wot_policy.specs.Kept.{IsFaithful, rows_of, asked_more};
 ghost use Rattle.wot_types.specs.declared.fpr.Fpr.{Fpr as TheFpr};
-ghost use Rattle.wot_keyring.specs.Keyring.{verdict_on};
+ghost use Rattle.wot_keyring.specs.Keyring.{certificates_in, verdict_on};
 ghost use Rattle.wot_keyring.specs.Kept.{AreSmall, IsJudgedBy, StaysJudged};
 ghost use Rattle.wot_keyring.specs.Import.{Answers, AsksFor, IsOneChange, imported};
 ghost use Rattle.wot_keyring.specs.Removal.{without_cert};
 ghost use Rattle.wot_keyring.specs.Verdict.{with_verdict_on, without_verdict_on, TellsFull};
 ghost use Rattle.wot_edge.specs.Answer.{IsAnswer, amount_of};
 ghost use Rattle.wot_edge.specs.Capacity.{AllFit};
+ghost use Rattle.wot_edge.specs.Lawful.{AreEntries};
 ghost use Rattle.wot_edge.specs.Path.{use_of, IsSpent};
+ghost use Rattle.wot_edge.specs.Record.{IsRecord};
 ghost use Rattle.wot_edge.specs.Roots.{root_amount, IsRoots};
 ghost use Rattle.wot_edge.specs.declared.path.Path.{Path as ThePath};
-ghost use Rattle.wot_network.specs.Net.{signatures_in};
+ghost use Rattle.wot_network.specs.Local.{IsLocal};
+ghost use Rattle.wot_network.specs.Net.{signatures_in, told_of};
+ghost use Rattle.wot_network.specs.Roads.{present_of};
 ghost use Rattle.wot_keyring.specs.Dump.{lines_of, AreLines};
 ghost use Rattle.wot_policy.specs.declared.rows.PolicyRows.{PolicyRows as Rows};
 ghost use Rattle.wot_cache.specs.Dump.{commands_of, IsRestored};
@@ -22,8 +26,8 @@ ghost use Rattle.wot_cache.specs.Views.{view_at, with_time, time_fault, with_roo
 
 use crate::ask::answer;
 use crate::dump::put_engine;
-use crate::networks::{self, Networks};
-use crate::present;
+use crate::networks;
+use crate::present::Held;
 use crate::view::{AskFault, NoView, View, ViewFault};
 use crate::views::{self, Views};
 use std::alloc::Global;
@@ -32,6 +36,7 @@ use std::marker::Model;
 use wot_auth::Answer;
 use wot_edge::Roots;
 use wot_keyring::{Absent, Imported, Keyring, Refusal};
+use wot_network::NetRoads;
 use wot_policy::{Ask, Policy};
 use wot_types::{Fpr, Limit, Limits, Memory, SigNumber, Steps, ViewName};
 use wot_verdict::Verdict;
@@ -40,9 +45,8 @@ use wot_verdict::Verdict;
 #[derive(Drop)]
 pub struct Engine {
     alloc: Global,
-    keyring: Keyring,
     views: Views,
-    networks: Networks,
+    held: Held,
 }
 
 impl Model for Engine {
@@ -51,12 +55,15 @@ impl Model for Engine {
 
     ghost Value = { TheEngine };
 
-    ghost view = { λ a. record { keyring = a.keyring; views = a.views.entries } };
+    ghost view = { λ a. record { keyring = a.held.keyring; views = a.views.entries } };
 
-    ghost invariant = { λ a. IsEngine a.keyring a.views.entries a.networks.entries };
+    ghost invariant = { λ a. IsEngine a.held.keyring a.views.entries a.held.networks.entries };
 }
 
 impl Engine {
+    ghost use Rattle.std.specs.Borrow.{sem};
+    ghost use Rattle.wot_cache.specs.Lent.{IsKept};
+
     /// An engine with no certificates, no verdicts and no views. Takes no memory.
     pub fn new(alloc: Global, limits: Limits) -> Engine
         requires small { AreSmall limits }
@@ -64,9 +71,11 @@ impl Engine {
     {
         Engine {
             alloc,
-            keyring: Keyring::new(alloc, limits),
             views: BTreeMap::new(alloc),
-            networks: BTreeMap::new(alloc),
+            held: Held {
+                keyring: Keyring::new(alloc, limits),
+                networks: BTreeMap::new(alloc),
+            },
         }
     }
 
@@ -74,7 +83,7 @@ impl Engine {
     pub fn keyring(&self) -> &Keyring
         ensures keyring { result.now ≡ self.now.keyring }
     {
-        &self.keyring
+        &self.held.keyring
     }
 
     /// `Keyring::import`, over the engine's keyring.
@@ -98,7 +107,7 @@ impl Engine {
         ensures limits { self.new.keyring.limits ≡ self.old.keyring.limits }
         ensures views { self.new.views ≡ self.old.views }
     {
-        self.keyring.import(self.alloc, bytes, policy)
+        self.held.keyring.import(self.alloc, bytes, policy)
     }
 
     /// `Keyring::remove`, over the engine's keyring. Takes no memory.
@@ -113,7 +122,7 @@ impl Engine {
         ensures limits { self.new.keyring.limits ≡ self.old.keyring.limits }
         ensures views { self.new.views ≡ self.old.views }
     {
-        self.keyring.remove(fpr)
+        self.held.keyring.remove(fpr)
     }
 
     /// `Keyring::set_verdict`, over the engine's keyring.
@@ -129,7 +138,7 @@ impl Engine {
         ensures limits { self.new.keyring.limits ≡ self.old.keyring.limits }
         ensures views { self.new.views ≡ self.old.views }
     {
-        self.keyring.set_verdict(number, verdict)
+        self.held.keyring.set_verdict(number, verdict)
     }
 
     /// `Keyring::clear_verdict`, over the engine's keyring. Takes no memory.
@@ -144,7 +153,7 @@ impl Engine {
         ensures limits { self.new.keyring.limits ≡ self.old.keyring.limits }
         ensures views { self.new.views ≡ self.old.views }
     {
-        self.keyring.clear_verdict(number)
+        self.held.keyring.clear_verdict(number)
     }
 
     /// Opens a view with this time and no roots, or moves the time of an open one, which keeps its roots.
@@ -157,7 +166,7 @@ impl Engine {
         if views::move_time(&mut self.views, view, t) {
             return Ok(());
         }
-        if self.keyring.limits().views <= self.views.len() as u64 {
+        if self.held.keyring.limits().views <= self.views.len() as u64 {
             return Err(ViewFault::Full(Limit::Views));
         }
         match view.duplicate(self.alloc) {
@@ -215,7 +224,7 @@ impl Engine {
         if amount == 0 {
             return Some(ViewFault::Absent);
         }
-        if self.keyring.limits().roots <= count {
+        if self.held.keyring.limits().roots <= count {
             return Some(ViewFault::Full(Limit::Roots));
         }
         None
@@ -232,7 +241,7 @@ impl Engine {
             return Err(NoView);
         }
         views::close(&mut self.views, view);
-        networks::forget(&mut self.networks, view);
+        networks::forget(&mut self.held.networks, view);
         Ok(())
     }
 
@@ -281,19 +290,28 @@ impl Engine {
         ensures kept { self.new ≡ self.old }
         ensures made_most { steps.new.made ≤ steps.old.made + signatures_in self.old.keyring }
     {
-        present::refresh(
-            self.alloc,
-            &mut self.networks,
-            &self.views,
-            &self.keyring,
-            view,
-            steps,
-        )?;
+        self.held.refresh(self.alloc, &self.views, view, steps)?;
         let Some(open) = views::find(&self.views, view) else {
             unreachable!()
         };
-        let roads = present::roads(&self.networks, &self.views, &self.keyring, view);
+        let roads = self.held.roads(view);
         answer(self.alloc, &roads, &open.roots, target, wanted, uid)
+    }
+
+    /// The roads that a question from an open view is asked over: those of the keyring as it is, at the view's time. The view's
+    /// network is made anew first, as `ask` makes it. The engine stays as it was.
+    pub fn roads(&mut self, view: &ViewName, steps: &mut Steps) -> Result<NetRoads<'_>, AskFault>
+        ensures* kept { sem 𝓛 (IsKept self.entry) }
+        ensures keyring { IfOk result (λ r. (present_of r).keyring ≡ self.old.keyring) }
+        ensures time { IfOk result (λ r. IfSome (view_at self.old.views view.now) (λ v. (present_of r).time ≡ v.time)) }
+        ensures entries { IfOk result (λ r. (u : List ℕ) → AreEntries (told_of (present_of r) u)) }
+        ensures lawful { IfOk result (λ r. (u : List ℕ) → IsRecord (told_of (present_of r) u)) }
+        ensures local { IfOk result (λ r. IfSome (view_at self.old.views view.now) (λ v. IsLocal (certificates_in self.old.keyring) self.old.keyring.verdicts v.time (told_of (present_of r)))) }
+        ensures open { TellsOpen result (view_at self.old.views view.now) }
+        ensures made_most { steps.new.made ≤ steps.old.made + signatures_in self.old.keyring }
+    {
+        self.held.refresh(self.alloc, &self.views, view, steps)?;
+        Ok(self.held.roads(view))
     }
 
     /// Appends a line for each certificate, each verdict, and each view with its roots: the commands that make this state
@@ -307,6 +325,6 @@ impl Engine {
         // By whatever rows the fresh engine judges.
         ensures restored { OnOk result ((rows : Rows) → IsRestored rows self.now) }
     {
-        put_engine(self.alloc, &self.keyring, &self.views, out)
+        put_engine(self.alloc, &self.held.keyring, &self.views, out)
     }
 }

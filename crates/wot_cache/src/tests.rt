@@ -6,6 +6,7 @@ use crate::{AskFault, Engine, NoView, ViewFault};
 use std::alloc::Global;
 use std::process::Abort;
 use std::test::Fail;
+use wot_edge::Roads;
 use wot_policy::{Ask, Policy, admits, standard_rows};
 use wot_script::{Command, read_line};
 use wot_types::{Fpr, Limit, Limits, Memory, Steps, ViewName};
@@ -178,6 +179,24 @@ fn answers_are_those_of_the_present(rt: HostRuntime) -> Result<(), Fail> {
     assert_eq!(rt; amount_of(&mut engine, &p, 120), Ok((50, 1, 0)));
     engine.remove(&R)?;
     assert_eq!(rt; amount_of(&mut engine, &p, 120), Ok((0, 0, 1)));
+    Ok(())
+}
+
+#[test]
+fn roads_of_a_view(rt: HostRuntime) -> Result<(), Fail> {
+    let mut engine = engine_of(rt.alloc(), &SCRIPT).ok_or("done")?;
+    let p = view_name(rt.alloc(), b"p")?;
+    let z = view_name(rt.alloc(), b"z")?;
+    let mut steps = Steps::new();
+    let roads = engine.roads(&p, &mut steps)?;
+    assert_eq!(rt; roads.rows(&T).len(), 1);
+    assert!(rt; roads.rows(&R).is_empty());
+    assert!(rt; roads.in_order(&T, b"t"));
+    assert!(rt; !roads.in_order(&T, b"u"));
+    assert_eq!(rt; roads.place(&T, b"t"), Some(0));
+    assert!(rt; engine.roads(&z, &mut steps).is_err());
+    assert_eq!(rt; steps.made, 1);
+    assert_eq!(rt; engine.time(&p), Some(5000));
     Ok(())
 }
 

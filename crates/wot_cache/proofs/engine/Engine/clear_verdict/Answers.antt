@@ -1,4 +1,4 @@
-use Rattle.std.proofs.Common.{◌≡◌, sym, subst}
+use Rattle.std.proofs.Common.{sym, subst}
 use Rattle.wot_keyring.specs.Kept.{IsJudgedBy}
 use Rattle.wot_cache.specs.State.{Engine}
 use Rattle.wot_cache.proofs.Plain.{on_ok, cleared_state}
@@ -10,4 +10,4 @@ returns-clause-judged c rows judged =
 
 pub returns-clause-state : goal.returns-clause-state
 returns-clause-state c =
-    on_ok c.clear_verdict.result _ _ (cleared_state c.args.self.now c.self.inside.keyring c.clear_verdict.new.self c.self.inside.views.entries c.args.number.now c.self.view_is) c.clear_verdict.ensures.cleared
+    on_ok c.clear_verdict.result _ _ (cleared_state c.args.self.now c.self.inside.held.keyring c.clear_verdict.new.self c.self.inside.views.entries c.args.number.now c.self.view_is) c.clear_verdict.ensures.cleared

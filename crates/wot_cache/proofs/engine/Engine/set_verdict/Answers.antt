@@ -17,8 +17,8 @@ returns-clause-set c =
 
 pub returns-clause-state : goal.returns-clause-state
 returns-clause-state c =
-    judged_state c.args.self.now c.self.inside.keyring c.set_verdict.new.self c.self.inside.views.entries c.args.number c.args.verdict c.set_verdict.result c.self.view_is c.set_verdict.ensures.same c.set_verdict.ensures.set
+    judged_state c.args.self.now c.self.inside.held.keyring c.set_verdict.new.self c.self.inside.views.entries c.args.number c.args.verdict c.set_verdict.result c.self.view_is c.set_verdict.ensures.same c.set_verdict.ensures.set
 
 pub returns-clause-limits : goal.returns-clause-limits
 returns-clause-limits c =
-    judged_limits c.args.self.now c.self.inside.keyring c.set_verdict.new.self c.self.inside.views.entries c.args.number c.args.verdict c.set_verdict.result c.self.view_is c.set_verdict.ensures.same c.set_verdict.ensures.set c.set_verdict.ensures.kept
+    judged_limits c.args.self.now c.self.inside.held.keyring c.set_verdict.new.self c.self.inside.views.entries c.args.number c.args.verdict c.set_verdict.result c.self.view_is c.set_verdict.ensures.same c.set_verdict.ensures.set c.set_verdict.ensures.kept
