@@ -7,6 +7,7 @@ use std::alloc::Global;
 use std::process::Abort;
 use std::test::Fail;
 use wot_edge::Roads;
+use wot_keyring::ExportFault;
 use wot_policy::{Ask, Policy, admits, standard_rows};
 use wot_script::{Command, read_line};
 use wot_types::{Fpr, Limit, Limits, Memory, Steps, ViewName};
@@ -158,6 +159,22 @@ fn a_dump_makes_the_state_anew(rt: HostRuntime) -> Result<(), Fail> {
         assert_eq!(rt; engine.dump(&mut text)?, 12);
         assert_eq!(rt; text.as_slice(), expected.as_slice());
     }
+    Ok(())
+}
+
+#[test]
+fn a_certificate_is_exported(rt: HostRuntime) -> Result<(), Fail> {
+    let engine = engine_of(rt.alloc(), &SCRIPT).ok_or("done")?;
+    let mut text = Vec::new(rt.alloc());
+    assert_eq!(rt; engine.keyring().export(&R, &mut text), Ok(()));
+    assert_eq!(rt;
+        engine.keyring().export(&A, &mut text),
+        Err(ExportFault::Absent)
+    );
+    assert_eq!(rt;
+        text.as_slice(),
+        b"\xc6\x07\x04\x00\x00\x03\xe8\x1b\x01\xc2\x10\x04\x1f\x1b\x08\x00\x06\x05\x02\x00\x00\x03\xe8\x00\x00\x00\x00".as_slice()
+    );
     Ok(())
 }
 

@@ -7,7 +7,6 @@ mod Runs
 mod Refusing
 mod Keeping
 mod Short
-mod Steps
 mod Progress
 mod Turns
 mod Replying

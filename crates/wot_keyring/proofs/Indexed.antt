@@ -2,6 +2,7 @@
 use Rattle.std.proofs.Common.{◌≡◌, Bool, true, false, ◌&&◌, ◌||◌, cond, List, [], ◌∷◌, ◌++◌, Option, Some, None, Result, Ok, Err, OnOk, sym, ap, ◌∙◌, subst, refl}
 use Rattle.std.specs.Cmp.{IsTotalOrder}
 use Rattle.std.specs.Ordering.{is_eq}
+use Rattle.std.proofs.lemmas.Bool.{or_right}
 use Rattle.std.proofs.lemmas.Cmp.{nat_list_cmp_total, on_total, tied_itself}
 use Rattle.std.proofs.lemmas.List.Folds.{list_any-append}
 use Rattle.std.proofs.lemmas.Map.Lookups.{CmpEqualImpliesEq, exact_bytes}
@@ -17,6 +18,7 @@ use Rattle.wot_keyring.specs.declared.index.Index.{Index}
 use Rattle.wot_keyring.specs.Keyring.{is_fpr}
 use Rattle.wot_keyring.specs.Index.{Places, place_of, is_place, is_noted, unless, is_logged, place_without, Notes, NotesOn, StillLogged}
 use Rattle.wot_keyring.specs.Verdict.{is_among, has_number}
+use Rattle.wot_keyring.proofs.Choices.{or_false, or_itself, or_more, or_passed, and_each, either_way}
 
 -- ---- numbers
 
@@ -26,47 +28,14 @@ numbers_total = on_total (λ (n : SigNumber). n.0) nat_list_cmp_total
 exact : CmpEqualImpliesEq number_cmp
 exact a b e = let octets = exact_bytes a.0 b.0 e in λ i. record { 0 = octets i }
 
-pub same_number : (a b : SigNumber) → is_number a b ≡ true → a ≡ b
+same_number : (a b : SigNumber) → is_number a b ≡ true → a ≡ b
 same_number a b h = tells_apart exact a b h
 
-pub itself : (a : SigNumber) → is_number a a ≡ true
+itself : (a : SigNumber) → is_number a a ≡ true
 itself a = ap is_eq (tied_itself numbers_total a)
-
--- ---- tests
-
-or_false : (a : Bool) → a || false ≡ a
-or_false true = refl
-or_false false = refl
-
-or_true : (a b : Bool) → b ≡ true → a || b ≡ true
-or_true true b h = refl
-or_true false b h = h
-
-or_itself : (a : Bool) → a || a ≡ a
-or_itself true = refl
-or_itself false = refl
-
-or_more : (a b c : Bool) → (a || b) || c ≡ a || (b || c)
-or_more true b c = refl
-or_more false b c = refl
-
-pub and_each : (a b f : Bool) → (a || b) && f ≡ (a && f) || (b && f)
-and_each true b true = refl
-and_each true true false = refl
-and_each true false false = refl
-and_each false b f = refl
-
-either_way : (a b : Bool) → (a ≡ true → b ≡ true) → (b ≡ true → a ≡ true) → a ≡ b
-either_way true b f g = sym (f refl)
-either_way false true f g = g refl
-either_way false false f g = refl
 
 pub turned : (a b : SigNumber) → is_number a b ≡ is_number b a
 turned a b = either_way (is_number a b) (is_number b a) (λ h. subst (λ (x : SigNumber). is_number x a ≡ true) (same_number a b h) (itself a)) (λ h. subst (λ (x : SigNumber). is_number x b ≡ true) (same_number b a h) (itself b))
-
-both : (a b : Bool) → a && b ≡ true → (a ≡ true) × (b ≡ true)
-both true b h = (refl, h)
-both false b h = absurd cc
 
 -- ---- one number noted
 
@@ -108,7 +77,7 @@ module _ (places places' : Places) (number : SigNumber) (fpr : Fpr) (put : (n : 
       ∙ ap (λ b. unless b (place_of places' n)) (list_any-append (is_number n) log (number ∷ []))
       ∙ ((elim (is_number n number) as (λ b. is_number n number ≡ b → unless (is_logged n log || (b || false)) (place_of places' n) ≡ place_without log places n) [
         | true ↦ λ same.
-            ap (λ b. unless b (place_of places' n)) (or_true (is_logged n log) true refl)
+            ap (λ b. unless b (place_of places' n)) (or_right (is_logged n log) true refl)
             ∙ sym (ap (unless (is_logged n log)) (ap (place_of places) (same_number n number same) ∙ none) ∙ unless_none (is_logged n log))
         | false ↦ λ other. ap (λ b. unless b (place_of places' n)) (or_false (is_logged n log)) ∙ ap (unless (is_logged n log)) (elsewhere n other)
       ]) refl)
@@ -196,10 +165,7 @@ pub logged_last : (places mid : Places) (log ws : List SigNumber) (number : SigN
 logged_last places mid log ws number l out n =
     ap (unless (is_logged n ws)) (out n)
     ∙ unless_either (is_number n number) (is_logged n ws) (place_of places n)
-    ∙ ap (λ b. unless b (place_of places n)) (swapped (is_number n number) (is_logged n ws) ∙ sym (ap (is_logged n) l ∙ list_any-append (is_number n) ws (number ∷ [])))
+    ∙ ap (λ b. unless b (place_of places n)) (at_end (is_number n number) (is_logged n ws) ∙ sym (ap (is_logged n) l ∙ list_any-append (is_number n) ws (number ∷ [])))
   where
-    swapped : (a b : Bool) → a || b ≡ b || (a || false)
-    swapped true true = refl
-    swapped true false = refl
-    swapped false true = refl
-    swapped false false = refl
+    at_end : (a b : Bool) → a || b ≡ b || (a || false)
+    at_end a b = ap (λ c. a || c) (sym (or_false b)) ∙ or_passed b a false

@@ -21,6 +21,7 @@ pub mod Reading
 pub mod Trying
 pub mod Accepting
 pub mod Accepted
+pub mod Choices
 pub mod Indexed
 pub mod Numbers
 pub mod Noted

@@ -5,6 +5,7 @@ use Rattle.std.specs.Ordering.{is_eq}
 use Rattle.std.specs.Option.{option_map, option_map_or, MatchOption}
 use Rattle.std.specs.List.{AllByRecursion}
 use Rattle.std.specs.Map.{lookup, remove_entry, set_value, keys_of}
+use Rattle.std.proofs.lemmas.Bool.{or_parts}
 use Rattle.std.proofs.lemmas.Cmp.{eq_by_cmp_equiv, tied_itself}
 use Rattle.std.proofs.lemmas.Map.{lookup-remove_entry}
 use Rattle.std.proofs.lemmas.Map.Keys.{IsDistinct-from_sorted, sorted_head, sorted_tail}
@@ -25,43 +26,19 @@ use Rattle.wot_keyring.specs.Kept.{AreInOrder, AreWhole}
 use Rattle.wot_keyring.specs.Staging.{found_for, kept_as, kept_with, kept_all, clash_at, clash_in}
 use Rattle.wot_keyring.specs.Verdict.{has_number, restamped, restamped_all}
 use Rattle.wot_keyring.proofs.Accepting.{whole_all}
+use Rattle.wot_keyring.proofs.Choices.{or_false, or_more, and_true, and_false, either_way}
 use Rattle.wot_keyring.proofs.Clashes.{keys_same}
 use Rattle.wot_keyring.proofs.Inserts.{found_at, found_each, lookup_insert}
 use Rattle.wot_keyring.proofs.Numbers.{united_numbers, judged_numbers}
 use Rattle.wot_keyring.proofs.Places.{fprs_total, same_fpr}
 
--- ---- fingerprints and tests
+-- ---- fingerprints
 
 itself : (f : Fpr) → is_fpr f f ≡ true
 itself f = ap is_eq (tied_itself fprs_total f)
 
-either_way : (a b : Bool) → (a ≡ true → b ≡ true) → (b ≡ true → a ≡ true) → a ≡ b
-either_way true b f g = sym (f refl)
-either_way false true f g = g refl
-either_way false false f g = refl
-
 turned : (a b : Fpr) → is_fpr a b ≡ is_fpr b a
 turned a b = either_way (is_fpr a b) (is_fpr b a) (λ h. subst (λ (x : Fpr). is_fpr x a ≡ true) (same_fpr a b h) (itself a)) (λ h. subst (λ (x : Fpr). is_fpr x b ≡ true) (same_fpr b a h) (itself b))
-
-or_false : (a : Bool) → a ≡ a || false
-or_false true = refl
-or_false false = refl
-
-or_more : (a b c : Bool) → (a || b) || c ≡ a || (b || c)
-or_more true b c = refl
-or_more false b c = refl
-
-and_true : (a : Bool) → a ≡ a && true
-and_true true = refl
-and_true false = refl
-
-and_false : (a : Bool) → a && false ≡ false
-and_false true = refl
-and_false false = refl
-
-neither : (a b : Bool) → a || b ≡ false → (a ≡ false) × (b ≡ false)
-neither true b h = absurd cc
-neither false b h = (refl, h)
 
 -- whether a number stands on what was found
 abbrev on_found : SigNumber → Option Kept → Bool
@@ -78,21 +55,20 @@ module _ (united : (a b : Certificate) → IsCertificate a → IsCertificate b �
 
   stands_with : (n : SigNumber) (q : Fpr) (c : Certificate) (es : Entries) → AreWhole es → IsCertificate c → clash_at (found_for es c) c ≡ false → stands_at (kept_with rows stamp es c) n q ≡ (stands_at es n q || (has_number n c && is_fpr (fpr_of c.key) q))
   stands_with n q c es all whole none =
-      let f : Fpr = fpr_of c.key in
       ap (on_found n) (lookup_insert q es (fpr_of c.key) (kept_as rows stamp (found_for es c) c))
       ∙ ((elim (is_fpr q (fpr_of c.key)) as (λ b. is_fpr q (fpr_of c.key) ≡ b → on_found n (cond b (Some (kept_as rows stamp (found_for es c) c)) (lookup (is_fpr q) es)) ≡ (stands_at es n q || (has_number n c && b))) [
         | true ↦ λ same.
             on_kept n (found_for es c) c es refl all whole none
-            ∙ (λ i. on_found n (lookup (is_fpr (sym (same_fpr q (fpr_of c.key) same) i)) es) || and_true (has_number n c) i)
-        | false ↦ λ other. or_false (stands_at es n q) ∙ ap (λ b. stands_at es n q || b) (sym (and_false (has_number n c)))
+            ∙ (λ i. on_found n (lookup (is_fpr (sym (same_fpr q (fpr_of c.key) same) i)) es) || sym (and_true (has_number n c)) i)
+        | false ↦ λ other. sym (or_false (stands_at es n q)) ∙ ap (λ b. stands_at es n q || b) (sym (and_false (has_number n c)))
       ]) refl)
       ∙ ap (λ b. stands_at es n q || (has_number n c && b)) (turned q (fpr_of c.key))
 
   stands_all : (n : SigNumber) (q : Fpr) (es : Entries) (cs : List Certificate) → AreWhole es → AllByRecursion IsCertificate cs → clash_in rows stamp es cs ≡ false → stands_at (kept_all rows stamp es cs) n q ≡ (stands_at es n q || stands_among cs n q)
-  stands_all n q es [] all whole none = or_false (stands_at es n q)
+  stands_all n q es [] all whole none = sym (or_false (stands_at es n q))
   stands_all n q es (c ∷ cs) all whole none =
-      let apart = neither (clash_at (found_for es c) c) (clash_in rows stamp (kept_with rows stamp es c) cs) none in
-      let one : clash_in rows stamp es (c ∷ []) ≡ false = sym (or_false (clash_at (found_for es c) c)) ∙ apart.0 in
+      let apart = or_parts (clash_at (found_for es c) c) (clash_in rows stamp (kept_with rows stamp es c) cs) none in
+      let one : clash_in rows stamp es (c ∷ []) ≡ false = or_false (clash_at (found_for es c) c) ∙ apart.0 in
       stands_all n q (kept_with rows stamp es c) cs (whole_all united marked rows stamp es (c ∷ []) all (whole.0, tt) one) whole.1 apart.1
       ∙ ap (λ b. b || stands_among cs n q) (stands_with n q c es all whole.0 apart.0)
       ∙ or_more (stands_at es n q) (has_number n c && is_fpr (fpr_of c.key) q) (stands_among cs n q)

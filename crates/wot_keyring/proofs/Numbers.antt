@@ -1,5 +1,5 @@
 -- On a union stand the signatures of both certificates, by their numbers; marks don't matter.
-use Rattle.std.proofs.Common.{◌≡◌, ℕ, Bool, true, false, ◌||◌, List, [], ◌∷◌, map, sym, ap, ◌∙◌, subst, refl}
+use Rattle.std.proofs.Common.{◌≡◌, ℕ, Bool, ◌||◌, List, [], ◌∷◌, map, sym, ap, ◌∙◌, subst, refl}
 use Rattle.std.specs.declared.cmp.Ordering.{Ordering}
 use Rattle.std.specs.declared.cmp.Ordering.TheVariants.{Less, Equal, Greater}
 use Rattle.std.specs.List.{AllByRecursion, list_any}
@@ -15,34 +15,7 @@ use Rattle.wot_cert.specs.Counts.{sigs_on}
 use Rattle.wot_cert.specs.Judged.{judged, judged_sig}
 use Rattle.wot_cert.specs.Whole.{IsCertificate, IsSigAt, IsPartOf}
 use Rattle.wot_keyring.specs.Verdict.{is_among, has_number}
-
--- ---- tests
-
-or_false : (a : Bool) → a ≡ a || false
-or_false true = refl
-or_false false = refl
-
-or_itself : (a : Bool) → a ≡ a || a
-or_itself true = refl
-or_itself false = refl
-
-joined_in_front : (x y r : Bool) → (y || x) || r ≡ x || (y || r)
-joined_in_front true true r = refl
-joined_in_front true false r = refl
-joined_in_front false true r = refl
-joined_in_front false false r = refl
-
-passed : (x y r : Bool) → y || (x || r) ≡ x || (y || r)
-passed true true r = refl
-passed true false r = refl
-passed false true r = refl
-passed false false r = refl
-
-crossed : (a b c d : Bool) → (a || b) || (c || d) ≡ (a || c) || (b || d)
-crossed true b c d = refl
-crossed false true true d = refl
-crossed false true false d = refl
-crossed false false c d = refl
+use Rattle.wot_keyring.proofs.Choices.{or_false, or_itself, or_more, or_passed, or_crossed}
 
 -- ---- sets in the order of a rank
 
@@ -62,8 +35,8 @@ module _ {A : Type 0} (R : A → A → Ordering) (join : A → A → A) (test : 
   put_any x (y ∷ ys) p all =
       (elim (R x y) as (λ r. R x y ≡ r → list_any test (placed r join x y ys (put R join x ys)) ≡ test x || (test y || list_any test ys)) [
         | Less ↦ λ less. refl
-        | Equal ↦ λ equal. ap (λ b. b || list_any test ys) (joins y x all.0 p equal).1 ∙ joined_in_front (test x) (test y) (list_any test ys)
-        | Greater ↦ λ greater. ap (λ b. test y || b) (put_any x ys p all.1) ∙ passed (test x) (test y) (list_any test ys)
+        | Equal ↦ λ equal. ap (λ b. b || list_any test ys) (joins y x all.0 p equal).1 ∙ or_more (test y) (test x) (list_any test ys) ∙ or_passed (test x) (test y) (list_any test ys)
+        | Greater ↦ λ greater. ap (λ b. test y || b) (put_any x ys p all.1) ∙ or_passed (test x) (test y) (list_any test ys)
       ]) refl
 
   pub united_keeps : (xs ys : List A) → AllByRecursion P xs → AllByRecursion P ys → AllByRecursion P (united R join xs ys)
@@ -71,11 +44,11 @@ module _ {A : Type 0} (R : A → A → Ordering) (join : A → A → A) (test : 
   united_keeps xs (y ∷ ys) all more = put_keeps y (united R join xs ys) more.0 (united_keeps xs ys all more.1)
 
   pub united_any : (xs ys : List A) → AllByRecursion P xs → AllByRecursion P ys → list_any test (united R join xs ys) ≡ list_any test xs || list_any test ys
-  united_any xs [] all more = or_false (list_any test xs)
+  united_any xs [] all more = sym (or_false (list_any test xs))
   united_any xs (y ∷ ys) all more =
       put_any y (united R join xs ys) more.0 (united_keeps xs ys all more.1)
       ∙ ap (λ b. test y || b) (united_any xs ys all more.1)
-      ∙ passed (list_any test xs) (test y) (list_any test ys)
+      ∙ or_passed (list_any test xs) (test y) (list_any test ys)
 
 -- ---- signatures at one place
 
@@ -87,7 +60,7 @@ module _ (n : SigNumber) (key : List ℕ) (kind : ℕ) where
   sigs_join component old new a b e =
       let same : new.body ≡ old.body = exact_bytes new.body old.body e in
       let number : old.number ≡ new.number = a.1 ∙ ap (number_of key kind component) (sym same) ∙ sym b.1 in
-      (a, or_itself (is_this n old) ∙ ap (λ (m : SigNumber). is_this n old || is_number n m) number)
+      (a, sym (or_itself (is_this n old)) ∙ ap (λ (m : SigNumber). is_this n old || is_number n m) number)
 
   sigs_keep : (component : List ℕ) (xs ys : List Signature) → AllByRecursion (IsSigAt key kind component) xs → AllByRecursion (IsSigAt key kind component) ys → AllByRecursion (IsSigAt key kind component) (unite_sigs xs ys)
   sigs_keep component = united_keeps sig_cmp kept (is_this n) (IsSigAt key kind component) (sigs_join component)
@@ -124,7 +97,6 @@ module _ (n : SigNumber) (key : List ℕ) (kind : ℕ) where
 
 pub united_numbers : (n : SigNumber) (a b : Certificate) → IsCertificate a → IsCertificate b → a.key ≡ b.key → has_number n (unite a b) ≡ has_number n a || has_number n b
 united_numbers n a b h k same =
-    let key : List ℕ = a.key in
     let At : List ℕ → Type 0 = λ x. AllByRecursion (IsSigAt x 0 []) b.direct in
     let direct = sigs_any n a.key 0 [] a.direct b.direct h.direct.1 (subst At (sym same) k.direct.1) in
     let user_ids = parts_any n a.key 1 a.user_ids b.user_ids h.user_ids.1 (subst (λ (x : List ℕ). AllByRecursion (IsPartOf x 1) b.user_ids) (sym same) k.user_ids.1) in
@@ -137,9 +109,9 @@ united_numbers n a b h k same =
     four : (d d' u u' t t' s s' x y z w : Bool) → x ≡ d || d' → y ≡ u || u' → z ≡ t || t' → w ≡ s || s' → x || (y || (z || w)) ≡ (d || (u || (t || s))) || (d' || (u' || (t' || s')))
     four d d' u u' t t' s s' x y z w a b c e =
         (λ i. a i || (b i || (c i || e i)))
-        ∙ ap (λ r. (d || d') || ((u || u') || r)) (crossed t t' s s')
-        ∙ ap (λ r. (d || d') || r) (crossed u u' (t || s) (t' || s'))
-        ∙ crossed d d' (u || (t || s)) (u' || (t' || s'))
+        ∙ ap (λ r. (d || d') || ((u || u') || r)) (or_crossed t t' s s')
+        ∙ ap (λ r. (d || d') || r) (or_crossed u u' (t || s) (t' || s'))
+        ∙ or_crossed d d' (u || (t || s)) (u' || (t' || s'))
 
 -- ---- marks
 

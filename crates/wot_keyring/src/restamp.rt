@@ -79,11 +79,8 @@ pub fn restamp(certs: &mut BTreeMap<Fpr, Kept, Global>, number: &SigNumber, stam
 fn restamp_at(certs: &mut BTreeMap<Fpr, Kept, Global>, fpr: &Fpr, stamp: u64)
     ensures restamped { MatchOption (lookup (is_fpr fpr.now) certs.old.entries) (certs.new.entries ≡ certs.old.entries) (λ kept. certs.new.entries ≡ set_value (is_fpr fpr.now) certs.old.entries (record kept { stamp = stamp })) }
 {
-    match certs.get_mut(fpr) {
-        Some(kept) => {
-            kept.stamp = stamp;
-        }
-        None => {}
+    if let Some(kept) = certs.get_mut(fpr) {
+        kept.stamp = stamp;
     }
 }
 
@@ -101,8 +98,8 @@ pub(crate) fn restamp_noted(
     if !index.exact {
         return restamp(certs, number, stamp);
     }
-    match index.places.get(number) {
-        Some(fpr) => restamp_at(certs, fpr, stamp),
-        None => {}
-    }
+    let Some(fpr) = index.places.get(number) else {
+        return;
+    };
+    restamp_at(certs, fpr, stamp);
 }
