@@ -2,12 +2,25 @@
 //! `wot_bench sha1 SIZE COUNT` and `wot_bench sha2 SIZE COUNT` hash them, COUNT times each.
 use sha1::Sha1;
 use sha2::{Digest, Sha256};
+use std::alloc::Global;
 use std::io;
 use std::rt::Clock;
 use std::time::Instant;
 
+/// As random as those of keys and signatures: each 32 are the digest of those before.
+fn octets_of(alloc: Global, size: usize) -> io::Result<Vec<u8>> {
+    let mut octets = Vec::new(alloc);
+    let mut digest = Sha256::digest([0x5au8].as_slice());
+    for _ in 0..size.div_ceil(32) {
+        octets.extend_from_slice(digest.as_slice())?;
+        digest = Sha256::digest(digest.as_slice());
+    }
+    octets.truncate(size);
+    Ok(octets)
+}
+
 pub fn hex(rt: &(impl Print + AllocGlobal + Clock), size: usize, count: usize) -> io::Result<()> {
-    let octets = vec![in rt.alloc(); 0x5au8; size]?;
+    let octets = octets_of(rt.alloc(), size)?;
     let digits = hex::encode(rt.alloc(), octets.as_slice())?;
     let start = Instant::now(rt)?;
     let mut read = 0u64;
