@@ -289,6 +289,7 @@ impl Engine {
         ensures open { TellsOpen result (view_at self.old.views view.now) }
         ensures kept { self.new ≡ self.old }
         ensures made_most { steps.new.made ≤ steps.old.made + signatures_in self.old.keyring }
+        ensures never_less { steps.old.made ≤ steps.new.made }
     {
         self.held.refresh(self.alloc, &self.views, view, steps)?;
         let Some(open) = views::find(&self.views, view) else {
@@ -309,6 +310,7 @@ impl Engine {
         ensures local { IfOk result (λ r. IfSome (view_at self.old.views view.now) (λ v. IsLocal (certificates_in self.old.keyring) self.old.keyring.verdicts v.time (told_of (present_of r)))) }
         ensures open { TellsOpen result (view_at self.old.views view.now) }
         ensures made_most { steps.new.made ≤ steps.old.made + signatures_in self.old.keyring }
+        ensures never_less { steps.old.made ≤ steps.new.made }
     {
         self.held.refresh(self.alloc, &self.views, view, steps)?;
         Ok(self.held.roads(view))

@@ -53,6 +53,7 @@ pub fn refresh(
     ensures fit { AllFit networks.new.entries keyring.now }
     ensures right { OnOk result (IsSomeAnd (lookup (is_name view.now) networks.new.entries) (λ network. IsRight network keyring.now t)) }
     ensures made_most { steps.new.made ≤ steps.old.made + signatures_in keyring.now }
+    ensures never_less { steps.old.made ≤ steps.new.made }
 {
     match networks.get_mut(view) {
         Some(network) => network.refresh(keyring, t, steps),
@@ -73,6 +74,7 @@ fn begin(
     ensures fit { AllFit networks.new.entries keyring.now }
     ensures right { OnOk result (IsSomeAnd (lookup (is_name view.now) networks.new.entries) (λ network. IsRight network keyring.now t)) }
     ensures made_most { steps.new.made ≤ steps.old.made + signatures_in keyring.now }
+    ensures never_less { steps.old.made ≤ steps.new.made }
 {
     let mut network = Network::new(alloc, t);
     network.refresh(keyring, t, steps)?;

@@ -40,6 +40,7 @@ impl Held {
         ensures right { OnOk result (HasRight self.new.networks.entries self.new.keyring view.now) }
         ensures time { OnOk result (IsTimely self.new.networks.entries views.now.entries view.now) }
         ensures made_most { steps.new.made ≤ steps.old.made + signatures_in self.old.keyring }
+        ensures never_less { steps.old.made ≤ steps.new.made }
     {
         let Some(open) = views::find(views, view) else {
             return Err(AskFault::View);

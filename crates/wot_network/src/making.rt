@@ -87,6 +87,7 @@ fn lines_from(
     ensures lawful { IfOk result (λ lines. AreLawful lines.entries) }
     ensures made_least { IfOk result (λ lines. min (steps.old.made + edges_in lines.entries) u64.MAX ≤ steps.new.made) }
     ensures made_most { steps.new.made ≤ steps.old.made + sum_of signatures_of certs.entry }
+    ensures never_less { steps.old.made ≤ steps.new.made }
 {
     let mut lines = BTreeMap::new(alloc);
     for cert in certs {
@@ -106,6 +107,7 @@ pub(crate) fn keyring_lines(
     ensures lawful { IfOk result (λ lines. AreLawful lines.entries) }
     ensures made_least { IfOk result (λ lines. min (steps.old.made + edges_in lines.entries) u64.MAX ≤ steps.new.made) }
     ensures made_most { steps.new.made ≤ steps.old.made + signatures_in keyring.now }
+    ensures never_less { steps.old.made ≤ steps.new.made }
 {
     let lines = lines_from(alloc, keyring.certs(), keyring.verdicts(), t, steps)?;
     Ok(lines)

@@ -79,6 +79,7 @@ impl Network {
         ensures kept { OnErr result (self.new ≡ self.old) }
         ensures made_least { OnOk result ((IsCurrent self.old keyring.now t → ⊥) → min (steps.old.made + edges_in self.new.lines) u64.MAX ≤ steps.new.made) }
         ensures made_most { steps.new.made ≤ steps.old.made + signatures_in keyring.now }
+        ensures never_less { steps.old.made ≤ steps.new.made }
         ensures left { IsCurrent self.old keyring.now t → (result ≡ Ok tt) × (steps.new ≡ steps.old) × (self.new ≡ self.old) }
     {
         if self.is_current(keyring, t) {

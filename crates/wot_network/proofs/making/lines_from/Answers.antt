@@ -1,4 +1,4 @@
-use Rattle.std.proofs.Common.{◌≡◌, ◌≤◌, ◌<◌, ◌^◌, ◌+◌, ◌∷◌, ◌∙◌, List, subst}
+use Rattle.std.proofs.Common.{◌≡◌, ◌≤◌, ◌<◌, ◌^◌, ◌+◌, ◌∷◌, ◌∙◌, List, arith, subst}
 use Rattle.std.specs.List.{AllByRecursion}
 use Rattle.wot_cert.specs.Certificate.{Certificate}
 use Rattle.wot_cert.specs.Counts.{signatures_of, sum_of}
@@ -24,6 +24,7 @@ loop-cert-preserved c =
       sizes = (subst (λ (cs : List Certificate). AllByRecursion (λ (x : Certificate). size_of x < 2 ^ 32) cs) step c.loop-cert.invariant.sizes).1;
       lawful = lawful_on lines new (named_line v t cert) kept c.loop-cert.invariant.lawful c.in_ok-keep_line.ensures.rows;
       least = least_on c.args.steps.now.made c.loop-cert.steps.made c.keep_line.new.steps.made lines new (named_line v t cert) kept c.loop-cert.invariant.least c.in_ok-keep_line.ensures.made_least;
+      never_less = omega (arith, c.loop-cert.invariant.never_less, c.keep_line.ensures.never_less);
       most = most_on signatures_of c.args.steps.now.made c.loop-cert.steps.made c.keep_line.new.steps.made cert rest all
           (subst (λ (cs : List Certificate). c.loop-cert.steps.made + sum_of signatures_of cs ≤ c.args.steps.now.made + sum_of signatures_of all) step c.loop-cert.invariant.most) c.in_ok-keep_line.ensures.made_most;
     }

@@ -12,5 +12,6 @@ invariant-loop-cert l = record {
   sizes : AllByRecursion (λ (c : Certificate). size_of c < 2 ^ 32) l.cert-iterator;
   lawful : AreLawful l.lines.entries;
   least : min (l.fn.steps.made + edges_in l.lines.entries) (2 ^ 64 - 1) ≤ l.steps.made;
+  never_less : l.fn.steps.made ≤ l.steps.made;
   most : l.steps.made + sum_of signatures_of l.cert-iterator ≤ l.fn.steps.made + sum_of signatures_of l.fn.certs;
 }

@@ -29,5 +29,6 @@ returns c =
             (local_then (certificates_in k) k.verdicts (told_of p) p.time (view_at views name) timely c.roads.ensures.local);
         «open» = subst (λ (e : Engine). is_some (view_at e.views name) ≡ true) same c.in_ok-refresh.ensures.open;
         made_most = subst (λ (e : Engine). c.refresh.new.steps.made ≤ c.args.steps.now.made + signatures_in e.keyring) c.self.view_is c.refresh.ensures.made_most;
+        never_less = c.refresh.ensures.never_less;
       },
     )
