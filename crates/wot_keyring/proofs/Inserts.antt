@@ -27,21 +27,21 @@ map_insert {X} g (e ∷ es) fpr kept =
     ]
 
 -- what is true of each, with its fingerprint, and of what is put in
-pub put_at : (P : Fpr → Kept → Type 0) (es : Entries) (fpr : Fpr) (kept : Kept) → AllByRecursion (λ (e : Fpr × Kept). P e.0 e.1) es → P fpr kept → AllByRecursion (λ (e : Fpr × Kept). P e.0 e.1) (insert_entry fpr_cmp es fpr kept)
+pub put_at : {V : Type 0} (P : Fpr → V → Type 0) (es : List (Fpr × V)) (fpr : Fpr) (kept : V) → AllByRecursion (λ (e : Fpr × V). P e.0 e.1) es → P fpr kept → AllByRecursion (λ (e : Fpr × V). P e.0 e.1) (insert_entry fpr_cmp es fpr kept)
 put_at P [] fpr kept all p = (p, tt)
-put_at P (e ∷ es) fpr kept all p =
-    elim (fpr_cmp fpr e.0) as (λ r. fpr_cmp fpr e.0 ≡ r → AllByRecursion (λ (x : Fpr × Kept). P x.0 x.1) (match_ordering r ((fpr, kept) ∷ e ∷ es) ((e.0, kept) ∷ es) (e ∷ insert_entry fpr_cmp es fpr kept))) [
+put_at {V} P (e ∷ es) fpr kept all p =
+    elim (fpr_cmp fpr e.0) as (λ r. fpr_cmp fpr e.0 ≡ r → AllByRecursion (λ (x : Fpr × V). P x.0 x.1) (match_ordering r ((fpr, kept) ∷ e ∷ es) ((e.0, kept) ∷ es) (e ∷ insert_entry fpr_cmp es fpr kept))) [
       | Less ↦ λ less. (p, all)
       | Equal ↦ λ equal. (subst (λ (f : Fpr). P f kept) (exact fpr e.0 equal) p, all.1)
       | Greater ↦ λ greater. (all.0, put_at P es fpr kept all.1 p)
     ] refl
 
 -- what is true of each, with its fingerprint, is true of what is found
-pub found_at : (P : Fpr → Kept → Type 0) (fpr : Fpr) (es : Entries) (kept : Kept) → AllByRecursion (λ (e : Fpr × Kept). P e.0 e.1) es → lookup (is_fpr fpr) es ≡ Some kept → P fpr kept
+pub found_at : {V : Type 0} (P : Fpr → V → Type 0) (fpr : Fpr) (es : List (Fpr × V)) (kept : V) → AllByRecursion (λ (e : Fpr × V). P e.0 e.1) es → lookup (is_fpr fpr) es ≡ Some kept → P fpr kept
 found_at P fpr [] kept all found = absurd cc
-found_at P fpr (e ∷ es) kept all found =
+found_at {V} P fpr (e ∷ es) kept all found =
     (elim (is_fpr fpr e.0) as (λ b. is_fpr fpr e.0 ≡ b → cond b (Some e.1) (lookup (is_fpr fpr) es) ≡ Some kept → P fpr kept) [
-      | true ↦ λ t f. let same : e.1 ≡ kept = cc in subst (λ (x : Kept). P fpr x) same (subst (λ (g : Fpr). P g e.1) (sym (same_fpr fpr e.0 t)) all.0)
+      | true ↦ λ t f. let same : e.1 ≡ kept = cc in subst (λ (x : V). P fpr x) same (subst (λ (g : Fpr). P g e.1) (sym (same_fpr fpr e.0 t)) all.0)
       | false ↦ λ t f. found_at P fpr es kept all.1 f
     ]) refl found
 
@@ -93,11 +93,11 @@ found_each (e ∷ es) sorted =
 
 -- ---- a look-up after something is put in
 
-same_twice : (b : Bool) (x y : Kept) (o : Option Kept) → cond b (Some x) o ≡ cond b (Some x) (cond b (Some y) o)
+same_twice : {V : Type 0} (b : Bool) (x y : V) (o : Option V) → cond b (Some x) o ≡ cond b (Some x) (cond b (Some y) o)
 same_twice true x y o = refl
 same_twice false x y o = refl
 
-swapped : (a b : Bool) (x y : Kept) (o : Option Kept) → (a ≡ true → b ≡ true → ⊥) → cond a (Some x) (cond b (Some y) o) ≡ cond b (Some y) (cond a (Some x) o)
+swapped : {V : Type 0} (a b : Bool) (x y : V) (o : Option V) → (a ≡ true → b ≡ true → ⊥) → cond a (Some x) (cond b (Some y) o) ≡ cond b (Some y) (cond a (Some x) o)
 swapped true true x y o apart = absurd (apart refl refl)
 swapped true false x y o apart = refl
 swapped false true x y o apart = refl
@@ -109,11 +109,11 @@ greater_apart q a b greater h k =
     let equal : fpr_cmp a b ≡ Equal = ap (λ (x : Fpr). fpr_cmp a x) (sym same) ∙ tied_itself fprs_total a in
     cc
 
-pub lookup_insert : (q : Fpr) (es : Entries) (fpr : Fpr) (kept : Kept) → lookup (is_fpr q) (insert_entry fpr_cmp es fpr kept) ≡ cond (is_fpr q fpr) (Some kept) (lookup (is_fpr q) es)
+pub lookup_insert : {V : Type 0} (q : Fpr) (es : List (Fpr × V)) (fpr : Fpr) (kept : V) → lookup (is_fpr q) (insert_entry fpr_cmp es fpr kept) ≡ cond (is_fpr q fpr) (Some kept) (lookup (is_fpr q) es)
 lookup_insert q [] fpr kept = refl
-lookup_insert q (e ∷ es) fpr kept =
+lookup_insert {V} q (e ∷ es) fpr kept =
     elim (fpr_cmp fpr e.0) as (λ r. fpr_cmp fpr e.0 ≡ r → lookup (is_fpr q) (match_ordering r ((fpr, kept) ∷ e ∷ es) ((e.0, kept) ∷ es) (e ∷ insert_entry fpr_cmp es fpr kept)) ≡ cond (is_fpr q fpr) (Some kept) (cond (is_fpr q e.0) (Some e.1) (lookup (is_fpr q) es))) [
       | Less ↦ λ less. refl
       | Equal ↦ λ equal. same_twice (is_fpr q e.0) kept e.1 (lookup (is_fpr q) es) ∙ ap (λ (f : Fpr). cond (is_fpr q f) (Some kept) (cond (is_fpr q e.0) (Some e.1) (lookup (is_fpr q) es))) (sym (exact fpr e.0 equal))
-      | Greater ↦ λ greater. ap (λ (o : Option Kept). cond (is_fpr q e.0) (Some e.1) o) (lookup_insert q es fpr kept) ∙ swapped (is_fpr q e.0) (is_fpr q fpr) e.1 kept (lookup (is_fpr q) es) (greater_apart q fpr e.0 greater)
+      | Greater ↦ λ greater. ap (λ (o : Option V). cond (is_fpr q e.0) (Some e.1) o) (lookup_insert q es fpr kept) ∙ swapped (is_fpr q e.0) (is_fpr q fpr) e.1 kept (lookup (is_fpr q) es) (greater_apart q fpr e.0 greater)
     ] refl

@@ -25,3 +25,7 @@ pub mod Choices
 pub mod Indexed
 pub mod Numbers
 pub mod Noted
+pub mod Puts
+pub mod Taking
+pub mod Gathering
+pub mod Same

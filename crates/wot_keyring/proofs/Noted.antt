@@ -34,10 +34,10 @@ use Rattle.wot_keyring.proofs.Places.{fprs_total, same_fpr}
 
 -- ---- fingerprints
 
-itself : (f : Fpr) → is_fpr f f ≡ true
+pub itself : (f : Fpr) → is_fpr f f ≡ true
 itself f = ap is_eq (tied_itself fprs_total f)
 
-turned : (a b : Fpr) → is_fpr a b ≡ is_fpr b a
+pub turned : (a b : Fpr) → is_fpr a b ≡ is_fpr b a
 turned a b = either_way (is_fpr a b) (is_fpr b a) (λ h. subst (λ (x : Fpr). is_fpr x a ≡ true) (same_fpr a b h) (itself a)) (λ h. subst (λ (x : Fpr). is_fpr x b ≡ true) (same_fpr b a h) (itself b))
 
 -- whether a number stands on what was found

@@ -6,4 +6,5 @@ pub mod Kept
 pub mod Dump
 pub mod Staging
 pub mod Importing
+pub mod Gather
 pub mod Index

@@ -23,6 +23,7 @@ ghost use Rattle.wot_verdict.specs.Verdicts.{InOrder};
 use crate::certs::CertsIter;
 use crate::dump::{put_certs, put_verdicts, replayed};
 use crate::forgetting::forget_cert;
+use crate::gather::gathered;
 use crate::importing::{read_certs, try_all, unite_all};
 use crate::index::Index;
 use crate::kept::Kept;
@@ -249,10 +250,46 @@ impl Keyring {
             Ok(read) => read,
             Err(refusal) => return Err(refusal),
         };
-        if let Some(refusal) = self.refusal(alloc, read.certs.as_slice()) {
+        self.take(alloc, &read, policy)
+    }
+
+    /// Unites certificates that were read with the kept ones: those of one key among themselves first, so that what is kept
+    /// of a key is copied once, however often the key was read.
+    fn take<F: Fn(Ask) -> bool>(
+        &mut self,
+        alloc: Global,
+        read: &Assembled,
+        policy: &mut Policy<F>,
+    ) -> Result<Imported, Refusal>
+        requires countable { self.old.changes < 2 ^ 64 - 1 }
+        requires judged { IsJudgedBy (rows_of policy.old) self.old }
+        requires faithful { IsFaithful F.Fn policy.old }
+        ensures answer { AnswersUnited result (rows_of policy.old) self.old read.now.certs read.now.skipped }
+        ensures united { OnOk result (self.new ≡ holding self.old (with_certs (rows_of policy.old) (certificates_in self.old) read.now.certs)) }
+        ensures kept { OnErr result (self.new ≡ self.old) }
+        ensures asked { (k : ℕ) × (policy.new ≡ asked_more k policy.old) × IsAskedOf result (asked_for (rows_of policy.old) self.old read.now.certs) k }
+        ensures counted { IsOneChange self.old self.new }
+        ensures judged { IsJudgedBy (rows_of policy.old) self.new }
+        ensures faithful { IsFaithful F.Fn policy.new }
+    {
+        self.lawful();
+        let certs = read.certs.as_slice();
+        let list = match gathered(alloc, certs) {
+            Ok(list) => list,
+            Err(Fault::Clash) => return Err(Refusal::Clash),
+            Err(Fault::Memory) => return Err(Refusal::Memory),
+        };
+        if let Some(refusal) = self.refusal(alloc, list.as_slice()) {
             return Err(refusal);
         }
-        self.accept(alloc, &read, policy)
+        match self.accept(alloc, list.as_slice(), read.skipped, policy) {
+            Ok(done) => Ok(Imported {
+                taken: certs.len() as u64,
+                skipped: done.skipped,
+                fresh: done.fresh,
+            }),
+            Err(refusal) => Err(refusal),
+        }
     }
 
     /// Why these certificates may not be united with the kept ones. All stays as it is, and no policy of others is asked.
@@ -275,18 +312,19 @@ impl Keyring {
     fn accept<F: Fn(Ask) -> bool>(
         &mut self,
         alloc: Global,
-        read: &Assembled,
+        list: &[Cert],
+        skipped: u64,
         policy: &mut Policy<F>,
     ) -> Result<Imported, Refusal>
         requires countable { self.old.changes < 2 ^ 64 - 1 }
         requires judged { IsJudgedBy (rows_of policy.old) self.old }
         requires faithful { IsFaithful F.Fn policy.old }
-        requires whole { AllByRecursion IsCertificate read.now.certs }
-        requires may { MayUnite self.old.limits (certificates_in self.old) read.now.certs }
-        ensures answer { AnswersUnited result (rows_of policy.old) self.old read.now.certs read.now.skipped }
-        ensures united { OnOk result (self.new ≡ holding self.old (with_certs (rows_of policy.old) (certificates_in self.old) read.now.certs)) }
+        requires whole { AllByRecursion IsCertificate list.now }
+        requires may { MayUnite self.old.limits (certificates_in self.old) list.now }
+        ensures answer { AnswersUnited result (rows_of policy.old) self.old list.now skipped }
+        ensures united { OnOk result (self.new ≡ holding self.old (with_certs (rows_of policy.old) (certificates_in self.old) list.now)) }
         ensures kept { OnErr result (self.new ≡ self.old) }
-        ensures asked { (k : ℕ) × (policy.new ≡ asked_more k policy.old) × IsAskedOf result (asked_for (rows_of policy.old) self.old read.now.certs) k }
+        ensures asked { (k : ℕ) × (policy.new ≡ asked_more k policy.old) × IsAskedOf result (asked_for (rows_of policy.old) self.old list.now) k }
         ensures counted { IsOneChange self.old self.new }
         ensures judged { IsJudgedBy (rows_of policy.old) self.new }
         ensures faithful { IsFaithful F.Fn policy.new }
@@ -294,7 +332,6 @@ impl Keyring {
         united_grows();
         united_whole();
         nothing_added();
-        let list = read.certs.as_slice();
         let terms = self.terms();
         let total = self.total();
         match unite_all(
@@ -312,7 +349,7 @@ impl Keyring {
                 self.changes = raised(self.changes, tally.fresh);
                 Ok(Imported {
                     taken: list.len() as u64,
-                    skipped: read.skipped,
+                    skipped,
                     fresh: tally.fresh,
                 })
             }
@@ -331,6 +368,13 @@ impl Keyring {
             stamp: self.changes + 1,
             limit: self.limits.certificate,
         }
+    }
+
+    /// A law: what is true of every keyring.
+    fn lawful(&self)
+        ensures keyring { IsKeyring self.now }
+    {
+        let _ = &self.limits;
     }
 
     /// What is held weighs so much.

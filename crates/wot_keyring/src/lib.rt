@@ -4,6 +4,7 @@
 mod certs;
 mod dump;
 mod forgetting;
+mod gather;
 mod import;
 mod importing;
 mod index;

@@ -159,6 +159,10 @@ const WITH_UNSOUND: &[u8] =
 const WITH_OLD_HASH: &[u8] =
     b"\xc6\x07\x04\x00\x00\x03\xe8\x1b\x04\xcd\x01\x74\xc2\x10\x04\x10\x1b\x01\x00\x06\x05\x02\x00\x00\x07\xd0\x00\x00\x00\x00";
 
+/// The first key three times, each with another user ID; the first and the last have the same direct key signature.
+const THREE_TIMES: &[u8] =
+    b"\xc6\x07\x04\x00\x00\x03\xe8\x1b\x01\xc2\x10\x04\x1f\x1b\x08\x00\x06\x05\x02\x00\x00\x03\xe8\x00\x00\x00\x00\xcd\x01\x74\xc6\x07\x04\x00\x00\x03\xe8\x1b\x01\xcd\x01\x75\xc6\x07\x04\x00\x00\x03\xe8\x1b\x01\xc2\x10\x04\x1f\x1b\x08\x00\x06\x05\x02\x00\x00\x03\xe8\x00\x00\x00\x00\xcd\x01\x76";
+
 const FIRST_KEY: &[u8] = b"\xc6\x07\x04\x00\x00\x03\xe8\x1b\x01";
 
 const SECOND_KEY: &[u8] = b"\xc6\x07\x04\x00\x00\x03\xe8\x1b\x02";
@@ -167,7 +171,7 @@ const BOTH_KEYS: &[u8] =
     b"\xc6\x07\x04\x00\x00\x03\xe8\x1b\x01\xc6\x07\x04\x00\x00\x03\xe8\x1b\x02";
 
 /// Texts that are imported in turn (an empty one is refused and changes nothing), and the outcome of the last.
-const OUTCOMES: [([&[u8]; 5], Outcome); 8] = [
+const OUTCOMES: [([&[u8]; 5], Outcome); 9] = [
     (
         [b"", b"", b"", b"", WITH_DIRECT],
         (Ok((1, 0, 2)), 1, 1, 1, 0),
@@ -205,6 +209,10 @@ const OUTCOMES: [([&[u8]; 5], Outcome); 8] = [
     (
         [b"", b"", WITH_SKIPPED, WITH_SKIPPED, WITH_DIRECT],
         (Ok((1, 0, 1)), 1, 2, 2, 1),
+    ),
+    (
+        [b"", b"", b"", b"", THREE_TIMES],
+        (Ok((3, 0, 5)), 1, 1, 1, 0),
     ),
 ];
 
