@@ -73,7 +73,7 @@ module _ (rows : PolicyRows) where
   taken_behind fpr [] c rest own gone found kept = absurd cc
   taken_behind fpr (e ∷ es) c rest own gone found kept =
       (elim (is_fpr fpr e.0) as (λ b. is_fpr fpr e.0 ≡ b → lookup (is_fpr fpr) (cond b es (e ∷ remove_entry (is_fpr fpr) es)) ≡ None → cond b (Some e.1) (lookup (is_fpr fpr) es) ≡ Some c
-          → taken_all rows (taken_one rows kept e.1) (values_of es ++ rest) ≡ taken_all rows kept (values_of (cond b es (e ∷ remove_entry (is_fpr fpr) es)) ++ c ∷ rest)) [
+      → taken_all rows (taken_one rows kept e.1) (values_of es ++ rest) ≡ taken_all rows kept (values_of (cond b es (e ∷ remove_entry (is_fpr fpr) es)) ++ c ∷ rest)) [
         | true ↦ λ t none some.
             let this : e.1 ≡ c = cc in
             let one : fpr ≡ fpr_of e.1.key = same_fpr fpr e.0 t ∙ own.0.0 in

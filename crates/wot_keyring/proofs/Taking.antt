@@ -53,8 +53,8 @@ module _ (rows : PolicyRows) where
   one_then_other certs c d apart =
       let with_c : Certificates = with_cert rows certs c in
       let found : lookup (is_fpr (fpr_of d.key)) with_c ≡ lookup (is_fpr (fpr_of d.key)) certs =
-          lookup_insert (fpr_of d.key) certs (fpr_of c.key) (united_with (lookup (is_fpr (fpr_of c.key)) certs) (judged rows c))
-          ∙ ap (λ b. cond b (Some (united_with (lookup (is_fpr (fpr_of c.key)) certs) (judged rows c))) (lookup (is_fpr (fpr_of d.key)) certs)) apart in
+      lookup_insert (fpr_of d.key) certs (fpr_of c.key) (united_with (lookup (is_fpr (fpr_of c.key)) certs) (judged rows c))
+      ∙ ap (λ b. cond b (Some (united_with (lookup (is_fpr (fpr_of c.key)) certs) (judged rows c))) (lookup (is_fpr (fpr_of d.key)) certs)) apart in
       then_one rows (clashes_with (lookup (is_fpr (fpr_of c.key)) certs) c) with_c d
       ∙ ap (λ (o : Option Certificate). cond (clashes_with (lookup (is_fpr (fpr_of c.key)) certs) c) None (cond (clashes_with o d) None (Some (insert_entry fpr_cmp (with_cert rows certs c) (fpr_of d.key) (united_with o (judged rows d)))))) found
 
@@ -90,7 +90,7 @@ module _ (rows : PolicyRows) (certs : Certificates) (fpr : Fpr) (x d : Certifica
   follows : taken_one rows (Some (insert_entry fpr_cmp certs fpr x)) d ≡ cond (not (pointwise nat_eq d.key x.key)) None (Some (insert_entry fpr_cmp certs fpr (unite x (judged rows d))))
   follows =
       let there : lookup (is_fpr fpr) (insert_entry fpr_cmp certs fpr x) ≡ Some x =
-          lookup_insert fpr certs fpr x ∙ ap (λ b. cond b (Some x) (lookup (is_fpr fpr) certs)) (itself fpr) in
+      lookup_insert fpr certs fpr x ∙ ap (λ b. cond b (Some x) (lookup (is_fpr fpr) certs)) (itself fpr) in
       ap (λ (f : Fpr). cond (clashes_with (lookup (is_fpr f) (insert_entry fpr_cmp certs fpr x)) d) None (Some (insert_entry fpr_cmp (insert_entry fpr_cmp certs fpr x) f (united_with (lookup (is_fpr f) (insert_entry fpr_cmp certs fpr x)) (judged rows d))))) one
       ∙ ap (λ (o : Option Certificate). cond (clashes_with o d) None (Some (insert_entry fpr_cmp (insert_entry fpr_cmp certs fpr x) fpr (united_with o (judged rows d))))) there
       ∙ ap (λ (es : Certificates). cond (not (pointwise nat_eq d.key x.key)) None (Some es)) (put_twice certs fpr x (unite x (judged rows d)))
@@ -142,13 +142,13 @@ module _ (unmarks : (rows : PolicyRows) (c : Certificate) → judged rows (unmar
   united_first (Some certs) c d all wc wd same =
       let as_both : judged rows (unmarked (unite c d)) ≡ unite (judged rows c) (judged rows d) = unmarks rows (unite c d) ∙ unites rows c d in
       (elim (lookup (is_fpr (fpr_of c.key)) certs) as (λ (o : Option Certificate). lookup (is_fpr (fpr_of c.key)) certs ≡ o → taken_one rows (cond (clashes_with o c) None (Some (insert_entry fpr_cmp certs (fpr_of c.key) (united_with o (judged rows c))))) d
-          ≡ cond (clashes_with o (unmarked (unite c d))) None (Some (insert_entry fpr_cmp certs (fpr_of c.key) (united_with o (judged rows (unmarked (unite c d))))))) [
+      ≡ cond (clashes_with o (unmarked (unite c d))) None (Some (insert_entry fpr_cmp certs (fpr_of c.key) (united_with o (judged rows (unmarked (unite c d))))))) [
         | None ↦ λ none.
             united_behind rows certs (fpr_of c.key) (judged rows c) d (ap fpr_of (sym same)) (sym same)
             ∙ ap (λ (x : Certificate). Some (insert_entry fpr_cmp certs (fpr_of c.key) x)) (sym as_both)
         | Some a ↦ λ found.
             (elim (not (pointwise nat_eq c.key a.key)) as (λ b. not (pointwise nat_eq c.key a.key) ≡ b → taken_one rows (cond b None (Some (insert_entry fpr_cmp certs (fpr_of c.key) (unite a (judged rows c))))) d
-                ≡ cond b None (Some (insert_entry fpr_cmp certs (fpr_of c.key) (unite a (judged rows (unmarked (unite c d))))))) [
+            ≡ cond b None (Some (insert_entry fpr_cmp certs (fpr_of c.key) (unite a (judged rows (unmarked (unite c d))))))) [
               | true ↦ λ t. refl
               | false ↦ λ f.
                   united_behind rows certs (fpr_of c.key) (unite a (judged rows c)) d (ap fpr_of (sym same)) (sym same ∙ keys_same c.key a.key f)
