@@ -1,8 +1,8 @@
 """A keyring as a developer's directory has it, made anew from one seed: what the benches of keyrings run on.
 
-900 certificates of some 30 kB: an RSA key of 4096 bits, three user IDs with fourteen certifications each (one of them the key's own),
-a picture, two subkeys. Certifications are of random earlier keys, one in eight of them as an introducer of depth 1 to 3. 40,000
-verdicts, each good by the issuer.
+900 certificates of some 30 kB: an RSA key of 4096 bits, three user IDs with fourteen certifications each (one of them
+the key's own), a picture, two subkeys. Certifications are of random earlier keys, one in eight of them as an
+introducer of depth 1 to 3. 40,000 verdicts, each good by the issuer.
 """
 import hashlib
 import os

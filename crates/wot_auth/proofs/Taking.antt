@@ -1,5 +1,5 @@
 -- One path more.
-use Rattle.std.proofs.Common.{◌≡◌, ◌⊎◌, inl, inr, ℕ, ◌+◌, ◌*◌, ◌<◌, ◌≤◌, ◌^◌, Bool, true, false, cond, List, [], ◌∷◌, ◌++◌, length, Option, Some, None, refl, sym, ap, subst, ◌∙◌, arith, append_assoc}
+use Rattle.std.proofs.Common.{◌≡◌, inl, inr, ℕ, ◌+◌, ◌*◌, ◌<◌, ◌≤◌, Bool, true, false, cond, List, [], ◌∷◌, ◌++◌, length, Option, Some, None, refl, sym, ap, subst, ◌∙◌, arith, append_assoc}
 use Rattle.std.specs.Option.{unwrap_or}
 use Rattle.std.specs.Map.{lookup}
 use Rattle.std.specs.BTreeMap.{is_at}
@@ -10,13 +10,10 @@ use Rattle.wot_types.specs.declared.fpr.Fpr.{Fpr}
 use Rattle.wot_types.specs.Fpr.{fpr_cmp}
 use Rattle.wot_edge.specs.declared.path.Path.{Path}
 use Rattle.wot_edge.specs.Order.{same_fpr}
-use Rattle.wot_edge.specs.Record.{Has, Record}
 use Rattle.wot_edge.specs.Roots.{root_amount, AreAmounts}
 use Rattle.wot_edge.specs.Path.{Question, Use, use_of, path_pair, path_root, is_of, IsNextPath, IsSpent}
 use Rattle.wot_edge.specs.Sums.{Sums, pair_sum, root_sum, use_in}
 use Rattle.wot_edge.specs.Answer.{EachNext, amount_of, but_last, IsAnswer, IsNextOrSpent}
-use Rattle.wot_edge.specs.Agree.{Agree}
-use Rattle.wot_edge.specs.Leads.{Grows, GainsLeads, Leads}
 
 -- ---- one path more
 
@@ -100,31 +97,6 @@ root_small (root ∷ roots) fpr all = by (root_small roots fpr all.1) (same_fpr 
 pub amount_more : (paths : List Path) (path : Path) → amount_of (paths ++ path ∷ []) ≡ amount_of paths + path.amount
 amount_more paths path = sum_by_push (λ p. p.amount) paths path
 
--- ---- what was looked at
-
-pub agree_fewer : (q other : Question) (fewer set : List Fpr) → Grows fewer set → Agree q other set → Agree q other fewer
-agree_fewer q other fewer set g a = record {
-  target = a.target;
-  rows = λ fpr h. a.rows fpr (g fpr h);
-  place = λ fpr h. a.place fpr (g fpr h);
-  in_order = λ fpr h. a.in_order fpr (g fpr h);
-  usable = λ fpr h x y hx hy e hi. a.usable fpr (g fpr h) x y hx hy e (g x.edge.issuer hi);
-  roots = λ fpr h. a.roots fpr (g fpr h);
-}
-
-pub grows_more : (a b c : List Fpr) → Grows a b → Grows b c → Grows a c
-grows_more a b c f g fpr h = g fpr (f fpr h)
-
-pub leads_more : (told : Record) (target : Fpr) (a b c : List Fpr) → GainsLeads told target a b → GainsLeads told target b c → GainsLeads told target a c
-leads_more told target a b c f g fpr h = by (g fpr h)
-  where
-    by : Has b fpr ⊎ Leads told target fpr → Has a fpr ⊎ Leads told target fpr
-    by (inl k) = f fpr k
-    by (inr l) = inr l
-
-pub same_set : (told : Record) (target : Fpr) (a : List Fpr) → GainsLeads told target a a
-same_set told target a fpr h = inl h
-
 -- ---- the steps of the loop
 
 pub next_found : (q : Question) (sums : Sums) (paths : List Path) (found : Option Path) (path : Path) → use_in sums ≡ use_of paths → IsNextOrSpent q (use_in sums) found → found ≡ Some path → IsNextPath q (use_of paths) path
@@ -141,3 +113,7 @@ pub spent_answer : (q : Question) (wanted : ℕ) (sums : Sums) (paths result : L
 spent_answer q wanted sums paths result found each short e n f same =
     let spent : IsSpent q (use_of paths) = subst (λ (u : Use). IsNextOrSpent q u None) e (subst (IsNextOrSpent q (use_in sums)) f n) in
     subst (IsAnswer q wanted) (sym same) (record { each = each; short = short; ends = inr spent })
+
+pub full_answer : (q : Question) (wanted : ℕ) (paths result : List Path) (sum : ℕ) → EachNext q [] paths → amount_of (but_last paths) < wanted → sum ≡ amount_of paths → wanted ≤ sum → result ≡ paths → IsAnswer q wanted result
+full_answer q wanted paths result sum each short e le same =
+    subst (IsAnswer q wanted) (sym same) (record { each = each; short = short; ends = inl (omega (arith, e, le)) })

@@ -8,13 +8,14 @@ ghost use Rattle.wot_edge.specs.Answer.{IsAnswer, amount_of};
 ghost use Rattle.wot_edge.specs.Capacity.{AllFit};
 ghost use Rattle.wot_edge.specs.Agree.{Agree};
 ghost use Rattle.wot_edge.specs.Leads.{Grows, GainsLeads};
+ghost use Rattle.wot_search.specs.Reach.{IsReach, number_at};
 
 use crate::Answer;
 use crate::take::take;
 use std::alloc::Global;
 use wot_edge::laws::{answer_is_one, paths_fit, zero_is_no_path};
 use wot_edge::{Roads, Roots};
-use wot_search::Consulted;
+use wot_search::{Consulted, Reach, Unnoted};
 use wot_types::{Fpr, Memory};
 
 /// How far a user ID of the target is authenticated: next paths until their sum reaches what is
@@ -33,20 +34,58 @@ pub fn authenticate<R: Roads>(
     requires wanted { 1 ≤ wanted }
     requires few { length roots.now ≤ 64 }
     ensures answer { IfOk result (λ answer. IsAnswer (asks (R.told roads.now uid.now) roots.now target.now) wanted answer.paths) }
-    ensures one { IfOk result (λ answer. (paths : List ThePath) → IsAnswer (asks (R.told roads.now uid.now) roots.now target.now) wanted paths → paths ≡ answer.paths) }
+    ensures one { IfOk result (λ answer. (paths : List ThePath)
+        → IsAnswer (asks (R.told roads.now uid.now) roots.now target.now) wanted paths → paths ≡ answer.paths) }
     ensures sum { IfOk result (λ answer. answer.sum ≡ amount_of answer.paths) }
     ensures zero { IfOk result (λ answer. (answer.sum ≡ 0) ↔ IsSpent (asks (R.told roads.now uid.now) roots.now target.now) (use_of [])) }
     ensures pairs { IfOk result (λ answer. AllFit [] answer.paths) }
     ensures roots { IfOk result (λ answer. (fpr : TheFpr) → (use_of answer.paths).root fpr ≤ root_amount roots.now fpr) }
     ensures grows { Grows consulted.old consulted.new }
     ensures leads { GainsLeads (R.told roads.now uid.now) target.now consulted.old consulted.new }
-    ensures local { IfOk result (λ answer. (other : Question) → Agree (asks (R.told roads.now uid.now) roots.now target.now) other consulted.new → IsAnswer other wanted answer.paths) }
-    ensures local_one { IfOk result (λ answer. (other : Question) → Agree (asks (R.told roads.now uid.now) roots.now target.now) other consulted.new → IsRecord other.told → (paths : List ThePath) → IsAnswer other wanted paths → paths ≡ answer.paths) }
+    ensures local { IfOk result (λ answer. (other : Question)
+        → Agree (asks (R.told roads.now uid.now) roots.now target.now) other consulted.new → IsAnswer other wanted answer.paths) }
+    ensures local_one { IfOk result (λ answer. (other : Question)
+        → Agree (asks (R.told roads.now uid.now) roots.now target.now) other consulted.new → IsRecord other.told
+        → (paths : List ThePath) → IsAnswer other wanted paths → paths ≡ answer.paths) }
 {
-    let answer = take(alloc, roads, roots, target, uid, wanted, consulted)?;
+    let reach = Reach::everywhere(alloc);
+    let answer = take(alloc, roads, roots, &reach, target, uid, wanted, consulted)?;
     // The laws that the clauses on the answer rest on.
     answer_is_one();
     zero_is_no_path();
     paths_fit();
+    Ok(answer)
+}
+
+/// The same answer, by searches that pass over each issuer where it would stand further before the target than its
+/// reach. Nothing is noted of what they looked at.
+pub fn authenticate_within<R: Roads>(
+    alloc: Global,
+    roads: &R,
+    roots: &Roots,
+    reach: &Reach,
+    target: &Fpr,
+    uid: &[u8],
+    wanted: u32,
+) -> Result<Answer, Memory>
+    requires wanted { 1 ≤ wanted }
+    requires few { length roots.now ≤ 64 }
+    requires reach { IsReach (R.told roads.now) roots.now (number_at reach.now) }
+    ensures answer { IfOk result (λ answer. IsAnswer (asks (R.told roads.now uid.now) roots.now target.now) wanted answer.paths) }
+    ensures one { IfOk result (λ answer. (paths : List ThePath)
+        → IsAnswer (asks (R.told roads.now uid.now) roots.now target.now) wanted paths → paths ≡ answer.paths) }
+    ensures sum { IfOk result (λ answer. answer.sum ≡ amount_of answer.paths) }
+{
+    let answer = take(
+        alloc,
+        roads,
+        roots,
+        reach,
+        target,
+        uid,
+        wanted,
+        &mut Unnoted,
+    )?;
+    answer_is_one();
     Ok(answer)
 }

@@ -6,7 +6,4 @@ mod ask;
 mod take;
 
 pub use answer::Answer;
-pub use ask::authenticate;
-
-#[cfg(test)]
-mod tests;
+pub use ask::{authenticate, authenticate_within};

@@ -1,35 +1,41 @@
 ghost use Rattle.std.specs.Prelude.{◌≡◌, ◌≤◌, length, IfOk};
 ghost use Rattle.wot_edge.specs.Record.{IsRecord};
-ghost use Rattle.wot_edge.specs.Path.{Question, asks};
+ghost use Rattle.wot_types.specs.declared.fpr.Fpr.{Fpr as Print};
+ghost use Rattle.wot_edge.specs.Path.{asks};
 ghost use Rattle.wot_edge.specs.Answer.{IsAnswer, amount_of};
-ghost use Rattle.wot_edge.specs.Agree.{Agree};
-ghost use Rattle.wot_edge.specs.Leads.{Grows, GainsLeads};
+ghost use Rattle.wot_edge.specs.Leads.{Leads};
+ghost use Rattle.wot_search.specs.Looked.{Gains, Widens};
+ghost use Rattle.wot_search.specs.Reach.{IsReach, number_at};
+ghost use Rattle.wot_auth.specs.Agreed.{IsAnswerWhereAgreed};
 
 use crate::Answer;
 use std::alloc::Global;
 use wot_edge::laws::paths_fit;
 use wot_edge::{Path, PathList, Roads, Roots, Used};
-use wot_search::{Consulted, next_path};
+use wot_search::{Notes, Reach, next_path_within};
 use wot_types::{Fpr, Memory};
 
 /// Takes next paths until their sum reaches what is wanted, or none is left.
-pub fn take<R: Roads>(
+pub fn take<R: Roads, N: Notes>(
     alloc: Global,
     roads: &R,
     roots: &Roots,
+    reach: &Reach,
     target: &Fpr,
     uid: &[u8],
     wanted: u32,
-    consulted: &mut Consulted,
+    notes: &mut N,
 ) -> Result<Answer, Memory>
     requires wanted { 1 ≤ wanted }
     requires few { length roots.now ≤ 64 }
+    requires reach { IsReach (R.told roads.now) roots.now (number_at reach.now) }
     ensures answer { IfOk result (λ answer. IsAnswer (asks (R.told roads.now uid.now) roots.now target.now) wanted answer.paths) }
     ensures sum { IfOk result (λ answer. answer.sum ≡ amount_of answer.paths) }
     ensures lawful { IfOk result (λ answer. IsRecord (R.told roads.now uid.now)) }
-    ensures grows { Grows consulted.old consulted.new }
-    ensures leads { GainsLeads (R.told roads.now uid.now) target.now consulted.old consulted.new }
-    ensures local { IfOk result (λ answer. (other : Question) → Agree (asks (R.told roads.now uid.now) roots.now target.now) other consulted.new → IsAnswer other wanted answer.paths) }
+    ensures grows { Widens (N.noted notes.old) (N.noted notes.new) }
+    ensures leads { Gains (Leads (R.told roads.now uid.now) target.now) (N.noted notes.old) (N.noted notes.new) }
+    ensures local { ((fpr : Print) → number_at reach.now fpr ≡ 255) → IfOk result (λ answer. IsAnswerWhereAgreed
+        (asks (R.told roads.now uid.now) roots.now target.now) wanted (N.noted notes.new) answer.paths) }
 {
     // What the bounds rest on: no root has more than 255, and next paths use no more than there is.
     let _count = roots.len();
@@ -38,7 +44,7 @@ pub fn take<R: Roads>(
     let mut paths: Vec<Path> = Vec::new(alloc);
     let mut sum: u32 = 0;
     'paths: while sum < wanted {
-        match next_path(alloc, roads, roots, &used, target, uid, consulted)? {
+        match next_path_within(alloc, roads, roots, reach, &used, target, uid, notes)? {
             None => {
                 let paths = PathList::new(paths);
                 return Ok(Answer { sum, paths });

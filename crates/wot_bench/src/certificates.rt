@@ -1,7 +1,7 @@
-//! Certificates: `wot_bench certificates COUNT` makes that many of some 30,000 octets, assembles each from its packets and
-//! merges it into one of its key alone. It prints the seconds of both, and those of the SHA-256 that the numbers of the
-//! signatures take, by the toolchain's crate alone. `wot_bench merging COUNT` makes one with that many signatures, and
-//! merges it with itself, and with itself and one signature more.
+//! Certificates: `wot_bench certificates COUNT` makes that many of some 30,000 octets, assembles each from its
+//! packets and merges it into one of its key alone. It prints the seconds of both, and those of the SHA-256 that the
+//! numbers of the signatures take, by the toolchain's crate alone. `wot_bench merging COUNT` makes one with that many
+//! signatures, and merges it with itself, and with itself and one signature more.
 ghost use Rattle.std.specs.Prelude.{◌≤◌};
 ghost use Rattle.wot_policy.specs.Kept.{IsFaithful};
 

@@ -35,9 +35,9 @@ impl Source for Repeated<'_> {
         if n as u64 > self.left {
             return Ok(0);
         }
-        let (front, _) = rest.split_at(n);
+        let (prefix, _) = rest.split_at(n);
         let (place, _) = to.split_at_mut(n);
-        place.copy_from_slice(front);
+        place.copy_from_slice(prefix);
         self.left -= n as u64;
         self.at = self.at.wrapping_add(n);
         Ok(n)

@@ -1,5 +1,5 @@
-//! Rows of one certificate: `wot_bench rows ISSUERS REVOCATIONS` makes a certificate with one certification by each of so
-//! many issuers, of which so many revoked it, and finds the edges into it.
+//! Rows of one certificate: `wot_bench rows ISSUERS REVOCATIONS` makes a certificate with one certification by each
+//! of so many issuers, of which so many revoked it, and finds the edges into it.
 use std::alloc::Global;
 use std::io;
 use std::rt::Clock;

@@ -9,7 +9,7 @@ use wot_edge::{Edge, EdgeFacts, Roots, Used};
 use wot_search::{Consulted, next_path};
 use wot_types::{Fpr, Memory, Steps};
 
-const UID: u8 = b't';
+pub(crate) const UID: u8 = b't';
 
 /// A row of numbers in no order that a network follows (splitmix64).
 pub(crate) fn mixed(number: u64) -> u64 {
@@ -19,7 +19,7 @@ pub(crate) fn mixed(number: u64) -> u64 {
     word ^ (word >> 31)
 }
 
-fn key(number: u64) -> Fpr {
+pub(crate) fn key(number: u64) -> Fpr {
     let first = mixed(number).to_be_bytes();
     let last = number.to_be_bytes();
     let mut octets = [0u8; 20];
@@ -45,7 +45,7 @@ fn edge(issuer: Fpr, target: Fpr, depth: u8) -> Edge {
 }
 
 /// Gives a certificate the edges from these issuers, each once.
-fn put(
+pub(crate) fn put(
     alloc: Global,
     roads: &mut PlainRoads,
     target: Fpr,
@@ -125,7 +125,7 @@ fn layers(alloc: Global, size: u64) -> Result<PlainRoads, Memory> {
 }
 
 /// The roots: so many numbers from 0 on, in steps.
-fn roots_of(alloc: Global, count: u64, step: u64) -> Result<Roots, Memory> {
+pub(crate) fn roots_of(alloc: Global, count: u64, step: u64) -> Result<Roots, Memory> {
     let mut roots = Roots::new(alloc);
     for i in 0..count {
         roots.set(key(i.wrapping_mul(step)), 120)?;
@@ -158,7 +158,7 @@ fn ask(
     Ok((steps, consulted.iter().count()))
 }
 
-fn failed(_memory: Memory) -> io::Error {
+pub(crate) fn failed(_memory: Memory) -> io::Error {
     io::Error::from(io::ErrorKind::OutOfMemory)
 }
 

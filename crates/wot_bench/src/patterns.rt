@@ -1,6 +1,6 @@
-//! Matching: `wot_bench pattern_text PATTERN COUNT TURNS` tries a pattern so many turns on COUNT times `a`, and `wot_bench
-//! pattern_uids PATTERN WHO COUNT` on so many user IDs of 40 octets. WHO is `own` for the matcher of scopes, `regex` for the
-//! toolchain's regular expressions, or another word for neither.
+//! Matching: `wot_bench pattern_text PATTERN COUNT TURNS` tries a pattern so many turns on COUNT times `a`, and
+//! `wot_bench pattern_uids PATTERN WHO COUNT` on so many user IDs of 40 octets. WHO is `own` for the matcher of
+//! scopes, `regex` for the toolchain's regular expressions, or another word for neither.
 use regex::Regex;
 use std::alloc::Global;
 use std::{io, str};

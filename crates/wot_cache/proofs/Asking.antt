@@ -1,62 +1,90 @@
--- What is asked over the roads of an open view is the view's question.
-use Rattle.std.proofs.Common.{◌≡◌, ℕ, List, Option, Some, None, Result, Ok, Err, sym, ap, subst, ◌∙◌}
+-- What is asked over the parts that are seen from a view is the view's question.
+use Rattle.std.proofs.Common.{◌≡◌, ℕ, ◌≤◌, List, length, Option, Some, None, Result, Ok, Err, refl, sym, ap, subst, ◌∙◌, arith}
 use Rattle.std.specs.Prelude.{IfOk, IfSome, IsSomeAnd}
 use Rattle.wot_types.specs.declared.fpr.Fpr.{Fpr}
-use Rattle.wot_verdict.specs.Verdicts.{Entries}
-use Rattle.wot_edge.specs.Path.{Question, asks}
-use Rattle.wot_edge.specs.Record.{Record}
-use Rattle.wot_keyring.specs.Keyring.{Certificates, Keyring}
-use Rattle.wot_network.specs.Local.{IsLocal}
-use Rattle.wot_network.specs.Net.{Net, IsRight, Present, told_of}
+use Rattle.wot_types.specs.declared.limits.Limits.{Limits}
+use Rattle.wot_edge.specs.Path.{Question}
+use Rattle.wot_keyring.specs.Keyring.{Keyring}
+use Rattle.wot_network.specs.Net.{IsRight, Net, Present}
+use Rattle.wot_network.specs.Roads.{present_of}
+use Rattle.wot_cache.specs.declared.parts.Parts.{Parts}
 use Rattle.wot_cache.specs.declared.view.View.{View}
-use Rattle.wot_cache.specs.Inside.{HasRight, IsTimely, Networks, network_at}
-use Rattle.wot_cache.specs.Question.{question_in}
+use Rattle.wot_cache.specs.Inside.{IsEngine, IsReady, Networks, network_at}
+use Rattle.wot_cache.specs.Parts.{ArePartsOf}
+use Rattle.wot_cache.specs.Question.{IsLocalTo, asked_over, question_in}
 use Rattle.wot_cache.specs.State.{Engine, state_of}
-use Rattle.wot_cache.specs.Views.{Views, view_at}
+use Rattle.wot_cache.specs.Views.{IsWithin, Views, view_at}
+use Rattle.wot_cache.proofs.Inside.{few_there}
 
 pub if_ok : {A E : Type 0} (r : Result A E) (P Q : A → Type 0) → ((a : A) → P a → Q a) → IfOk r P → IfOk r Q
 if_ok (Ok a) P Q step p = step a p
 if_ok (Err e) P Q step p = tt
 
--- ---- the network of a view
-
--- what is of the network's time is of the view's
-pub time_then : (views : Views) (name : List ℕ) (networks : Networks) (k : Keyring) (t : ℕ) → HasRight networks k name → IsTimely networks views name
-    → IfSome (network_at networks name) (λ (n : Net). t ≡ n.time) → IfSome (view_at views name) (λ (v : View). t ≡ v.time)
-time_then views name networks k t = by (view_at views name) (network_at networks name)
-  where
-    by : (o : Option View) (p : Option Net) → IsSomeAnd p (λ (n : Net). IsRight n k n.time) → IfSome o (λ (v : View). IfSome p (λ (n : Net). n.time ≡ v.time))
-        → IfSome p (λ (n : Net). t ≡ n.time) → IfSome o (λ (v : View). t ≡ v.time)
-    by None p right timely same = tt
-    by (Some v) None right timely same = absurd right
-    by (Some v) (Some n) right timely same = same ∙ timely
-
--- what is local at a time is local at each time that is the same
-pub local_then : (certs : Certificates) (verdicts : Entries) (told : List ℕ → Record) (t : ℕ) (o : Option View) → IfSome o (λ (v : View). t ≡ v.time)
-    → IsLocal certs verdicts t told → IfSome o (λ (v : View). IsLocal certs verdicts v.time told)
-local_then certs verdicts told t None same h = tt
-local_then certs verdicts told t (Some v) same h = subst (λ (t : ℕ). IsLocal certs verdicts t told) same h
-
--- the question over these roads, from these roots
-abbrev pub asked_over : Present → View → Fpr → List ℕ → Question
-asked_over p shown target uid = asks (told_of p uid) shown.roots target
-
-at_time : (k : Keyring) (views : Views) (shown : View) (p : Present) (target : Fpr) (uid : List ℕ) → p.keyring ≡ k → p.time ≡ shown.time
-    → asked_over p shown target uid ≡ question_in (state_of (record { keyring = k; views = views })) shown target uid
-at_time k views shown p target uid same time =
-    ap (λ (p : Present). asked_over p shown target uid) {y = record { keyring = k; time = shown.time }} (λ i. record { keyring = same i; time = time i })
-
--- what holds of it holds of the question from each view of that name
-pub as_asked : (P : Question → Type 0) (engine : Engine) (k : Keyring) (views : Views) (name : List ℕ) (shown : View) (p : Present) (target : Fpr) (uid : List ℕ)
-    → record { keyring = k; views = views } ≡ engine → view_at views name ≡ Some shown → p.keyring ≡ k → IfSome (view_at views name) (λ (v : View). p.time ≡ v.time)
-    → P (asked_over p shown target uid) → IfSome (view_at engine.views name) (λ (v : View). P (question_in (state_of engine) v target uid))
-as_asked P engine k views name shown p target uid seen found same time holds =
-    let timely : p.time ≡ shown.time = subst (λ (o : Option View). IfSome o (λ (v : View). p.time ≡ v.time)) found time in
-    let here : P (question_in (state_of (record { keyring = k; views = views })) shown target uid) =
-    subst P (at_time k views shown p target uid same timely) holds in
-    subst (λ (e : Engine). IfSome (view_at e.views name) (λ (v : View). P (question_in (state_of e) v target uid))) seen
-    (subst (λ (o : Option View). IfSome o (λ (v : View). P (question_in (state_of (record { keyring = k; views = views })) v target uid))) (sym found) here)
-
 -- an engine with another network is as it was
-pub same_engine : (engine : Engine) (k new : Keyring) (views : Views) → record { keyring = k; views = views } ≡ engine → new ≡ k → record { keyring = new; views = views } ≡ engine
-same_engine engine k new views seen same = ap (λ (k : Keyring). record { keyring = k; views = views }) same ∙ seen
+pub same_engine : (engine : Engine) (k new : Keyring) (views more : Views) → record { keyring = k; views = views } ≡ engine → new ≡ k → more ≡ views
+    → record { keyring = new; views = more } ≡ engine
+same_engine engine k new views more seen same equal = ap (λ (k : Keyring). record { keyring = k; views = more }) same ∙ ap (λ (vs : Views). record { keyring = k; views = vs }) equal ∙ seen
+
+-- These are the parts that are seen from the view of that name, which is open.
+abbrev pub AreSeen : Engine → List ℕ → Parts → Type 0
+AreSeen engine name p = IsSomeAnd (view_at engine.views name) (λ (v : View). ArePartsOf engine.keyring v p)
+
+-- what is of each view of which these are parts is of the view of that name
+pub of_view : (o : Option View) (k : Keyring) (p : Parts) (P : View → Type 0) → ((v : View) → ArePartsOf k v p → P v)
+    → IsSomeAnd o (λ (v : View). ArePartsOf k v p) → IfSome o P
+of_view None k p P step seen = tt
+of_view (Some v) k p P step seen = step v seen
+
+-- what holds of what is asked over them holds of the view's question
+pub as_asked : (P : Question → Type 0) (engine : Engine) (name : List ℕ) (p : Parts) (target : Fpr) (uid : List ℕ) → AreSeen engine name p
+    → P (asked_over (present_of p.roads) p.roots.now target uid) → IfSome (view_at engine.views name) (λ (v : View). P (question_in (state_of engine) v target uid))
+as_asked P engine name p target uid seen holds =
+    of_view (view_at engine.views name) engine.keyring p (λ v. P (question_in (state_of engine) v target uid)) (λ v are.
+    subst (λ (present : Present). P (asked_over present v.roots target uid)) are.roads
+    (subst (λ (roots : List (Fpr × ℕ)). P (asked_over (present_of p.roads) roots target uid)) are.roots holds)) seen
+
+-- The parts are seen from the view of an engine whose networks alone became others.
+pub seen_after : (engine : Engine) (k new : Keyring) (views more : Views) (name : List ℕ) (p : Parts) → record { keyring = k; views = views } ≡ engine → new ≡ k
+    → more ≡ views → IsSomeAnd (view_at more name) (λ (v : View). ArePartsOf new v p) → AreSeen engine name p
+seen_after engine k new views more name p is same equal seen =
+    subst (λ (e : Engine). AreSeen e name p) (same_engine engine k new views more is same equal) seen
+
+few_of : (limits : Limits) (k : Keyring) (views : Views) (name : List ℕ) (p : Parts) → IsWithin limits views → limits.roots ≤ 64
+    → IsSomeAnd (view_at views name) (λ (v : View). ArePartsOf k v p) → length p.roots.now ≤ 64
+few_of limits k views name p within small seen = by (view_at views name) refl seen
+  where
+    by : (o : Option View) → view_at views name ≡ o → IsSomeAnd o (λ (v : View). ArePartsOf k v p) → length p.roots.now ≤ 64
+    by None found are = absurd are
+    by (Some v) found are =
+        let few = few_there limits views name v within found in
+        let same : length p.roots.now ≡ length v.roots = ap length are.roots in
+        omega (arith, few, small, same)
+
+-- there are few roots among them
+pub few_seen : (engine : Engine) (k : Keyring) (views : Views) (networks : Networks) (name : List ℕ) (p : Parts) → record { keyring = k; views = views } ≡ engine
+    → IsEngine k views networks → AreSeen engine name p → length p.roots.now ≤ 64
+few_seen engine k views networks name p same inside seen =
+    few_of k.limits engine.keyring engine.views name p (subst (λ (e : Engine). IsWithin k.limits e.views) same inside.within) inside.small.roots seen
+
+-- what is local at the time of a view's network is local at the view's
+pub local_from : (k : Keyring) (views : Views) (networks : Networks) (name : List ℕ) (shown : View) (n : Net) (p : Present)
+    → view_at views name ≡ Some shown → network_at networks name ≡ Some n → IsReady k views networks name → IsLocalTo k n.time p
+    → IfSome (view_at views name) (λ (v : View). IsLocalTo k v.time p)
+local_from k views networks name shown n p found kept ready h =
+    let there : IsSomeAnd (network_at networks name) (λ (n : Net). IsRight n k shown.time) =
+    subst (λ (o : Option View). IsSomeAnd o (λ (v : View). IsSomeAnd (network_at networks name) (λ (n : Net). IsRight n k v.time))) found ready in
+    let right : IsRight n k shown.time = subst (λ (o : Option Net). IsSomeAnd o (λ (n : Net). IsRight n k shown.time)) kept there in
+    subst (λ (o : Option View). IfSome o (λ (v : View). IsLocalTo k v.time p)) (sym found)
+    (subst (λ (t : ℕ). IsLocalTo k t p) right.time h)
+
+pub time_seen : (engine : Engine) (name : List ℕ) (p : Parts) → AreSeen engine name p
+    → IfSome (view_at engine.views name) (λ (v : View). (present_of p.roads).time ≡ v.time)
+time_seen engine name p seen =
+    of_view (view_at engine.views name) engine.keyring p (λ v. (present_of p.roads).time ≡ v.time) (λ v are. ap (λ (p : Present). p.time) are.roads) seen
+
+pub keyring_seen : (engine : Engine) (name : List ℕ) (p : Parts) → AreSeen engine name p → (present_of p.roads).keyring ≡ engine.keyring
+keyring_seen engine name p = by (view_at engine.views name)
+  where
+    by : (o : Option View) → IsSomeAnd o (λ (v : View). ArePartsOf engine.keyring v p) → (present_of p.roads).keyring ≡ engine.keyring
+    by None are = absurd are
+    by (Some v) are = ap (λ (p : Present). p.keyring) are.roads

@@ -10,16 +10,16 @@ use Rattle.std.specs.List.{AllByRecursion}
 use Rattle.std.specs.List.Sorted.{IsStrictlySortedBy}
 
 -- what is true of each is true of the one at this place
-pub all_at : {A : Type 0} (P : A → Type 0) (front : List A) (x : A) (rest : List A) → AllByRecursion P (front ++ x ∷ rest) → P x
+pub all_at : {A : Type 0} (P : A → Type 0) (prefix : List A) (x : A) (rest : List A) → AllByRecursion P (prefix ++ x ∷ rest) → P x
 all_at P [] x rest all = all.0
-all_at P (y ∷ front) x rest all = all_at P front x rest all.1
+all_at P (y ∷ prefix) x rest all = all_at P prefix x rest all.1
 
 turned : {K : Type 0} {R : K → K → Ordering} → IsTotalOrder R → (k l : K) → R l k ≡ Less → R k l ≡ Greater
 turned o k l h = o.antisymm k l ∙ ap ordering_reverse h
 
-key_at : {K X : Type 0} (P : K → Type 0) (front : List (K × X)) (e : K × X) (rest : List (K × X)) → AllByRecursion P (keys_of (front ++ e ∷ rest)) → P e.0
+key_at : {K X : Type 0} (P : K → Type 0) (prefix : List (K × X)) (e : K × X) (rest : List (K × X)) → AllByRecursion P (keys_of (prefix ++ e ∷ rest)) → P e.0
 key_at P [] e rest all = all.0
-key_at P (f ∷ front) e rest all = key_at P front e rest all.1
+key_at P (f ∷ prefix) e rest all = key_at P prefix e rest all.1
 
 module _ {K X : Type 0} (R : K → K → Ordering) where
   -- The keys of all these entries are below this one.
@@ -41,10 +41,10 @@ module _ {K X : Type 0} (R : K → K → Ordering) where
       rw above (none_before o es k below.1)
 
   -- where keys rise, those before one are below it
-  pub below_next : (front : List (K × X)) (e : K × X) (rest : List (K × X)) → IsStrictlySortedBy R (keys_of (front ++ e ∷ rest)) → AreBelow e.0 front
+  pub below_next : (prefix : List (K × X)) (e : K × X) (rest : List (K × X)) → IsStrictlySortedBy R (keys_of (prefix ++ e ∷ rest)) → AreBelow e.0 prefix
   unfolding IsStrictlySortedBy
   below_next [] e rest order = tt
-  below_next (f ∷ front) e rest order = (key_at (λ k. R f.0 k ≡ Less) front e rest order.0, below_next front e rest order.1)
+  below_next (f ∷ prefix) e rest order = (key_at (λ k. R f.0 k ≡ Less) prefix e rest order.0, below_next prefix e rest order.1)
 
   -- the last entry is found by its key
   pub last_found : IsTotalOrder R → (es : List (K × X)) (k : K) (v : X) → AreBelow k es → R k k ≡ Equal → lookup (is_at (R k)) (es ++ (k, v) ∷ []) ≡ Some v

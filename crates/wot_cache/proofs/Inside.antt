@@ -1,6 +1,6 @@
 -- Views stay within the limits, and networks go on to fit.
-use Rattle.std.proofs.Common.{◌≡◌, ◌≢◌, ◌⊎◌, inl, inr, ℕ, ◌+◌, ◌<◌, ◌≤◌, Bool, true, false, cond, List, [], ◌∷◌, length, Option, Some, None, Result, Ok, Err, OnOk, OnErr, refl, sym, ap, subst, ◌∙◌, arith}
-use Rattle.std.specs.Prelude.{nat_lt, nat_le, is_none, ◌==◌, ◌&&◌}
+use Rattle.std.proofs.Common.{◌≡◌, inl, inr, ℕ, ◌+◌, ◌<◌, ◌≤◌, Bool, true, false, cond, List, [], ◌∷◌, length, Option, Some, None, Result, Ok, Err, OnOk, OnErr, refl, subst, arith}
+use Rattle.std.specs.Prelude.{nat_lt, nat_le, ◌==◌}
 use Rattle.std.specs.declared.cmp.Ordering.{Ordering}
 use Rattle.std.specs.declared.cmp.Ordering.TheVariants.{Less, Equal, Greater}
 use Rattle.std.specs.Ordering.{match_ordering}
@@ -10,7 +10,7 @@ use Rattle.wot_types.specs.declared.memory.Memory.{Memory}
 use Rattle.std.specs.Cmp.{IsTotalOrder}
 use Rattle.std.specs.BTreeMap.{insert_entry, is_at}
 use Rattle.std.specs.Map.{lookup, remove_entry, set_value, values_of, keys_of}
-use Rattle.std.proofs.lemmas.Bool.{ltb-true, leb-false}
+use Rattle.std.proofs.lemmas.Bool.{leb-false}
 use Rattle.std.proofs.lemmas.Cmp.{nat_list_cmp_total, on_total}
 use Rattle.std.proofs.lemmas.List.Sums.{sum_by-cons}
 use Rattle.std.proofs.lemmas.Map.{length-set_value}
@@ -21,11 +21,11 @@ use Rattle.wot_types.specs.Fpr.{fpr_cmp, octets_of}
 use Rattle.wot_types.specs.ViewName.{view_name_cmp}
 use Rattle.wot_edge.specs.Roots.{IsRoots, root_amount}
 use Rattle.wot_keyring.specs.Keyring.{Keyring}
-use Rattle.wot_keyring.specs.Import.{IsOneChange}
+use Rattle.wot_keyring.specs.Later.{IsLater}
 use Rattle.wot_network.specs.Net.{Net, Fits}
 use Rattle.wot_cache.specs.declared.view.View.{View}
 use Rattle.wot_cache.specs.Inside.{IsEngine, AllFit, Networks}
-use Rattle.wot_cache.specs.Views.{Views, IsWithin, is_name, view_at, with_time, timed, time_fault, with_root, rooted, with_amount, amount_fault, root_fault, without_view}
+use Rattle.wot_cache.specs.Views.{Views, IsWithin, is_name, view_at, with_amount, amount_fault, root_fault, without_view}
 
 -- ---- entries of a map, where P holds of each value
 
@@ -151,20 +151,17 @@ few_there l views name v w e = each_found (Few l.roots) (is_name name) views v w
 
 -- ---- networks
 
-fits_on : (n : Net) (old new : Keyring) → IsOneChange old new → Fits n old → Fits n new
-fits_on n old new (inl e) f = rw e f
-fits_on n old new (inr e) f = record {
-  past = omega (arith, e, f.past);
-  right = λ made same. absurd (omega (arith, e, f.past, same));
-}
+-- by the law that a network fits each later keyring
+abbrev pub FitLater : Type 0
+FitLater = (n : Net) (old new : Keyring) → Fits n old → IsLater old new → Fits n new
 
-pub all_fit : (networks : Networks) (old new : Keyring) → IsOneChange old new → AllFit networks old → AllFit networks new
-all_fit [] old new change all = tt
-all_fit (e ∷ es) old new change all = (fits_on e.1 old new change all.0, all_fit es old new change all.1)
+pub all_fit : FitLater → (networks : Networks) (old new : Keyring) → IsLater old new → AllFit networks old → AllFit networks new
+all_fit law [] old new later all = tt
+all_fit law (e ∷ es) old new later all = (law e.1 old new all.0 later, all_fit law es old new later all.1)
 
 -- an engine after a change of its keyring
-pub engine_on : (old new : Keyring) (views : Views) (networks : Networks) → new.limits ≡ old.limits → IsOneChange old new → IsEngine old views networks → IsEngine new views networks
-engine_on old new views networks limits change e = record { small = rw limits e.small; within = rw limits e.within; fit = all_fit networks old new change e.fit }
+pub engine_on : FitLater → (old new : Keyring) (views : Views) (networks : Networks) → new.limits ≡ old.limits → IsLater old new → IsEngine old views networks → IsEngine new views networks
+engine_on law old new views networks limits later e = record { small = rw limits e.small; within = rw limits e.within; fit = all_fit law networks old new later e.fit }
 
 -- ---- the networks of an engine
 

@@ -1,4 +1,4 @@
-mod Plain
+mod Changes
 mod Inside
 mod Asking
 pub mod Lines

@@ -1,20 +1,20 @@
 -- Lines that are put one by one.
-use Rattle.std.proofs.Common.{◌≡◌, ℕ, ◌+◌, ◌*◌, ◌≤◌, ◌<◌, ◌^◌, List, [], ◌∷◌, ◌++◌, length, take, arith, length-append, refl, sym, ap, subst, ◌∙◌, append_assoc, append-nil}
+use Rattle.std.proofs.Common.{◌≡◌, ℕ, ◌+◌, ◌*◌, ◌≤◌, ◌<◌, ◌^◌, List, [], ◌∷◌, ◌++◌, length, take, arith, length-append, refl, sym, ap, ◌∙◌, append_assoc, append-nil}
 use Rattle.std.proofs.Math.Seq.{take-append_seam}
 use Rattle.std.proofs.lemmas.Grind.{flat_map-append}
 use Rattle.std.proofs.lemmas.List.{length-map}
 use Rattle.std.specs.List.{AllByRecursion, flat_map}
 use Rattle.wot_types.specs.declared.limits.Limits.{Limits}
+use Rattle.wot_keyring.specs.Held.{held_of}
 use Rattle.wot_keyring.specs.Kept.{AreSmall}
 use Rattle.wot_keyring.specs.Dump as keyrings
 use Rattle.wot_edge.specs.Roots.{IsRoots}
 use Rattle.wot_script.specs.declared.command.Command.{Command}
-use Rattle.wot_keyring.specs.Dump.{AreLines, line_of, lines_of}
+use Rattle.wot_keyring.specs.Dump.{AreLines, command_line_of, lines_of}
 use Rattle.wot_cache.specs.Views.{Views, IsWithin}
 use Rattle.wot_cache.specs.declared.view.View.{View}
 use Rattle.wot_cache.specs.Dump.{HaveRoots, commands_of, root_of, view_commands}
 use Rattle.wot_cache.specs.State.{Engine, state_of}
-use Rattle.wot_cache.proofs.Replay.{engine_commands}
 
 -- The lines of all these commands but the rest were put.
 pub record PutSoFar (before now : List ℕ) (all rest : List Command) : Type 0 where
@@ -27,7 +27,7 @@ pub none_put : (before : List ℕ) (all : List Command) → PutSoFar before befo
 none_put before all = record { made = []; text = sym (append-nil before); left = refl; lined = λ h. h }
 
 lines-append : (cs ds : List Command) → lines_of (cs ++ ds) ≡ lines_of cs ++ lines_of ds
-lines-append cs ds = flat_map-append line_of cs ds
+lines-append cs ds = flat_map-append command_line_of cs ds
 
 pub both_lines : (cs ds : List Command) → AreLines cs → AreLines ds → AreLines (cs ++ ds)
 both_lines [] ds h k = k
@@ -91,21 +91,20 @@ few_lines l views small within =
 
 -- ---- an engine
 
-pub dumped : (engine : Engine) (before mid now : List ℕ) → mid ≡ before ++ lines_of (keyrings.commands_of engine.keyring)
+pub dumped : (engine : Engine) (before mid now : List ℕ) → mid ≡ before ++ lines_of (keyrings.commands_of (held_of engine.keyring))
     → now ≡ mid ++ lines_of (flat_map view_commands engine.views) → now ≡ before ++ lines_of (commands_of (state_of engine))
 dumped engine before mid now first last =
+    let held : List Command = keyrings.commands_of (held_of engine.keyring) in
     last
     ∙ ap (λ text. text ++ lines_of (flat_map view_commands engine.views)) first
-    ∙ append_assoc before (lines_of (keyrings.commands_of engine.keyring)) (lines_of (flat_map view_commands engine.views))
-    ∙ ap (λ text. before ++ text) (sym (lines-append (keyrings.commands_of engine.keyring) (flat_map view_commands engine.views)))
-    ∙ ap (λ commands. before ++ lines_of commands) (sym (engine_commands engine))
+    ∙ append_assoc before (lines_of held) (lines_of (flat_map view_commands engine.views))
+    ∙ ap (λ text. before ++ text) (sym (lines-append held (flat_map view_commands engine.views)))
 
-pub dumped_lines : (engine : Engine) → AreLines (keyrings.commands_of engine.keyring) → AreLines (flat_map view_commands engine.views)
+pub dumped_lines : (engine : Engine) → AreLines (keyrings.commands_of (held_of engine.keyring)) → AreLines (flat_map view_commands engine.views)
     → AreLines (commands_of (state_of engine))
-dumped_lines engine first last =
-    subst AreLines (sym (engine_commands engine)) (both_lines (keyrings.commands_of engine.keyring) (flat_map view_commands engine.views) first last)
+dumped_lines engine first last = both_lines (keyrings.commands_of (held_of engine.keyring)) (flat_map view_commands engine.views) first last
 
-pub dumped_count : (engine : Engine) (held opened : ℕ) → held ≡ length (keyrings.commands_of engine.keyring)
+pub dumped_count : (engine : Engine) (held opened : ℕ) → held ≡ length (keyrings.commands_of (held_of engine.keyring))
     → opened ≡ length (flat_map view_commands engine.views) → held + opened ≡ length (commands_of (state_of engine))
 dumped_count engine held opened h k =
-    omega (arith, h, k, ap length (engine_commands engine), length-append (keyrings.commands_of engine.keyring) (flat_map view_commands engine.views))
+    omega (arith, h, k, length-append (keyrings.commands_of (held_of engine.keyring)) (flat_map view_commands engine.views))

@@ -1,5 +1,5 @@
 -- What is true of every engine: of its keyring, its views, and the networks that it keeps for them.
-use Rattle.std.specs.Prelude.{◌≡◌, ℕ, List, Option, IfSome, IsSomeAnd}
+use Rattle.std.specs.Prelude.{ℕ, List, Option, IsSomeAnd}
 use Rattle.std.specs.List.{AllByRecursion}
 use Rattle.std.specs.Map.{lookup}
 use Rattle.wot_keyring.specs.Keyring.{Keyring}
@@ -24,11 +24,7 @@ pub record IsEngine (k : Keyring) (views : Views) (networks : Networks) : Type 0
 abbrev pub network_at : Networks → List ℕ → Option Net
 network_at networks name = lookup (is_name name) networks
 
--- There is one, and it is that of the keyring as it is, at its time.
-abbrev pub HasRight : Networks → Keyring → List ℕ → Type 0
-HasRight networks k name = IsSomeAnd (network_at networks name) (λ (n : Net). IsRight n k n.time)
-
--- Its time is the view's.
-abbrev pub IsTimely : Networks → Views → List ℕ → Type 0
-IsTimely networks views name =
-    IfSome (view_at views name) (λ (v : View). IfSome (network_at networks name) (λ (n : Net). n.time ≡ v.time))
+-- There is one for an open view: that of the keyring as it is, at the view's time.
+abbrev pub IsReady : Keyring → Views → Networks → List ℕ → Type 0
+IsReady k views networks name =
+    IsSomeAnd (view_at views name) (λ (v : View). IsSomeAnd (network_at networks name) (λ (n : Net). IsRight n k v.time))

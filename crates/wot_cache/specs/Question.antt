@@ -1,12 +1,45 @@
--- What is asked from a view.
-use Rattle.std.specs.Prelude.{ℕ, List}
+-- What is asked from a view, and what is said of an answer.
+use Rattle.std.specs.Prelude.{◌≡◌, ◌≤◌, ◌↔◌, ℕ, List, [], IfSome}
 use Rattle.wot_types.specs.declared.fpr.Fpr.{Fpr}
-use Rattle.wot_edge.specs.Path.{Question, asks}
+use Rattle.wot_edge.specs.declared.path.Path.{Path}
+use Rattle.wot_edge.specs.Answer.{IsAnswer}
+use Rattle.wot_edge.specs.Path.{Question, asks, use_of, IsSpent}
+use Rattle.wot_edge.specs.Roots.{root_amount}
+use Rattle.wot_keyring.specs.Keyring.{Keyring, certificates_in}
+use Rattle.wot_network.specs.Local.{IsLocal}
+use Rattle.wot_network.specs.Net.{Present, told_of}
 use Rattle.wot_network.specs.Told.{record_of}
 use Rattle.wot_cache.specs.declared.view.View.{View}
-use Rattle.wot_cache.specs.State.{State}
+use Rattle.wot_cache.specs.State.{Engine, State, state_of}
+use Rattle.wot_cache.specs.Views.{view_at}
 
 -- The question how far a user ID belongs to the target, seen from a view: by the certification network of the present
 -- certificates and verdicts at the view's time, and by the view's roots.
 abbrev pub question_in : State → View → Fpr → List ℕ → Question
-question_in s view target uid = asks (record_of s.certs s.verdicts view.time uid) view.roots target
+question_in s view target uid = asks (record_of s.held.certs s.held.verdicts view.time uid) view.roots target
+
+-- That is so of the question from this view, where it is open.
+abbrev pub OfQuestion : Engine → List ℕ → Fpr → List ℕ → (Question → Type 0) → Type 0
+OfQuestion engine name target uid P = IfSome (view_at engine.views name) (λ (v : View). P (question_in (state_of engine) v target uid))
+
+-- the question over these roads, from these roots
+abbrev pub asked_over : Present → List (Fpr × ℕ) → Fpr → List ℕ → Question
+asked_over p roots target uid = asks (told_of p uid) roots target
+
+-- What the roads tell is told by the keyring's certificates and verdicts at a time, each part by a few of them.
+abbrev pub IsLocalTo : Keyring → ℕ → Present → Type 0
+IsLocalTo k t p = IsLocal (certificates_in k) k.verdicts t (told_of p)
+
+-- ---- answers
+
+-- No other list of paths is an answer.
+abbrev pub IsOnlyAnswer : Question → ℕ → List Path → Type 0
+IsOnlyAnswer q wanted paths = (others : List Path) → IsAnswer q wanted others → others ≡ paths
+
+-- The amount is 0 exactly where there is no valid path of positive amount at all.
+abbrev pub TellsSpent : Question → ℕ → Type 0
+TellsSpent q amount = (amount ≡ 0) ↔ IsSpent q (use_of [])
+
+-- All paths together take no more of a root than its amount.
+abbrev pub AreWithinRoots : List (Fpr × ℕ) → List Path → Type 0
+AreWithinRoots roots paths = (fpr : Fpr) → (use_of paths).root fpr ≤ root_amount roots fpr

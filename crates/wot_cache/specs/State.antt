@@ -1,68 +1,34 @@
 -- The state: what is kept between two lines, and what changes it.
-use Rattle.std.specs.Prelude.{◌≡◌, ℕ, Bool, true, false, if◌then◌else◌, List, [], map, Option}
+use Rattle.std.specs.Prelude.{◌≡◌, ℕ, List, []}
 use Rattle.std.specs.List.{AllByRecursion}
-use Rattle.std.specs.Option.{option_map_or}
-use Rattle.std.specs.Map.{lookup, remove_entry}
 use Rattle.wot_types.specs.declared.fpr.Fpr.{Fpr}
 use Rattle.wot_types.specs.declared.limits.Limits.{Limits}
-use Rattle.wot_types.specs.declared.number.SigNumber.{SigNumber}
 use Rattle.wot_key.specs.Key.{fpr_of}
-use Rattle.wot_policy.specs.declared.rows.PolicyRows.{PolicyRows}
-use Rattle.wot_verdict.specs.Verdicts as verdicts
-use Rattle.wot_verdict.specs.declared.verdict.Verdict.{Verdict}
-use Rattle.wot_verdict.specs.declared.verdict.Verdict.TheVariants.{Good, Bad}
 use Rattle.wot_cert.specs.Certificate.{Certificate}
-use Rattle.wot_keyring.specs.Keyring.{Keyring, Certificates, certificates_in, is_fpr}
+use Rattle.wot_keyring.specs.Held.{Held, nothing, held_of}
+use Rattle.wot_keyring.specs.Keyring.{Keyring}
 use Rattle.wot_keyring.specs.Keyring as keyrings
-use Rattle.wot_keyring.specs.Import.{united_in}
 use Rattle.wot_cache.specs.Views.{Views, with_time, with_root, without_view}
 
--- The certificates by fingerprint, each signature with its mark of admission, the verdicts by number, and the open
--- views by name. Stamps, counts of changes and kept rows are no part of it: no answer depends on them.
+-- What is held, and the open views by name. Stamps, counts of changes and kept rows are no part of it: no answer depends
+-- on them.
 pub record State : Type 0 where
-  pub certs : Certificates
-  pub verdicts : verdicts.Entries
+  pub held : Held
   pub views : Views
 
 -- the state before the first line
 abbrev pub start : State
-start = record { certs = []; verdicts = []; views = [] }
+start = record { held = nothing; views = [] }
 
 -- A state that can be: each certificate stands under the fingerprint of its key.
 abbrev pub IsState : State → Type 0
-IsState s = AllByRecursion (λ (e : Fpr × Certificate). e.0 ≡ fpr_of e.1.key) s.certs
-
--- the certificate that is kept under a fingerprint
-abbrev pub cert_in : State → Fpr → Option Certificate
-cert_in s fpr = lookup (is_fpr fpr) s.certs
+IsState s = AllByRecursion (λ (e : Fpr × Certificate). e.0 ≡ fpr_of e.1.key) s.held.certs
 
 -- ---- changes
 
--- with the certificates that these octets spell, all united with the kept ones
-abbrev pub importing : PolicyRows → List ℕ → State → State
-importing rows octets s = record s { certs = united_in rows s.certs octets }
-
--- without a certificate; the verdicts on its signatures stay
-abbrev pub removing : Fpr → State → State
-removing fpr s = record s { certs = remove_entry (is_fpr fpr) s.certs }
-
-abbrev pub is_verdict : Verdict → Verdict → Bool
-is_verdict (Good fpr) (Good other) = is_fpr fpr other
-is_verdict Bad Bad = true
-is_verdict _ _ = false
-
--- whether this is the verdict on a number
-abbrev pub is_said : verdicts.Entries → SigNumber → Verdict → Bool
-is_said entries number verdict = option_map_or (is_verdict verdict) (verdicts.verdict_at entries number) false
-
--- with this verdict on a number; one that was there already changes nothing
-abbrev pub judging : SigNumber → Verdict → State → State
-judging number verdict s =
-    if is_said s.verdicts number verdict then s else record s { verdicts = verdicts.with_verdict s.verdicts number verdict }
-
--- without a verdict on a number
-abbrev pub unjudging : SigNumber → State → State
-unjudging number s = record s { verdicts = verdicts.without_verdict s.verdicts number }
+-- with this held
+abbrev pub with_held : State → Held → State
+with_held s held = record s { held = held }
 
 -- with a view open and at this time
 abbrev pub timing : List ℕ → ℕ → State → State
@@ -89,4 +55,8 @@ empty limits = record { keyring = keyrings.empty limits; views = [] }
 
 -- the state of an engine
 abbrev pub state_of : Engine → State
-state_of engine = record { certs = certificates_in engine.keyring; verdicts = engine.keyring.verdicts; views = engine.views }
+state_of engine = record { held = held_of engine.keyring; views = engine.views }
+
+-- What this change makes of what was held is held now; the views stay.
+abbrev pub IsStateAfter : (Held → Held) → Engine → Engine → Type 0
+IsStateAfter change old new = state_of new ≡ with_held (state_of old) (change (held_of old.keyring))

@@ -1,5 +1,6 @@
 -- Views by name, each with a time and roots, and what changes them.
-use Rattle.std.specs.Prelude.{ℕ, ◌≤◌, ◌==◌, ◌&&◌, nat_lt, nat_le, Bool, if◌then◌else◌, List, [], length, Option, Some, None, is_none, is_some, true, Result, Ok, Err, ◌≡◌}
+use Rattle.std.specs.Prelude.{ℕ, ◌≤◌, ◌==◌, ◌&&◌, nat_lt, nat_le, Bool, if◌then◌else◌, List, [], length, Option, Some, None, is_none, is_some, true, false, Result, Ok, Err, ◌≡◌}
+use Rattle.std.specs.Option.{MatchOption}
 use Rattle.std.specs.List.{AllByRecursion}
 use Rattle.std.specs.BTreeMap.{insert_entry, is_at}
 use Rattle.std.specs.Map.{lookup, remove_entry, set_value}
@@ -38,6 +39,12 @@ timed views name t (Some view) = set_value (is_name name) views (record view { t
 abbrev pub with_time : Views → List ℕ → ℕ → Views
 with_time views name t = timed views name t (view_at views name)
 
+-- The time of an open view was moved; this says whether it is open.
+abbrev pub MovesTime : Bool → List ℕ → ℕ → Views → Views → Type 0
+MovesTime done name t old new =
+    MatchOption (view_at old name) ((done ≡ false) × (new ≡ old))
+    (λ (view : View). (done ≡ true) × (new ≡ set_value (is_name name) old (record view { time = t })))
+
 -- why a view isn't given a time: it would be one view more than the limit allows
 abbrev pub time_fault : Limits → Views → List ℕ → Option ViewFault
 time_fault limits views name =
@@ -57,6 +64,12 @@ rooted views name fpr amount (Some view) = set_value (is_name name) views (recor
 -- the views, with this root amount in that one, which is open
 abbrev pub with_root : Views → List ℕ → Fpr → ℕ → Views
 with_root views name fpr amount = rooted views name fpr amount (view_at views name)
+
+-- A root's amount was set in a view, which is open.
+abbrev pub SetsAmount : List ℕ → Fpr → ℕ → Views → Views → Type 0
+SetsAmount name fpr amount old new =
+    MatchOption (view_at old name) ⊥
+    (λ (view : View). new ≡ set_value (is_name name) old (record view { roots = with_amount view.roots fpr amount }))
 
 -- why a root isn't set in an open view: there is none to take away, or it would be one root more than the limit allows
 abbrev pub amount_fault : Limits → List (Fpr × ℕ) → Fpr → ℕ → Option ViewFault

@@ -1,13 +1,9 @@
 //! The answer over roads.
-ghost use Rattle.std.specs.Prelude.{◌≡◌, ◌≤◌, ◌↔◌, List, [], length, IfOk, OnErr};
-ghost use Rattle.wot_types.specs.declared.fpr.Fpr.{Fpr as TheFpr};
-ghost use Rattle.wot_edge.specs.declared.path.Path.{Path as ThePath};
+ghost use Rattle.std.specs.Prelude.{◌≡◌, ◌≤◌, [], length, IfOk, OnErr};
 ghost use Rattle.wot_edge.specs.Answer.{IsAnswer, amount_of};
 ghost use Rattle.wot_edge.specs.Capacity.{AllFit};
-ghost use Rattle.wot_edge.specs.Path.{asks, use_of, IsSpent};
-ghost use Rattle.wot_edge.specs.Roots.{root_amount};
-ghost use Rattle.wot_network.specs.Net.{told_of};
 ghost use Rattle.wot_network.specs.Roads.{present_of};
+ghost use Rattle.wot_cache.specs.Question.{asked_over, AreWithinRoots, IsOnlyAnswer, TellsSpent};
 
 use crate::view::AskFault;
 use std::alloc::Global;
@@ -28,13 +24,13 @@ pub fn answer(
 ) -> Result<Answer, AskFault>
     requires wanted { 1 ≤ wanted }
     requires few { length roots.now ≤ 64 }
-    ensures answer { IfOk result (λ a. IsAnswer (asks (told_of (present_of roads.now) uid.now) roots.now target.now) wanted a.paths) }
-    ensures one { IfOk result (λ a. (paths : List ThePath) → IsAnswer (asks (told_of (present_of roads.now) uid.now) roots.now target.now) wanted paths → paths ≡ a.paths) }
+    ensures answer { IfOk result (λ a. IsAnswer (asked_over (present_of roads.now) roots.now target.now uid.now) wanted a.paths) }
+    ensures one { IfOk result (λ a. IsOnlyAnswer (asked_over (present_of roads.now) roots.now target.now uid.now) wanted a.paths) }
     ensures sum { IfOk result (λ a. a.sum ≡ amount_of a.paths) }
-    ensures zero { IfOk result (λ a. (a.sum ≡ 0) ↔ IsSpent (asks (told_of (present_of roads.now) uid.now) roots.now target.now) (use_of [])) }
+    ensures zero { IfOk result (λ a. TellsSpent (asked_over (present_of roads.now) roots.now target.now uid.now) a.sum) }
     ensures pairs { IfOk result (λ a. AllFit [] a.paths) }
     ensures memory { OnErr result (result ≡ Err AskFault.Memory) }
-    ensures roots { IfOk result (λ a. (fpr : TheFpr) → (use_of a.paths).root fpr ≤ root_amount roots.now fpr) }
+    ensures roots { IfOk result (λ a. AreWithinRoots roots.now a.paths) }
 {
     let mut consulted = Consulted::new(alloc);
     match authenticate(alloc, roads, roots, target, uid, wanted, &mut consulted) {

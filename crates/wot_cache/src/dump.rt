@@ -1,12 +1,11 @@
 ghost use Rattle.std.specs.Prelude.{◌≡◌, ◌<◌, ◌^◌, ◌++◌, length, map, IfOk, OnOk, OnErr};
 ghost use Rattle.std.specs.List.{flat_map};
 ghost use Rattle.wot_edge.specs.Roots.{IsRoots};
-ghost use Rattle.wot_keyring.specs.Dump.{AreLines, IsLine, line_of, lines_of};
-ghost use Rattle.wot_keyring.specs.Dump as restored;
+ghost use Rattle.wot_keyring.specs.Dump.{AreLines, IsLine, command_line_of, lines_of};
 ghost use Rattle.wot_policy.specs.declared.rows.PolicyRows.{PolicyRows as Rows};
 ghost use Rattle.wot_cache.specs.Views.{IsWithin};
-ghost use Rattle.wot_cache.specs.State.{Engine as Seen, state_of};
-ghost use Rattle.wot_cache.specs.Dump.{AreInOrder, HaveRoots, IsRestored, commands_of, engine_of, root_of, view_commands};
+ghost use Rattle.wot_cache.specs.State.{Engine as Seen};
+ghost use Rattle.wot_cache.specs.Dump.{AreSortedByName, HaveRoots, IsDumped, IsRestored, commands_over, engine_of, root_of, view_commands};
 
 use crate::view::View;
 use crate::views::Views;
@@ -18,12 +17,13 @@ use wot_types::{Fpr, Memory, ViewName};
 
 /// A law: where the keyring's commands give what it holds, those of the engine give its state.
 pub fn replayed()
-    ensures { (rows : Rows) (engine : Seen) → restored.IsRestored rows engine.keyring → IsWithin engine.keyring.limits engine.views → HaveRoots engine.views → AreInOrder engine.views → IsRestored rows engine }
+    ensures { (rows : Rows) (engine : Seen) → IsDumped rows engine → IsRestored rows engine }
 {}
 
-/// Appends the command that opens a view at its time. Like each call of this file it leaves `out` as before after `Memory`.
+/// Appends the command that opens a view at its time. Like each call of this file it leaves `out` as before after
+/// `Memory`.
 fn put_time(alloc: Global, view: &ViewName, t: u32, out: &mut Vec<u8>) -> Result<(), Memory>
-    ensures appended { OnOk result (out.new.items ≡ out.old.items ++ line_of (Command.Time view.now t)) }
+    ensures appended { OnOk result (out.new.items ≡ out.old.items ++ command_line_of (Command.Time view.now t)) }
     ensures line { OnOk result (IsLine (Command.Time view.now t)) }
     ensures kept { OnErr result (out.new.items ≡ out.old.items) }
 {
@@ -39,7 +39,7 @@ fn put_root(
     amount: u8,
     out: &mut Vec<u8>,
 ) -> Result<(), Memory>
-    ensures appended { OnOk result (out.new.items ≡ out.old.items ++ line_of (Command.Root view.now fpr amount)) }
+    ensures appended { OnOk result (out.new.items ≡ out.old.items ++ command_line_of (Command.Root view.now fpr amount)) }
     ensures line { OnOk result (IsLine (Command.Root view.now fpr amount)) }
     ensures kept { OnErr result (out.new.items ≡ out.old.items) }
 {
@@ -89,7 +89,7 @@ pub fn put_views(alloc: Global, views: &Views, out: &mut Vec<u8>) -> Result<u64,
     ensures lines { OnOk result (AreLines (flat_map view_commands views.now.entries)) }
     ensures count { IfOk result (λ count. count ≡ length (flat_map view_commands views.now.entries)) }
     ensures roots { OnOk result (HaveRoots views.now.entries) }
-    ensures in_order { AreInOrder views.now.entries }
+    ensures sorted { AreSortedByName views.now.entries }
     ensures kept { OnErr result (out.new.items ≡ out.old.items) }
 {
     let start = out.len();
@@ -112,10 +112,10 @@ pub fn put_engine(
     out: &mut Vec<u8>,
 ) -> Result<u64, Memory>
     requires within { IsWithin keyring.now.limits views.now.entries }
-    ensures lines { OnOk result (out.new.items ≡ out.old.items ++ lines_of (commands_of (state_of (engine_of keyring.now views.now.entries)))) }
-    ensures count { IfOk result (λ count. count ≡ length (commands_of (state_of (engine_of keyring.now views.now.entries)))) }
+    ensures lines { OnOk result (out.new.items ≡ out.old.items ++ lines_of (commands_over keyring.now views.now.entries)) }
+    ensures count { IfOk result (λ count. count ≡ length (commands_over keyring.now views.now.entries)) }
     ensures kept { OnErr result (out.new.items ≡ out.old.items) }
-    ensures read_back { OnOk result (AreLines (commands_of (state_of (engine_of keyring.now views.now.entries)))) }
+    ensures read_back { OnOk result (AreLines (commands_over keyring.now views.now.entries)) }
     ensures restored { OnOk result ((rows : Rows) → IsRestored rows (engine_of keyring.now views.now.entries)) }
 {
     replayed();

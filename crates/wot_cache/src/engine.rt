@@ -1,35 +1,34 @@
-ghost use Rattle.std.specs.Prelude.{◌≡◌, ◌≢◌, ◌<◌, ◌≤◌, ◌+◌, ◌-◌, ◌^◌, ◌++◌, ◌↔◌, ℕ, List, [], length, IfOk, IfSome, Some, None, is_ok, is_some, OnOk, OnErr};
+ghost use Rattle.std.specs.Prelude.{◌≡◌, ◌<◌, ◌≤◌, ◌+◌, ◌-◌, ◌^◌, ◌++◌, ℕ, List, [], length, IfOk, IfSome, IsSomeAnd, Some, None, is_ok, is_some};
+ghost use Rattle.std.specs.Prelude.{OnOk, OnErr};
 ghost use Rattle.std.specs.Option.{option_copied, option_map};
 ghost use Rattle.wot_policy.specs.Kept.{IsFaithful, rows_of, asked_more};
-ghost use Rattle.wot_types.specs.declared.fpr.Fpr.{Fpr as TheFpr};
-ghost use Rattle.wot_keyring.specs.Keyring.{certificates_in, verdict_on};
+ghost use Rattle.wot_keyring.specs.Keyring.{verdict_on};
+ghost use Rattle.wot_keyring.specs.Held.{held_of, cert_in, removing, verdict_set, verdict_cleared};
 ghost use Rattle.wot_keyring.specs.Kept.{AreSmall, IsJudgedBy, StaysJudged};
-ghost use Rattle.wot_keyring.specs.Import.{Answers, AsksFor, IsOneChange, imported};
+ghost use Rattle.wot_keyring.specs.Import.{Answers, AsksFor, IsOneChange, imported, importing};
 ghost use Rattle.wot_keyring.specs.Removal.{without_cert};
-ghost use Rattle.wot_keyring.specs.Verdict.{with_verdict_on, without_verdict_on, TellsFull};
+ghost use Rattle.wot_keyring.specs.Verdict.{without_verdict_on, SetsVerdict, TellsFull};
 ghost use Rattle.wot_edge.specs.Answer.{IsAnswer, amount_of};
 ghost use Rattle.wot_edge.specs.Capacity.{AllFit};
 ghost use Rattle.wot_edge.specs.Lawful.{AreEntries};
-ghost use Rattle.wot_edge.specs.Path.{use_of, IsSpent};
 ghost use Rattle.wot_edge.specs.Record.{IsRecord};
-ghost use Rattle.wot_edge.specs.Roots.{root_amount, IsRoots};
-ghost use Rattle.wot_edge.specs.declared.path.Path.{Path as ThePath};
-ghost use Rattle.wot_network.specs.Local.{IsLocal};
+ghost use Rattle.wot_edge.specs.Roots.{IsRoots};
 ghost use Rattle.wot_network.specs.Net.{signatures_in, told_of};
 ghost use Rattle.wot_network.specs.Roads.{present_of};
 ghost use Rattle.wot_keyring.specs.Dump.{lines_of, AreLines};
 ghost use Rattle.wot_policy.specs.declared.rows.PolicyRows.{PolicyRows as Rows};
 ghost use Rattle.wot_cache.specs.Dump.{commands_of, IsRestored};
-ghost use Rattle.wot_cache.specs.Question.{question_in};
-ghost use Rattle.wot_cache.specs.State.{empty, state_of, cert_in, importing, removing, judging, unjudging};
+ghost use Rattle.wot_cache.specs.Parts.{ArePartsOf};
+ghost use Rattle.wot_cache.specs.Question.{AreWithinRoots, IsLocalTo, IsOnlyAnswer, OfQuestion, TellsSpent};
+ghost use Rattle.wot_cache.specs.State.{empty, state_of, IsStateAfter};
 ghost use Rattle.wot_cache.specs.Views.{view_at, with_time, time_fault, with_root, root_fault, without_view, TellsFault, TellsOpen};
 
 use crate::ask::answer;
 use crate::dump::put_engine;
-use crate::networks;
-use crate::present::Held;
+use crate::parts::Parts;
+use crate::present::Networked;
 use crate::view::{AskFault, NoView, View, ViewFault};
-use crate::views::{self, Views};
+use crate::{networks, views};
 use std::alloc::Global;
 use std::collections::BTreeMap;
 use std::marker::Model;
@@ -37,6 +36,7 @@ use wot_auth::Answer;
 use wot_edge::Roots;
 use wot_keyring::{Absent, Imported, Keyring, Refusal};
 use wot_network::NetRoads;
+use wot_network::laws::fits_later;
 use wot_policy::{Ask, Policy};
 use wot_types::{Fpr, Limit, Limits, Memory, SigNumber, Steps, ViewName};
 use wot_verdict::Verdict;
@@ -45,8 +45,7 @@ use wot_verdict::Verdict;
 #[derive(Drop)]
 pub struct Engine {
     alloc: Global,
-    views: Views,
-    held: Held,
+    networked: Networked,
 }
 
 impl Model for Engine {
@@ -55,9 +54,9 @@ impl Model for Engine {
 
     ghost Value = { TheEngine };
 
-    ghost view = { λ a. record { keyring = a.held.keyring; views = a.views.entries } };
+    ghost view = { λ a. record { keyring = a.networked.keyring; views = a.networked.views.entries } };
 
-    ghost invariant = { λ a. IsEngine a.held.keyring a.views.entries a.held.networks.entries };
+    ghost invariant = { λ a. IsEngine a.networked.keyring a.networked.views.entries a.networked.networks.entries };
 }
 
 impl Engine {
@@ -71,9 +70,9 @@ impl Engine {
     {
         Engine {
             alloc,
-            views: BTreeMap::new(alloc),
-            held: Held {
+            networked: Networked {
                 keyring: Keyring::new(alloc, limits),
+                views: BTreeMap::new(alloc),
                 networks: BTreeMap::new(alloc),
             },
         }
@@ -83,7 +82,7 @@ impl Engine {
     pub fn keyring(&self) -> &Keyring
         ensures keyring { result.now ≡ self.now.keyring }
     {
-        &self.held.keyring
+        &self.networked.keyring
     }
 
     /// `Keyring::import`, over the engine's keyring.
@@ -98,7 +97,7 @@ impl Engine {
         requires faithful { IsFaithful F.Fn policy.old }
         ensures answer { Answers result (rows_of policy.old) self.old.keyring bytes.now }
         ensures imported { OnOk result (self.new.keyring ≡ imported (rows_of policy.old) self.old.keyring bytes.now) }
-        ensures state { OnOk result (state_of self.new ≡ importing (rows_of policy.old) bytes.now (state_of self.old)) }
+        ensures state { OnOk result (IsStateAfter (importing (rows_of policy.old) bytes.now) self.old self.new) }
         ensures kept { OnErr result (self.new ≡ self.old) }
         ensures asked { AsksFor result (rows_of policy.old) self.old.keyring bytes.now (λ k. policy.new ≡ asked_more k policy.old) }
         ensures judged { IsJudgedBy (rows_of policy.old) self.new.keyring }
@@ -107,30 +106,32 @@ impl Engine {
         ensures limits { self.new.keyring.limits ≡ self.old.keyring.limits }
         ensures views { self.new.views ≡ self.old.views }
     {
-        self.held.keyring.import(self.alloc, bytes, policy)
+        fits_later();
+        self.networked.keyring.import(self.alloc, bytes, policy)
     }
 
     /// `Keyring::remove`, over the engine's keyring. Takes no memory.
     pub fn remove(&mut self, fpr: &Fpr) -> Result<(), Absent>
         requires countable { self.old.keyring.changes < 2 ^ 64 - 1 }
         ensures removed { OnOk result (self.new.keyring ≡ without_cert fpr.now self.old.keyring) }
-        ensures state { OnOk result (state_of self.new ≡ removing fpr.now (state_of self.old)) }
-        ensures absent { is_ok result ≡ is_some (cert_in (state_of self.old) fpr.now) }
+        ensures state { OnOk result (IsStateAfter (removing fpr.now) self.old self.new) }
+        ensures absent { is_ok result ≡ is_some (cert_in (held_of self.old.keyring) fpr.now) }
         ensures kept { OnErr result (self.new ≡ self.old) }
         ensures judged { StaysJudged self.old.keyring self.new.keyring }
         ensures counted { IsOneChange self.old.keyring self.new.keyring }
         ensures limits { self.new.keyring.limits ≡ self.old.keyring.limits }
         ensures views { self.new.views ≡ self.old.views }
     {
-        self.held.keyring.remove(fpr)
+        fits_later();
+        self.networked.keyring.remove(fpr)
     }
 
     /// `Keyring::set_verdict`, over the engine's keyring.
     pub fn set_verdict(&mut self, number: SigNumber, verdict: Verdict) -> Result<(), Refusal>
         requires countable { self.old.keyring.changes < 2 ^ 64 - 1 }
         ensures same { verdict_on self.old.keyring number ≡ Some verdict → (result ≡ Ok tt) × (self.new ≡ self.old) }
-        ensures state { OnOk result (state_of self.new ≡ judging number verdict (state_of self.old)) }
-        ensures set { OnOk result (verdict_on self.old.keyring number ≢ Some verdict → self.new.keyring ≡ with_verdict_on number verdict self.old.keyring) }
+        ensures state { OnOk result (IsStateAfter (verdict_set number verdict) self.old self.new) }
+        ensures set { OnOk result (SetsVerdict number verdict self.old.keyring self.new.keyring) }
         ensures full { TellsFull result self.old.keyring number }
         ensures kept { OnErr result (self.new ≡ self.old) }
         ensures judged { StaysJudged self.old.keyring self.new.keyring }
@@ -138,14 +139,15 @@ impl Engine {
         ensures limits { self.new.keyring.limits ≡ self.old.keyring.limits }
         ensures views { self.new.views ≡ self.old.views }
     {
-        self.held.keyring.set_verdict(number, verdict)
+        fits_later();
+        self.networked.keyring.set_verdict(number, verdict)
     }
 
     /// `Keyring::clear_verdict`, over the engine's keyring. Takes no memory.
     pub fn clear_verdict(&mut self, number: &SigNumber) -> Result<(), Absent>
         requires countable { self.old.keyring.changes < 2 ^ 64 - 1 }
         ensures cleared { OnOk result (self.new.keyring ≡ without_verdict_on number.now self.old.keyring) }
-        ensures state { OnOk result (state_of self.new ≡ unjudging number.now (state_of self.old)) }
+        ensures state { OnOk result (IsStateAfter (verdict_cleared number.now) self.old self.new) }
         ensures absent { is_ok result ≡ is_some (verdict_on self.old.keyring number.now) }
         ensures kept { OnErr result (self.new ≡ self.old) }
         ensures judged { StaysJudged self.old.keyring self.new.keyring }
@@ -153,7 +155,8 @@ impl Engine {
         ensures limits { self.new.keyring.limits ≡ self.old.keyring.limits }
         ensures views { self.new.views ≡ self.old.views }
     {
-        self.held.keyring.clear_verdict(number)
+        fits_later();
+        self.networked.keyring.clear_verdict(number)
     }
 
     /// Opens a view with this time and no roots, or moves the time of an open one, which keeps its roots.
@@ -163,10 +166,10 @@ impl Engine {
         ensures kept { OnErr result (self.new ≡ self.old) }
         ensures keyring { self.new.keyring ≡ self.old.keyring }
     {
-        if views::move_time(&mut self.views, view, t) {
+        if views::move_time(&mut self.networked.views, view, t) {
             return Ok(());
         }
-        if self.held.keyring.limits().views <= self.views.len() as u64 {
+        if self.networked.keyring.limits().views <= self.networked.views.len() as u64 {
             return Err(ViewFault::Full(Limit::Views));
         }
         match view.duplicate(self.alloc) {
@@ -187,7 +190,7 @@ impl Engine {
             time: t,
             roots: Roots::new(self.alloc),
         };
-        match views::open(&mut self.views, name, view) {
+        match views::open(&mut self.networked.views, name, view) {
             Ok(()) => Ok(()),
             Err(Memory) => Err(ViewFault::Memory),
         }
@@ -203,7 +206,7 @@ impl Engine {
         if let Some(fault) = self.root_fault(view, fpr, amount) {
             return Err(fault);
         }
-        match views::set_amount(&mut self.views, view, *fpr, amount) {
+        match views::set_amount(&mut self.networked.views, view, *fpr, amount) {
             Ok(()) => Ok(()),
             Err(Memory) => Err(ViewFault::Memory),
         }
@@ -214,7 +217,7 @@ impl Engine {
         ensures fault { result ≡ root_fault self.now.keyring.limits (view_at self.now.views view.now) fpr.now amount }
         ensures roots { IfSome (view_at self.now.views view.now) (λ v. IsRoots v.roots) }
     {
-        let Some(view) = views::find(&self.views, view) else {
+        let Some(view) = views::find(&self.networked.views, view) else {
             return Some(ViewFault::View);
         };
         let count = view.roots.len() as u64;
@@ -224,7 +227,7 @@ impl Engine {
         if amount == 0 {
             return Some(ViewFault::Absent);
         }
-        if self.held.keyring.limits().roots <= count {
+        if self.networked.keyring.limits().roots <= count {
             return Some(ViewFault::Full(Limit::Roots));
         }
         None
@@ -237,11 +240,11 @@ impl Engine {
         ensures kept { OnErr result (self.new ≡ self.old) }
         ensures keyring { self.new.keyring ≡ self.old.keyring }
     {
-        if views::find(&self.views, view).is_none() {
+        if views::find(&self.networked.views, view).is_none() {
             return Err(NoView);
         }
-        views::close(&mut self.views, view);
-        networks::forget(&mut self.held.networks, view);
+        views::close(&mut self.networked.views, view);
+        networks::forget(&mut self.networked.networks, view);
         Ok(())
     }
 
@@ -249,7 +252,7 @@ impl Engine {
     pub fn time(&self, view: &ViewName) -> Option<u32>
         ensures time { result ≡ option_map (λ v. v.time) (view_at self.now.views view.now) }
     {
-        match views::find(&self.views, view) {
+        match views::find(&self.networked.views, view) {
             Some(view) => Some(view.time),
             None => None,
         }
@@ -259,15 +262,16 @@ impl Engine {
     pub fn roots(&self, view: &ViewName) -> Option<&Roots>
         ensures roots { option_copied result ≡ option_map (λ v. v.roots) (view_at self.now.views view.now) }
     {
-        match views::find(&self.views, view) {
+        match views::find(&self.networked.views, view) {
             Some(view) => Some(&view.roots),
             None => None,
         }
     }
 
-    /// The answer to the question how far a user ID belongs to a target, seen from an open view: next paths until their sum
-    /// reaches what is wanted, or no valid path of positive amount is left. The view's network is made anew where the keyring
-    /// or the view's time changed since the last question, and each edge made is counted in `steps`.
+    /// The answer to the question how far a user ID belongs to a target, seen from an open view: next paths until
+    /// their sum reaches what is wanted, or no valid path of positive amount is left. The view's network is made anew
+    /// where the keyring or the view's time changed since the last question, and each edge made is counted in
+    /// `steps`.
     pub fn ask(
         &mut self,
         view: &ViewName,
@@ -277,47 +281,64 @@ impl Engine {
         steps: &mut Steps,
     ) -> Result<Answer, AskFault>
         requires wanted { 1 ≤ wanted }
-        ensures answer { IfOk result (λ a. IfSome (view_at self.old.views view.now) (λ v. IsAnswer (question_in (state_of self.old) v target.now uid.now) wanted a.paths)) }
+        ensures answer { IfOk result (λ a. OfQuestion self.old view.now target.now uid.now (λ q. IsAnswer q wanted a.paths)) }
         // No other list of paths is an answer to it.
-        ensures one { IfOk result (λ a. IfSome (view_at self.old.views view.now) (λ v. (paths : List ThePath) → IsAnswer (question_in (state_of self.old) v target.now uid.now) wanted paths → paths ≡ a.paths)) }
+        ensures one { IfOk result (λ a. OfQuestion self.old view.now target.now uid.now (λ q. IsOnlyAnswer q wanted a.paths)) }
         ensures sum { IfOk result (λ a. a.sum ≡ amount_of a.paths) }
         // The amount is 0 exactly where there is no valid path of positive amount at all.
-        ensures zero { IfOk result (λ a. IfSome (view_at self.old.views view.now) (λ v. (a.sum ≡ 0) ↔ IsSpent (question_in (state_of self.old) v target.now uid.now) (use_of []))) }
-        // No path takes more of an edge than those before it left, and all together take no more of a root than its amount.
+        ensures zero { IfOk result (λ a. OfQuestion self.old view.now target.now uid.now (λ q. TellsSpent q a.sum)) }
+        // No path takes more of an edge than those before it left, and all together take no more of a root than its
+        // amount.
         ensures pairs { IfOk result (λ a. AllFit [] a.paths) }
-        ensures roots { IfOk result (λ a. IfSome (view_at self.old.views view.now) (λ v. (fpr : TheFpr) → (use_of a.paths).root fpr ≤ root_amount v.roots fpr)) }
+        ensures roots { IfOk result (λ a. IfSome (view_at self.old.views view.now) (λ v. AreWithinRoots v.roots a.paths)) }
         ensures open { TellsOpen result (view_at self.old.views view.now) }
         ensures kept { self.new ≡ self.old }
         ensures made_most { steps.new.made ≤ steps.old.made + signatures_in self.old.keyring }
         ensures never_less { steps.old.made ≤ steps.new.made }
     {
-        self.held.refresh(self.alloc, &self.views, view, steps)?;
-        let Some(open) = views::find(&self.views, view) else {
-            unreachable!()
-        };
-        let roads = self.held.roads(view);
-        answer(self.alloc, &roads, &open.roots, target, wanted, uid)
+        self.networked.refresh(self.alloc, view, steps)?;
+        let parts = self.networked.parts(view);
+        answer(self.alloc, &parts.roads, parts.roots, target, wanted, uid)
     }
 
-    /// The roads that a question from an open view is asked over: those of the keyring as it is, at the view's time. The view's
-    /// network is made anew first, as `ask` makes it. The engine stays as it was.
+    /// The roads that a question from an open view is asked over: those of the keyring as it is, at the view's time.
+    /// The view's network is made anew first, as `ask` makes it. The engine stays as it was.
     pub fn roads(&mut self, view: &ViewName, steps: &mut Steps) -> Result<NetRoads<'_>, AskFault>
         ensures* kept { sem 𝓛 (IsKept self.entry) }
         ensures keyring { IfOk result (λ r. (present_of r).keyring ≡ self.old.keyring) }
         ensures time { IfOk result (λ r. IfSome (view_at self.old.views view.now) (λ v. (present_of r).time ≡ v.time)) }
         ensures entries { IfOk result (λ r. (u : List ℕ) → AreEntries (told_of (present_of r) u)) }
         ensures lawful { IfOk result (λ r. (u : List ℕ) → IsRecord (told_of (present_of r) u)) }
-        ensures local { IfOk result (λ r. IfSome (view_at self.old.views view.now) (λ v. IsLocal (certificates_in self.old.keyring) self.old.keyring.verdicts v.time (told_of (present_of r)))) }
+        ensures local { IfOk result (λ r. IfSome (view_at self.old.views view.now) (λ v.
+            IsLocalTo self.old.keyring v.time (present_of r))) }
         ensures open { TellsOpen result (view_at self.old.views view.now) }
         ensures made_most { steps.new.made ≤ steps.old.made + signatures_in self.old.keyring }
         ensures never_less { steps.old.made ≤ steps.new.made }
     {
-        self.held.refresh(self.alloc, &self.views, view, steps)?;
-        Ok(self.held.roads(view))
+        self.networked.refresh(self.alloc, view, steps)?;
+        Ok(self.networked.parts(view).roads)
     }
 
-    /// Appends a line for each certificate, each verdict, and each view with its roots: the commands that make this state
-    /// anew. Tells their number. After `Memory` `out` is as before.
+    /// What listing and explaining take, seen from an open view: the keyring, its roads at the view's time, the view's
+    /// roots and its time. The view's network is made anew first, as `ask` makes it. The engine stays as it was.
+    pub fn parts(&mut self, view: &ViewName, steps: &mut Steps) -> Result<Parts<'_>, AskFault>
+        ensures* kept { sem 𝓛 (IsKept self.entry) }
+        ensures parts { IfOk result (λ p. IsSomeAnd (view_at self.old.views view.now) (λ v. ArePartsOf self.old.keyring v p)) }
+        ensures few { IfOk result (λ p. length p.roots.now ≤ 64) }
+        ensures entries { IfOk result (λ p. (u : List ℕ) → AreEntries (told_of (present_of p.roads) u)) }
+        ensures lawful { IfOk result (λ p. (u : List ℕ) → IsRecord (told_of (present_of p.roads) u)) }
+        ensures local { IfOk result (λ p. IfSome (view_at self.old.views view.now) (λ v.
+            IsLocalTo self.old.keyring v.time (present_of p.roads))) }
+        ensures open { TellsOpen result (view_at self.old.views view.now) }
+        ensures made_most { steps.new.made ≤ steps.old.made + signatures_in self.old.keyring }
+        ensures never_less { steps.old.made ≤ steps.new.made }
+    {
+        self.networked.refresh(self.alloc, view, steps)?;
+        Ok(self.networked.parts(view))
+    }
+
+    /// Appends a line for each certificate, each verdict, and each view with its roots: the commands that make this
+    /// state anew. Tells their number. After `Memory` `out` is as before.
     pub fn dump(&self, out: &mut Vec<u8>) -> Result<u64, Memory>
         ensures lines { OnOk result (out.new.items ≡ out.old.items ++ lines_of (commands_of (state_of self.now))) }
         ensures count { IfOk result (λ count. count ≡ length (commands_of (state_of self.now))) }
@@ -327,6 +348,11 @@ impl Engine {
         // By whatever rows the fresh engine judges.
         ensures restored { OnOk result ((rows : Rows) → IsRestored rows self.now) }
     {
-        put_engine(self.alloc, &self.held.keyring, &self.views, out)
+        put_engine(
+            self.alloc,
+            &self.networked.keyring,
+            &self.networked.views,
+            out,
+        )
     }
 }

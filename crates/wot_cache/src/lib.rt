@@ -5,11 +5,11 @@ mod ask;
 mod dump;
 mod engine;
 mod networks;
+mod parts;
 mod present;
-#[cfg(test)]
-mod tests;
 mod view;
 mod views;
 
 pub use engine::Engine;
+pub use parts::Parts;
 pub use view::{AskFault, NoView, View, ViewFault};

@@ -1,12 +1,13 @@
 //! The networks that an engine keeps for its views, so that nothing is made again where nothing changed.
-ghost use Rattle.std.specs.Prelude.{◌≡◌, ◌≤◌, ◌+◌, Some, OnOk, OnErr, IsSomeAnd};
+ghost use Rattle.std.specs.Prelude.{◌≡◌, Some, None, OnOk, OnErr, IsSomeAnd};
 ghost use Rattle.std.specs.Option.{option_copied};
 ghost use Rattle.std.specs.BTreeMap.{insert_entry};
 ghost use Rattle.std.specs.Map.{lookup, remove_entry};
 ghost use Rattle.wot_types.specs.ViewName.{view_name_cmp};
-ghost use Rattle.wot_network.specs.Net.{IsRight, signatures_in};
+ghost use Rattle.wot_network.specs.Net.{IsRight};
 ghost use Rattle.wot_cache.specs.Views.{is_name};
 ghost use Rattle.wot_cache.specs.Inside.{AllFit};
+ghost use Rattle.wot_cache.specs.Marks.{marks_in, IsMadeFor, OthersStay};
 
 use std::alloc::Global;
 use std::collections::BTreeMap;
@@ -35,6 +36,7 @@ fn keep(networks: &mut Networks, view: ViewName, network: Network) -> Result<(),
     ensures put { OnOk result (networks.new.entries ≡ insert_entry view_name_cmp networks.old.entries view network) }
     ensures found { OnOk result (lookup (is_name view) networks.new.entries ≡ Some network) }
     ensures kept { OnErr result (networks.new.entries ≡ networks.old.entries) }
+    ensures others { OthersStay view networks.old.entries networks.new.entries }
 {
     networks.insert(view, network)?;
     Ok(())
@@ -52,8 +54,9 @@ pub fn refresh(
     requires fit { AllFit networks.old.entries keyring.now }
     ensures fit { AllFit networks.new.entries keyring.now }
     ensures right { OnOk result (IsSomeAnd (lookup (is_name view.now) networks.new.entries) (λ network. IsRight network keyring.now t)) }
-    ensures made_most { steps.new.made ≤ steps.old.made + signatures_in keyring.now }
-    ensures never_less { steps.old.made ≤ steps.new.made }
+    ensures made { IsMadeFor result keyring.now t (marks_in networks.old.entries view.now) (marks_in networks.new.entries view.now)
+        steps.old.made steps.new.made }
+    ensures others { OthersStay view.now networks.old.entries networks.new.entries }
 {
     match networks.get_mut(view) {
         Some(network) => network.refresh(keyring, t, steps),
@@ -71,10 +74,12 @@ fn begin(
     steps: &mut Steps,
 ) -> Result<(), Memory>
     requires fit { AllFit networks.old.entries keyring.now }
+    requires none { lookup (is_name view.now) networks.old.entries ≡ None }
     ensures fit { AllFit networks.new.entries keyring.now }
     ensures right { OnOk result (IsSomeAnd (lookup (is_name view.now) networks.new.entries) (λ network. IsRight network keyring.now t)) }
-    ensures made_most { steps.new.made ≤ steps.old.made + signatures_in keyring.now }
-    ensures never_less { steps.old.made ≤ steps.new.made }
+    ensures made { IsMadeFor result keyring.now t (marks_in networks.old.entries view.now) (marks_in networks.new.entries view.now)
+        steps.old.made steps.new.made }
+    ensures others { OthersStay view.now networks.old.entries networks.new.entries }
 {
     let mut network = Network::new(alloc, t);
     network.refresh(keyring, t, steps)?;

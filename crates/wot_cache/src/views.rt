@@ -1,10 +1,9 @@
 //! The map of views, call by call.
-ghost use Rattle.std.specs.Prelude.{◌≡◌, Some, None, OnOk, OnErr, is_some, true, false};
-ghost use Rattle.std.specs.Option.{option_copied, MatchOption};
+ghost use Rattle.std.specs.Prelude.{◌≡◌, OnOk, OnErr, is_some, true};
+ghost use Rattle.std.specs.Option.{option_copied};
 ghost use Rattle.std.specs.BTreeMap.{insert_entry};
-ghost use Rattle.std.specs.Map.{set_value};
 ghost use Rattle.wot_types.specs.ViewName.{view_name_cmp};
-ghost use Rattle.wot_cache.specs.Views.{view_at, is_name, with_amount, without_view};
+ghost use Rattle.wot_cache.specs.Views.{view_at, without_view, MovesTime, SetsAmount};
 
 use crate::view::View;
 use std::alloc::Global;
@@ -32,7 +31,7 @@ pub fn open(views: &mut Views, name: ViewName, view: View) -> Result<(), Memory>
 
 /// Moves the time of a view; whether it is open.
 pub fn move_time(views: &mut Views, name: &ViewName, t: u32) -> bool
-    ensures moved { MatchOption (view_at views.old.entries name.now) ((result ≡ false) × (views.new.entries ≡ views.old.entries)) (λ view. (result ≡ true) × (views.new.entries ≡ set_value (is_name name.now) views.old.entries (record view { time = t }))) }
+    ensures moved { MovesTime result name.now t views.old.entries views.new.entries }
 {
     match views.get_mut(name) {
         Some(view) => {
@@ -46,7 +45,7 @@ pub fn move_time(views: &mut Views, name: &ViewName, t: u32) -> bool
 /// Sets a root's amount in an open view.
 pub fn set_amount(views: &mut Views, name: &ViewName, fpr: Fpr, amount: u8) -> Result<(), Memory>
     requires open { is_some (view_at views.old.entries name.now) ≡ true }
-    ensures set { OnOk result (MatchOption (view_at views.old.entries name.now) ⊥ (λ view. views.new.entries ≡ set_value (is_name name.now) views.old.entries (record view { roots = with_amount view.roots fpr amount }))) }
+    ensures set { OnOk result (SetsAmount name.now fpr amount views.old.entries views.new.entries) }
     ensures kept { OnErr result (views.new.entries ≡ views.old.entries) }
 {
     match views.get_mut(name) {

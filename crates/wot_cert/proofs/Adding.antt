@@ -1,5 +1,6 @@
 -- The walk over two lists in order that adds up what the second one brings.
-use Rattle.std.proofs.Common.{◌≡◌, ℕ, ◌+◌, ◌≤◌, ◌<◌, List, [], ◌∷◌, refl, sym, ap, ◌∙◌, arith, length}
+use Rattle.std.proofs.Common.{◌≡◌, ℕ, ◌+◌, ◌≤◌, ◌<◌, List, [], ◌∷◌, sym, ap, ◌∙◌, arith, length, le_refl}
+use Rattle.std.proofs.lemmas.List.{nil_from_length}
 use Rattle.std.specs.declared.cmp.Ordering.{Ordering}
 use Rattle.std.specs.declared.cmp.Ordering.TheVariants.{Less, Equal, Greater}
 use Rattle.std.specs.Cmp.{IsTotalOrder}
@@ -48,13 +49,6 @@ bound_joined acc u u' a t l l' x j e p q r s v w h k = omega arith
 bound_alone : (acc u u' a t l l' x j p : ℕ) → u ≡ j + u' → l ≡ x + l' → l' ≤ u' → l ≤ a → acc + u + a ≡ t + l → t < p → j < p
 bound_alone acc u u' a t l l' x j p q r s v h k = omega arith
 
-reach : (n : ℕ) → n ≤ n
-reach n = omega arith
-
-nothing : {A : Type 0} (xs : List A) → length xs ≡ 0 → xs ≡ []
-nothing [] e = refl
-nothing (x ∷ xs) e = absurd (omega arith)
-
 module _ {A : Type 0} (R : A → A → Ordering) (join : A → A → A) (o : IsTotalOrder R) (same : (x y : A) → R x y ≡ Equal → (z : A) → R z (join x y) ≡ R z x) (m : A → ℕ) where
   abbrev total : List A → ℕ
   total = sum_of m
@@ -75,8 +69,8 @@ module _ {A : Type 0} (R : A → A → Ordering) (join : A → A → A) (o : IsT
   united_greater : (x : A) (xs : List A) (y : A) (ys left right : List A) → left ≡ x ∷ xs → right ≡ y ∷ ys → IsRising R left → IsRising R right → R x y ≡ Greater → total (united R join left right) ≡ m y + total (united R join left ys)
   united_greater x xs y ys left right l r lr rr h =
       let rise : IsRising R (y ∷ ys) = rw r at rr in
-      let front : IsRising R (x ∷ xs) = rw l at lr in
-      rw (l, r) (ap total (greater R join o same x xs y ys front rise h))
+      let prefix : IsRising R (x ∷ xs) = rw l at lr in
+      rw (l, r) (ap total (greater R join o same x xs y ys prefix rise h))
 
   united_none : (y : A) (ys left right : List A) → left ≡ [] → right ≡ y ∷ ys → IsRising R right → total (united R join left right) ≡ m y + total (united R join left ys)
   united_none y ys left right l r rr =
@@ -99,7 +93,7 @@ module _ {A : Type 0} (R : A → A → Ordering) (join : A → A → A) (o : IsT
   left_greater acc acc' e a b left right ys y u w s j = record { inside = w.inside; sum = greater_sum acc acc' e _ _ _ _ _ (m y) u s j w.sum }
 
   pub left_ended : (acc : ℕ) (a b left right : List A) → L acc a b left right → length right ≡ 0 → acc + total a ≡ total (united R join a b)
-  left_ended acc a b left right w n = ended acc _ _ _ _ (ap (λ zs. total (united R join left zs)) (nothing right n)) w.sum
+  left_ended acc a b left right w n = ended acc _ _ _ _ (ap (λ zs. total (united R join left zs)) (nil_from_length right n)) w.sum
 
   module _ (least : (x y : A) → m x ≤ m (join x y)) where
     pub few_new : (acc p : ℕ) (a b left right ys : List A) (y : A) → total (united R join left right) ≡ m y + total (united R join left ys) → L acc a b left right → total (united R join a b) < p → acc + m y < p
@@ -157,7 +151,7 @@ module _ {A : Type 0} (R : A → A → Ordering) (join : A → A → A) (o : IsT
   ahead_greater left right x xs y ys l r lr rr h = record { is = r; ahead = λ m. united_greater R join o same m x xs y ys left right l r lr rr h }
 
   pub ahead_none : (left right : List A) (y : A) (ys : List A) → length left ≡ 0 → right ≡ y ∷ ys → IsRising R right → Ahead left right ys y
-  ahead_none left right y ys n r rr = record { is = r; ahead = λ m. united_none R join o same m y ys left right (nothing left n) r rr }
+  ahead_none left right y ys n r rr = record { is = r; ahead = λ m. united_none R join o same m y ys left right (nil_from_length left n) r rr }
 
   pub adding_new : (adds adds' e : Adds) (a b left right ys : List A) (y : A) → W adds a b left right → Ahead left right ys y → IsSum adds' adds e → Weighs wi ws wo e y → W adds' a b left ys
   adding_new adds adds' e a b left right ys y w h s g = record {
@@ -187,9 +181,9 @@ module _ {A : Type 0} (R : A → A → Ordering) (join : A → A → A) (o : IsT
     left_rises = h;
     right_rises = k;
     fit = f;
-    items = record { inside = reach (sum_of wi a); sum = started _ _ _ i };
-    signatures = record { inside = reach (sum_of ws a); sum = started _ _ _ j };
-    octets = record { inside = reach (sum_of wo a); sum = started _ _ _ l };
+    items = record { inside = le_refl (sum_of wi a); sum = started _ _ _ i };
+    signatures = record { inside = le_refl (sum_of ws a); sum = started _ _ _ j };
+    octets = record { inside = le_refl (sum_of wo a); sum = started _ _ _ l };
   }
 
   pub few_adds : (adds e : Adds) (p : ℕ) (a b left right ys : List A) (y : A) → ((x z : A) → wi x ≤ wi (join x z)) → ((x z : A) → ws x ≤ ws (join x z)) → ((x z : A) → wo x ≤ wo (join x z))

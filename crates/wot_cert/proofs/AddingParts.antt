@@ -1,5 +1,5 @@
 -- The walk that adds up what components bring.
-use Rattle.std.proofs.Common.{◌≡◌, ℕ, ◌+◌, ◌≤◌, ◌<◌, ◌^◌, List, ◌∷◌, subst, arith}
+use Rattle.std.proofs.Common.{◌≡◌, ℕ, ◌+◌, ◌≤◌, ◌<◌, ◌^◌, List, ◌∷◌, subst, arith, le_refl, le_trans}
 use Rattle.std.specs.declared.cmp.Ordering.TheVariants.{Equal}
 use Rattle.wot_cert.specs.declared.adds.Adds.{Adds}
 use Rattle.wot_cert.specs.Certificate.{Signature, Component, part_cmp, sig_cmp, kept, unite_part, unite_parts, unite_sigs}
@@ -17,39 +17,33 @@ PartsAdding = Adding part_cmp unite_part part_items part_signatures part_size Pa
 abbrev pub PartAhead : List Component → List Component → List Component → Component → Type 0
 PartAhead = Ahead part_cmp unite_part parts_total parts_same part_items part_signatures part_size PartFits
 
-reach : (n : ℕ) → n ≤ n
-reach n = omega arith
-
 more : (o s t : ℕ) → s ≤ t → o + s ≤ o + t
 more o s t h = omega arith
 
 items_more : (x z : Component) → part_items x ≤ part_items (unite_part x z)
-items_more x z = more _ _ _ (united_more sig_cmp kept (λ _. 1) (λ a b. reach 1) x.sigs z.sigs)
+items_more x z = more _ _ _ (united_more sig_cmp kept (λ _. 1) (λ a b. le_refl 1) x.sigs z.sigs)
 
 signatures_more : (x z : Component) → part_signatures x ≤ part_signatures (unite_part x z)
-signatures_more x z = more _ _ _ (united_more sig_cmp kept (λ _. 1) (λ a b. reach 1) x.sigs z.sigs)
+signatures_more x z = more _ _ _ (united_more sig_cmp kept (λ _. 1) (λ a b. le_refl 1) x.sigs z.sigs)
 
 size_more : (x z : Component) → part_size x ≤ part_size (unite_part x z)
-size_more x z = more _ _ _ (united_more sig_cmp kept sig_size (λ a b. reach (sig_size a)) x.sigs z.sigs)
+size_more x z = more _ _ _ (united_more sig_cmp kept sig_size (λ a b. le_refl (sig_size a)) x.sigs z.sigs)
 
 wider : (a b : ℕ) → a ≤ b → b < 2 ^ 63 → a < 2 ^ 64
 wider a b h k = omega arith
-
-through : (a b c : ℕ) → a ≤ b → b ≤ c → a ≤ c
-through a b c h k = omega arith
 
 fewer : (s : ℕ) → 0 + s ≤ 1 + s
 fewer s = omega arith
 
 pub signatures_least : (p : Component) → part_signatures p ≤ part_size p
-signatures_least p = through _ _ _ (fewer (sum_of (λ _. 1) p.sigs)) (part_items_least p)
+signatures_least p = le_trans (fewer (sum_of (λ _. 1) p.sigs)) (part_items_least p)
 
 pub parts_few : (adds e : Adds) (a b left right ys : List Component) (y : Component) → PartsAdding adds a b left right → PartAhead left right ys y → Weighs part_items part_signatures part_size e y → sum_of part_size (unite_parts a b) < 2 ^ 63 → IsFew (2 ^ 64) adds e
 parts_few adds e a b left right ys y w h g k =
     few_adds part_cmp unite_part parts_total parts_same part_items part_signatures part_size PartFits adds e (2 ^ 64) a b left right ys y items_more signatures_more size_more w h g
     (wider _ _ (sum_least part_items part_size part_items_least (unite_parts a b)) k)
     (wider _ _ (sum_least part_signatures part_size signatures_least (unite_parts a b)) k)
-    (wider _ _ (reach _) k)
+    (wider _ _ (le_refl _) k)
 
 last_few : (acc m p : ℕ) → acc + m < p → m < p
 last_few acc m p h = omega arith
@@ -79,7 +73,7 @@ pub parts_few_equal : (adds e : Adds) (a b left right : List Component) (x : Com
 parts_few_equal adds e a b left right x xs y ys w l r h g k = record {
   items = few_joined part_cmp unite_part parts_total parts_same part_items items_more adds.items e.items (2 ^ 64) a b left right x xs y ys w.items l r w.right_rises h (own_first e.items 1 _ _ g.items) (wider _ _ (sum_least part_items part_size part_items_least (unite_parts a b)) k);
   signatures = few_joined part_cmp unite_part parts_total parts_same part_signatures signatures_more adds.signatures e.signatures (2 ^ 64) a b left right x xs y ys w.signatures l r w.right_rises h (own_first e.signatures 0 _ _ g.signatures) (wider _ _ (sum_least part_signatures part_size signatures_least (unite_parts a b)) k);
-  octets = few_joined part_cmp unite_part parts_total parts_same part_size size_more adds.octets e.octets (2 ^ 64) a b left right x xs y ys w.octets l r w.right_rises h (own_first e.octets (own_size x) _ _ g.octets) (wider _ _ (reach _) k);
+  octets = few_joined part_cmp unite_part parts_total parts_same part_size size_more adds.octets e.octets (2 ^ 64) a b left right x xs y ys w.octets l r w.right_rises h (own_first e.octets (own_size x) _ _ g.octets) (wider _ _ (le_refl _) k);
 }
 
 -- the same of equal lists

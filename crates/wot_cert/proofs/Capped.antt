@@ -1,5 +1,5 @@
 -- Sums that stand still at the end of their type.
-use Rattle.std.proofs.Common.{◌≡◌, ℕ, ◌+◌, ◌-◌, ◌<◌, ◌^◌, min, arith, refl}
+use Rattle.std.proofs.Common.{◌≡◌, ℕ, ◌+◌, ◌-◌, ◌<◌, ◌^◌, min, arith, refl, zero-add}
 
 abbrev pub cap : ℕ → ℕ
 cap n = min n (2 ^ 64 - 1)
@@ -23,14 +23,11 @@ counted_on octets left total c q x others h e k f = record {
   sum = sum_on h.done left x others total h.sum e;
 }
 
-nothing_done : (n : ℕ) → 0 + n ≡ n
-nothing_done n = omega arith
-
 zero_capped : 0 ≡ min 0 (2 ^ 64 - 1)
 zero_capped = refl
 
 pub counted_none : (total : ℕ) → Counted 0 total total
-counted_none total = record { done = 0; capped = zero_capped; sum = nothing_done total }
+counted_none total = record { done = 0; capped = zero_capped; sum = zero-add total }
 
 last : (octets done left total : ℕ) → octets ≡ min done (2 ^ 64 - 1) → done + left ≡ total → left ≡ 0 → octets ≡ min total (2 ^ 64 - 1)
 last octets done left total h e z = omega arith

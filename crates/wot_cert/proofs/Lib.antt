@@ -4,7 +4,6 @@ pub mod Narrow
 pub mod Bodies
 pub mod Copies
 pub mod Wholes
-pub mod Results
 pub mod Same
 pub mod New
 pub mod Stepping

@@ -1,5 +1,5 @@
 -- Judging what is new in a union is uniting with what is judged.
-use Rattle.std.proofs.Common.{◌≡◌, ℕ, ◌+◌, List, [], ◌∷◌, map, refl, sym, ap, ◌∙◌, arith}
+use Rattle.std.proofs.Common.{◌≡◌, ℕ, ◌+◌, List, [], ◌∷◌, map, refl, sym, ap, ◌∙◌, arith, zero-add}
 use Rattle.std.specs.declared.cmp.Ordering.TheVariants.{Equal}
 use Rattle.std.specs.List.{AllByRecursion}
 use Rattle.wot_policy.specs.declared.rows.PolicyRows.{PolicyRows}
@@ -24,12 +24,9 @@ pub sigs_marked : (rows : PolicyRows) (a b : List Signature) → IsRising sig_cm
 sigs_marked rows a b h k =
     marked_union sig_cmp kept sigs_total kept_same stays (judged_sig rows) (λ _. Unit {0}) (λ x p. refl) (λ x y e p q. refl) (λ x y. refl) (λ x y. refl) a b h k (any a) (any b)
 
-zero_first : (n : ℕ) → 0 + n ≡ n
-zero_first n = omega arith
-
 pub sigs_weighed : (a b : List Signature) → IsRising sig_cmp a → IsRising sig_cmp b → sound_new (unite_sigs a b) a + sum_of if_sound a ≡ sum_of if_sound (unite_sigs a b)
 sigs_weighed a b h k =
-    weighed_union sig_cmp kept sigs_total kept_same none if_sound if_sound (λ _. Unit {0}) (λ x p. zero_first (if_sound x)) (λ x y e p q. zero_first (if_sound x)) (λ x p. refl) a b h k (any a) (any b)
+    weighed_union sig_cmp kept sigs_total kept_same none if_sound if_sound (λ _. Unit {0}) (λ x p. zero-add (if_sound x)) (λ x y e p q. zero-add (if_sound x)) (λ x p. refl) a b h k (any a) (any b)
 
 -- ---- components
 

@@ -4,7 +4,7 @@ use Rattle.std.specs.Prelude.{◌&&◌, count_by, filter, nat_le, not}
 use Rattle.std.specs.List.{All, AllByRecursion}
 use Rattle.std.specs.Cmp.Lexicographic.{on_texts}
 use Rattle.std.specs.Cmp.{IsTotalOrder}
-use Rattle.std.proofs.lemmas.Bool.{leb-true}
+use Rattle.std.proofs.lemmas.Bool.{and_parts, leb-true}
 use Rattle.std.proofs.lemmas.Cmp.{nat_list_cmp_total}
 use Rattle.std.proofs.lemmas.List.Elements.{All-from_recursion}
 use Rattle.wot_key.specs.Key.{is_readable}
@@ -108,13 +108,9 @@ all-behind c h =
 
 -- ---- they can be written
 
-both : (a b : Bool) → (a && b) ≡ true → (a ≡ true) × (b ≡ true)
-both true b e = (refl, e)
-both false b e = absurd cc
-
 key-short : (key : List ℕ) → is_readable key ≡ true → length key < 2 ^ 32
 key-short key e =
-    let most : length key ≤ 65535 = leb-true (length key) 65535 (both (nat_le 6 (length key)) (nat_le (length key) 65535) (both (nat_le 6 (length key) && nat_le (length key) 65535) _ e).0).1 in
+    let most : length key ≤ 65535 = leb-true (length key) 65535 (and_parts (nat_le 6 (length key)) (nat_le (length key) 65535) (and_parts (nat_le 6 (length key) && nat_le (length key) 65535) _ e).0).1 in
     omega (arith, most)
 
 abbrev Writable : Plain → Type 0

@@ -71,7 +71,7 @@ sketched-rises packets =
       subkeys = united_rises group_cmp unite_group groups_total (λ x y e z. refl) [] (map group_of (of-type 14 cut.1)) tt;
     }
 
--- one packet further to the front
+-- one packet further to the prefix
 pub sketched-before : (ps : List Packet) (left : ℕ) (d : Packet) → 0 < left → left ≤ length ps
     → with_packet (spelled_of (get_or ps (left - 1) d)) (sketched (spelled_all (drop left ps))) ≡ sketched (spelled_all (drop (left - 1) ps))
 sketched-before ps left d some within =

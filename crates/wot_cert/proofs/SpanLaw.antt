@@ -4,10 +4,11 @@ use Rattle.std.specs.Prelude.{nat_le, nat_lt, filter}
 use Rattle.std.specs.List.{AllByRecursion, flat_map}
 use Rattle.std.proofs.lemmas.Bool.Decides.{nat_tests}
 use Rattle.std.specs.Option.{option_map_or}
+use Rattle.wot_types.specs.PlainLaws.{all_prefix, all_back, all_each, all_then, filter_same, map_same}
 use Rattle.wot_signature.specs.declared.facts.SigFacts.{SigFacts}
 use Rattle.wot_cert.specs.Certificate.{Signature, Component, Certificate, said_by}
 use Rattle.wot_cert.specs.Counts.{all_sigs, parts_in}
-use Rattle.wot_cert.specs.Span.{most, least, begin_of, end_of, span_of, InSpan, moments_of, sig_moments, facts_moments, unless_zero, created_of}
+use Rattle.wot_cert.specs.Span.{most, least, begin_of, end_of, span_of, InSpan, moments_of, sig_moments, facts_moments, unless_zero, created_of, AreLiveAlike}
 use Rattle.wot_cert.specs.Time.{facts_live, is_live, live_part, live_at}
 
 -- t and u are on one side of m
@@ -42,32 +43,6 @@ sides (m ∷ ms) t u low high =
     let after : nat_lt t m ≡ true → u < m = λ h. omega (arith, e.1 h, positive t m h) in
     (record { reached = reached_same t u m at_or_before after; passed = passed_same t u m at_or_before after }, sides ms t u (omega arith) (omega arith))
 
--- ---- lists
-
-pub all_front : {A : Type 0} (P : A → Type 0) (xs ys : List A) → AllByRecursion P (xs ++ ys) → AllByRecursion P xs
-all_front P [] ys h = tt
-all_front P (x ∷ xs) ys h = (h.0, all_front P xs ys h.1)
-
-pub all_back : {A : Type 0} (P : A → Type 0) (xs ys : List A) → AllByRecursion P (xs ++ ys) → AllByRecursion P ys
-all_back P [] ys h = h
-all_back P (x ∷ xs) ys h = all_back P xs ys h.1
-
-pub all_each : {A B : Type 0} (P : B → Type 0) (f : A → List B) (xs : List A) → AllByRecursion P (flat_map f xs) → AllByRecursion (λ x. AllByRecursion P (f x)) xs
-all_each P f [] h = tt
-all_each P f (x ∷ xs) h = (all_front P (f x) (flat_map f xs) h, all_each P f xs (all_back P (f x) (flat_map f xs) h))
-
-pub all_then : {A : Type 0} (P Q : A → Type 0) → ((x : A) → P x → Q x) → (xs : List A) → AllByRecursion P xs → AllByRecursion Q xs
-all_then P Q f [] h = tt
-all_then P Q f (x ∷ xs) h = (f x h.0, all_then P Q f xs h.1)
-
-pub filter_same : {A : Type 0} (p q : A → Bool) (xs : List A) → AllByRecursion (λ x. p x ≡ q x) xs → filter p xs ≡ filter q xs
-filter_same p q [] h = refl
-filter_same p q (x ∷ xs) h = rw (h.0, filter_same p q xs h.1) refl
-
-pub map_same : {A B : Type 0} (f g : A → B) (xs : List A) → AllByRecursion (λ x. f x ≡ g x) xs → map f xs ≡ map g xs
-map_same f g [] h = refl
-map_same f g (x ∷ xs) h = rw (h.0, map_same f g xs h.1) refl
-
 -- ---- live
 
 lasting : (t u lasts end : ℕ) → AllByRecursion (OneSide t u) (unless_zero lasts end) → (lasts == 0 || nat_lt t end) ≡ (lasts == 0 || nat_lt u end)
@@ -76,7 +51,7 @@ lasting t u lasts end h =
 
 facts_same : (created t u : ℕ) (f : SigFacts) → AllByRecursion (OneSide t u) (facts_moments created f) → facts_live t f ≡ facts_live u f
 facts_same created t u f h =
-    let rest : AllByRecursion (OneSide t u) (unless_zero f.lasts (f.made + f.lasts)) = all_front (OneSide t u) (unless_zero f.lasts (f.made + f.lasts)) (unless_zero f.key_lasts (created + f.key_lasts)) h.1 in
+    let rest : AllByRecursion (OneSide t u) (unless_zero f.lasts (f.made + f.lasts)) = all_prefix (OneSide t u) (unless_zero f.lasts (f.made + f.lasts)) (unless_zero f.key_lasts (created + f.key_lasts)) h.1 in
     rw (h.0.reached, lasting t u f.lasts (f.made + f.lasts) rest) refl
 
 live_same : (created t u : ℕ) (s : Signature) → AllByRecursion (OneSide t u) (sig_moments created s) → is_live t s ≡ is_live u s
@@ -94,18 +69,24 @@ part_same t u p h = rw (filter_same (is_live t) (is_live u) p.sigs h) refl
 parts_same : (t u : ℕ) (ps : List Component) → AllByRecursion (λ p. AllByRecursion (λ s. is_live t s ≡ is_live u s) p.sigs) ps → map (live_part t) ps ≡ map (live_part u) ps
 parts_same t u ps h = map_same (live_part t) (live_part u) ps (all_then _ _ (part_same t u) ps h)
 
+-- Each signature is live at every time of a span or at none.
+pub alike : (c : Certificate) (t u : ℕ) → InSpan (span_of c t) u → AreLiveAlike c t u
+alike c t u h =
+    let at = sides (moments_of c) t u h.from h.to in
+    all_then (λ s. AllByRecursion (OneSide t u) (sig_moments (created_of c) s)) (λ s. is_live t s ≡ is_live u s) (live_same (created_of c) t u) (all_sigs c)
+    (all_each (OneSide t u) (sig_moments (created_of c)) (all_sigs c) at.1)
+
 -- The live signatures are the same at every time of a span.
 pub live_at_same : (c : Certificate) (t u : ℕ) → InSpan (span_of c t) u → live_at t c ≡ live_at u c
 live_at_same c t u h =
-    let at = sides (moments_of c) t u h.from h.to in
     let Same : Signature → Type 0 = λ s. is_live t s ≡ is_live u s in
-    let each : AllByRecursion Same (all_sigs c) = all_then (λ s. AllByRecursion (OneSide t u) (sig_moments (created_of c) s)) Same (live_same (created_of c) t u) (all_sigs c) (all_each (OneSide t u) (sig_moments (created_of c)) (all_sigs c) at.1) in
-    let direct : AllByRecursion Same c.direct = all_front Same c.direct (flat_map (λ p. p.sigs) (parts_in c)) each in
+    let each : AllByRecursion Same (all_sigs c) = alike c t u h in
+    let direct : AllByRecursion Same c.direct = all_prefix Same c.direct (flat_map (λ p. p.sigs) (parts_in c)) each in
     let parts : AllByRecursion (λ (p : Component). AllByRecursion Same p.sigs) (parts_in c) = all_each Same (λ p. p.sigs) (parts_in c) (all_back Same c.direct (flat_map (λ p. p.sigs) (parts_in c)) each) in
     let PartSame : Component → Type 0 = λ p. AllByRecursion Same p.sigs in
-    let front = all_front PartSame (c.user_ids ++ c.attributes) c.subkeys parts in
+    let prefix = all_prefix PartSame (c.user_ids ++ c.attributes) c.subkeys parts in
     let d = filter_same (is_live t) (is_live u) c.direct direct in
-    let us = parts_same t u c.user_ids (all_front PartSame c.user_ids c.attributes front) in
-    let as' = parts_same t u c.attributes (all_back PartSame c.user_ids c.attributes front) in
+    let us = parts_same t u c.user_ids (all_prefix PartSame c.user_ids c.attributes prefix) in
+    let as' = parts_same t u c.attributes (all_back PartSame c.user_ids c.attributes prefix) in
     let ks = parts_same t u c.subkeys (all_back PartSame (c.user_ids ++ c.attributes) c.subkeys parts) in
     rw (d, us, as', ks) refl

@@ -82,11 +82,11 @@ union_items rows a b h =
     let e : items_of (judged_beside rows a (unite a b)) ≡ items_of (unite a b) = ap (λ n. 1 + n) (beside_weight (λ _. 1) (λ _. 1) rows (λ s. refl) (λ old p. refl) a (unite a b)) in
     rw e (below _ _ _ _ (items_least (unite a b)) (size_less a b) h)
 
-front : (i n m p : ℕ) → i ≤ n → n + m < p → i < p
-front i n m p h k = omega arith
+prefix : (i n m p : ℕ) → i ≤ n → n + m < p → i < p
+prefix i n m p h k = omega arith
 
 pub first_items : (a b : Certificate) → size_of a + size_of b < 2 ^ 63 → items_of a < 2 ^ 63
-first_items a b h = front _ _ _ _ (items_least a) h
+first_items a b h = prefix _ _ _ _ (items_least a) h
 
 one_more : (a b : ℕ) → a ≤ b → 1 + a ≤ 1 + b
 one_more a b h = omega arith

@@ -1,5 +1,5 @@
 -- What a certificate brings in all.
-use Rattle.std.proofs.Common.{◌≡◌, ℕ, ◌+◌, ◌≤◌, ◌<◌, ◌^◌, length, arith}
+use Rattle.std.proofs.Common.{◌≡◌, ℕ, ◌+◌, ◌≤◌, ◌<◌, ◌^◌, length, arith, le_refl}
 use Rattle.wot_packet.specs.Writing.{written}
 use Rattle.wot_cert.specs.declared.adds.Adds.{Adds}
 use Rattle.wot_cert.specs.Certificate.{Signature, Certificate, unite}
@@ -57,9 +57,6 @@ few_last d s1 u1 v1 e s2 u2 v2 v3 v4 p q r s h = omega arith
 few_all : (p q d e f g s1 s2 s3 s4 u1 u2 u3 u4 v1 v2 v3 v4 : ℕ) → p ≡ d + e → q ≡ f + g → d + s1 ≡ u1 → e + s2 ≡ u2 → f + s3 ≡ u3 → g + s4 ≡ u4 → u1 ≤ v1 → u2 ≤ v2 → u3 ≤ v3 → u4 ≤ v4 → v1 + v2 + v3 + v4 < 2 ^ 63 → p + q < 2 ^ 64
 few_all p q d e f g s1 s2 s3 s4 u1 u2 u3 u4 v1 v2 v3 v4 a b h i j k l m n o t = omega arith
 
-reach : (n : ℕ) → n ≤ n
-reach n = omega arith
-
 abbrev one : Signature → ℕ
 one s = 1
 
@@ -71,21 +68,21 @@ module _ (a u : Certificate) (d e f g : Adds) (b : Brought a u d e f g) (r : Roo
   named_few = record {
     items = few_first _ _ _ _ _ _ _ _ _ _ b.direct.items (ones_least u) b.user_ids.items (sum_least part_items part_size part_items_least u.user_ids) r.all;
     signatures = few_first _ _ _ _ _ _ _ _ _ _ b.direct.signatures (ones_least u) b.user_ids.signatures (sum_least part_signatures part_size signatures_least u.user_ids) r.all;
-    octets = few_first _ _ _ _ _ _ _ _ _ _ b.direct.octets (reach _) b.user_ids.octets (reach _) r.all;
+    octets = few_first _ _ _ _ _ _ _ _ _ _ b.direct.octets (le_refl _) b.user_ids.octets (le_refl _) r.all;
   }
 
   pub others_few : IsFew (2 ^ 64) f g
   others_few = record {
     items = few_last _ _ _ (sum_of sig_size u.direct) _ _ _ (sum_of part_size u.user_ids) _ _ b.attributes.items (sum_least part_items part_size part_items_least u.attributes) b.subkeys.items (sum_least part_items part_size part_items_least u.subkeys) r.all;
     signatures = few_last _ _ _ (sum_of sig_size u.direct) _ _ _ (sum_of part_size u.user_ids) _ _ b.attributes.signatures (sum_least part_signatures part_size signatures_least u.attributes) b.subkeys.signatures (sum_least part_signatures part_size signatures_least u.subkeys) r.all;
-    octets = few_last _ _ _ (sum_of sig_size u.direct) _ _ _ (sum_of part_size u.user_ids) _ _ b.attributes.octets (reach _) b.subkeys.octets (reach _) r.all;
+    octets = few_last _ _ _ (sum_of sig_size u.direct) _ _ _ (sum_of part_size u.user_ids) _ _ b.attributes.octets (le_refl _) b.subkeys.octets (le_refl _) r.all;
   }
 
   pub all_few : (p q : Adds) → IsSum p d e → IsSum q f g → IsFew (2 ^ 64) p q
   all_few p q s t = record {
     items = few_all _ _ _ _ _ _ _ _ _ _ _ _ _ _ _ _ _ _ s.items t.items b.direct.items b.user_ids.items b.attributes.items b.subkeys.items (ones_least u) (sum_least part_items part_size part_items_least u.user_ids) (sum_least part_items part_size part_items_least u.attributes) (sum_least part_items part_size part_items_least u.subkeys) r.all;
     signatures = few_all _ _ _ _ _ _ _ _ _ _ _ _ _ _ _ _ _ _ s.signatures t.signatures b.direct.signatures b.user_ids.signatures b.attributes.signatures b.subkeys.signatures (ones_least u) (sum_least part_signatures part_size signatures_least u.user_ids) (sum_least part_signatures part_size signatures_least u.attributes) (sum_least part_signatures part_size signatures_least u.subkeys) r.all;
-    octets = few_all _ _ _ _ _ _ _ _ _ _ _ _ _ _ _ _ _ _ s.octets t.octets b.direct.octets b.user_ids.octets b.attributes.octets b.subkeys.octets (reach _) (reach _) (reach _) (reach _) r.all;
+    octets = few_all _ _ _ _ _ _ _ _ _ _ _ _ _ _ _ _ _ _ s.octets t.octets b.direct.octets b.user_ids.octets b.attributes.octets b.subkeys.octets (le_refl _) (le_refl _) (le_refl _) (le_refl _) r.all;
   }
 
 total : (k m p q d e f g s1 s2 s3 s4 u1 u2 u3 u4 : ℕ) → m ≡ p + q → p ≡ d + e → q ≡ f + g → d + s1 ≡ u1 → e + s2 ≡ u2 → f + s3 ≡ u3 → g + s4 ≡ u4 → m + (k + (s1 + s2 + s3 + s4)) ≡ k + (u1 + u2 + u3 + u4)

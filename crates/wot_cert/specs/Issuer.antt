@@ -1,17 +1,13 @@
 -- By whom a signature counts.
 use Rattle.std.specs.Prelude.{Bool, true, false, ◌&&◌, if◌then◌else◌, Option, Some, None}
 use Rattle.std.specs.Option.{option_map_or}
-use Rattle.std.specs.Ordering.{is_eq}
 use Rattle.wot_types.specs.declared.fpr.Fpr.{Fpr}
-use Rattle.wot_types.specs.Fpr.{fpr_cmp}
+use Rattle.wot_types.specs.Fpr.{same_fpr}
 use Rattle.wot_signature.specs.declared.facts.SigFacts.{SigFacts}
 use Rattle.wot_verdict.specs.declared.verdict.Verdict.{Verdict}
 use Rattle.wot_verdict.specs.declared.verdict.Verdict.TheVariants.{Good}
 use Rattle.wot_verdict.specs.Verdicts.{Entries, verdict_at}
 use Rattle.wot_cert.specs.Certificate.{Signature, said_by}
-
-abbrev pub same_fpr : Fpr → Fpr → Bool
-same_fpr a b = is_eq (fpr_cmp a b)
 
 -- the fingerprint by which a verdict is good
 abbrev pub good_by : Option Verdict → Option Fpr

@@ -20,5 +20,5 @@ revokes_by verdicts fpr t r = has_kind 48 r && (counts_by verdicts fpr r && is_l
 
 -- Each live revocation by this one at the same place was made before the signature was, or the signature isn't revocable.
 abbrev pub is_unrevoked : Entries → Fpr → ℕ → List Signature → Signature → Bool
-is_unrevoked verdicts fpr t place s =
-    not (is_revocable s) || list_all (λ r. not (revokes_by verdicts fpr t r) || nat_lt (made_of r) (made_of s)) place
+is_unrevoked verdicts fpr t sigs s =
+    not (is_revocable s) || list_all (λ r. not (revokes_by verdicts fpr t r) || nat_lt (made_of r) (made_of s)) sigs

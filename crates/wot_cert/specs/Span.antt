@@ -1,16 +1,13 @@
 -- The moments at which something may change, and the spans between them.
-use Rattle.std.specs.Prelude.{ℕ, ◌+◌, ◌-◌, ◌≤◌, ◌^◌, ◌==◌, nat_le, nat_lt, max, min, if◌then◌else◌, List, [], ◌∷◌, ◌++◌, filter, take, drop}
-use Rattle.std.specs.List.{flat_map}
+use Rattle.std.specs.Prelude.{◌≡◌, ℕ, ◌+◌, ◌-◌, ◌≤◌, ◌^◌, ◌==◌, nat_le, nat_lt, max, min, if◌then◌else◌, List, [], ◌∷◌, ◌++◌, filter}
+use Rattle.std.specs.List.{AllByRecursion, flat_map}
 use Rattle.std.specs.Option.{option_map_or}
-use Rattle.std.specs.Int.{w32, from_be_bytes}
+use Rattle.wot_key.specs.Key.{created_in}
 use Rattle.wot_signature.specs.declared.facts.SigFacts.{SigFacts}
 use Rattle.wot_cert.specs.declared.moments.Span.{Span}
 use Rattle.wot_cert.specs.Certificate.{Signature, Certificate, said_by}
 use Rattle.wot_cert.specs.Counts.{all_sigs}
-
--- when the key was made: four octets behind the first (RFC 9580, section 5.5.2)
-abbrev pub created_in : List ℕ → ℕ
-created_in key = from_be_bytes w32 (take 4 (drop 1 key))
+use Rattle.wot_cert.specs.Time.{is_live}
 
 abbrev pub created_of : Certificate → ℕ
 created_of c = created_in c.key
@@ -55,3 +52,7 @@ span_of c t = record { from = begin_of (moments_of c) t; to = end_of (moments_of
 pub record InSpan (span : Span) (t : ℕ) : Type 0 where
   pub from : span.from ≤ t
   pub to : t ≤ span.to
+
+-- Each signature of the certificate is live at both times or at neither.
+abbrev pub AreLiveAlike : Certificate → ℕ → ℕ → Type 0
+AreLiveAlike c t u = AllByRecursion (λ s. is_live t s ≡ is_live u s) (all_sigs c)

@@ -113,12 +113,13 @@ fn certificates(alloc: Global, packets: &[Packet]) -> Result<Assembled, Memory>
 }
 
 /// Assembles certificates from the packets of a text: one for each packet of a readable key, from that packet and those
-/// behind it up to the next key. Keys that aren't readable are skipped, with what is behind them, and counted. The first
-/// fault in the order of the packets is told, also of a skipped part. No policy is asked, and no mark is set.
+/// behind it up to the next key. Keys that aren't readable are skipped, with what is behind them, and counted. The
+/// first fault in the order of the packets is told, also of a skipped part. No policy is asked, and no mark is set.
 pub fn assemble(alloc: Global, packets: &[Packet<'_>]) -> Result<Assembled, CertFault>
     requires few { length packets.now < 2 ^ 28 }
     requires short { AreShort (spelled_all packets.now) }
-    ensures assembled { IfOk result (λ assembled. (assembled.certs ≡ certificates_of (spelled_all packets.now)) × (assembled.skipped ≡ skipped_in (spelled_all packets.now))) }
+    ensures assembled { IfOk result (λ assembled. (assembled.certs ≡ certificates_of (spelled_all packets.now))
+        × (assembled.skipped ≡ skipped_in (spelled_all packets.now))) }
     ensures whole { IfOk result (λ assembled. AllByRecursion IsCertificate assembled.certs) }
     ensures faults { TellsFirstFault (spelled_all packets.now) result }
 {

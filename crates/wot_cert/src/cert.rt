@@ -1,4 +1,4 @@
-ghost use Rattle.std.specs.Prelude.{◌≡◌, ◌≢◌, ℕ, ◌+◌, ◌++◌, ◌-◌, ◌<◌, ◌^◌, min, MatchBool, MatchResult, Some, true, OnOk, OnErr, IfOk};
+ghost use Rattle.std.specs.Prelude.{◌≡◌, ◌≢◌, ℕ, ◌+◌, ◌++◌, ◌-◌, ◌<◌, ◌^◌, min, MatchBool, MatchResult, Some, true, OnOk, OnErr, IfOk, IfSome};
 ghost use Rattle.std.specs.Option.{MatchOption};
 ghost use Rattle.wot_key.specs.Key.{is_readable, key_of, fpr_of};
 ghost use Rattle.wot_cert.specs.Answers.{ClashesExactly};
@@ -61,6 +61,7 @@ impl Cert {
     /// The certificate with this key and nothing else; `None` exactly where the key isn't readable.
     pub fn bare(alloc: Global, body: &[u8]) -> Result<Option<Cert>, Memory>
         ensures bare { IfOk result (λ found. MatchOption found (is_readable body.now ≡ false) (λ c. c ≡ bare body.now)) }
+        ensures readable { IfOk result (λ found. IfSome found (λ _. is_readable body.now ≡ true)) }
     {
         let Some(key) = read_key(body) else {
             return Ok(None);
@@ -80,10 +81,12 @@ impl Cert {
         }))
     }
 
-    /// The certificate with this key and what the packets behind it drafted; `None` exactly where the key isn't readable.
+    /// The certificate with this key and what the packets behind it drafted; `None` exactly where the key isn't
+    /// readable.
     pub(crate) fn drafted(alloc: Global, body: &[u8], draft: &Draft) -> Result<Option<Cert>, Memory>
         requires whole { IsWholeSketch (seen draft.now) }
-        ensures completed { IfOk result (λ found. MatchOption found (is_readable body.now ≡ false) (λ c. (c ≡ completed body.now (seen draft.now)) × (is_readable body.now ≡ true))) }
+        ensures completed { IfOk result (λ found. MatchOption found (is_readable body.now ≡ false) (λ c.
+            (c ≡ completed body.now (seen draft.now)) × (is_readable body.now ≡ true))) }
     {
         let Some(key) = read_key(body) else {
             return Ok(None);
@@ -248,7 +251,8 @@ impl Cert {
         requires whole { IsCertificate self.now × IsCertificate other.now }
         requires same { self.now.key ≡ other.now.key }
         ensures union { IfOk result (λ c. c ≡ judged_beside (rows_of policy.old) self.now (unite self.now other.now)) }
-        ensures asked { (k : ℕ) × (policy.new ≡ asked_more k policy.old) × MatchResult result (λ _. k ≡ sound_beside self.now (unite self.now other.now)) (λ _. k ≡ 0) }
+        ensures asked { (k : ℕ) × (policy.new ≡ asked_more k policy.old) × MatchResult result (λ _.
+            k ≡ sound_beside self.now (unite self.now other.now)) (λ _. k ≡ 0) }
         ensures faithful { IsFaithful F.Fn policy.new }
     {
         let mut union = self.union(alloc, other)?;
@@ -256,8 +260,8 @@ impl Cert {
         Ok(union)
     }
 
-    /// Whether both are of one key.
-    pub(crate) fn has_key_of(&self, other: &Cert) -> bool
+    /// Whether both are of one key, which `adds` asks for.
+    pub fn has_key_of(&self, other: &Cert) -> bool
         ensures same { MatchBool result (self.now.key ≡ other.now.key) (self.now.key ≢ other.now.key) }
         ensures whole { IsCertificate self.now × IsCertificate other.now }
     {
@@ -273,8 +277,8 @@ impl Cert {
         union.copied(alloc, Marks::Dropped)
     }
 
-    /// Becomes the union with a certificate of the same key, at each place, with no mark of admission. No policy is asked.
-    /// After a refusal it is as before.
+    /// Becomes the union with a certificate of the same key, at each place, with no mark of admission. No policy is
+    /// asked. After a refusal it is as before.
     pub fn unite(&mut self, alloc: Global, other: &Cert) -> Result<(), MergeFault>
         ensures union { OnOk result (self.new ≡ unmarked (unite self.old other.now)) }
         ensures clash { ClashesExactly self.old other.now result }
@@ -292,9 +296,10 @@ impl Cert {
         }
     }
 
-    /// Becomes the union with a certificate of the same key, at each place, and asks the policy about each sound signature
-    /// that is new. The answer is how many components and signatures were added. After a refusal the certificate is as
-    /// before, and the policy wasn't asked.
+    /// Becomes the union with a certificate of the same key, at each place, and asks the policy about each sound
+    /// signature that is new. The answer is how many components and signatures were added. After a refusal the
+    /// certificate is as before, and the policy wasn't asked. The clause `asked` says how many questions there were,
+    /// not which.
     pub fn merge<F: Fn(Ask) -> bool>(
         &mut self,
         alloc: Global,
@@ -306,7 +311,8 @@ impl Cert {
         ensures union { OnOk result (self.new ≡ unite self.old (judged (rows_of policy.old) other.now)) }
         ensures judged { IsJudged (rows_of policy.old) self.old → IsJudged (rows_of policy.old) self.new }
         ensures items { IfOk result (λ items. items + items_of self.old ≡ items_of self.new) }
-        ensures asked { (k : ℕ) × (policy.new ≡ asked_more k policy.old) × MatchResult result (λ _. k + sound_of self.old ≡ sound_of self.new) (λ _. k ≡ 0) }
+        ensures asked { (k : ℕ) × (policy.new ≡ asked_more k policy.old) × MatchResult result (λ _.
+            k + sound_of self.old ≡ sound_of self.new) (λ _. k ≡ 0) }
         ensures clash { ClashesExactly self.old other.now result }
         ensures kept { OnErr result (self.new ≡ self.old) }
         ensures faithful { IsFaithful F.Fn policy.new }

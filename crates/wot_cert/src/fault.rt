@@ -5,9 +5,9 @@ pub enum CertFault {
     Compressed,
     /// A secret key, or a secret subkey.
     Secret,
-    /// A packet of any other type that has no place in a certificate: its type and its place.
+    /// A packet of any other type that has no place in a certificate: its type and its offset.
     Kind(u8, usize),
-    /// A signature or a component before the first key: its place.
+    /// A signature or a component before the first key: its offset.
     Order(usize),
     /// No key at all, and no other fault.
     Empty,

@@ -41,8 +41,8 @@ fn counted(facts: Option<SigFacts>, admitted: bool, by: Option<Fpr>) -> Option<F
     }
 }
 
-/// The fingerprint by which a signature counts: it is readable, sound and admitted, the verdict on its number is good by
-/// that fingerprint, and its hashed issuer fingerprint is absent or that one.
+/// The fingerprint by which a signature counts: it is readable, sound and admitted, the verdict on its number is good
+/// by that fingerprint, and its hashed issuer fingerprint is absent or that one.
 pub fn issuer_of(sig: &Sig, verdicts: &Verdicts) -> Option<Fpr>
     ensures issuer { result ≡ issuer_in verdicts.now sig.now }
 {

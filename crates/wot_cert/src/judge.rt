@@ -29,8 +29,10 @@ fn judge_one<'a, F: Fn(Ask) -> bool>(
     policy: &mut Policy<F>,
 ) -> &'a [Sig]
     requires { IsFaithful F.Fn policy.old }
-    ensures judged { (rest : List Signature) → judged_sigs (rows_of policy.old) (sig.old ∷ rest) old.now ≡ sig.new ∷ judged_sigs (rows_of policy.old) rest result.now }
-    ensures asked { (k : ℕ) × (policy.new ≡ asked_more k policy.old) × ((rest : List Signature) → sound_new (sig.old ∷ rest) old.now ≡ k + sound_new rest result.now) }
+    ensures judged { (rest : List Signature) → judged_sigs (rows_of policy.old) (sig.old ∷ rest) old.now
+        ≡ sig.new ∷ judged_sigs (rows_of policy.old) rest result.now }
+    ensures asked { (k : ℕ) × (policy.new ≡ asked_more k policy.old) × ((rest : List Signature) →
+        sound_new (sig.old ∷ rest) old.now ≡ k + sound_new rest result.now) }
     ensures faithful { IsFaithful F.Fn policy.new }
 {
     match meet(sig, old) {
@@ -72,16 +74,18 @@ fn meet_part<'a>(part: &Part, old: &'a [Part]) -> Option<(&'a Part, &'a [Part])>
     }
 }
 
-/// Judges those signatures on a part that are not on the first of the old ones, where that has the same body. The answer
-/// is the old ones that are left.
+/// Judges those signatures on a part that are not on the first of the old ones, where that has the same body. The
+/// answer is the old ones that are left.
 fn judge_one_part<'a, F: Fn(Ask) -> bool>(
     part: &mut Part,
     old: &'a [Part],
     policy: &mut Policy<F>,
 ) -> &'a [Part]
     requires { IsFaithful F.Fn policy.old }
-    ensures judged { (rest : List Component) → judged_parts (rows_of policy.old) (part.old ∷ rest) old.now ≡ part.new ∷ judged_parts (rows_of policy.old) rest result.now }
-    ensures asked { (k : ℕ) × (policy.new ≡ asked_more k policy.old) × ((rest : List Component) → sound_new_on (part.old ∷ rest) old.now ≡ k + sound_new_on rest result.now) }
+    ensures judged { (rest : List Component) → judged_parts (rows_of policy.old) (part.old ∷ rest) old.now
+        ≡ part.new ∷ judged_parts (rows_of policy.old) rest result.now }
+    ensures asked { (k : ℕ) × (policy.new ≡ asked_more k policy.old) × ((rest : List Component) →
+        sound_new_on (part.old ∷ rest) old.now ≡ k + sound_new_on rest result.now) }
     ensures faithful { IsFaithful F.Fn policy.new }
 {
     match meet_part(part, old) {

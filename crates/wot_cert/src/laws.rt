@@ -58,14 +58,16 @@ pub fn united_grows()
 /// A union has no less than its second part, where both are certificates of one key.
 pub fn united_holds_both()
     ensures items { (a b : Certificate) → IsCertificate a → IsCertificate b → a.key ≡ b.key → items_of b ≤ items_of (unite a b) }
-    ensures signatures { (a b : Certificate) → IsCertificate a → IsCertificate b → a.key ≡ b.key → signatures_of b ≤ signatures_of (unite a b) }
+    ensures signatures { (a b : Certificate) → IsCertificate a → IsCertificate b → a.key ≡ b.key →
+        signatures_of b ≤ signatures_of (unite a b) }
     ensures sizes { (a b : Certificate) → IsCertificate a → IsCertificate b → a.key ≡ b.key → size_of b ≤ size_of (unite a b) }
 {}
 
 /// Certificates of one key may be united in any order and in any groups, and more than once: the result has the same
 /// signatures with the same numbers, but that a signature of both keeps the mark of the first.
 pub fn united_in_any_order()
-    ensures groups { (a b c : Certificate) → IsCertificate a → IsCertificate b → IsCertificate c → unite (unite a b) c ≡ unite a (unite b c) }
+    ensures groups { (a b c : Certificate) → IsCertificate a → IsCertificate b → IsCertificate c →
+        unite (unite a b) c ≡ unite a (unite b c) }
     ensures order { (a b : Certificate) → IsCertificate a → IsCertificate b → a.key ≡ b.key → unmarked (unite a b) ≡ unmarked (unite b a) }
     ensures twice { (a : Certificate) → IsCertificate a → unite a a ≡ a }
 {}

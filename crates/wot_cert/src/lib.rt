@@ -19,8 +19,6 @@ mod part;
 mod sig;
 mod sizes;
 mod spans;
-#[cfg(test)]
-mod tests;
 
 pub use adds::Adds;
 pub use assembling::{Assembled, assemble};

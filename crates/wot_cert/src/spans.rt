@@ -2,7 +2,7 @@ ghost use Rattle.std.specs.Prelude.{◌≡◌, ℕ, ◌≤◌, ◌^◌, List, []
 ghost use Rattle.std.specs.List.{flat_map};
 ghost use Rattle.wot_cert.specs.Counts.{sigs_on};
 ghost use Rattle.wot_cert.specs.Narrowed.{Narrowed};
-ghost use Rattle.wot_cert.specs.Span.{span_of, sig_moments, facts_moments, unless_zero, created_of, InSpan};
+ghost use Rattle.wot_cert.specs.Span.{span_of, sig_moments, facts_moments, unless_zero, created_of, InSpan, AreLiveAlike};
 ghost use Rattle.wot_cert.specs.Time.{live_at};
 
 use crate::{Cert, Part, Sig, Span};
@@ -86,11 +86,12 @@ fn created(cert: &Cert) -> u32
 }
 
 /// The span of a time: from the last moment of the certificate that isn't after it, or 0, up to the moment before the
-/// next one, or the last time that there is. The moments are the key's creation and, of each readable signature, when it
-/// was made, when it ends, and when it lets the key end.
+/// next one, or the last time that there is. The moments are the key's creation and, of each readable signature, when
+/// it was made, when it ends, and when it lets the key end.
 pub fn span(cert: &Cert, t: u32) -> Span
     ensures span { result ≡ span_of cert.now t }
     ensures live { (u : ℕ) → InSpan result u → live_at t cert.now ≡ live_at u cert.now }
+    ensures alike { (u : ℕ) → InSpan result u → AreLiveAlike cert.now t u }
 {
     let mut bounds = Bounds {
         from: 0,

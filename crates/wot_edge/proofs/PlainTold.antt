@@ -15,7 +15,7 @@ use Rattle.wot_edge.specs.Order.{edge_cmp, same_fpr}
 use Rattle.wot_edge.specs.Record.{Has, Row, Entry, IsRecord, blank, entry_at, rows_into, edges_into}
 use Rattle.wot_edge.specs.Lawful.{AreEntries, AreRows}
 use Rattle.wot_edge.specs.Plain.{Line, Plain, place_of, row_of, entry_of, told_of, AreLines, MayPrecede}
-use Rattle.wot_edge.proofs.Orders.{same_fpr-true, fpr_exact}
+use Rattle.wot_edge.proofs.Orders.{same_fpr-true, same_fpr-refl, fpr_exact}
 use Rattle.wot_edge.proofs.Recorded.{is_record, no_rows, edge_total}
 
 -- ---- what is told of a fingerprint
@@ -90,6 +90,16 @@ rows_before fpr edge (next ∷ rest) m r = record {
   order = ((m.1, below_all edge next rest m.1 r.order.0), r.order);
 }
 
+-- and of rows the first may stand before the rest, which are rows
+pub rows_first : (fpr : Fpr) (edge : EdgeFacts) (later : List EdgeFacts) → AreRows fpr (edge ∷ later) → MayPrecede fpr edge later
+unfolding IsStrictlySortedBy
+rows_first fpr edge [] r = r.into edge (inl refl)
+rows_first fpr edge (next ∷ rest) r = (r.into edge (inl refl), r.order.0.0)
+
+pub rows_rest : (fpr : Fpr) (edge : EdgeFacts) (later : List EdgeFacts) → AreRows fpr (edge ∷ later) → AreRows fpr later
+unfolding IsStrictlySortedBy
+rows_rest fpr edge later r = record { into = λ x h. r.into x (inr h); order = r.order.1 }
+
 pub lines_put : (lines : List (Fpr × Line)) (fpr : Fpr) (line : Line) → AreLines lines → AreRows fpr line.edges → AreLines (insert_entry fpr_cmp lines fpr line)
 lines_put [] fpr line all r = (r, tt)
 lines_put (l ∷ lines) fpr line all r = by (lines_put lines fpr line all.1 r) (fpr_cmp fpr l.0) refl
@@ -103,6 +113,17 @@ is_lt-Less : (o : Ordering) → is_lt o ≡ true → o ≡ Less
 is_lt-Less Less e = refl
 is_lt-Less Equal e = absurd cc
 is_lt-Less Greater e = absurd cc
+
+may_target : (fpr : Fpr) (edge : EdgeFacts) (later : List EdgeFacts) → MayPrecede fpr edge later → edge.target ≡ fpr
+may_target fpr edge [] m = m
+may_target fpr edge (next ∷ later) m = m.0
+
+pub may_other : (fpr : Fpr) (edge : EdgeFacts) (later : List EdgeFacts) → same_fpr edge.target fpr ≡ false → MayPrecede fpr edge later → ⊥
+may_other fpr edge later f m = (let g : same_fpr fpr fpr ≡ false = subst (λ (x : Fpr). same_fpr x fpr ≡ false) (may_target fpr edge later m) f in let h : true ≡ false = sym (same_fpr-refl fpr) ∙ g in absurd cc)
+
+pub may_less : (fpr : Fpr) (edge next : EdgeFacts) (later : List EdgeFacts) → Some next ≡ slice_get later 0 → MayPrecede fpr edge later → is_lt (edge_cmp edge next) ≡ true
+may_less fpr edge next [] e m = absurd cc
+may_less fpr edge next (x ∷ later) e m = let same : next ≡ x = cc in ap is_lt (subst (λ (y : EdgeFacts). edge_cmp edge y ≡ Less) (sym same) m.1)
 
 pub may_first : (fpr : Fpr) (edge next : EdgeFacts) (later : List EdgeFacts) → Some next ≡ slice_get later 0 → edge.target ≡ fpr → is_lt (edge_cmp edge next) ≡ true → MayPrecede fpr edge later
 may_first fpr edge next [] e t less = absurd cc

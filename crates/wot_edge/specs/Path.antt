@@ -1,6 +1,7 @@
 -- Valid paths, what earlier paths leave, and which path is next. After Sequoia's OpenPGP Web of
 -- Trust specification, in outline; the exact rules are this project's own.
-use Rattle.std.specs.Prelude.{◌≡◌, ◌≢◌, ◌⊎◌, ℕ, ◌<◌, ◌≤◌, ◌-◌, ◌&&◌, min, Bool, true, List, [], ◌∷◌, length, map, sum_by, Some, if◌then◌else◌}
+use Rattle.std.specs.Prelude.{◌≡◌, ◌≢◌, ◌⊎◌, ℕ, ◌<◌, ◌≤◌, ◌-◌, ◌&&◌, min, Bool}
+use Rattle.std.specs.Prelude.{true, List, [], ◌∷◌, length, map, sum_by, Some, if◌then◌else◌}
 use Rattle.std.specs.List.{list_any}
 use Rattle.std.specs.declared.cmp.Ordering.TheVariants.{Less}
 use Rattle.wot_types.specs.declared.fpr.Fpr.{Fpr}

@@ -1,8 +1,10 @@
 -- Roads that are kept in memory, for tests and benches. A user ID is one octet, and that octet is its place.
 use Rattle.std.specs.Prelude.{◌≡◌, ℕ, ◌&&◌, ◌||◌, not, nat_lt, nat_eq, Bool, true, false, List, [], ◌∷◌, map, Option, Some, None}
 use Rattle.std.specs.declared.cmp.Ordering.TheVariants.{Less}
+use Rattle.std.specs.BTreeMap.{insert_entry}
 use Rattle.std.specs.List.{AllByRecursion}
 use Rattle.wot_types.specs.declared.fpr.Fpr.{Fpr}
+use Rattle.wot_types.specs.Fpr.{fpr_cmp}
 use Rattle.wot_edge.specs.declared.edge.EdgeFacts.{EdgeFacts}
 use Rattle.wot_edge.specs.Order.{edge_cmp}
 use Rattle.wot_edge.specs.Record.{Row, Entry, Record}
@@ -36,13 +38,21 @@ abbrev pub row_of : ℕ → Option ℕ → EdgeFacts → Row
 row_of inside place edge = record { edge = edge; usable = nat_lt 0 edge.made; scope = not edge.scoped || holds_inside inside place }
 
 abbrev pub entry_of : ℕ → Option ℕ → Line → Entry
-entry_of inside place line = record { rows = map (row_of inside place) line.edges; place = place; in_order = line.in_order && is_place place }
+entry_of inside place line = record {
+  rows = map (row_of inside place) line.edges;
+  place = place;
+  in_order = line.in_order && is_place place;
+}
 
 abbrev pub told_of : Plain → List ℕ → Record
 told_of plain uid = map (λ e. (e.0, entry_of plain.inside (place_of uid) e.1)) plain.lines
 
 abbrev pub AreLines : List (Fpr × Line) → Type 0
 AreLines lines = AllByRecursion (λ e. AreRows e.0 e.1.edges) lines
+
+-- the lines, with another at a fingerprint, in place of an earlier one there
+abbrev pub with_line : List (Fpr × Line) → Fpr → Bool → List EdgeFacts → List (Fpr × Line)
+with_line lines fpr in_order edges = insert_entry fpr_cmp lines fpr (record { edges = edges; in_order = in_order })
 
 -- an edge into a fingerprint that is less than the first of these
 abbrev pub MayPrecede : Fpr → EdgeFacts → List EdgeFacts → Type 0

@@ -46,4 +46,5 @@ edges_into told fpr = map (λ row. row.edge) (rows_into told fpr)
 -- The rows into each fingerprint are of edges into it, at most one for each issuer and user ID.
 pub record IsRecord (told : Record) : Type 0 where
   pub into : (fpr : Fpr) (row : Row) → Has (rows_into told fpr) row → row.edge.target ≡ fpr
-  pub one : (fpr : Fpr) (x y : Row) → Has (rows_into told fpr) x → Has (rows_into told fpr) y → x.edge.issuer ≡ y.edge.issuer → x.edge.uid ≡ y.edge.uid → x ≡ y
+  pub one : (fpr : Fpr) (x y : Row) → Has (rows_into told fpr) x → Has (rows_into told fpr) y
+      → x.edge.issuer ≡ y.edge.issuer → x.edge.uid ≡ y.edge.uid → x ≡ y

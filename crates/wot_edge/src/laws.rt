@@ -22,14 +22,17 @@ pub fn answer_is_one()
 
 /// The amount is 0 exactly where there is no valid path of positive amount at all.
 pub fn zero_is_no_path()
-    ensures zero { (q : Question) (wanted : ℕ) (paths : List Path) → 1 ≤ wanted → IsAnswer q wanted paths → (amount_of paths ≡ 0) ↔ IsSpent q (use_of []) }
+    ensures zero { (q : Question) (wanted : ℕ) (paths : List Path) → 1 ≤ wanted → IsAnswer q wanted paths
+        → (amount_of paths ≡ 0) ↔ IsSpent q (use_of []) }
 {}
 
 /// Next paths stay within the amounts of their edges, of their roots, and of all roots together.
 pub fn paths_fit()
     ensures pairs { (q : Question) (paths : List Path) → EachNext q [] paths → AllFit [] paths }
-    ensures roots { (q : Question) (paths : List Path) (fpr : Fpr) → EachNext q [] paths → (use_of paths).root fpr ≤ root_amount q.roots fpr }
-    ensures sum { (q : Question) (paths : List Path) → EachNext q [] paths → ((fpr : Fpr) → root_amount q.roots fpr ≤ 255) → amount_of paths ≤ 255 * length q.roots }
+    ensures roots { (q : Question) (paths : List Path) (fpr : Fpr) → EachNext q [] paths
+        → (use_of paths).root fpr ≤ root_amount q.roots fpr }
+    ensures sum { (q : Question) (paths : List Path) → EachNext q [] paths → ((fpr : Fpr) → root_amount q.roots fpr ≤ 255)
+        → amount_of paths ≤ 255 * length q.roots }
 {}
 
 /// Rows into each fingerprint that stand in the order of issuer and user ID are a record.

@@ -19,6 +19,3 @@ pub use path::{Path, Step};
 pub use roads::Roads;
 pub use roots::{Roots, RootsIter};
 pub use used::Used;
-
-#[cfg(test)]
-mod tests;

@@ -16,7 +16,8 @@ use wot_types::{Fpr, Memory};
 /// Keeps a value at a fingerprint, in place of an earlier one.
 pub fn put<V: Drop>(map: &mut BTreeMap<Fpr, V, Global>, fpr: Fpr, value: V) -> Result<(), Memory>
     ensures entries { OnOk result (map.new.entries ≡ insert_entry fpr_cmp map.old.entries fpr value) }
-    ensures gets { OnOk result ((q : TheFpr) → lookup (is_at (fpr_cmp q)) map.new.entries ≡ cond (is_at (fpr_cmp fpr) q) (Some value) (lookup (is_at (fpr_cmp q)) map.old.entries)) }
+    ensures gets { OnOk result ((q : TheFpr) → lookup (is_at (fpr_cmp q)) map.new.entries
+        ≡ cond (is_at (fpr_cmp fpr) q) (Some value) (lookup (is_at (fpr_cmp q)) map.old.entries)) }
     ensures kept { OnErr result (map.new.entries ≡ map.old.entries) }
     ensures absent { OnErr result (lookup (is_at (fpr_cmp fpr)) map.old.entries ≡ None) }
 {
@@ -27,7 +28,8 @@ pub fn put<V: Drop>(map: &mut BTreeMap<Fpr, V, Global>, fpr: Fpr, value: V) -> R
 /// Takes out the value at a fingerprint.
 pub fn take_out<V: Drop>(map: &mut BTreeMap<Fpr, V, Global>, fpr: &Fpr)
     ensures entries { map.new.entries ≡ remove_entry (is_at (fpr_cmp fpr.now)) map.old.entries }
-    ensures gets { (q : TheFpr) → lookup (is_at (fpr_cmp q)) map.new.entries ≡ cond (is_at (fpr_cmp fpr.now) q) None (lookup (is_at (fpr_cmp q)) map.old.entries) }
+    ensures gets { (q : TheFpr) → lookup (is_at (fpr_cmp q)) map.new.entries
+        ≡ cond (is_at (fpr_cmp fpr.now) q) None (lookup (is_at (fpr_cmp q)) map.old.entries) }
 {
     let _ = map.remove(fpr);
 }
@@ -44,7 +46,8 @@ pub fn make_root_room(sums: &mut BTreeMap<Fpr, u32, Global>, fpr: Fpr) -> Result
 pub fn raise_root(sums: &mut BTreeMap<Fpr, u32, Global>, fpr: Fpr, amount: u8)
     requires here { IsSome (lookup (is_at (fpr_cmp fpr)) sums.old.entries) }
     requires fits { sum_at fpr_cmp sums.old.entries fpr + amount < 2 ^ 32 }
-    ensures raised { (q : TheFpr) → sum_at fpr_cmp sums.new.entries q ≡ sum_at fpr_cmp sums.old.entries q + (if same_fpr q fpr then amount else 0) }
+    ensures raised { (q : TheFpr) → sum_at fpr_cmp sums.new.entries q
+        ≡ sum_at fpr_cmp sums.old.entries q + (if same_fpr q fpr then amount else 0) }
 {
     raise(sums, fpr, amount);
 }

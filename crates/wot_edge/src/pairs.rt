@@ -48,7 +48,8 @@ fn pair_of_step(step: &Step) -> Pair
 fn make_room_for(pairs: &mut BTreeMap<Pair, u32, Global>, step: &Step) -> Result<(), Memory>
     ensures same { (q : ThePair) → sum_at pair_cmp pairs.new.entries q ≡ sum_at pair_cmp pairs.old.entries q }
     ensures here { OnOk result (IsSome (lookup (is_at (pair_cmp (pair_of step.now))) pairs.new.entries)) }
-    ensures others { (q : ThePair) → IsSome (lookup (is_at (pair_cmp q)) pairs.old.entries) → IsSome (lookup (is_at (pair_cmp q)) pairs.new.entries) }
+    ensures others { (q : ThePair) → IsSome (lookup (is_at (pair_cmp q)) pairs.old.entries)
+        → IsSome (lookup (is_at (pair_cmp q)) pairs.new.entries) }
 {
     make_room(pairs, pair_of_step(step))
 }
@@ -56,7 +57,8 @@ fn make_room_for(pairs: &mut BTreeMap<Pair, u32, Global>, step: &Step) -> Result
 /// Gives the pair of each step an entry. No sum is another then.
 pub fn make_rooms(pairs: &mut BTreeMap<Pair, u32, Global>, steps: &[Step]) -> Result<(), Memory>
     ensures same { (q : ThePair) → sum_at pair_cmp pairs.new.entries q ≡ sum_at pair_cmp pairs.old.entries q }
-    ensures here { OnOk result ((step : TheStep) → Has steps.now step → IsSome (lookup (is_at (pair_cmp (pair_of step))) pairs.new.entries)) }
+    ensures here { OnOk result ((step : TheStep) → Has steps.now step
+        → IsSome (lookup (is_at (pair_cmp (pair_of step))) pairs.new.entries)) }
 {
     let mut rest = steps;
     'rest: while let Some((step, later)) = rest.split_first() {
@@ -70,8 +72,10 @@ pub fn make_rooms(pairs: &mut BTreeMap<Pair, u32, Global>, steps: &[Step]) -> Re
 fn raise_step(pairs: &mut BTreeMap<Pair, u32, Global>, step: &Step, later: &[Step], amount: u8)
     requires here { IsSome (lookup (is_at (pair_cmp (pair_of step.now))) pairs.old.entries) }
     requires fits { sum_at pair_cmp pairs.old.entries (pair_of step.now) + amount < 2 ^ 32 }
-    ensures raised { (q : ThePair) → sum_at pair_cmp pairs.new.entries q + pair_part q.issuer q.target amount later.now ≡ sum_at pair_cmp pairs.old.entries q + pair_part q.issuer q.target amount (step.now ∷ later.now) }
-    ensures others { (q : ThePair) → IsSome (lookup (is_at (pair_cmp q)) pairs.old.entries) → IsSome (lookup (is_at (pair_cmp q)) pairs.new.entries) }
+    ensures raised { (q : ThePair) → sum_at pair_cmp pairs.new.entries q + pair_part q.issuer q.target amount later.now
+        ≡ sum_at pair_cmp pairs.old.entries q + pair_part q.issuer q.target amount (step.now ∷ later.now) }
+    ensures others { (q : ThePair) → IsSome (lookup (is_at (pair_cmp q)) pairs.old.entries)
+        → IsSome (lookup (is_at (pair_cmp q)) pairs.new.entries) }
 {
     if !any_of(&step.issuer, &step.target, later) {
         raise(pairs, pair_of_step(step), amount);
@@ -82,7 +86,8 @@ fn raise_step(pairs: &mut BTreeMap<Pair, u32, Global>, step: &Step, later: &[Ste
 pub fn raise_all(pairs: &mut BTreeMap<Pair, u32, Global>, steps: &[Step], amount: u8)
     requires here { (step : TheStep) → Has steps.now step → IsSome (lookup (is_at (pair_cmp (pair_of step))) pairs.old.entries) }
     requires fits { (q : ThePair) → sum_at pair_cmp pairs.old.entries q + pair_part q.issuer q.target amount steps.now < 2 ^ 32 }
-    ensures raised { (q : ThePair) → sum_at pair_cmp pairs.new.entries q ≡ sum_at pair_cmp pairs.old.entries q + pair_part q.issuer q.target amount steps.now }
+    ensures raised { (q : ThePair) → sum_at pair_cmp pairs.new.entries q
+        ≡ sum_at pair_cmp pairs.old.entries q + pair_part q.issuer q.target amount steps.now }
 {
     let mut rest = steps;
     'rest: while let Some((step, later)) = rest.split_first() {

@@ -1,13 +1,13 @@
 //! Roads that are kept in memory, for tests and benches of the crates above. No part of the product
 //! uses them.
-ghost use Rattle.std.specs.Prelude.{◌≡◌, ◌&&◌, ◌||◌, not, [], true, false, IfOk, OnErr};
-ghost use Rattle.std.specs.BTreeMap.{insert_entry, is_at};
+ghost use Rattle.std.specs.Prelude.{◌≡◌, ◌↔◌, ◌&&◌, ◌||◌, not, [], true, false, IfOk, OnErr};
+ghost use Rattle.std.specs.BTreeMap.{is_at};
 ghost use Rattle.std.specs.Map.{lookup};
 ghost use Rattle.std.specs.Option.{option_copied};
 ghost use Rattle.wot_types.specs.Fpr.{fpr_cmp};
 ghost use Rattle.wot_edge.specs.Order.{edge_cmp};
 ghost use Rattle.wot_edge.specs.Lawful.{AreRows};
-ghost use Rattle.wot_edge.specs.Plain.{AreLines, MayPrecede, holds_inside, is_place, told_of, place_of};
+ghost use Rattle.wot_edge.specs.Plain.{AreLines, MayPrecede, holds_inside, is_place, told_of, place_of, with_line};
 
 use crate::maps::{find, put};
 use crate::{Edge, Roads};
@@ -76,10 +76,11 @@ impl PlainRoads {
         }
     }
 
-    /// Gives a certificate these edges into it; `false` where they aren't into it, or aren't in the
-    /// order of issuer and user ID. After `false` and `Memory` the network is as before.
+    /// Gives a certificate these edges into it; `false` exactly where they aren't all into it, or
+    /// aren't in the order of issuer and user ID, one for each. After `false` and `Memory` the network is as before.
     pub fn put(&mut self, fpr: Fpr, in_order: bool, edges: Vec<Edge>) -> Result<bool, Memory>
-        ensures put { IfOk result (λ done. done ≡ true → self.new.lines ≡ insert_entry fpr_cmp self.old.lines fpr (record { edges = edges.items; in_order = in_order })) }
+        ensures rows { IfOk result (λ done. (done ≡ true) ↔ AreRows fpr edges.items) }
+        ensures put { IfOk result (λ done. done ≡ true → self.new.lines ≡ with_line self.old.lines fpr in_order edges.items) }
         ensures inside { self.new.inside ≡ self.old.inside }
         ensures refused { IfOk result (λ done. done ≡ false → self.new.lines ≡ self.old.lines) }
         ensures kept { OnErr result (self.new ≡ self.old) }
@@ -140,7 +141,7 @@ impl Roads for PlainRoads {
 
 /// Whether edges are into a certificate, and in the order of issuer and user ID.
 fn are_rows(fpr: &Fpr, edges: &[Edge]) -> bool
-    ensures rows { result ≡ true → AreRows fpr.now edges.now }
+    ensures rows { (result ≡ true) ↔ AreRows fpr.now edges.now }
 {
     let mut rest = edges;
     'rest: while let Some((edge, later)) = rest.split_first() {
@@ -154,7 +155,7 @@ fn are_rows(fpr: &Fpr, edges: &[Edge]) -> bool
 
 /// Whether an edge is into a certificate, and less than the first of the later ones.
 fn may_precede(fpr: &Fpr, edge: &Edge, later: &[Edge]) -> bool
-    ensures may { result ≡ true → MayPrecede fpr.now edge.now later.now }
+    ensures may { (result ≡ true) ↔ MayPrecede fpr.now edge.now later.now }
 {
     if !compare_fprs(&edge.facts().target, fpr).is_eq() {
         return false;

@@ -20,12 +20,14 @@ pub trait Roads {
     /// Whether an edge is usable.
     fn usable(&self, edge: &Edge) -> bool
         requires row { (uid : List ℕ) → Has (edges_into (told self.now uid) edge.now.target) edge.now }
-        ensures usable { (uid : List ℕ) (row : Row) → Has (rows_into (told self.now uid) edge.now.target) row → row.edge ≡ edge.now → row.usable ≡ result };
+        ensures usable { (uid : List ℕ) (row : Row) → Has (rows_into (told self.now uid) edge.now.target) row
+            → row.edge ≡ edge.now → row.usable ≡ result };
 
     /// Whether the scope of an edge holds for a user ID.
     fn scope(&self, edge: &Edge, uid: &[u8]) -> Result<bool, Memory>
         requires row { (id : List ℕ) → Has (edges_into (told self.now id) edge.now.target) edge.now }
-        ensures scope { IfOk result (λ holds. (row : Row) → Has (rows_into (told self.now uid.now) edge.now.target) row → row.edge ≡ edge.now → row.scope ≡ holds) };
+        ensures scope { IfOk result (λ holds. (row : Row) → Has (rows_into (told self.now uid.now) edge.now.target) row
+            → row.edge ≡ edge.now → row.scope ≡ holds) };
 
     /// Whether a target is in order for a user ID.
     fn in_order(&self, target: &Fpr, uid: &[u8]) -> bool

@@ -35,7 +35,8 @@ pub fn make_room<K: Ord + Copy>(sums: &mut BTreeMap<K, u32, Global>, key: K) -> 
 pub fn raise<K: Ord + Copy>(sums: &mut BTreeMap<K, u32, Global>, key: K, amount: u8)
     requires here { IsSome (get K.cmp sums.old key) }
     requires fits { sum_at K.cmp sums.old.entries key + amount < 2 ^ 32 }
-    ensures raised { (q : K) → sum_at K.cmp sums.new.entries q ≡ sum_at K.cmp sums.old.entries q + (if is_eq (K.cmp key q) then amount else 0) }
+    ensures raised { (q : K) → sum_at K.cmp sums.new.entries q
+        ≡ sum_at K.cmp sums.old.entries q + (if is_eq (K.cmp key q) then amount else 0) }
     ensures others { (q : K) → IsSome (get K.cmp sums.old q) → IsSome (get K.cmp sums.new q) }
 {
     let sum = sum_of(sums, &key) + amount as u32;

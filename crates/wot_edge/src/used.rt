@@ -74,7 +74,8 @@ impl Used {
     pub fn add(&mut self, path: &Path) -> Result<(), Memory>
         requires pairs_fit { (issuer target : TheFpr) → pair_sum self.old issuer target + path_pair issuer target path.now < 2 ^ 32 }
         requires roots_fit { (fpr : TheFpr) → root_sum self.old fpr + path_root fpr path.now < 2 ^ 32 }
-        ensures pairs { OnOk result ((issuer target : TheFpr) → pair_sum self.new issuer target ≡ pair_sum self.old issuer target + path_pair issuer target path.now) }
+        ensures pairs { OnOk result ((issuer target : TheFpr)
+            → pair_sum self.new issuer target ≡ pair_sum self.old issuer target + path_pair issuer target path.now) }
         ensures roots { OnOk result ((fpr : TheFpr) → root_sum self.new fpr ≡ root_sum self.old fpr + path_root fpr path.now) }
         ensures pairs_kept { OnErr result ((issuer target : TheFpr) → pair_sum self.new issuer target ≡ pair_sum self.old issuer target) }
         ensures roots_kept { OnErr result ((fpr : TheFpr) → root_sum self.new fpr ≡ root_sum self.old fpr) }

@@ -4,12 +4,17 @@ mod Named
 mod Marked
 mod Outcomes
 mod Runs
+mod Stepping
 mod Refusing
 mod Keeping
 mod Short
 mod Progress
 mod Turns
+mod Taking
+pub mod Unchanged
 mod Replying
 pub mod Rules
 mod Anew
 mod Dumping
+mod Alike
+mod Worded

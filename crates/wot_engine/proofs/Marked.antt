@@ -12,10 +12,10 @@ use Rattle.wot_policy.specs.declared.rows.PolicyRows.{PolicyRows}
 use Rattle.wot_cert.specs.Certificate.{Certificate, unite, unmarked}
 use Rattle.wot_cert.specs.Judged.{judged}
 use Rattle.wot_keyring.specs.Keyring.{Certificates, is_fpr}
-use Rattle.wot_keyring.specs.Dump.{judged_anew}
+use Rattle.wot_keyring.specs.Dump.{judged_anew, judged_by}
 use Rattle.wot_keyring.specs.Import.{united_with, with_cert, with_certs}
+use Rattle.wot_script.specs.declared.reply.Reply.{Reply}
 use Rattle.wot_cache.specs.State.{State, start}
-use Rattle.wot_cache.specs.Dump.{judged_by}
 use Rattle.wot_engine.specs.Transcript.{Run}
 use Rattle.wot_engine.proofs.Stays.{all_without, run_stays}
 
@@ -73,7 +73,7 @@ module _
     without : (fpr : Fpr) (certs : Certificates) → AreMarked rows certs → AreMarked rows (remove_entry (is_fpr fpr) certs)
     without fpr certs all = all_without (λ (e : Fpr × Certificate). IsMarked rows e.1) (is_fpr fpr) certs all
 
-    pub reached_marked : (lines : List (List ℕ)) (replies : List ℕ) (state : State) → Run rows start lines replies state → judged_by rows state ≡ state
+    pub reached_marked : (lines : List (List ℕ)) (replies : List Reply) (state : State) → Run rows start lines replies state → judged_by rows state.held ≡ state.held
     reached_marked lines replies state run =
-        let all : AreMarked rows state.certs = run_stays rows (AreMarked rows) with_all without lines start replies state tt run in
-        ap (λ (certs : Certificates). record state { certs = certs }) (marked_anew rows state.certs all)
+        let all : AreMarked rows state.held.certs = run_stays rows (AreMarked rows) with_all without lines start replies state tt run in
+        ap (λ (certs : Certificates). record state.held { certs = certs }) (marked_anew rows state.held.certs all)

@@ -2,19 +2,26 @@
 use Rattle.std.proofs.Common.{◌≡◌, ◌⊎◌, inl, inr, ℕ, ◌+◌, ◌<◌, ◌≤◌, ◌^◌, List, [], ◌∷◌, ◌++◌, length, take, Option, Some, refl, sym, ap, ◌∙◌, append_assoc, arith, length-append}
 use Rattle.std.proofs.lemmas.List.{append-nil, take_at, take-append-le, append_cancel_left}
 use Rattle.std.proofs.Math.Seq.{take-append-add}
+use Rattle.std.proofs.lemmas.Grind.{flat_map-append}
 use Rattle.wot_io.specs.Input.{lines_of, whole_lines_of, HasNoFeed}
 use Rattle.wot_io.specs.Fill.{GivesOf, StopsOf}
+use Rattle.wot_script.specs.declared.reply.Reply.{Reply}
+use Rattle.wot_script.specs.Replies.{reply_text}
 use Rattle.wot_cache.specs.State.{State, start}
 use Rattle.wot_engine.specs.Law.{OneOutcome}
-use Rattle.wot_engine.specs.Step.{Step}
-use Rattle.wot_engine.specs.Transcript.{Run, RepliesTo, Answered, Begun, AnsweredWhole, AnsweredMost}
+use Rattle.wot_engine.specs.LineStep.{LineStep}
+use Rattle.wot_engine.specs.Transcript.{Run, RepliesTo, Answered, Begun, AnsweredWhole, AnsweredMost, listed, octets_of}
 use Rattle.wot_engine.proofs.Runs.{Run-some, Run-append}
 use Rattle.wot_engine.proofs.CutLines.{lines_of-feed, whole_lines_of-feed, whole_lines_of-none, lines_of-last}
 use Rattle.wot_policy.specs.declared.rows.PolicyRows.{PolicyRows}
 
+joined : (before : List ℕ) (some others : List Reply) → (before ++ octets_of some) ++ octets_of others ≡ before ++ octets_of (some ++ others)
+joined before some others =
+    append_assoc before (octets_of some) (octets_of others) ∙ ap (λ (x : List ℕ). before ++ x) (sym (flat_map-append reply_text some others))
+
 module _ (rows : PolicyRows) where
   -- whatever follows these octets, these are the lines in front
-  pub record IsFront (gone : List ℕ) (done : List (List ℕ)) : Type 0 where
+  pub record IsPrefix (gone : List ℕ) (done : List (List ℕ)) : Type 0 where
     pub lines : (x : List ℕ) → lines_of (gone ++ x) ≡ done ++ lines_of x
     pub whole : (x : List ℕ) → whole_lines_of (gone ++ x) ≡ done ++ whole_lines_of x
 
@@ -23,13 +30,13 @@ module _ (rows : PolicyRows) where
     pub gone : List ℕ
     pub rest : List ℕ
     pub done : List (List ℕ)
-    pub replies : List ℕ
+    pub replies : List Reply
     pub left_is : left ≡ Some rest
     pub count : taken + length rest ≡ length input
     pub parts : input ≡ gone ++ (held ++ rest)
     pub run : Run rows start done replies state
-    pub written_is : written ≡ Some (before ++ replies)
-    pub lines : IsFront gone done ⊎ ((taken < 2 ^ 30) × (held ++ rest ≡ []) × (lines_of input ≡ done))
+    pub written_is : written ≡ Some (before ++ octets_of replies)
+    pub lines : IsPrefix gone done ⊎ ((taken < 2 ^ 30) × (held ++ rest ≡ []) × (lines_of input ≡ done))
 
   pub starts : (input before : List ℕ) (left written : Option (List ℕ)) → left ≡ Some input → written ≡ Some before → Stands input before [] 0 left written start
   starts input before left written e f = record {
@@ -45,15 +52,16 @@ module _ (rows : PolicyRows) where
     lines = inl (record { lines = λ x. refl; whole = λ x. refl });
   }
 
-  Run-push : (lines : List (List ℕ)) (line replies reply : List ℕ) (old mid new : State) → Run rows old lines replies mid → Step rows mid line reply new → Run rows old (lines ++ line ∷ []) (replies ++ reply) new
+  Run-push : (lines : List (List ℕ)) (line : List ℕ) (replies : List Reply) (reply : Option Reply) (old mid new : State)
+      → Run rows old lines replies mid → LineStep rows mid line reply new → Run rows old (lines ++ line ∷ []) (replies ++ listed reply) new
   Run-push [] line replies reply old mid new r s =
-      let s' : Step rows old line reply new = rw r.1 at s in
-      (reply, new, [], s', (refl, refl), rw r.0 (sym (append-nil reply)))
+      let s' : LineStep rows old line reply new = rw r.1 at s in
+      (reply, new, [], s', (refl, refl), rw r.0 (sym (append-nil (listed reply))))
   Run-push (first ∷ lines) line replies reply old mid new r s =
-      (r.0, r.1, r.2 ++ reply, r.3, Run-push lines line r.2 reply r.1 mid new r.4 s, rw r.5 (append_assoc r.0 r.2 reply))
+      (r.0, r.1, r.2 ++ listed reply, r.3, Run-push lines line r.2 reply r.1 mid new r.4 s, rw r.5 (append_assoc (listed r.0) r.2 (listed reply)))
 
-  IsFront-push : (gone : List ℕ) (done : List (List ℕ)) (line : List ℕ) → HasNoFeed line → IsFront gone done → IsFront (gone ++ (line ++ 10 ∷ [])) (done ++ line ∷ [])
-  IsFront-push gone done line h f = record {
+  IsPrefix-push : (gone : List ℕ) (done : List (List ℕ)) (line : List ℕ) → HasNoFeed line → IsPrefix gone done → IsPrefix (gone ++ (line ++ 10 ∷ [])) (done ++ line ∷ [])
+  IsPrefix-push gone done line h f = record {
     lines = λ x. ap lines_of (regroup gone line x) ∙ f.lines (line ++ 10 ∷ x) ∙ ap (λ (ls : List (List ℕ)). done ++ ls) (lines_of-feed line x h) ∙ sym (append_assoc done (line ∷ []) (lines_of x));
     whole = λ x. ap whole_lines_of (regroup gone line x) ∙ f.whole (line ++ 10 ∷ x) ∙ ap (λ (ls : List (List ℕ)). done ++ ls) (whole_lines_of-feed line x h) ∙ sym (append_assoc done (line ∷ []) (whole_lines_of x));
   }
@@ -70,35 +78,35 @@ module _ (rows : PolicyRows) where
   nil-both (x ∷ xs) ys e = absurd cc
 
   -- one line on
-  pub goes_on : (input before held : List ℕ) (taken : ℕ) (left written : Option (List ℕ)) (state : State) (held' : List ℕ) (taken' : ℕ) (left' written' : Option (List ℕ)) (state' : State) (line reply : List ℕ)
-      → (s : Stands input before held taken left written state) → GivesOf held s.rest taken held' left' taken' line → Step rows state line reply state' → written' ≡ Some ((before ++ s.replies) ++ reply)
+  pub goes_on : (input before held : List ℕ) (taken : ℕ) (left written : Option (List ℕ)) (state : State) (held' : List ℕ) (taken' : ℕ) (left' written' : Option (List ℕ)) (state' : State) (line : List ℕ) (reply : Option Reply)
+      → (s : Stands input before held taken left written state) → GivesOf held s.rest taken held' left' taken' line → LineStep rows state line reply state' → written' ≡ Some ((before ++ octets_of s.replies) ++ octets_of (listed reply))
       → Stands input before held' taken' left' written' state'
   goes_on input before held taken left written state held' taken' left' written' state' line reply s g step w =
       elim s.lines [
-        | inl front ↦ elim g.cuts.parts [
+        | inl prefix ↦ elim g.cuts.parts [
           | inl feed ↦ record {
             gone = s.gone ++ (line ++ 10 ∷ []);
             rest = g.rest;
             done = s.done ++ line ∷ [];
-            replies = s.replies ++ reply;
+            replies = s.replies ++ listed reply;
             left_is = g.left_is;
             count = omega (arith, g.count, s.count);
             parts = s.parts ∙ ap (λ (x : List ℕ). s.gone ++ x) feed ∙ regroup s.gone line (held' ++ g.rest);
             run = Run-push s.done line s.replies reply start state state' s.run step;
-            written_is = w ∙ ap (λ (x : List ℕ). Some x) (append_assoc before s.replies reply);
-            lines = inl (IsFront-push s.gone s.done line g.cuts.no_feed front);
+            written_is = w ∙ ap (λ (x : List ℕ). Some x) (joined before s.replies (listed reply));
+            lines = inl (IsPrefix-push s.gone s.done line g.cuts.no_feed prefix);
           }
           | inr last ↦ record {
             gone = s.gone ++ line;
             rest = g.rest;
             done = s.done ++ line ∷ [];
-            replies = s.replies ++ reply;
+            replies = s.replies ++ listed reply;
             left_is = g.left_is;
             count = omega (arith, g.count, s.count);
             parts = s.parts ∙ ap (λ (x : List ℕ). s.gone ++ x) last.1 ∙ sym (ap (λ (x : List ℕ). (s.gone ++ line) ++ x) last.2 ∙ append-nil (s.gone ++ line));
             run = Run-push s.done line s.replies reply start state state' s.run step;
-            written_is = w ∙ ap (λ (x : List ℕ). Some x) (append_assoc before s.replies reply);
-            lines = inr (last.0, last.2, ap lines_of (s.parts ∙ ap (λ (x : List ℕ). s.gone ++ x) last.1) ∙ front.lines line ∙ ap (λ (ls : List (List ℕ)). s.done ++ ls) (lines_of-last line last.3 g.cuts.no_feed));
+            written_is = w ∙ ap (λ (x : List ℕ). Some x) (joined before s.replies (listed reply));
+            lines = inr (last.0, last.2, ap lines_of (s.parts ∙ ap (λ (x : List ℕ). s.gone ++ x) last.1) ∙ prefix.lines line ∙ ap (λ (ls : List (List ℕ)). s.done ++ ls) (lines_of-last line last.3 g.cuts.no_feed));
           }
         ]
         | inr ended ↦ elim g.cuts.parts [
@@ -114,15 +122,15 @@ module _ (rows : PolicyRows) where
   pub begins : (input before held : List ℕ) (taken : ℕ) (left written : Option (List ℕ)) (state : State) → (s : Stands input before held taken left written state) → (more : List (List ℕ)) × (lines_of input ≡ s.done ++ more)
   begins input before held taken left written state s =
       elim s.lines [
-        | inl front ↦ (lines_of (held ++ s.rest), ap lines_of s.parts ∙ front.lines (held ++ s.rest))
+        | inl prefix ↦ (lines_of (held ++ s.rest), ap lines_of s.parts ∙ prefix.lines (held ++ s.rest))
         | inr ended ↦ ([], ended.2 ∙ sym (append-nil s.done))
       ]
 
-  take-front : (lines done more : List (List ℕ)) → lines ≡ done ++ more → take (length done) lines ≡ done
-  take-front lines done more e = ap (take (length done)) e ∙ take_at done more (length done) refl
+  take-prefix : (lines done more : List (List ℕ)) → lines ≡ done ++ more → take (length done) lines ≡ done
+  take-prefix lines done more e = ap (take (length done)) e ∙ take_at done more (length done) refl
 
   -- The replies to the lines given, and to all others.
-  told_all : OneOutcome rows → (lines done more : List (List ℕ)) (replies : List ℕ) (state : State) → lines ≡ done ++ more → Run rows start done replies state → (others : List ℕ) × RepliesTo rows lines (replies ++ others)
+  told_all : OneOutcome rows → (lines done more : List (List ℕ)) (replies : List Reply) (state : State) → lines ≡ done ++ more → Run rows start done replies state → (others : List Reply) × RepliesTo rows lines (replies ++ others)
   told_all law lines done more replies state e r =
       let others = Run-some rows law more state in
       (others.0, record { last = others.1; run = rw e (Run-append rows done more start state others.1 replies others.0 r others.2) })
@@ -135,15 +143,20 @@ module _ (rows : PolicyRows) where
       record {
         replies = s.replies ++ all.0;
         told = all.1;
-        size = length s.replies;
-        written = s.written_is ∙ ap (λ (x : List ℕ). Some (before ++ x)) (sym (take_at s.replies all.0 (length s.replies) refl));
+        size = length (octets_of s.replies);
+        written = s.written_is ∙ ap (λ (x : List ℕ). Some (before ++ x)) (sym (first s.replies all.0));
       }
+    where
+      first : (some others : List Reply) → take (length (octets_of some)) (octets_of (some ++ others)) ≡ octets_of some
+      first some others =
+          ap (take (length (octets_of some))) (flat_map-append reply_text some others)
+          ∙ take_at (octets_of some) (octets_of others) (length (octets_of some)) refl
 
   -- the end
   pub at_end : (input before held : List ℕ) (taken : ℕ) (left written : Option (List ℕ)) (state : State) → (s : Stands input before held taken left written state) → held ≡ [] → s.rest ≡ [] → Answered rows (lines_of input) before written
   at_end input before held taken left written state s e f =
       let whole : lines_of input ≡ s.done = elim s.lines [
-        | inl front ↦ ap lines_of s.parts ∙ front.lines (held ++ s.rest) ∙ rw (e, f) (append-nil s.done)
+        | inl prefix ↦ ap lines_of s.parts ∙ prefix.lines (held ++ s.rest) ∙ rw (e, f) (append-nil s.done)
         | inr ended ↦ ended.2
       ] in
       record { replies = s.replies; told = record { last = state; run = rw whole s.run }; written = s.written_is }
@@ -153,10 +166,10 @@ module _ (rows : PolicyRows) where
       → AnsweredWhole rows input before left' written
   at_stop input before held taken left written state left' taken' s t =
       elim s.lines [
-        | inl front ↦ record {
+        | inl prefix ↦ record {
           octets = s.gone ++ t.passed;
           taken = record { rest = t.rest; input_is = s.parts ∙ ap (λ (x : List ℕ). s.gone ++ x) t.parts ∙ sym (append_assoc s.gone t.passed t.rest); left_is = t.left_is };
-          answered = inl (record { replies = s.replies; told = record { last = state; run = rw (whole s.gone t.passed s.done front t.no_feed) s.run }; written = s.written_is });
+          answered = inl (record { replies = s.replies; told = record { last = state; run = rw (whole s.gone t.passed s.done prefix t.no_feed) s.run }; written = s.written_is });
         }
         | inr ended ↦
             let both = nil-both t.passed t.rest (sym t.parts ∙ ended.1) in
@@ -167,20 +180,20 @@ module _ (rows : PolicyRows) where
             }
       ]
     where
-      whole : (gone passed : List ℕ) (done : List (List ℕ)) → IsFront gone done → HasNoFeed passed → whole_lines_of (gone ++ passed) ≡ done
+      whole : (gone passed : List ℕ) (done : List (List ℕ)) → IsPrefix gone done → HasNoFeed passed → whole_lines_of (gone ++ passed) ≡ done
       whole gone passed done f h = f.whole passed ∙ ap (λ (ls : List (List ℕ)). done ++ ls) (whole_lines_of-none passed h) ∙ append-nil done
 
   pub at_most : (input before held : List ℕ) (taken : ℕ) (left written : Option (List ℕ)) (state : State) (left' : Option (List ℕ)) (taken' : ℕ) → (s : Stands input before held taken left written state) → StopsOf held s.rest taken left' taken'
       → taken' ≡ 2 ^ 30 → AnsweredMost rows input before left' written
   at_most input before held taken left written state left' taken' s t n =
       elim s.lines [
-        | inl front ↦
+        | inl prefix ↦
             let input_is : input ≡ (s.gone ++ t.passed) ++ t.rest = s.parts ∙ ap (λ (x : List ℕ). s.gone ++ x) t.parts ∙ sym (append_assoc s.gone t.passed t.rest) in
             record {
               octets = s.gone ++ t.passed;
               taken = record { rest = t.rest; input_is = input_is; left_is = t.left_is };
               size = omega (arith, t.count, s.count, n, ap length input_is, length-append (s.gone ++ t.passed) t.rest);
-              answered = record { replies = s.replies; told = record { last = state; run = rw (whole s.gone t.passed s.done front t.no_feed) s.run }; written = s.written_is };
+              answered = record { replies = s.replies; told = record { last = state; run = rw (whole s.gone t.passed s.done prefix t.no_feed) s.run }; written = s.written_is };
             }
         | inr ended ↦
             let both = nil-both t.passed t.rest (sym t.parts ∙ ended.1) in
@@ -188,7 +201,7 @@ module _ (rows : PolicyRows) where
             absurd (omega (arith, t.count, n, ended.0, ap length both.1, ap length held-is.1))
       ]
     where
-      whole : (gone passed : List ℕ) (done : List (List ℕ)) → IsFront gone done → HasNoFeed passed → whole_lines_of (gone ++ passed) ≡ done
+      whole : (gone passed : List ℕ) (done : List (List ℕ)) → IsPrefix gone done → HasNoFeed passed → whole_lines_of (gone ++ passed) ≡ done
       whole gone passed done f h = f.whole passed ∙ ap (λ (ls : List (List ℕ)). done ++ ls) (whole_lines_of-none passed h) ∙ append-nil done
 
   -- a part of the last reply
@@ -197,19 +210,23 @@ module _ (rows : PolicyRows) where
   takes_more law input before held taken left state replies reply n written s le w =
       let m = begins input before held taken left (Some ((before ++ replies) ++ reply)) state s in
       let all = told_all law (lines_of input) s.done m.0 s.replies state m.1 s.run in
-      let same : before ++ s.replies ≡ before ++ (replies ++ reply) = some-is (before ++ s.replies) (before ++ (replies ++ reply)) (sym s.written_is ∙ ap (λ (x : List ℕ). Some x) (append_assoc before replies reply)) in
-      let parts : s.replies ≡ replies ++ reply = append_cancel_left before s.replies (replies ++ reply) same in
+      let same : before ++ octets_of s.replies ≡ before ++ (replies ++ reply) = some-is (before ++ octets_of s.replies) (before ++ (replies ++ reply)) (sym s.written_is ∙ ap (λ (x : List ℕ). Some x) (append_assoc before replies reply)) in
+      let parts : octets_of s.replies ≡ replies ++ reply = append_cancel_left before (octets_of s.replies) (replies ++ reply) same in
       record {
         replies = s.replies ++ all.0;
         told = all.1;
         size = length replies + n;
-        written = w ∙ ap (λ (x : List ℕ). Some x) (append_assoc before replies (take n reply) ∙ ap (λ (x : List ℕ). before ++ x) (sym (cut replies reply all.0 s.replies n le parts)));
+        written = w ∙ ap (λ (x : List ℕ). Some x) (append_assoc before replies (take n reply) ∙ ap (λ (x : List ℕ). before ++ x) (sym (cut replies reply s.replies all.0 n le parts)));
       }
     where
       some-is : (x y : List ℕ) → Some x ≡ Some y → x ≡ y
       some-is x y e = cc
 
-      cut : (replies reply others all : List ℕ) (n : ℕ) → n ≤ length reply → all ≡ replies ++ reply → take (length replies + n) (all ++ others) ≡ replies ++ take n reply
-      cut replies reply others all n le e =
-          ap (λ (x : List ℕ). take (length replies + n) (x ++ others)) e ∙ ap (take (length replies + n)) (append_assoc replies reply others)
-          ∙ take-append-add replies (reply ++ others) n ∙ ap (λ (x : List ℕ). replies ++ x) (take-append-le n reply others le)
+      cut : (replies reply : List ℕ) (all others : List Reply) (n : ℕ) → n ≤ length reply → octets_of all ≡ replies ++ reply
+          → take (length replies + n) (octets_of (all ++ others)) ≡ replies ++ take n reply
+      cut replies reply all others n le e =
+          ap (take (length replies + n)) (flat_map-append reply_text all others)
+          ∙ ap (λ (x : List ℕ). take (length replies + n) (x ++ octets_of others)) e
+          ∙ ap (take (length replies + n)) (append_assoc replies reply (octets_of others))
+          ∙ take-append-add replies (reply ++ octets_of others) n
+          ∙ ap (λ (x : List ℕ). replies ++ x) (take-append-le n reply (octets_of others) le)

@@ -15,8 +15,8 @@ use Rattle.wot_cache.specs.declared.view.ViewFault.{ViewFault}
 use Rattle.wot_cache.specs.declared.view.ViewFault.TheVariants as faults
 use Rattle.wot_cache.specs.State.{State, Engine, state_of}
 use Rattle.wot_cache.specs.Views.{TellsFault}
-use Rattle.wot_engine.specs.Outcome.{unless, view_refusal, refusal, import, judge}
-use Rattle.wot_engine.specs.Step.{Gives}
+use Rattle.wot_engine.specs.Outcome.{unless, view_refusal, refusal, import, set_verdict}
+use Rattle.wot_engine.specs.LineStep.{Gives}
 
 pub if_ok : {A E : Type 0} (r : Result A E) (P Q : A → Type 0) → ((a : A) → P a → Q a) → IfOk r P → IfOk r Q
 if_ok (Ok a) P Q f p = f a p
@@ -32,12 +32,12 @@ view_gives s new changed o faults.Memory reply tells same is = absurd (is.1 refl
 pub import_gives : (rows : PolicyRows) (old new : Engine) (octets : List ℕ) (told : Refusal) (reply : Reply) → old.keyring.limits ≡ standard_limits
     → Answers (Err told) rows old.keyring octets → new ≡ old → (reply ≡ refusal told) × (told ≢ refusals.Memory) → Gives (import rows (state_of old) octets) reply (state_of new)
 import_gives rows old new octets told reply std (inl e) same is =
-    let e' : Err told ≡ answer_to rows standard_limits (state_of old).certs octets = rw std at e in
+    let e' : Err told ≡ answer_to rows standard_limits (state_of old).held.certs octets = rw std at e in
     rw (← e', same) (is.0, refl)
 import_gives rows old new octets told reply std (inr e) same is = let m : told ≡ refusals.Memory = cc in absurd (is.1 m)
 
 pub judge_gives : (old new : Engine) (number : SigNumber) (v : Verdict) (told : Refusal) (reply : Reply) → old.keyring.limits ≡ standard_limits
-    → TellsFull {T = Unit {0}} (Err told) old.keyring number → new ≡ old → (reply ≡ refusal told) × (told ≢ refusals.Memory) → Gives (judge (state_of old) number v) reply (state_of new)
+    → TellsFull {T = Unit {0}} (Err told) old.keyring number → new ≡ old → (reply ≡ refusal told) × (told ≢ refusals.Memory) → Gives (set_verdict (state_of old) number v) reply (state_of new)
 judge_gives old new number v (refusals.Full words.Verdicts) reply std tells same is =
     let over : is_over standard_limits old.keyring.verdicts number ≡ true = rw std at tells in
     rw (over, same) (is.0, refl)

@@ -1,7 +1,7 @@
 -- A reply stays one by equal rows, and to an equal text.
 use Rattle.std.proofs.Common.{◌≡◌, ◌≢◌, ℕ, ◌+◌, ◌-◌, ◌≤◌, ◌^◌, List, [], length, Option, None, ap, sym, subst, arith}
 use Rattle.wot_types.specs.Limits.{standard_limits}
-use Rattle.wot_io.specs.Reading.{Reading}
+use Rattle.wot_io.specs.ReaderState.{ReaderState}
 use Rattle.wot_io.specs.declared.lines.Line.TheVariants.{End}
 use Rattle.wot_io.specs.declared.lines.Line.{Line}
 use Rattle.wot_policy.specs.declared.rows.PolicyRows.{PolicyRows}
@@ -16,30 +16,30 @@ answered a b line text other old reply new e f r =
 
 -- a line that has a reply isn't the end
 pub not_end : (rows : PolicyRows) (line : Line) (text : List ℕ) (old : State) (reply : List ℕ) (new : State) → Replies rows line text old reply new → line ≢ End
-not_end rows line text old reply new r = λ e. absurd (subst (λ (l : Line). Replies rows l text old reply new) e r)
+not_end rows line text old reply new r = λ e. let r' : Replies rows End text old reply new = subst (λ (l : Line). Replies rows l text old reply new) e r in absurd r'.does
 
 -- ---- a run that begins
 
 -- the reader before the first line
-abbrev pub fresh : Reading
+abbrev pub fresh : ReaderState
 fresh = record { held = []; text = []; taken = 0; fault = None }
 
-pub begins : (rows : PolicyRows) (left written : Option (List ℕ)) (lines : Reading) (machine : Engine) → lines ≡ fresh → machine ≡ empty standard_limits
+pub begins : (rows : PolicyRows) (left written : Option (List ℕ)) (lines : ReaderState) (machine : Engine) → lines ≡ fresh → machine ≡ empty standard_limits
     → Stood rows left written lines.held lines.taken left written (state_of machine)
 begins rows left written lines machine e m =
-    subst (λ (r : Reading). Stood rows left written r.held r.taken left written (state_of machine)) (sym e)
+    subst (λ (r : ReaderState). Stood rows left written r.held r.taken left written (state_of machine)) (sym e)
     (subst (λ (x : Engine). Stood rows left written [] 0 left written (state_of x)) (sym m) (Stood-init rows left written))
 
-pub no_fault : (lines : Reading) → lines ≡ fresh → lines.fault ≡ None
-no_fault lines e = ap (λ (r : Reading). r.fault) e
+pub no_fault : (lines : ReaderState) → lines ≡ fresh → lines.fault ≡ None
+no_fault lines e = ap (λ (r : ReaderState). r.fault) e
 
-pub within : (lines : Reading) → lines ≡ fresh → lines.taken ≤ 2 ^ 30
-within lines e = let t : lines.taken ≡ 0 = ap (λ (r : Reading). r.taken) e in omega (arith, t)
+pub within : (lines : ReaderState) → lines ≡ fresh → lines.taken ≤ 2 ^ 30
+within lines e = let t : lines.taken ≡ 0 = ap (λ (r : ReaderState). r.taken) e in omega (arith, t)
 
-pub counted : (lines : Reading) (machine : Engine) → lines ≡ fresh → machine ≡ empty standard_limits → machine.keyring.changes + ((2 ^ 30 - lines.taken) + length lines.held) ≤ 2 ^ 30
+pub counted : (lines : ReaderState) (machine : Engine) → lines ≡ fresh → machine ≡ empty standard_limits → machine.keyring.changes + ((2 ^ 30 - lines.taken) + length lines.held) ≤ 2 ^ 30
 counted lines machine e m =
-    let t : lines.taken ≡ 0 = ap (λ (r : Reading). r.taken) e in
-    let h : length lines.held ≡ 0 = ap (λ (r : Reading). length r.held) e in
+    let t : lines.taken ≡ 0 = ap (λ (r : ReaderState). r.taken) e in
+    let h : length lines.held ≡ 0 = ap (λ (r : ReaderState). length r.held) e in
     let n : machine.keyring.changes ≡ 0 = ap (λ (x : Engine). x.keyring.changes) m in
     omega (arith, t, h, n)
 

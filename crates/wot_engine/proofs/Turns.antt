@@ -1,20 +1,23 @@
 -- The turns of a run, where both contents are told.
 use Rattle.std.proofs.Common.{◌≡◌, inl, inr, ℕ, ◌+◌, ◌<◌, ◌^◌, List, [], ◌++◌, length, take, Option, Some, None, refl, sym, ap, subst, ◌∙◌, append_assoc, arith, length-append}
 use Rattle.std.proofs.lemmas.List.{append_cancel_left, append_cancel_right, length-take}
+use Rattle.std.proofs.lemmas.Grind.{flat_map-append}
 use Rattle.std.specs.Prelude.{IfSome}
 use Rattle.wot_io.specs.Input.{lines_of, whole_lines_of}
 use Rattle.wot_io.specs.Fill.{GivesOf, Stops}
 use Rattle.wot_io.specs.Sink.{Becomes, GainsPrefix}
-use Rattle.wot_io.specs.Reading.{Reading}
+use Rattle.wot_io.specs.ReaderState.{ReaderState}
 use Rattle.wot_io.specs.Given as given
 use Rattle.wot_io.specs.declared.lines.Line.{Line}
 use Rattle.wot_io.specs.declared.lines.Line.TheVariants.{Text, Long, End}
+use Rattle.wot_script.specs.declared.reply.Reply.{Reply}
+use Rattle.wot_script.specs.Replies.{reply_text}
 use Rattle.wot_cache.specs.State.{State, start}
 use Rattle.wot_engine.specs.Law.{OneOutcome}
-use Rattle.wot_engine.specs.Step.{Step}
+use Rattle.wot_engine.specs.LineStep.{LineStep}
 use Rattle.wot_engine.specs.Turn.{Replies}
-use Rattle.wot_engine.specs.Transcript.{Run, Answered, Begun, AnsweredWhole, AnsweredMost, Told}
-use Rattle.wot_engine.proofs.Runs.{Run-one, Run-front}
+use Rattle.wot_engine.specs.Transcript.{Run, Answered, Begun, AnsweredWhole, AnsweredMost, Told, listed, octets_of}
+use Rattle.wot_engine.proofs.Runs.{Run-one, Run-prefix}
 use Rattle.wot_engine.proofs.Progress.{Stands, starts, goes_on, so_far, at_end, at_stop, at_most, takes_more}
 use Rattle.wot_policy.specs.declared.rows.PolicyRows.{PolicyRows}
 
@@ -28,7 +31,7 @@ module _ (rows : PolicyRows) where
   Stood-init (Some input) (Some before) = starts rows input before (Some input) (Some before) refl refl
 
   -- a line was given, and its reply is there
-  pub record Turned (input before : List ℕ) (held' : List ℕ) (taken' : ℕ) (left' written : Option (List ℕ)) (reply : List ℕ) (state' : State) : Type 0 where
+  pub record Turned (input before : List ℕ) (held' : List ℕ) (taken' : ℕ) (left' written : Option (List ℕ)) (octets : List ℕ) (state' : State) : Type 0 where
     pub held : List ℕ
     pub taken : ℕ
     pub left : Option (List ℕ)
@@ -36,23 +39,25 @@ module _ (rows : PolicyRows) where
     pub line : List ℕ
     pub stands : Stands rows input before held taken left written state
     pub gives : GivesOf held stands.rest taken held' left' taken' line
-    pub step : Step rows state line reply state'
+    pub reply : Option Reply
+    pub step : LineStep rows state line reply state'
+    pub octets_are : octets ≡ octets_of (listed reply)
 
-  turned : (input before : List ℕ) (old : Reading) (left written : Option (List ℕ)) (state : State) (new : Reading) (left' : Option (List ℕ)) (state' : State) (line : Line) (reply : List ℕ)
+  turned : (input before : List ℕ) (old : ReaderState) (left written : Option (List ℕ)) (state : State) (new : ReaderState) (left' : Option (List ℕ)) (state' : State) (line : Line) (reply : List ℕ)
       → Stands rows input before old.held old.taken left written state → given.Answers line old left new left' → Replies rows line new.text state reply state'
       → Turned input before new.held new.taken left' written reply state'
   turned input before old left written state new left' state' Text reply s a r =
       let a' = rw s.left_is at a in
-      record { held = old.held; taken = old.taken; left = left; state = state; line = new.text; stands = s; gives = a'.0; step = r }
+      record { held = old.held; taken = old.taken; left = left; state = state; line = new.text; stands = s; gives = a'.0; reply = r.reply; step = r.does; octets_are = r.octets_are }
   turned input before old left written state new left' state' Long reply s a r =
       let a' = rw s.left_is at a in
-      record { held = old.held; taken = old.taken; left = left; state = state; line = a'.0; stands = s; gives = a'.2; step = r a'.0 a'.1 }
-  turned input before old left written state new left' state' End reply s a r = absurd r
+      record { held = old.held; taken = old.taken; left = left; state = state; line = a'.0; stands = s; gives = a'.2; reply = r.reply; step = r.does a'.0 a'.1; octets_are = r.octets_are }
+  turned input before old left written state new left' state' End reply s a r = absurd r.does
 
   pub Turns : Option (List ℕ) → Option (List ℕ) → List ℕ → ℕ → Option (List ℕ) → Option (List ℕ) → List ℕ → State → Type 0
   Turns left0 written0 held' taken' left' written reply state' = Told left0 written0 (λ input before. Turned input before held' taken' left' written reply state')
 
-  pub Turns-reply : (left0 written0 : Option (List ℕ)) (old : Reading) (left written : Option (List ℕ)) (state : State) (new : Reading) (left' : Option (List ℕ)) (state' : State) (line : Line) (reply : List ℕ)
+  pub Turns-reply : (left0 written0 : Option (List ℕ)) (old : ReaderState) (left written : Option (List ℕ)) (state : State) (new : ReaderState) (left' : Option (List ℕ)) (state' : State) (line : Line) (reply : List ℕ)
       → Stood left0 written0 old.held old.taken left written state → given.Answers line old left new left' → Replies rows line new.text state reply state'
       → Turns left0 written0 new.held new.taken left' written reply state'
   unfolding Turns
@@ -67,7 +72,8 @@ module _ (rows : PolicyRows) where
   Stood-write (Some input) None held' taken' left' written reply state' written' t b = tt
   Stood-write (Some input) (Some before) held' taken' left' written reply state' written' t b =
       let b' = rw t.stands.written_is at b in
-      goes_on rows input before t.held t.taken t.left written t.state held' taken' left' written' state' t.line reply t.stands t.gives t.step b'
+      goes_on rows input before t.held t.taken t.left written t.state held' taken' left' written' state' t.line t.reply t.stands t.gives t.step
+      (b' ∙ ap (λ (x : List ℕ). Some ((before ++ octets_of t.stands.replies) ++ x)) t.octets_are)
 
   pub Begun-cut : OneOutcome rows → (left0 written0 : Option (List ℕ)) (held' : List ℕ) (taken' : ℕ) (left' written : Option (List ℕ)) (reply : List ℕ) (state' : State) (written' : Option (List ℕ))
       → Turns left0 written0 held' taken' left' written reply state' → IfSome written (λ old. GainsPrefix old written' reply) → Told left0 written0 (λ input before. Begun rows (lines_of input) before written')
@@ -76,8 +82,9 @@ module _ (rows : PolicyRows) where
   Begun-cut law (Some input) None held' taken' left' written reply state' written' t b = tt
   Begun-cut law (Some input) (Some before) held' taken' left' written reply state' written' t b =
       let b' = rw t.stands.written_is at b in
-      let whole = goes_on rows input before t.held t.taken t.left written t.state held' taken' left' (Some ((before ++ t.stands.replies) ++ reply)) state' t.line reply t.stands t.gives t.step refl in
-      takes_more rows law input before held' taken' left' state' t.stands.replies reply b'.0 written' whole (omega (arith, b'.1)) b'.2
+      let whole = goes_on rows input before t.held t.taken t.left written t.state held' taken' left' (Some ((before ++ octets_of t.stands.replies) ++ reply)) state' t.line t.reply t.stands t.gives t.step
+      (ap (λ (x : List ℕ). Some ((before ++ octets_of t.stands.replies) ++ x)) t.octets_are) in
+      takes_more rows law input before held' taken' left' state' (octets_of t.stands.replies) reply b'.0 written' whole (omega (arith, b'.1)) b'.2
 
   pub Begun-here : OneOutcome rows → (left0 written0 : Option (List ℕ)) (held : List ℕ) (taken : ℕ) (left written : Option (List ℕ)) (state : State) → Stood left0 written0 held taken left written state
       → Told left0 written0 (λ input before. Begun rows (lines_of input) before written)
@@ -85,7 +92,7 @@ module _ (rows : PolicyRows) where
   Begun-here law (Some input) None held taken left written state s = tt
   Begun-here law (Some input) (Some before) held taken left written state s = so_far rows law input before held taken left written state s
 
-  pub Answered-end : (left0 written0 : Option (List ℕ)) (old : Reading) (left written : Option (List ℕ)) (state : State) (new : Reading) (left' : Option (List ℕ))
+  pub Answered-end : (left0 written0 : Option (List ℕ)) (old : ReaderState) (left written : Option (List ℕ)) (state : State) (new : ReaderState) (left' : Option (List ℕ))
       → Stood left0 written0 old.held old.taken left written state → given.Answers End old left new left' → Told left0 written0 (λ input before. Answered rows (lines_of input) before written × (left' ≡ Some []))
   Answered-end None written0 old left written state new left' s e = tt
   Answered-end (Some input) None old left written state new left' s e = tt
@@ -109,8 +116,8 @@ module _ (rows : PolicyRows) where
   some-is : (x y : List ℕ) → Some x ≡ Some y → x ≡ y
   some-is x y e = cc
 
-  cut_size : (before replies reply front others : List ℕ) (n : ℕ) → n < length reply → Some ((before ++ replies) ++ take n reply) ≡ Some (before ++ ((replies ++ reply) ++ others)) → ⊥
-  cut_size before replies reply front others n lt e =
+  cut_size : (before replies reply prefix others : List ℕ) (n : ℕ) → n < length reply → Some ((before ++ replies) ++ take n reply) ≡ Some (before ++ ((replies ++ reply) ++ others)) → ⊥
+  cut_size before replies reply prefix others n lt e =
       let f : length ((before ++ replies) ++ take n reply) ≡ length (before ++ ((replies ++ reply) ++ others)) = ap length (some-is ((before ++ replies) ++ take n reply) (before ++ ((replies ++ reply) ++ others)) e) in
       absurd (omega (arith, lt, f, length-append (before ++ replies) (take n reply), length-append before replies, length-append before ((replies ++ reply) ++ others), length-append (replies ++ reply) others, length-append replies reply, length-take n reply))
 
@@ -120,18 +127,19 @@ module _ (rows : PolicyRows) where
   cut_most law input before held taken left state replies reply n written s lt w a =
       let rests : s.rest ≡ a.taken.rest = some-is s.rest a.taken.rest (sym s.left_is ∙ a.taken.left_is) in
       let size : taken ≡ 2 ^ 30 = omega (arith, s.count, a.size, ap length rests, ap length a.taken.input_is, length-append a.octets a.taken.rest) in
-      let same : before ++ s.replies ≡ before ++ (replies ++ reply) = some-is (before ++ s.replies) (before ++ (replies ++ reply)) (sym s.written_is ∙ ap (λ (x : List ℕ). Some x) (append_assoc before replies reply)) in
-      let all : s.replies ≡ replies ++ reply = append_cancel_left before s.replies (replies ++ reply) same in
+      let same : before ++ octets_of s.replies ≡ before ++ (replies ++ reply) = some-is (before ++ octets_of s.replies) (before ++ (replies ++ reply)) (sym s.written_is ∙ ap (λ (x : List ℕ). Some x) (append_assoc before replies reply)) in
+      let all : octets_of s.replies ≡ replies ++ reply = append_cancel_left before (octets_of s.replies) (replies ++ reply) same in
       elim s.lines [
-        | inl front ↦
+        | inl prefix ↦
             let parts : a.octets ++ a.taken.rest ≡ (s.gone ++ held) ++ a.taken.rest = sym a.taken.input_is ∙ s.parts ∙ sym (append_assoc s.gone held s.rest) ∙ ap (λ (x : List ℕ). (s.gone ++ held) ++ x) rests in
             let octets : a.octets ≡ s.gone ++ held = append_cancel_right a.octets (s.gone ++ held) a.taken.rest parts in
-            let lines : whole_lines_of a.octets ≡ s.done ++ whole_lines_of held = ap whole_lines_of octets ∙ front.whole held in
+            let lines : whole_lines_of a.octets ≡ s.done ++ whole_lines_of held = ap whole_lines_of octets ∙ prefix.whole held in
             let run : Run rows start (s.done ++ whole_lines_of held) a.answered.replies a.answered.told.last = subst (λ (ls : List (List ℕ)). Run rows start ls a.answered.replies a.answered.told.last) lines a.answered.told.run in
-            let first = Run-front rows s.done (whole_lines_of held) start a.answered.replies a.answered.told.last run in
+            let first = Run-prefix rows s.done (whole_lines_of held) start a.answered.replies a.answered.told.last run in
             let one = Run-one rows law s.done start tt first.0 s.replies first.1 state first.3 s.run in
-            let whole : a.answered.replies ≡ (replies ++ reply) ++ first.2 = first.4 ∙ ap (λ (x : List ℕ). x ++ first.2) (one.0 ∙ all) in
-            cut_size before replies reply [] first.2 n lt (sym w ∙ a.answered.written ∙ ap (λ (x : List ℕ). Some (before ++ x)) whole)
+            let whole : octets_of a.answered.replies ≡ (replies ++ reply) ++ octets_of first.2 =
+            ap octets_of first.4 ∙ flat_map-append reply_text first.0 first.2 ∙ ap (λ (x : List ℕ). x ++ octets_of first.2) (ap octets_of one.0 ∙ all) in
+            cut_size before replies reply [] (octets_of first.2) n lt (sym w ∙ a.answered.written ∙ ap (λ (x : List ℕ). Some (before ++ x)) whole)
         | inr ended ↦ absurd (omega (arith, ended.0, size))
       ]
 
@@ -149,10 +157,11 @@ module _ (rows : PolicyRows) where
   Most-cut law (Some input) None held' taken' left' written reply state' written' t b = tt
   Most-cut law (Some input) (Some before) held' taken' left' written reply state' written' t b =
       let b' = rw t.stands.written_is at b in
-      let whole = goes_on rows input before t.held t.taken t.left written t.state held' taken' left' (Some ((before ++ t.stands.replies) ++ reply)) state' t.line reply t.stands t.gives t.step refl in
-      λ a. cut_most law input before held' taken' left' state' t.stands.replies reply b'.0 written' whole b'.1 b'.2 a
+      let whole = goes_on rows input before t.held t.taken t.left written t.state held' taken' left' (Some ((before ++ octets_of t.stands.replies) ++ reply)) state' t.line t.reply t.stands t.gives t.step
+      (ap (λ (x : List ℕ). Some ((before ++ octets_of t.stands.replies) ++ x)) t.octets_are) in
+      λ a. cut_most law input before held' taken' left' state' (octets_of t.stands.replies) reply b'.0 written' whole b'.1 b'.2 a
 
-  pub Most-end : (left0 written0 : Option (List ℕ)) (old : Reading) (left written : Option (List ℕ)) (state : State) (new : Reading) (left' : Option (List ℕ))
+  pub Most-end : (left0 written0 : Option (List ℕ)) (old : ReaderState) (left written : Option (List ℕ)) (state : State) (new : ReaderState) (left' : Option (List ℕ))
       → Stood left0 written0 old.held old.taken left written state → given.Answers End old left new left' → Told left0 written0 (λ input before. AnsweredMost rows input before left' written → ⊥)
   Most-end None written0 old left written state new left' s e = tt
   Most-end (Some input) None old left written state new left' s e = tt

@@ -12,7 +12,8 @@ use Rattle.wot_script.specs.declared.reply.AnswerLine.TheVariants as lines
 use Rattle.wot_script.specs.declared.reply.Reply.{Reply}
 use Rattle.wot_script.specs.declared.reply.Reply.TheVariants as replies
 use Rattle.wot_cache.specs.declared.view.View.{View}
-use Rattle.wot_cache.specs.State.{State, cert_in}
+use Rattle.wot_keyring.specs.Held.{cert_in}
+use Rattle.wot_cache.specs.State.{State}
 use Rattle.wot_cache.specs.Question.{question_in}
 
 -- the user ID at a place of a certificate
@@ -20,7 +21,7 @@ abbrev pub uid_in : ℕ → Certificate → List ℕ
 uid_in place c = option_map_or (λ (p : Component). p.body) (slice_get c.user_ids place) []
 
 abbrev pub uid_at : State → Fpr → ℕ → List ℕ
-uid_at s target place = option_map_or (uid_in place) (cert_in s target) []
+uid_at s target place = option_map_or (uid_in place) (cert_in s.held target) []
 
 -- a step's line, with the user ID that its edge is on
 abbrev pub step_line : State → Step → AnswerLine

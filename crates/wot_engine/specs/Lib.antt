@@ -1,8 +1,11 @@
 pub mod Lines
 pub mod Outcome
+pub mod Refused
 pub mod Answer
-pub mod Step
+pub mod Listing
+pub mod LineStep
 pub mod Law
 pub mod Transcript
 pub mod Turn
 pub mod Fresh
+pub mod Depends

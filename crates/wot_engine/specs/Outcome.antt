@@ -18,7 +18,8 @@ use Rattle.wot_keyring.specs.declared.import.Imported.{Imported}
 use Rattle.wot_keyring.specs.declared.refusal.Refusal.{Refusal}
 use Rattle.wot_keyring.specs.declared.refusal.Refusal.TheVariants as refusals
 use Rattle.wot_keyring.specs.Dump.{lines_of}
-use Rattle.wot_keyring.specs.Import.{answer_to}
+use Rattle.wot_keyring.specs.Held.{cert_in, removing, verdict_set, verdict_cleared}
+use Rattle.wot_keyring.specs.Import.{answer_to, importing}
 use Rattle.wot_keyring.specs.Verdict.{is_over}
 use Rattle.wot_script.specs.declared.reply.KeyLine.{KeyLine}
 use Rattle.wot_script.specs.declared.reply.Reply.{Reply}
@@ -26,7 +27,7 @@ use Rattle.wot_script.specs.declared.reply.Reply.TheVariants as replies
 use Rattle.wot_cache.specs.declared.view.ViewFault.{ViewFault}
 use Rattle.wot_cache.specs.declared.view.ViewFault.TheVariants as faults
 use Rattle.wot_cache.specs.Views.{view_at, time_fault, root_fault}
-use Rattle.wot_cache.specs.State.{State, cert_in, importing, removing, judging, unjudging, timing, rooting, closing}
+use Rattle.wot_cache.specs.State.{State, with_held, timing, rooting, closing}
 use Rattle.wot_cache.specs.Dump.{commands_of}
 
 -- a reply, and the state after it
@@ -48,8 +49,8 @@ done s = record { reply = replies.Done; state = s }
 abbrev pub cert_refusal : CertFault → Reply
 cert_refusal certs.Compressed = replies.Compressed
 cert_refusal certs.Secret = replies.Secret
-cert_refusal (certs.Kind kind place) = replies.Kind kind place
-cert_refusal (certs.Order place) = replies.Order place
+cert_refusal (certs.Kind kind offset) = replies.Kind kind offset
+cert_refusal (certs.Order offset) = replies.Order offset
 cert_refusal certs.Empty = replies.Empty
 cert_refusal certs.Memory = replies.Empty
 
@@ -63,27 +64,28 @@ refusal (refusals.Full limit) = replies.Full limit
 refusal refusals.Memory = replies.Clash
 
 abbrev pub imports : PolicyRows → State → List ℕ → Result Imported Refusal → Outcome
-imports rows s octets (Ok counts) = record { reply = replies.Taken counts.taken counts.skipped counts.fresh; state = importing rows octets s }
+imports rows s octets (Ok counts) = record { reply = replies.Taken counts.taken counts.skipped counts.fresh; state = with_held s (importing rows octets s.held) }
 imports rows s octets (Err told) = only s (refusal told)
 
 -- `import`: the certificates of the octets are taken, all or none
 abbrev pub import : PolicyRows → State → List ℕ → Outcome
-import rows s octets = imports rows s octets (answer_to rows standard_limits s.certs octets)
+import rows s octets = imports rows s octets (answer_to rows standard_limits s.held.certs octets)
 
 -- ---- certificates and verdicts
 
 -- `drop`
 abbrev pub remove : State → Fpr → Outcome
-remove s fpr = if is_some (cert_in s fpr) then done (removing fpr s) else only s replies.Absent
+remove s fpr = if is_some (cert_in s.held fpr) then done (with_held s (removing fpr s.held)) else only s replies.Absent
 
 -- `verdict NUM good FPR` and `verdict NUM bad`
-abbrev pub judge : State → SigNumber → Verdict → Outcome
-judge s number verdict =
-    if is_over standard_limits s.verdicts number then only s (replies.Full words.Verdicts) else done (judging number verdict s)
+abbrev pub set_verdict : State → SigNumber → Verdict → Outcome
+set_verdict s number verdict =
+    if is_over standard_limits s.held.verdicts number then only s (replies.Full words.Verdicts)
+    else done (with_held s (verdict_set number verdict s.held))
 
 -- `verdict NUM none`
-abbrev pub unjudge : State → SigNumber → Outcome
-unjudge s number = if is_some (verdict_at s.verdicts number) then done (unjudging number s) else only s replies.Absent
+abbrev pub clear_verdict : State → SigNumber → Outcome
+clear_verdict s number = if is_some (verdict_at s.held.verdicts number) then done (with_held s (verdict_cleared number s.held)) else only s replies.Absent
 
 -- ---- views
 
@@ -114,12 +116,12 @@ close s view = if is_some (view_at s.views view) then done (closing view s) else
 -- ---- listing
 
 -- a certificate's line: its fingerprint, and how many user IDs and signatures it has
-abbrev pub line_of : Certificate → KeyLine
-line_of c = record { 0 = fpr_of c.key; 1 = length c.user_ids; 2 = signatures_of c }
+abbrev pub key_line_of : Certificate → KeyLine
+key_line_of c = record { 0 = fpr_of c.key; 1 = length c.user_ids; 2 = signatures_of c }
 
 -- `keys`: a line for each certificate, in the order of the fingerprints
 abbrev pub keys : State → Outcome
-keys s = only s (replies.Keys (length s.certs) (map (λ (e : Fpr × Certificate). line_of e.1) s.certs))
+keys s = only s (replies.Keys (length s.held.certs) (map (λ (e : Fpr × Certificate). key_line_of e.1) s.held.certs))
 
 abbrev pub exported : Option Certificate → Reply
 exported (Some c) = replies.Export (text_of c)
@@ -127,7 +129,7 @@ exported None = replies.Absent
 
 -- `export`
 abbrev pub export : State → Fpr → Outcome
-export s fpr = only s (exported (cert_in s fpr))
+export s fpr = only s (exported (cert_in s.held fpr))
 
 -- `dump`: the commands that make this state anew, each on its line
 abbrev pub dump : State → Outcome

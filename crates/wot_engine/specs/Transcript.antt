@@ -1,43 +1,67 @@
--- Whole runs: the lines of an input, and what is written for them.
-use Rattle.std.specs.Prelude.{◌≡◌, ◌⊎◌, ℕ, ◌^◌, List, [], ◌∷◌, ◌++◌, length, take, Option, Some, None, codes}
+-- Whole runs: the lines of an input, their replies, and what is written for them.
+use Rattle.std.specs.Prelude.{◌≡◌, ◌⊎◌, ◌≤◌, ℕ, ◌^◌, List, [], ◌∷◌, ◌++◌, length, take, Option, Some, None, codes}
+use Rattle.std.specs.List.{flat_map}
 use Rattle.wot_io.specs.Input.{lines_of, whole_lines_of}
 use Rattle.wot_policy.specs.declared.rows.PolicyRows.{PolicyRows}
+use Rattle.wot_script.specs.declared.reply.Reply.{Reply}
+use Rattle.wot_script.specs.Replies.{reply_text}
 use Rattle.wot_cache.specs.State.{State, start}
-use Rattle.wot_engine.specs.Step.{Step}
+use Rattle.wot_engine.specs.LineStep.{LineStep}
 
--- The replies to these lines, one after another, lead from old to new.
-abbrev pub Run : PolicyRows → State → List (List ℕ) → List ℕ → State → Type 0
+-- the replies to one line: one, or none
+abbrev pub listed : Option Reply → List Reply
+listed None = []
+listed (Some reply) = reply ∷ []
+
+-- the octets of replies, one after another
+abbrev pub octets_of : List Reply → List ℕ
+octets_of replies = flat_map reply_text replies
+
+-- The lines, one after another, have these replies, and lead from old to new.
+abbrev pub Run : PolicyRows → State → List (List ℕ) → List Reply → State → Type 0
 Run rows old [] replies new = (replies ≡ []) × (new ≡ old)
 Run rows old (line ∷ lines) replies new =
-    (reply : List ℕ) × (mid : State) × (others : List ℕ) × Step rows old line reply mid × Run rows mid lines others new × (replies ≡ reply ++ others)
+    (reply : Option Reply) × (mid : State) × (others : List Reply)
+    × LineStep rows old line reply mid × Run rows mid lines others new × (replies ≡ listed reply ++ others)
 
 -- the replies to these lines, from the start on
-pub record RepliesTo (rows : PolicyRows) (lines : List (List ℕ)) (replies : List ℕ) : Type 0 where
+pub record RepliesTo (rows : PolicyRows) (lines : List (List ℕ)) (replies : List Reply) : Type 0 where
   pub last : State
   pub run : Run rows start lines replies last
 
 -- the replies to all lines of an input
-abbrev pub Transcript : PolicyRows → List ℕ → List ℕ → Type 0
+abbrev pub Transcript : PolicyRows → List ℕ → List Reply → Type 0
 Transcript rows input replies = RepliesTo rows (lines_of input) replies
 
--- The replies to these lines were written.
+-- The octets of the replies to these lines were written.
 pub record Answered (rows : PolicyRows) (lines : List (List ℕ)) (before : List ℕ) (after : Option (List ℕ)) : Type 0 where
-  pub replies : List ℕ
+  pub replies : List Reply
   pub told : RepliesTo rows lines replies
-  pub written : after ≡ Some (before ++ replies)
+  pub written : after ≡ Some (before ++ octets_of replies)
 
--- What was written is a front of the replies to these lines.
+-- What was written is a prefix of the octets of the replies to these lines.
 pub record Begun (rows : PolicyRows) (lines : List (List ℕ)) (before : List ℕ) (after : Option (List ℕ)) : Type 0 where
-  pub replies : List ℕ
+  pub replies : List Reply
   pub told : RepliesTo rows lines replies
   pub size : ℕ
-  pub written : after ≡ Some (before ++ take size replies)
+  pub written : after ≡ Some (before ++ take size (octets_of replies))
 
 -- These octets were taken from the source.
 pub record IsTaken (input octets : List ℕ) (left : Option (List ℕ)) : Type 0 where
   pub rest : List ℕ
   pub input_is : input ≡ octets ++ rest
   pub left_is : left ≡ Some rest
+
+-- Octets of the source were taken, and no more than 2 ^ 30.
+pub record IsWithinMost (input : List ℕ) (left : Option (List ℕ)) : Type 0 where
+  pub octets : List ℕ
+  pub taken : IsTaken input octets left
+  pub few : length octets ≤ 2 ^ 30
+
+-- The same where the source tells what it has left.
+abbrev pub TakesAtMost : Option (List ℕ) → Option (List ℕ) → Type 0
+TakesAtMost None left = Unit {0}
+TakesAtMost (Some input) left = IsWithinMost input left
 
 -- All whole lines of the octets taken were answered. Where nothing is left, a last line without a line feed may count as whole.
 pub record AnsweredWhole (rows : PolicyRows) (input before : List ℕ) (left after : Option (List ℕ)) : Type 0 where

@@ -67,14 +67,14 @@ fn push_path(
     lines.push(AnswerLine::Path(path.amount, steps.len() as u8, path.root))?;
     let mut left = steps;
     'steps: while let Some((step, others)) = left.split_first() {
-        lines.push(line_of(alloc, engine, step)?)?;
+        lines.push(step_line_of(alloc, engine, step)?)?;
         left = others;
     }
     Ok(())
 }
 
 /// The line of a step.
-fn line_of(alloc: Global, engine: &Engine, step: &Step) -> Result<AnswerLine, Memory>
+fn step_line_of(alloc: Global, engine: &Engine, step: &Step) -> Result<AnswerLine, Memory>
     ensures line { IfOk result (λ line. line ≡ step_line (state_of engine.now) step.now) }
 {
     let uid = UserId::new(alloc, uid_at(engine, &step.target, step.uid))?;

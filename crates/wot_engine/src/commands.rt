@@ -6,12 +6,12 @@ ghost use Rattle.wot_keyring.specs.Kept.{IsJudgedBy, StaysJudged};
 ghost use Rattle.wot_keyring.specs.Import.{IsOneChange};
 ghost use Rattle.wot_script.specs.Replies.{is_short};
 ghost use Rattle.wot_cache.specs.State.{state_of};
-ghost use Rattle.wot_engine.specs.Outcome.{import as import_of, remove as remove_of, judge as judge_of, unjudge as unjudge_of, time as time_of, root as root_of, close as close_of};
-ghost use Rattle.wot_engine.specs.Step.{Gives};
+ghost use Rattle.wot_engine.specs.Outcome.{import as import_of, remove as remove_of, set_verdict as set_verdict_of, clear_verdict as clear_verdict_of, time as time_of, root as root_of, close as close_of};
+ghost use Rattle.wot_engine.specs.LineStep.{Gives};
 
-use crate::refusal::{refused, view_refused};
-use wot_cache::{Engine, NoView, ViewFault};
-use wot_keyring::{Absent, Imported, Refusal};
+use crate::refusal::{Refused, reply_to};
+use wot_cache::{Engine, NoView};
+use wot_keyring::{Absent, Imported};
 use wot_policy::{Ask, Policy};
 use wot_script::Reply;
 use wot_types::{Fpr, Memory, SigNumber, ViewName};
@@ -28,7 +28,8 @@ pub fn import<F: Fn(Ask) -> bool>(
     requires small { length octets.now < 2 ^ 29 }
     requires judged { IsJudgedBy (rows_of policy.old) engine.old.keyring }
     requires faithful { IsFaithful F.Fn policy.old }
-    ensures gives { IfOk result (λ reply. Gives (import_of (rows_of policy.old) (state_of engine.old) octets.now) reply (state_of engine.new)) }
+    ensures gives { IfOk result (λ reply.
+        Gives (import_of (rows_of policy.old) (state_of engine.old) octets.now) reply (state_of engine.new)) }
     ensures short { IfOk result (λ reply. is_short reply ≡ true) }
     ensures kept { OnErr result (engine.new ≡ engine.old) }
     ensures counted { IsOneChange engine.old.keyring engine.new.keyring }
@@ -45,7 +46,7 @@ pub fn import<F: Fn(Ask) -> bool>(
                 fresh,
             },
         ) => Ok(Reply::Taken(taken, skipped, fresh)),
-        Err(refusal) => refused(refusal),
+        Err(refusal) => reply_to(Refused::Keyring(refusal)),
     }
 }
 
@@ -66,10 +67,14 @@ pub fn remove(engine: &mut Engine, fpr: &Fpr) -> Reply
 }
 
 /// `verdict NUM good FPR` and `verdict NUM bad`.
-pub fn judge(engine: &mut Engine, number: SigNumber, verdict: Verdict) -> Result<Reply, Memory>
+pub fn set_verdict(
+    engine: &mut Engine,
+    number: SigNumber,
+    verdict: Verdict,
+) -> Result<Reply, Memory>
     requires standard { engine.old.keyring.limits ≡ standard_limits }
     requires countable { engine.old.keyring.changes < 2 ^ 64 - 1 }
-    ensures gives { IfOk result (λ reply. Gives (judge_of (state_of engine.old) number verdict) reply (state_of engine.new)) }
+    ensures gives { IfOk result (λ reply. Gives (set_verdict_of (state_of engine.old) number verdict) reply (state_of engine.new)) }
     ensures short { IfOk result (λ reply. is_short reply ≡ true) }
     ensures kept { OnErr result (engine.new ≡ engine.old) }
     ensures counted { IsOneChange engine.old.keyring engine.new.keyring }
@@ -78,15 +83,15 @@ pub fn judge(engine: &mut Engine, number: SigNumber, verdict: Verdict) -> Result
 {
     match engine.set_verdict(number, verdict) {
         Ok(()) => Ok(Reply::Done),
-        Err(refusal) => refused(refusal),
+        Err(refusal) => reply_to(Refused::Keyring(refusal)),
     }
 }
 
 /// `verdict NUM none`.
-pub fn unjudge(engine: &mut Engine, number: &SigNumber) -> Reply
+pub fn clear_verdict(engine: &mut Engine, number: &SigNumber) -> Reply
     requires standard { engine.old.keyring.limits ≡ standard_limits }
     requires countable { engine.old.keyring.changes < 2 ^ 64 - 1 }
-    ensures gives { Gives (unjudge_of (state_of engine.old) number.now) result (state_of engine.new) }
+    ensures gives { Gives (clear_verdict_of (state_of engine.old) number.now) result (state_of engine.new) }
     ensures short { is_short result ≡ true }
     ensures counted { IsOneChange engine.old.keyring engine.new.keyring }
     ensures standard { engine.new.keyring.limits ≡ standard_limits }
@@ -108,7 +113,7 @@ pub fn time(engine: &mut Engine, view: &ViewName, t: u32) -> Result<Reply, Memor
 {
     match engine.view_time(view, t) {
         Ok(()) => Ok(Reply::Done),
-        Err(fault) => view_refused(fault),
+        Err(fault) => reply_to(Refused::View(fault)),
     }
 }
 
@@ -122,7 +127,7 @@ pub fn root(engine: &mut Engine, view: &ViewName, fpr: &Fpr, amount: u8) -> Resu
 {
     match engine.view_root(view, fpr, amount) {
         Ok(()) => Ok(Reply::Done),
-        Err(fault) => view_refused(fault),
+        Err(fault) => reply_to(Refused::View(fault)),
     }
 }
 

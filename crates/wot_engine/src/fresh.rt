@@ -8,5 +8,6 @@ ghost use Rattle.wot_engine.specs.Fresh.{IsMadeAnew};
 
 /// A law: what `Engine::dump` promises of an engine with the standard limits makes its state anew, line by line.
 pub fn dump_makes_the_state_anew()
-    ensures { (rows : PolicyRows) (engine : Engine) → engine.keyring.limits ≡ standard_limits → IsRestored rows engine → AreLines (commands_of (state_of engine)) → IsMadeAnew rows (state_of engine) }
+    ensures { (rows : PolicyRows) (engine : Engine) → engine.keyring.limits ≡ standard_limits →
+        IsRestored rows engine → AreLines (commands_of (state_of engine)) → IsMadeAnew rows (state_of engine) }
 {}

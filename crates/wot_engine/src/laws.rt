@@ -1,40 +1,59 @@
 //! Laws of the machine. Each function does nothing: its contract is the law.
-ghost use Rattle.std.specs.Prelude.{◌≡◌, ℕ, List};
+ghost use Rattle.std.specs.Prelude.{◌≡◌, ℕ, List, Option};
 ghost use Rattle.wot_policy.specs.declared.rows.PolicyRows.{PolicyRows};
-ghost use Rattle.wot_cache.specs.Dump.{judged_by};
+ghost use Rattle.wot_script.specs.declared.reply.Reply.{Reply};
+ghost use Rattle.wot_keyring.specs.Dump.{judged_by};
 ghost use Rattle.wot_cache.specs.State.{State, IsState, start};
-ghost use Rattle.wot_engine.specs.Step.{Step};
+ghost use Rattle.wot_engine.specs.Depends.{DependsOnWhatIsPresent};
+ghost use Rattle.wot_engine.specs.LineStep.{LineStep};
 ghost use Rattle.wot_engine.specs.Transcript.{Run, Transcript};
 
 use wot_cert::laws::judging;
 use wot_edge::laws::answer_is_one;
+use wot_explain::laws::list_is_one;
 use wot_network::laws::record_is_lawful;
 use wot_script::laws::lines_spell_commands;
 
-/// Each line has a reply and a state after it, and in a state that can be only one of each. What comes after a state that
-/// can be, as the one before the first line, can be too.
+/// Each line has a reply or none, and a state after it, and in a state that can be only one of each. What comes after a
+/// state that can be, as the one before the first line, can be too.
 pub fn each_line_has_one_outcome()
-    ensures some { (rows : PolicyRows) (old : State) (line : List ℕ) → (reply : List ℕ) × (new : State) × Step rows old line reply new }
-    ensures one { (rows : PolicyRows) (old : State) (line reply other : List ℕ) (new third : State) → IsState old → Step rows old line reply new → Step rows old line other third → (reply ≡ other) × (new ≡ third) }
-    ensures stays { (rows : PolicyRows) (old : State) (line reply : List ℕ) (new : State) → IsState old → Step rows old line reply new → IsState new }
+    ensures some { (rows : PolicyRows) (old : State) (line : List ℕ)
+        → (reply : Option Reply) × (new : State) × LineStep rows old line reply new }
+    ensures one { (rows : PolicyRows) (old : State) (line : List ℕ) (reply other : Option Reply) (new third : State) → IsState old
+        → LineStep rows old line reply new → LineStep rows old line other third → (reply ≡ other) × (new ≡ third) }
+    ensures stays { (rows : PolicyRows) (old : State) (line : List ℕ) (reply : Option Reply) (new : State) → IsState old
+        → LineStep rows old line reply new → IsState new }
 {
     answer_is_one();
     record_is_lawful();
+    list_is_one();
     lines_spell_commands();
 }
 
 /// Each input has exactly one transcript.
 pub fn each_input_has_one_transcript()
-    ensures some { (rows : PolicyRows) (input : List ℕ) → (replies : List ℕ) × Transcript rows input replies }
-    ensures one { (rows : PolicyRows) (input replies others : List ℕ) → Transcript rows input replies → Transcript rows input others → replies ≡ others }
+    ensures some { (rows : PolicyRows) (input : List ℕ) → (replies : List Reply) × Transcript rows input replies }
+    ensures one { (rows : PolicyRows) (input : List ℕ) (replies others : List Reply)
+        → Transcript rows input replies → Transcript rows input others → replies ≡ others }
 {
     each_line_has_one_outcome();
 }
 
-/// In each state that lines lead to from the start on, every signature has the mark that the rows give it, so that judging
-/// them anew changes nothing. So what the lines of a dump make anew there is this very state.
+/// In each state that lines lead to from the start on, every signature has the mark that the rows give it, so that
+/// judging them anew changes nothing. So what the lines of a dump make anew there is this very state.
 pub fn reached_states_are_judged()
-    ensures { (rows : PolicyRows) (lines : List (List ℕ)) (replies : List ℕ) (state : State) → Run rows start lines replies state → judged_by rows state ≡ state }
+    ensures { (rows : PolicyRows) (lines : List (List ℕ)) (replies : List Reply) (state : State)
+        → Run rows start lines replies state → judged_by rows state.held ≡ state.held }
 {
     judging();
+}
+
+/// Each answer depends only on the certificates, the verdicts, and the roots and the time of the asking view then
+/// present. What else two histories did, and whatever other views are open, the same question has the same reply.
+pub fn answers_depend_on_what_is_present()
+    ensures present { (rows : PolicyRows) → DependsOnWhatIsPresent rows }
+{
+    judging();
+    reached_states_are_judged();
+    each_line_has_one_outcome();
 }

@@ -2,20 +2,22 @@
 #![tactic(auto)]
 
 mod answer;
+mod bindings;
 mod commands;
 mod fresh;
 mod laws;
 mod listing;
 mod machine;
+mod pending;
+mod reasons;
 mod refusal;
 mod run;
-#[cfg(test)]
-mod tests;
 mod words;
 
 pub use fresh::dump_makes_the_state_anew;
 pub use laws::{
-    each_input_has_one_transcript, each_line_has_one_outcome, reached_states_are_judged,
+    answers_depend_on_what_is_present, each_input_has_one_transcript, each_line_has_one_outcome,
+    reached_states_are_judged,
 };
 pub use machine::Machine;
 pub use words::run_words;

@@ -6,8 +6,9 @@ ghost use Rattle.wot_types.specs.Limits.{standard_limits};
 ghost use Rattle.wot_policy.specs.declared.rows.PolicyRows.{PolicyRows};
 ghost use Rattle.wot_cert.specs.Certificate.{Certificate};
 ghost use Rattle.wot_cert.specs.Text.{size_of};
-ghost use Rattle.wot_cache.specs.State.{state_of, cert_in};
-ghost use Rattle.wot_engine.specs.Outcome.{line_of, keys as keys_of, export as export_of, dump as dump_of};
+ghost use Rattle.wot_keyring.specs.Held.{held_of, cert_in};
+ghost use Rattle.wot_cache.specs.State.{state_of};
+ghost use Rattle.wot_engine.specs.Outcome.{key_line_of, keys as keys_of, export as export_of, dump as dump_of};
 ghost use Rattle.wot_engine.specs.Fresh.{IsMadeAnew};
 
 use crate::fresh::dump_makes_the_state_anew;
@@ -21,7 +22,7 @@ use wot_types::{Fpr, Memory};
 /// A line for each of these certificates.
 fn key_lines(alloc: Global, certs: CertsIter<'_>) -> Result<KeyLines, Memory>
     requires { AllByRecursion (λ (c : Certificate). size_of c ≤ standard_limits.certificate) certs }
-    ensures lines { IfOk result (λ lines. lines ≡ map line_of certs.entry) }
+    ensures lines { IfOk result (λ lines. lines ≡ map key_line_of certs.entry) }
 {
     let mut lines = KeyLines::new(alloc);
     'certs: for cert in certs {
@@ -40,7 +41,7 @@ pub fn keys(alloc: Global, engine: &Engine) -> Result<Reply, Memory>
 
 /// The certificate that is kept under a fingerprint.
 pub fn cert_of<'a>(engine: &'a Engine, fpr: &Fpr) -> Option<&'a Cert>
-    ensures found { option_copied result ≡ cert_in (state_of engine.now) fpr.now }
+    ensures found { option_copied result ≡ cert_in (held_of engine.now.keyring) fpr.now }
 {
     engine.keyring().get(fpr)
 }

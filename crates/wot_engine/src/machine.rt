@@ -1,20 +1,25 @@
-ghost use Rattle.std.specs.Prelude.{◌≡◌, ◌≤◌, ◌<◌, ◌+◌, ◌-◌, ◌^◌, ◌++◌, ℕ, List, length, vec_len, vec_capacity, false, true, IfOk, OnOk, OnErr};
+ghost use Rattle.std.specs.Prelude.{◌≡◌, ◌≤◌, ◌<◌, ◌+◌, ◌-◌, ◌^◌, ◌++◌, Option, length, vec_len, vec_capacity, false, true, IfOk, OnOk, OnErr};
 ghost use Rattle.wot_types.specs.Limits.{standard_limits};
 ghost use Rattle.wot_policy.specs.declared.rows.PolicyRows.{PolicyRows};
 ghost use Rattle.wot_policy.specs.Kept.{IsFaithful, rows_of};
 ghost use Rattle.wot_keyring.specs.Kept.{IsJudgedBy};
 ghost use Rattle.wot_keyring.specs.Import.{IsOneChange};
+ghost use Rattle.wot_script.specs.declared.reply.Reply.{Reply as TheReply};
 ghost use Rattle.wot_script.specs.Grammar.{command_of};
 ghost use Rattle.wot_script.specs.Spelling.{HasSpelling, IsWithin};
-ghost use Rattle.wot_script.specs.Replies.{is_short};
+ghost use Rattle.wot_script.specs.Replies.{HasWords, is_short};
 ghost use Rattle.wot_cache.specs.State.{empty, state_of};
 ghost use Rattle.wot_engine.specs.Lines.{is_silent};
-ghost use Rattle.wot_engine.specs.Step.{Step, Answers, Does};
+ghost use Rattle.wot_engine.specs.LineStep.{LineStep, Answers, Does};
+ghost use Rattle.wot_engine.specs.Transcript.{listed, octets_of};
 ghost use Rattle.wot_engine.specs.Fresh.{IsDump, OnDump, IsMadeAnew};
 
 use crate::answer::ask;
-use crate::commands::{close, import, judge, remove, root, time, unjudge};
+use crate::bindings::list;
+use crate::commands::{clear_verdict, close, import, remove, root, set_verdict, time};
 use crate::listing::{dump, export, keys};
+use crate::pending::pending;
+use crate::reasons::explain;
 use std::alloc::Global;
 use std::marker::Model;
 use wot_cache::Engine;
@@ -63,6 +68,7 @@ impl Machine {
 
     /// One line, without its line feed; its reply is appended. After `Memory` the machine and `out` are as before.
     /// Room for 128 octets is taken in `out` before anything changes.
+    #[tactic(auto, using(crate::proofs::Unchanged::unchanged))]
     pub fn line<F: Fn(Ask) -> bool>(
         &mut self,
         line: &[u8],
@@ -72,11 +78,16 @@ impl Machine {
         requires countable { self.old.keyring.changes < 2 ^ 64 - 1 }
         requires judged { IsJudgedBy (rows_of policy.old) self.old.keyring }
         requires faithful { IsFaithful F.Fn policy.old }
-        ensures step { OnOk result ((reply : List ℕ) × Step (rows_of policy.old) (state_of self.old) line.now reply (state_of self.new) × (out.new.items ≡ out.old.items ++ reply)) }
+        ensures step { OnOk result ((reply : Option TheReply)
+            × LineStep (rows_of policy.old) (state_of self.old) line.now reply (state_of self.new)
+            × (out.new.items ≡ out.old.items ++ octets_of (listed reply))) }
         // The lines that the reply to `dump` holds make the state anew in a fresh machine, by whatever rows it judges.
         ensures anew { OnOk result (IsDump line.now → (rows : PolicyRows) → IsMadeAnew rows (state_of self.old)) }
         ensures kept { OnErr result ((self.new ≡ self.old) × (out.new.items ≡ out.old.items)) }
         ensures room { OnOk result (is_silent line.now ≡ false → vec_len out.old + 128 ≤ vec_capacity out.new) }
+        // A line that leaves the state, as one that is silent or refused, or asks or lists, leaves stamps and counts
+        // too.
+        ensures unchanged { state_of self.new ≡ state_of self.old → self.new ≡ self.old }
         ensures counted { IsOneChange self.old.keyring self.new.keyring }
         ensures judged { IsJudgedBy (rows_of policy.old) self.new.keyring }
         ensures faithful { IsFaithful F.Fn policy.new }
@@ -118,7 +129,9 @@ fn answer<F: Fn(Ask) -> bool>(
     requires countable { engine.old.keyring.changes < 2 ^ 64 - 1 }
     requires judged { IsJudgedBy (rows_of policy.old) engine.old.keyring }
     requires faithful { IsFaithful F.Fn policy.old }
-    ensures answers { IfOk result (λ reply. Answers (rows_of policy.old) (state_of engine.old) (command_of line.now) reply (state_of engine.new)) }
+    ensures answers { IfOk result (λ reply.
+        Answers (rows_of policy.old) (state_of engine.old) (command_of line.now) reply (state_of engine.new)) }
+    ensures words { IfOk result HasWords }
     ensures anew { OnOk result (IsDump line.now → (rows : PolicyRows) → IsMadeAnew rows (state_of engine.old)) }
     ensures quiet { IfOk result (λ reply. is_short reply ≡ false → engine.new ≡ engine.old) }
     ensures kept { OnErr result (engine.new ≡ engine.old) }
@@ -162,15 +175,20 @@ fn run<F: Fn(Ask) -> bool>(
     match command {
         Command::Import(octets) => import(engine, octets.items(), policy),
         Command::Remove(fpr) => Ok(remove(engine, fpr)),
-        Command::Good(number, fpr) => judge(engine, *number, Verdict::Good(*fpr)),
-        Command::Bad(number) => judge(engine, *number, Verdict::Bad),
-        Command::Unjudge(number) => Ok(unjudge(engine, number)),
+        Command::Good(number, fpr) => set_verdict(engine, *number, Verdict::Good(*fpr)),
+        Command::Bad(number) => set_verdict(engine, *number, Verdict::Bad),
+        Command::Unjudge(number) => Ok(clear_verdict(engine, number)),
         Command::Time(view, t) => time(engine, view, *t),
         Command::Root(view, fpr, amount) => root(engine, view, fpr, *amount),
         Command::Close(view) => Ok(close(engine, view)),
         Command::Ask(view, target, wanted, uid) => {
             ask(alloc, engine, steps, view, target, *wanted, uid.octets())
         }
+        Command::List(view, wanted) => list(alloc, engine, steps, view, *wanted),
+        Command::Explain(view, fpr, uid) => {
+            explain(alloc, engine, steps, view, fpr, uid.octets())
+        }
+        Command::Pending => pending(alloc, engine),
         Command::Keys => keys(alloc, engine),
         Command::Export(fpr) => export(alloc, engine, fpr),
         Command::Dump => dump(alloc, engine),

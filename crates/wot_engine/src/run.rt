@@ -4,7 +4,7 @@ ghost use Rattle.wot_keyring.specs.Kept.{IsJudgedBy};
 ghost use Rattle.wot_cache.specs.State.{state_of};
 ghost use Rattle.wot_io.specs.Counts.{Rose};
 ghost use Rattle.wot_io.specs.Input.{lines_of};
-ghost use Rattle.wot_engine.specs.Transcript.{Told, Answered, Begun, AnsweredWhole, AnsweredMost};
+ghost use Rattle.wot_engine.specs.Transcript.{Told, TakesAtMost, Answered, Begun, AnsweredWhole, AnsweredMost};
 ghost use Rattle.wot_engine.specs.Turn.{Replies};
 ghost use Rattle.wot_engine.specs.declared.run.Stop.TheVariants as stops;
 
@@ -82,7 +82,7 @@ pub fn run<S: Source, K: Sink, F: Fn(Ask) -> bool>(
     requires faithful { IsFaithful F.Fn policy.old }
     ensures whole { Told (S.left input.old) (K.written output.old) (λ octets before.
         OnOk result (Answered (rows_of policy.old) (lines_of octets) before (K.written output.new) × (S.left input.new ≡ Some []))) }
-    ensures front { Told (S.left input.old) (K.written output.old) (λ octets before.
+    ensures prefix { Told (S.left input.old) (K.written output.old) (λ octets before.
         Begun (rows_of policy.old) (lines_of octets) before (K.written output.new)) }
     ensures source { IsErrOf result Stop.Read → Rose (S.faults input.old) (S.faults input.new) }
     ensures taken { Told (S.left input.old) (K.written output.old) (λ octets before.
@@ -91,7 +91,11 @@ pub fn run<S: Source, K: Sink, F: Fn(Ask) -> bool>(
     ensures most { Told (S.left input.old) (K.written output.old) (λ octets before.
         IsErrOf result Stop.TooMuch → AnsweredMost (rows_of policy.old) octets before (S.left input.new) (K.written output.new)) }
     ensures most_only { Told (S.left input.old) (K.written output.old) (λ octets before.
-        AnsweredMost (rows_of policy.old) octets before (S.left input.new) (K.written output.new) → IsErrOf result Stop.TooMuch ⊎ IsErrOf result Stop.Memory) }
+        AnsweredMost (rows_of policy.old) octets before (S.left input.new) (K.written output.new) →
+        IsErrOf result Stop.TooMuch ⊎ IsErrOf result Stop.Memory) }
+    ensures at_most { TakesAtMost (S.left input.old) (S.left input.new) }
+    ensures faithful { IsFaithful F.Fn policy.new }
+    ensures rows { rows_of policy.new ≡ rows_of policy.old }
 {
     each_line_has_one_outcome();
     let mut lines = Lines::new(alloc)?;

@@ -2,7 +2,7 @@ ghost use Rattle.std.specs.Prelude.{◌≡◌, ◌≢◌, ◌⊎◌, ◌↔◌, 
 ghost use Rattle.wot_policy.specs.Kept.{IsFaithful, rows_of};
 ghost use Rattle.wot_io.specs.Counts.{Rose};
 ghost use Rattle.wot_io.specs.Input.{lines_of};
-ghost use Rattle.wot_engine.specs.Transcript.{Told, Answered, Begun, AnsweredWhole, AnsweredMost, IsForm};
+ghost use Rattle.wot_engine.specs.Transcript.{Told, TakesAtMost, Answered, Begun, AnsweredWhole, AnsweredMost, IsForm};
 
 use crate::laws::each_line_has_one_outcome;
 use crate::run::{Stop, run};
@@ -23,10 +23,10 @@ fn is_form(words: &[String]) -> bool
 }
 
 /// Runs the program on the words after its name, and answers its exit status:
-/// 0 where the input was read to its end and every reply was written, 2 where the words are no form of the program,
-/// 3 after a failed read, 4 after a failed write, 5 for want of memory, and 6 where 2^30 octets were taken before the end.
-/// For each line the reply is written whole before more is read. The policy says which signatures are admitted; it is asked
-/// once for each sound signature that an import adds.
+/// 0 where the input was read to its end and every reply was written, 2 where the arguments are wrong,
+/// 3 after a failed read, 4 after a failed write, 5 for want of memory, and 6 where 2^30 octets were taken before the
+/// end. For each line the reply is written whole before more is read. The policy says which signatures are admitted;
+/// it is asked once for each sound signature that an import adds.
 pub fn run_words<S: Source, K: Sink, F: Fn(Ask) -> bool>(
     alloc: Global,
     words: &[String],
@@ -40,9 +40,14 @@ pub fn run_words<S: Source, K: Sink, F: Fn(Ask) -> bool>(
     ensures whole { Told (S.left input.old) (K.written output.old) (λ octets before.
         result ≡ 0 → Answered (rows_of policy.old) (lines_of octets) before (K.written output.new) × (S.left input.new ≡ Some [])) }
 
-    // Whatever the status, what was written is a front of the transcript.
-    ensures front { Told (S.left input.old) (K.written output.old) (λ octets before.
+    // Whatever the status, what was written is a prefix of the transcript.
+    ensures prefix { Told (S.left input.old) (K.written output.old) (λ octets before.
         Begun (rows_of policy.old) (lines_of octets) before (K.written output.new)) }
+
+    // Whatever the status, the source gives no more than 2^30 octets, and the policy comes back with the same rows.
+    ensures at_most { TakesAtMost (S.left input.old) (S.left input.new) }
+    ensures faithful { IsFaithful F.Fn policy.new }
+    ensures rows { rows_of policy.new ≡ rows_of policy.old }
 
     // What each status means.
     ensures statuses { (result ≡ 0) ⊎ (result ≡ 2) ⊎ (result ≡ 3) ⊎ (result ≡ 4) ⊎ (result ≡ 5) ⊎ (result ≡ 6) }

@@ -4,7 +4,7 @@ use Rattle.std.specs.Prelude.{IfSome}
 use Rattle.std.proofs.lemmas.Bool.{le-ltb, lt-ltb}
 use Rattle.std.proofs.lemmas.List.{append_cancel_right}
 use Rattle.wot_io.specs.Input.{lines_of, HasNoFeed}
-use Rattle.wot_io.specs.Reading.{Reading, Holding, Taking, reading}
+use Rattle.wot_io.specs.ReaderState.{ReaderState, Holding, Taking, reader_state}
 use Rattle.wot_io.specs.declared.fault.LinesFault.{LinesFault}
 use Rattle.wot_io.specs.declared.lines.Line.{Line}
 use Rattle.wot_io.specs.declared.lines.Line.TheVariants.{Text, Long, End}
@@ -30,7 +30,7 @@ answer-long lines rest line e lt =
     let b : ltb 16777216 (length line) ≡ true = lt-ltb _ _ lt in
     rw e (ap (λ (b : Bool). cond b Long Text) (sym b))
 
-pub AnswersLines-given : (line : Line) (old : Reading) (before : Option (List ℕ)) (new : Reading) (after : Option (List ℕ)) → Answers line old before new after → AnswersLines line old before new after
+pub AnswersLines-given : (line : Line) (old : ReaderState) (before : Option (List ℕ)) (new : ReaderState) (after : Option (List ℕ)) → Answers line old before new after → AnswersLines line old before new after
 AnswersLines-given Text old None new after a = tt
 AnswersLines-given Long old None new after a = tt
 AnswersLines-given End old None new after a = tt
@@ -54,19 +54,19 @@ feed_in (x ∷ xs) ys (l ∷ line) zs e le h = let e' : xs ++ ys ≡ line ++ 10 
 gives_before : (held octets : List ℕ) (taken : ℕ) (now : List ℕ) (left : Option (List ℕ)) (number : ℕ) (line : List ℕ) → number ≤ 2 ^ 30 → GivesOf held octets taken now left number line → IsTooMuch held octets taken → ⊥
 gives_before held octets taken now left number line le g m =
     elim g.cuts.parts [
-      | inl p ↦ feed_in (held ++ m.front) m.rest line (now ++ g.rest) (append_assoc held m.front m.rest ∙ ap (λ (x : List ℕ). held ++ x) (sym m.parts) ∙ p)
-          (omega (arith, g.count, m.most, le, ap length m.parts, length-append m.front m.rest, length-append now g.rest)) m.no_feed
-      | inr p ↦ absurd (omega (arith, g.count, m.most, p.0, ap length m.parts, length-append m.front m.rest, ap length p.2, length-append now g.rest))
+      | inl p ↦ feed_in (held ++ m.prefix) m.rest line (now ++ g.rest) (append_assoc held m.prefix m.rest ∙ ap (λ (x : List ℕ). held ++ x) (sym m.parts) ∙ p)
+          (omega (arith, g.count, m.most, le, ap length m.parts, length-append m.prefix m.rest, length-append now g.rest)) m.no_feed
+      | inr p ↦ absurd (omega (arith, g.count, m.most, p.0, ap length m.parts, length-append m.prefix m.rest, ap length p.2, length-append now g.rest))
     ]
 
-pub IsTooMuch-given : (line : Line) (old : Reading) (before : Option (List ℕ)) (new : Reading) (after : Option (List ℕ)) → new.taken ≤ 2 ^ 30 → Answers line old before new after
+pub IsTooMuch-given : (line : Line) (old : ReaderState) (before : Option (List ℕ)) (new : ReaderState) (after : Option (List ℕ)) → new.taken ≤ 2 ^ 30 → Answers line old before new after
     → IfSome before (λ octets. IsTooMuch old.held octets old.taken → ⊥)
 IsTooMuch-given Text old None new after le a = tt
 IsTooMuch-given Long old None new after le a = tt
 IsTooMuch-given End old None new after le a = tt
 IsTooMuch-given Text old (Some octets) new after le a = gives_before old.held octets old.taken new.held after new.taken new.text le a.0
 IsTooMuch-given Long old (Some octets) new after le a = gives_before old.held octets old.taken new.held after new.taken a.0 le a.2
-IsTooMuch-given End old (Some octets) new after le a = λ m. omega (arith, m.most, a.1, a.2, ap length m.parts, ap length a.0.1, length-append m.front m.rest)
+IsTooMuch-given End old (Some octets) new after le a = λ m. omega (arith, m.most, a.1, a.2, ap length m.parts, ap length a.0.1, length-append m.prefix m.rest)
 
 some-is : (x y : List ℕ) → Some x ≡ Some y → x ≡ y
 some-is x y e = cc
@@ -78,11 +78,11 @@ IsTooMuch-stopped held (Some octets) taken after number t s n =
     let same : t.loses.rest ≡ s.rest = some-is t.loses.rest s.rest (sym t.loses.left_is ∙ s.left_is) in
     let parts : s.passed ++ s.rest ≡ (held ++ t.gone) ++ s.rest = sym s.parts ∙ ap (λ (x : List ℕ). held ++ x) t.loses.parts ∙ sym (append_assoc held t.gone t.loses.rest) ∙ ap (λ (x : List ℕ). (held ++ t.gone) ++ x) same in
     let passed : s.passed ≡ held ++ t.gone = append_cancel_right s.passed (held ++ t.gone) s.rest parts in
-    record { front = t.gone; rest = t.loses.rest; parts = t.loses.parts; most = omega (arith, t.count, n); no_feed = rw passed at s.no_feed }
+    record { prefix = t.gone; rest = t.loses.rest; parts = t.loses.parts; most = omega (arith, t.count, n); no_feed = rw passed at s.no_feed }
 
 -- an answer is nothing of the fault
 pub Answers-at : (line : Line) (old new : Holding) (taking taking_new : Taking) (f f_new fault fault_new : Option LinesFault) (before after : Option (List ℕ))
-    → Answers line (reading old taking f) before (reading new taking_new f_new) after → Answers line (reading old taking fault) before (reading new taking_new fault_new) after
+    → Answers line (reader_state old taking f) before (reader_state new taking_new f_new) after → Answers line (reader_state old taking fault) before (reader_state new taking_new fault_new) after
 Answers-at Text old new taking taking_new f f_new fault fault_new before after a = a
 Answers-at Long old new taking taking_new f f_new fault fault_new before after a = a
 Answers-at End old new taking taking_new f f_new fault fault_new before after a = a

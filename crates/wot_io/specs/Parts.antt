@@ -2,7 +2,7 @@
 use Rattle.std.specs.Prelude.{◌≡◌, ◌-◌, ◌≤◌, ◌^◌, drop, take, vec_len, vec_capacity}
 use Rattle.wot_io.specs.declared.buffer.Buffer.TheInside as buffer
 use Rattle.wot_io.specs.declared.intake.Intake.TheInside as intake
-use Rattle.wot_io.specs.Reading.{Holding, Taking}
+use Rattle.wot_io.specs.ReaderState.{Holding, Taking}
 
 abbrev pub holding_of : buffer.Inside → Holding
 holding_of a = record { held = drop a.start a.octets.items; text = take (a.text_end - a.text_start) (drop a.text_start a.octets.items) }

@@ -19,7 +19,7 @@ pub struct Buffer {
 }
 
 impl Model for Buffer {
-    ghost use Rattle.wot_io.specs.Reading.{Holding};
+    ghost use Rattle.wot_io.specs.ReaderState.{Holding};
 
     ghost Value = { Holding };
 

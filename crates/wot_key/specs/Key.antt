@@ -11,11 +11,15 @@ use Rattle.wot_key.specs.declared.key.Key.{Key}
 abbrev pub is_readable : List ℕ → Bool
 is_readable body = nat_le 6 (length body) && nat_le (length body) 65535 && (slice_index body 0 == 4)
 
+-- when a key was made, in seconds since 1970: four octets behind the first (RFC 9580, section 5.5.2)
+abbrev pub created_in : List ℕ → ℕ
+created_in body = from_be_bytes w32 (take 4 (drop 1 body))
+
 -- what a readable body says
 abbrev pub key_of : List ℕ → Option Key
 key_of body =
     if is_readable body
-    then Some (record { version = 4; created = from_be_bytes w32 (take 4 (drop 1 body)); algorithm = slice_index body 5 })
+    then Some (record { version = 4; created = created_in body; algorithm = slice_index body 5 })
     else None
 
 -- the octet 0x99, the two octets of the length, and the body

@@ -20,7 +20,8 @@ pub(crate) fn test_readable(body: &[u8]) -> bool
 }
 
 /// Reads the body of a public key packet, without its header. `None` where it is no body of a version 4 key
-/// of 6 to 65,535 octets; the key material isn't looked at.
+/// of 6 to 65,535 octets. That is less than RFC 9580 has, which also knows keys of versions 2, 3 and 6, and sets no
+/// such bound. The key material isn't looked at.
 pub fn read_key(body: &[u8]) -> Option<Key>
     ensures read { result ≡ key_of body.now }
 {

@@ -6,6 +6,3 @@ mod key;
 
 pub use digest::{fingerprint, key_id};
 pub use key::{Key, read_key};
-
-#[cfg(test)]
-mod tests;

@@ -12,7 +12,7 @@ use Rattle.wot_keyring.specs.declared.tally.Weight.{Weight}
 use Rattle.wot_keyring.specs.Import.{with_certs, holding, IsOneChange}
 use Rattle.wot_keyring.specs.Importing.{MayUnite, AnswersUnited, asked_for}
 use Rattle.wot_keyring.specs.Keyring.{Entries, Keyring, certificates_in}
-use Rattle.wot_keyring.specs.Kept.{AreInOrder, IsKeyring, AreTotals}
+use Rattle.wot_keyring.specs.Kept.{AreSortedByFpr, IsKeyring, AreTotals}
 use Rattle.wot_keyring.specs.Staging.{kept_all, clash_in, weigh_kept, IsTally, AskedUpTo, IsClashTold}
 use Rattle.wot_keyring.proofs.Accepting.{answered, held, changed_once, keyring_after, totals_after, asked_all, asked_some}
 use Rattle.wot_keyring.proofs.Clashes.{clashes_told}
@@ -40,7 +40,7 @@ module _ (rows : PolicyRows) (k now : Keyring) (v : k ≡ now) (stamp : ℕ) (st
       (asked_some rows (k.changes + 1) k.certs cs n (subst (λ (es : Entries). weigh_kept sound_of k.certs + n ≤ weigh_kept sound_of es) steps e))
 
   pub no_clash : MayUnite now.limits (certificates_in now) cs → (fault : Fault) → fault ≡ Clash → IsClashTold fault (clash_in rows stamp k.certs list) → ⊥
-  no_clash may fault is told = true_false _ (subst (λ (f : Fault). IsClashTold f (clash_in rows stamp k.certs list)) is told) (clashes ∙ sym (clashes_told rows (k.changes + 1) k.certs cs h.named h.in_order) ∙ (may_before may).clash)
+  no_clash may fault is told = true_false _ (subst (λ (f : Fault). IsClashTold f (clash_in rows stamp k.certs list)) is told) (clashes ∙ sym (clashes_told rows (k.changes + 1) k.certs cs h.named h.sorted) ∙ (may_before may).clash)
 
   module _ (new : Entries) (fresh changes : ℕ) (put : new ≡ kept_all rows stamp k.certs list) (more : fresh + weigh_kept items_of k.certs ≡ weigh_kept items_of new) (grows : (a b : Certificate) → items_of a ≤ items_of (unite a b)) (raised : changes ≡ (if nat_lt 0 fresh then k.changes + 1 else k.changes)) where
     put_now : new ≡ kept_all rows (k.changes + 1) k.certs cs
@@ -62,7 +62,7 @@ module _ (rows : PolicyRows) (k now : Keyring) (v : k ≡ now) (stamp : ℕ) (st
       counted_now = subst (λ (z : Keyring). IsOneChange z (with_changes changes)) v (subst (λ n. IsOneChange k (with_changes n)) (sym raised) (changed_once rows k cs new fresh h put_now more grows still))
 
       pub keyring_now : ((a b : Certificate) → IsCertificate a → IsCertificate b → a.key ≡ b.key → IsCertificate (unite a b)) → ((rows : PolicyRows) (c : Certificate) → IsCertificate c → IsCertificate (judged rows c))
-          → (total : Weight) (limit : ℕ) → limit ≡ now.limits.certificate → AreInOrder new → IsTally limit new total → clash_in rows stamp k.certs list ≡ false → AllByRecursion IsCertificate cs → MayUnite now.limits (certificates_in now) cs
+          → (total : Weight) (limit : ℕ) → limit ≡ now.limits.certificate → AreSortedByFpr new → IsTally limit new total → clash_in rows stamp k.certs list ≡ false → AllByRecursion IsCertificate cs → MayUnite now.limits (certificates_in now) cs
           → IsKeyring (with_changes changes) × AreTotals (with_changes changes) total.octets total.signatures
       keyring_now united marked total limit lim sorted t none whole may =
           let tally = subst (λ l. IsTally l new total) (lim ∙ ap (λ (z : Keyring). z.limits.certificate) (sym v)) t in

@@ -1,5 +1,5 @@
 -- What an import that nothing refuses leaves.
-use Rattle.std.proofs.Common.{◌≡◌, ◌≤◌, ◌+◌, ◌-◌, inl, inr, ℕ, Bool, true, false, ◌||◌, if◌then◌else◌, nat_lt, List, [], ◌∷◌, length, Option, Some, None, Ok, Err, sym, ap, ◌∙◌, subst, refl, arith}
+use Rattle.std.proofs.Common.{◌≡◌, ◌≢◌, ◌≤◌, ◌+◌, ◌-◌, inl, inr, ℕ, Bool, true, false, ◌||◌, if◌then◌else◌, nat_lt, List, [], ◌∷◌, length, Option, Some, None, Ok, Err, sym, ap, ◌∙◌, subst, refl, arith}
 use Rattle.std.specs.List.{AllByRecursion}
 use Rattle.std.proofs.lemmas.Bool.Decides.{nat_tests}
 use Rattle.wot_key.specs.Key.{fpr_of}
@@ -15,9 +15,10 @@ use Rattle.wot_keyring.specs.declared.kept.Kept.{Kept}
 use Rattle.wot_keyring.specs.declared.refusal.Refusal.TheVariants.{Clash}
 use Rattle.wot_keyring.specs.declared.tally.Weight.{Weight}
 use Rattle.wot_keyring.specs.Import.{weigh, with_certs, fresh_in, holding, answer_united, unless_full, first_full, IsOneChange}
+use Rattle.wot_keyring.specs.Held.{Held, held_of}
 use Rattle.wot_keyring.specs.Importing.{MayUnite}
 use Rattle.wot_keyring.specs.Keyring.{Entries, Keyring, certificates_in, stripped}
-use Rattle.wot_keyring.specs.Kept.{AreNamed, AreWhole, AreInOrder, AreSized, AreStamped, IsKeyring, AreTotals}
+use Rattle.wot_keyring.specs.Kept.{AreNamed, AreWhole, AreSortedByFpr, AreSized, AreStamped, IsKeyring, AreTotals}
 use Rattle.wot_keyring.specs.Staging.{found_for, kept_as, kept_with, kept_all, clash_at, clash_in, weigh_kept, long_of, IsTally}
 use Rattle.wot_keyring.proofs.Clashes.{keys_same}
 use Rattle.wot_keyring.proofs.Inserts.{put_at, found_at}
@@ -105,6 +106,9 @@ asked_some rows stamp es cs n h =
 none_fresh : (f a b : ℕ) → f + a ≡ b → nat_lt 0 f ≡ false → b ≡ a
 none_fresh f a b e h = let z : f ≡ 0 = grind (arith, nat_tests) in omega arith
 
+some_more : (f a b : ℕ) → f + a ≡ b → b ≡ a → nat_lt 0 f ≡ true → ⊥
+some_more f a b e same h = let z : nat_lt 0 f ≡ false = grind (arith, nat_tests) in cc
+
 module _ (rows : PolicyRows) (k : Keyring) (cs : List Certificate) (new : Entries) (fresh : ℕ) (h : IsKeyring k) (put : new ≡ kept_all rows (k.changes + 1) k.certs cs) (more : fresh + weigh_kept items_of k.certs ≡ weigh_kept items_of new) (grows_items : (a b : Certificate) → items_of a ≤ items_of (unite a b)) where
   pub fresh_is : fresh ≡ fresh_in (certificates_in k) (with_certs rows (certificates_in k) cs)
   fresh_is =
@@ -118,7 +122,7 @@ module _ (rows : PolicyRows) (k : Keyring) (cs : List Certificate) (new : Entrie
   pub held : after ≡ holding k (with_certs rows (certificates_in k) cs)
   held = λ i. record {
     limits = k.limits;
-    certs = (put ∙ stamped_all rows k grows_items cs h.in_order) i;
+    certs = (put ∙ stamped_all rows k grows_items cs h.sorted) i;
     verdicts = k.verdicts;
     changes = if nat_lt 0 (fresh_is i) then k.changes + 1 else k.changes;
   }
@@ -138,17 +142,22 @@ module _ (rows : PolicyRows) (k : Keyring) (cs : List Certificate) (new : Entrie
   module _ (still : (a b : Certificate) → items_of (unite a b) ≡ items_of a → unite a b ≡ a) where
     unchanged : nat_lt 0 fresh ≡ false → new ≡ k.certs
     unchanged none =
-        put ∙ all_same rows (k.changes + 1) still grows_items k.certs cs h.in_order (ap (weigh_kept items_of) (sym put) ∙ none_fresh fresh _ _ more none)
+        put ∙ all_same rows (k.changes + 1) still grows_items k.certs cs h.sorted (ap (weigh_kept items_of) (sym put) ∙ none_fresh fresh _ _ more none)
+
+    more_held : nat_lt 0 fresh ≡ true → held_of after ≢ held_of k
+    more_held some = λ same.
+        some_more fresh (weigh_kept items_of k.certs) (weigh_kept items_of new) more
+        (sym (weighs_stripped items_of new) ∙ ap (λ (h : Held). weigh items_of h.certs) same ∙ weighs_stripped items_of k.certs) some
 
     -- Nothing was altered, or something as one change.
     pub changed_once : IsOneChange k after
     changed_once =
         (elim (nat_lt 0 fresh) as (λ b. nat_lt 0 fresh ≡ b → IsOneChange k (record { limits = k.limits; certs = new; verdicts = k.verdicts; changes = if b then k.changes + 1 else k.changes })) [
-          | true ↦ λ t. inr refl
+          | true ↦ λ t. inr (refl, more_held t)
           | false ↦ λ f. inl (ap (λ (es : Entries). record { limits = k.limits; certs = es; verdicts = k.verdicts; changes = k.changes }) (unchanged f))
         ]) refl
 
-    module _ (united : (a b : Certificate) → IsCertificate a → IsCertificate b → a.key ≡ b.key → IsCertificate (unite a b)) (marked : (rows : PolicyRows) (c : Certificate) → IsCertificate c → IsCertificate (judged rows c)) (total : Weight) (sorted : AreInOrder new) (t : IsTally k.limits.certificate new total) (none : clash_in rows (k.changes + 1) k.certs cs ≡ false) (whole : AllByRecursion IsCertificate cs) (may : MayUnite k.limits (certificates_in k) cs) where
+    module _ (united : (a b : Certificate) → IsCertificate a → IsCertificate b → a.key ≡ b.key → IsCertificate (unite a b)) (marked : (rows : PolicyRows) (c : Certificate) → IsCertificate c → IsCertificate (judged rows c)) (total : Weight) (sorted : AreSortedByFpr new) (t : IsTally k.limits.certificate new total) (none : clash_in rows (k.changes + 1) k.certs cs ≡ false) (whole : AllByRecursion IsCertificate cs) (may : MayUnite k.limits (certificates_in k) cs) where
       fits : Fits k.limits total (length new)
       fits =
           fits_of k.limits total (length new)
@@ -178,7 +187,7 @@ module _ (rows : PolicyRows) (k : Keyring) (cs : List Certificate) (new : Entrie
             small = h.small;
             named = subst AreNamed (sym put) (named_all rows (k.changes + 1) k.certs cs h.named);
             whole = subst AreWhole (sym put) (whole_all united marked rows (k.changes + 1) k.certs cs h.whole whole none);
-            in_order = sorted;
+            sorted = sorted;
             within = record {
               certificate = all_sized k.limits.certificate new (sym t.long ∙ f.long);
               certificates = f.certificates;

@@ -16,7 +16,7 @@ use Rattle.wot_cert.specs.Certificate.{Certificate}
 use Rattle.wot_keyring.specs.declared.kept.Kept.{Kept}
 use Rattle.wot_keyring.specs.Import.{clash, any_clash}
 use Rattle.wot_keyring.specs.Keyring.{Entries, is_fpr, stripped}
-use Rattle.wot_keyring.specs.Kept.{AreNamed, AreInOrder}
+use Rattle.wot_keyring.specs.Kept.{AreNamed, AreSortedByFpr}
 use Rattle.wot_keyring.specs.Staging.{found_for, kept_as, kept_with, clash_at, clash_in}
 use Rattle.wot_keyring.proofs.Places.{fprs_total, same_fpr}
 use Rattle.wot_keyring.proofs.Inserts.{lookup_insert}
@@ -29,11 +29,11 @@ or_false : (b c : Bool) → c ≡ false → b || c ≡ b
 or_false true c h = refl
 or_false false c h = h
 
-no_more : (x : Certificate) (e : Fpr × Kept) (es : Entries) → AreInOrder (e ∷ es) → is_fpr (fpr_of x.key) e.0 ≡ true → lookup (is_fpr (fpr_of x.key)) es ≡ None
+no_more : (x : Certificate) (e : Fpr × Kept) (es : Entries) → AreSortedByFpr (e ∷ es) → is_fpr (fpr_of x.key) e.0 ≡ true → lookup (is_fpr (fpr_of x.key)) es ≡ None
 no_more x e es sorted t =
     lookup-none (is_fpr (fpr_of x.key)) es (none_past_head (eq_by_cmp_equiv fprs_total) (fpr_of x.key) e es (IsDistinct-from_sorted fpr_cmp (keys_of (e ∷ es)) sorted) t)
 
-pub clash_kept : (x : Certificate) (es : Entries) → AreNamed es → AreInOrder es → list_any (clash x) (bodies_of es) ≡ clash_at (found_for es x) x
+pub clash_kept : (x : Certificate) (es : Entries) → AreNamed es → AreSortedByFpr es → list_any (clash x) (bodies_of es) ≡ clash_at (found_for es x) x
 clash_kept x [] named sorted = refl
 clash_kept x (e ∷ es) named sorted =
     let rest : list_any (clash x) (bodies_of es) ≡ clash_at (found_for es x) x = clash_kept x es named.1 (sorted_tail fpr_cmp e.0 (keys_of es) sorted) in
@@ -103,6 +103,6 @@ module _ (rows : PolicyRows) (stamp : ℕ) where
       ]) refl)
 
   -- Two clash exactly where one clashes with what is kept.
-  pub clashes_told : (es : Entries) (cs : List Certificate) → AreNamed es → AreInOrder es → any_clash (map (λ (e : Fpr × Certificate). e.1) (stripped es)) cs ≡ clash_in rows stamp es cs
+  pub clashes_told : (es : Entries) (cs : List Certificate) → AreNamed es → AreSortedByFpr es → any_clash (map (λ (e : Fpr × Certificate). e.1) (stripped es)) cs ≡ clash_in rows stamp es cs
   clashes_told es cs named sorted =
       ap (λ (earlier : List Certificate). any_clash earlier cs) (bodies_same es) ∙ clashes_alike (bodies_of es) es cs (λ x. clash_kept x es named sorted)

@@ -16,19 +16,19 @@ use Rattle.wot_cert.specs.Certificate.{Signature, Component, Certificate}
 use Rattle.wot_cert.specs.Counts.{sigs_on}
 use Rattle.wot_keyring.specs.declared.index.Index.{Index}
 use Rattle.wot_keyring.specs.Keyring.{is_fpr}
-use Rattle.wot_keyring.specs.Index.{Places, place_of, is_place, is_noted, unless, is_logged, place_without, Notes, NotesOn, StillLogged}
+use Rattle.wot_keyring.specs.Index.{Holders, holder_of, is_holder, is_noted, unless, is_logged, holder_without, Notes, NotesOn, StillLogged}
 use Rattle.wot_keyring.specs.Verdict.{is_among, has_number}
 use Rattle.wot_keyring.proofs.Choices.{or_false, or_itself, or_more, or_passed, and_each, either_way}
 
 -- ---- numbers
 
-numbers_total : IsTotalOrder number_cmp
+pub numbers_total : IsTotalOrder number_cmp
 numbers_total = on_total (λ (n : SigNumber). n.0) nat_list_cmp_total
 
-exact : CmpEqualImpliesEq number_cmp
+pub exact : CmpEqualImpliesEq number_cmp
 exact a b e = let octets = exact_bytes a.0 b.0 e in λ i. record { 0 = octets i }
 
-same_number : (a b : SigNumber) → is_number a b ≡ true → a ≡ b
+pub same_number : (a b : SigNumber) → is_number a b ≡ true → a ≡ b
 same_number a b h = tells_apart exact a b h
 
 itself : (a : SigNumber) → is_number a a ≡ true
@@ -40,53 +40,53 @@ turned a b = either_way (is_number a b) (is_number b a) (λ h. subst (λ (x : Si
 -- ---- one number noted
 
 -- Where nothing else was noted for it, one number more is noted, and nothing else changes.
-module _ (places places' : Places) (number : SigNumber) (fpr : Fpr) (put : (n : SigNumber) → place_of places' n ≡ cond (is_number number n) (Some fpr) (place_of places n)) where
-  elsewhere : (n : SigNumber) → is_number n number ≡ false → place_of places' n ≡ place_of places n
-  elsewhere n other = put n ∙ ap (λ b. cond b (Some fpr) (place_of places n)) (turned number n ∙ other)
+module _ (holders holders' : Holders) (number : SigNumber) (fpr : Fpr) (put : (n : SigNumber) → holder_of holders' n ≡ cond (is_number number n) (Some fpr) (holder_of holders n)) where
+  elsewhere : (n : SigNumber) → is_number n number ≡ false → holder_of holders' n ≡ holder_of holders n
+  elsewhere n other = put n ∙ ap (λ b. cond b (Some fpr) (holder_of holders n)) (turned number n ∙ other)
 
-  here : (n : SigNumber) → is_number n number ≡ true → place_of places' n ≡ Some fpr
-  here n same = put n ∙ ap (λ b. cond b (Some fpr) (place_of places n)) (turned number n ∙ same)
+  here : (n : SigNumber) → is_number n number ≡ true → holder_of holders' n ≡ Some fpr
+  here n same = put n ∙ ap (λ b. cond b (Some fpr) (holder_of holders n)) (turned number n ∙ same)
 
-  place_more : (o : Option Fpr) (q : Fpr) → (o ≡ None) → is_fpr fpr q ≡ (is_place o q || is_fpr fpr q)
-  place_more o q none = sym (ap (λ (x : Option Fpr). is_place x q || is_fpr fpr q) none)
+  place_more : (o : Option Fpr) (q : Fpr) → (o ≡ None) → is_fpr fpr q ≡ (is_holder o q || is_fpr fpr q)
+  place_more o q none = sym (ap (λ (x : Option Fpr). is_holder x q || is_fpr fpr q) none)
 
-  place_again : (o : Option Fpr) (q : Fpr) → (o ≡ Some fpr) → is_fpr fpr q ≡ (is_place o q || is_fpr fpr q)
-  place_again o q some = sym (ap (λ (x : Option Fpr). is_place x q || is_fpr fpr q) some ∙ or_itself (is_fpr fpr q))
+  place_again : (o : Option Fpr) (q : Fpr) → (o ≡ Some fpr) → is_fpr fpr q ≡ (is_holder o q || is_fpr fpr q)
+  place_again o q some = sym (ap (λ (x : Option Fpr). is_holder x q || is_fpr fpr q) some ∙ or_itself (is_fpr fpr q))
 
-  noted_by : ((q : Fpr) → is_fpr fpr q ≡ (is_place (place_of places number) q || is_fpr fpr q)) → (n : SigNumber) (q : Fpr) → is_place (place_of places' n) q ≡ (is_place (place_of places n) q || (is_number n number && is_fpr fpr q))
+  noted_by : ((q : Fpr) → is_fpr fpr q ≡ (is_holder (holder_of holders number) q || is_fpr fpr q)) → (n : SigNumber) (q : Fpr) → is_holder (holder_of holders' n) q ≡ (is_holder (holder_of holders n) q || (is_number n number && is_fpr fpr q))
   noted_by more n q =
-      (elim (is_number n number) as (λ b. is_number n number ≡ b → is_place (place_of places' n) q ≡ (is_place (place_of places n) q || (b && is_fpr fpr q))) [
+      (elim (is_number n number) as (λ b. is_number n number ≡ b → is_holder (holder_of holders' n) q ≡ (is_holder (holder_of holders n) q || (b && is_fpr fpr q))) [
         | true ↦ λ same.
-            ap (λ (x : Option Fpr). is_place x q) (here n same) ∙ more q ∙ ap (λ (x : SigNumber). is_place (place_of places x) q || is_fpr fpr q) (sym (same_number n number same))
-        | false ↦ λ other. ap (λ (x : Option Fpr). is_place x q) (elsewhere n other) ∙ sym (or_false (is_place (place_of places n) q))
+            ap (λ (x : Option Fpr). is_holder x q) (here n same) ∙ more q ∙ ap (λ (x : SigNumber). is_holder (holder_of holders x) q || is_fpr fpr q) (sym (same_number n number same))
+        | false ↦ λ other. ap (λ (x : Option Fpr). is_holder x q) (elsewhere n other) ∙ sym (or_false (is_holder (holder_of holders n) q))
       ]) refl
 
-  pub noted_new : place_of places number ≡ None → (n : SigNumber) (q : Fpr) → is_place (place_of places' n) q ≡ (is_place (place_of places n) q || (is_number n number && is_fpr fpr q))
-  noted_new none = noted_by (λ q. place_more (place_of places number) q none)
+  pub noted_new : holder_of holders number ≡ None → (n : SigNumber) (q : Fpr) → is_holder (holder_of holders' n) q ≡ (is_holder (holder_of holders n) q || (is_number n number && is_fpr fpr q))
+  noted_new none = noted_by (λ q. place_more (holder_of holders number) q none)
 
-  pub noted_again : place_of places number ≡ Some fpr → (n : SigNumber) (q : Fpr) → is_place (place_of places' n) q ≡ (is_place (place_of places n) q || (is_number n number && is_fpr fpr q))
-  noted_again some = noted_by (λ q. place_again (place_of places number) q some)
+  pub noted_again : holder_of holders number ≡ Some fpr → (n : SigNumber) (q : Fpr) → is_holder (holder_of holders' n) q ≡ (is_holder (holder_of holders n) q || (is_number n number && is_fpr fpr q))
+  noted_again some = noted_by (λ q. place_again (holder_of holders number) q some)
 
   unless_none : (b : Bool) → unless b None ≡ None
   unless_none true = refl
   unless_none false = refl
 
-  pub logged_new : (log log' : List SigNumber) → log' ≡ log ++ number ∷ [] → place_of places number ≡ None → (n : SigNumber) → place_without log' places' n ≡ place_without log places n
+  pub logged_new : (log log' : List SigNumber) → log' ≡ log ++ number ∷ [] → holder_of holders number ≡ None → (n : SigNumber) → holder_without log' holders' n ≡ holder_without log holders n
   logged_new log log' l none n =
-      ap (λ (x : List SigNumber). unless (is_logged n x) (place_of places' n)) l
-      ∙ ap (λ b. unless b (place_of places' n)) (list_any-append (is_number n) log (number ∷ []))
-      ∙ ((elim (is_number n number) as (λ b. is_number n number ≡ b → unless (is_logged n log || (b || false)) (place_of places' n) ≡ place_without log places n) [
+      ap (λ (x : List SigNumber). unless (is_logged n x) (holder_of holders' n)) l
+      ∙ ap (λ b. unless b (holder_of holders' n)) (list_any-append (is_number n) log (number ∷ []))
+      ∙ ((elim (is_number n number) as (λ b. is_number n number ≡ b → unless (is_logged n log || (b || false)) (holder_of holders' n) ≡ holder_without log holders n) [
         | true ↦ λ same.
-            ap (λ b. unless b (place_of places' n)) (or_right (is_logged n log) true refl)
-            ∙ sym (ap (unless (is_logged n log)) (ap (place_of places) (same_number n number same) ∙ none) ∙ unless_none (is_logged n log))
-        | false ↦ λ other. ap (λ b. unless b (place_of places' n)) (or_false (is_logged n log)) ∙ ap (unless (is_logged n log)) (elsewhere n other)
+            ap (λ b. unless b (holder_of holders' n)) (or_right (is_logged n log) true refl)
+            ∙ sym (ap (unless (is_logged n log)) (ap (holder_of holders) (same_number n number same) ∙ none) ∙ unless_none (is_logged n log))
+        | false ↦ λ other. ap (λ b. unless b (holder_of holders' n)) (or_false (is_logged n log)) ∙ ap (unless (is_logged n log)) (elsewhere n other)
       ]) refl)
 
-  pub logged_again : (log : List SigNumber) → place_of places number ≡ Some fpr → (n : SigNumber) → place_without log places' n ≡ place_without log places n
+  pub logged_again : (log : List SigNumber) → holder_of holders number ≡ Some fpr → (n : SigNumber) → holder_without log holders' n ≡ holder_without log holders n
   logged_again log some n =
       ap (unless (is_logged n log))
-      ((elim (is_number n number) as (λ b. is_number n number ≡ b → place_of places' n ≡ place_of places n) [
-        | true ↦ λ same. here n same ∙ sym (ap (place_of places) (same_number n number same) ∙ some)
+      ((elim (is_number n number) as (λ b. is_number n number ≡ b → holder_of holders' n ≡ holder_of holders n) [
+        | true ↦ λ same. here n same ∙ sym (ap (holder_of holders) (same_number n number same) ∙ some)
         | false ↦ λ other. elsewhere n other
       ]) refl)
 
@@ -161,11 +161,11 @@ unless_either true false o = refl
 unless_either false b o = refl
 
 -- the last number of a log
-pub logged_last : (places mid : Places) (log ws : List SigNumber) (number : SigNumber) → log ≡ ws ++ number ∷ [] → ((n : SigNumber) → place_of mid n ≡ unless (is_number n number) (place_of places n)) → (n : SigNumber) → place_without ws mid n ≡ place_without log places n
-logged_last places mid log ws number l out n =
+pub logged_last : (holders mid : Holders) (log ws : List SigNumber) (number : SigNumber) → log ≡ ws ++ number ∷ [] → ((n : SigNumber) → holder_of mid n ≡ unless (is_number n number) (holder_of holders n)) → (n : SigNumber) → holder_without ws mid n ≡ holder_without log holders n
+logged_last holders mid log ws number l out n =
     ap (unless (is_logged n ws)) (out n)
-    ∙ unless_either (is_number n number) (is_logged n ws) (place_of places n)
-    ∙ ap (λ b. unless b (place_of places n)) (at_end (is_number n number) (is_logged n ws) ∙ sym (ap (is_logged n) l ∙ list_any-append (is_number n) ws (number ∷ [])))
+    ∙ unless_either (is_number n number) (is_logged n ws) (holder_of holders n)
+    ∙ ap (λ b. unless b (holder_of holders n)) (at_end (is_number n number) (is_logged n ws) ∙ sym (ap (is_logged n) l ∙ list_any-append (is_number n) ws (number ∷ [])))
   where
     at_end : (a b : Bool) → a || b ≡ b || (a || false)
     at_end a b = ap (λ c. a || c) (sym (or_false b)) ∙ or_passed b a false

@@ -13,7 +13,7 @@ use Rattle.wot_types.specs.declared.fpr.Fpr.{Fpr}
 use Rattle.wot_types.specs.Fpr.{fpr_cmp}
 use Rattle.wot_keyring.specs.declared.kept.Kept.{Kept}
 use Rattle.wot_keyring.specs.Keyring.{Entries, is_fpr}
-use Rattle.wot_keyring.specs.Kept.{AreInOrder}
+use Rattle.wot_keyring.specs.Kept.{AreSortedByFpr}
 use Rattle.wot_keyring.proofs.Places.{fprs_total, exact, same_fpr}
 
 -- Mapping the values and putting one in commute.
@@ -71,7 +71,7 @@ none_some : (o : Option Kept) (x : Kept) → o ≡ None → o ≡ Some x → ⊥
 none_some o x p q = cc
 
 -- what is found, put in again
-pub insert_same : (es : Entries) (fpr : Fpr) (kept : Kept) → AreInOrder es → lookup (is_fpr fpr) es ≡ Some kept → insert_entry fpr_cmp es fpr kept ≡ es
+pub insert_same : (es : Entries) (fpr : Fpr) (kept : Kept) → AreSortedByFpr es → lookup (is_fpr fpr) es ≡ Some kept → insert_entry fpr_cmp es fpr kept ≡ es
 insert_same [] fpr kept sorted found = absurd cc
 insert_same (e ∷ es) fpr kept sorted found =
     (elim (fpr_cmp fpr e.0) as (λ r. fpr_cmp fpr e.0 ≡ r → cond (is_eq r) (Some e.1) (lookup (is_fpr fpr) es) ≡ Some kept → match_ordering r ((fpr, kept) ∷ e ∷ es) ((e.0, kept) ∷ es) (e ∷ insert_entry fpr_cmp es fpr kept) ≡ e ∷ es) [
@@ -86,7 +86,7 @@ lifted e es [] all below = tt
 lifted e es (y ∷ ys) all below =
     (ap (λ r. cond (is_eq r) (Some e.1) (lookup (is_fpr y.0) es)) (fprs_total.antisymm y.0 e.0 ∙ ap ordering_reverse below.0) ∙ all.0, lifted e es ys all.1 below.1)
 
-pub found_each : (es : Entries) → AreInOrder es → AllByRecursion (λ (x : Fpr × Kept). lookup (is_fpr x.0) es ≡ Some x.1) es
+pub found_each : (es : Entries) → AreSortedByFpr es → AllByRecursion (λ (x : Fpr × Kept). lookup (is_fpr x.0) es ≡ Some x.1) es
 found_each [] sorted = tt
 found_each (e ∷ es) sorted =
     (ap (λ r. cond (is_eq r) (Some e.1) (lookup (is_fpr e.0) es)) (tied_itself fprs_total e.0), lifted e es es (found_each es (sorted_tail fpr_cmp e.0 (keys_of es) sorted)) (sorted_head fpr_cmp e.0 (keys_of es) sorted))

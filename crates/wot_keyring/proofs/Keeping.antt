@@ -23,7 +23,7 @@ use Rattle.wot_cert.specs.Whole.{IsCertificate}
 use Rattle.wot_keyring.specs.declared.kept.Kept.{Kept}
 use Rattle.wot_keyring.specs.Import.{weigh}
 use Rattle.wot_keyring.specs.Keyring.{Entries, Keyring, Certificates, is_fpr, stripped}
-use Rattle.wot_keyring.specs.Kept.{AreInOrder, IsKeyring, AreTotals}
+use Rattle.wot_keyring.specs.Kept.{AreSortedByFpr, IsKeyring, AreTotals}
 use Rattle.wot_keyring.specs.Removal.{without_cert}
 use Rattle.wot_keyring.specs.Verdict.{restamped, restamped_all, counted_at, is_over}
 use Rattle.wot_keyring.proofs.Stamps.{removed_stamped, restamped_stamped}
@@ -59,12 +59,12 @@ removed_less weight test (e ∷ es) =
 chain : (a b c : ℕ) → a ≤ b → b ≤ c → a ≤ c
 chain a b c h k = omega arith
 
-pub removed_keyring : (k : Keyring) (fpr : Fpr) → IsKeyring k → AreInOrder (remove_entry (is_fpr fpr) k.certs) → IsKeyring (without_cert fpr k)
-removed_keyring k fpr h in_order = record {
+pub removed_keyring : (k : Keyring) (fpr : Fpr) → IsKeyring k → AreSortedByFpr (remove_entry (is_fpr fpr) k.certs) → IsKeyring (without_cert fpr k)
+removed_keyring k fpr h sorted = record {
   small = h.small;
   named = removed_all _ (is_fpr fpr) k.certs h.named;
   whole = removed_all _ (is_fpr fpr) k.certs h.whole;
-  in_order = in_order;
+  sorted = sorted;
   within = record {
     certificate = removed_all _ (is_fpr fpr) k.certs h.within.certificate;
     certificates = chain _ _ _ (removed_fewer (is_fpr fpr) k.certs) h.within.certificates;
@@ -102,7 +102,7 @@ found_all P test (e ∷ es) kept all found =
 
 -- ---- a verdict altered
 
-restamped_same : (number : SigNumber) (stamp : ℕ) (es : Entries) → stripped (restamped_all number stamp es) ≡ stripped es
+pub restamped_same : (number : SigNumber) (stamp : ℕ) (es : Entries) → stripped (restamped_all number stamp es) ≡ stripped es
 restamped_same number stamp [] = refl
 restamped_same number stamp (e ∷ es) = ap (λ (rest : Certificates). (e.0, e.1.cert) ∷ rest) (restamped_same number stamp es)
 
@@ -125,7 +125,7 @@ restamped_keyring k number h =
       small = h.small;
       named = restamped_each (λ f c. f ≡ fpr_of c.key) number (k.changes + 1) k.certs h.named;
       whole = restamped_each (λ f c. IsCertificate c) number (k.changes + 1) k.certs h.whole;
-      in_order = subst InOrder (sym (keys_of-map_values (restamped number (k.changes + 1)) k.certs)) h.in_order;
+      sorted = subst InOrder (sym (keys_of-map_values (restamped number (k.changes + 1)) k.certs)) h.sorted;
       within = record {
         certificate = restamped_each (λ f c. size_of c ≤ k.limits.certificate) number (k.changes + 1) k.certs h.within.certificate;
         certificates = subst (Below k.limits.certificates) (sym (restamped_length number (k.changes + 1) k.certs)) h.within.certificates;
@@ -142,7 +142,7 @@ judged_keyring k others h few = record {
   small = h.small;
   named = h.named;
   whole = h.whole;
-  in_order = h.in_order;
+  sorted = h.sorted;
   within = record {
     certificate = h.within.certificate;
     certificates = h.within.certificates;
@@ -208,7 +208,7 @@ not_over l vs number h =
       | Some v ↦ λ g. inl refl
     ]) h
 
-pub set_few : (l : Limits) (vs : verdicts.Entries) (number : SigNumber) (v : verdict.Verdict) → verdicts.InOrder vs → is_over l vs number ≡ false → length vs ≤ l.verdicts → length (verdicts.with_verdict vs number v) ≤ l.verdicts
+pub set_few : (l : Limits) (vs : verdicts.Entries) (number : SigNumber) (v : verdict.Verdict) → verdicts.AreSortedByNumber vs → is_over l vs number ≡ false → length vs ≤ l.verdicts → length (verdicts.with_verdict vs number v) ≤ l.verdicts
 set_few l vs number v sorted h few =
     passed_not (length vs) _ _ l.verdicts
     (ap (λ n. n + found_weight one (verdicts.verdict_at vs number)) (sym (ones (verdicts.with_verdict vs number v))) ∙ insert_weighs number_cmp numbers_total one number v vs sorted ∙ ap (λ n. n + 1) (ones vs))

@@ -29,3 +29,9 @@ pub mod Puts
 pub mod Taking
 pub mod Gathering
 pub mod Same
+pub mod Altered
+pub mod Holding
+pub mod Later
+pub mod Restamping
+pub mod Logged
+pub mod Since

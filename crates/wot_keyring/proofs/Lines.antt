@@ -9,9 +9,10 @@ use Rattle.wot_verdict.specs.Verdicts as verdicts
 use Rattle.wot_cert.specs.Certificate.{Certificate}
 use Rattle.wot_cert.specs.Text.{size_of}
 use Rattle.wot_keyring.specs.declared.kept.Kept.{Kept}
-use Rattle.wot_keyring.specs.Keyring.{Entries, Keyring}
+use Rattle.wot_keyring.specs.Keyring.{Entries, Keyring, stripped}
+use Rattle.wot_keyring.specs.Held.{held_of}
 use Rattle.wot_keyring.specs.Kept.{AreSized}
-use Rattle.wot_keyring.specs.Dump.{AreLines, IsLine, commands_of, import_of, line_of, lines_of, setting_of, text_import}
+use Rattle.wot_keyring.specs.Dump.{AreLines, IsLine, commands_of, import_of, command_line_of, lines_of, setting_of, text_import}
 
 -- The lines of all these commands but the rest were put.
 pub record PutSoFar (before now : List ℕ) (all rest : List Command) : Type 0 where
@@ -24,11 +25,11 @@ pub none_put : (before : List ℕ) (all : List Command) → PutSoFar before befo
 none_put before all = record { made = []; text = sym (append-nil before); left = refl; lined = λ h. h }
 
 pub one_put : (before now next : List ℕ) (all : List Command) (c : Command) (rest : List Command) → PutSoFar before now all (c ∷ rest)
-    → next ≡ now ++ line_of c → IsLine c → PutSoFar before next all rest
+    → next ≡ now ++ command_line_of c → IsLine c → PutSoFar before next all rest
 one_put before now next all c rest so_far added line = record {
-  made = so_far.made ++ line_of c;
-  text = added ∙ ap (λ text. text ++ line_of c) so_far.text ∙ append_assoc before so_far.made (line_of c);
-  left = append_assoc so_far.made (line_of c) (lines_of rest) ∙ so_far.left;
+  made = so_far.made ++ command_line_of c;
+  text = added ∙ ap (λ text. text ++ command_line_of c) so_far.text ∙ append_assoc before so_far.made (command_line_of c);
+  left = append_assoc so_far.made (command_line_of c) (lines_of rest) ∙ so_far.left;
   lined = λ h. so_far.lined (line, h);
 }
 
@@ -48,35 +49,35 @@ pub sizes_of : (limit : ℕ) (es : Entries) → AreSized limit es → AllByRecur
 sizes_of limit [] sized = tt
 sizes_of limit (e ∷ es) sized = (sized.0, sizes_of limit es sized.1)
 
-imports_of : (es : Entries) → map text_import (cert_list es) ≡ map import_of es
+imports_of : (es : Entries) → map text_import (cert_list es) ≡ map import_of (stripped es)
 imports_of [] = refl
-imports_of (e ∷ es) = ap (λ (rest : List Command). import_of e ∷ rest) (imports_of es)
+imports_of (e ∷ es) = ap (λ (rest : List Command). text_import e.1.cert ∷ rest) (imports_of es)
 
 lines-append : (cs ds : List Command) → lines_of (cs ++ ds) ≡ lines_of cs ++ lines_of ds
-lines-append cs ds = flat_map-append line_of cs ds
+lines-append cs ds = flat_map-append command_line_of cs ds
 
 both_lines : (cs ds : List Command) → AreLines cs → AreLines ds → AreLines (cs ++ ds)
 both_lines [] ds h k = k
 both_lines (c ∷ cs) ds h k = (h.0, both_lines cs ds h.1 k)
 
 module _ (k : Keyring) (certs : List Certificate) (said : verdicts.Entries) (listed : certs ≡ cert_list k.certs) (same : said ≡ k.verdicts) where
-  imports_are : map text_import certs ≡ map import_of k.certs
+  imports_are : map text_import certs ≡ map import_of (stripped k.certs)
   imports_are = ap (map text_import) listed ∙ imports_of k.certs
 
   settings_are : map setting_of said ≡ map setting_of k.verdicts
   settings_are = ap (map setting_of) same
 
   pub dumped : (before mid now : List ℕ) → mid ≡ before ++ lines_of (map text_import certs) → now ≡ mid ++ lines_of (map setting_of said)
-      → now ≡ before ++ lines_of (commands_of k)
+      → now ≡ before ++ lines_of (commands_of (held_of k))
   dumped before mid now first last =
       let Both : List Command → List Command → List ℕ = λ cs ds. before ++ (lines_of cs ++ lines_of ds) in
       last
       ∙ ap (λ text. text ++ lines_of (map setting_of said)) first
       ∙ append_assoc before (lines_of (map text_import certs)) (lines_of (map setting_of said))
       ∙ ap (λ cs. Both cs (map setting_of said)) imports_are
-      ∙ ap (Both (map import_of k.certs)) settings_are
-      ∙ ap (λ text. before ++ text) (sym (lines-append (map import_of k.certs) (map setting_of k.verdicts)))
+      ∙ ap (Both (map import_of (stripped k.certs))) settings_are
+      ∙ ap (λ text. before ++ text) (sym (lines-append (map import_of (stripped k.certs)) (map setting_of k.verdicts)))
 
-  pub dumped_lines : AreLines (map text_import certs) → AreLines (map setting_of said) → AreLines (commands_of k)
+  pub dumped_lines : AreLines (map text_import certs) → AreLines (map setting_of said) → AreLines (commands_of (held_of k))
   dumped_lines first last =
-      both_lines (map import_of k.certs) (map setting_of k.verdicts) (subst AreLines imports_are first) (subst AreLines settings_are last)
+      both_lines (map import_of (stripped k.certs)) (map setting_of k.verdicts) (subst AreLines imports_are first) (subst AreLines settings_are last)

@@ -13,7 +13,7 @@ use Rattle.wot_types.specs.Fpr.{fpr_cmp}
 use Rattle.wot_keyring.specs.declared.kept.Kept.{Kept}
 use Rattle.wot_keyring.specs.declared.staging.Was.{Was}
 use Rattle.wot_keyring.specs.Keyring.{Entries, is_fpr}
-use Rattle.wot_keyring.specs.Kept.{AreInOrder}
+use Rattle.wot_keyring.specs.Kept.{AreSortedByFpr}
 use Rattle.wot_keyring.specs.Staging.{back, LeadsBack, IsLog, StillLeadsBack}
 use Rattle.wot_keyring.proofs.Places.{fprs_total}
 
@@ -57,7 +57,7 @@ out_again (e ∷ es) fpr kept absent =
     ]) refl absent
 
 -- what took the place of something gives it back
-place_again : (es : Entries) (fpr : Fpr) (kept old : Kept) → AreInOrder es → lookup (is_fpr fpr) es ≡ Some old → insert_entry fpr_cmp (insert_entry fpr_cmp es fpr kept) fpr old ≡ es
+place_again : (es : Entries) (fpr : Fpr) (kept old : Kept) → AreSortedByFpr es → lookup (is_fpr fpr) es ≡ Some old → insert_entry fpr_cmp (insert_entry fpr_cmp es fpr kept) fpr old ≡ es
 place_again [] fpr kept old sorted found = absurd cc
 place_again (e ∷ es) fpr kept old sorted found =
     (elim (fpr_cmp fpr e.0) as (λ r. fpr_cmp fpr e.0 ≡ r → cond (is_eq r) (Some e.1) (lookup (is_fpr fpr) es) ≡ Some old → insert_entry fpr_cmp (match_ordering r ((fpr, kept) ∷ e ∷ es) ((e.0, kept) ∷ es) (e ∷ insert_entry fpr_cmp es fpr kept)) fpr old ≡ e ∷ es) [
@@ -76,7 +76,7 @@ place_again (e ∷ es) fpr kept old sorted found =
     none_some o x p q = cc
 
 -- What was kept under a fingerprint leads back from what was put in its place.
-pub leads_back : (es : Entries) (fpr : Fpr) (kept : Kept) → AreInOrder es → LeadsBack es (record { fpr = fpr; kept = lookup (is_fpr fpr) es }) (insert_entry fpr_cmp es fpr kept)
+pub leads_back : (es : Entries) (fpr : Fpr) (kept : Kept) → AreSortedByFpr es → LeadsBack es (record { fpr = fpr; kept = lookup (is_fpr fpr) es }) (insert_entry fpr_cmp es fpr kept)
 leads_back es fpr kept sorted = record {
   entries = (elim (lookup (is_fpr fpr) es) as (λ (o : Option Kept). lookup (is_fpr fpr) es ≡ o → back (insert_entry fpr_cmp es fpr kept) fpr o ≡ es) [
     | None ↦ λ absent. out_again es fpr kept absent
@@ -86,7 +86,7 @@ leads_back es fpr kept sorted = record {
 }
 
 -- The log goes on.
-pub log_goes_on : (es new : Entries) (log log' : List Was) (fpr : Fpr) (kept : Kept) (was : Option Kept) → AreInOrder es → was ≡ lookup (is_fpr fpr) es → new ≡ insert_entry fpr_cmp es fpr kept → log' ≡ log ++ record { fpr = fpr; kept = was } ∷ [] → StillLeadsBack log es log' new
+pub log_goes_on : (es new : Entries) (log log' : List Was) (fpr : Fpr) (kept : Kept) (was : Option Kept) → AreSortedByFpr es → was ≡ lookup (is_fpr fpr) es → new ≡ insert_entry fpr_cmp es fpr kept → log' ≡ log ++ record { fpr = fpr; kept = was } ∷ [] → StillLeadsBack log es log' new
 log_goes_on es new log log' fpr kept was sorted w n l first leads =
     let step : LeadsBack es (record { fpr = fpr; kept = was }) new =
     subst (λ (o : Option Kept). LeadsBack es (record { fpr = fpr; kept = o }) new) (sym w) (subst (λ (x : Entries). LeadsBack es (record { fpr = fpr; kept = lookup (is_fpr fpr) es }) x) (sym n) (leads_back es fpr kept sorted)) in

@@ -12,7 +12,7 @@ use Rattle.wot_cert.specs.Judged.{judged}
 use Rattle.wot_keyring.specs.declared.kept.Kept.{Kept}
 use Rattle.wot_keyring.specs.Import.{stamp_for, stamped, with_certs}
 use Rattle.wot_keyring.specs.Keyring.{Entries, Keyring, is_fpr, kept_at, certificates_in, stripped}
-use Rattle.wot_keyring.specs.Kept.{AreInOrder, AreStamped}
+use Rattle.wot_keyring.specs.Kept.{AreSortedByFpr, AreStamped}
 use Rattle.wot_keyring.specs.Staging.{found_for, found_by, kept_as, kept_with, kept_all}
 use Rattle.wot_keyring.proofs.Inserts.{put_at, found_at, found_each, still_present}
 use Rattle.wot_keyring.proofs.Transport.{certs_all}
@@ -89,7 +89,7 @@ module _ (rows : PolicyRows) (k : Keyring) (grows : (a b : Certificate) → item
   stamps_are (e ∷ es) all = λ i. (e.0, record { cert = e.1.cert; stamp = all.0.stamp_is i }) ∷ stamps_are es all.1 i
 
   -- What is kept is what the definition says, with its stamps.
-  pub stamped_all : (cs : List Certificate) → AreInOrder k.certs → kept_all rows s k.certs cs ≡ map (stamped k) (with_certs rows (certificates_in k) cs)
+  pub stamped_all : (cs : List Certificate) → AreSortedByFpr k.certs → kept_all rows s k.certs cs ≡ map (stamped k) (with_certs rows (certificates_in k) cs)
   stamped_all cs sorted =
       stamps_are (kept_all rows s k.certs cs) (all_marked k.certs cs (all_map (λ (e : Fpr × Kept). lookup (is_fpr e.0) k.certs ≡ Some e.1) (λ (e : Fpr × Kept). Marked k e.0 e.1) (marked_first k) k.certs (found_each k.certs sorted)) (λ q h. h))
       ∙ ap (map (stamped k)) (certs_all rows s k.certs cs)

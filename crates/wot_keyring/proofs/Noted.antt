@@ -20,9 +20,9 @@ use Rattle.wot_cert.specs.Judged.{judged}
 use Rattle.wot_cert.specs.Whole.{IsCertificate}
 use Rattle.wot_keyring.specs.declared.index.Index.{Index}
 use Rattle.wot_keyring.specs.declared.kept.Kept.{Kept}
-use Rattle.wot_keyring.specs.Index.{place_of, is_place, stands_at, stands_among, unless, IsIndexOf, Notes, NotesNothing}
+use Rattle.wot_keyring.specs.Index.{holder_of, is_holder, stands_at, stands_among, unless, IsIndexOf, Notes, NotesNothing}
 use Rattle.wot_keyring.specs.Keyring.{Entries, is_fpr}
-use Rattle.wot_keyring.specs.Kept.{AreInOrder, AreWhole}
+use Rattle.wot_keyring.specs.Kept.{AreSortedByFpr, AreWhole}
 use Rattle.wot_keyring.specs.Staging.{found_for, kept_as, kept_with, kept_all, clash_at, clash_in}
 use Rattle.wot_keyring.specs.Verdict.{has_number, restamped, restamped_all}
 use Rattle.wot_keyring.proofs.Accepting.{whole_all}
@@ -83,45 +83,45 @@ module _ (united : (a b : Certificate) → IsCertificate a → IsCertificate b �
 pub indexed_same : (old new : Index) (es : Entries) → NotesNothing old new → IsIndexOf old es → IsIndexOf new es
 indexed_same old new es nothing before exact n q =
     let step = nothing exact in
-    ap (λ (p : Option Fpr). is_place p q) (step.1 n) ∙ before step.0 n q
+    ap (λ (p : Option Fpr). is_holder p q) (step.1 n) ∙ before step.0 n q
 
 -- ---- a certificate taken out
 
-place_is : (place : Option Fpr) (p q : Fpr) → is_place place p ≡ true → is_place place q ≡ is_fpr p q
+place_is : (holder : Option Fpr) (p q : Fpr) → is_holder holder p ≡ true → is_holder holder q ≡ is_fpr p q
 place_is None p q h = absurd cc
 place_is (Some r) p q h = ap (λ (x : Fpr). is_fpr x q) (same_fpr r p h)
 
-module _ (n : SigNumber) (fpr q : Fpr) (place : Option Fpr) (es : Entries) (noted : (f : Fpr) → is_place place f ≡ stands_at es n f) where
-  out_there : is_place place fpr ≡ true → false ≡ on_found n (cond (is_fpr fpr q) None (lookup (is_fpr q) es))
+module _ (n : SigNumber) (fpr q : Fpr) (holder : Option Fpr) (es : Entries) (noted : (f : Fpr) → is_holder holder f ≡ stands_at es n f) where
+  out_there : is_holder holder fpr ≡ true → false ≡ on_found n (cond (is_fpr fpr q) None (lookup (is_fpr q) es))
   out_there there =
       (elim (is_fpr fpr q) as (λ b. is_fpr fpr q ≡ b → false ≡ on_found n (cond b None (lookup (is_fpr q) es))) [
         | true ↦ λ same. refl
-        | false ↦ λ other. sym (sym (noted q) ∙ place_is place fpr q there ∙ other)
+        | false ↦ λ other. sym (sym (noted q) ∙ place_is holder fpr q there ∙ other)
       ]) refl
 
-  out_not_there : is_place place fpr ≡ false → is_place place q ≡ on_found n (cond (is_fpr fpr q) None (lookup (is_fpr q) es))
+  out_not_there : is_holder holder fpr ≡ false → is_holder holder q ≡ on_found n (cond (is_fpr fpr q) None (lookup (is_fpr q) es))
   out_not_there not_there =
-      (elim (is_fpr fpr q) as (λ b. is_fpr fpr q ≡ b → is_place place q ≡ on_found n (cond b None (lookup (is_fpr q) es))) [
-        | true ↦ λ same. ap (is_place place) (sym (same_fpr fpr q same)) ∙ not_there
+      (elim (is_fpr fpr q) as (λ b. is_fpr fpr q ≡ b → is_holder holder q ≡ on_found n (cond b None (lookup (is_fpr q) es))) [
+        | true ↦ λ same. ap (is_holder holder) (sym (same_fpr fpr q same)) ∙ not_there
         | false ↦ λ other. noted q
       ]) refl
 
-  pub out : (b : Bool) → is_place place fpr ≡ b → is_place (unless b place) q ≡ on_found n (cond (is_fpr fpr q) None (lookup (is_fpr q) es))
+  pub out : (b : Bool) → is_holder holder fpr ≡ b → is_holder (unless b holder) q ≡ on_found n (cond (is_fpr fpr q) None (lookup (is_fpr q) es))
   out true h = out_there h
   out false h = out_not_there h
 
 -- what is found without an entry
-found_without : (q fpr : Fpr) (es : Entries) → AreInOrder es → lookup (is_fpr q) (remove_entry (is_fpr fpr) es) ≡ cond (is_fpr fpr q) None (lookup (is_fpr q) es)
+pub found_without : (q fpr : Fpr) (es : Entries) → AreSortedByFpr es → lookup (is_fpr q) (remove_entry (is_fpr fpr) es) ≡ cond (is_fpr fpr q) None (lookup (is_fpr q) es)
 found_without q fpr es sorted =
     lookup-remove_entry (eq_by_cmp_equiv fprs_total) (is_fpr fpr) (λ x y h. ap (λ (z : Fpr). is_fpr z y) (same_fpr fpr x h)) q es (IsDistinct-from_sorted fpr_cmp (keys_of es) sorted)
 
 -- What stood on a certificate that is taken out isn't noted any more.
-pub indexed_without : (old new : Index) (es : Entries) (fpr : Fpr) (kept : Kept) → AreInOrder es → Some kept ≡ lookup (is_fpr fpr) es → new.exact ≡ old.exact → ((n : SigNumber) → place_of new.places.entries n ≡ unless (has_number n kept.cert) (place_of old.places.entries n)) → IsIndexOf old es
+pub indexed_without : (old new : Index) (es : Entries) (fpr : Fpr) (kept : Kept) → AreSortedByFpr es → Some kept ≡ lookup (is_fpr fpr) es → new.exact ≡ old.exact → ((n : SigNumber) → holder_of new.holders.entries n ≡ unless (has_number n kept.cert) (holder_of old.holders.entries n)) → IsIndexOf old es
     → IsIndexOf new (remove_entry (is_fpr fpr) es)
-indexed_without old new es fpr kept sorted found same places before exact n q =
+indexed_without old new es fpr kept sorted found same holders before exact n q =
     let noted = before (sym same ∙ exact) n in
-    ap (λ (p : Option Fpr). is_place p q) (places n)
-    ∙ out n fpr q (place_of old.places.entries n) es noted (has_number n kept.cert) (noted fpr ∙ ap (on_found n) (sym found))
+    ap (λ (p : Option Fpr). is_holder p q) (holders n)
+    ∙ out n fpr q (holder_of old.holders.entries n) es noted (has_number n kept.cert) (noted fpr ∙ ap (on_found n) (sym found))
     ∙ ap (on_found n) (sym (found_without q fpr es sorted))
 
 -- ---- a verdict altered
@@ -135,9 +135,9 @@ indexed_restamped i m stamp es before exact n q =
     before exact n q ∙ sym (ap (on_found n) (lookup-map_values (restamped m stamp) (is_fpr q) es) ∙ found_again n m stamp (lookup (is_fpr q) es))
 
 module _ (n : SigNumber) (stamp : ℕ) where
-  each_noted : (place : Option Fpr) (all es : Entries) → ((q : Fpr) → is_place place q ≡ stands_at all n q) → AllByRecursion (λ (x : Fpr × Kept). lookup (is_fpr x.0) all ≡ Some x.1) es → AllByRecursion (λ (x : Fpr × Kept). has_number n x.1.cert ≡ is_place place x.0) es
-  each_noted place all [] noted found = tt
-  each_noted place all (e ∷ es) noted found = (sym (noted e.0 ∙ ap (on_found n) found.0), each_noted place all es noted found.1)
+  each_noted : (holder : Option Fpr) (all es : Entries) → ((q : Fpr) → is_holder holder q ≡ stands_at all n q) → AllByRecursion (λ (x : Fpr × Kept). lookup (is_fpr x.0) all ≡ Some x.1) es → AllByRecursion (λ (x : Fpr × Kept). has_number n x.1.cert ≡ is_holder holder x.0) es
+  each_noted holder all [] noted found = tt
+  each_noted holder all (e ∷ es) noted found = (sym (noted e.0 ∙ ap (on_found n) found.0), each_noted holder all es noted found.1)
 
   unmoved : (es : Entries) → AllByRecursion (λ (x : Fpr × Kept). has_number n x.1.cert ≡ false) es → restamped_all n stamp es ≡ es
   unmoved [] none = refl
@@ -147,7 +147,7 @@ module _ (n : SigNumber) (stamp : ℕ) where
   apart g [] below noted = tt
   apart g (e ∷ es) below noted = (noted.0 ∙ ap is_eq below.0, apart g es below.1 noted.1)
 
-  moved : (g : Fpr) (x : Kept) (es : Entries) → AreInOrder es → AllByRecursion (λ (x : Fpr × Kept). has_number n x.1.cert ≡ is_fpr g x.0) es → lookup (is_fpr g) es ≡ Some x → set_value (is_fpr g) es (record { cert = x.cert; stamp = stamp }) ≡ restamped_all n stamp es
+  moved : (g : Fpr) (x : Kept) (es : Entries) → AreSortedByFpr es → AllByRecursion (λ (x : Fpr × Kept). has_number n x.1.cert ≡ is_fpr g x.0) es → lookup (is_fpr g) es ≡ Some x → set_value (is_fpr g) es (record { cert = x.cert; stamp = stamp }) ≡ restamped_all n stamp es
   moved g x [] sorted noted found = absurd cc
   moved g x (e ∷ es) sorted noted found =
       (elim (is_fpr g e.0) as (λ b. is_fpr g e.0 ≡ b → has_number n e.1.cert ≡ b → cond b (Some e.1) (lookup (is_fpr g) es) ≡ Some x → cond b ((e.0, record { cert = x.cert; stamp = stamp }) ∷ es) (e ∷ set_value (is_fpr g) es (record { cert = x.cert; stamp = stamp })) ≡ restamped_all n stamp (e ∷ es)) [
@@ -160,15 +160,15 @@ module _ (n : SigNumber) (stamp : ℕ) where
       ]) refl noted.0 found
 
   -- What stands nowhere alters no stamp.
-  pub restamped_nowhere : (i : Index) (es : Entries) → AreInOrder es → IsIndexOf i es → i.exact ≡ true → place_of i.places.entries n ≡ None → es ≡ restamped_all n stamp es
+  pub restamped_nowhere : (i : Index) (es : Entries) → AreSortedByFpr es → IsIndexOf i es → i.exact ≡ true → holder_of i.holders.entries n ≡ None → es ≡ restamped_all n stamp es
   restamped_nowhere i es sorted indexed exact none =
-      sym (unmoved es (each_noted None es es (λ q. ap (λ (p : Option Fpr). is_place p q) (sym none) ∙ indexed exact n q) (found_each es sorted)))
+      sym (unmoved es (each_noted None es es (λ q. ap (λ (p : Option Fpr). is_holder p q) (sym none) ∙ indexed exact n q) (found_each es sorted)))
 
   -- What stands on one certificate alters its stamp.
-  pub restamped_there : (i : Index) (es new : Entries) (fpr : Fpr) → AreInOrder es → IsIndexOf i es → i.exact ≡ true → place_of i.places.entries n ≡ Some fpr
+  pub restamped_there : (i : Index) (es new : Entries) (fpr : Fpr) → AreSortedByFpr es → IsIndexOf i es → i.exact ≡ true → holder_of i.holders.entries n ≡ Some fpr
       → MatchOption (lookup (is_fpr fpr) es) (new ≡ es) (λ (x : Kept). new ≡ set_value (is_fpr fpr) es (record { cert = x.cert; stamp = stamp })) → new ≡ restamped_all n stamp es
   restamped_there i es new fpr sorted indexed exact some done =
-      let noted : (q : Fpr) → is_fpr fpr q ≡ stands_at es n q = λ q. ap (λ (p : Option Fpr). is_place p q) (sym some) ∙ indexed exact n q in
+      let noted : (q : Fpr) → is_fpr fpr q ≡ stands_at es n q = λ q. ap (λ (p : Option Fpr). is_holder p q) (sym some) ∙ indexed exact n q in
       (elim (lookup (is_fpr fpr) es) as (λ (o : Option Kept). lookup (is_fpr fpr) es ≡ o → MatchOption o (new ≡ es) (λ (x : Kept). new ≡ set_value (is_fpr fpr) es (record { cert = x.cert; stamp = stamp })) → new ≡ restamped_all n stamp es) [
         | None ↦ λ absent d. absurd (true_false (itself fpr) (noted fpr ∙ ap (on_found n) absent))
         | Some x ↦ λ found d. d ∙ moved fpr x es sorted (each_noted (Some fpr) es es noted (found_each es sorted)) found
@@ -176,3 +176,14 @@ module _ (n : SigNumber) (stamp : ℕ) where
     where
       true_false : {b : Bool} → b ≡ true → b ≡ false → ⊥
       true_false h k = cc
+
+-- ---- where a number stands, by the index
+
+module _ (n : SigNumber) (i : Index) (es : Entries) where
+  -- It stands on no certificate.
+  pub noted_nowhere : IsIndexOf i es → i.exact ≡ true → holder_of i.holders.entries n ≡ None → (q : Fpr) → stands_at es n q ≡ true → ⊥
+  noted_nowhere indexed exact none q h = let e : false ≡ true = ap (λ (p : Option Fpr). is_holder p q) (sym none) ∙ indexed exact n q ∙ h in cc
+
+  -- It stands on one certificate at most.
+  pub noted_there : (fpr : Fpr) → IsIndexOf i es → i.exact ≡ true → holder_of i.holders.entries n ≡ Some fpr → (q : Fpr) → stands_at es n q ≡ true → is_fpr fpr q ≡ true
+  noted_there fpr indexed exact some q h = ap (λ (p : Option Fpr). is_holder p q) (sym some) ∙ indexed exact n q ∙ h

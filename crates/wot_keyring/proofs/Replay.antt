@@ -7,6 +7,7 @@ use Rattle.std.specs.Ordering.{ordering_reverse}
 use Rattle.std.specs.Cmp.Lexicographic.{on_texts, pointwise}
 use Rattle.std.specs.BTreeMap.{insert_entry}
 use Rattle.std.specs.Map.{lookup}
+use Rattle.std.specs.Option.{option_map_or}
 use Rattle.std.specs.List.{AllByRecursion, list_any}
 use Rattle.std.proofs.lemmas.List.{map-append}
 use Rattle.std.proofs.lemmas.Bool.{le-ltb, lt-leb, and_right}
@@ -26,7 +27,7 @@ use Rattle.wot_script.specs.declared.command.Command.TheVariants as commands
 use Rattle.wot_verdict.specs.declared.verdict.Verdict.{Verdict}
 use Rattle.wot_verdict.specs.declared.verdict.Verdict.TheVariants.{Good, Bad}
 use Rattle.wot_verdict.specs.Verdicts as verdicts
-use Rattle.wot_verdict.specs.Verdicts.{InOrder, with_verdict}
+use Rattle.wot_verdict.specs.Verdicts.{AreSortedByNumber, with_verdict}
 use Rattle.wot_cert.specs.Assembly.{certificates_of, skipped_in}
 use Rattle.wot_cert.specs.Certificate.{Certificate, unmarked}
 use Rattle.wot_cert.specs.Counts.{signatures_of}
@@ -39,10 +40,11 @@ use Rattle.wot_keyring.specs.declared.import.Imported.{Imported}
 use Rattle.wot_keyring.specs.declared.kept.Kept.{Kept}
 use Rattle.wot_keyring.specs.declared.refusal.Refusal.TheVariants.{Clash}
 use Rattle.wot_keyring.specs.Keyring.{Keyring, Entries, Certificates, is_fpr, stripped}
-use Rattle.wot_keyring.specs.Import.{answer_read, answer_to, answer_united, any_clash, clash, first_full, fresh_in, has_greater, of_packets, united_with, united_in, unless_fault, unless_full, weigh, with_cert, with_certs}
+use Rattle.wot_keyring.specs.Import.{answer_read, answer_to, answer_united, any, any_clash, clash, first_full, fresh_in, has_greater, of_packets, united_with, united_in, unless_fault, unless_full, weigh, with_cert, with_certs}
 use Rattle.wot_keyring.specs.Verdict.{is_over}
-use Rattle.wot_keyring.specs.Kept.{AreInOrder, AreNamed, IsNamed, AreSized, AreWhole, IsKeyring}
-use Rattle.wot_keyring.specs.Dump.{Contents, after, after_all, import_of, judged_anew, judged_so, nothing, setting, setting_of, unless_refused, IsRestored}
+use Rattle.wot_keyring.specs.Kept.{AreSortedByFpr, AreNamed, IsNamed, AreSized, AreWhole, IsKeyring}
+use Rattle.wot_keyring.specs.Held.{Held, nothing, is_verdict, verdict_set}
+use Rattle.wot_keyring.specs.Dump.{after, after_all, import_of, judged_anew, setting, setting_of, text_import, unless_over, unless_refused, IsRestored}
 use Rattle.wot_keyring.proofs.Places.{fprs_total}
 use Rattle.wot_keyring.proofs.Behind.{AreBelow, all_at, below_next, none_before, put_behind}
 
@@ -112,7 +114,7 @@ one_united rows l certs c skipped none fits =
     (never_with (list_any (clash c) (map (λ (e : Fpr × Certificate). e.1) certs)) none) fits
 
 -- an import of octets that spell one certificate, which clashes with none and passes no limit
-import_one : (rows : PolicyRows) (l : Limits) (old : Contents) (octets : List ℕ) (packets : List Spelled) (c : Certificate) (certs : Certificates)
+import_one : (rows : PolicyRows) (l : Limits) (old : Held) (octets : List ℕ) (packets : List Spelled) (c : Certificate) (certs : Certificates)
     → packets_of octets ≡ Ok packets → first_fault packets ≡ None → certificates_of packets ≡ c ∷ []
     → list_any (clash c) (map (λ (e : Fpr × Certificate). e.1) old.certs) ≡ false
     → with_cert rows old.certs c ≡ certs → first_full l certs ≡ None
@@ -121,19 +123,19 @@ import_one rows l old octets packets c certs read sound one none last fits =
     let counts : Imported = record { taken = 1; skipped = skipped_in packets; fresh = fresh_in old.certs (with_cert rows old.certs c) } in
     let fits' : first_full l (with_cert rows old.certs c) ≡ None = ap (first_full l) last ∙ fits in
     let answer : answer_to rows l old.certs octets ≡ Ok counts =
-    ap (answer_read rows l old.certs) read
+    ap (answer_read any rows l old.certs) read
     ∙ ap (λ f. unless_fault f (answer_united rows l old.certs (certificates_of packets) (skipped_in packets))) sound
     ∙ ap (λ cs. answer_united rows l old.certs cs (skipped_in packets)) one
     ∙ one_united rows l old.certs c (skipped_in packets) none fits' in
     let image : united_in rows old.certs octets ≡ certs =
     ap (λ r. with_certs rows old.certs (of_packets r)) read ∙ ap (with_certs rows old.certs) one ∙ last in
-    let Gives : Certificates → Option Contents = λ held. Some (record old { certs = held }) in
-    ap (λ a. unless_refused {A = Contents} a (record old { certs = united_in rows old.certs octets })) answer ∙ ap Gives image
+    let Gives : Certificates → Option Held = λ held. Some (record old { certs = held }) in
+    ap (λ a. unless_refused {A = Held} a (record old { certs = united_in rows old.certs octets })) answer ∙ ap Gives image
 
 -- the import of a certificate's text where none of its fingerprint is held
-import_step : (laws : Laws) (rows : PolicyRows) (l : Limits) (old : Contents) (e : Fpr × Kept) → ReadBack e.1.cert → e.0 ≡ fpr_of e.1.cert.key
+import_step : (laws : Laws) (rows : PolicyRows) (l : Limits) (old : Held) (e : Fpr × Kept) → ReadBack e.1.cert → e.0 ≡ fpr_of e.1.cert.key
     → AllByRecursion (IsBefore e.0) old.certs → first_full l (old.certs ++ anew rows e ∷ []) ≡ None
-    → after rows l (import_of e) old ≡ Some (record old { certs = old.certs ++ anew rows e ∷ [] })
+    → after rows l (text_import e.1.cert) old ≡ Some (record old { certs = old.certs ++ anew rows e ∷ [] })
 import_step laws rows l old e back named before fits =
     let Before : Fpr → Type 0 = λ f. AllByRecursion (IsBefore f) old.certs in
     import_one rows l old (text_of e.1.cert) back.packets (unmarked e.1.cert) (old.certs ++ anew rows e ∷ [])
@@ -147,38 +149,38 @@ import_step laws rows l old e back named before fits =
 record CanBeHeld (l : Limits) (all : Entries) : Type 0 where
   named : AreNamed all
   whole : AreWhole all
-  in_order : AreInOrder all
+  sorted : AreSortedByFpr all
   sized : AreSized l.certificate all
   few : length all ≤ l.certificates
   octets : weigh size_of (stripped all) ≤ l.octets
   signatures : weigh signatures_of (stripped all) ≤ l.signatures
 
-front_before : (rows : PolicyRows) (front : Entries) (e : Fpr × Kept) → AreNamed front → AreBelow fpr_cmp e.0 front
-    → AllByRecursion (IsBefore e.0) (map (anew rows) front)
-front_before rows [] e named below = tt
-front_before rows (f ∷ front) e named below = ((named.0, below.0), front_before rows front e named.1 below.1)
+prefix_before : (rows : PolicyRows) (prefix : Entries) (e : Fpr × Kept) → AreNamed prefix → AreBelow fpr_cmp e.0 prefix
+    → AllByRecursion (IsBefore e.0) (map (anew rows) prefix)
+prefix_before rows [] e named below = tt
+prefix_before rows (f ∷ prefix) e named below = ((named.0, below.0), prefix_before rows prefix e named.1 below.1)
 
--- what is true of each is true of each of a front
-front_all : {A : Type 0} (P : A → Type 0) (front rest : List A) → AllByRecursion P (front ++ rest) → AllByRecursion P front
-front_all P [] rest all = tt
-front_all P (x ∷ front) rest all = (all.0, front_all P front rest all.1)
+-- what is true of each is true of each of a prefix
+prefix_all : {A : Type 0} (P : A → Type 0) (prefix rest : List A) → AllByRecursion P (prefix ++ rest) → AllByRecursion P prefix
+prefix_all P [] rest all = tt
+prefix_all P (x ∷ prefix) rest all = (all.0, prefix_all P prefix rest all.1)
 
--- a front weighs no more than the whole
-front_weighs : (rows : PolicyRows) (weight : Certificate → ℕ) (same : (c : Certificate) → weight (judged rows c) ≡ weight c) (front rest : Entries)
-    → weigh weight (map (anew rows) front) ≤ weigh weight (stripped (front ++ rest))
-front_weighs rows weight same [] rest = omega arith
-front_weighs rows weight same (e ∷ front) rest = omega (arith, same e.1.cert, front_weighs rows weight same front rest)
+-- a prefix weighs no more than the whole
+prefix_weighs : (rows : PolicyRows) (weight : Certificate → ℕ) (same : (c : Certificate) → weight (judged rows c) ≡ weight c) (prefix rest : Entries)
+    → weigh weight (map (anew rows) prefix) ≤ weigh weight (stripped (prefix ++ rest))
+prefix_weighs rows weight same [] rest = omega arith
+prefix_weighs rows weight same (e ∷ prefix) rest = omega (arith, same e.1.cert, prefix_weighs rows weight same prefix rest)
 
 never_or : (a b : Bool) → a ≡ false → b ≡ false → (a || b) ≡ false
 never_or a b h k = rw (h, k) refl
 
-none_greater : (rows : PolicyRows) (limit : ℕ) (same : (c : Certificate) → size_of (judged rows c) ≡ size_of c) (front : Entries)
-    → AreSized limit front → has_greater limit (map (anew rows) front) ≡ false
+none_greater : (rows : PolicyRows) (limit : ℕ) (same : (c : Certificate) → size_of (judged rows c) ≡ size_of c) (prefix : Entries)
+    → AreSized limit prefix → has_greater limit (map (anew rows) prefix) ≡ false
 none_greater rows limit same [] sized = refl
-none_greater rows limit same (e ∷ front) sized =
-    never_or (nat_lt limit (size_of (judged rows e.1.cert))) (has_greater limit (map (anew rows) front))
+none_greater rows limit same (e ∷ prefix) sized =
+    never_or (nat_lt limit (size_of (judged rows e.1.cert))) (has_greater limit (map (anew rows) prefix))
     (ap (nat_lt limit) (same e.1.cert) ∙ le-ltb limit (size_of e.1.cert) sized.0)
-    (none_greater rows limit same front sized.1)
+    (none_greater rows limit same prefix sized.1)
 
 no_limit : (a b c d : Bool) → a ≡ false → b ≡ false → c ≡ false → d ≡ false
     → (if a then Some limits.Certificate else if b then Some limits.Certificates else if c then Some limits.Octets else if d then Some limits.Signatures else None) ≡ None
@@ -187,98 +189,99 @@ no_limit a b c d e f g h = rw (e, f, g, h) refl
 within : (n m limit : ℕ) → n ≤ m → m ≤ limit → nat_lt limit n ≡ false
 within n m limit h k = le-ltb limit n (omega arith)
 
-length-front : (rows : PolicyRows) (front rest : Entries) → length (map (anew rows) front) ≤ length (front ++ rest)
-length-front rows [] rest = omega arith
-length-front rows (e ∷ front) rest = omega (arith, length-front rows front rest)
+length-prefix : (rows : PolicyRows) (prefix rest : Entries) → length (map (anew rows) prefix) ≤ length (prefix ++ rest)
+length-prefix rows [] rest = omega arith
+length-prefix rows (e ∷ prefix) rest = omega (arith, length-prefix rows prefix rest)
 
--- a front of what can be held passes no limit
-front_fits : (laws : Laws) (rows : PolicyRows) (l : Limits) (front rest : Entries) → CanBeHeld l (front ++ rest)
-    → first_full l (map (anew rows) front) ≡ None
-front_fits laws rows l front rest held =
+-- a prefix of what can be held passes no limit
+prefix_fits : (laws : Laws) (rows : PolicyRows) (l : Limits) (prefix rest : Entries) → CanBeHeld l (prefix ++ rest)
+    → first_full l (map (anew rows) prefix) ≡ None
+prefix_fits laws rows l prefix rest held =
     let same_size : (c : Certificate) → size_of (judged rows c) ≡ size_of c = λ c. ap length (laws.same_text rows c) in
-    let certs : Certificates = map (anew rows) front in
+    let certs : Certificates = map (anew rows) prefix in
     no_limit (has_greater l.certificate certs) (nat_lt l.certificates (length certs)) (nat_lt l.octets (weigh size_of certs)) (nat_lt l.signatures (weigh signatures_of certs))
-    (none_greater rows l.certificate same_size front (front_all (λ (e : Fpr × Kept). size_of e.1.cert ≤ l.certificate) front rest held.sized))
-    (within (length certs) (length (front ++ rest)) l.certificates (length-front rows front rest) held.few)
-    (within (weigh size_of certs) (weigh size_of (stripped (front ++ rest))) l.octets (front_weighs rows size_of same_size front rest) held.octets)
-    (within (weigh signatures_of certs) (weigh signatures_of (stripped (front ++ rest))) l.signatures
-    (front_weighs rows signatures_of (laws.same_count rows) front rest) held.signatures)
+    (none_greater rows l.certificate same_size prefix (prefix_all (λ (e : Fpr × Kept). size_of e.1.cert ≤ l.certificate) prefix rest held.sized))
+    (within (length certs) (length (prefix ++ rest)) l.certificates (length-prefix rows prefix rest) held.few)
+    (within (weigh size_of certs) (weigh size_of (stripped (prefix ++ rest))) l.octets (prefix_weighs rows size_of same_size prefix rest) held.octets)
+    (within (weigh signatures_of certs) (weigh signatures_of (stripped (prefix ++ rest))) l.signatures
+    (prefix_weighs rows signatures_of (laws.same_count rows) prefix rest) held.signatures)
 
 -- what is held when these were imported
-abbrev with_imports : PolicyRows → Entries → Contents
+abbrev with_imports : PolicyRows → Entries → Held
 with_imports rows es = record { certs = map (anew rows) es; verdicts = [] }
 
--- the next import, where those of a front were done
-import_next : (laws : Laws) (rows : PolicyRows) (l : Limits) (front : Entries) (e : Fpr × Kept) (rest : Entries)
-    → CanBeHeld l (front ++ e ∷ rest)
-    → after rows l (import_of e) (with_imports rows front) ≡ Some (with_imports rows (front ++ e ∷ []))
-import_next laws rows l front e rest held =
-    let Held : Entries → Type 0 = λ all. CanBeHeld l all in
-    let Gives : Certificates → Option Contents = λ certs. Some (record { certs = certs; verdicts = [] }) in
-    let named = front_all IsNamed front (e ∷ rest) held.named in
-    let below = below_next fpr_cmp front e rest held.in_order in
-    let fits = front_fits laws rows l (front ++ e ∷ []) rest (subst Held (sym (append_assoc front (e ∷ []) rest)) held) in
-    let whole : map (anew rows) (front ++ e ∷ []) ≡ map (anew rows) front ++ anew rows e ∷ [] = map-append (anew rows) front (e ∷ []) in
-    import_step laws rows l (with_imports rows front) e
-    (laws.read_back e.1.cert (all_at (λ (e : Fpr × Kept). IsCertificate e.1.cert) front e rest held.whole))
-    (all_at IsNamed front e rest held.named)
-    (front_before rows front e named below)
+-- the next import, where those of a prefix were done
+import_next : (laws : Laws) (rows : PolicyRows) (l : Limits) (prefix : Entries) (e : Fpr × Kept) (rest : Entries)
+    → CanBeHeld l (prefix ++ e ∷ rest)
+    → after rows l (text_import e.1.cert) (with_imports rows prefix) ≡ Some (with_imports rows (prefix ++ e ∷ []))
+import_next laws rows l prefix e rest held =
+    let Holdable : Entries → Type 0 = λ all. CanBeHeld l all in
+    let Gives : Certificates → Option Held = λ certs. Some (record { certs = certs; verdicts = [] }) in
+    let named = prefix_all IsNamed prefix (e ∷ rest) held.named in
+    let below = below_next fpr_cmp prefix e rest held.sorted in
+    let fits = prefix_fits laws rows l (prefix ++ e ∷ []) rest (subst Holdable (sym (append_assoc prefix (e ∷ []) rest)) held) in
+    let whole : map (anew rows) (prefix ++ e ∷ []) ≡ map (anew rows) prefix ++ anew rows e ∷ [] = map-append (anew rows) prefix (e ∷ []) in
+    import_step laws rows l (with_imports rows prefix) e
+    (laws.read_back e.1.cert (all_at (λ (e : Fpr × Kept). IsCertificate e.1.cert) prefix e rest held.whole))
+    (all_at IsNamed prefix e rest held.named)
+    (prefix_before rows prefix e named below)
     (ap (first_full l) (sym whole) ∙ fits)
     ∙ ap Gives (sym whole)
 
-imports : (laws : Laws) (rows : PolicyRows) (l : Limits) (all : Entries) → CanBeHeld l all → (front rest : Entries) → front ++ rest ≡ all
-    → after_all rows l (map import_of rest) (Some (with_imports rows front)) ≡ Some (with_imports rows all)
-imports laws rows l all held front [] parts = ap (λ es. Some (with_imports rows es)) (sym (append-nil front) ∙ parts)
-imports laws rows l all held front (e ∷ rest) parts =
-    let Held : Entries → Type 0 = λ es. CanBeHeld l es in
-    ap (after_all rows l (map import_of rest)) (import_next laws rows l front e rest (subst Held (sym parts) held))
-    ∙ imports laws rows l all held (front ++ e ∷ []) rest (append_assoc front (e ∷ []) rest ∙ parts)
+imports : (laws : Laws) (rows : PolicyRows) (l : Limits) (all : Entries) → CanBeHeld l all → (prefix rest : Entries) → prefix ++ rest ≡ all
+    → after_all (after rows l) (map import_of (stripped rest)) (Some (with_imports rows prefix)) ≡ Some (with_imports rows all)
+imports laws rows l all held prefix [] parts = ap (λ es. Some (with_imports rows es)) (sym (append-nil prefix) ∙ parts)
+imports laws rows l all held prefix (e ∷ rest) parts =
+    let Holdable : Entries → Type 0 = λ es. CanBeHeld l es in
+    ap (after_all (after rows l) (map import_of (stripped rest))) (import_next laws rows l prefix e rest (subst Holdable (sym parts) held))
+    ∙ imports laws rows l all held (prefix ++ e ∷ []) rest (append_assoc prefix (e ∷ []) rest ∙ parts)
 
 -- ---- verdicts
 
-abbrev with_verdicts : Certificates → verdicts.Entries → Contents
+abbrev with_verdicts : Certificates → verdicts.Entries → Held
 with_verdicts certs said = record { certs = certs; verdicts = said }
 
-settled : (l : Limits) (c : Contents) (number : SigNumber) (verdict : Verdict) (earlier : Option Verdict) (new : verdicts.Entries)
-    → earlier ≡ None → is_over l c.verdicts number ≡ false → with_verdict c.verdicts number verdict ≡ new
-    → judged_so l c number verdict earlier ≡ Some (record c { verdicts = new })
-settled l c number verdict earlier new none free put =
-    let Gives : verdicts.Entries → Option Contents = λ said. Some (record c { verdicts = said }) in
-    ap (judged_so l c number verdict) none
-    ∙ ap (λ b. if b then None else Some (record c { verdicts = with_verdict c.verdicts number verdict })) free
+settled : (l : Limits) (c : Held) (number : SigNumber) (verdict : Verdict) (new : verdicts.Entries)
+    → verdicts.verdict_at c.verdicts number ≡ None → is_over l c.verdicts number ≡ false → with_verdict c.verdicts number verdict ≡ new
+    → unless_over l number verdict c ≡ Some (record c { verdicts = new })
+settled l c number verdict new none free put =
+    let Gives : verdicts.Entries → Option Held = λ said. Some (record c { verdicts = said }) in
+    let Said : Option Verdict → Option Held = λ o. Some (if option_map_or (is_verdict verdict) o false then c else record c { verdicts = with_verdict c.verdicts number verdict }) in
+    ap (λ b. if b then None else Some (verdict_set number verdict c)) free
+    ∙ ap Said none
     ∙ ap Gives put
 
-setting_is : (rows : PolicyRows) (l : Limits) (c : Contents) (number : SigNumber) (verdict : Verdict)
-    → after rows l (setting number verdict) c ≡ judged_so l c number verdict (verdicts.verdict_at c.verdicts number)
+setting_is : (rows : PolicyRows) (l : Limits) (c : Held) (number : SigNumber) (verdict : Verdict)
+    → after rows l (setting number verdict) c ≡ unless_over l number verdict c
 setting_is rows l c number (Good fpr) = refl
 setting_is rows l c number Bad = refl
 
-setting_next : (rows : PolicyRows) (l : Limits) (certs : Certificates) (front : verdicts.Entries) (e : SigNumber × Verdict) (rest : verdicts.Entries)
-    → InOrder (front ++ e ∷ rest) → length (front ++ e ∷ rest) ≤ l.verdicts
-    → after rows l (setting_of e) (with_verdicts certs front) ≡ Some (with_verdicts certs (front ++ e ∷ []))
-setting_next rows l certs front e rest order few =
-    let below = below_next number_cmp front e rest order in
-    let room : length front < l.verdicts = omega (arith, length-append front (e ∷ rest), few) in
-    setting_is rows l (with_verdicts certs front) e.0 e.1
-    ∙ settled l (with_verdicts certs front) e.0 e.1 (verdicts.verdict_at front e.0) (front ++ e ∷ [])
-    (none_before number_cmp numbers_total front e.0 below)
-    (and_right (is_none (verdicts.verdict_at front e.0)) (nat_le l.verdicts (length front)) (lt-leb l.verdicts (length front) room))
-    (put_behind number_cmp numbers_total front e.0 e.1 below)
+setting_next : (rows : PolicyRows) (l : Limits) (certs : Certificates) (prefix : verdicts.Entries) (e : SigNumber × Verdict) (rest : verdicts.Entries)
+    → AreSortedByNumber (prefix ++ e ∷ rest) → length (prefix ++ e ∷ rest) ≤ l.verdicts
+    → after rows l (setting_of e) (with_verdicts certs prefix) ≡ Some (with_verdicts certs (prefix ++ e ∷ []))
+setting_next rows l certs prefix e rest order few =
+    let below = below_next number_cmp prefix e rest order in
+    let room : length prefix < l.verdicts = omega (arith, length-append prefix (e ∷ rest), few) in
+    setting_is rows l (with_verdicts certs prefix) e.0 e.1
+    ∙ settled l (with_verdicts certs prefix) e.0 e.1 (prefix ++ e ∷ [])
+    (none_before number_cmp numbers_total prefix e.0 below)
+    (and_right (is_none (verdicts.verdict_at prefix e.0)) (nat_le l.verdicts (length prefix)) (lt-leb l.verdicts (length prefix) room))
+    (put_behind number_cmp numbers_total prefix e.0 e.1 below)
 
-settings : (rows : PolicyRows) (l : Limits) (certs : Certificates) (all : verdicts.Entries) → InOrder all → length all ≤ l.verdicts
-    → (front rest : verdicts.Entries) → front ++ rest ≡ all
-    → after_all rows l (map setting_of rest) (Some (with_verdicts certs front)) ≡ Some (with_verdicts certs all)
-settings rows l certs all order few front [] parts = ap (λ es. Some (with_verdicts certs es)) (sym (append-nil front) ∙ parts)
-settings rows l certs all order few front (e ∷ rest) parts =
+settings : (rows : PolicyRows) (l : Limits) (certs : Certificates) (all : verdicts.Entries) → AreSortedByNumber all → length all ≤ l.verdicts
+    → (prefix rest : verdicts.Entries) → prefix ++ rest ≡ all
+    → after_all (after rows l) (map setting_of rest) (Some (with_verdicts certs prefix)) ≡ Some (with_verdicts certs all)
+settings rows l certs all order few prefix [] parts = ap (λ es. Some (with_verdicts certs es)) (sym (append-nil prefix) ∙ parts)
+settings rows l certs all order few prefix (e ∷ rest) parts =
     let Few : verdicts.Entries → Type 0 = λ es. length es ≤ l.verdicts in
-    ap (after_all rows l (map setting_of rest))
-    (setting_next rows l certs front e rest (subst InOrder (sym parts) order) (subst Few (sym parts) few))
-    ∙ settings rows l certs all order few (front ++ e ∷ []) rest (append_assoc front (e ∷ []) rest ∙ parts)
+    ap (after_all (after rows l) (map setting_of rest))
+    (setting_next rows l certs prefix e rest (subst AreSortedByNumber (sym parts) order) (subst Few (sym parts) few))
+    ∙ settings rows l certs all order few (prefix ++ e ∷ []) rest (append_assoc prefix (e ∷ []) rest ∙ parts)
 
 -- ---- both
 
-after_both : (rows : PolicyRows) (l : Limits) (cs ds : List Command) (o : Option Contents)
-    → after_all rows l (cs ++ ds) o ≡ after_all rows l ds (after_all rows l cs o)
+after_both : (rows : PolicyRows) (l : Limits) (cs ds : List Command) (o : Option Held)
+    → after_all (after rows l) (cs ++ ds) o ≡ after_all (after rows l) ds (after_all (after rows l) cs o)
 after_both rows l [] ds o = refl
 after_both rows l (c ∷ cs) [] None = refl
 after_both rows l (c ∷ cs) (d ∷ ds) None = refl
@@ -288,18 +291,18 @@ anew_in : (rows : PolicyRows) (es : Entries) → map (anew rows) es ≡ map (jud
 anew_in rows [] = refl
 anew_in rows (e ∷ es) = ap (λ (rest : Certificates). anew rows e ∷ rest) (anew_in rows es)
 
-pub restored : (laws : Laws) (rows : PolicyRows) (k : Keyring) → IsKeyring k → InOrder k.verdicts → IsRestored rows k
+pub restored : (laws : Laws) (rows : PolicyRows) (k : Keyring) → IsKeyring k → AreSortedByNumber k.verdicts → IsRestored rows k
 restored laws rows k keyring order =
     let held : CanBeHeld k.limits k.certs = record {
       named = keyring.named;
       whole = keyring.whole;
-      in_order = keyring.in_order;
+      sorted = keyring.sorted;
       sized = keyring.within.certificate;
       few = keyring.within.certificates;
       octets = keyring.within.octets;
       signatures = keyring.within.signatures;
     } in
-    after_both rows k.limits (map import_of k.certs) (map setting_of k.verdicts) (Some nothing)
-    ∙ ap (after_all rows k.limits (map setting_of k.verdicts)) (imports laws rows k.limits k.certs held [] k.certs refl)
+    after_both rows k.limits (map import_of (stripped k.certs)) (map setting_of k.verdicts) (Some nothing)
+    ∙ ap (after_all (after rows k.limits) (map setting_of k.verdicts)) (imports laws rows k.limits k.certs held [] k.certs refl)
     ∙ settings rows k.limits (map (anew rows) k.certs) k.verdicts order keyring.within.verdicts [] k.verdicts refl
     ∙ ap (λ certs. Some (with_verdicts certs k.verdicts)) (anew_in rows k.certs)

@@ -21,7 +21,7 @@ use Rattle.wot_keyring.specs.declared.staging.Fault.{Fault}
 use Rattle.wot_keyring.specs.declared.staging.Fault.TheVariants.{Clash, Memory}
 use Rattle.wot_keyring.specs.declared.tally.Tally.{Tally}
 use Rattle.wot_keyring.specs.Keyring.{Entries}
-use Rattle.wot_keyring.specs.Kept.{AreInOrder, AreJudged}
+use Rattle.wot_keyring.specs.Kept.{AreSortedByFpr, AreJudged}
 use Rattle.wot_keyring.specs.Staging.{found_for, found_by, joined, kept_as, kept_with, kept_all, clash_at, clash_in, weigh_kept, IsTally, AskedOnFault, AskedUpTo, StillLeadsBack, IsClashTold}
 use Rattle.wot_keyring.proofs.Places.{fprs_total}
 use Rattle.wot_keyring.proofs.Steps.{weighs_by}
@@ -41,11 +41,11 @@ below_all : (a b : Fpr) (ks : List Fpr) → fpr_cmp a b ≡ Less → AllByRecurs
 below_all a b [] less all = tt
 below_all a b (k ∷ ks) less all = (fprs_total.trans a b k less all.0, below_all a b ks less all.1)
 
-pub sorted_insert : (es : Entries) (k : Fpr) (v : Kept) → AreInOrder es → AreInOrder (insert_entry fpr_cmp es k v)
+pub sorted_insert : (es : Entries) (k : Fpr) (v : Kept) → AreSortedByFpr es → AreSortedByFpr (insert_entry fpr_cmp es k v)
 unfolding IsStrictlySortedBy
 sorted_insert [] k v sorted = (tt, sorted)
 sorted_insert (e ∷ es) k v sorted =
-    elim (fpr_cmp k e.0) as (λ r. fpr_cmp k e.0 ≡ r → AreInOrder (match_ordering r ((k, v) ∷ e ∷ es) ((e.0, v) ∷ es) (e ∷ insert_entry fpr_cmp es k v))) [
+    elim (fpr_cmp k e.0) as (λ r. fpr_cmp k e.0 ≡ r → AreSortedByFpr (match_ordering r ((k, v) ∷ e ∷ es) ((e.0, v) ∷ es) (e ∷ insert_entry fpr_cmp es k v))) [
       | Less ↦ λ less. ((less, below_all k e.0 (keys_of es) less sorted.0), sorted)
       | Equal ↦ λ equal. sorted
       | Greater ↦ λ greater. (less_all e.0 es k v sorted.0 (fprs_total.antisymm e.0 k ∙ ap ordering_reverse greater), sorted_insert es k v sorted.1)
@@ -70,10 +70,10 @@ module _ (measure : Certificate → ℕ) (grows : (a b : Certificate) → measur
   found_less None c = none_least (measure (judged rows c))
   found_less (Some x) c = grows x.cert (judged rows c)
 
-  pub more_with : (es : Entries) (c : Certificate) → AreInOrder es → weigh_kept measure es ≤ weigh_kept measure (kept_with rows stamp es c)
+  pub more_with : (es : Entries) (c : Certificate) → AreSortedByFpr es → weigh_kept measure es ≤ weigh_kept measure (kept_with rows stamp es c)
   more_with es c sorted = grown _ _ _ _ (weighs_by measure es (fpr_of c.key) (kept_as rows stamp (found_for es c) c) sorted) (found_less (found_for es c) c)
 
-  pub more_in_all : (es : Entries) (cs : List Certificate) → AreInOrder es → weigh_kept measure es ≤ weigh_kept measure (kept_all rows stamp es cs)
+  pub more_in_all : (es : Entries) (cs : List Certificate) → AreSortedByFpr es → weigh_kept measure es ≤ weigh_kept measure (kept_all rows stamp es cs)
   more_in_all es [] sorted = reach (weigh_kept measure es)
   more_in_all es (c ∷ cs) sorted =
       chain _ _ _ (more_with es c sorted) (more_in_all (kept_with rows stamp es c) cs (sorted_insert es (fpr_of c.key) (kept_as rows stamp (found_for es c) c) sorted))
@@ -97,7 +97,7 @@ not_asked p = ap (λ n. record p { asked = n }) (none_more p.asked)
 -- What one step does, where it is done.
 pub record Put (rows : PolicyRows) (stamp limit : ℕ) (c : Certificate) (es es' : Entries) (log log' : List Was) (t t' : Tally) : Type 0 where
   pub put : es' ≡ kept_with rows stamp es c
-  pub in_order : AreInOrder es'
+  pub sorted : AreSortedByFpr es'
   pub leads : StillLeadsBack log es log' es'
   pub tallied : IsTally limit es' t'.total
   pub fresh : t'.fresh + weigh_kept items_of es ≡ t.fresh + weigh_kept items_of es'
@@ -107,7 +107,7 @@ pub record Put (rows : PolicyRows) (stamp limit : ℕ) (c : Certificate) (es es'
 -- What the steps up to now did, of those that were to be done from the first entries on.
 pub record Run (rows : PolicyRows) (stamp limit : ℕ) (all : List Certificate) (first : Entries) (log : List Was) (t : Tally) (rest : List Certificate) (es : Entries) (log' : List Was) (t' : Tally) : Type 0 where
   pub same : kept_all rows stamp es rest ≡ kept_all rows stamp first all
-  pub in_order : AreInOrder es
+  pub sorted : AreSortedByFpr es
   pub leads : StillLeadsBack log first log' es
   pub tallied : IsTally limit es t'.total
   pub fresh : t'.fresh + weigh_kept items_of first ≡ t.fresh + weigh_kept items_of es
@@ -124,7 +124,7 @@ run_on rows stamp limit all first log t left rest c es es' log' log2 t' t2 run s
     let clashes : clash_in rows stamp es (c ∷ rest) ≡ clash_in rows stamp first all = ap (clash_in rows stamp es) (sym split) ∙ run.clash in
     record {
       same = ap (λ (x : Entries). kept_all rows stamp x rest) p.put ∙ before;
-      in_order = p.in_order;
+      sorted = p.sorted;
       leads = λ start led. p.leads start (run.leads start led);
       tallied = p.tallied;
       fresh = further _ _ _ _ _ _ run.fresh p.fresh;
@@ -153,9 +153,9 @@ pub asked_up_to : ((x y : Certificate) → sound_of x ≤ sound_of (unite x y)) 
 asked_up_to grows rows stamp limit all first log t left rest c es log' t' k j Clash run split e f = tt
 asked_up_to grows rows stamp limit all first log t left rest c es log' t' k j Memory run split e f =
     let whole : kept_all rows stamp es (c ∷ rest) ≡ kept_all rows stamp first all = ap (kept_all rows stamp es) (sym split) ∙ run.same in
-    at_most _ k _ j _ _ e f (more_with sound_of grows rows stamp es c run.in_order)
+    at_most _ k _ j _ _ e f (more_with sound_of grows rows stamp es c run.sorted)
     (subst (λ (x : Entries). weigh_kept sound_of (kept_with rows stamp es c) ≤ weigh_kept sound_of x) whole
-    (more_in_all sound_of grows rows stamp (kept_with rows stamp es c) rest (sorted_insert es (fpr_of c.key) (kept_as rows stamp (found_for es c) c) run.in_order)))
+    (more_in_all sound_of grows rows stamp (kept_with rows stamp es c) rest (sorted_insert es (fpr_of c.key) (kept_as rows stamp (found_for es c) c) run.sorted)))
 
 -- a clash is told where there is one
 pub clash_told : (rows : PolicyRows) (stamp limit : ℕ) (all : List Certificate) (first : Entries) (log : List Was) (t : Tally) (left rest : List Certificate) (c : Certificate) (es : Entries) (log' : List Was) (t' : Tally) (fault : Fault)

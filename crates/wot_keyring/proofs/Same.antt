@@ -77,7 +77,7 @@ module _ (rows : PolicyRows) (k : Keyring) (h : IsKeyring k) where
   taken_so : (cs : List Certificate) → taken_all rows (Some (certificates_in k)) cs ≡ cond (any_clash (alone (certificates_in k)) cs) None (Some (with_certs rows (certificates_in k) cs))
   taken_so cs =
       taken_by rows 0 k.certs cs
-      ∙ ap (λ b. cond b None (Some (with_certs rows (certificates_in k) cs))) (sym (clashes_told rows 0 k.certs cs h.named h.in_order))
+      ∙ ap (λ b. cond b None (Some (with_certs rows (certificates_in k) cs))) (sym (clashes_told rows 0 k.certs cs h.named h.sorted))
 
   -- A list that comes to nothing clashes.
   pub nothing_answered : (list : List Certificate) (skipped : ℕ) → ComeToNothing list → AnswersUnited (Err Clash) rows k list skipped

@@ -14,11 +14,11 @@ use Rattle.wot_cert.specs.Counts.{items_of, signatures_of}
 use Rattle.wot_cert.specs.Judged.{IsJudged, sound_of}
 use Rattle.wot_cert.specs.Text.{size_of}
 use Rattle.wot_keyring.specs.declared.kept.Kept.{Kept}
-use Rattle.wot_keyring.specs.declared.staging.Step.{Step}
+use Rattle.wot_keyring.specs.declared.staging.Staged.{Staged}
 use Rattle.wot_keyring.specs.declared.tally.Weight.{Weight}
 use Rattle.wot_keyring.specs.Keyring.{Entries, is_fpr}
-use Rattle.wot_keyring.specs.Kept.{AreInOrder, AreJudged}
-use Rattle.wot_keyring.specs.Staging.{found_for, found_by, kept_with, long_of, WeighsFound, weigh_kept, IsTally, CanMove, Moves, IsFoundJudged, IsStep}
+use Rattle.wot_keyring.specs.Kept.{AreSortedByFpr, AreJudged}
+use Rattle.wot_keyring.specs.Staging.{found_for, found_by, kept_with, long_of, WeighsFound, weigh_kept, IsTally, CanMove, Moves, IsFoundJudged, IsStaged}
 use Rattle.wot_keyring.proofs.Places.{fprs_total}
 use Rattle.wot_keyring.proofs.Weighing.{found_weight, insert_weighs}
 
@@ -34,7 +34,7 @@ put_all P (e ∷ es) fpr kept all p =
       | Greater ↦ (all.0, put_all P es fpr kept all.1 p)
     ]
 
-pub weighs_by : (measure : Certificate → ℕ) (es : Entries) (fpr : Fpr) (kept : Kept) → AreInOrder es
+pub weighs_by : (measure : Certificate → ℕ) (es : Entries) (fpr : Fpr) (kept : Kept) → AreSortedByFpr es
     → weigh_kept measure (insert_entry fpr_cmp es fpr kept) + found_by measure (lookup (is_fpr fpr) es) ≡ weigh_kept measure es + measure kept.cert
 weighs_by measure es fpr kept sorted =
     ap (λ n. weigh_kept measure (insert_entry fpr_cmp es fpr kept) + n) (sym (same_found (lookup (is_fpr fpr) es)))
@@ -78,7 +78,7 @@ found_judged rows test (e ∷ es) all =
       | false ↦ found_judged rows test es all.1
     ]
 
-module _ (rows : PolicyRows) (stamp limit : ℕ) (es es' : Entries) (c : Certificate) (s : Step) (h : IsStep rows stamp limit (found_for es c) c s) (sorted : AreInOrder es) where
+module _ (rows : PolicyRows) (stamp limit : ℕ) (es es' : Entries) (c : Certificate) (s : Staged) (h : IsStaged rows stamp limit (found_for es c) c s) (sorted : AreSortedByFpr es) where
   abbrev after : Entries
   after = insert_entry fpr_cmp es (fpr_of c.key) s.kept
 

@@ -12,7 +12,7 @@ use Rattle.wot_cert.specs.Whole.{IsCertificate}
 use Rattle.wot_keyring.specs.declared.kept.Kept.{Kept}
 use Rattle.wot_keyring.specs.declared.tally.Weight.{Weight}
 use Rattle.wot_keyring.specs.Import.{stamp_for}
-use Rattle.wot_keyring.specs.Staging.{begun, stamp_over, Weighs, IsStep}
+use Rattle.wot_keyring.specs.Staging.{begun, stamp_over, Weighs, IsStaged}
 
 below : (n a b j m : ℕ) → n ≡ m → m ≤ a + j → j ≡ b → a + b < 2 ^ 63 → n < 2 ^ 63
 below n a b j m e h f few = omega arith
@@ -39,7 +39,7 @@ one_key items s n e h = omega arith
 module _ (rows : PolicyRows) (stamp limit : ℕ) (c start new : Certificate) (b a : Weight) (items st : ℕ) (n : new ≡ unite start (judged rows c)) (wb : Weighs limit b start) (wa : Weighs limit a new) (more : items + items_of start ≡ items_of new) (j : IsJudged rows start → IsJudged rows new) where
   -- where a certificate was kept
   pub step_on : (found : Option Kept) (old : ℕ) → start ≡ begun found c → Some old ≡ option_map (λ (x : Kept). x.stamp) found → st ≡ stamp_over stamp (Some old) items
-      → IsStep rows stamp limit found c (record { kept = record { cert = new; stamp = st }; before = b; after = a; items = items; keys = 0 })
+      → IsStaged rows stamp limit found c (record { kept = record { cert = new; stamp = st }; before = b; after = a; items = items; keys = 0 })
   step_on None old s o t = absurd cc
   step_on (Some x) old s o t =
       let e : new ≡ unite x.cert (judged rows c) = n ∙ ap (λ (z : Certificate). unite z (judged rows c)) s in
@@ -57,7 +57,7 @@ module _ (rows : PolicyRows) (stamp limit : ℕ) (c start new : Certificate) (b 
   -- where none was kept
   pub step_new : (found : Option Kept) → IsCertificate c → (IsCertificate c → IsCertificate (judged rows c)) → (IsCertificate (judged rows c) → unite (bare c.key) (judged rows c) ≡ judged rows c)
       → start ≡ begun found c → None ≡ option_map (λ (x : Kept). x.stamp) found → st ≡ stamp_over stamp None items
-      → IsStep rows stamp limit found c (record { kept = record { cert = new; stamp = st }; before = record { octets = 0; signatures = 0; long = 0 }; after = a; items = items; keys = 1 })
+      → IsStaged rows stamp limit found c (record { kept = record { cert = new; stamp = st }; before = record { octets = 0; signatures = 0; long = 0 }; after = a; items = items; keys = 1 })
   step_new (Some x) whole marked first s o t = absurd cc
   step_new None whole marked first s o t =
       let e : new ≡ judged rows c = n ∙ ap (λ (z : Certificate). unite z (judged rows c)) s ∙ first (marked whole) in

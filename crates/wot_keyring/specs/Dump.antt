@@ -1,4 +1,4 @@
--- The commands that make a keyring anew, and their text.
+-- The commands that make anew what is held, and their text.
 use Rattle.std.specs.Prelude.{◌≡◌, ◌≢◌, ◌≤◌, ℕ, if◌then◌else◌, List, [], ◌∷◌, ◌++◌, map, length, Option, Some, None, Result, Ok, Err}
 use Rattle.std.specs.List.{AllByRecursion, flat_map}
 use Rattle.wot_types.specs.declared.fpr.Fpr.{Fpr}
@@ -11,23 +11,22 @@ use Rattle.wot_script.specs.Grammar.{command_of}
 use Rattle.wot_script.specs.Spelling.{IsHeard, spelling}
 use Rattle.wot_verdict.specs.declared.verdict.Verdict.{Verdict}
 use Rattle.wot_verdict.specs.declared.verdict.Verdict.TheVariants.{Good, Bad}
-use Rattle.wot_verdict.specs.Verdicts as verdicts
 use Rattle.wot_cert.specs.Certificate.{Certificate}
 use Rattle.wot_cert.specs.Judged.{judged}
 use Rattle.wot_cert.specs.Text.{text_of}
 use Rattle.wot_keyring.specs.declared.import.Imported.{Imported}
-use Rattle.wot_keyring.specs.declared.kept.Kept.{Kept}
 use Rattle.wot_keyring.specs.declared.refusal.Refusal.{Refusal}
-use Rattle.wot_keyring.specs.Keyring.{Keyring, Certificates, certificates_in}
-use Rattle.wot_keyring.specs.Import.{answer_to, united_in}
+use Rattle.wot_keyring.specs.Keyring.{Keyring}
+use Rattle.wot_keyring.specs.Held.{Held, nothing, held_of, verdict_set}
+use Rattle.wot_keyring.specs.Import.{answer_to, importing}
 use Rattle.wot_keyring.specs.Verdict.{is_over}
 
 -- the import of a certificate's text
 abbrev pub text_import : Certificate → Command
 text_import c = commands.Import (text_of c)
 
-abbrev pub import_of : Fpr × Kept → Command
-import_of e = text_import e.1.cert
+abbrev pub import_of : Fpr × Certificate → Command
+import_of e = text_import e.1
 
 abbrev pub setting : SigNumber → Verdict → Command
 setting number (Good fpr) = commands.Good number fpr
@@ -37,15 +36,15 @@ abbrev pub setting_of : SigNumber × Verdict → Command
 setting_of e = setting e.0 e.1
 
 -- the certificates by fingerprint, then the verdicts by number
-abbrev pub commands_of : Keyring → List Command
-commands_of k = map import_of k.certs ++ map setting_of k.verdicts
+abbrev pub commands_of : Held → List Command
+commands_of held = map import_of held.certs ++ map setting_of held.verdicts
 
 -- a command on its line
-abbrev pub line_of : Command → List ℕ
-line_of c = spelling c ++ 10 ∷ []
+abbrev pub command_line_of : Command → List ℕ
+command_line_of c = spelling c ++ 10 ∷ []
 
 abbrev pub lines_of : List Command → List ℕ
-lines_of commands = flat_map line_of commands
+lines_of commands = flat_map command_line_of commands
 
 -- The line of a command is one line, isn't passed over, isn't too long, and is read as this command.
 pub record IsLine (c : Command) : Type 0 where
@@ -59,45 +58,35 @@ AreLines commands = AllByRecursion IsLine commands
 
 -- ---- what the commands do in a fresh keyring
 
--- what a keyring holds, whatever its stamps
-pub record Contents : Type 0 where
-  pub certs : Certificates
-  pub verdicts : verdicts.Entries
-
-abbrev pub nothing : Contents
-nothing = record { certs = []; verdicts = [] }
-
 abbrev pub unless_refused : {A : Type 0} → Result Imported Refusal → A → Option A
 unless_refused (Ok counts) new = Some new
 unless_refused (Err refusal) new = None
 
--- with a verdict on a number that had none; one that is refused for the limit gives nothing
-abbrev pub judged_so : Limits → Contents → SigNumber → Verdict → Option Verdict → Option Contents
-judged_so l c number verdict (Some earlier) = None
-judged_so l c number verdict None =
-    if is_over l c.verdicts number then None else Some (record c { verdicts = verdicts.with_verdict c.verdicts number verdict })
+-- with this verdict, unless it would be one more than the limit allows
+abbrev pub unless_over : Limits → SigNumber → Verdict → Held → Option Held
+unless_over l number verdict held = if is_over l held.verdicts number then None else Some (verdict_set number verdict held)
 
--- what is held after a command that isn't refused; each number is new
-abbrev pub after : PolicyRows → Limits → Command → Contents → Option Contents
-after rows l (commands.Import octets) c =
-    unless_refused (answer_to rows l c.certs octets) (record c { certs = united_in rows c.certs octets })
-after rows l (commands.Good number fpr) c = judged_so l c number (Good fpr) (verdicts.verdict_at c.verdicts number)
-after rows l (commands.Bad number) c = judged_so l c number Bad (verdicts.verdict_at c.verdicts number)
-after rows l _ c = None
+-- what is held after a command that isn't refused; a command that changes nothing that is held gives nothing
+abbrev pub after : PolicyRows → Limits → Command → Held → Option Held
+after rows l (commands.Import octets) held = unless_refused (answer_to rows l held.certs octets) (importing rows octets held)
+after rows l (commands.Good number fpr) held = unless_over l number (Good fpr) held
+after rows l (commands.Bad number) held = unless_over l number Bad held
+after rows l _ held = None
 
-abbrev pub after_all : PolicyRows → Limits → List Command → Option Contents → Option Contents
-after_all rows l [] o = o
-after_all rows l (command ∷ cs) None = None
-after_all rows l (command ∷ cs) (Some c) = after_all rows l cs (after rows l command c)
+-- what these commands lead to, one after the other; nothing once one gives nothing
+abbrev pub after_all : {S : Type 0} → (Command → S → Option S) → List Command → Option S → Option S
+after_all after [] o = o
+after_all after (command ∷ commands) None = None
+after_all after (command ∷ commands) (Some s) = after_all after commands (after command s)
 
 -- a certificate, each signature marked as the rows judge it
 abbrev pub judged_anew : PolicyRows → Fpr × Certificate → Fpr × Certificate
 judged_anew rows e = (e.0, judged rows e.1)
 
--- what this keyring holds, judged by the rows
-abbrev pub contents_by : PolicyRows → Keyring → Contents
-contents_by rows k = record { certs = map (judged_anew rows) (certificates_in k); verdicts = k.verdicts }
+-- what is held, each signature marked as the rows judge it
+abbrev pub judged_by : PolicyRows → Held → Held
+judged_by rows held = record held { certs = map (judged_anew rows) held.certs }
 
 -- The commands, run in a fresh keyring with the same limits, give what this one holds, judged by the rows, and none is refused.
 abbrev pub IsRestored : PolicyRows → Keyring → Type 0
-IsRestored rows k = after_all rows k.limits (commands_of k) (Some nothing) ≡ Some (contents_by rows k)
+IsRestored rows k = after_all (after rows k.limits) (commands_of (held_of k)) (Some nothing) ≡ Some (judged_by rows (held_of k))

@@ -24,7 +24,7 @@ abbrev pub taken_one : PolicyRows → Option Certificates → Certificate → Op
 taken_one rows None c = None
 taken_one rows (Some certs) c = cond (clashes_with (lookup (is_fpr (fpr_of c.key)) certs) c) None (Some (with_cert rows certs c))
 
--- the same with each of these, from the front
+-- the same with each of these, from the beginning
 abbrev pub taken_all : PolicyRows → Option Certificates → List Certificate → Option Certificates
 taken_all rows kept [] = kept
 taken_all rows kept (c ∷ cs) = taken_all rows (taken_one rows kept c) cs
@@ -40,7 +40,8 @@ IsWholeState (Some certs) = AreAllWhole certs
 
 -- Both lists do the same, whatever is kept and whatever the rows.
 abbrev pub DoTheSame : List Certificate → List Certificate → Type 0
-DoTheSame list other = (rows : PolicyRows) (kept : Option Certificates) → IsWholeState kept → taken_all rows kept list ≡ taken_all rows kept other
+DoTheSame list other =
+    (rows : PolicyRows) (kept : Option Certificates) → IsWholeState kept → taken_all rows kept list ≡ taken_all rows kept other
 
 -- Two of these clash, so that nothing comes of them.
 abbrev pub ComeToNothing : List Certificate → Type 0

@@ -1,5 +1,6 @@
--- What an import of octets answers, and what it does: each certificate of them united with the kept one, all or none.
-use Rattle.std.specs.Prelude.{◌≡◌, ◌≤◌, ◌⊎◌, ℕ, ◌+◌, ◌-◌, Bool, false, not, ◌&&◌, ◌||◌, nat_eq, nat_lt, if◌then◌else◌, List, [], ◌∷◌, map, length, Option, Some, None, Result, Ok, Err}
+-- What an import of octets answers, and what it does: each certificate of them united with the kept one, all or none. To
+-- load the entry of a directory is the same, where something is demanded of the certificates.
+use Rattle.std.specs.Prelude.{◌≡◌, ◌≢◌, ◌≤◌, ◌⊎◌, ℕ, ◌+◌, ◌-◌, Bool, true, false, not, ◌&&◌, ◌||◌, nat_eq, nat_lt, if◌then◌else◌, List, [], ◌∷◌, map, length, Option, Some, None, Result, Ok, Err}
 use Rattle.std.specs.List.{list_any}
 use Rattle.std.specs.Cmp.Lexicographic.{pointwise}
 use Rattle.std.specs.BTreeMap.{insert_entry}
@@ -8,6 +9,8 @@ use Rattle.wot_types.specs.declared.fpr.Fpr.{Fpr}
 use Rattle.wot_types.specs.declared.limits.Limits.{Limits}
 use Rattle.wot_types.specs.declared.limits.Limit.{Limit}
 use Rattle.wot_types.specs.declared.limits.Limit.TheVariants as limits
+use Rattle.wot_types.specs.declared.name.Name.{Name}
+use Rattle.wot_types.specs.declared.name.Name.TheVariants as names
 use Rattle.wot_types.specs.Fpr.{fpr_cmp}
 use Rattle.wot_key.specs.Key.{fpr_of}
 use Rattle.wot_packet.specs.declared.packet.PacketFault.{PacketFault}
@@ -24,8 +27,9 @@ use Rattle.wot_cert.specs.Text.{size_of}
 use Rattle.wot_keyring.specs.declared.import.Imported.{Imported}
 use Rattle.wot_keyring.specs.declared.kept.Kept.{Kept}
 use Rattle.wot_keyring.specs.declared.refusal.Refusal.{Refusal}
-use Rattle.wot_keyring.specs.declared.refusal.Refusal.TheVariants.{Packet, Cert, Clash, Full, Memory}
+use Rattle.wot_keyring.specs.declared.refusal.Refusal.TheVariants.{Packet, Cert, Misfiled, Clash, Full, Memory}
 use Rattle.wot_keyring.specs.Keyring.{Keyring, Certificates, is_fpr, kept_at, certificates_in}
+use Rattle.wot_keyring.specs.Held.{Held, held_of}
 
 -- ---- the union
 
@@ -38,7 +42,7 @@ abbrev pub with_cert : PolicyRows → Certificates → Certificate → Certifica
 with_cert rows certs c =
     insert_entry fpr_cmp certs (fpr_of c.key) (united_with (lookup (is_fpr (fpr_of c.key)) certs) (judged rows c))
 
--- the same with each of these, from the front
+-- the same with each of these, from the beginning
 abbrev pub with_certs : PolicyRows → Certificates → List Certificate → Certificates
 with_certs rows certs [] = certs
 with_certs rows certs (c ∷ cs) = with_certs rows (with_cert rows certs c) cs
@@ -96,6 +100,10 @@ holding old certs = record {
   changes = if nat_lt 0 (fresh_in (certificates_in old) certs) then old.changes + 1 else old.changes;
 }
 
+-- the keyring with these certificates united with the kept ones
+abbrev pub with_united : PolicyRows → Keyring → List Certificate → Keyring
+with_united rows old cs = holding old (with_certs rows (certificates_in old) cs)
+
 -- ---- the whole
 
 abbrev pub of_packets : Result (List Spelled) PacketFault → List Certificate
@@ -110,6 +118,10 @@ spelled_in octets = of_packets (packets_of octets)
 abbrev pub united_in : PolicyRows → Certificates → List ℕ → Certificates
 united_in rows certs octets = with_certs rows certs (spelled_in octets)
 
+-- with the certificates that the octets spell, all united with the held ones
+abbrev pub importing : PolicyRows → List ℕ → Held → Held
+importing rows octets held = record held { certs = united_in rows held.certs octets }
+
 -- the keyring after the import
 abbrev pub imported : PolicyRows → Keyring → List ℕ → Keyring
 imported rows old octets = holding old (united_in rows (certificates_in old) octets)
@@ -117,6 +129,26 @@ imported rows old octets = holding old (united_in rows (certificates_in old) oct
 -- how often the policy is asked: once for each sound signature that is new
 abbrev pub asked_in : PolicyRows → Certificates → List ℕ → ℕ
 asked_in rows certs octets = weigh sound_of (united_in rows certs octets) - weigh sound_of certs
+
+-- ---- what is demanded of the certificates that were read
+
+-- whether these certificates are taken, beside which that many keys were skipped
+abbrev pub Demand : Type 0
+Demand = List Certificate → ℕ → Bool
+
+-- An import demands nothing.
+abbrev pub any : Demand
+any cs skipped = true
+
+-- whether a certificate may stand in a directory under this name
+abbrev pub stands_under : Name → Certificate → Bool
+stands_under (names.Cert fpr) c = is_fpr fpr (fpr_of c.key)
+stands_under names.TrustRoot c = true
+
+-- An entry of a directory is one certificate, that of its name, and beside it no key was skipped.
+abbrev pub is_entry : Name → Demand
+is_entry name (c ∷ []) skipped = nat_eq skipped 0 && stands_under name c
+is_entry name cs skipped = false
 
 -- ---- the answer
 
@@ -131,22 +163,35 @@ answer_united rows limits certs cs skipped =
     else unless_full (first_full limits (with_certs rows certs cs))
     (record { taken = length cs; skipped = skipped; fresh = fresh_in certs (with_certs rows certs cs) })
 
+-- the same with a demand on the certificates; what doesn't meet it isn't the entry that its name says
+abbrev pub answer_meeting : Demand → PolicyRows → Limits → Certificates → List Certificate → ℕ → Result Imported Refusal
+answer_meeting demand rows limits certs cs skipped =
+    if demand cs skipped then answer_united rows limits certs cs skipped else Err Misfiled
+
 abbrev pub unless_fault : Option CertFault → Result Imported Refusal → Result Imported Refusal
 unless_fault (Some fault) answer = Err (Cert fault)
 unless_fault None answer = answer
 
-abbrev pub answer_read : PolicyRows → Limits → Certificates → Result (List Spelled) PacketFault → Result Imported Refusal
-answer_read rows limits certs (Err fault) = Err (Packet fault)
-answer_read rows limits certs (Ok packets) =
-    unless_fault (first_fault packets) (answer_united rows limits certs (certificates_of packets) (skipped_in packets))
+abbrev pub answer_read : Demand → PolicyRows → Limits → Certificates → Result (List Spelled) PacketFault → Result Imported Refusal
+answer_read demand rows limits certs (Err fault) = Err (Packet fault)
+answer_read demand rows limits certs (Ok packets) =
+    unless_fault (first_fault packets) (answer_meeting demand rows limits certs (certificates_of packets) (skipped_in packets))
 
--- the answer where memory is found: the first refusal in this order, or the counts
+-- the answer to octets with a demand, where memory is found: the first refusal in this order, or the counts
+abbrev pub answer_under : Demand → PolicyRows → Limits → Certificates → List ℕ → Result Imported Refusal
+answer_under demand rows limits certs octets = answer_read demand rows limits certs (packets_of octets)
+
+-- the answer to an import
 abbrev pub answer_to : PolicyRows → Limits → Certificates → List ℕ → Result Imported Refusal
-answer_to rows limits certs octets = answer_read rows limits certs (packets_of octets)
+answer_to rows limits certs octets = answer_under any rows limits certs octets
 
 -- That is the answer, unless no memory was found.
+abbrev pub AnswersUnder : Demand → Result Imported Refusal → PolicyRows → Keyring → List ℕ → Type 0
+AnswersUnder demand result rows old octets =
+    (result ≡ answer_under demand rows old.limits (certificates_in old) octets) ⊎ (result ≡ Err Memory)
+
 abbrev pub Answers : Result Imported Refusal → PolicyRows → Keyring → List ℕ → Type 0
-Answers result rows old octets = (result ≡ answer_to rows old.limits (certificates_in old) octets) ⊎ (result ≡ Err Memory)
+Answers result rows old octets = AnswersUnder any result rows old octets
 
 -- How often the policy was asked, as far as the answer tells: on Ok for all that is new, on a refusal never, and where memory
 -- was missing at most for all that is new.
@@ -158,6 +203,10 @@ IsAsked (Err _) rows old octets k = k ≡ 0
 abbrev pub AsksFor : Result Imported Refusal → PolicyRows → Keyring → List ℕ → (ℕ → Type 0) → Type 0
 AsksFor result rows old octets IsRisenBy = (k : ℕ) × IsRisenBy k × IsAsked result rows old octets k
 
--- Nothing was altered; or something was, and counted as one change.
+-- Another certificate, mark or verdict is held than was.
+abbrev pub IsAltered : Keyring → Keyring → Type 0
+IsAltered old new = held_of new ≢ held_of old
+
+-- Nothing was altered, no stamp and no count; or what is held was, and that was counted as one change.
 abbrev pub IsOneChange : Keyring → Keyring → Type 0
-IsOneChange old new = (new ≡ old) ⊎ (new.changes ≡ old.changes + 1)
+IsOneChange old new = (new ≡ old) ⊎ ((new.changes ≡ old.changes + 1) × IsAltered old new)

@@ -3,7 +3,10 @@ use Rattle.std.specs.Prelude.{◌≡◌, ◌≤◌, ◌⊎◌, ℕ, ◌-◌, fal
 use Rattle.std.specs.List.{AllByRecursion}
 use Rattle.wot_types.specs.declared.fpr.Fpr.{Fpr}
 use Rattle.wot_types.specs.declared.limits.Limits.{Limits}
+use Rattle.wot_types.specs.declared.limits.Limit.{Limit}
+use Rattle.wot_policy.specs.declared.policy.Policy.{Policy}
 use Rattle.wot_policy.specs.declared.rows.PolicyRows.{PolicyRows}
+use Rattle.wot_policy.specs.Kept.{asked_more, rows_of}
 use Rattle.wot_cert.specs.declared.assembling.Assembled.{Assembled}
 use Rattle.wot_cert.specs.Certificate.{Certificate}
 use Rattle.wot_cert.specs.Judged.{sound_of}
@@ -12,7 +15,7 @@ use Rattle.wot_keyring.specs.declared.import.Imported.{Imported}
 use Rattle.wot_keyring.specs.declared.refusal.Refusal.{Refusal}
 use Rattle.wot_keyring.specs.declared.refusal.Refusal.TheVariants.{Memory}
 use Rattle.wot_keyring.specs.Keyring.{Certificates, Keyring, certificates_in}
-use Rattle.wot_keyring.specs.Import.{weigh, with_certs, any_clash, first_full, spelled_in, answer_united, answer_to}
+use Rattle.wot_keyring.specs.Import.{weigh, with_certs, any_clash, first_full, spelled_in, Demand, answer_united, answer_meeting, answer_under}
 
 -- ---- reading
 
@@ -20,11 +23,14 @@ use Rattle.wot_keyring.specs.Import.{weigh, with_certs, any_clash, first_full, s
 pub record IsRead (octets : List ℕ) (read : Assembled) : Type 0 where
   pub spelled : read.certs ≡ spelled_in octets
   pub whole : AllByRecursion IsCertificate read.certs
-  pub answer : (rows : PolicyRows) (limits : Limits) (certs : Certificates) → answer_to rows limits certs octets ≡ answer_united rows limits certs read.certs read.skipped
+  pub answer : (demand : Demand) (rows : PolicyRows) (limits : Limits) (certs : Certificates)
+      → answer_under demand rows limits certs octets ≡ answer_meeting demand rows limits certs read.certs read.skipped
 
--- The octets are refused so, whatever is kept.
+-- The octets are refused so, whatever is kept and demanded.
 abbrev pub IsRefused : Refusal → List ℕ → Type 0
-IsRefused refusal octets = (rows : PolicyRows) (limits : Limits) (certs : Certificates) → answer_to rows limits certs octets ≡ Err refusal
+IsRefused refusal octets =
+    (demand : Demand) (rows : PolicyRows) (limits : Limits) (certs : Certificates)
+    → answer_under demand rows limits certs octets ≡ Err refusal
 
 -- What was read, or why nothing was; want of memory says nothing.
 abbrev pub TellsRead : Result Assembled Refusal → List ℕ → Type 0
@@ -47,13 +53,19 @@ pub record MayUnite (limits : Limits) (certs : Certificates) (cs : List Certific
 abbrev pub TellsUnion : Option Refusal → Limits → Certificates → List Certificate → Type 0
 TellsUnion None limits certs cs = MayUnite limits certs cs
 TellsUnion (Some Memory) limits certs cs = Unit {0}
-TellsUnion (Some refusal) limits certs cs = (rows : PolicyRows) (skipped : ℕ) → answer_united rows limits certs cs skipped ≡ Err refusal
+TellsUnion (Some refusal) limits certs cs =
+    (rows : PolicyRows) (skipped : ℕ) → answer_united rows limits certs cs skipped ≡ Err refusal
+
+-- This is the first limit that the kept certificates pass with these, by whatever rows.
+abbrev pub IsFirstFull : Limits → Certificates → List Certificate → Option Limit → Type 0
+IsFirstFull limits certs cs full = (rows : PolicyRows) → full ≡ first_full limits (with_certs rows certs cs)
 
 -- ---- doing
 
 -- That is the answer, unless no memory was found.
 abbrev pub AnswersUnited : Result Imported Refusal → PolicyRows → Keyring → List Certificate → ℕ → Type 0
-AnswersUnited result rows old cs skipped = (result ≡ answer_united rows old.limits (certificates_in old) cs skipped) ⊎ (result ≡ Err Memory)
+AnswersUnited result rows old cs skipped =
+    (result ≡ answer_united rows old.limits (certificates_in old) cs skipped) ⊎ (result ≡ Err Memory)
 
 -- how often the policy is asked for them
 abbrev pub asked_for : PolicyRows → Keyring → List Certificate → ℕ
@@ -64,3 +76,8 @@ abbrev pub IsAskedOf : Result Imported Refusal → ℕ → ℕ → Type 0
 IsAskedOf (Ok counts) all n = n ≡ all
 IsAskedOf (Err Memory) all n = n ≤ all
 IsAskedOf (Err _) all n = n ≡ 0
+
+-- The policy was asked so often.
+abbrev pub AsksUniting : {F : Type 0} → Result Imported Refusal → Policy F → Policy F → Keyring → List Certificate → Type 0
+AsksUniting result before after old cs =
+    (k : ℕ) × (after ≡ asked_more k before) × IsAskedOf result (asked_for (rows_of before) old cs) k

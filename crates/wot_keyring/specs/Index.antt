@@ -1,8 +1,8 @@
 -- On which certificate each signature stands, by its number: how a change of a verdict finds the certificate.
-use Rattle.std.specs.Prelude.{◌≡◌, Bool, true, false, ◌&&◌, ◌||◌, cond, List, Option, None}
-use Rattle.std.specs.Option.{option_map_or}
+use Rattle.std.specs.Prelude.{◌≡◌, ℕ, Bool, true, false, ◌&&◌, ◌||◌, cond, List, Option, None}
+use Rattle.std.specs.Option.{option_map_or, MatchOption}
 use Rattle.std.specs.List.{list_any}
-use Rattle.std.specs.Map.{lookup}
+use Rattle.std.specs.Map.{lookup, set_value}
 use Rattle.wot_types.specs.declared.fpr.Fpr.{Fpr}
 use Rattle.wot_types.specs.declared.number.SigNumber.{SigNumber}
 use Rattle.wot_key.specs.Key.{fpr_of}
@@ -15,20 +15,20 @@ use Rattle.wot_keyring.specs.Verdict.{has_number}
 
 -- ---- what is noted
 
-abbrev pub Places : Type 0
-Places = List (SigNumber × Fpr)
+abbrev pub Holders : Type 0
+Holders = List (SigNumber × Fpr)
 
 -- the fingerprint that is noted for a number
-abbrev pub place_of : Places → SigNumber → Option Fpr
-place_of places n = lookup (is_number n) places
+abbrev pub holder_of : Holders → SigNumber → Option Fpr
+holder_of holders n = lookup (is_number n) holders
 
 -- whether it is this one
-abbrev pub is_place : Option Fpr → Fpr → Bool
-is_place place fpr = option_map_or (λ (p : Fpr). is_fpr p fpr) place false
+abbrev pub is_holder : Option Fpr → Fpr → Bool
+is_holder holder fpr = option_map_or (λ (p : Fpr). is_fpr p fpr) holder false
 
 -- whether a number is noted at a fingerprint
 abbrev pub is_noted : Index → SigNumber → Fpr → Bool
-is_noted i n fpr = is_place (place_of i.places.entries n) fpr
+is_noted i n fpr = is_holder (holder_of i.holders.entries n) fpr
 
 -- whether a signature of this number stands on what is kept under a fingerprint
 abbrev pub stands_at : Entries → SigNumber → Fpr → Bool
@@ -41,35 +41,55 @@ IsIndexOf i es = i.exact ≡ true → (n : SigNumber) (fpr : Fpr) → is_noted i
 
 -- ---- noting
 
+-- whether a signature of this number stands on the certificate, which has this fingerprint
+abbrev pub stands_on : Certificate → SigNumber → Fpr → Bool
+stands_on c n fpr = has_number n c && is_fpr (fpr_of c.key) fpr
+
 -- whether a signature of this number stands on one of these certificates that has this fingerprint
 abbrev pub stands_among : List Certificate → SigNumber → Fpr → Bool
-stands_among cs n fpr = list_any (λ (c : Certificate). has_number n c && is_fpr (fpr_of c.key) fpr) cs
+stands_among cs n fpr = list_any (λ (c : Certificate). stands_on c n fpr) cs
 
 -- The new index has noted what the old one has, and these too.
 abbrev pub Notes : Index → Index → (SigNumber → Fpr → Bool) → Type 0
-Notes old new these = new.exact ≡ true → (old.exact ≡ true) × ((n : SigNumber) (fpr : Fpr) → is_noted new n fpr ≡ (is_noted old n fpr || these n fpr))
+Notes old new these =
+    new.exact ≡ true → (old.exact ≡ true)
+    × ((n : SigNumber) (fpr : Fpr) → is_noted new n fpr ≡ (is_noted old n fpr || these n fpr))
 
 -- The new index, once the rest is noted, has noted what the old one has, and all of these too.
 abbrev pub NotesOn : Index → Index → (SigNumber → Fpr → Bool) → (SigNumber → Fpr → Bool) → Type 0
-NotesOn old new rest all = new.exact ≡ true → (old.exact ≡ true) × ((n : SigNumber) (fpr : Fpr) → (is_noted new n fpr || rest n fpr) ≡ (is_noted old n fpr || all n fpr))
+NotesOn old new rest all =
+    new.exact ≡ true → (old.exact ≡ true)
+    × ((n : SigNumber) (fpr : Fpr) → (is_noted new n fpr || rest n fpr) ≡ (is_noted old n fpr || all n fpr))
 
 -- Both have noted the same.
 abbrev pub NotesNothing : Index → Index → Type 0
-NotesNothing old new = new.exact ≡ true → (old.exact ≡ true) × ((n : SigNumber) → place_of new.places.entries n ≡ place_of old.places.entries n)
+NotesNothing old new =
+    new.exact ≡ true → (old.exact ≡ true)
+    × ((n : SigNumber) → holder_of new.holders.entries n ≡ holder_of old.holders.entries n)
 
 -- ---- taking out
 
 -- nothing, where the test says so
 abbrev pub unless : Bool → Option Fpr → Option Fpr
-unless out place = cond out None place
+unless out holder = cond out None holder
 
 abbrev pub is_logged : SigNumber → List SigNumber → Bool
 is_logged n log = list_any (is_number n) log
 
 -- what is noted for a number without the logged ones
-abbrev pub place_without : List SigNumber → Places → SigNumber → Option Fpr
-place_without log places n = unless (is_logged n log) (place_of places n)
+abbrev pub holder_without : List SigNumber → Holders → SigNumber → Option Fpr
+holder_without log holders n = unless (is_logged n log) (holder_of holders n)
 
 -- Taking out what the new log tells of gives what taking out what the old one tells of gave.
 abbrev pub StillLogged : Index → List SigNumber → Index → List SigNumber → Type 0
-StillLogged old log new log' = new.exact ≡ true → (old.exact ≡ true) × ((n : SigNumber) → place_without log' new.places.entries n ≡ place_without log old.places.entries n)
+StillLogged old log new log' =
+    new.exact ≡ true → (old.exact ≡ true)
+    × ((n : SigNumber) → holder_without log' new.holders.entries n ≡ holder_without log old.holders.entries n)
+
+-- ---- restamping
+
+-- What is kept under a fingerprint has this stamp now; all else is as before.
+abbrev pub RestampsAt : Fpr → ℕ → Entries → Entries → Type 0
+RestampsAt fpr stamp old new =
+    MatchOption (lookup (is_fpr fpr) old) (new ≡ old)
+    (λ (kept : Kept). new ≡ set_value (is_fpr fpr) old (record kept { stamp = stamp }))

@@ -45,8 +45,8 @@ abbrev pub AreWhole : Entries → Type 0
 AreWhole entries = AllByRecursion (λ (e : Fpr × Kept). IsCertificate e.1.cert) entries
 
 -- The fingerprints rise, so that none stands twice.
-abbrev pub AreInOrder : Entries → Type 0
-AreInOrder entries = IsStrictlySortedBy fpr_cmp (keys_of entries)
+abbrev pub AreSortedByFpr : Entries → Type 0
+AreSortedByFpr entries = IsStrictlySortedBy fpr_cmp (keys_of entries)
 
 -- None of the certificates is longer than this.
 abbrev pub AreSized : ℕ → Entries → Type 0
@@ -65,7 +65,7 @@ pub record IsKeyring (k : Keyring) : Type 0 where
   pub small : AreSmall k.limits
   pub named : AreNamed k.certs
   pub whole : AreWhole k.certs
-  pub in_order : AreInOrder k.certs
+  pub sorted : AreSortedByFpr k.certs
   pub within : IsWithin k
   pub stamped : AreStamped k.changes k.certs
 

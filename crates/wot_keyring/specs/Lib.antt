@@ -1,10 +1,15 @@
 pub mod Keyring
+pub mod Held
 pub mod Verdict
 pub mod Removal
 pub mod Import
 pub mod Kept
 pub mod Dump
+pub mod Pending
 pub mod Staging
 pub mod Importing
 pub mod Gather
 pub mod Index
+pub mod Later
+pub mod Log
+pub mod From

@@ -1,5 +1,5 @@
 -- How an import puts certificates among the kept ones, one after the other, and how that is taken back.
-use Rattle.std.specs.Prelude.{◌≡◌, ◌≤◌, ◌⊎◌, ℕ, ◌+◌, Bool, true, false, not, ◌||◌, nat_eq, nat_lt, if◌then◌else◌, List, [], ◌∷◌, Option, Some, None, is_some, Result, Ok, Err}
+use Rattle.std.specs.Prelude.{◌≡◌, ◌≤◌, ◌⊎◌, ℕ, ◌+◌, Bool, true, false, not, ◌||◌, nat_eq, nat_lt, if◌then◌else◌, List, [], ◌∷◌, Option, Some, None, is_some, Result, Ok, Err, MatchResult}
 use Rattle.std.specs.Option.{option_map}
 use Rattle.std.specs.Cmp.Lexicographic.{pointwise}
 use Rattle.std.specs.BTreeMap.{insert_entry}
@@ -10,17 +10,20 @@ use Rattle.wot_types.specs.declared.limits.Limit.{Limit}
 use Rattle.wot_types.specs.declared.limits.Limit.TheVariants as limits
 use Rattle.wot_types.specs.Fpr.{fpr_cmp}
 use Rattle.wot_key.specs.Key.{fpr_of}
+use Rattle.wot_policy.specs.declared.policy.Policy.{Policy}
 use Rattle.wot_policy.specs.declared.rows.PolicyRows.{PolicyRows}
+use Rattle.wot_policy.specs.Kept.{asked_more, rows_of}
 use Rattle.wot_cert.specs.Assembly.{bare}
 use Rattle.wot_cert.specs.Certificate.{Certificate}
 use Rattle.wot_cert.specs.Counts.{sum_of, items_of, signatures_of}
-use Rattle.wot_cert.specs.Judged.{IsJudged, judged}
+use Rattle.wot_cert.specs.Judged.{IsJudged, judged, sound_of}
 use Rattle.wot_cert.specs.Text.{size_of}
 use Rattle.wot_keyring.specs.declared.kept.Kept.{Kept}
 use Rattle.wot_keyring.specs.declared.staging.Was.{Was}
 use Rattle.wot_keyring.specs.declared.staging.Fault.{Fault}
 use Rattle.wot_keyring.specs.declared.staging.Fault.TheVariants.{Clash, Memory}
-use Rattle.wot_keyring.specs.declared.staging.Step.{Step}
+use Rattle.wot_keyring.specs.declared.staging.Staged.{Staged}
+use Rattle.wot_keyring.specs.declared.tally.Tally.{Tally}
 use Rattle.wot_keyring.specs.declared.tally.Weight.{Weight}
 use Rattle.wot_keyring.specs.Keyring.{Entries, is_fpr}
 use Rattle.wot_keyring.specs.Import.{united_with, stamp_for}
@@ -46,7 +49,7 @@ kept_as rows stamp found c = record { cert = joined rows found c; stamp = stamp_
 abbrev pub kept_with : PolicyRows → ℕ → Entries → Certificate → Entries
 kept_with rows stamp es c = insert_entry fpr_cmp es (fpr_of c.key) (kept_as rows stamp (found_for es c) c)
 
--- the same with each of these, from the front
+-- the same with each of these, from the beginning
 abbrev pub kept_all : PolicyRows → ℕ → Entries → List Certificate → Entries
 kept_all rows stamp es [] = es
 kept_all rows stamp es (c ∷ cs) = kept_all rows stamp (kept_with rows stamp es c) cs
@@ -143,6 +146,36 @@ abbrev pub AskedInAll : {T : Type 0} → Result T Fault → ℕ → ℕ → ℕ 
 AskedInAll (Ok done) old new k = old + k ≡ new
 AskedInAll (Err fault) old new k = AskedUpTo fault old new k
 
+-- how many sound signatures are kept
+abbrev pub sound_in : Entries → ℕ
+sound_in es = weigh_kept sound_of es
+
+-- how many sound signatures are kept of this certificate
+abbrev pub sound_found : Entries → Certificate → ℕ
+sound_found es c = found_by sound_of (found_for es c)
+
+-- The policy was asked for what is new of a certificate that is put among the kept ones, and of several.
+abbrev pub AsksForOne : {F T : Type 0} → Result T Fault → Policy F → Policy F → ℕ → Entries → Certificate → Type 0
+AsksForOne result before after stamp es c =
+    (k : ℕ) × (after ≡ asked_more k before) × AskedFor result (sound_in es) (sound_in (kept_with (rows_of before) stamp es c)) k
+
+abbrev pub AsksForAll : {F T : Type 0} → Result T Fault → Policy F → Policy F → ℕ → Entries → List Certificate → Type 0
+AsksForAll result before after stamp es cs =
+    (k : ℕ) × (after ≡ asked_more k before) × AskedInAll result (sound_in es) (sound_in (kept_all (rows_of before) stamp es cs)) k
+
+-- The policy was asked for what a certificate has that the first one hadn't; where there is none, it was asked nothing.
+abbrev pub AsksToBecome : {F T : Type 0} → Result T Fault → Policy F → Policy F → ℕ → (T → Certificate) → Type 0
+AsksToBecome result before after sound became =
+    (k : ℕ) × (after ≡ asked_more k before) × MatchResult result (λ done. k + sound ≡ sound_of (became done)) (λ _. k ≡ 0)
+
+-- What is new was counted.
+abbrev pub Counts : Entries → Entries → Tally → Tally → Type 0
+Counts es es' t t' = t'.fresh + weigh_kept items_of es ≡ t.fresh + weigh_kept items_of es'
+
+-- Something is kept under a fingerprint.
+abbrev pub IsThere : Entries → Fpr → Type 0
+IsThere es fpr = is_some (lookup (is_fpr fpr) es) ≡ true
+
 -- It is judged by these rows where it is kept.
 abbrev pub IsFoundJudged : PolicyRows → Option Kept → Type 0
 IsFoundJudged rows None = Unit {0}
@@ -154,12 +187,16 @@ stamp_over stamp None items = stamp
 stamp_over stamp (Some old) items = if nat_eq items 0 then old else stamp
 
 -- What becomes of the kept certificates by one that is united with what was found.
-pub record IsStep (rows : PolicyRows) (stamp limit : ℕ) (found : Option Kept) (c : Certificate) (s : Step) : Type 0 where
+pub record IsStaged (rows : PolicyRows) (stamp limit : ℕ) (found : Option Kept) (c : Certificate) (s : Staged) : Type 0 where
   pub kept : s.kept ≡ kept_as rows stamp found c
   pub before : WeighsFound limit s.before found
   pub after : Weighs limit s.after s.kept.cert
   pub items : s.items + s.keys + found_by items_of found ≡ items_of s.kept.cert
   pub judged : IsFoundJudged rows found → IsJudged rows s.kept.cert
+
+-- What becomes of these entries by one.
+abbrev pub IsStepOf : PolicyRows → ℕ → ℕ → Entries → Certificate → Staged → Type 0
+IsStepOf rows stamp limit es c s = IsStaged rows stamp limit (found_for es c) c s
 
 -- ---- taking back
 

@@ -1,5 +1,5 @@
 -- What a change of a verdict does.
-use Rattle.std.specs.Prelude.{ℕ, ◌+◌, Bool, ◌&&◌, ◌||◌, nat_le, if◌then◌else◌, List, length, map, is_none, true, false, Result, Ok, Err, ◌≡◌}
+use Rattle.std.specs.Prelude.{ℕ, ◌+◌, Bool, ◌&&◌, ◌||◌, nat_le, if◌then◌else◌, List, length, map, is_none, true, false, Some, Result, Ok, Err, ◌≡◌, ◌≢◌}
 use Rattle.std.specs.List.{list_any}
 use Rattle.wot_types.specs.declared.fpr.Fpr.{Fpr}
 use Rattle.wot_types.specs.declared.number.SigNumber.{SigNumber}
@@ -7,22 +7,26 @@ use Rattle.wot_types.specs.declared.limits.Limits.{Limits}
 use Rattle.wot_verdict.specs.Verdicts as verdicts
 use Rattle.wot_verdict.specs.Verdicts.{is_number, with_verdict, without_verdict}
 use Rattle.wot_verdict.specs.declared.verdict.Verdict.{Verdict}
-use Rattle.wot_cert.specs.Certificate.{Signature, Certificate}
+use Rattle.wot_cert.specs.Certificate.{Signature, Component, Certificate}
 use Rattle.wot_cert.specs.Counts.{sigs_on}
 use Rattle.wot_keyring.specs.declared.kept.Kept.{Kept}
 use Rattle.wot_types.specs.declared.limits.Limit.TheVariants.{Verdicts}
 use Rattle.wot_keyring.specs.declared.refusal.Refusal.{Refusal}
 use Rattle.wot_keyring.specs.declared.refusal.Refusal.TheVariants.{Full, Memory}
-use Rattle.wot_keyring.specs.Keyring.{Entries, Keyring}
+use Rattle.wot_keyring.specs.Keyring.{Entries, Keyring, verdict_on}
 
 -- whether a signature of this number is among them
 abbrev pub is_among : SigNumber → List Signature → Bool
 is_among number sigs = list_any (λ (s : Signature). is_number number s.number) sigs
 
+-- whether a signature of this number stands on one of these components
+abbrev pub is_on : SigNumber → List Component → Bool
+is_on number parts = is_among number (sigs_on parts)
+
 -- whether a signature of this number stands on the key, or on a user ID, an attribute or a subkey
 abbrev pub has_number : SigNumber → Certificate → Bool
 has_number number c =
-    is_among number c.direct || (is_among number (sigs_on c.user_ids) || (is_among number (sigs_on c.attributes) || is_among number (sigs_on c.subkeys)))
+    is_among number c.direct || (is_on number c.user_ids || (is_on number c.attributes || is_on number c.subkeys))
 
 -- with this stamp, where a signature of that number stands on it
 abbrev pub restamped : SigNumber → ℕ → Kept → Kept
@@ -46,6 +50,10 @@ counted_at number k = record {
 -- the keyring with this verdict on the number, which it didn't have before
 abbrev pub with_verdict_on : SigNumber → Verdict → Keyring → Keyring
 with_verdict_on number verdict k = counted_at number (record k { verdicts = with_verdict k.verdicts number verdict })
+
+-- It is set, where it wasn't the verdict on the number already.
+abbrev pub SetsVerdict : SigNumber → Verdict → Keyring → Keyring → Type 0
+SetsVerdict number verdict old new = verdict_on old number ≢ Some verdict → new ≡ with_verdict_on number verdict old
 
 -- the keyring without the verdict on the number, which it had before
 abbrev pub without_verdict_on : SigNumber → Keyring → Keyring

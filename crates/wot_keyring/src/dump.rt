@@ -3,10 +3,10 @@ ghost use Rattle.std.specs.List.{AllByRecursion};
 ghost use Rattle.wot_types.specs.Limits.{standard_limits};
 ghost use Rattle.wot_policy.specs.declared.rows.PolicyRows.{PolicyRows as Rows};
 ghost use Rattle.wot_script.specs.Spelling.{HasSpelling, most_octets};
-ghost use Rattle.wot_verdict.specs.Verdicts.{InOrder};
+ghost use Rattle.wot_verdict.specs.Verdicts.{AreSortedByNumber};
 ghost use Rattle.wot_cert.specs.Certificate.{Certificate};
 ghost use Rattle.wot_cert.specs.Text.{size_of, text_of};
-ghost use Rattle.wot_keyring.specs.Dump.{AreLines, IsLine, IsRestored, line_of, lines_of, setting, setting_of, text_import};
+ghost use Rattle.wot_keyring.specs.Dump.{AreLines, IsLine, IsRestored, command_line_of, lines_of, setting, setting_of, text_import};
 ghost use Rattle.wot_keyring.specs.Keyring.{Keyring as Seen};
 ghost use Rattle.wot_keyring.specs.Kept.{IsKeyring};
 
@@ -20,18 +20,19 @@ use wot_verdict::{Verdict, Verdicts};
 
 /// A law: the commands of a dump, run in a fresh keyring, give what was dumped.
 pub fn replayed()
-    ensures { (rows : Rows) (k : Seen) → IsKeyring k → InOrder k.verdicts → IsRestored rows k }
+    ensures { (rows : Rows) (k : Seen) → IsKeyring k → AreSortedByNumber k.verdicts → IsRestored rows k }
 {
     read_back();
     marks_weigh_nothing();
     judging();
 }
 
-/// Appends the line of a command, with its line feed. Like each call of this file it leaves `out` as before after `Memory`.
+/// Appends the line of a command, with its line feed. Like each call of this file it leaves `out` as before after
+/// `Memory`.
 pub fn put_line(command: &Command, out: &mut Vec<u8>) -> Result<(), Memory>
     requires spelled { HasSpelling command.now }
     requires short { most_octets command.now ≤ 16777216 }
-    ensures appended { OnOk result (out.new.items ≡ out.old.items ++ line_of command.now) }
+    ensures appended { OnOk result (out.new.items ≡ out.old.items ++ command_line_of command.now) }
     ensures line { OnOk result (IsLine command.now) }
     ensures kept { OnErr result (out.new.items ≡ out.old.items) }
 {
@@ -49,7 +50,7 @@ pub fn put_line(command: &Command, out: &mut Vec<u8>) -> Result<(), Memory>
 /// Appends the import of a certificate.
 fn put_cert(alloc: Global, cert: &Cert, out: &mut Vec<u8>) -> Result<(), Memory>
     requires { size_of cert.now ≤ standard_limits.certificate }
-    ensures appended { OnOk result (out.new.items ≡ out.old.items ++ line_of (text_import cert.now)) }
+    ensures appended { OnOk result (out.new.items ≡ out.old.items ++ command_line_of (text_import cert.now)) }
     ensures line { OnOk result (IsLine (text_import cert.now)) }
     ensures kept { OnErr result (out.new.items ≡ out.old.items) }
 {
@@ -77,7 +78,7 @@ pub fn put_certs(alloc: Global, certs: CertsIter<'_>, out: &mut Vec<u8>) -> Resu
 
 /// Appends the command that sets a verdict.
 fn put_verdict(number: SigNumber, verdict: Verdict, out: &mut Vec<u8>) -> Result<(), Memory>
-    ensures appended { OnOk result (out.new.items ≡ out.old.items ++ line_of (setting number verdict)) }
+    ensures appended { OnOk result (out.new.items ≡ out.old.items ++ command_line_of (setting number verdict)) }
     ensures line { OnOk result (IsLine (setting number verdict)) }
     ensures kept { OnErr result (out.new.items ≡ out.old.items) }
 {
@@ -91,7 +92,7 @@ fn put_verdict(number: SigNumber, verdict: Verdict, out: &mut Vec<u8>) -> Result
 pub fn put_verdicts(verdicts: &Verdicts, out: &mut Vec<u8>) -> Result<(), Memory>
     ensures appended { OnOk result (out.new.items ≡ out.old.items ++ lines_of (map setting_of verdicts.now)) }
     ensures lines { OnOk result (AreLines (map setting_of verdicts.now)) }
-    ensures in_order { InOrder verdicts.now }
+    ensures sorted { AreSortedByNumber verdicts.now }
     ensures kept { OnErr result (out.new.items ≡ out.old.items) }
 {
     let start = out.len();

@@ -1,4 +1,5 @@
-//! The certificates of one list, those of one key united first: halves first, so that each is walked a logarithm of times.
+//! The certificates of one list, those of one key united first: halves first, so that each is walked a logarithm of
+//! times.
 ghost use Rattle.std.specs.Prelude.{◌≡◌, ◌++◌, ◌∷◌, [], None, IfOk, IfNone, OnOk};
 ghost use Rattle.std.specs.BTreeMap.{insert_entry};
 ghost use Rattle.std.specs.List.{AllByRecursion};

@@ -1,3 +1,16 @@
+ghost use Rattle.std.specs.Prelude.{◌≡◌, ◌<◌, ◌^◌, ◌-◌, length, OnOk, OnErr};
+ghost use Rattle.wot_policy.specs.Kept.{IsFaithful, rows_of, asked_more};
+ghost use Rattle.wot_keyring.specs.Held.{held_of};
+ghost use Rattle.wot_keyring.specs.Import.{Answers, AnswersUnder, AsksFor, IsOneChange, imported, importing, is_entry};
+ghost use Rattle.wot_keyring.specs.Kept.{IsJudgedBy};
+ghost use Rattle.wot_keyring.specs.Later.{IsLater};
+
+use crate::importing::{is_entry, read_certs};
+use crate::{Keyring, Refusal};
+use std::alloc::Global;
+use wot_policy::{Ask, Policy};
+use wot_types::Name;
+
 /// What an import did.
 #[derive(Clone, Copy, Debug, PartialEq, Eq)]
 pub struct Imported {
@@ -7,4 +20,71 @@ pub struct Imported {
     pub skipped: u64,
     /// The keys, components and signatures that were not kept before.
     pub fresh: u64,
+}
+
+impl Keyring {
+    /// Unites the certificates of these octets (RFC 9580, sections 4 and 10.1) with the kept ones: all of them or,
+    /// where anything is refused, none. The policy is asked once for each sound signature that is new.
+    pub fn import<F: Fn(Ask) -> bool>(
+        &mut self,
+        alloc: Global,
+        bytes: &[u8],
+        policy: &mut Policy<F>,
+    ) -> Result<Imported, Refusal>
+        requires countable { self.old.changes < 2 ^ 64 - 1 }
+        requires short { length bytes.now < 2 ^ 29 }
+        requires judged { IsJudgedBy (rows_of policy.old) self.old }
+        requires faithful { IsFaithful F.Fn policy.old }
+        ensures answer { Answers result (rows_of policy.old) self.old bytes.now }
+        ensures imported { OnOk result (self.new ≡ imported (rows_of policy.old) self.old bytes.now) }
+        ensures held { OnOk result (held_of self.new ≡ importing (rows_of policy.old) bytes.now (held_of self.old)) }
+        ensures limits { self.new.limits ≡ self.old.limits }
+        ensures kept { OnErr result (self.new ≡ self.old) }
+        ensures asked { AsksFor result (rows_of policy.old) self.old bytes.now (λ k. policy.new ≡ asked_more k policy.old) }
+        ensures counted { IsOneChange self.old self.new }
+        ensures later { IsLater self.old self.new }
+        ensures judged { IsJudgedBy (rows_of policy.old) self.new }
+        ensures faithful { IsFaithful F.Fn policy.new }
+    {
+        let read = match read_certs(alloc, bytes) {
+            Ok(read) => read,
+            Err(refusal) => return Err(refusal),
+        };
+        self.take(alloc, &read, policy)
+    }
+
+    /// Unites the one certificate of a directory entry with the kept ones. The octets are read as `import` reads
+    /// them. `Misfiled` is told where they spell more or less than one certificate, or another key beside it, or where
+    /// the entry's name is the fingerprint of another.
+    pub fn load<F: Fn(Ask) -> bool>(
+        &mut self,
+        alloc: Global,
+        name: &Name,
+        bytes: &[u8],
+        policy: &mut Policy<F>,
+    ) -> Result<Imported, Refusal>
+        requires countable { self.old.changes < 2 ^ 64 - 1 }
+        requires short { length bytes.now < 2 ^ 29 }
+        requires judged { IsJudgedBy (rows_of policy.old) self.old }
+        requires faithful { IsFaithful F.Fn policy.old }
+        ensures answer { AnswersUnder (is_entry name.now) result (rows_of policy.old) self.old bytes.now }
+        ensures imported { OnOk result (self.new ≡ imported (rows_of policy.old) self.old bytes.now) }
+        ensures held { OnOk result (held_of self.new ≡ importing (rows_of policy.old) bytes.now (held_of self.old)) }
+        ensures limits { self.new.limits ≡ self.old.limits }
+        ensures kept { OnErr result (self.new ≡ self.old) }
+        ensures asked { AsksFor result (rows_of policy.old) self.old bytes.now (λ k. policy.new ≡ asked_more k policy.old) }
+        ensures counted { IsOneChange self.old self.new }
+        ensures later { IsLater self.old self.new }
+        ensures judged { IsJudgedBy (rows_of policy.old) self.new }
+        ensures faithful { IsFaithful F.Fn policy.new }
+    {
+        let found = match read_certs(alloc, bytes) {
+            Ok(found) => found,
+            Err(refusal) => return Err(refusal),
+        };
+        if !is_entry(name, &found) {
+            return Err(Refusal::Misfiled);
+        }
+        self.take(alloc, &found, policy)
+    }
 }

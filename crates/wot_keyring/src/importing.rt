@@ -1,14 +1,12 @@
-ghost use Rattle.std.specs.Prelude.{◌≡◌, ◌<◌, ◌^◌, ◌+◌, ℕ, length, IfOk, OnOk, OnErr};
-ghost use Rattle.wot_policy.specs.Kept.{IsFaithful, rows_of, asked_more};
-ghost use Rattle.wot_policy.specs.declared.rows.PolicyRows.{PolicyRows as Rows};
+ghost use Rattle.std.specs.Prelude.{◌≡◌, ◌<◌, ◌^◌, ◌+◌, length, IfOk, OnOk, OnErr};
+ghost use Rattle.wot_policy.specs.Kept.{IsFaithful, rows_of};
 ghost use Rattle.wot_cert.specs.Counts.{items_of};
-ghost use Rattle.wot_cert.specs.Judged.{sound_of};
-ghost use Rattle.wot_keyring.specs.Import.{any_clash, first_full, with_certs};
-ghost use Rattle.wot_keyring.specs.Importing.{alone, TellsRead};
+ghost use Rattle.wot_keyring.specs.Import.{any_clash, is_entry, stands_under};
+ghost use Rattle.wot_keyring.specs.Importing.{alone, IsFirstFull, TellsRead};
 ghost use Rattle.wot_keyring.specs.Index.{stands_among, Notes, NotesNothing};
-ghost use Rattle.wot_keyring.specs.Kept.{AreInOrder, AreJudged, AreNamed};
+ghost use Rattle.wot_keyring.specs.Kept.{AreSortedByFpr, AreJudged, AreNamed};
 ghost use Rattle.wot_keyring.specs.Keyring.{stripped};
-ghost use Rattle.wot_keyring.specs.Staging.{kept_all, clash_in, full_by, weigh_kept, AskedInAll, IsTally, TellsClash};
+ghost use Rattle.wot_keyring.specs.Staging.{kept_all, clash_in, full_by, weigh_kept, AsksForAll, IsTally, TellsClash};
 
 use crate::index::Index;
 use crate::kept::Kept;
@@ -17,12 +15,13 @@ use crate::refusal::Refusal;
 use crate::staging::{Fault, Terms, put_all, take_back};
 use crate::tally::{Tally, Weight};
 use std::alloc::Global;
+use std::cmp::Ordering;
 use std::collections::BTreeMap;
 use wot_cert::laws::{assembled, judging, marks_weigh_nothing};
 use wot_cert::{Assembled, Cert, CertFault, assemble};
 use wot_packet::{ReadFault, read_packets};
-use wot_policy::{Ask, Policy, PolicyRows, Row, admits};
-use wot_types::{Fpr, Limit, Limits, Memory};
+use wot_policy::{Ask, Policy, admits, standard_rows};
+use wot_types::{Fpr, Limit, Limits, Memory, Name, compare_fprs};
 
 /// The certificates that these octets spell, none of them judged, or why they spell none.
 pub(crate) fn read_certs(alloc: Global, bytes: &[u8]) -> Result<Assembled, Refusal>
@@ -39,6 +38,26 @@ pub(crate) fn read_certs(alloc: Global, bytes: &[u8]) -> Result<Assembled, Refus
         Ok(found) => Ok(found),
         Err(CertFault::Memory) => Err(Refusal::Memory),
         Err(fault) => Err(Refusal::Cert(fault)),
+    }
+}
+
+/// Whether a certificate may stand under this name.
+fn stands_under(name: &Name, cert: &Cert) -> bool
+    ensures { result ≡ stands_under name.now cert.now }
+{
+    match name {
+        Name::Cert(fpr) => compare_fprs(fpr, &cert.fpr()) == Ordering::Equal,
+        Name::TrustRoot => true,
+    }
+}
+
+/// Whether what was read is one certificate, that of this name.
+pub(crate) fn is_entry(name: &Name, read: &Assembled) -> bool
+    ensures { result ≡ is_entry name.now read.now.certs read.now.skipped }
+{
+    match read.certs.as_slice() {
+        [cert] => read.skipped == 0 && stands_under(name, cert),
+        _ => false,
     }
 }
 
@@ -61,13 +80,6 @@ fn first_full_of(limits: &Limits, total: &Weight, count: u64) -> Option<Limit>
     None
 }
 
-/// A policy that admits nothing.
-fn nobody() -> PolicyRows {
-    PolicyRows {
-        plain: [Row::Never; 256],
-    }
-}
-
 /// Tries the union, takes it back, and tells the first limit that it would pass. What is held doesn't depend on what a
 /// policy admits, so the trial asks one of its own.
 pub(crate) fn try_all(
@@ -79,16 +91,16 @@ pub(crate) fn try_all(
     limits: &Limits,
 ) -> Result<Option<Limit>, Fault>
     requires named { AreNamed certs.old.entries }
-    requires in_order { AreInOrder certs.old.entries }
+    requires sorted { AreSortedByFpr certs.old.entries }
     requires tallied { IsTally terms.now.limit certs.old.entries total }
     requires limit { terms.now.limit ≡ limits.now.certificate }
     ensures same { certs.new.entries ≡ certs.old.entries }
-    ensures full { IfOk result (λ full. (rows : Rows) → full ≡ first_full limits.now (with_certs rows (stripped certs.old.entries) list.now)) }
+    ensures full { IfOk result (IsFirstFull limits.now (stripped certs.old.entries) list.now) }
     ensures clash { TellsClash result (any_clash (alone (stripped certs.old.entries)) list.now) }
 {
     judging();
     marks_weigh_nothing();
-    let rows = nobody();
+    let rows = standard_rows();
     let mut policy = Policy::new(rows, |ask| admits(&rows, ask));
     let mut trial = Vec::new(alloc);
     let mut tally = Tally { total, fresh: 0 };
@@ -120,15 +132,15 @@ pub(crate) fn unite_all<F: Fn(Ask) -> bool>(
     policy: &mut Policy<F>,
 ) -> Result<Tally, Fault>
     requires faithful { IsFaithful F.Fn policy.old }
-    requires in_order { AreInOrder certs.old.entries }
+    requires sorted { AreSortedByFpr certs.old.entries }
     requires tallied { IsTally terms.now.limit certs.old.entries total }
     ensures put { OnOk result (certs.new.entries ≡ kept_all (rows_of policy.old) terms.now.stamp certs.old.entries list.now) }
     ensures same { OnErr result (certs.new.entries ≡ certs.old.entries) }
-    ensures in_order { OnOk result (AreInOrder certs.new.entries) }
+    ensures sorted { OnOk result (AreSortedByFpr certs.new.entries) }
     ensures tallied { IfOk result (λ tally. IsTally terms.now.limit certs.new.entries tally.total) }
     ensures fresh { IfOk result (λ tally. tally.fresh + weigh_kept items_of certs.old.entries ≡ weigh_kept items_of certs.new.entries) }
     ensures clash { TellsClash result (clash_in (rows_of policy.old) terms.now.stamp certs.old.entries list.now) }
-    ensures asked { (k : ℕ) × (policy.new ≡ asked_more k policy.old) × AskedInAll result (weigh_kept sound_of certs.old.entries) (weigh_kept sound_of (kept_all (rows_of policy.old) terms.now.stamp certs.old.entries list.now)) k }
+    ensures asked { AsksForAll result policy.old policy.new terms.now.stamp certs.old.entries list.now }
     ensures judged { OnOk result (AreJudged (rows_of policy.old) certs.old.entries → AreJudged (rows_of policy.old) certs.new.entries) }
     ensures faithful { IsFaithful F.Fn policy.new }
     ensures noted { OnOk result (Notes index.old index.new (stands_among list.now)) }

@@ -4,7 +4,7 @@ ghost use Rattle.wot_types.specs.declared.fpr.Fpr.{Fpr as TheFpr};
 ghost use Rattle.wot_types.specs.declared.number.SigNumber.{SigNumber as TheNumber};
 ghost use Rattle.wot_verdict.specs.Verdicts.{is_number};
 ghost use Rattle.wot_keyring.specs.Keyring.{is_fpr};
-ghost use Rattle.wot_keyring.specs.Index.{place_of, place_without, unless, Notes, StillLogged};
+ghost use Rattle.wot_keyring.specs.Index.{holder_of, holder_without, unless, Notes, StillLogged};
 
 use std::alloc::Global;
 use std::collections::BTreeMap;
@@ -13,20 +13,20 @@ use wot_types::{Fpr, Memory, SigNumber};
 /// Where each signature stands: by its number the fingerprint of the certificate.
 #[derive(Drop)]
 pub(crate) struct Index {
-    pub places: BTreeMap<SigNumber, Fpr, Global>,
-    /// False once one number was seen on two certificates, which takes a collision of SHA-256. From then on the places say
-    /// nothing.
+    pub holders: BTreeMap<SigNumber, Fpr, Global>,
+    /// False once one number was seen on two certificates, which takes a collision of SHA-256. From then on the
+    /// places say nothing.
     pub exact: bool,
 }
 
 impl Index {
     /// The index of no certificates. Takes no memory.
     pub(crate) fn new(alloc: Global) -> Index
-        ensures empty { result.places.entries ≡ [] }
+        ensures empty { result.holders.entries ≡ [] }
         ensures exact { result.exact ≡ true }
     {
         Index {
-            places: BTreeMap::new(alloc),
+            holders: BTreeMap::new(alloc),
             exact: true,
         }
     }
@@ -59,7 +59,7 @@ pub(crate) fn note(
     ensures log { StillLogged index.old log.old.items index.new log.new.items }
 {
     log.reserve(1)?;
-    match index.places.insert(number, fpr) {
+    match index.holders.insert(number, fpr) {
         Ok(None) => {
             put_in_log(log, number);
             Ok(())
@@ -73,17 +73,18 @@ pub(crate) fn note(
 }
 
 /// Takes out what is noted for a number. Takes no memory.
-pub(crate) fn forget(places: &mut BTreeMap<SigNumber, Fpr, Global>, number: &SigNumber)
-    ensures forgotten { (n : TheNumber) → place_of places.new.entries n ≡ unless (is_number n number.now) (place_of places.old.entries n) }
+pub(crate) fn forget(holders: &mut BTreeMap<SigNumber, Fpr, Global>, number: &SigNumber)
+    ensures forgotten { (n : TheNumber) →
+        holder_of holders.new.entries n ≡ unless (is_number n number.now) (holder_of holders.old.entries n) }
 {
-    let _ = places.remove(number);
+    let _ = holders.remove(number);
 }
 
 /// Takes out all numbers of a log. Takes no memory.
-pub(crate) fn forget_logged(places: &mut BTreeMap<SigNumber, Fpr, Global>, mut log: Vec<SigNumber>)
-    ensures forgotten { (n : TheNumber) → place_of places.new.entries n ≡ place_without log.items places.old.entries n }
+pub(crate) fn forget_logged(holders: &mut BTreeMap<SigNumber, Fpr, Global>, mut log: Vec<SigNumber>)
+    ensures forgotten { (n : TheNumber) → holder_of holders.new.entries n ≡ holder_without log.items holders.old.entries n }
 {
     'log: while let Some(number) = log.pop() {
-        forget(places, &number);
+        forget(holders, &number);
     }
 }

@@ -1,4 +1,5 @@
-ghost use Rattle.std.specs.Prelude.{◌≡◌, ◌≢◌, ◌<◌, ◌≤◌, ◌^◌, ◌+◌, ◌-◌, ◌++◌, ℕ, nat_lt, if◌then◌else◌, map, Some, Ok, is_ok, is_some, IsSomeAnd, length, IfOk, MatchBool, OnOk, OnErr};
+ghost use Rattle.std.specs.Prelude.{◌≡◌, ◌≢◌, ◌<◌, ◌≤◌, ◌^◌, ◌+◌, ◌-◌, ◌++◌, ℕ, nat_lt, if◌then◌else◌, map, Some};
+ghost use Rattle.std.specs.Prelude.{Ok, is_ok, is_some, IsSomeAnd, length, IfOk, MatchBool, OnOk, OnErr};
 ghost use Rattle.std.specs.Option.{option_copied, IfSome, MatchOption};
 ghost use Rattle.std.specs.Map.{lookup, remove_entry};
 ghost use Rattle.wot_types.specs.declared.fpr.Fpr.{Fpr as TheFpr};
@@ -8,25 +9,33 @@ ghost use Rattle.std.specs.List.{AllByRecursion};
 ghost use Rattle.wot_cert.specs.Text.{size_of, text_of};
 ghost use Rattle.wot_cert.specs.Whole.{IsCertificate};
 ghost use Rattle.wot_keyring.specs.declared.kept.Kept.{Kept as TheKept};
+ghost use Rattle.wot_keyring.specs.From.{entries_from};
 ghost use Rattle.wot_keyring.specs.Keyring.{empty, certificates_in, cert_at, stamp_at, verdict_on, is_fpr, TellsAbsent};
-ghost use Rattle.wot_keyring.specs.Kept.{AreInOrder, AreNamed, AreSized, AreSmall, IsJudgedBy, IsKeyring, StaysJudged};
+ghost use Rattle.wot_keyring.specs.Kept.{AreSortedByFpr, AreNamed, AreSized, AreSmall, AreStamped, IsJudgedBy, IsKeyring, StaysJudged};
 ghost use Rattle.wot_policy.specs.declared.rows.PolicyRows.{PolicyRows as Rows};
 ghost use Rattle.wot_policy.specs.Kept.{IsFaithful, rows_of, asked_more};
 ghost use Rattle.wot_keyring.specs.Dump.{commands_of, lines_of, AreLines, IsRestored};
-ghost use Rattle.wot_keyring.specs.Import.{Answers, AsksFor, IsOneChange, holding, imported, with_certs};
-ghost use Rattle.wot_keyring.specs.Importing.{AnswersUnited, IsAskedOf, MayUnite, TellsUnion, asked_for};
+ghost use Rattle.wot_keyring.specs.Import.{IsOneChange, with_united};
+ghost use Rattle.wot_keyring.specs.Held.{held_of, removing, verdict_set, verdict_cleared};
+ghost use Rattle.wot_keyring.specs.Later.{IsLater};
+ghost use Rattle.wot_keyring.specs.Log.{HasChangedSince};
+ghost use Rattle.wot_keyring.specs.Importing.{AnswersUnited, AsksUniting, MayUnite, TellsUnion};
+ghost use Rattle.wot_keyring.specs.Pending.{pending_in};
 ghost use Rattle.wot_keyring.specs.Staging.{IsTally};
 ghost use Rattle.wot_keyring.specs.Removal.{without_cert};
-ghost use Rattle.wot_keyring.specs.Verdict.{with_verdict_on, without_verdict_on, would_pass, counted_at, TellsFull};
-ghost use Rattle.wot_verdict.specs.Verdicts.{InOrder};
+ghost use Rattle.wot_keyring.specs.Verdict.{without_verdict_on, would_pass, counted_at, SetsVerdict, TellsFull};
+ghost use Rattle.wot_verdict.specs.Verdicts.{AreSortedByNumber};
 
 use crate::certs::CertsIter;
+use crate::certs_from::{CertsFrom, certs_from};
 use crate::dump::{put_certs, put_verdicts, replayed};
 use crate::forgetting::forget_cert;
 use crate::gather::gathered;
-use crate::importing::{read_certs, try_all, unite_all};
+use crate::importing::{try_all, unite_all};
 use crate::index::Index;
 use crate::kept::Kept;
+use crate::log::{self, Log};
+use crate::pending::{Pending, waiting};
 use crate::restamp::restamp_noted;
 use crate::staging::{Fault, Terms};
 use crate::tally::Weight;
@@ -40,8 +49,8 @@ use wot_policy::{Ask, Policy};
 use wot_types::{Fpr, Limit, Limits, Memory, SigNumber};
 use wot_verdict::{Verdict, Verdicts};
 
-/// Certificates by fingerprint and verdicts by signature number, within limits. Each certificate has a stamp: the count of
-/// changes that altered it, or a verdict on one of its signatures, last.
+/// Certificates by fingerprint and verdicts by signature number, within limits. Each certificate has a stamp: the
+/// count of changes that altered it, or a verdict on one of its signatures, last.
 #[derive(Drop)]
 pub struct Keyring {
     limits: Limits,
@@ -54,19 +63,22 @@ pub struct Keyring {
     signatures: u64,
     /// On which certificate each signature stands.
     index: Index,
+    /// What was altered lately.
+    log: Log,
 }
 
 impl Model for Keyring {
     ghost use Rattle.wot_keyring.specs.Keyring.{Keyring};
     ghost use Rattle.wot_keyring.specs.Index.{IsIndexOf};
     ghost use Rattle.wot_keyring.specs.Kept.{IsKeyring, AreTotals};
+    ghost use Rattle.wot_keyring.specs.Log.{IsLogOf};
 
     ghost Value = { Keyring };
 
     ghost view = { λ a. record { limits = a.limits; certs = a.certs.entries; verdicts = a.verdicts; changes = a.changes } };
 
     ghost invariant = { λ a. let k : Keyring = record { limits = a.limits; certs = a.certs.entries; verdicts = a.verdicts; changes = a.changes } in
-        IsKeyring k × AreTotals k a.octets a.signatures × IsIndexOf a.index k.certs };
+        IsKeyring k × AreTotals k a.octets a.signatures × IsIndexOf a.index k.certs × IsLogOf a.log k.certs k.changes };
 }
 
 impl Keyring {
@@ -83,6 +95,7 @@ impl Keyring {
             octets: 0,
             signatures: 0,
             index: Index::new(alloc),
+            log: Log::new(alloc),
         }
     }
 
@@ -110,12 +123,30 @@ impl Keyring {
     pub fn certs(&self) -> CertsIter<'_>
         ensures certs { result ≡ map (λ (e : TheFpr × TheKept). e.1.cert) self.now.certs }
         ensures named { AreNamed self.now.certs }
-        ensures in_order { AreInOrder self.now.certs }
+        ensures sorted { AreSortedByFpr self.now.certs }
         ensures sizes { AreSized standard_limits.certificate self.now.certs }
     {
         CertsIter {
             entries: self.certs.iter(),
         }
+    }
+
+    /// How many certificates are kept.
+    pub fn len(&self) -> usize
+        ensures len { result ≡ length self.now.certs }
+        ensures named { AreNamed self.now.certs }
+        ensures sorted { AreSortedByFpr self.now.certs }
+        ensures stamped { AreStamped self.now.changes self.now.certs }
+    {
+        self.certs.len()
+    }
+
+    /// The kept certificates from a fingerprint on, in the order of their fingerprints; all of them where none is given.
+    pub fn certs_from(&self, from: Option<Fpr>) -> CertsFrom<'_>
+        ensures certs { result ≡ map (λ (e : TheFpr × TheKept). e.1.cert) (entries_from from self.now.certs) }
+        ensures named { AreNamed self.now.certs }
+    {
+        certs_from(&self.certs, from)
     }
 
     /// The verdicts.
@@ -145,14 +176,29 @@ impl Keyring {
         self.changes
     }
 
+    /// The stamps and fingerprints of the certificates that were altered since so many changes, in the order of stamps,
+    /// and maybe others; of one that was altered twice the earlier stamp too. None where that isn't known any more: then
+    /// each kept certificate may have been. Nothing kept is walked over.
+    pub fn changed_since(&self, count: u64) -> Option<&[(u64, Fpr)]>
+        ensures since { IfSome result (λ logged. HasChangedSince self.now count logged.now) }
+    {
+        if count < self.log.from {
+            return None;
+        }
+        Some(log::since(self.log.entries.as_slice(), count))
+    }
+
     /// Takes a certificate out; the verdicts on its signatures stay. Takes no memory.
     #[tactic(auto, using(crate::proofs::Judged::removed_judged))]
     pub fn remove(&mut self, fpr: &Fpr) -> Result<(), Absent>
         requires countable { self.old.changes < 2 ^ 64 - 1 }
         ensures removed { OnOk result (self.new ≡ without_cert fpr.now self.old) }
+        ensures held { OnOk result (held_of self.new ≡ removing fpr.now (held_of self.old)) }
         ensures absent { is_ok result ≡ is_some (cert_at self.old fpr.now) }
+        ensures limits { self.new.limits ≡ self.old.limits }
         ensures kept { OnErr result (self.new ≡ self.old) }
         ensures counted { IsOneChange self.old self.new }
+        ensures later { IsLater self.old self.new }
         ensures judged { StaysJudged self.old self.new }
     {
         let Some(kept) = find(&self.certs, fpr) else {
@@ -160,11 +206,12 @@ impl Keyring {
         };
         let octets = kept.cert.size();
         let signatures = kept.cert.signatures();
-        forget_cert(&mut self.index.places, &kept.cert);
+        forget_cert(&mut self.index.holders, &kept.cert);
         take_out(&mut self.certs, fpr);
         self.octets -= octets;
         self.signatures -= signatures;
         self.changes += 1;
+        log::log_at(&mut self.log, self.changes, *fpr);
         Ok(())
     }
 
@@ -173,10 +220,13 @@ impl Keyring {
     pub fn set_verdict(&mut self, number: SigNumber, verdict: Verdict) -> Result<(), Refusal>
         requires countable { self.old.changes < 2 ^ 64 - 1 }
         ensures same { verdict_on self.old number ≡ Some verdict → (result ≡ Ok tt) × (self.new ≡ self.old) }
-        ensures set { OnOk result (verdict_on self.old number ≢ Some verdict → self.new ≡ with_verdict_on number verdict self.old) }
+        ensures set { OnOk result (SetsVerdict number verdict self.old self.new) }
+        ensures held { OnOk result (held_of self.new ≡ verdict_set number verdict (held_of self.old)) }
         ensures full { TellsFull result self.old number }
+        ensures limits { self.new.limits ≡ self.old.limits }
         ensures kept { OnErr result (self.new ≡ self.old) }
         ensures counted { IsOneChange self.old self.new }
+        ensures later { IsLater self.old self.new }
         ensures judged { StaysJudged self.old self.new }
     {
         if self.says(&number, verdict) {
@@ -185,6 +235,7 @@ impl Keyring {
         if self.would_pass(&number) {
             return Err(Refusal::Full(Limit::Verdicts));
         }
+        log::make_room(&mut self.log, 1, self.certs.len());
         match self.verdicts.set(number, verdict) {
             Ok(_) => {
                 self.altered_at(&number);
@@ -198,9 +249,12 @@ impl Keyring {
     pub fn clear_verdict(&mut self, number: &SigNumber) -> Result<(), Absent>
         requires countable { self.old.changes < 2 ^ 64 - 1 }
         ensures cleared { OnOk result (self.new ≡ without_verdict_on number.now self.old) }
+        ensures held { OnOk result (held_of self.new ≡ verdict_cleared number.now (held_of self.old)) }
         ensures absent { is_ok result ≡ is_some (verdict_on self.old number.now) }
+        ensures limits { self.new.limits ≡ self.old.limits }
         ensures kept { OnErr result (self.new ≡ self.old) }
         ensures counted { IsOneChange self.old self.new }
+        ensures later { IsLater self.old self.new }
         ensures judged { StaysJudged self.old self.new }
     {
         if self.verdicts.get(number).is_none() {
@@ -226,36 +280,9 @@ impl Keyring {
         }
     }
 
-    /// Unites the certificates of these octets (RFC 9580, sections 4 and 10.1) with the kept ones: all of them or, where
-    /// anything is refused, none. The policy is asked once for each sound signature that is new.
-    pub fn import<F: Fn(Ask) -> bool>(
-        &mut self,
-        alloc: Global,
-        bytes: &[u8],
-        policy: &mut Policy<F>,
-    ) -> Result<Imported, Refusal>
-        requires countable { self.old.changes < 2 ^ 64 - 1 }
-        requires short { length bytes.now < 2 ^ 29 }
-        requires judged { IsJudgedBy (rows_of policy.old) self.old }
-        requires faithful { IsFaithful F.Fn policy.old }
-        ensures answer { Answers result (rows_of policy.old) self.old bytes.now }
-        ensures imported { OnOk result (self.new ≡ imported (rows_of policy.old) self.old bytes.now) }
-        ensures kept { OnErr result (self.new ≡ self.old) }
-        ensures asked { AsksFor result (rows_of policy.old) self.old bytes.now (λ k. policy.new ≡ asked_more k policy.old) }
-        ensures counted { IsOneChange self.old self.new }
-        ensures judged { IsJudgedBy (rows_of policy.old) self.new }
-        ensures faithful { IsFaithful F.Fn policy.new }
-    {
-        let read = match read_certs(alloc, bytes) {
-            Ok(read) => read,
-            Err(refusal) => return Err(refusal),
-        };
-        self.take(alloc, &read, policy)
-    }
-
-    /// Unites certificates that were read with the kept ones: those of one key among themselves first, so that what is kept
-    /// of a key is copied once, however often the key was read.
-    fn take<F: Fn(Ask) -> bool>(
+    /// Unites certificates that were read with the kept ones: those of one key among themselves first, so that what
+    /// is kept of a key is copied once, however often the key was read.
+    pub(crate) fn take<F: Fn(Ask) -> bool>(
         &mut self,
         alloc: Global,
         read: &Assembled,
@@ -265,10 +292,11 @@ impl Keyring {
         requires judged { IsJudgedBy (rows_of policy.old) self.old }
         requires faithful { IsFaithful F.Fn policy.old }
         ensures answer { AnswersUnited result (rows_of policy.old) self.old read.now.certs read.now.skipped }
-        ensures united { OnOk result (self.new ≡ holding self.old (with_certs (rows_of policy.old) (certificates_in self.old) read.now.certs)) }
+        ensures united { OnOk result (self.new ≡ with_united (rows_of policy.old) self.old read.now.certs) }
         ensures kept { OnErr result (self.new ≡ self.old) }
-        ensures asked { (k : ℕ) × (policy.new ≡ asked_more k policy.old) × IsAskedOf result (asked_for (rows_of policy.old) self.old read.now.certs) k }
+        ensures asked { AsksUniting result policy.old policy.new self.old read.now.certs }
         ensures counted { IsOneChange self.old self.new }
+        ensures later { IsLater self.old self.new }
         ensures judged { IsJudgedBy (rows_of policy.old) self.new }
         ensures faithful { IsFaithful F.Fn policy.new }
     {
@@ -292,7 +320,8 @@ impl Keyring {
         }
     }
 
-    /// Why these certificates may not be united with the kept ones. All stays as it is, and no policy of others is asked.
+    /// Why these certificates may not be united with the kept ones. All stays as it is, and no policy of others is
+    /// asked.
     fn refusal(&mut self, alloc: Global, list: &[Cert]) -> Option<Refusal>
         requires countable { self.old.changes < 2 ^ 64 - 1 }
         ensures told { TellsUnion result self.old.limits (certificates_in self.old) list.now }
@@ -322,10 +351,11 @@ impl Keyring {
         requires whole { AllByRecursion IsCertificate list.now }
         requires may { MayUnite self.old.limits (certificates_in self.old) list.now }
         ensures answer { AnswersUnited result (rows_of policy.old) self.old list.now skipped }
-        ensures united { OnOk result (self.new ≡ holding self.old (with_certs (rows_of policy.old) (certificates_in self.old) list.now)) }
+        ensures united { OnOk result (self.new ≡ with_united (rows_of policy.old) self.old list.now) }
         ensures kept { OnErr result (self.new ≡ self.old) }
-        ensures asked { (k : ℕ) × (policy.new ≡ asked_more k policy.old) × IsAskedOf result (asked_for (rows_of policy.old) self.old list.now) k }
+        ensures asked { AsksUniting result policy.old policy.new self.old list.now }
         ensures counted { IsOneChange self.old self.new }
+        ensures later { IsLater self.old self.new }
         ensures judged { IsJudgedBy (rows_of policy.old) self.new }
         ensures faithful { IsFaithful F.Fn policy.new }
     {
@@ -334,6 +364,7 @@ impl Keyring {
         nothing_added();
         let terms = self.terms();
         let total = self.total();
+        log::make_room(&mut self.log, list.len(), self.certs.len());
         match unite_all(
             alloc,
             &mut self.certs,
@@ -347,6 +378,7 @@ impl Keyring {
                 self.octets = tally.total.octets;
                 self.signatures = tally.total.signatures;
                 self.changes = raised(self.changes, tally.fresh);
+                log::log_union(&mut self.log, tally.fresh, terms.stamp, list);
                 Ok(Imported {
                     taken: list.len() as u64,
                     skipped,
@@ -389,15 +421,15 @@ impl Keyring {
         }
     }
 
-    /// Appends a line for each certificate and each verdict: the commands that make this keyring anew. Tells their number.
-    /// After `Memory` `out` is as before.
+    /// Appends a line for each certificate and each verdict: the commands that make this keyring anew. Tells their
+    /// number. After `Memory` `out` is as before.
     pub fn dump(&self, alloc: Global, out: &mut Vec<u8>) -> Result<u64, Memory>
-        ensures lines { OnOk result (out.new.items ≡ out.old.items ++ lines_of (commands_of self.now)) }
-        ensures count { IfOk result (λ count. count ≡ length (commands_of self.now)) }
+        ensures lines { OnOk result (out.new.items ≡ out.old.items ++ lines_of (commands_of (held_of self.now))) }
+        ensures count { IfOk result (λ count. count ≡ length (commands_of (held_of self.now))) }
         ensures few { IfOk result (λ count. count < 2 ^ 32) }
         ensures kept { OnErr result (out.new.items ≡ out.old.items) }
         // Each command is printed as one line, which is read as that command.
-        ensures read_back { OnOk result (AreLines (commands_of self.now)) }
+        ensures read_back { OnOk result (AreLines (commands_of (held_of self.now))) }
         // By whatever rows the fresh keyring judges.
         ensures restored { OnOk result ((rows : Rows) → IsRestored rows self.now) }
     {
@@ -413,6 +445,14 @@ impl Keyring {
         }
     }
 
+    /// The sound signatures that have no verdict, of all kinds and at all places: by certificate, and then in the order
+    /// in which `export` writes them.
+    pub fn pending(&self, alloc: Global) -> Result<Vec<Pending>, Memory>
+        ensures pending { IfOk result (λ list. list.items ≡ pending_in (held_of self.now)) }
+    {
+        waiting(alloc, &self.certs, &self.verdicts)
+    }
+
     fn says(&self, number: &SigNumber, verdict: Verdict) -> bool
         ensures says { MatchBool result (verdict_on self.now number.now ≡ Some verdict) (verdict_on self.now number.now ≢ Some verdict) }
     {
@@ -421,7 +461,7 @@ impl Keyring {
 
     fn would_pass(&self, number: &SigNumber) -> bool
         ensures passes { result ≡ would_pass self.now number.now }
-        ensures in_order { InOrder self.now.verdicts }
+        ensures sorted { AreSortedByNumber self.now.verdicts }
     {
         let count = self.verdicts.len() as u64;
         self.verdicts.get(number).is_none() && self.limits.verdicts <= count
@@ -435,7 +475,8 @@ impl Keyring {
         ensures judged { StaysJudged self.old self.new }
     {
         self.changes += 1;
-        restamp_noted(&mut self.certs, &self.index, number, self.changes);
+        let stamp = self.changes;
+        restamp_noted(&mut self.certs, &self.index, &mut self.log, number, stamp);
     }
 }
 
@@ -457,7 +498,7 @@ pub(crate) fn find<'a>(certs: &'a BTreeMap<Fpr, Kept, Global>, fpr: &Fpr) -> Opt
 /// Takes out what is kept under a fingerprint.
 pub(crate) fn take_out(certs: &mut BTreeMap<Fpr, Kept, Global>, fpr: &Fpr)
     ensures out { certs.new.entries ≡ remove_entry (is_fpr fpr.now) certs.old.entries }
-    ensures in_order { AreInOrder certs.new.entries }
+    ensures sorted { AreSortedByFpr certs.new.entries }
 {
     let _ = certs.remove(fpr);
 }

@@ -2,6 +2,7 @@
 #![tactic(auto)]
 
 mod certs;
+mod certs_from;
 mod dump;
 mod forgetting;
 mod gather;
@@ -10,16 +11,19 @@ mod importing;
 mod index;
 mod kept;
 mod keyring;
+pub mod laws;
+mod log;
 mod noting;
+mod pending;
 mod refusal;
 mod restamp;
 mod staging;
 mod tally;
-#[cfg(test)]
-mod tests;
 
 pub use certs::CertsIter;
+pub use certs_from::CertsFrom;
 pub use dump::put_line;
 pub use import::Imported;
 pub use keyring::Keyring;
+pub use pending::Pending;
 pub use refusal::{Absent, ExportFault, Refusal};

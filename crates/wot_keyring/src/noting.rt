@@ -2,11 +2,9 @@
 ghost use Rattle.std.specs.Prelude.{◌≡◌, ◌&&◌, OnOk, OnErr};
 ghost use Rattle.wot_types.specs.declared.fpr.Fpr.{Fpr as TheFpr};
 ghost use Rattle.wot_types.specs.declared.number.SigNumber.{SigNumber as TheNumber};
-ghost use Rattle.wot_key.specs.Key.{fpr_of};
-ghost use Rattle.wot_cert.specs.Counts.{sigs_on};
-ghost use Rattle.wot_keyring.specs.Index.{stands_among, Notes, NotesNothing, StillLogged};
+ghost use Rattle.wot_keyring.specs.Index.{stands_among, stands_on, Notes, NotesNothing, StillLogged};
 ghost use Rattle.wot_keyring.specs.Keyring.{is_fpr};
-ghost use Rattle.wot_keyring.specs.Verdict.{is_among, has_number};
+ghost use Rattle.wot_keyring.specs.Verdict.{is_among, is_on};
 
 use crate::index::{Index, forget_logged, note};
 use std::alloc::Global;
@@ -36,7 +34,7 @@ fn note_parts(
     parts: &[Part],
     fpr: Fpr,
 ) -> Result<(), Memory>
-    ensures noted { OnOk result (Notes index.old index.new (λ (n : TheNumber) (q : TheFpr). is_among n (sigs_on parts.now) && is_fpr fpr q)) }
+    ensures noted { OnOk result (Notes index.old index.new (λ (n : TheNumber) (q : TheFpr). is_on n parts.now && is_fpr fpr q)) }
     ensures log { StillLogged index.old log.old.items index.new log.new.items }
 {
     let mut left = parts;
@@ -48,7 +46,7 @@ fn note_parts(
 }
 
 fn note_cert(index: &mut Index, log: &mut Vec<SigNumber>, cert: &Cert) -> Result<(), Memory>
-    ensures noted { OnOk result (Notes index.old index.new (λ (n : TheNumber) (q : TheFpr). has_number n cert.now && is_fpr (fpr_of cert.now.key) q)) }
+    ensures noted { OnOk result (Notes index.old index.new (stands_on cert.now)) }
     ensures log { StillLogged index.old log.old.items index.new log.new.items }
 {
     let fpr = cert.fpr();
@@ -79,7 +77,7 @@ pub(crate) fn note_all(alloc: Global, index: &mut Index, certs: &[Cert]) -> Resu
     match note_certs(index, &mut log, certs) {
         Ok(()) => Ok(()),
         Err(Memory) => {
-            forget_logged(&mut index.places, log);
+            forget_logged(&mut index.holders, log);
             Err(Memory)
         }
     }

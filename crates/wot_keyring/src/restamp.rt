@@ -1,14 +1,12 @@
-ghost use Rattle.std.specs.Prelude.{◌≡◌};
-ghost use Rattle.std.specs.Map.{lookup, set_value};
-ghost use Rattle.std.specs.Option.{MatchOption};
-ghost use Rattle.wot_cert.specs.Counts.{sigs_on};
-ghost use Rattle.wot_keyring.specs.Index.{IsIndexOf};
-ghost use Rattle.wot_keyring.specs.Keyring.{is_fpr};
-ghost use Rattle.wot_keyring.specs.Kept.{AreInOrder};
-ghost use Rattle.wot_keyring.specs.Verdict.{is_among, has_number, restamped, restamped_all};
+ghost use Rattle.std.specs.Prelude.{◌≡◌, ◌≤◌};
+ghost use Rattle.wot_keyring.specs.Index.{IsIndexOf, RestampsAt, stands_at};
+ghost use Rattle.wot_keyring.specs.Kept.{AreSortedByFpr};
+ghost use Rattle.wot_keyring.specs.Log.{LogsAt};
+ghost use Rattle.wot_keyring.specs.Verdict.{is_among, is_on, has_number, restamped, restamped_all};
 
 use crate::index::Index;
 use crate::kept::Kept;
+use crate::log::{Log, begin_anew, log_at};
 use std::alloc::Global;
 use std::cmp::Ordering;
 use std::collections::BTreeMap;
@@ -29,7 +27,7 @@ fn has_sig(sigs: &[Sig], number: &SigNumber) -> bool
 }
 
 fn has_sig_on(parts: &[Part], number: &SigNumber) -> bool
-    ensures has { result ≡ is_among number.now (sigs_on parts.now) }
+    ensures has { result ≡ is_on number.now parts.now }
 {
     let mut left = parts;
     'parts: while let Some((part, rest)) = left.split_first() {
@@ -77,29 +75,34 @@ pub fn restamp(certs: &mut BTreeMap<Fpr, Kept, Global>, number: &SigNumber, stam
 
 /// Gives what is kept under a fingerprint a new stamp.
 fn restamp_at(certs: &mut BTreeMap<Fpr, Kept, Global>, fpr: &Fpr, stamp: u64)
-    ensures restamped { MatchOption (lookup (is_fpr fpr.now) certs.old.entries) (certs.new.entries ≡ certs.old.entries) (λ kept. certs.new.entries ≡ set_value (is_fpr fpr.now) certs.old.entries (record kept { stamp = stamp })) }
+    ensures restamped { RestampsAt fpr.now stamp certs.old.entries certs.new.entries }
 {
     if let Some(kept) = certs.get_mut(fpr) {
         kept.stamp = stamp;
     }
 }
 
-/// Does what `restamp` does, by the index: no other certificate is looked at.
+/// Does what `restamp` does, by the index: no other certificate is looked at. Logs what it gave the stamp.
 pub(crate) fn restamp_noted(
     certs: &mut BTreeMap<Fpr, Kept, Global>,
     index: &Index,
+    log: &mut Log,
     number: &SigNumber,
     stamp: u64,
 )
-    requires in_order { AreInOrder certs.old.entries }
+    requires sorted { AreSortedByFpr certs.old.entries }
     requires indexed { IsIndexOf index.now certs.old.entries }
+    requires from { log.old.from ≤ stamp }
     ensures restamped { certs.new.entries ≡ restamped_all number.now stamp certs.old.entries }
+    ensures logged { LogsAt stamp (stands_at certs.old.entries number.now) log.old log.new }
 {
     if !index.exact {
+        begin_anew(log, stamp);
         return restamp(certs, number, stamp);
     }
-    let Some(fpr) = index.places.get(number) else {
+    let Some(fpr) = index.holders.get(number) else {
         return;
     };
+    log_at(log, stamp, *fpr);
     restamp_at(certs, fpr, stamp);
 }

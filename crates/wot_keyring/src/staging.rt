@@ -1,18 +1,20 @@
-ghost use Rattle.std.specs.Prelude.{◌≡◌, ◌<◌, ◌+◌, ◌++◌, ◌∷◌, [], ℕ, true, is_some, vec_len, vec_capacity, IfOk, OnOk, OnErr, None, MatchResult, not, nat_eq};
+ghost use Rattle.std.specs.Prelude.{◌≡◌, ◌<◌, ◌+◌, ◌++◌, ◌∷◌, [], vec_len, vec_capacity, IfOk, OnOk, OnErr, None, not, nat_eq};
 ghost use Rattle.std.specs.Option.{option_map};
 ghost use Rattle.std.specs.BTreeMap.{insert_entry};
 ghost use Rattle.std.specs.Map.{lookup};
 ghost use Rattle.std.specs.Cmp.Lexicographic.{pointwise};
 ghost use Rattle.wot_types.specs.Fpr.{fpr_cmp};
-ghost use Rattle.wot_policy.specs.Kept.{IsFaithful, rows_of, asked_more};
+ghost use Rattle.wot_policy.specs.Kept.{IsFaithful, rows_of};
 ghost use Rattle.wot_cert.specs.Certificate.{unite};
 ghost use Rattle.wot_cert.specs.Counts.{items_of};
 ghost use Rattle.wot_cert.specs.Judged.{IsJudged, judged, sound_of};
 ghost use Rattle.wot_cert.specs.Whole.{IsCertificate};
-ghost use Rattle.wot_keyring.specs.Kept.{AreInOrder, AreJudged};
+ghost use Rattle.wot_keyring.specs.Kept.{AreSortedByFpr, AreJudged};
 ghost use Rattle.wot_keyring.specs.declared.kept.Kept.{Kept as TheKept};
 ghost use Rattle.wot_keyring.specs.Keyring.{Entries, is_fpr};
-ghost use Rattle.wot_keyring.specs.Staging.{begun, found_for, found_by, stamp_over, IsStep, IsTally, clash_at, kept_with, kept_all, clash_in, weigh_kept, AskedFor, AskedInAll, TellsClash, Weighs, IsLog, LeadsBack, StillLeadsBack};
+ghost use Rattle.wot_keyring.specs.Staging.{begun, found_for, sound_found, stamp_over, clash_at, kept_with, kept_all, clash_in};
+ghost use Rattle.wot_keyring.specs.Staging.{IsStepOf, IsTally, IsThere, Counts, TellsClash, Weighs, IsLog, LeadsBack, StillLeadsBack};
+ghost use Rattle.wot_keyring.specs.Staging.{AsksForOne, AsksForAll, AsksToBecome};
 
 use crate::kept::Kept;
 use crate::keyring::{find, take_out};
@@ -50,8 +52,8 @@ fn keep(
     ensures entries { OnOk result (certs.new.entries ≡ insert_entry fpr_cmp certs.old.entries fpr kept) }
     ensures absent { OnErr result (lookup (is_fpr fpr) certs.old.entries ≡ None) }
     ensures same { OnErr result (certs.new.entries ≡ certs.old.entries) }
-    ensures was_in_order { AreInOrder certs.old.entries }
-    ensures in_order { AreInOrder certs.new.entries }
+    ensures was_in_order { AreSortedByFpr certs.old.entries }
+    ensures sorted { AreSortedByFpr certs.new.entries }
 {
     match certs.insert(fpr, kept) {
         Ok(was) => Ok(was),
@@ -61,7 +63,7 @@ fn keep(
 
 /// Keeps under a fingerprint that is there what was kept before. Takes no memory.
 fn keep_again(certs: &mut BTreeMap<Fpr, Kept, Global>, fpr: Fpr, kept: Kept)
-    ensures again { is_some (lookup (is_fpr fpr) certs.old.entries) ≡ true → certs.new.entries ≡ insert_entry fpr_cmp certs.old.entries fpr kept }
+    ensures again { IsThere certs.old.entries fpr → certs.new.entries ≡ insert_entry fpr_cmp certs.old.entries fpr kept }
 {
     let Err(_) = keep(certs, fpr, kept) else {
         return;
@@ -104,7 +106,7 @@ pub(crate) fn put(
     kept: Kept,
 ) -> Result<(), Memory>
     ensures entries { OnOk result (certs.new.entries ≡ insert_entry fpr_cmp certs.old.entries fpr kept) }
-    ensures in_order { OnOk result (AreInOrder certs.old.entries × AreInOrder certs.new.entries) }
+    ensures sorted { OnOk result (AreSortedByFpr certs.old.entries × AreSortedByFpr certs.new.entries) }
     ensures log { StillLeadsBack log.old.items certs.old.entries log.new.items certs.new.entries }
 {
     log.reserve(1)?;
@@ -166,7 +168,7 @@ fn grow<F: Fn(Ask) -> bool>(
     ensures before { IfOk result (λ grown. Weighs limit grown.before start.old) }
     ensures after { IfOk result (λ grown. Weighs limit grown.after start.new) }
     ensures items { IfOk result (λ grown. grown.items + items_of start.old ≡ items_of start.new) }
-    ensures asked { (k : ℕ) × (policy.new ≡ asked_more k policy.old) × MatchResult result (λ _. k + sound_of start.old ≡ sound_of start.new) (λ _. k ≡ 0) }
+    ensures asked { AsksToBecome result policy.old policy.new (sound_of start.old) (λ _. start.new) }
     ensures judged { IsJudged (rows_of policy.old) start.old → IsJudged (rows_of policy.old) start.new }
     ensures faithful { IsFaithful F.Fn policy.new }
 {
@@ -198,7 +200,7 @@ pub(crate) struct Terms {
 
 /// What becomes of the kept certificates by one that is united with them.
 #[derive(Drop)]
-pub(crate) struct Step {
+pub(crate) struct Staged {
     /// What is kept from now on.
     pub kept: Kept,
     pub before: Weight,
@@ -225,11 +227,11 @@ fn take_step<F: Fn(Ask) -> bool>(
     cert: &Cert,
     terms: &Terms,
     policy: &mut Policy<F>,
-) -> Result<Step, Fault>
+) -> Result<Staged, Fault>
     requires faithful { IsFaithful F.Fn policy.old }
-    ensures step { IfOk result (λ step. IsStep (rows_of policy.old) terms.now.stamp terms.now.limit (found_for certs.now.entries cert.now) cert.now step) }
+    ensures step { IfOk result (λ step. IsStepOf (rows_of policy.old) terms.now.stamp terms.now.limit certs.now.entries cert.now step) }
     ensures clash { TellsClash result (clash_at (found_for certs.now.entries cert.now) cert.now) }
-    ensures asked { (k : ℕ) × (policy.new ≡ asked_more k policy.old) × MatchResult result (λ step. k + found_by sound_of (found_for certs.now.entries cert.now) ≡ sound_of step.kept.cert) (λ _. k ≡ 0) }
+    ensures asked { AsksToBecome result policy.old policy.new (sound_found certs.now.entries cert.now) (λ step. step.kept.cert) }
     ensures faithful { IsFaithful F.Fn policy.new }
 {
     united_with_nothing();
@@ -257,14 +259,14 @@ fn take_step<F: Fn(Ask) -> bool>(
         stamp,
     };
     match old {
-        Some(_) => Ok(Step {
+        Some(_) => Ok(Staged {
             kept,
             before,
             after,
             items,
             keys: 0,
         }),
-        None => Ok(Step {
+        None => Ok(Staged {
             kept,
             before: NOTHING,
             after,
@@ -274,8 +276,8 @@ fn take_step<F: Fn(Ask) -> bool>(
     }
 }
 
-/// Unites a certificate with the kept ones, by a policy, notes what was kept, and counts. After a fault the log still leads
-/// back.
+/// Unites a certificate with the kept ones, by a policy, notes what was kept, and counts. After a fault the log still
+/// leads back.
 fn put_one<F: Fn(Ask) -> bool>(
     alloc: Global,
     certs: &mut BTreeMap<Fpr, Kept, Global>,
@@ -286,15 +288,15 @@ fn put_one<F: Fn(Ask) -> bool>(
     policy: &mut Policy<F>,
 ) -> Result<(), Fault>
     requires faithful { IsFaithful F.Fn policy.old }
-    requires in_order { AreInOrder certs.old.entries }
+    requires sorted { AreSortedByFpr certs.old.entries }
     requires tallied { IsTally terms.now.limit certs.old.entries tally.old.total }
     ensures put { OnOk result (certs.new.entries ≡ kept_with (rows_of policy.old) terms.now.stamp certs.old.entries cert.now) }
-    ensures in_order { OnOk result (AreInOrder certs.new.entries) }
+    ensures sorted { OnOk result (AreSortedByFpr certs.new.entries) }
     ensures log { StillLeadsBack log.old.items certs.old.entries log.new.items certs.new.entries }
     ensures tallied { OnOk result (IsTally terms.now.limit certs.new.entries tally.new.total) }
-    ensures fresh { OnOk result (tally.new.fresh + weigh_kept items_of certs.old.entries ≡ tally.old.fresh + weigh_kept items_of certs.new.entries) }
+    ensures fresh { OnOk result (Counts certs.old.entries certs.new.entries tally.old tally.new) }
     ensures clash { TellsClash result (clash_at (found_for certs.old.entries cert.now) cert.now) }
-    ensures asked { (k : ℕ) × (policy.new ≡ asked_more k policy.old) × AskedFor result (weigh_kept sound_of certs.old.entries) (weigh_kept sound_of (kept_with (rows_of policy.old) terms.now.stamp certs.old.entries cert.now)) k }
+    ensures asked { AsksForOne result policy.old policy.new terms.now.stamp certs.old.entries cert.now }
     ensures judged { OnOk result (AreJudged (rows_of policy.old) certs.old.entries → AreJudged (rows_of policy.old) certs.new.entries) }
     ensures faithful { IsFaithful F.Fn policy.new }
 {
@@ -311,8 +313,8 @@ fn put_one<F: Fn(Ask) -> bool>(
     }
 }
 
-/// Unites certificates with the kept ones, one after the other, by a policy, notes what was kept, and counts. After a fault
-/// the log still leads back.
+/// Unites certificates with the kept ones, one after the other, by a policy, notes what was kept, and counts. After a
+/// fault the log still leads back.
 pub(crate) fn put_all<F: Fn(Ask) -> bool>(
     alloc: Global,
     certs: &mut BTreeMap<Fpr, Kept, Global>,
@@ -323,15 +325,15 @@ pub(crate) fn put_all<F: Fn(Ask) -> bool>(
     policy: &mut Policy<F>,
 ) -> Result<(), Fault>
     requires faithful { IsFaithful F.Fn policy.old }
-    requires in_order { AreInOrder certs.old.entries }
+    requires sorted { AreSortedByFpr certs.old.entries }
     requires tallied { IsTally terms.now.limit certs.old.entries tally.old.total }
     ensures put { OnOk result (certs.new.entries ≡ kept_all (rows_of policy.old) terms.now.stamp certs.old.entries list.now) }
-    ensures in_order { OnOk result (AreInOrder certs.new.entries) }
+    ensures sorted { OnOk result (AreSortedByFpr certs.new.entries) }
     ensures log { StillLeadsBack log.old.items certs.old.entries log.new.items certs.new.entries }
     ensures tallied { OnOk result (IsTally terms.now.limit certs.new.entries tally.new.total) }
-    ensures fresh { OnOk result (tally.new.fresh + weigh_kept items_of certs.old.entries ≡ tally.old.fresh + weigh_kept items_of certs.new.entries) }
+    ensures fresh { OnOk result (Counts certs.old.entries certs.new.entries tally.old tally.new) }
     ensures clash { TellsClash result (clash_in (rows_of policy.old) terms.now.stamp certs.old.entries list.now) }
-    ensures asked { (k : ℕ) × (policy.new ≡ asked_more k policy.old) × AskedInAll result (weigh_kept sound_of certs.old.entries) (weigh_kept sound_of (kept_all (rows_of policy.old) terms.now.stamp certs.old.entries list.now)) k }
+    ensures asked { AsksForAll result policy.old policy.new terms.now.stamp certs.old.entries list.now }
     ensures judged { OnOk result (AreJudged (rows_of policy.old) certs.old.entries → AreJudged (rows_of policy.old) certs.new.entries) }
     ensures faithful { IsFaithful F.Fn policy.new }
 {

@@ -2,7 +2,7 @@ ghost use Rattle.std.specs.Prelude.{◌≡◌, ◌+◌, ◌≤◌, ◌<◌, ◌^
 ghost use Rattle.wot_cert.specs.Text.{size_of};
 ghost use Rattle.wot_keyring.specs.Staging.{CanMove, Moves, Weighs};
 
-use crate::staging::Step;
+use crate::staging::Staged;
 use wot_cert::Cert;
 use wot_types::Memory;
 
@@ -89,7 +89,7 @@ fn plus(count: u64, more: u64) -> Result<u64, Memory>
 }
 
 /// Counts what a step did.
-pub(crate) fn count(tally: &mut Tally, step: &Step) -> Result<(), Memory>
+pub(crate) fn count(tally: &mut Tally, step: &Staged) -> Result<(), Memory>
     requires can { CanMove step.now.before step.now.after tally.old.total }
     ensures moved { OnOk result (Moves step.now.before step.now.after tally.old.total tally.new.total) }
     ensures fresh { OnOk result (tally.new.fresh ≡ tally.old.fresh + step.now.items + step.now.keys) }

@@ -4,28 +4,27 @@ use Rattle.std.specs.declared.cmp.Ordering.TheVariants.{Less, Equal, Greater}
 use Rattle.std.specs.Prelude.{◌==◌}
 use Rattle.std.specs.List.{AllByRecursion, cons_option, filter_map, list_any, slice_get}
 use Rattle.std.specs.Option.{option_and_then, option_map, option_map_or, option_or}
+use Rattle.std.proofs.lemmas.Bool.{and_parts}
 use Rattle.std.proofs.lemmas.Bool.Decides.{nat_tests}
 use Rattle.wot_types.specs.declared.fpr.Fpr.{Fpr}
+use Rattle.wot_types.specs.Fpr.{same_fpr}
+use Rattle.wot_types.specs.FprLaws.{same_fpr-true, same_fpr-sym}
 use Rattle.wot_signature.specs.declared.facts.SigFacts.{SigFacts}
 use Rattle.wot_verdict.specs.Verdicts.{Entries}
 use Rattle.wot_cert.specs.Certificate.{Signature, Component, Certificate, said_by}
 use Rattle.wot_cert.specs.Issuer.{issuer_of, counts_by}
 use Rattle.wot_cert.specs.Ranked.{placed}
 use Rattle.wot_edge.specs.declared.edge.EdgeFacts.{EdgeFacts}
-use Rattle.wot_edge.specs.Order.{edge_cmp, same_fpr}
+use Rattle.wot_edge.specs.Order.{edge_cmp}
 use Rattle.wot_edge.specs.Record.{Has}
-use Rattle.wot_standing.specs.Standing.{own, self_certification}
+use Rattle.wot_standing.specs.Standing.{own, newest_certification}
 use Rattle.wot_live.specs.Edge.{edge_facts, edge_by, edge_on, place_of}
 use Rattle.wot_live.specs.Found.{with_edge}
 use Rattle.wot_live.specs.Rows.{one_of_both, in_edge_order, is_edge_of, edge_at, edge_with, edges_on, edges_from, edges_of, AreRows, AreInto}
-use Rattle.wot_live.proofs.Orders.{same_fpr-true, same_fpr-sym, edge_exact, edge_tied}
+use Rattle.wot_live.proofs.Orders.{edge_exact, edge_tied}
 use Rattle.wot_live.proofs.Putting.{all_united, sorted_united}
 
 -- ---- an edge of a list in order
-
-both-true : (a b : Bool) → (a && b) ≡ true → (a ≡ true) × (b ≡ true)
-both-true true b e = (refl, e)
-both-true false b e = absurd cc
 
 equal-true : (a b : ℕ) → (a == b) ≡ true → a ≡ b
 equal-true a b e = grind (arith, nat_tests)
@@ -33,8 +32,8 @@ equal-true a b e = grind (arith, nat_tests)
 -- Two edges of one issuer and user ID tie.
 tied : (issuer : Fpr) (uid : ℕ) (e y : EdgeFacts) → is_edge_of issuer uid e ≡ true → is_edge_of issuer uid y ≡ true → edge_cmp e y ≡ Equal
 tied issuer uid e y f g =
-    let a = both-true (same_fpr e.issuer issuer) (e.uid == uid) f in
-    let b = both-true (same_fpr y.issuer issuer) (y.uid == uid) g in
+    let a = and_parts (same_fpr e.issuer issuer) (e.uid == uid) f in
+    let b = and_parts (same_fpr y.issuer issuer) (y.uid == uid) g in
     edge_tied e y (same_fpr-true e.issuer issuer a.0 ∙ sym (same_fpr-true y.issuer issuer b.0)) (equal-true e.uid uid a.1 ∙ sym (equal-true y.uid uid b.1))
 
 twice : (b : Bool) (x y : EdgeFacts) (z : Option EdgeFacts) → cond b (Some x) z ≡ cond b (Some x) (cond b (Some y) z)
@@ -96,7 +95,7 @@ edge_with-is verdicts target t uid p s e h = by (issuer_of verdicts s) h
   where
     by : (o : Option Fpr) → option_and_then (λ issuer. edge_on verdicts target t issuer uid p) o ≡ Some e → (issuer : Fpr) × IsEdge issuer target uid e
     by None g = absurd cc
-    by (Some issuer) g = (issuer, edge_by-is issuer target uid p.sigs (self_certification verdicts issuer t p) e g)
+    by (Some issuer) g = (issuer, edge_by-is issuer target uid p.sigs (newest_certification verdicts issuer t p) e g)
 
 -- what holds of the edges on user IDs from a place on
 abbrev IsFrom : Fpr → ℕ → EdgeFacts → Type 0
@@ -142,7 +141,7 @@ edges_into verdicts c t e i =
 
 -- An issuer by which no signature on a user ID counts has no certification there.
 abbrev pub OnlyCounting : Entries → ℕ → Type 0
-OnlyCounting verdicts t = (issuer : Fpr) (uid : Component) → list_any (counts_by verdicts issuer) uid.sigs ≡ false → self_certification verdicts issuer t uid ≡ None
+OnlyCounting verdicts t = (issuer : Fpr) (uid : Component) → list_any (counts_by verdicts issuer) uid.sigs ≡ false → newest_certification verdicts issuer t uid ≡ None
 
 and_true : (b : Bool) → (b && true) ≡ b
 and_true true = refl
@@ -180,7 +179,7 @@ module _ (verdicts : Entries) (target : Fpr) (t : ℕ) (issuer : Fpr) (uid : ℕ
           h ∙ none_of any (edge_on verdicts target t issuer uid p) none ∙ sym none
       by false g = h
   at_cons other (Some e) rest any f h =
-      let is = edge_by-is other target uid p.sigs (self_certification verdicts other t p) e f in
+      let is = edge_by-is other target uid p.sigs (newest_certification verdicts other t p) e f in
       ap (λ b. cond b (Some e) (edge_at rest issuer uid)) (is_of_issuer other e is) ∙ by (same_fpr issuer other) refl
     where
       by : (b : Bool) → same_fpr issuer other ≡ b → cond b (Some e) (edge_at rest issuer uid) ≡ cond (b || any) (edge_on verdicts target t issuer uid p) None
@@ -253,6 +252,6 @@ at_from verdicts target t issuer only uid first (p ∷ ps) (suc k) h =
 
 pub edges_rows : (verdicts : Entries) (c : Certificate) (t : ℕ) → OnlyCounting verdicts t → AreRows verdicts c t (edges_of verdicts c t)
 edges_rows verdicts c t only = record {
-  in_order = sorted_united (edges_from verdicts (own c) t 0 c.user_ids);
+  sorted = sorted_united (edges_from verdicts (own c) t 0 c.user_ids);
   exact = λ issuer uid. at_united issuer uid (edges_from verdicts (own c) t 0 c.user_ids) ∙ at_from verdicts (own c) t issuer only uid 0 c.user_ids uid (omega arith);
 }

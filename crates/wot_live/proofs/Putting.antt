@@ -1,5 +1,5 @@
 -- Edges that are put in their places.
-use Rattle.std.proofs.Common.{◌≡◌, ℕ, ◌+◌, ◌≤◌, List, [], ◌∷◌, ◌++◌, length, Option, Some, None, Ordering, refl, sym, ap, ◌∙◌, arith, append_assoc}
+use Rattle.std.proofs.Common.{◌≡◌, ℕ, ◌+◌, ◌≤◌, List, [], ◌∷◌, ◌++◌, length, Option, Some, None, Ordering, refl, sym, ap, ◌∙◌, arith}
 use Rattle.std.specs.declared.cmp.Ordering.TheVariants.{Less, Equal, Greater}
 use Rattle.std.specs.BTreeMap.{insert_entry}
 use Rattle.std.specs.List.{AllByRecursion, cons_option}
@@ -112,13 +112,6 @@ length_united [] = omega arith
 length_united (f ∷ fs) = omega (arith, length_put f (in_edge_order fs), length_united fs)
 
 -- ---- from the back
-
-pub seam : {X : Type 0} (place rest front seen : List X) (x : X) → place ≡ rest ++ seen → rest ≡ front ++ x ∷ [] → place ≡ front ++ x ∷ seen
-seam place rest front seen x e f = e ∙ ap (λ r. r ++ seen) f ∙ simp append_assoc
-
-pub all_front : {X : Type 0} (P : X → Type 0) (xs ys : List X) → AllByRecursion P (xs ++ ys) → AllByRecursion P xs
-all_front P [] ys h = tt
-all_front P (x ∷ xs) ys h = (h.0, all_front P xs ys h.1)
 
 -- what is found with the edges on one user ID more
 pub more_found : (verdicts : Entries) (target target' : Fpr) (t uid uid' next : ℕ) (p : Component) (seen : List Component) (old new : List (EdgePlace × EdgeFacts)) → target' ≡ target → uid' ≡ uid → uid + 1 ≡ next

@@ -4,7 +4,7 @@ use Rattle.wot_types.specs.declared.fpr.Fpr.{Fpr}
 use Rattle.wot_types.specs.declared.fpr.Fpr.TheVariants.{V4}
 use Rattle.wot_types.specs.declared.number.SigNumber.{SigNumber}
 use Rattle.wot_subpacket.specs.Area.{subpackets_of}
-use Rattle.wot_signature.specs.Signature.{facts_of, reading_of}
+use Rattle.wot_signature.specs.Signature.{facts_of, read_body_of}
 use Rattle.wot_verdict.specs.declared.verdict.Verdict.{Verdict}
 use Rattle.wot_verdict.specs.declared.verdict.Verdict.TheVariants.{Good}
 use Rattle.wot_verdict.specs.Verdicts.{Entries}
@@ -49,41 +49,41 @@ abbrev edge : ℕ → ℕ → ℕ → EdgeFacts
 edge sig made amount = record { issuer = R; target = T; uid = 0; sig = sig; made = made; depth = 0; amount = amount; scoped = false }
 
 before : at 999 ≡ []
-unfolding facts_of reading_of subpackets_of
+unfolding facts_of read_body_of subpackets_of
 before = refl
 
 not_yet : at 1999 ≡ []
-unfolding facts_of reading_of subpackets_of
+unfolding facts_of read_body_of subpackets_of
 not_yet = refl
 
 sixty : at 2500 ≡ edge 0 2000 60 ∷ []
-unfolding facts_of reading_of subpackets_of
+unfolding facts_of read_body_of subpackets_of
 sixty = refl
 
 full : at 3050 ≡ edge 1 3000 120 ∷ []
-unfolding facts_of reading_of subpackets_of
+unfolding facts_of read_body_of subpackets_of
 full = refl
 
 full_to_its_end : at 3099 ≡ edge 1 3000 120 ∷ []
-unfolding facts_of reading_of subpackets_of
+unfolding facts_of read_body_of subpackets_of
 full_to_its_end = refl
 
 sixty_again : at 3100 ≡ edge 0 2000 60 ∷ []
-unfolding facts_of reading_of subpackets_of
+unfolding facts_of read_body_of subpackets_of
 sixty_again = refl
 
 span_before : span_of certificate 999 ≡ record { from = 0; to = 999 }
-unfolding facts_of reading_of subpackets_of
+unfolding facts_of read_body_of subpackets_of
 span_before = refl
 
 span_of_sixty : span_of certificate 2500 ≡ record { from = 2000; to = 2999 }
-unfolding facts_of reading_of subpackets_of
+unfolding facts_of read_body_of subpackets_of
 span_of_sixty = refl
 
 span_of_full : span_of certificate 3050 ≡ record { from = 3000; to = 3099 }
-unfolding facts_of reading_of subpackets_of
+unfolding facts_of read_body_of subpackets_of
 span_of_full = refl
 
 span_at_last : span_of certificate 5000 ≡ record { from = 3100; to = 4294967295 }
-unfolding facts_of reading_of subpackets_of
+unfolding facts_of read_body_of subpackets_of
 span_at_last = refl

@@ -4,12 +4,12 @@ use Rattle.std.specs.List.{slice_get}
 use Rattle.std.specs.Option.{option_map, option_and_then}
 use Rattle.std.specs.Ordering.{is_eq}
 use Rattle.wot_types.specs.declared.fpr.Fpr.{Fpr}
+use Rattle.wot_types.specs.Fpr.{same_fpr}
 use Rattle.wot_signature.specs.declared.facts.SigFacts.{SigFacts}
 use Rattle.wot_verdict.specs.Verdicts.{Entries}
 use Rattle.wot_cert.specs.Certificate.{Signature, Component, Certificate, said_by, sig_cmp}
 use Rattle.wot_edge.specs.declared.edge.EdgeFacts.{EdgeFacts}
-use Rattle.wot_edge.specs.Order.{same_fpr}
-use Rattle.wot_standing.specs.Standing.{own, self_certification}
+use Rattle.wot_standing.specs.Standing.{own, newest_certification}
 
 -- the place of a signature among these, by its body
 abbrev pub place_of : Signature → List Signature → ℕ
@@ -35,7 +35,7 @@ edge_by issuer target uid sigs s = option_map (edge_facts issuer target uid (pla
 -- The newest certification by the issuer on the user ID at this place that is live and unrevoked at t makes the edge.
 abbrev pub edge_on : Entries → Fpr → ℕ → Fpr → ℕ → Component → Option EdgeFacts
 edge_on verdicts target t issuer uid p =
-    option_and_then (edge_by issuer target uid p.sigs) (self_certification verdicts issuer t p)
+    option_and_then (edge_by issuer target uid p.sigs) (newest_certification verdicts issuer t p)
 
 abbrev pub edge_of : Entries → Certificate → ℕ → Fpr → ℕ → Option EdgeFacts
 edge_of verdicts c t issuer uid = option_and_then (edge_on verdicts (own c) t issuer uid) (slice_get c.user_ids uid)

@@ -4,12 +4,13 @@ use Rattle.std.specs.List.{filter_map}
 use Rattle.std.specs.List.Sorted.{IsStrictlySortedBy}
 use Rattle.std.specs.Option.{option_and_then}
 use Rattle.wot_types.specs.declared.fpr.Fpr.{Fpr}
+use Rattle.wot_types.specs.Fpr.{same_fpr}
 use Rattle.wot_verdict.specs.Verdicts.{Entries}
 use Rattle.wot_cert.specs.Certificate.{Signature, Component, Certificate}
 use Rattle.wot_cert.specs.Issuer.{issuer_of}
 use Rattle.wot_cert.specs.Ranked.{united}
 use Rattle.wot_edge.specs.declared.edge.EdgeFacts.{EdgeFacts}
-use Rattle.wot_edge.specs.Order.{edge_cmp, same_fpr}
+use Rattle.wot_edge.specs.Order.{edge_cmp}
 use Rattle.wot_edge.specs.Record.{Has}
 use Rattle.wot_standing.specs.Own.{is_own_revoked}
 use Rattle.wot_standing.specs.Standing.{own}
@@ -53,7 +54,7 @@ edge_at (e ∷ es) issuer uid = if is_edge_of issuer uid e then Some e else edge
 
 -- These are all edges into the certificate at t, each once, in order.
 pub record AreRows (verdicts : Entries) (c : Certificate) (t : ℕ) (edges : List EdgeFacts) : Type 0 where
-  pub in_order : IsStrictlySortedBy edge_cmp edges
+  pub sorted : IsStrictlySortedBy edge_cmp edges
   pub exact : (issuer : Fpr) (uid : ℕ) → edge_at edges issuer uid ≡ edge_of verdicts c t issuer uid
 
 -- All of them are into this one.

@@ -24,7 +24,8 @@ pub(crate) struct EdgePlace {
 pub(crate) type Found = BTreeMap<EdgePlace, EdgeFacts, Global>;
 
 fn put_edge(found: &mut Found, edge: EdgeFacts) -> Result<(), Memory>
-    ensures { OnOk result ((edges : List Facts) → found.old.entries ≡ by_place edges → found.new.entries ≡ by_place (with_edge edge edges)) }
+    ensures { OnOk result ((edges : List Facts) → found.old.entries ≡ by_place edges →
+        found.new.entries ≡ by_place (with_edge edge edges)) }
 {
     let place = EdgePlace {
         issuer: edge.issuer,
@@ -60,7 +61,8 @@ fn edge_with(
 }
 
 fn put_some(found: &mut Found, edge: Option<EdgeFacts>) -> Result<(), Memory>
-    ensures { OnOk result ((edges : List Facts) → found.old.entries ≡ by_place edges → found.new.entries ≡ by_place (with_edges edges (cons_option edge []))) }
+    ensures { OnOk result ((edges : List Facts) → found.old.entries ≡ by_place edges →
+        found.new.entries ≡ by_place (with_edges edges (cons_option edge []))) }
 {
     match edge {
         Some(edge) => put_edge(found, edge),
@@ -79,12 +81,13 @@ fn put_edges_on(
     t: u32,
 ) -> Result<(), Memory>
     requires few { HasFew part.now }
-    ensures { OnOk result ((edges : List Facts) → found.old.entries ≡ by_place edges → found.new.entries ≡ by_place (with_edges edges (edges_on verdicts.now target t uid part.now))) }
+    ensures { OnOk result ((edges : List Facts) → found.old.entries ≡ by_place edges →
+        found.new.entries ≡ by_place (with_edges edges (edges_on verdicts.now target t uid part.now))) }
 {
     let certifiers = Certifiers::new(alloc, part, verdicts, t)?;
     let mut rest = part.sigs();
-    'back: while let Some((sig, front)) = rest.split_last() {
-        rest = front;
+    'back: while let Some((sig, prefix)) = rest.split_last() {
+        rest = prefix;
         let edge = edge_with(sig, part, uid, target, verdicts, &certifiers);
         put_some(found, edge)?;
     }
@@ -105,13 +108,13 @@ pub(crate) fn find_edges(
     let mut found = BTreeMap::new(alloc);
     let target = cert.fpr();
     let mut rest = cert.user_ids();
-    'back: while let Some((part, front)) = rest.split_last() {
-        rest = front;
+    'back: while let Some((part, prefix)) = rest.split_last() {
+        rest = prefix;
         put_edges_on(
             alloc,
             &mut found,
             part,
-            front.len() as u32,
+            prefix.len() as u32,
             target,
             verdicts,
             t,

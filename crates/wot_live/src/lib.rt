@@ -7,8 +7,6 @@ mod making;
 mod revoked;
 mod table;
 mod terms;
-#[cfg(test)]
-mod tests;
 
 pub use making::rows;
 pub use table::Rows;

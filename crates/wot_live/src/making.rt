@@ -42,7 +42,8 @@ fn make_edges(alloc: Global, found: &Found, steps: &mut Steps) -> Result<Vec<Edg
 /// both are the same.
 ///
 /// The edge of an issuer and a user ID is the newest certification there that counts by the issuer, is live and
-/// unrevoked. A certification of one's own has no depth, the amount 120 and no scope. Each edge that is made is counted.
+/// unrevoked. A certification of one's own has no depth, the amount 120 and no scope. Each edge that is made is
+/// counted.
 pub fn rows(
     alloc: Global,
     cert: &Cert,

@@ -12,10 +12,11 @@ use Rattle.wot_edge.specs.Agree.{Agree, scoped_edge}
 use Rattle.wot_edge.specs.Path.{asks}
 use Rattle.wot_edge.specs.Record.{Has, Row, Entry, blank, entry_at, rows_into}
 use Rattle.wot_keyring.specs.Keyring.{Certificates, is_fpr}
+use Rattle.wot_keyring.specs.Later.{SaysSame}
 use Rattle.wot_live.specs.Rows.{edges_of}
 use Rattle.wot_standing.specs.Standing.{standing_of}
 use Rattle.wot_standing.specs.Usable.{is_usable}
-use Rattle.wot_network.specs.Local.{SameVerdict, AgreeAt, AgreeOn, SameAmounts}
+use Rattle.wot_network.specs.Local.{AgreeAt, AgreeOn, SameAmounts}
 use Rattle.wot_network.specs.Told.{row_of, entry_of, record_of, is_usable_by, is_in_scope, is_user_id}
 use Rattle.wot_network.proofs.Looking.{entry_some, entry_none, row_told}
 use Rattle.wot_network.proofs.Verdicts.{standing_same, edges_same, in_order_same}
@@ -32,7 +33,7 @@ scoped_kept verdicts certs t u c (edge ∷ edges) = ap (λ (rest : List (EdgeFac
 module _ (certs others : Certificates) (verdicts other : Entries) (t : ℕ) (u : List ℕ) where
   -- what holds of what both tell of a fingerprint on which they agree
   both : (fpr : Fpr) → AgreeAt certs verdicts others other fpr → (P : Entry → Entry → Type 0) → P blank blank
-      → ((c : Certificate) → AllByRecursion (SameVerdict verdicts other) (all_sigs c) → P (entry_of verdicts certs t u c) (entry_of other others t u c))
+      → ((c : Certificate) → AllByRecursion (SaysSame verdicts other) (all_sigs c) → P (entry_of verdicts certs t u c) (entry_of other others t u c))
       → P (entry_at (record_of certs verdicts t u) fpr) (entry_at (record_of others other t u) fpr)
   both fpr agree P absent present = by (lookup (is_fpr fpr) certs) refl
     where

@@ -1,7 +1,15 @@
 pub mod Agreeing
 pub mod Few
-pub mod Filling
-pub mod Kept
+pub mod Fprs
+pub mod Current
+pub mod Steps
+pub mod Newly
+pub mod Windows
+pub mod Looks
+pub mod Made
+pub mod Later
+pub mod Settled
+pub mod Places
 pub mod Lawful
 pub mod Looking
 pub mod Verdicts

@@ -1,14 +1,16 @@
 -- What verdicts give a certificate rests on the verdicts on its signatures alone.
 use Rattle.std.proofs.Common.{◌≡◌, ℕ, ◌+◌, Bool, false, List, [], ◌∷◌, ◌++◌, map, Option, Some, None, refl, ap, ◌∙◌}
 use Rattle.std.specs.Prelude.{◌&&◌, ◌||◌, not, nat_lt, filter, is_some}
-use Rattle.std.specs.List.{AllByRecursion, flat_map, list_all, list_any, filter_map}
+use Rattle.std.specs.List.{AllByRecursion, list_all, list_any, filter_map}
 use Rattle.std.specs.Option.{option_or, option_map_or, option_and_then}
 use Rattle.wot_types.specs.declared.fpr.Fpr.{Fpr}
+use Rattle.wot_types.specs.Fpr.{same_fpr}
+use Rattle.wot_types.specs.PlainLaws.{all_prefix, all_back, all_each}
 use Rattle.wot_verdict.specs.Verdicts.{Entries}
 use Rattle.wot_verdict.specs.declared.verdict.Verdict.{Verdict}
 use Rattle.wot_cert.specs.Certificate.{Signature, Component, Certificate, said_by}
 use Rattle.wot_cert.specs.Counts.{all_sigs, parts_in, sigs_on}
-use Rattle.wot_cert.specs.Issuer.{same_fpr, good_by, issuer_with, issuer_of, counts_by}
+use Rattle.wot_cert.specs.Issuer.{good_by, issuer_with, issuer_of, counts_by}
 use Rattle.wot_cert.specs.Ranked.{greatest}
 use Rattle.wot_cert.specs.Revoked.{has_kind, revokes_by, is_unrevoked, is_revocable}
 use Rattle.wot_cert.specs.Span.{created_of}
@@ -17,25 +19,13 @@ use Rattle.wot_edge.specs.declared.edge.EdgeFacts.{EdgeFacts}
 use Rattle.wot_standing.specs.declared.status.Standing.{Standing}
 use Rattle.wot_standing.specs.Kinds.{is_certification, is_soft}
 use Rattle.wot_standing.specs.Own.{is_own_revoked}
-use Rattle.wot_standing.specs.Standing.{own, primacy, self_certification, primary_among, governing, end_by, is_hard_revocation, is_hard_revoked, is_soft_revocation, least_of, soft_moment, standing_of}
+use Rattle.wot_standing.specs.Standing.{own, primacy, newest_certification, primary_among, governing, end_by, is_hard_revocation, is_hard_revoked, is_soft_revocation, least_of, soft_moment, standing_of}
 use Rattle.wot_standing.specs.Usable.{is_key_in_order, is_in_order}
 use Rattle.wot_live.specs.Edge.{edge_by, edge_on}
-use Rattle.wot_live.specs.Rows.{edge_with, edges_on, edges_from, in_edge_order, edges_of}
-use Rattle.wot_network.specs.Local.{SameVerdict}
+use Rattle.wot_live.specs.Rows.{edge_with, edges_on, edges_from, in_edge_order, edges_of, places_where, revoked_of}
+use Rattle.wot_keyring.specs.Later.{SaysSame}
 
 -- ---- lists
-
-all_front : {A : Type 0} (P : A → Type 0) (xs ys : List A) → AllByRecursion P (xs ++ ys) → AllByRecursion P xs
-all_front P [] ys h = tt
-all_front P (x ∷ xs) ys h = (h.0, all_front P xs ys h.1)
-
-all_back : {A : Type 0} (P : A → Type 0) (xs ys : List A) → AllByRecursion P (xs ++ ys) → AllByRecursion P ys
-all_back P [] ys h = h
-all_back P (x ∷ xs) ys h = all_back P xs ys h.1
-
-all_each : {A B : Type 0} (P : B → Type 0) (f : A → List B) (xs : List A) → AllByRecursion P (flat_map f xs) → AllByRecursion (λ x. AllByRecursion P (f x)) xs
-all_each P f [] h = tt
-all_each P f (x ∷ xs) h = (all_front P (f x) (flat_map f xs) h, all_each P f xs (all_back P (f x) (flat_map f xs) h))
 
 filter_same : {A : Type 0} (P : A → Type 0) (p q : A → Bool) → ((x : A) → P x → p x ≡ q x) → (xs : List A) → AllByRecursion P xs → filter p xs ≡ filter q xs
 filter_same P p q f [] h = refl
@@ -62,7 +52,7 @@ newest verdicts kind fpr t place = greatest newness (filter (is_valid verdicts k
 
 module _ (v w : Entries) where
   abbrev Same : Signature → Type 0
-  Same s = SameVerdict v w s
+  Same s = SaysSame v w s
 
   abbrev SameOn : Component → Type 0
   SameOn p = AllByRecursion Same p.sigs
@@ -97,7 +87,7 @@ module _ (v w : Entries) where
 
   own_revoked_same : (fpr : Fpr) (t : ℕ) (uid : Component) → SameOn uid → is_own_revoked v fpr t uid ≡ is_own_revoked w fpr t uid
   own_revoked_same fpr t uid h =
-      ap (λ (b : Bool). b && not (is_some (self_certification v fpr t uid))) (list_any_same Same (revokes_by v fpr t) (revokes_by w fpr t) (revokes_same fpr t) uid.sigs h)
+      ap (λ (b : Bool). b && not (is_some (newest_certification v fpr t uid))) (list_any_same Same (revokes_by v fpr t) (revokes_by w fpr t) (revokes_same fpr t) uid.sigs h)
       ∙ ap (λ (o : Option Signature). list_any (revokes_by w fpr t) uid.sigs && not (is_some o)) (newest_same is_certification fpr t uid.sigs h)
 
   -- ---- standing
@@ -106,7 +96,7 @@ module _ (v w : Entries) where
   governing_same c t direct uids =
       ap (λ (o : Option Signature). option_or o (primary_among v (own c) t c.user_ids)) (newest_same (has_kind 31) (own c) t c.direct direct)
       ∙ ap (λ (o : Option Signature). option_or (newest w (has_kind 31) (own c) t c.direct) o)
-      (ap (greatest primacy) (filter_map_same SameOn (self_certification v (own c) t) (self_certification w (own c) t) (λ p e. newest_same is_certification (own c) t p.sigs e) c.user_ids uids))
+      (ap (greatest primacy) (filter_map_same SameOn (newest_certification v (own c) t) (newest_certification w (own c) t) (λ p e. newest_same is_certification (own c) t p.sigs e) c.user_ids uids))
 
   hard_same : (c : Certificate) → AllByRecursion Same c.direct → is_hard_revoked v c ≡ is_hard_revoked w c
   hard_same c h =
@@ -149,18 +139,25 @@ module _ (v w : Entries) where
   -- ---- of a certificate with these verdicts on all its signatures
 
   direct_in : (c : Certificate) → AllByRecursion Same (all_sigs c) → AllByRecursion Same c.direct
-  direct_in c h = all_front Same c.direct (sigs_on (parts_in c)) h
+  direct_in c h = all_prefix Same c.direct (sigs_on (parts_in c)) h
 
   uids_in : (c : Certificate) → AllByRecursion Same (all_sigs c) → AllByRecursion SameOn c.user_ids
   uids_in c h =
       let parts = all_each Same (λ (p : Component). p.sigs) (parts_in c) (all_back Same c.direct (sigs_on (parts_in c)) h) in
-      all_front SameOn c.user_ids c.attributes (all_front SameOn (c.user_ids ++ c.attributes) c.subkeys parts)
+      all_prefix SameOn c.user_ids c.attributes (all_prefix SameOn (c.user_ids ++ c.attributes) c.subkeys parts)
 
   pub standing_same : (c : Certificate) (t : ℕ) → AllByRecursion Same (all_sigs c) → standing_of v c t ≡ standing_of w c t
   standing_same c t h = standing_parts c t (direct_in c h) (uids_in c h)
 
   pub edges_same : (c : Certificate) (t : ℕ) → AllByRecursion Same (all_sigs c) → edges_of v c t ≡ edges_of w c t
   edges_same c t h = ap in_edge_order (edges_from_same (own c) t 0 c.user_ids (uids_in c h))
+
+  places_same : (fpr : Fpr) (t place : ℕ) (uids : List Component) → AllByRecursion SameOn uids → places_where (is_own_revoked v fpr t) place uids ≡ places_where (is_own_revoked w fpr t) place uids
+  places_same fpr t place [] h = refl
+  places_same fpr t place (uid ∷ uids) h = rw (own_revoked_same fpr t uid h.0, places_same fpr t (place + 1) uids h.1) refl
+
+  pub revoked_same : (c : Certificate) (t : ℕ) → AllByRecursion Same (all_sigs c) → revoked_of v c t ≡ revoked_of w c t
+  revoked_same c t h = places_same (own c) t 0 c.user_ids (uids_in c h)
 
   pub in_order_same : (c : Certificate) (t : ℕ) (is_wanted : Component → Bool) → AllByRecursion Same (all_sigs c) → is_in_order v c t is_wanted ≡ is_in_order w c t is_wanted
   in_order_same c t is_wanted h =

@@ -1,4 +1,6 @@
 pub mod Told
+pub mod Places
 pub mod Net
+pub mod Refreshing
 pub mod Local
 pub mod Roads

@@ -25,6 +25,8 @@ is_usable_by verdicts certs t issuer made =
     option_map_or (λ (c : Certificate). is_usable (standing_of verdicts c t) made) (lookup (is_fpr issuer) certs) false
 
 -- ---- scope
+-- What decides a scope is told by true or false here. By wot_scope's law `scope_is_told` it is the relation `ScopeHolds`, which says
+-- what a scope means by the grammar and the meaning of patterns.
 
 abbrev pub body_in : ℕ → Component → List ℕ
 body_in sig uid = option_map_or (λ (s : Signature). s.body) (slice_get uid.sigs sig) []
@@ -48,6 +50,7 @@ place_of u [] = None
 place_of u (uid ∷ uids) = if is_user_id u uid then Some 0 else option_map suc (place_of u uids)
 
 -- ---- the record
+-- By wot_live's law `edges_are_rows` the list of edges has the newest certification that counts of each issuer and user ID, and no other.
 
 abbrev pub row_of : Entries → Certificates → ℕ → List ℕ → Certificate → EdgeFacts → Row
 row_of verdicts certs t u c edge = record {

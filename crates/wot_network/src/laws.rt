@@ -1,5 +1,5 @@
 //! Laws of the definitions. Each function does nothing: its contract is the law.
-ghost use Rattle.std.specs.Prelude.{◌≡◌, ◌<◌, ℕ, List};
+ghost use Rattle.std.specs.Prelude.{◌≡◌, ◌≤◌, ℕ, List};
 ghost use Rattle.std.specs.List.{AllByRecursion};
 ghost use Rattle.wot_types.specs.declared.fpr.Fpr.{Fpr};
 ghost use Rattle.wot_key.specs.Key.{fpr_of};
@@ -8,29 +8,38 @@ ghost use Rattle.wot_cert.specs.Certificate.{Certificate};
 ghost use Rattle.wot_edge.specs.Lawful.{AreEntries};
 ghost use Rattle.wot_edge.specs.Record.{IsRecord};
 ghost use Rattle.wot_keyring.specs.Keyring.{Certificates, Keyring};
+ghost use Rattle.wot_keyring.specs.Later.{IsLater};
 ghost use Rattle.wot_network.specs.Local.{IsLocal};
-ghost use Rattle.wot_network.specs.Net.{Net, Fits};
+ghost use Rattle.wot_network.specs.Net.{Marks, Net, Fits, signatures_in, stale_signatures};
 ghost use Rattle.wot_network.specs.Told.{record_of};
 
 use wot_edge::laws::entries_are_record;
 use wot_live::laws::edges_are_rows;
 
-/// A network that fits a keyring fits every keyring with a greater count of changes.
+/// A network that fits a keyring fits every later one.
 pub fn fits_later()
-    ensures later { (n : Net) (old new : Keyring) → Fits n old → old.changes < new.changes → Fits n new }
+    ensures later { (n : Net) (old new : Keyring) → Fits n old → IsLater old new → Fits n new }
 {}
 
-/// What certificates under their own fingerprints tell is a record, whose rows stand in the order of issuer and user ID.
+/// The stale certificates have no more signatures than all have.
+pub fn stale_are_some()
+    ensures some { (marks : Marks) (t : ℕ) (k : Keyring) → stale_signatures marks t k ≤ signatures_in k }
+{}
+
+/// What certificates under their own fingerprints tell is a record, whose rows stand in the order of issuer and user
+/// ID.
 pub fn record_is_lawful()
-    ensures ordered { (certs : Certificates) (verdicts : Entries) (t : ℕ) (u : List ℕ) → AllByRecursion (λ (e : Fpr × Certificate). e.0 ≡ fpr_of e.1.key) certs → AreEntries (record_of certs verdicts t u) }
-    ensures lawful { (certs : Certificates) (verdicts : Entries) (t : ℕ) (u : List ℕ) → AllByRecursion (λ (e : Fpr × Certificate). e.0 ≡ fpr_of e.1.key) certs → IsRecord (record_of certs verdicts t u) }
+    ensures ordered { (certs : Certificates) (verdicts : Entries) (t : ℕ) (u : List ℕ) → AllByRecursion (λ (e : Fpr
+        × Certificate). e.0 ≡ fpr_of e.1.key) certs → AreEntries (record_of certs verdicts t u) }
+    ensures lawful { (certs : Certificates) (verdicts : Entries) (t : ℕ) (u : List ℕ) → AllByRecursion (λ (e : Fpr
+        × Certificate). e.0 ≡ fpr_of e.1.key) certs → IsRecord (record_of certs verdicts t u) }
 {
     entries_are_record();
     edges_are_rows();
 }
 
-/// What certificates and verdicts tell of a set of fingerprints rests on the certificates of the set and on the verdicts on
-/// their signatures alone.
+/// What certificates and verdicts tell of a set of fingerprints rests on the certificates of the set and on the
+/// verdicts on their signatures alone.
 pub fn records_agree()
     ensures local { (certs : Certificates) (verdicts : Entries) (t : ℕ) → IsLocal certs verdicts t (record_of certs verdicts t) }
 {}

@@ -5,9 +5,9 @@ pub mod laws;
 mod line;
 mod making;
 mod network;
+mod refreshing;
 mod roads;
-#[cfg(test)]
-mod tests;
+mod table;
 mod user_ids;
 
 pub use network::Network;

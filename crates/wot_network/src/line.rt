@@ -1,4 +1,5 @@
 ghost use Rattle.std.specs.Prelude.{◌≡◌};
+ghost use Rattle.wot_network.specs.Net.{is_current, mark_of};
 
 use std::marker::Model;
 use wot_cert::Span;
@@ -8,8 +9,10 @@ use wot_standing::Standing;
 /// What was made of a certificate.
 #[derive(Drop)]
 pub(crate) struct NetLine {
+    pub(crate) stamp: u64,
     pub(crate) edges: Vec<Edge>,
     pub(crate) standing: Standing,
+    pub(crate) revoked: Vec<u32>,
     pub(crate) span: Span,
 }
 
@@ -18,7 +21,13 @@ impl Model for NetLine {
 
     ghost Value = { Line };
 
-    ghost view = { λ a. record { edges = a.edges.items; standing = a.standing; span = a.span } };
+    ghost view = { λ a. record {
+      stamp = a.stamp;
+      edges = a.edges.items;
+      standing = a.standing;
+      revoked = a.revoked.items;
+      span = a.span;
+    } };
 }
 
 impl NetLine {
@@ -32,5 +41,25 @@ impl NetLine {
         ensures standing { result.now ≡ self.now.standing }
     {
         &self.standing
+    }
+
+    /// The places of the user IDs that the certificate's own key revoked.
+    pub(crate) fn revoked(&self) -> &[u32]
+        ensures revoked { result.now ≡ self.now.revoked }
+    {
+        &self.revoked
+    }
+
+    pub(crate) fn span(&self) -> Span
+        ensures span { result ≡ self.now.span }
+    {
+        self.span
+    }
+
+    /// Whether it tells of a certificate with this stamp at `t`.
+    pub(crate) fn is_current(&self, stamp: u64, t: u32) -> bool
+        ensures current { result ≡ is_current t stamp (mark_of self.now) }
+    {
+        self.stamp == stamp && self.span.from <= t && t <= self.span.to
     }
 }

@@ -1,20 +1,21 @@
-ghost use Rattle.std.specs.Prelude.{◌≡◌, ◌≤◌, ◌+◌, ℕ, List, min, [], false, Ok, OnOk, OnErr, MatchBool};
+ghost use Rattle.std.specs.Prelude.{◌≡◌, ◌≤◌, ◌+◌, ℕ, List, min, [], OnOk, OnErr};
 ghost use Rattle.std.specs.Option.{option_copied};
-ghost use Rattle.std.specs.Map.{lookup};
-ghost use Rattle.wot_keyring.specs.Keyring.{Keyring as KeyringOf, certificates_in, is_fpr};
+ghost use Rattle.wot_keyring.specs.Keyring.{Keyring as KeyringOf, certificates_in};
 ghost use Rattle.wot_network.specs.Local.{IsLocal};
 ghost use Rattle.wot_edge.specs.Lawful.{AreEntries};
 ghost use Rattle.wot_edge.specs.Record.{IsRecord};
-ghost use Rattle.wot_network.specs.Net.{Net, Fits, IsRight, IsCurrent, AreLawful, edges_in, signatures_in, told_of};
+ghost use Rattle.wot_network.specs.Net.{Net, AreLawful, AreMarksOf, Fits, IsRight, StayCurrent};
+ghost use Rattle.wot_network.specs.Net.{line_at, marks_of, stale_edges, stale_signatures, told_of};
 
-use crate::laws::records_agree;
+use crate::laws::{record_is_lawful, records_agree};
 use crate::line::NetLine;
-use crate::making::keyring_lines;
+use crate::refreshing::{look_at_stale, ordered, settle};
 use crate::roads::NetRoads;
+use crate::table::{Table, find};
 use std::alloc::Global;
 use std::collections::BTreeMap;
 use std::marker::Model;
-use wot_edge::laws::entries_are_record;
+use wot_cert::Span;
 use wot_keyring::Keyring;
 use wot_types::{Fpr, Memory, Steps};
 
@@ -22,9 +23,11 @@ use wot_types::{Fpr, Memory, Steps};
 #[derive(Drop)]
 pub struct Network {
     time: u32,
-    made: bool,
-    changes: u64,
-    lines: BTreeMap<Fpr, NetLine, Global>,
+    /// The keyring's count of changes at the last refresh.
+    count: u64,
+    /// Times at which no line's span has ended.
+    window: Span,
+    lines: Table,
     alloc: Global,
 }
 
@@ -37,12 +40,13 @@ impl Model for Network {
     ghost use Rattle.wot_types.specs.declared.fpr.Fpr.{Fpr as FprOf};
     ghost use Rattle.wot_verdict.specs.Verdicts.{Entries};
     ghost use Rattle.wot_network.specs.Net.{Net, AreLawful};
+    ghost use Rattle.wot_network.specs.Refreshing.{AreOpen};
 
     ghost Value = { Net };
 
-    ghost view = { λ a. record { time = a.time; made = a.made; changes = a.changes; lines = a.lines.entries } };
+    ghost view = { λ a. record { time = a.time; count = a.count; lines = a.lines.entries } };
 
-    ghost invariant = { λ a. AreLawful a.lines.entries };
+    ghost invariant = { λ a. AreLawful a.lines.entries × AreOpen a.window a.lines.entries };
 }
 
 impl Network {
@@ -51,13 +55,16 @@ impl Network {
     /// A network with the time `t`, of which nothing was made yet. It fits every keyring. Takes no memory.
     pub fn new(alloc: Global, t: u32) -> Network
         ensures time { result.time ≡ t }
-        ensures empty { (result.made ≡ false) × (result.changes ≡ 0) × (result.lines ≡ []) }
+        ensures empty { (result.count ≡ 0) × (result.lines ≡ []) }
         ensures fits { (k : KeyringOf) → Fits result k }
     {
         Network {
             time: t,
-            made: false,
-            changes: 0,
+            count: 0,
+            window: Span {
+                from: 0,
+                to: u32::MAX,
+            },
             lines: BTreeMap::new(alloc),
             alloc,
         }
@@ -70,33 +77,37 @@ impl Network {
         self.time
     }
 
-    /// Makes the network that of this keyring at `t`. Its lines are made anew unless they were made at this time for this
-    /// count of changes; then nothing is counted. After `Memory` it is as before.
+    /// Makes the network that of this keyring at `t`. Lines are made of stale certificates alone: those that were
+    /// altered since their line was made, those whose span `t` isn't in, and those that have no line. Where neither
+    /// the time left a span nor more was altered than the keyring has logged, the others aren't looked at.
+    /// After `Memory` each line is still right for its stamp and its span, and it is time and count of the last
+    /// refresh that the network has.
     pub fn refresh(&mut self, keyring: &Keyring, t: u32, steps: &mut Steps) -> Result<(), Memory>
         requires fits { Fits self.old keyring.now }
         ensures right { OnOk result (IsRight self.new keyring.now t) }
         ensures fits { Fits self.new keyring.now }
-        ensures kept { OnErr result (self.new ≡ self.old) }
-        ensures made_least { OnOk result ((IsCurrent self.old keyring.now t → ⊥) → min (steps.old.made + edges_in self.new.lines) u64.MAX ≤ steps.new.made) }
-        ensures made_most { steps.new.made ≤ steps.old.made + signatures_in keyring.now }
+        ensures marks { OnOk result (AreMarksOf (marks_of self.new.lines) keyring.now t) }
+        ensures stay { StayCurrent keyring.now t (marks_of self.old.lines) (marks_of self.new.lines) }
+        ensures kept { OnErr result ((self.new.time ≡ self.old.time) × (self.new.count ≡ self.old.count)) }
+        ensures made_least { OnOk result (
+            min (steps.old.made + stale_edges (marks_of self.old.lines) t keyring.now) u64.MAX ≤ steps.new.made) }
+        ensures made_most { steps.new.made ≤ steps.old.made + stale_signatures (marks_of self.old.lines) t keyring.now }
         ensures never_less { steps.old.made ≤ steps.new.made }
-        ensures left { IsCurrent self.old keyring.now t → (result ≡ Ok tt) × (steps.new ≡ steps.old) × (self.new ≡ self.old) }
     {
-        if self.is_current(keyring, t) {
-            return Ok(());
-        }
-        let lines = keyring_lines(self.alloc, keyring, t, steps)?;
-        self.lines = lines;
+        ordered(keyring);
+        look_at_stale(
+            self.alloc,
+            &mut self.lines,
+            &mut self.window,
+            self.count,
+            keyring,
+            t,
+            steps,
+        )?;
+        settle(&mut self.lines, keyring, t);
         self.time = t;
-        self.made = true;
-        self.changes = keyring.changes();
+        self.count = keyring.changes();
         Ok(())
-    }
-
-    fn is_current(&self, keyring: &Keyring, t: u32) -> bool
-        ensures current { MatchBool result (IsCurrent self.now keyring.now t) (IsCurrent self.now keyring.now t → ⊥) }
-    {
-        self.made && self.changes == keyring.changes() && self.time == t
     }
 
     /// The roads of the network, of which it holds what was made of the keyring.
@@ -108,25 +119,18 @@ impl Network {
         ensures lawful { (u : List ℕ) → IsRecord (told_of (present_of result) u) }
         ensures local { IsLocal (certificates_in keyring.now) keyring.now.verdicts self.now.time (told_of (present_of result)) }
     {
-        entries_are_record();
+        record_is_lawful();
         records_agree();
-        self.is_lawful();
+        ordered(keyring);
         NetRoads {
             network: self,
             keyring,
         }
     }
 
-    /// A law: what it holds of each certificate stands in order, into that certificate.
-    fn is_lawful(&self)
-        ensures lawful { AreLawful self.now.lines }
-    {
-        let _ = self.lines.is_empty();
-    }
-
     /// What was made of the certificate of a fingerprint.
     pub(crate) fn line(&self, fpr: &Fpr) -> Option<&NetLine>
-        ensures found { option_copied result ≡ lookup (is_fpr fpr.now) self.now.lines }
+        ensures found { option_copied result ≡ line_at self.now.lines fpr.now }
         ensures lawful { AreLawful self.now.lines }
     {
         find(&self.lines, fpr)
@@ -135,10 +139,4 @@ impl Network {
     pub(crate) fn allocator(&self) -> Global {
         self.alloc
     }
-}
-
-fn find<'a>(lines: &'a BTreeMap<Fpr, NetLine, Global>, fpr: &Fpr) -> Option<&'a NetLine>
-    ensures found { option_copied result ≡ lookup (is_fpr fpr.now) lines.now.entries }
-{
-    lines.get(fpr)
 }

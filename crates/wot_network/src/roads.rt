@@ -1,9 +1,10 @@
 ghost use Rattle.wot_network.specs.Net.{IsRight};
 
+use crate::laws::record_is_lawful;
 use crate::network::Network;
+use crate::refreshing::ordered;
 use crate::user_ids::{holds_for, is_in_order, place_of};
 use std::alloc::Global;
-use wot_edge::laws::entries_are_record;
 use wot_edge::{Edge, Roads};
 use wot_keyring::Keyring;
 use wot_standing::is_usable;
@@ -24,7 +25,8 @@ impl<'a> Roads for NetRoads<'a> {
     ghost told = { λ roads uid. told_of (present_of roads) uid };
 
     fn rows(&self, target: &Fpr) -> &[Edge] {
-        entries_are_record();
+        record_is_lawful();
+        ordered(self.keyring);
         match self.network.line(target) {
             Some(line) => line.edges(),
             None => &[],
@@ -48,12 +50,13 @@ impl<'a> Roads for NetRoads<'a> {
     }
 
     fn in_order(&self, target: &Fpr, uid: &[u8]) -> bool {
-        entries_are_record();
+        record_is_lawful();
+        ordered(self.keyring);
         match self.network.line(target) {
             Some(line) => match self.keyring.get(target) {
                 Some(cert) => {
                     let t = self.network.time();
-                    is_in_order(cert, line.standing(), self.keyring.verdicts(), t, uid)
+                    is_in_order(cert.user_ids(), line.standing(), line.revoked(), t, uid)
                 }
                 None => false,
             },

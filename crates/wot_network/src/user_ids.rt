@@ -1,19 +1,20 @@
 // Looking among the user IDs of a certificate.
-ghost use Rattle.std.specs.Prelude.{◌≡◌, ◌&&◌, ◌<◌, ◌^◌, not, length, IfOk};
+ghost use Rattle.std.specs.Prelude.{◌≡◌, ◌<◌, ◌^◌, Bool, length, IfOk};
 ghost use Rattle.std.specs.List.{list_any};
-ghost use Rattle.wot_cert.specs.Certificate.{Component};
-ghost use Rattle.wot_standing.specs.Own.{is_own_revoked as is_own_revoked_spec};
+ghost use Rattle.wot_verdict.specs.Verdicts.{Entries};
+ghost use Rattle.wot_cert.specs.Certificate.{Certificate, Component};
+ghost use Rattle.wot_live.specs.Rows.{places_where, revoked_of};
+ghost use Rattle.wot_network.specs.Places.{is_first as is_first_spec, behind_first as behind_first_spec, is_unrevoked};
 ghost use Rattle.wot_standing.specs.Standing.{standing_of};
 ghost use Rattle.wot_standing.specs.Usable.{is_in_order as is_in_order_spec};
 ghost use Rattle.wot_network.specs.Told.{body_in as body_in_spec, body_at as body_at_spec, is_in_scope, is_user_id as is_user_id_spec, place_of as place_of_spec};
 
 use std::alloc::Global;
-use wot_cert::{Cert, Part};
+use wot_cert::Part;
 use wot_edge::EdgeFacts;
 use wot_scope::in_scope;
-use wot_standing::{Standing, is_key_in_order, is_own_revoked};
-use wot_types::{Fpr, Memory};
-use wot_verdict::Verdicts;
+use wot_standing::{Standing, is_key_in_order};
+use wot_types::Memory;
 
 fn body_in(sig: u32, uid: &Part) -> &[u8]
     ensures body { result.now ≡ body_in_spec sig uid.now }
@@ -72,23 +73,59 @@ pub(crate) fn place_of(user_ids: &[Part], u: &[u8]) -> Option<u32>
     None
 }
 
-/// Whether it is among these, and not revoked by the key of this fingerprint.
-fn has_unrevoked(user_ids: &[Part], verdicts: &Verdicts, fpr: &Fpr, t: u32, u: &[u8]) -> bool
-    ensures has { result ≡ list_any (λ (uid : Component). is_user_id_spec u.now uid && not (is_own_revoked_spec verdicts.now fpr.now t uid)) user_ids.now }
+/// Whether this place is the first of these.
+fn is_first(place: u32, places: &[u32]) -> bool
+    ensures first { result ≡ is_first_spec place places.now }
 {
-    user_ids.iter().any(|uid| is_user_id(u, uid) && !is_own_revoked(uid, verdicts, fpr, t))
+    match places.split_first() {
+        Some((first, _)) => *first == place,
+        None => false,
+    }
 }
 
-/// Whether a certificate, of which this is the standing at `t`, is in order for a user ID.
+/// These places without this one, where it is the first.
+fn behind_first(place: u32, places: &[u32]) -> &[u32]
+    ensures behind { result.now ≡ behind_first_spec place places.now }
+{
+    match places.split_first() {
+        Some((first, rest)) => { if *first == place { rest } else { places } }
+        None => places,
+    }
+}
+
+/// Whether it is among these, and not at one of the revoked places, which rise.
+fn has_unrevoked(user_ids: &[Part], revoked: &[u32], u: &[u8]) -> bool
+    requires few { length user_ids.now < 2 ^ 32 }
+    ensures has { (is_revoked : Component → Bool) → revoked.now ≡ places_where is_revoked 0 user_ids.now →
+        result ≡ list_any (is_unrevoked u.now is_revoked) user_ids.now }
+{
+    let mut place = 0u32;
+    let mut left = revoked;
+    let mut rest = user_ids;
+    'rest: while let Some((uid, others)) = rest.split_first() {
+        if !is_first(place, left) && is_user_id(u, uid) {
+            return true;
+        }
+        left = behind_first(place, left);
+        place += 1;
+        rest = others;
+    }
+    false
+}
+
+/// Whether a certificate with these user IDs, of which these are revoked by its own key and this is its standing at
+/// `t`, is in order for a user ID.
 pub(crate) fn is_in_order(
-    cert: &Cert,
+    user_ids: &[Part],
     standing: &Standing,
-    verdicts: &Verdicts,
+    revoked: &[u32],
     t: u32,
     u: &[u8],
 ) -> bool
-    requires standing { standing.now ≡ standing_of verdicts.now cert.now t }
-    ensures in_order { result ≡ is_in_order_spec verdicts.now cert.now t (is_user_id_spec u.now) }
+    requires few { length user_ids.now < 2 ^ 32 }
+    ensures in_order { (verdicts : Entries) (c : Certificate) → standing.now ≡ standing_of verdicts c t →
+        revoked.now ≡ revoked_of verdicts c t → user_ids.now ≡ c.user_ids →
+        result ≡ is_in_order_spec verdicts c t (is_user_id_spec u.now) }
 {
-    is_key_in_order(standing, t) && has_unrevoked(cert.user_ids(), verdicts, &cert.fpr(), t, u)
+    is_key_in_order(standing, t) && has_unrevoked(user_ids, revoked, u)
 }

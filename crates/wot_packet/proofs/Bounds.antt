@@ -42,9 +42,9 @@ legacy_header_bound (tag ∷ octets) kind size o h = (omega arith, legacy_bound 
 header_bound : (header : List ℕ) (kind size : ℕ) → AllByRecursion IsOctet header → IsHeader header kind size → (kind ≤ 63) × (size < 2 ^ 32)
 header_bound header kind size o h = ⊎_elim (openpgp_header_bound header kind size o) (legacy_header_bound header kind size o) h
 
-parts : (front rest : List ℕ) → AllByRecursion IsOctet (front ++ rest) → AllByRecursion IsOctet front × AllByRecursion IsOctet rest
+parts : (prefix rest : List ℕ) → AllByRecursion IsOctet (prefix ++ rest) → AllByRecursion IsOctet prefix × AllByRecursion IsOctet rest
 parts [] rest h = (tt, h)
-parts (o ∷ front) rest h = let k = parts front rest h.1 in ((h.0, k.0), k.1)
+parts (o ∷ prefix) rest h = let k = parts prefix rest h.1 in ((h.0, k.0), k.1)
 
 abbrev InBounds : Spelled → Type 0
 InBounds packet = (packet.kind ≤ 63) × (length packet.body < 2 ^ 32)

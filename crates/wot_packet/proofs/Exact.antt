@@ -15,11 +15,11 @@ told at fault = record { at = at; why = fault.why }
 
 pub fault_read : (text : List ℕ) (fault : PacketFault) → IsFirstFault text fault → packets_of text ≡ Err fault
 fault_read text fault h =
-    let place : 0 + length h.front ≡ fault.at = zero-add (length h.front) ∙ sym h.place in
-    let size : length (h.front ++ h.rest) ≤ length text = omega (arith, ap length h.split) in
+    let offset : 0 + length h.prefix ≡ fault.at = zero-add (length h.prefix) ∙ sym h.offset in
+    let size : length (h.prefix ++ h.rest) ≤ length text = omega (arith, ap length h.split) in
     ap (λ (x : List ℕ). packets_from (length text) 0 x) h.split
-    ∙ told_again (length text) 0 h.front h.rest h.packets fault.why size h.spelled h.here
-    ∙ ap (λ (x : ℕ). Err (record { at = x; why = fault.why })) place
+    ∙ told_again (length text) 0 h.prefix h.rest h.packets fault.why size h.spelled h.here
+    ∙ ap (λ (x : ℕ). Err (record { at = x; why = fault.why })) offset
 
 pub read_means : (text : List ℕ) → AreOctets text → ListMeans 0 text (packets_of text)
 read_means text h = list_means (length text) 0 text (omega arith) (recursion_from_All IsOctet text h)
@@ -30,7 +30,7 @@ means_list text found packets h e = subst (ListMeans 0 text) e h
 means_fault : (text : List ℕ) (found : Result (List Spelled) PacketFault) (fault : PacketFault) → ListMeans 0 text found → found ≡ Err fault → IsFirstFault text fault
 means_fault text found fault h e =
     let k : ListMeans 0 text (Err fault) = subst (ListMeans 0 text) e h in
-    record { front = k.front; rest = k.rest; split = k.split; place = k.place ∙ zero-add (length k.front); packets = k.packets; spelled = k.spelled; here = k.here }
+    record { prefix = k.prefix; rest = k.rest; split = k.split; offset = k.offset ∙ zero-add (length k.prefix); packets = k.packets; spelled = k.spelled; here = k.here }
 
 pub read_list : (text : List ℕ) (packets : List Spelled) → AreOctets text → packets_of text ≡ Ok packets → Spells text packets
 read_list text packets h e = means_list text (packets_of text) packets (read_means text h) e

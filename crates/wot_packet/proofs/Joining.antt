@@ -21,11 +21,11 @@ joined_from at octets more (packet ∷ packets) others h k =
     (h.0, h.1 ++ more, h.2, split, h.4, joined_from (at + length h.0 + length packet.body) h.1 more packets others h.5 (spelled_from (at + length octets) (at + length h.0 + length packet.body + length h.1) more others far k))
 
 -- Octets that stand further on spell the same packets there.
-pub moved_from : (places at : ℕ) (octets : List ℕ) (packets : List Spelled) → SpellsFrom at octets packets → SpellsFrom (places + at) octets (moved places packets)
-moved_from places at octets [] h = h
-moved_from places at octets (packet ∷ packets) h =
-    let far : places + (at + length h.0 + length packet.body) ≡ places + at + length h.0 + length packet.body = omega arith in
-    (h.0, h.1, h.2, h.3, ap (λ (x : ℕ). places + x) h.4, spelled_from (places + (at + length h.0 + length packet.body)) (places + at + length h.0 + length packet.body) h.1 (moved places packets) far (moved_from places (at + length h.0 + length packet.body) h.1 packets h.5))
+pub moved_from : (shift at : ℕ) (octets : List ℕ) (packets : List Spelled) → SpellsFrom at octets packets → SpellsFrom (shift + at) octets (moved shift packets)
+moved_from shift at octets [] h = h
+moved_from shift at octets (packet ∷ packets) h =
+    let far : shift + (at + length h.0 + length packet.body) ≡ shift + at + length h.0 + length packet.body = omega arith in
+    (h.0, h.1, h.2, h.3, ap (λ (x : ℕ). shift + x) h.4, spelled_from (shift + (at + length h.0 + length packet.body)) (shift + at + length h.0 + length packet.body) h.1 (moved shift packets) far (moved_from shift (at + length h.0 + length packet.body) h.1 packets h.5))
 
 pub joined : (text more : List ℕ) (packets others : List Spelled) → Spells text packets → Spells more others → Spells (text ++ more) (packets ++ moved (length text) others)
 joined text more packets others h k =

@@ -14,11 +14,11 @@ IsOctet o = o < 256
 abbrev pub Found : Type 0
 Found = Result (ℕ × List ℕ) Why
 
--- A length stands at the front, and this is behind it.
+-- A length stands at the beginning, and this is behind it.
 pub record Reads (IsLength : List ℕ → ℕ → Type 0) (octets : List ℕ) (n : ℕ) (rest : List ℕ) : Type 0 where
-  pub front : List ℕ
-  pub is : IsLength front n
-  pub split : octets ≡ front ++ rest
+  pub prefix : List ℕ
+  pub is : IsLength prefix n
+  pub split : octets ≡ prefix ++ rest
 
 -- A length is begun, and octets of it are missing.
 pub record Lacks (IsLength : List ℕ → ℕ → Type 0) (octets : List ℕ) : Type 0 where
@@ -48,20 +48,20 @@ not-nil o octets e = cc
 
 second_means : (a : ℕ) (octets : List ℕ) → 192 ≤ a → a < 224 → OpenpgpMeans (a ∷ octets) (second_octet a octets)
 second_means a [] l u = record { missing = 0 ∷ []; some = not-nil 0 []; size = (a - 192) * 256 + 0 + 192; is = (l, u, refl) }
-second_means a (b ∷ octets) l u = record { front = a ∷ b ∷ []; is = (l, u, refl); split = refl }
+second_means a (b ∷ octets) l u = record { prefix = a ∷ b ∷ []; is = (l, u, refl); split = refl }
 
 five_means : (a : ℕ) (octets : List ℕ) → a ≡ 255 → OpenpgpMeans (a ∷ octets) (four_octets octets)
 five_means a [] e = record { missing = 0 ∷ 0 ∷ 0 ∷ 0 ∷ []; some = not-nil 0 (0 ∷ 0 ∷ 0 ∷ []); size = from_be_bytes w32 (0 ∷ 0 ∷ 0 ∷ 0 ∷ []); is = (e, refl) }
 five_means a (b ∷ []) e = record { missing = 0 ∷ 0 ∷ 0 ∷ []; some = not-nil 0 (0 ∷ 0 ∷ []); size = from_be_bytes w32 (b ∷ 0 ∷ 0 ∷ 0 ∷ []); is = (e, refl) }
 five_means a (b ∷ c ∷ []) e = record { missing = 0 ∷ 0 ∷ []; some = not-nil 0 (0 ∷ []); size = from_be_bytes w32 (b ∷ c ∷ 0 ∷ 0 ∷ []); is = (e, refl) }
 five_means a (b ∷ c ∷ d ∷ []) e = record { missing = 0 ∷ []; some = not-nil 0 []; size = from_be_bytes w32 (b ∷ c ∷ d ∷ 0 ∷ []); is = (e, refl) }
-five_means a (b ∷ c ∷ d ∷ f ∷ octets) e = record { front = a ∷ b ∷ c ∷ d ∷ f ∷ []; is = (e, refl); split = refl }
+five_means a (b ∷ c ∷ d ∷ f ∷ octets) e = record { prefix = a ∷ b ∷ c ∷ d ∷ f ∷ []; is = (e, refl); split = refl }
 
 pub openpgp_means : (octets : List ℕ) → AllByRecursion IsOctet octets → OpenpgpMeans octets (openpgp_length octets)
 openpgp_means [] h = record { missing = 0 ∷ []; some = not-nil 0 []; size = 0; is = (omega arith, refl) }
 openpgp_means (a ∷ octets) h =
     cond_both (ltb a 192) (Ok (a, octets)) (cond (ltb a 224) (second_octet a octets) (cond (ltb a 255) (Err Partial) (four_octets octets))) (OpenpgpMeans (a ∷ octets))
-    (λ e. record { front = a ∷ []; is = (ltb-true a 192 e, refl); split = refl })
+    (λ e. record { prefix = a ∷ []; is = (ltb-true a 192 e, refl); split = refl })
     (λ e. cond_both (ltb a 224) (second_octet a octets) (cond (ltb a 255) (Err Partial) (four_octets octets)) (OpenpgpMeans (a ∷ octets))
     (λ f. second_means a octets (ltb-false a 192 e) (ltb-true a 224 f))
     (λ f. cond_both (ltb a 255) (Err Partial) (four_octets octets) (OpenpgpMeans (a ∷ octets))
@@ -70,19 +70,19 @@ openpgp_means (a ∷ octets) h =
 
 one_means : (octets : List ℕ) → LegacyMeans 0 octets (one_octet octets)
 one_means [] = record { missing = 0 ∷ []; some = not-nil 0 []; size = 0; is = (refl, refl) }
-one_means (a ∷ octets) = record { front = a ∷ []; is = (refl, refl); split = refl }
+one_means (a ∷ octets) = record { prefix = a ∷ []; is = (refl, refl); split = refl }
 
 two_means : (octets : List ℕ) → LegacyMeans 1 octets (two_octets octets)
 two_means [] = record { missing = 0 ∷ 0 ∷ []; some = not-nil 0 (0 ∷ []); size = from_be_bytes w16 (0 ∷ 0 ∷ []); is = (refl, refl) }
 two_means (a ∷ []) = record { missing = 0 ∷ []; some = not-nil 0 []; size = from_be_bytes w16 (a ∷ 0 ∷ []); is = (refl, refl) }
-two_means (a ∷ b ∷ octets) = record { front = a ∷ b ∷ []; is = (refl, refl); split = refl }
+two_means (a ∷ b ∷ octets) = record { prefix = a ∷ b ∷ []; is = (refl, refl); split = refl }
 
 four_means : (octets : List ℕ) → LegacyMeans 2 octets (four_octets octets)
 four_means [] = record { missing = 0 ∷ 0 ∷ 0 ∷ 0 ∷ []; some = not-nil 0 (0 ∷ 0 ∷ 0 ∷ []); size = from_be_bytes w32 (0 ∷ 0 ∷ 0 ∷ 0 ∷ []); is = (refl, refl) }
 four_means (a ∷ []) = record { missing = 0 ∷ 0 ∷ 0 ∷ []; some = not-nil 0 (0 ∷ 0 ∷ []); size = from_be_bytes w32 (a ∷ 0 ∷ 0 ∷ 0 ∷ []); is = (refl, refl) }
 four_means (a ∷ b ∷ []) = record { missing = 0 ∷ 0 ∷ []; some = not-nil 0 (0 ∷ []); size = from_be_bytes w32 (a ∷ b ∷ 0 ∷ 0 ∷ []); is = (refl, refl) }
 four_means (a ∷ b ∷ c ∷ []) = record { missing = 0 ∷ []; some = not-nil 0 []; size = from_be_bytes w32 (a ∷ b ∷ c ∷ 0 ∷ []); is = (refl, refl) }
-four_means (a ∷ b ∷ c ∷ d ∷ octets) = record { front = a ∷ b ∷ c ∷ d ∷ []; is = (refl, refl); split = refl }
+four_means (a ∷ b ∷ c ∷ d ∷ octets) = record { prefix = a ∷ b ∷ c ∷ d ∷ []; is = (refl, refl); split = refl }
 
 means-at : (type t : ℕ) (octets : List ℕ) (found : Found) → type ≡ t → LegacyMeans t octets found → LegacyMeans type octets found
 means-at type t octets found e h = rw e h
@@ -98,7 +98,7 @@ legacy_means type octets =
     (λ g. let a = eqb-false type 0 e in let b = eqb-false type 1 f in let d = eqb-false type 2 g in omega arith)))
 
 -- What is spelled is found, whatever is behind it.
-pub openpgp_again : (front : List ℕ) (n : ℕ) (rest : List ℕ) → IsOpenpgpLength front n → openpgp_length (front ++ rest) ≡ Ok (n, rest)
+pub openpgp_again : (prefix : List ℕ) (n : ℕ) (rest : List ℕ) → IsOpenpgpLength prefix n → openpgp_length (prefix ++ rest) ≡ Ok (n, rest)
 openpgp_again [] n rest h = absurd h
 openpgp_again (a ∷ []) n rest h = rw (lt-ltb a 192 h.0, h.1) refl
 openpgp_again (a ∷ b ∷ []) n rest h = rw (le-ltb a 192 h.0, lt-ltb a 224 h.1, h.2) refl
@@ -107,7 +107,7 @@ openpgp_again (a ∷ b ∷ c ∷ d ∷ []) n rest h = absurd h
 openpgp_again (a ∷ b ∷ c ∷ d ∷ e ∷ []) n rest h = rw (h.0, h.1) refl
 openpgp_again (a ∷ b ∷ c ∷ d ∷ e ∷ f ∷ more) n rest h = absurd h
 
-pub legacy_again : (type : ℕ) (front : List ℕ) (n : ℕ) (rest : List ℕ) → IsLegacyLength type front n → legacy_length type (front ++ rest) ≡ Ok (n, rest)
+pub legacy_again : (type : ℕ) (prefix : List ℕ) (n : ℕ) (rest : List ℕ) → IsLegacyLength type prefix n → legacy_length type (prefix ++ rest) ≡ Ok (n, rest)
 legacy_again type [] n rest h = absurd h
 legacy_again type (a ∷ []) n rest h = rw (h.0, h.1) refl
 legacy_again type (a ∷ b ∷ []) n rest h = rw (h.0, h.1) refl

@@ -24,8 +24,8 @@ packet_length octets header body rest kind size h e =
     (header_length header kind size h, ap length e ∙ length-append header (body ++ rest) ∙ ap (λ (x : ℕ). length header + x) (length-append body rest))
 
 -- where the next packet begins
-next_place : (at count header body rest : ℕ) → count ≡ header + (body + rest) → at + (count - rest) ≡ at + header + body
-next_place at count header body rest e = omega arith
+next_offset : (at count header body rest : ℕ) → count ≡ header + (body + rest) → at + (count - rest) ≡ at + header + body
+next_offset at count header body rest e = omega arith
 
 -- What is spelled is read.
 pub spelled_again : (most at : ℕ) (octets : List ℕ) (packets : List Spelled) → length octets ≤ most → SpellsFrom at octets packets → packets_from most at octets ≡ Ok packets
@@ -38,11 +38,11 @@ spelled_again zero at (o ∷ octets) (packet ∷ packets) l h = absurd (omega ar
 spelled_again (suc most) at (o ∷ octets) (packet ∷ packets) l h =
     let n = packet_length (o ∷ octets) h.0 packet.body h.1 packet.kind (length packet.body) h.2 h.3 in
     let here : first_of (o ∷ octets) ≡ Ok (first packet.kind packet.body h.1) = ap first_of h.3 ∙ packet_again h.0 packet.kind packet.body h.1 h.2 in
-    let place : at + (length (o ∷ octets) - length h.1) ≡ at + length h.0 + length packet.body = next_place at (length (o ∷ octets)) (length h.0) (length packet.body) (length h.1) n.1 in
+    let offset : at + (length (o ∷ octets) - length h.1) ≡ at + length h.0 + length packet.body = next_offset at (length (o ∷ octets)) (length h.0) (length packet.body) (length h.1) n.1 in
     let shorter : length h.1 ≤ most = omega (arith, n.0, n.1, l) in
     let others : packets_from most (at + length h.0 + length packet.body) h.1 ≡ Ok packets = spelled_again most (at + length h.0 + length packet.body) h.1 packets shorter h.5 in
     ap (λ x. read_on at (length (o ∷ octets)) x (packets_from most)) here
-    ∙ ap (λ (x : ℕ). before (record { kind = packet.kind; body = packet.body; at = at }) (packets_from most x h.1)) place
+    ∙ ap (λ (x : ℕ). before (record { kind = packet.kind; body = packet.body; at = at }) (packets_from most x h.1)) offset
     ∙ ap (before (record { kind = packet.kind; body = packet.body; at = at })) others
     ∙ ap (λ (x : ℕ). Ok (record { kind = packet.kind; body = packet.body; at = x } ∷ packets)) (sym h.4)
 
@@ -51,8 +51,8 @@ fault_begins : (why : Why) → IsFault why [] → ⊥
 fault_begins NotAPacket h = h
 fault_begins CutLength h = h.begun refl
 fault_begins CutBody h =
-    let n = header_length h.front h.kind h.size h.header in
-    let m : 0 ≡ length h.front + length h.rest = ap length h.split ∙ length-append h.front h.rest in
+    let n = header_length h.prefix h.kind h.size h.header in
+    let m : 0 ≡ length h.prefix + length h.rest = ap length h.split ∙ length-append h.prefix h.rest in
     absurd (omega (arith, n, m))
 fault_begins Partial h = h
 fault_begins Indeterminate h = h
@@ -63,39 +63,39 @@ fault_at zero at (o ∷ rest) why l h = absurd (omega arith)
 fault_at (suc most) at (o ∷ rest) why l h = ap (λ x. read_on at (length (o ∷ rest)) x (packets_from most)) (fault_again why (o ∷ rest) h)
 
 -- A fault behind packets is told.
-pub told_again : (most at : ℕ) (front rest : List ℕ) (packets : List Spelled) (why : Why) → length (front ++ rest) ≤ most → SpellsFrom at front packets → IsFault why rest
-    → packets_from most at (front ++ rest) ≡ Err (record { at = at + length front; why = why })
+pub told_again : (most at : ℕ) (prefix rest : List ℕ) (packets : List Spelled) (why : Why) → length (prefix ++ rest) ≤ most → SpellsFrom at prefix packets → IsFault why rest
+    → packets_from most at (prefix ++ rest) ≡ Err (record { at = at + length prefix; why = why })
 told_again most at [] rest [] why l h f = fault_at most at rest why l f ∙ ap (λ (x : ℕ). Err (record { at = x; why = why })) (sym (add-zero at))
-told_again most at (o ∷ front) rest [] why l h f = cc
+told_again most at (o ∷ prefix) rest [] why l h f = cc
 told_again most at [] rest (packet ∷ packets) why l h f =
     let n = packet_length [] h.0 packet.body h.1 packet.kind (length packet.body) h.2 h.3 in
     absurd (omega (arith, n.0, n.1))
-told_again zero at (o ∷ front) rest (packet ∷ packets) why l h f = absurd (omega arith)
-told_again (suc most) at (o ∷ front) rest (packet ∷ packets) why l h f =
-    let split : (o ∷ front) ++ rest ≡ h.0 ++ (packet.body ++ (h.1 ++ rest)) =
+told_again zero at (o ∷ prefix) rest (packet ∷ packets) why l h f = absurd (omega arith)
+told_again (suc most) at (o ∷ prefix) rest (packet ∷ packets) why l h f =
+    let split : (o ∷ prefix) ++ rest ≡ h.0 ++ (packet.body ++ (h.1 ++ rest)) =
     ap (λ (x : List ℕ). x ++ rest) h.3 ∙ append_assoc h.0 (packet.body ++ h.1) rest ∙ ap (λ (x : List ℕ). h.0 ++ x) (append_assoc packet.body h.1 rest) in
-    let n = packet_length (o ∷ front) h.0 packet.body h.1 packet.kind (length packet.body) h.2 h.3 in
-    let m = packet_length ((o ∷ front) ++ rest) h.0 packet.body (h.1 ++ rest) packet.kind (length packet.body) h.2 split in
-    let here : first_of ((o ∷ front) ++ rest) ≡ Ok (first packet.kind packet.body (h.1 ++ rest)) = ap first_of split ∙ packet_again h.0 packet.kind packet.body (h.1 ++ rest) h.2 in
-    let place : at + (length ((o ∷ front) ++ rest) - length (h.1 ++ rest)) ≡ at + length h.0 + length packet.body =
-    next_place at (length ((o ∷ front) ++ rest)) (length h.0) (length packet.body) (length (h.1 ++ rest)) m.1 in
+    let n = packet_length (o ∷ prefix) h.0 packet.body h.1 packet.kind (length packet.body) h.2 h.3 in
+    let m = packet_length ((o ∷ prefix) ++ rest) h.0 packet.body (h.1 ++ rest) packet.kind (length packet.body) h.2 split in
+    let here : first_of ((o ∷ prefix) ++ rest) ≡ Ok (first packet.kind packet.body (h.1 ++ rest)) = ap first_of split ∙ packet_again h.0 packet.kind packet.body (h.1 ++ rest) h.2 in
+    let offset : at + (length ((o ∷ prefix) ++ rest) - length (h.1 ++ rest)) ≡ at + length h.0 + length packet.body =
+    next_offset at (length ((o ∷ prefix) ++ rest)) (length h.0) (length packet.body) (length (h.1 ++ rest)) m.1 in
     let shorter : length (h.1 ++ rest) ≤ most = omega (arith, m.0, m.1, l) in
     let others : packets_from most (at + length h.0 + length packet.body) (h.1 ++ rest) ≡ Err (record { at = at + length h.0 + length packet.body + length h.1; why = why }) =
     told_again most (at + length h.0 + length packet.body) h.1 rest packets why shorter h.5 f in
-    let far : at + length h.0 + length packet.body + length h.1 ≡ at + length (o ∷ front) = omega (arith, n.1) in
-    ap (λ x. read_on at (length ((o ∷ front) ++ rest)) x (packets_from most)) here
-    ∙ ap (λ (x : ℕ). before (record { kind = packet.kind; body = packet.body; at = at }) (packets_from most x (h.1 ++ rest))) place
+    let far : at + length h.0 + length packet.body + length h.1 ≡ at + length (o ∷ prefix) = omega (arith, n.1) in
+    ap (λ x. read_on at (length ((o ∷ prefix) ++ rest)) x (packets_from most)) here
+    ∙ ap (λ (x : ℕ). before (record { kind = packet.kind; body = packet.body; at = at }) (packets_from most x (h.1 ++ rest))) offset
     ∙ ap (before (record { kind = packet.kind; body = packet.body; at = at })) others
     ∙ ap (λ (x : ℕ). Err (record { at = x; why = why })) far
 
 -- What is read is spelled, and what is told is the first fault.
 pub record FaultFrom (at : ℕ) (octets : List ℕ) (fault : PacketFault) : Type 0 where
-  pub front : List ℕ
+  pub prefix : List ℕ
   pub rest : List ℕ
-  pub split : octets ≡ front ++ rest
-  pub place : fault.at ≡ at + length front
+  pub split : octets ≡ prefix ++ rest
+  pub offset : fault.at ≡ at + length prefix
   pub packets : List Spelled
-  pub spelled : SpellsFrom at front packets
+  pub spelled : SpellsFrom at prefix packets
   pub here : IsFault fault.why rest
 
 abbrev pub ListMeans : ℕ → List ℕ → Result (List Spelled) PacketFault → Type 0
@@ -107,42 +107,42 @@ before_means : (at : ℕ) (octets : List ℕ) (found : First) (others : Result (
     → ListMeans at octets (before (record { kind = found.kind; body = found.body; at = at }) others)
 before_means at octets found (Ok packets) h k = (h.header, found.rest, h.is, h.split, refl, k)
 before_means at octets found (Err fault) h k =
-    let whole : h.header ++ (found.body ++ found.rest) ≡ (h.header ++ (found.body ++ k.front)) ++ k.rest =
+    let whole : h.header ++ (found.body ++ found.rest) ≡ (h.header ++ (found.body ++ k.prefix)) ++ k.rest =
     ap (λ (x : List ℕ). h.header ++ (found.body ++ x)) k.split
-    ∙ ap (λ (x : List ℕ). h.header ++ x) (sym (append_assoc found.body k.front k.rest))
-    ∙ sym (append_assoc h.header (found.body ++ k.front) k.rest) in
-    let far : length (h.header ++ (found.body ++ k.front)) ≡ length h.header + (length found.body + length k.front) =
-    length-append h.header (found.body ++ k.front) ∙ ap (λ (x : ℕ). length h.header + x) (length-append found.body k.front) in
+    ∙ ap (λ (x : List ℕ). h.header ++ x) (sym (append_assoc found.body k.prefix k.rest))
+    ∙ sym (append_assoc h.header (found.body ++ k.prefix) k.rest) in
+    let far : length (h.header ++ (found.body ++ k.prefix)) ≡ length h.header + (length found.body + length k.prefix) =
+    length-append h.header (found.body ++ k.prefix) ∙ ap (λ (x : ℕ). length h.header + x) (length-append found.body k.prefix) in
     record {
-      front = h.header ++ (found.body ++ k.front);
+      prefix = h.header ++ (found.body ++ k.prefix);
       rest = k.rest;
       split = h.split ∙ whole;
-      place = omega (arith, k.place, far);
+      offset = omega (arith, k.offset, far);
       packets = record { kind = found.kind; body = found.body; at = at } ∷ k.packets;
-      spelled = (h.header, k.front, h.is, refl, refl, k.spelled);
+      spelled = (h.header, k.prefix, h.is, refl, refl, k.spelled);
       here = k.here;
     }
 
-behind : (front rest : List ℕ) → AllByRecursion IsOctet (front ++ rest) → AllByRecursion IsOctet rest
+behind : (prefix rest : List ℕ) → AllByRecursion IsOctet (prefix ++ rest) → AllByRecursion IsOctet rest
 behind [] rest h = h
-behind (o ∷ front) rest h = behind front rest h.1
+behind (o ∷ prefix) rest h = behind prefix rest h.1
 
 read_means : (at : ℕ) (octets : List ℕ) (found : Result First Why) (others : ℕ → List ℕ → Result (List Spelled) PacketFault)
     → FirstMeans octets found → AllByRecursion IsOctet octets
-    → ((place : ℕ) (rest : List ℕ) → length rest < length octets → AllByRecursion IsOctet rest → ListMeans place rest (others place rest))
+    → ((offset : ℕ) (rest : List ℕ) → length rest < length octets → AllByRecursion IsOctet rest → ListMeans offset rest (others offset rest))
     → ListMeans at octets (read_on at (length octets) found others)
-read_means at octets (Err why) others h o k = record { front = []; rest = octets; split = refl; place = sym (add-zero at); packets = []; spelled = refl; here = h }
+read_means at octets (Err why) others h o k = record { prefix = []; rest = octets; split = refl; offset = sym (add-zero at); packets = []; spelled = refl; here = h }
 read_means at octets (Ok found) others h o k =
     let n = packet_length octets h.header found.body found.rest found.kind (length found.body) h.is h.split in
-    let place : at + (length octets - length found.rest) ≡ at + length h.header + length found.body = next_place at (length octets) (length h.header) (length found.body) (length found.rest) n.1 in
+    let offset : at + (length octets - length found.rest) ≡ at + length h.header + length found.body = next_offset at (length octets) (length h.header) (length found.body) (length found.rest) n.1 in
     let octets_behind : AllByRecursion IsOctet found.rest = behind found.body found.rest (behind h.header (found.body ++ found.rest) (subst (AllByRecursion IsOctet) h.split o)) in
     let all : ListMeans (at + length h.header + length found.body) found.rest (others (at + length h.header + length found.body) found.rest) =
     k (at + length h.header + length found.body) found.rest (omega (arith, n.0, n.1)) octets_behind in
-    rw place (before_means at octets found (others (at + length h.header + length found.body) found.rest) h all)
+    rw offset (before_means at octets found (others (at + length h.header + length found.body) found.rest) h all)
 
 pub list_means : (most at : ℕ) (octets : List ℕ) → length octets ≤ most → AllByRecursion IsOctet octets → ListMeans at octets (packets_from most at octets)
 list_means most at [] l h = refl
 list_means zero at (o ∷ octets) l h = absurd (omega arith)
 list_means (suc most) at (o ∷ octets) l h =
     read_means at (o ∷ octets) (first_of (o ∷ octets)) (packets_from most) (first_means o octets h) h
-    (λ place rest shorter octets_behind. list_means most place rest (omega arith) octets_behind)
+    (λ offset rest shorter octets_behind. list_means most offset rest (omega arith) octets_behind)

@@ -13,7 +13,7 @@ use Rattle.wot_packet.proofs.First.{HasPacket, FirstMeans, first_means}
 use Rattle.wot_packet.proofs.Lists.{packet_length}
 use Rattle.wot_packet.proofs.Joining.{joined_from, single}
 
--- What stands before this place spells the packets.
+-- What stands before this offset spells the packets.
 pub record ReadSoFar (text : List ℕ) (at : ℕ) (packets : List Packet) : Type 0 where
   pub in_range : at ≤ length text
   pub spelled : Spells (take at text) (spelled_all packets)
@@ -52,14 +52,14 @@ one_more text at packets packet rest b so l e f =
     ∙ sym (append_assoc (take at text) (h.header ++ packet.body.now) rest) in
     let size : length (take at text ++ (h.header ++ packet.body.now)) ≡ length text - length rest =
     length-append (take at text) (h.header ++ packet.body.now) ∙ omega (arith, here, length-append h.header packet.body.now, n.1, m) in
-    let front : take (length text - length rest) text ≡ take at text ++ (h.header ++ packet.body.now) =
+    let prefix : take (length text - length rest) text ≡ take at text ++ (h.header ++ packet.body.now) =
     ap (λ (x : List ℕ). take (length text - length rest) x) whole ∙ take_at (take at text ++ (h.header ++ packet.body.now)) rest (length text - length rest) size in
-    let place : packet.at ≡ 0 + length (take at text) = omega (arith, e, here) in
+    let offset : packet.at ≡ 0 + length (take at text) = omega (arith, e, here) in
     let spelled : Spells (take at text ++ (h.header ++ packet.body.now)) (spelled_all packets ++ spelled_of packet ∷ []) =
-    joined_from 0 (take at text) (h.header ++ packet.body.now) (spelled_all packets) (spelled_of packet ∷ []) so.spelled (single (0 + length (take at text)) h.header (spelled_of packet) h.is place) in
+    joined_from 0 (take at text) (h.header ++ packet.body.now) (spelled_all packets) (spelled_of packet ∷ []) so.spelled (single (0 + length (take at text)) h.header (spelled_of packet) h.is offset) in
     record {
       in_range = omega arith;
-      spelled = rw (front, map_push spelled_of packets packet) spelled;
+      spelled = rw (prefix, map_push spelled_of packets packet) spelled;
     }
 
 pub all_read : (text : List ℕ) (at : ℕ) (packets : List Packet) → ReadSoFar text at packets → length text ≤ at → Spells text (spelled_all packets)
@@ -69,10 +69,10 @@ pub fault_here : (text : List ℕ) (at : ℕ) (packets : List Packet) (why : Why
     → first_of (drop at text) ≡ Err why → IsFirstFault text (record { at = at; why = why })
 fault_here text at packets why b so l f =
     record {
-      front = take at text;
+      prefix = take at text;
       rest = drop at text;
       split = sym (take-append-drop at text);
-      place = sym (length-take-le at text so.in_range);
+      offset = sym (length-take-le at text so.in_range);
       packets = spelled_all packets;
       spelled = so.spelled;
       here = subst (FirstMeans (drop at text)) f (means_here text at b l);

@@ -84,13 +84,13 @@ written_from at [] h = refl
 written_from at (packet ∷ packets) h =
     let header = shortest_header packet.0 (length packet.1) in
     let size : length (written packet.0 packet.1) ≡ length header + length packet.1 = length-append header packet.1 in
-    let place : at + length (written packet.0 packet.1) ≡ at + length header + length packet.1 = omega (arith, size) in (
+    let offset : at + length (written packet.0 packet.1) ≡ at + length header + length packet.1 = omega (arith, size) in (
       header,
       written_all packets,
       inl (shortest_is_header packet.0 (length packet.1) h.0.0 h.0.1),
       append_assoc header packet.1 (written_all packets),
       refl,
-      spelled_from (at + length (written packet.0 packet.1)) (at + length header + length packet.1) (written_all packets) (placed (at + length (written packet.0 packet.1)) packets) place
+      spelled_from (at + length (written packet.0 packet.1)) (at + length header + length packet.1) (written_all packets) (placed (at + length (written packet.0 packet.1)) packets) offset
           (written_from (at + length (written packet.0 packet.1)) packets h.1),
     )
 

@@ -1,4 +1,4 @@
--- The plain reader: what stands at the front of the octets, packet by packet.
+-- The plain reader: what stands at the beginning of the octets, packet by packet.
 use Rattle.std.specs.Prelude.{ℕ, zero, suc, ◌+◌, ◌-◌, ◌*◌, ◌/◌, ◌%◌, nat_lt, ◌==◌, if◌then◌else◌, List, [], ◌∷◌, length, take, drop, Result, Ok, Err}
 use Rattle.std.specs.Int.{w16, w32, from_be_bytes}
 use Rattle.wot_packet.specs.Spelling.{Spelled}
@@ -44,18 +44,18 @@ legacy_length type octets =
     else Err Indeterminate
 
 -- a header: the type, the length of the body, and what is behind
-pub record Front : Type 0 where
+pub record Headed : Type 0 where
   pub kind : ℕ
   pub size : ℕ
   pub rest : List ℕ
 
-abbrev pub with_kind : ℕ → Result (ℕ × List ℕ) Why → Result Front Why
+abbrev pub with_kind : ℕ → Result (ℕ × List ℕ) Why → Result Headed Why
 with_kind kind (Ok found) = Ok (record { kind = kind; size = found.0; rest = found.1 })
 with_kind kind (Err why) = Err why
 
-abbrev pub front_of : List ℕ → Result Front Why
-front_of [] = Err CutLength
-front_of (tag ∷ octets) =
+abbrev pub headed_of : List ℕ → Result Headed Why
+headed_of [] = Err CutLength
+headed_of (tag ∷ octets) =
     if nat_lt tag 128 then Err NotAPacket
     else if nat_lt tag 192 then with_kind ((tag - 128) / 4) (legacy_length ((tag - 128) % 4) octets)
     else with_kind (tag - 192) (openpgp_length octets)
@@ -66,27 +66,27 @@ pub record First : Type 0 where
   pub body : List ℕ
   pub rest : List ℕ
 
-abbrev pub body_of : Result Front Why → Result First Why
+abbrev pub body_of : Result Headed Why → Result First Why
 body_of (Err why) = Err why
-body_of (Ok front) =
-    if nat_lt (length front.rest) front.size then Err CutBody
-    else Ok (record { kind = front.kind; body = take front.size front.rest; rest = drop front.size front.rest })
+body_of (Ok headed) =
+    if nat_lt (length headed.rest) headed.size then Err CutBody
+    else Ok (record { kind = headed.kind; body = take headed.size headed.rest; rest = drop headed.size headed.rest })
 
 abbrev pub first_of : List ℕ → Result First Why
-first_of octets = body_of (front_of octets)
+first_of octets = body_of (headed_of octets)
 
 -- the packet before the list, or the fault, that stands further on
 abbrev pub before : Spelled → Result (List Spelled) PacketFault → Result (List Spelled) PacketFault
 before packet (Ok packets) = Ok (packet ∷ packets)
 before packet (Err fault) = Err fault
 
--- what so many octets from this place on begin with, and what others make of the octets behind it and their place
+-- what so many octets from this offset on begin with, and what others make of the octets behind it and their offset
 abbrev pub read_on : ℕ → ℕ → Result First Why → (ℕ → List ℕ → Result (List Spelled) PacketFault) → Result (List Spelled) PacketFault
 read_on at count (Err why) others = Err (record { at = at; why = why })
 read_on at count (Ok first) others =
     before (record { kind = first.kind; body = first.body; at = at }) (others (at + (count - length first.rest)) first.rest)
 
--- the packets of these octets from this place on, at most so many
+-- the packets of these octets from this offset on, at most so many
 abbrev pub packets_from : ℕ → ℕ → List ℕ → Result (List Spelled) PacketFault
 packets_from most at [] = Ok []
 packets_from zero at (octet ∷ octets) = Ok []

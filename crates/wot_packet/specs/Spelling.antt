@@ -11,13 +11,13 @@ use Rattle.wot_packet.specs.declared.packet.Why.TheVariants.{NotAPacket, CutLeng
 abbrev pub AreOctets : List ℕ → Type 0
 AreOctets octets = All (λ octet. octet < 256) octets
 
--- a packet of a text: its type, its body, and the place of its first octet
+-- a packet of a text: its type, its body, and the offset of its first octet
 pub record Spelled : Type 0 where
   pub kind : ℕ
   pub body : List ℕ
   pub at : ℕ
 
--- These octets, of which the first stands at this place, spell that list of packets: no octets spell the empty
+-- These octets, of which the first stands at this offset, spell that list of packets: no octets spell the empty
 -- list; and a header, a body of its length and octets that spell a list spell that packet before that list.
 abbrev pub SpellsFrom : ℕ → List ℕ → List Spelled → Type 0
 SpellsFrom at octets [] = octets ≡ []
@@ -47,12 +47,12 @@ pub record IsCutLength (octets : List ℕ) : Type 0 where
 
 -- Behind a header are fewer octets than the body's length.
 pub record IsCutBody (octets : List ℕ) : Type 0 where
-  pub front : List ℕ
+  pub prefix : List ℕ
   pub rest : List ℕ
-  pub split : octets ≡ front ++ rest
+  pub split : octets ≡ prefix ++ rest
   pub kind : ℕ
   pub size : ℕ
-  pub header : IsHeader front kind size
+  pub header : IsHeader prefix kind size
   pub fewer : length rest < size
 
 -- In the OpenPGP format a first length octet of 224 to 254 begins a partial length (section 4.2.1.4).
@@ -65,7 +65,7 @@ abbrev pub IsIndeterminate : List ℕ → Type 0
 IsIndeterminate [] = ⊥
 IsIndeterminate (tag ∷ octets) = (kind : ℕ) × (kind < 16) × (tag ≡ 128 + 4 * kind + 3)
 
--- That is why no packet stands at the front of these octets.
+-- That is why no packet stands at the beginning of these octets.
 abbrev pub IsFault : Why → List ℕ → Type 0
 IsFault NotAPacket octets = IsNotAPacket octets
 IsFault CutLength octets = IsCutLength octets
@@ -75,12 +75,12 @@ IsFault Indeterminate octets = IsIndeterminate octets
 
 -- The first fault of a text: what stands before it spells a list of packets, and no packet begins there.
 pub record IsFirstFault (text : List ℕ) (fault : PacketFault) : Type 0 where
-  pub front : List ℕ
+  pub prefix : List ℕ
   pub rest : List ℕ
-  pub split : text ≡ front ++ rest
-  pub place : fault.at ≡ length front
+  pub split : text ≡ prefix ++ rest
+  pub offset : fault.at ≡ length prefix
   pub packets : List Spelled
-  pub spelled : Spells front packets
+  pub spelled : Spells prefix packets
   pub here : IsFault fault.why rest
 
 -- a packet without where its body lies in memory
@@ -90,9 +90,9 @@ spelled_of packet = record { kind = packet.kind; body = packet.body.now; at = pa
 abbrev pub spelled_all : List Packet → List Spelled
 spelled_all packets = map spelled_of packets
 
--- the same packets, each so many places further on
+-- the same packets, each so many octets further on
 abbrev pub moved : ℕ → List Spelled → List Spelled
-moved places packets = map (λ packet. record { kind = packet.kind; body = packet.body; at = places + packet.at }) packets
+moved shift packets = map (λ packet. record { kind = packet.kind; body = packet.body; at = shift + packet.at }) packets
 
 -- The length of each body is one that four octets tell.
 abbrev pub AreShort : List Spelled → Type 0

@@ -26,7 +26,7 @@ abbrev pub written_all : List (ℕ × List ℕ) → List ℕ
 written_all [] = []
 written_all (packet ∷ packets) = written packet.0 packet.1 ++ written_all packets
 
--- these packets at the places where they are written, the first at this one
+-- these packets at the offsets where they are written, the first at this one
 abbrev pub placed : ℕ → List (ℕ × List ℕ) → List Spelled
 placed at [] = []
 placed at (packet ∷ packets) =

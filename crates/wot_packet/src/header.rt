@@ -1,7 +1,7 @@
 ghost use Rattle.std.specs.Prelude.{◌<◌};
 ghost use Rattle.wot_packet.specs.Answers.{Finds};
-ghost use Rattle.wot_packet.specs.Reading.{openpgp_length, legacy_length, front_of};
-ghost use Rattle.wot_packet.specs.Seen.{front_seen};
+ghost use Rattle.wot_packet.specs.Reading.{openpgp_length, legacy_length, headed_of};
+ghost use Rattle.wot_packet.specs.Seen.{headed_seen};
 
 use crate::Why;
 
@@ -49,9 +49,9 @@ fn legacy(length_type: u8, octets: &[u8]) -> Result<(usize, &[u8]), Why>
     }
 }
 
-/// The header that stands at the front.
+/// The header that stands at the beginning.
 pub(crate) fn read_header(octets: &[u8]) -> Result<Header<'_>, Why>
-    ensures { Finds front_seen result (front_of octets.now) }
+    ensures { Finds headed_seen result (headed_of octets.now) }
 {
     let [tag, lengths @ ..] = octets else {
         return Err(Why::CutLength);

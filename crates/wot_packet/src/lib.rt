@@ -5,8 +5,6 @@ mod header;
 pub mod laws;
 mod packet;
 mod read;
-#[cfg(test)]
-mod tests;
 mod write;
 
 pub use packet::{Packet, PacketFault, ReadFault, Why};

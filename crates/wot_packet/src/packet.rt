@@ -9,13 +9,13 @@ use std::alloc::{AllocError, AllocFailed};
 pub struct Packet<'a> {
     /// Its type, 0 to 63.
     pub kind: u8,
-    /// The place of its first octet in the text.
+    /// The offset of its first octet in the text.
     pub at: usize,
     /// The octets of the text behind its header.
     pub body: &'a [u8],
 }
 
-/// Why no packet stands at a place.
+/// Why no packet stands at an offset.
 #[derive(Clone, Copy, Debug, PartialEq, Eq)]
 pub enum Why {
     /// Bit 7 of the first octet is clear.
@@ -42,7 +42,7 @@ impl Why {
 /// Where, and why, no packet stands.
 #[derive(Clone, Copy, Debug, PartialEq, Eq)]
 pub struct PacketFault {
-    /// The place of the first octet that begins no packet.
+    /// The offset of the first octet that begins no packet.
     pub at: usize,
     pub why: Why,
 }

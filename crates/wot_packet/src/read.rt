@@ -10,9 +10,9 @@ use crate::header::read_header;
 use crate::{Packet, PacketFault, ReadFault, Why};
 use std::alloc::Global;
 
-/// The packet at the front of the octets, which begin at this place, and what is behind it.
+/// The packet at the beginning of the octets, which begin at this offset, and what is behind it.
 fn first_packet(octets: &[u8], at: usize) -> Result<(Packet<'_>, &[u8]), Why>
-    ensures place { IfOk result (λ found. found.0.at ≡ at) }
+    ensures offset { IfOk result (λ found. found.0.at ≡ at) }
     ensures first { Finds (λ found. first_seen found.0 found.1.now) result (first_of octets.now) }
 {
     let header = read_header(octets)?;
@@ -30,7 +30,7 @@ fn first_packet(octets: &[u8], at: usize) -> Result<(Packet<'_>, &[u8]), Why>
     ))
 }
 
-/// Reads a text as a list of packets, each with the place of its first octet, in either format and with lengths
+/// Reads a text as a list of packets, each with the offset of its first octet, in either format and with lengths
 /// of every form but the partial and the indeterminate one (RFC 9580, section 4.2). An empty text is the empty
 /// list. No octet is copied: the list of packets is all that takes memory.
 pub fn read_packets<'a>(alloc: Global, bytes: &'a [u8]) -> Result<Vec<Packet<'a>>, ReadFault>

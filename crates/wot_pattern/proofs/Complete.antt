@@ -8,7 +8,7 @@ use Rattle.wot_pattern.specs.Marks.{mark_of}
 use Rattle.wot_pattern.specs.Reading.{Atom, exactly, any, start, end, range, Reading, nothing, single, sequence, either, star, plus, optional}
 use Rattle.wot_pattern.specs.Grammar as g
 use Rattle.wot_pattern.specs.Grammar.{Part, Items, Range, Reads}
-use Rattle.wot_pattern.specs.Steps.{Level, Last, none, atom, piece, State, at, flushed, joined, level_so_far, with_atom, entered, left, with_piece, StepBy, Step, Runs, accepted, next, fresh}
+use Rattle.wot_pattern.specs.Steps.{Level, Last, none, atom, piece, State, at, flushed, joined, level_so_far, with_atom, entered, left, with_piece, ParserStepBy, ParserStep, Runs, accepted, next, fresh}
 
 pub head_same : {A : Type 0} {c d : A} {t u : List A} → c ∷ t ≡ d ∷ u → c ≡ d
 head_same {A} {c} e = ap (λ (l : List A). elim l [ [] ↦ c | x ∷ xs ↦ x ]) e
@@ -39,8 +39,8 @@ Claim g.piece n t p r =
 Claim g.atom n t p r =
     (fs : List Level) (e : Option Reading) (b : Reading) (l₀ : Last) → Reaches (at n fs e b l₀) t (at n fs e (flushed l₀ b) (atom p)) r
 
-step_at : (k : Mark) (s s' : State) (c : ℕ) (t t' : List ℕ) → mark_of c ≡ k → StepBy k s c t s' t' → Step s (c ∷ t) s' t'
-step_at k s s' c t t' e h = subst (λ x. StepBy x s c t s' t') (sym e) h
+step_at : (k : Mark) (s s' : State) (c : ℕ) (t t' : List ℕ) → mark_of c ≡ k → ParserStepBy k s c t s' t' → ParserStep s (c ∷ t) s' t'
+step_at k s s' c t t' e h = subst (λ x. ParserStepBy x s c t s' t') (sym e) h
 
 flushed_is : (l : Last) (b p q : Reading) → last_is l p → b ≡ q → flushed l b ≡ sequence q p
 flushed_is none b p q h e = absurd h
@@ -162,41 +162,41 @@ pred_same k n n' e e' = ap pred (sym e ∙ e')
 meet : {s a b : State} {t u v : List ℕ} → s ≡ a → t ≡ u → (x : State) (w : List ℕ) → x ≡ b → w ≡ v → a ≡ b → u ≡ v → (s ≡ x) × (t ≡ w)
 meet e f x w e' f' h k = (e ∙ h ∙ sym e', f ∙ k ∙ sym f')
 
-StepBy-same :
+ParserStepBy-same :
     (k : Mark) (s : State) (c : ℕ) (t : List ℕ) (a : State) (u : List ℕ) (b : State) (v : List ℕ)
-    → StepBy k s c t a u → StepBy k s c t b v → (a ≡ b) × (u ≡ v)
-StepBy-same m.Escape s c t a u b v (d, e, f) (d', e', f') =
+    → ParserStepBy k s c t a u → ParserStepBy k s c t b v → (a ≡ b) × (u ≡ v)
+ParserStepBy-same m.Escape s c t a u b v (d, e, f) (d', e', f') =
     (f ∙ ap (λ x. with_atom s (single (exactly x))) (head_same (sym e ∙ e')) ∙ sym f', tail_same (sym e ∙ e'))
-StepBy-same m.Bracket s c t a u b v (x, h, f) (x', h', f') =
+ParserStepBy-same m.Bracket s c t a u b v (x, h, f) (x', h', f') =
     let (e, e') = Range-same h h' in (f ∙ ap (λ x. with_atom s (single x)) e ∙ sym f', e')
-StepBy-same m.Open s c t a u b v (n, h, e, f) (n', h', e', f') =
+ParserStepBy-same m.Open s c t a u b v (n, h, e, f) (n', h', e', f') =
     meet f e b v f' e' (ap (entered s) (pred_same s.levels n n' h h')) refl
-StepBy-same m.Close s c t a u b v (x, xs, h, e, f) (y, ys, h', e', f') =
+ParserStepBy-same m.Close s c t a u b v (x, xs, h, e, f) (y, ys, h', e', f') =
     let q = sym h ∙ h' in
     meet f e b v f' e' (ap (λ z. left s z xs) (head_same q) ∙ ap (λ z. left s y z) (tail_same q)) refl
-StepBy-same m.Bar s c t a u b v (e, f) (e', f') = meet f e b v f' e' refl refl
-StepBy-same m.Any s c t a u b v (e, f) (e', f') = meet f e b v f' e' refl refl
-StepBy-same m.Start s c t a u b v (e, f) (e', f') = meet f e b v f' e' refl refl
-StepBy-same m.End s c t a u b v (e, f) (e', f') = meet f e b v f' e' refl refl
-StepBy-same m.Star s c t a u b v (x, h, e, f) (y, h', e', f') =
+ParserStepBy-same m.Bar s c t a u b v (e, f) (e', f') = meet f e b v f' e' refl refl
+ParserStepBy-same m.Any s c t a u b v (e, f) (e', f') = meet f e b v f' e' refl refl
+ParserStepBy-same m.Start s c t a u b v (e, f) (e', f') = meet f e b v f' e' refl refl
+ParserStepBy-same m.End s c t a u b v (e, f) (e', f') = meet f e b v f' e' refl refl
+ParserStepBy-same m.Star s c t a u b v (x, h, e, f) (y, h', e', f') =
     meet f e b v f' e' (ap (λ z. with_piece s (star z)) (last_same s.last x y h h')) refl
-StepBy-same m.Plus s c t a u b v (x, h, e, f) (y, h', e', f') =
+ParserStepBy-same m.Plus s c t a u b v (x, h, e, f) (y, h', e', f') =
     meet f e b v f' e' (ap (λ z. with_piece s (plus z)) (last_same s.last x y h h')) refl
-StepBy-same m.Optional s c t a u b v (x, h, e, f) (y, h', e', f') =
+ParserStepBy-same m.Optional s c t a u b v (x, h, e, f) (y, h', e', f') =
     meet f e b v f' e' (ap (λ z. with_piece s (optional z)) (last_same s.last x y h h')) refl
-StepBy-same m.Plain s c t a u b v (e, f) (e', f') = meet f e b v f' e' refl refl
+ParserStepBy-same m.Plain s c t a u b v (e, f) (e', f') = meet f e b v f' e' refl refl
 
-Step-same : (s : State) (t : List ℕ) (a : State) (u : List ℕ) (b : State) (v : List ℕ) → Step s t a u → Step s t b v → (a ≡ b) × (u ≡ v)
-Step-same s [] a u b v h k = absurd h
-Step-same s (c ∷ t) a u b v h k = StepBy-same (mark_of c) s c t a u b v h k
+ParserStep-same : (s : State) (t : List ℕ) (a : State) (u : List ℕ) (b : State) (v : List ℕ) → ParserStep s t a u → ParserStep s t b v → (a ≡ b) × (u ≡ v)
+ParserStep-same s [] a u b v h k = absurd h
+ParserStep-same s (c ∷ t) a u b v h k = ParserStepBy-same (mark_of c) s c t a u b v h k
 
 -- a run goes on by the one step that there is
-pub Runs-step : {s s' : State} {t t' : List ℕ} {p : Reading} → Runs s t p → Step s t s' t' → Runs s' t' p
+pub Runs-step : {s s' : State} {t t' : List ℕ} {p : Reading} → Runs s t p → ParserStep s t s' t' → Runs s' t' p
 Runs-step (accepted e f) k = absurd k
 Runs-step {s' = b} {t' = v} {p = p} (next {s = s} {s' = a} {t = t} {t' = u} h run) k =
-    let (e, f) = Step-same s t a u b v h k in subst (λ x. Runs b x p) f (subst (λ x. Runs x u p) e run)
+    let (e, f) = ParserStep-same s t a u b v h k in subst (λ x. Runs b x p) f (subst (λ x. Runs x u p) e run)
 
-pub Runs-stuck : {s : State} {c : ℕ} {t : List ℕ} {p : Reading} → Runs s (c ∷ t) p → ((s' : State) (t' : List ℕ) → Step s (c ∷ t) s' t' → ⊥) → ⊥
+pub Runs-stuck : {s : State} {c : ℕ} {t : List ℕ} {p : Reading} → Runs s (c ∷ t) p → ((s' : State) (t' : List ℕ) → ParserStep s (c ∷ t) s' t' → ⊥) → ⊥
 Runs-stuck (next {s' = a} {t' = u} h run) k = k a u h
 
 pub Runs-end : {s : State} {p : Reading} → Runs s [] p → (s.outer ≡ []) × (level_so_far s ≡ p)
@@ -207,7 +207,7 @@ one_run : {s s' : State} {t t' : List ℕ} {p q : Reading} → Runs s t p → Ru
 one_run {s' = s'} {q = q} (accepted {p = p} e f) run es et =
     let k = Runs-end (subst (λ x. Runs x [] q) (sym es) (subst (λ x. Runs s' x q) (sym et) run)) in sym f ∙ k.1
 one_run {s' = s'} {t' = t'} {q = q} (next {s = s} {s' = a} {t = t} {t' = u} h more) run es et =
-    one_run more (Runs-step run (subst (λ x. Step x t' a u) es (subst (λ x. Step s x a u) et h))) refl refl
+    one_run more (Runs-step run (subst (λ x. ParserStep x t' a u) es (subst (λ x. ParserStep s x a u) et h))) refl refl
 
 pub one_reading : (text : List ℕ) (p q : Reading) → Reads g.pattern 64 text p [] → Reads g.pattern 64 text q [] → p ≡ q
 one_reading text p q h k = one_run (runs_from_reads text p h) (runs_from_reads text q k) refl refl

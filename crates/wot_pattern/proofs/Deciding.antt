@@ -12,7 +12,7 @@ use Rattle.wot_pattern.specs.Reading.{Reading, exactly, any, start, end, range, 
 use Rattle.wot_pattern.specs.Reading as r
 use Rattle.wot_pattern.specs.Grammar as g
 use Rattle.wot_pattern.specs.Grammar.{item, first_item, closing_bracket, caret, dash, from_to, Items, Range, Reads, Says}
-use Rattle.wot_pattern.specs.Steps.{Level, Last, none, atom, piece, State, with_atom, entered, left, barred, with_piece, level_so_far, fresh, StepBy, Step, Runs, accepted, next}
+use Rattle.wot_pattern.specs.Steps.{Level, Last, none, atom, piece, State, with_atom, entered, left, barred, with_piece, level_so_far, fresh, ParserStepBy, ParserStep, Runs, accepted, next}
 use Rattle.wot_pattern.specs.Deciding.{behind_item, items_in, as_range, range_of_items, range_in, Far, escaped, ranged, opened, closed, repeated, stepped, finished, run_from, pattern_of}
 use Rattle.wot_pattern.proofs.Sound.{SoFar, SoFar-step, SoFar-fresh, SoFar-end}
 use Rattle.wot_pattern.proofs.Complete.{runs_from_reads}
@@ -151,7 +151,7 @@ repeated_says operator none s t s' t' e = absurd (none-some (s', t') e)
 repeated_says operator (atom a) s t s' t' e = let (p, q) = far (with_piece s (operator a)) s' t t' e in (a, refl, p, q)
 repeated_says operator (piece a) s t s' t' e = absurd (none-some (s', t') e)
 
-step_says : (k : Mark) (s : State) (c : ℕ) (t : List ℕ) (s' : State) (t' : List ℕ) → stepped k s c t ≡ Some (s', t') → StepBy k s c t s' t'
+step_says : (k : Mark) (s : State) (c : ℕ) (t : List ℕ) (s' : State) (t' : List ℕ) → stepped k s c t ≡ Some (s', t') → ParserStepBy k s c t s' t'
 step_says m.Escape s c t s' t' e = escaped_says s t s' t' e
 step_says m.Bracket s c t s' t' e = ranged_says s t s' t' e
 step_says m.Open s c t s' t' e = opened_says s.levels s t s' t' e
@@ -165,7 +165,7 @@ step_says m.Plus s c t s' t' e = repeated_says plus s.last s t s' t' e
 step_says m.Optional s c t s' t' e = repeated_says optional s.last s t s' t' e
 step_says m.Plain s c t s' t' e = far (with_atom s (single (exactly c))) s' t t' e
 
-step_told : (k : Mark) (s : State) (c : ℕ) (t : List ℕ) (s' : State) (t' : List ℕ) → StepBy k s c t s' t' → stepped k s c t ≡ Some (s', t')
+step_told : (k : Mark) (s : State) (c : ℕ) (t : List ℕ) (s' : State) (t' : List ℕ) → ParserStepBy k s c t s' t' → stepped k s c t ≡ Some (s', t')
 step_told m.Escape s c t s' t' (d, e, f) = ap (escaped s) e ∙ far_told (with_atom s (single (exactly d))) s' t' t' refl f
 step_told m.Bracket s c t s' t' (a, h, f) = ap (option_map (ranged s)) (range_told h) ∙ far_told (with_atom s (single a)) s' t' t' refl f
 step_told m.Open s c t s' t' (n, h, e, f) = ap (λ (k : ℕ). opened k s t) h ∙ far_told (entered s n) s' t t' e f
@@ -182,7 +182,7 @@ step_told m.Plain s c t s' t' (e, f) = far_told (with_atom s (single (exactly c)
 same_le : (t t' : List ℕ) → t' ≡ t → length t' ≤ length t
 same_le t t' e = subst (λ (z : List ℕ). length z ≤ length t) (sym e) (omega arith)
 
-step_le : (k : Mark) (s : State) (c : ℕ) (t : List ℕ) (s' : State) (t' : List ℕ) → StepBy k s c t s' t' → length t' ≤ length t
+step_le : (k : Mark) (s : State) (c : ℕ) (t : List ℕ) (s' : State) (t' : List ℕ) → ParserStepBy k s c t s' t' → length t' ≤ length t
 step_le m.Escape s c t s' t' (d, e, f) = subst (λ (z : List ℕ). length t' ≤ length z) (sym e) (omega arith)
 step_le m.Bracket s c t s' t' (a, h, f) = range_le h
 step_le m.Open s c t s' t' (n, h, e, f) = same_le t t' e
@@ -214,7 +214,7 @@ end_told : (n : ℕ) (s : State) (p : Reading) → s.outer ≡ [] → level_so_f
 end_told zero s p e f = ap (λ (l : List Level). finished l (level_so_far s)) e ∙ ap (λ (z : Reading). Some z) f
 end_told (suc n) s p e f = ap (λ (l : List Level). finished l (level_so_far s)) e ∙ ap (λ (z : Reading). Some z) f
 
-next_told : (s : State) (t : List ℕ) (s' : State) (t' : List ℕ) (p : Reading) → Step s t s' t' → ((n : ℕ) → length t' ≤ n → run_from n s' t' ≡ Some p)
+next_told : (s : State) (t : List ℕ) (s' : State) (t' : List ℕ) (p : Reading) → ParserStep s t s' t' → ((n : ℕ) → length t' ≤ n → run_from n s' t' ≡ Some p)
     → (n : ℕ) → length t ≤ n → run_from n s t ≡ Some p
 next_told s [] s' t' p h ih n l = absurd h
 next_told s (c ∷ t) s' t' p h ih zero l = absurd (omega (arith, l))

@@ -1,4 +1,4 @@
--- What the two passes keep true: which trees hold up to a place, from where they may begin.
+-- What the two passes keep true: which trees hold up to a position, from where they may begin.
 use Rattle.std.specs.Prelude.{◌≡◌, ℕ, zero, suc, ◌+◌, ◌<◌, ◌≤◌, ◌⊎◌, Bool, true, false, ◌&&◌, ◌||◌, not, nat_le, List, [], ◌∷◌, length, Option, Some, None, slice_get}
 use Rattle.std.proofs.Common.{refl, sym, subst, ap, ◌∙◌, inl, inr, arith}
 use Rattle.std.proofs.lemmas.Bool.{cases_lt, leb-true, le-leb, eqb-true, eq-eqb, false≢true}
@@ -60,7 +60,7 @@ module _ (text : List ℕ) where
   Holds-le (plus p) i j (n, h) = Turns-le (Holds text p) (λ i j. Holds-le p i j) (suc n) i j h
   Holds-le (optional p) i j h = elim h [ inl x ↦ omega arith | inr y ↦ Holds-le p i j y ]
 
-  -- it may begin at some place before this one, and ends here
+  -- it may begin at some position before this one, and ends here
   abbrev pub Ended : Reading → (ℕ → Type 0) → ℕ → Type 0
   Ended r B i = (j : ℕ) × (j < i) × B j × Holds text r j i
 
@@ -128,7 +128,7 @@ module _ (text : List ℕ) where
               let e : j ≡ i = omega arith in inl (subst B e c)
         ])
 
-  -- what a tree lets through at this place, where it may begin at these
+  -- what a tree lets through at this position, where it may begin at these
   pub record Right (r : Reading) (B : ℕ → Type 0) (i : ℕ) (f : Flow) : Type 0 where
     pub empty : Tells f.empty (Holds text r i i)
     pub ended : Tells f.ended (Ended r B i)

@@ -1,5 +1,5 @@
 -- Facts on the rest of a text, and on the items of a range that were read so far.
-use Rattle.std.specs.Prelude.{◌≡◌, ◌≢◌, ℕ, suc, ◌+◌, ◌-◌, ◌<◌, ◌≤◌, Bool, List, [], ◌∷◌, ◌++◌, length, Option, Some, None, Result, Ok, Err, IfOk, IfErr}
+use Rattle.std.specs.Prelude.{◌≡◌, ◌≢◌, ℕ, suc, ◌+◌, ◌-◌, ◌<◌, ◌≤◌, Bool, List, [], ◌∷◌, ◌++◌, length, Option, Some, None, Result, Ok, Err, IfErr}
 use Rattle.std.proofs.Common.{refl, sym, subst, ap, ◌∙◌, arith, append_assoc, get_or, drop, take, add-one, length-drop}
 use Rattle.std.proofs.Math.Seq.{drop-cons}
 use Rattle.std.proofs.lemmas.List.{append-nil, drop_all, take_all, drop-drop}
@@ -7,7 +7,7 @@ use Rattle.wot_pattern.specs.declared.item.Item.{Item}
 use Rattle.wot_pattern.specs.declared.mark.Mark.{Mark}
 use Rattle.wot_pattern.specs.Marks.{mark_of}
 use Rattle.wot_pattern.specs.Reading.{Atom, range, Reading}
-use Rattle.wot_pattern.specs.Steps.{State, StepBy, Step, Runs}
+use Rattle.wot_pattern.specs.Steps.{State, ParserStepBy, ParserStep, Runs}
 use Rattle.wot_pattern.specs.Grammar as g
 use Rattle.wot_pattern.specs.Grammar.{item, first_item, Items, Range, caret, closing_bracket}
 use Rattle.wot_pattern.proofs.Complete.{some_same, head_same, Runs-stuck}
@@ -120,10 +120,6 @@ no_negated (g.negated {t = t} {u = u} {rest = r} {x = x} {xs = xs} e f i) c v q 
     k x u xs r (ap first_item (sym (ap (λ (l : List ℕ). elim l [ [] ↦ t | y ∷ ys ↦ ys ]) q)) ∙ f) i
 no_negated (g.positive {c = d} ne f i) c v q e' k = ne (ap (λ (l : List ℕ). elim l [ [] ↦ d | y ∷ ys ↦ y ]) q ∙ e')
 
-pub if_ok : {A E : Type 0} (r : Result A E) (P Q : A → Type 0) → ((a : A) → P a → Q a) → IfOk r P → IfOk r Q
-if_ok (Ok a) P Q f h = f a h
-if_ok (Err e) P Q f h = tt
-
 pub if_err : {A E : Type 0} (r : Result A E) (P Q : E → Type 0) → ((e : E) → P e → Q e) → IfErr r P → IfErr r Q
 if_err (Ok a) P Q f h = tt
 if_err (Err e) P Q f h = f e h
@@ -134,15 +130,15 @@ here text at c l e = e ∙ head_same (sym (drop-cons text at c l) ∙ drop-cons 
 -- a step from a character is a step from the text there
 pub step_here :
     (text : List ℕ) (at c : ℕ) (mark : Mark) → at < length text → c ≡ get_or text at c → mark ≡ mark_of c
-    → (s s' : State) (t : List ℕ) → StepBy mark s (get_or text at 0) (drop (at + 1) text) s' t → Step s (drop at text) s' t
+    → (s s' : State) (t : List ℕ) → ParserStepBy mark s (get_or text at 0) (drop (at + 1) text) s' t → ParserStep s (drop at text) s' t
 step_here text at c mark l e m s s' t h =
-    subst (λ z. Step s z s' t) (sym (drop-cons text at 0 l ∙ ap (λ z. get_or text at 0 ∷ drop z text) (sym (add-one at))))
-    (subst (λ z. StepBy z s (get_or text at 0) (drop (at + 1) text) s' t) (m ∙ ap mark_of (here text at c l e)) h)
+    subst (λ z. ParserStep s z s' t) (sym (drop-cons text at 0 l ∙ ap (λ z. get_or text at 0 ∷ drop z text) (sym (add-one at))))
+    (subst (λ z. ParserStepBy z s (get_or text at 0) (drop (at + 1) text) s' t) (m ∙ ap mark_of (here text at c l e)) h)
 
 -- and the other way
 pub no_step_here :
     (text : List ℕ) (at c : ℕ) (mark : Mark) → at < length text → c ≡ get_or text at c → mark ≡ mark_of c → (s : State)
-    → ((s' : State) (t : List ℕ) → StepBy mark s (get_or text at 0) (drop (at + 1) text) s' t → ⊥) → (p : Reading) → Runs s (drop at text) p → ⊥
+    → ((s' : State) (t : List ℕ) → ParserStepBy mark s (get_or text at 0) (drop (at + 1) text) s' t → ⊥) → (p : Reading) → Runs s (drop at text) p → ⊥
 no_step_here text at c mark l e m s f p h =
     Runs-stuck (subst (λ z. Runs s z p) (drop-cons text at 0 l ∙ ap (λ z. get_or text at 0 ∷ drop z text) (sym (add-one at))) h)
-    (λ s' t k. f s' t (subst (λ z. StepBy z s (get_or text at 0) (drop (at + 1) text) s' t) (sym (m ∙ ap mark_of (here text at c l e))) k))
+    (λ s' t k. f s' t (subst (λ z. ParserStepBy z s (get_or text at 0) (drop (at + 1) text) s' t) (sym (m ∙ ap mark_of (here text at c l e))) k))

@@ -1,4 +1,4 @@
--- The slots of a tree's nodes: what they hold before the first pass at a place and after it.
+-- The slots of a tree's nodes: what they hold before the first pass at a position and after it.
 use Rattle.std.specs.Prelude.{◌≡◌, ℕ, ◌+◌, Bool, true, false, ◌&&◌, ◌||◌, List, [], ◌∷◌, ◌++◌, length, Some, slice_get}
 use Rattle.std.proofs.Common.{refl, sym, subst, ap, ◌∙◌, append_assoc}
 use Rattle.wot_pattern.specs.declared.flow.Flow.{Flow}
@@ -82,7 +82,7 @@ advances_one c t ps gs gs' f x p h e us ss st ss' st' run =
     one ∙ two ∙ three ∙ four
 
 module _ (text : List ℕ) where
-  -- before the first pass at place i: of each atom the slot tells whether it ended there, where its tree may begin at B
+  -- before the first pass at position i: of each atom the slot tells whether it ended there, where its tree may begin at B
   abbrev pub Marked : Reading → (ℕ → Type 0) → ℕ → List Flow → Type 0
   Marked nothing B i fs = (f : Flow) × (fs ≡ f ∷ [])
   Marked (single a) B i fs = (f : Flow) × (fs ≡ f ∷ []) × Tells f.ended (Ended text (single a) B i)
@@ -185,7 +185,7 @@ module _ (text : List ℕ) where
               (settles_one first last t.optional (tokens p) gs a.slots f f a.through (flow true a.through.ended) a.goes (λ st. refl));
         }
 
-  -- what the second pass makes of them, for the next place
+  -- what the second pass makes of them, for the next position
   pub record Advancing (c : ℕ) (r : Reading) (B : ℕ → Type 0) (i : ℕ) (fs : List Flow) (x : Bool) : Type 0 where
     pub slots : List Flow
     pub marked : Marked r B (i + 1) slots

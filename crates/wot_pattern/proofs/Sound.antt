@@ -7,7 +7,7 @@ use Rattle.wot_pattern.specs.Marks.{mark_of}
 use Rattle.wot_pattern.specs.Reading.{exactly, any, start, end, Reading, nothing, single, star, plus, optional}
 use Rattle.wot_pattern.specs.Grammar as g
 use Rattle.wot_pattern.specs.Grammar.{Range, Reads}
-use Rattle.wot_pattern.specs.Steps.{Level, Last, none, atom, piece, State, at, flushed, joined, level_so_far, with_atom, entered, left, barred, with_piece, StepBy, Step}
+use Rattle.wot_pattern.specs.Steps.{Level, Last, none, atom, piece, State, at, flushed, joined, level_so_far, with_atom, entered, left, barred, with_piece, ParserStepBy, ParserStep}
 
 -- the present branch begins at v, behind the branches before it, which begin at t
 abbrev pub Begun : ℕ → List ℕ → Option Reading → List ℕ → Type 0
@@ -132,7 +132,7 @@ same text s s' u u' e f h = subst (λ x. SoFar text x u') (sym f) (subst (λ x. 
 
 step_by :
     (text : List ℕ) (k : Mark) (s s' : State) (c : ℕ) (t t' : List ℕ)
-    → mark_of c ≡ k → SoFar text s (c ∷ t) → StepBy k s c t s' t' → SoFar text s' t'
+    → mark_of c ≡ k → SoFar text s (c ∷ t) → ParserStepBy k s c t s' t' → SoFar text s' t'
 step_by text m.Escape s s' c t t' o h (d, e, f) =
     subst (λ x. SoFar text x t') (sym f)
     (SoFar-with_atom text s (c ∷ t) t' (single (exactly d)) h (subst (λ x. Reads g.atom s.levels (c ∷ x) (single (exactly d)) t') (sym e) (g.escaped o)))
@@ -153,7 +153,7 @@ step_by text m.Optional s s' c t t' o h (a, l, e, f) =
 step_by text m.Plain s s' c t t' o h (e, f) =
     same text (with_atom s (single (exactly c))) s' t t' e f (SoFar-with_atom text s (c ∷ t) t (single (exactly c)) h (g.plain o))
 
-pub SoFar-step : (text : List ℕ) (s s' : State) (t t' : List ℕ) → SoFar text s t → Step s t s' t' → SoFar text s' t'
+pub SoFar-step : (text : List ℕ) (s s' : State) (t t' : List ℕ) → SoFar text s t → ParserStep s t s' t' → SoFar text s' t'
 SoFar-step text s s' [] t' h k = absurd k
 SoFar-step text s s' (c ∷ t) t' h k = step_by text (mark_of c) s s' c t t' refl h k
 

@@ -1,4 +1,4 @@
--- The matcher's way along the text, from place to place.
+-- The matcher's way along the text, from position to position.
 use Rattle.std.specs.Prelude.{◌≡◌, ℕ, zero, ◌+◌, ◌<◌, ◌≤◌, ◌⊎◌, Bool, true, false, List, [], ◌∷◌, ◌++◌, length, Option, Some, None, slice_get, replicate, not, is_some}
 use Rattle.std.proofs.Common.{refl, sym, subst, ap, ◌∙◌, inl, inr, arith, append_assoc, length-append}
 use Rattle.std.proofs.lemmas.List.{append-nil, replicate-append-replicate}
@@ -13,7 +13,7 @@ use Rattle.wot_pattern.proofs.Tells.{Tells, tells_never, tells_always}
 use Rattle.wot_pattern.proofs.Flows.{Holds-le, Ended, After, Right}
 use Rattle.wot_pattern.proofs.Marking.{Marked, Ready, Settling, settling, Advancing, advancing}
 
--- a match may begin at each place
+-- a match may begin at each position
 abbrev pub Everywhere : ℕ → Type 0
 Everywhere i = Unit {0}
 
@@ -43,7 +43,7 @@ module _ (text : List ℕ) where
   blank_marked (optional p) B = (blank (length (tokens p)), no_flow, blank_one (tokens p) t.optional, blank_marked p B)
 
   module _ (r : Reading) where
-    -- The characters of the text up to this place were read, and no match ends before it.
+    -- The characters of the text up to this position were read, and no match ends before it.
     pub record Walking (rest : List ℕ) (first : Bool) (slots : List Flow) : Type 0 where
       pub before : List ℕ
       pub splits : text ≡ before ++ rest
@@ -67,7 +67,7 @@ module _ (text : List ℕ) where
         ap (λ l. settled first last l fs []) (sym (append-nil (tokens r))) ∙ ap (λ l. settled first last (tokens r ++ []) l []) (sym (append-nil fs))
         ∙ s.goes [] [] [] ∙ ap (λ l. (l, s.through ∷ [])) (append-nil s.slots)
 
-    -- the place after the first pass there
+    -- the position after the first pass there
     pub record Looked (rest : List ℕ) (first : Bool) (slots : List Flow) (through : Flow) : Type 0 where
       pub before : List ℕ
       pub splits : text ≡ before ++ rest

@@ -1,5 +1,5 @@
 -- The grammar of patterns (RFC 9580, section 8). A text is the list of its characters' code points.
--- Each form stands at the front of a text, and leaves a rest.
+-- Each form stands at the beginning of a text, and leaves a rest.
 use Rattle.std.specs.Prelude.{◌≡◌, ◌≢◌, ℕ, suc, ◌≤◌, ◌==◌, true, false, not, ◌&&◌, nat_le, List, [], ◌∷◌, length, Option, Some, None, if◌then◌else◌}
 use Rattle.wot_pattern.specs.declared.item.Item.{Item}
 use Rattle.wot_pattern.specs.declared.mark.Mark.TheVariants.{Escape, Bracket, Open, Close, Bar, Any, Start, End, Star, Plus, Optional, Plain}
@@ -19,7 +19,7 @@ closing_bracket = 93
 abbrev pub from_to : ℕ → ℕ → Item
 from_to c d = record { from = c; to = d }
 
--- An item of a range, with any character at its front, and the rest. Where that character is followed by a dash and then by
+-- An item of a range, with any character at its beginning, and the rest. Where that character is followed by a dash and then by
 -- another character than the closing bracket, the item goes from the one to the other, which isn't less. Else it stands for itself.
 abbrev pub item : List ℕ → Option (Item × List ℕ)
 item [] = None
@@ -57,7 +57,7 @@ pub data Part : Type 0 where
   piece : Part
   atom : Part
 
--- Reads part levels text reading rest: such a part stands at the front of the text, with parentheses in it
+-- Reads part levels text reading rest: such a part stands at the beginning of the text, with parentheses in it
 -- nested at most so many levels deep, says this, and leaves that rest.
 pub data Reads : Part → ℕ → List ℕ → Reading → List ℕ → Type 0 where
   -- pattern = branch { "|" branch }

@@ -1,4 +1,4 @@
--- What a pattern means: a relation between it, a text and two places of the text, from and to.
+-- What a pattern means: a relation between it, a text and two positions of the text, from and to.
 -- Place k stands before the text's character k, counted from 0.
 use Rattle.std.specs.Prelude.{◌≡◌, ℕ, zero, suc, ◌+◌, ◌≤◌, ◌⊎◌, true, false, List, [], ◌∷◌, length, Some, slice_get}
 use Rattle.wot_pattern.specs.declared.item.Item.{Item}
@@ -23,7 +23,7 @@ Takes end c = ⊥
 Takes (range false items) c = InItems c items
 Takes (range true items) c = InItems c items → ⊥
 
--- the text has a character between these two places, and the atom takes it
+-- the text has a character between these two positions, and the atom takes it
 abbrev pub OneTaken : Atom → List ℕ → ℕ → ℕ → Type 0
 OneTaken a text from to = (to ≡ from + 1) × ((c : ℕ) × (slice_get text from ≡ Some c) × Takes a c)
 
@@ -41,6 +41,6 @@ Holds text (star p) from to = (n : ℕ) × Turns (Holds text p) n from to
 Holds text (plus p) from to = (n : ℕ) × Turns (Holds text p) (suc n) from to
 Holds text (optional p) from to = (from ≡ to) ⊎ Holds text p from to
 
--- the pattern holds between some two places of the text
+-- the pattern holds between some two positions of the text
 abbrev pub Matches : List ℕ → Reading → Type 0
 Matches text reading = (from : ℕ) × (to : ℕ) × (from ≤ length text) × (to ≤ length text) × Holds text reading from to

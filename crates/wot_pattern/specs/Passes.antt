@@ -1,4 +1,5 @@
--- What the matcher's private functions do: its two passes over the nodes at one place of the text. No public contract names this.
+-- The matcher's two passes over the nodes at one position of the text. Contracts of its private functions name this. `Deciding` rests on
+-- it, and so do the public laws on what `Deciding` has, which lead to the meaning: a reader has to believe the meaning alone.
 use Rattle.std.specs.Prelude.{ℕ, Bool, true, false, ◌&&◌, ◌||◌, not, List, [], ◌∷◌, ◌++◌, nat_le, ◌==◌}
 use Rattle.wot_pattern.specs.declared.item.Item.{Item}
 use Rattle.wot_pattern.specs.declared.flow.Flow.{Flow}
@@ -39,7 +40,7 @@ takes end c = false
 takes (range false items) c = in_items c items
 takes (range true items) c = not (in_items c items)
 
--- the atom holds between a place and itself, which may be the text's first or its last
+-- the atom holds between a position and itself, which may be the text's first or its last
 abbrev pub holds_empty : Bool → Bool → Atom → Bool
 holds_empty first last start = first
 holds_empty first last end = last
@@ -67,7 +68,7 @@ settled first last (t ∷ ts) (f ∷ fs) st =
     let rest = settled first last ts fs one.1 in
     (one.0 ∷ rest.0, rest.1)
 
--- A node's slot, and whether the trees that are still to come may begin at this place.
+-- A node's slot, and whether the trees that are still to come may begin at this position.
 abbrev pub advanced_one : ℕ → Token → Flow → List Bool → Flow × List Bool
 advanced_one c nothing f st = (f, below st)
 advanced_one c (single a) f st = (flow false (top_mark st && takes a c), below st)

@@ -1,4 +1,5 @@
--- What the parser's private functions do: how far a pattern was read, level by level. No public contract names this.
+-- How far a pattern was read, level by level. Contracts of the parser's private functions name this. `Deciding` rests on it, and so do
+-- the public laws on what `Deciding` has, which lead to the grammar: a reader has to believe the grammar alone.
 use Rattle.std.specs.Prelude.{◌≡◌, ℕ, suc, ◌+◌, Bool, List, [], ◌∷◌, ◌++◌, length, Option, Some, None, is_some}
 use Rattle.wot_pattern.specs.declared.mark.Mark.{Mark}
 use Rattle.wot_pattern.specs.declared.mark.Mark.TheVariants as m
@@ -67,28 +68,28 @@ abbrev pub with_piece : State → Reading → State
 with_piece s p = at s.levels s.outer s.earlier s.branch (piece p)
 
 -- one step from a character with this mark
-abbrev pub StepBy : Mark → State → ℕ → List ℕ → State → List ℕ → Type 0
-StepBy m.Escape s c t s' t' = (d : ℕ) × (t ≡ d ∷ t') × (s' ≡ with_atom s (single (exactly d)))
-StepBy m.Bracket s c t s' t' = (a : r.Atom) × Range t a t' × (s' ≡ with_atom s (single a))
-StepBy m.Open s c t s' t' = (n : ℕ) × (s.levels ≡ suc n) × (t' ≡ t) × (s' ≡ entered s n)
-StepBy m.Close s c t s' t' = (f : Level) × (fs : List Level) × (s.outer ≡ f ∷ fs) × (t' ≡ t) × (s' ≡ left s f fs)
-StepBy m.Bar s c t s' t' = (t' ≡ t) × (s' ≡ barred s)
-StepBy m.Any s c t s' t' = (t' ≡ t) × (s' ≡ with_atom s (single any))
-StepBy m.Start s c t s' t' = (t' ≡ t) × (s' ≡ with_atom s (single start))
-StepBy m.End s c t s' t' = (t' ≡ t) × (s' ≡ with_atom s (single end))
-StepBy m.Star s c t s' t' = (a : Reading) × (s.last ≡ atom a) × (t' ≡ t) × (s' ≡ with_piece s (star a))
-StepBy m.Plus s c t s' t' = (a : Reading) × (s.last ≡ atom a) × (t' ≡ t) × (s' ≡ with_piece s (plus a))
-StepBy m.Optional s c t s' t' = (a : Reading) × (s.last ≡ atom a) × (t' ≡ t) × (s' ≡ with_piece s (optional a))
-StepBy m.Plain s c t s' t' = (t' ≡ t) × (s' ≡ with_atom s (single (exactly c)))
+abbrev pub ParserStepBy : Mark → State → ℕ → List ℕ → State → List ℕ → Type 0
+ParserStepBy m.Escape s c t s' t' = (d : ℕ) × (t ≡ d ∷ t') × (s' ≡ with_atom s (single (exactly d)))
+ParserStepBy m.Bracket s c t s' t' = (a : r.Atom) × Range t a t' × (s' ≡ with_atom s (single a))
+ParserStepBy m.Open s c t s' t' = (n : ℕ) × (s.levels ≡ suc n) × (t' ≡ t) × (s' ≡ entered s n)
+ParserStepBy m.Close s c t s' t' = (f : Level) × (fs : List Level) × (s.outer ≡ f ∷ fs) × (t' ≡ t) × (s' ≡ left s f fs)
+ParserStepBy m.Bar s c t s' t' = (t' ≡ t) × (s' ≡ barred s)
+ParserStepBy m.Any s c t s' t' = (t' ≡ t) × (s' ≡ with_atom s (single any))
+ParserStepBy m.Start s c t s' t' = (t' ≡ t) × (s' ≡ with_atom s (single start))
+ParserStepBy m.End s c t s' t' = (t' ≡ t) × (s' ≡ with_atom s (single end))
+ParserStepBy m.Star s c t s' t' = (a : Reading) × (s.last ≡ atom a) × (t' ≡ t) × (s' ≡ with_piece s (star a))
+ParserStepBy m.Plus s c t s' t' = (a : Reading) × (s.last ≡ atom a) × (t' ≡ t) × (s' ≡ with_piece s (plus a))
+ParserStepBy m.Optional s c t s' t' = (a : Reading) × (s.last ≡ atom a) × (t' ≡ t) × (s' ≡ with_piece s (optional a))
+ParserStepBy m.Plain s c t s' t' = (t' ≡ t) × (s' ≡ with_atom s (single (exactly c)))
 
-abbrev pub Step : State → List ℕ → State → List ℕ → Type 0
-Step s [] s' t' = ⊥
-Step s (c ∷ t) s' t' = StepBy (mark_of c) s c t s' t'
+abbrev pub ParserStep : State → List ℕ → State → List ℕ → Type 0
+ParserStep s [] s' t' = ⊥
+ParserStep s (c ∷ t) s' t' = ParserStepBy (mark_of c) s c t s' t'
 
 -- From this state the text is read to its end, and the whole says this.
 pub data Runs : State → List ℕ → Reading → Type 0 where
   accepted : {s : State} {p : Reading} → s.outer ≡ [] → level_so_far s ≡ p → Runs s [] p
-  next : {s s' : State} {t t' : List ℕ} {p : Reading} → Step s t s' t' → Runs s' t' p → Runs s t p
+  next : {s s' : State} {t t' : List ℕ} {p : Reading} → ParserStep s t s' t' → Runs s' t' p → Runs s t p
 
 -- the nodes of a level
 abbrev pub level_tokens : Option Reading → Reading → List Token

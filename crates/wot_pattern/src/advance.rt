@@ -7,7 +7,8 @@ use crate::leaf::takes;
 use crate::node::Node;
 use crate::stack::{put, take_or};
 
-/// Takes off the stack whether this node's tree may begin here, puts there whether the trees in it may, and gives the node's slot.
+/// Takes off the stack whether this node's tree may begin here, puts there whether the trees in it may, and gives the
+/// node's slot.
 fn advance_one(node: &Node, slot: Flow, begins: &mut Vec<bool>, character: char) -> Flow
     requires room { vec_len begins.old < vec_capacity begins.old }
     requires two { 2 ≤ vec_capacity begins.old }
@@ -47,7 +48,7 @@ fn advance_one(node: &Node, slot: Flow, begins: &mut Vec<bool>, character: char)
     }
 }
 
-/// The second pass at a place of the text: marks the atoms that take the character there, where they may begin.
+/// The second pass at a position of the text: marks the atoms that take the character there, where they may begin.
 pub fn advance(nodes: &[Node], slots: &mut [Flow], begins: &mut Vec<bool>, character: char)
     requires slots { length slots.old ≡ length nodes.now }
     requires room { length nodes.now + 1 ≤ vec_capacity begins.old }

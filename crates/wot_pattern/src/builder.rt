@@ -31,7 +31,7 @@ pub enum Operator {
 /// How many parentheses may be open at once.
 const LEVELS: usize = 64;
 
-/// Puts the nodes of a pattern together, from its front on.
+/// Puts the nodes of a pattern together, from its beginning on.
 #[derive(Drop)]
 pub struct Builder {
     pub nodes: Vec<Node>,
@@ -75,7 +75,8 @@ impl Builder {
     /// Puts the branches of the present level together.
     fn join(&mut self) -> Result<(), PatternFault>
         ensures fault { IfErr result (λ e. e ≡ Memory) }
-        ensures joined { OnOk result ((s : State) → Builds self.old s → tokens_of self.new.nodes.items ≡ outer_tokens s.outer ++ tokens (level_so_far s)) }
+        ensures joined { OnOk result ((s : State) → Builds self.old s →
+            tokens_of self.new.nodes.items ≡ outer_tokens s.outer ++ tokens (level_so_far s)) }
         ensures outer { OnOk result (self.new.outer.items ≡ self.old.outer.items) }
     {
         self.flush()?;
@@ -112,7 +113,8 @@ impl Builder {
 
     /// A closing parenthesis, which is unreadable where none is open.
     pub fn close(&mut self) -> Result<(), PatternFault>
-        ensures builds { OnOk result ((s : State) → Builds self.old s → (f : Level) × (fs : List Level) × (s.outer ≡ f ∷ fs) × Builds self.new (left s f fs)) }
+        ensures builds { OnOk result ((s : State) → Builds self.old s → (f : Level) × (fs : List Level)
+            × (s.outer ≡ f ∷ fs) × Builds self.new (left s f fs)) }
         ensures unreadable { IfErr result (λ e. e ≡ Unreadable → (s : State) → Builds self.old s → s.outer ≡ []) }
     {
         self.join()?;
@@ -138,7 +140,8 @@ impl Builder {
 
     /// An operator, which is unreadable where no atom stands before it.
     pub fn repeat(&mut self, operator: Operator) -> Result<(), PatternFault>
-        ensures builds { OnOk result ((s : State) → Builds self.old s → (a : Reading) × (s.last ≡ atom a) × Builds self.new (with_piece s (applied operator a))) }
+        ensures builds { OnOk result ((s : State) → Builds self.old s → (a : Reading) × (s.last ≡ atom a)
+            × Builds self.new (with_piece s (applied operator a))) }
         ensures unreadable { IfErr result (λ e. e ≡ Unreadable → (s : State) (a : Reading) → Builds self.old s → s.last ≡ atom a → ⊥) }
     {
         if self.last != LastRead::Atom {

@@ -1,9 +1,9 @@
-/// What a tree lets through at one place of the text.
+/// What a tree lets through at one position of the text.
 #[derive(Clone, Copy, Debug, PartialEq, Eq)]
 pub struct Flow {
-    /// It holds between this place and itself.
+    /// It holds between this position and itself.
     pub empty: bool,
-    /// It began before this place, where it may begin, and ends here.
+    /// It began before this position, where it may begin, and ends here.
     pub ended: bool,
 }
 

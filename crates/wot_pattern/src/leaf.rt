@@ -32,7 +32,7 @@ pub fn takes(leaf: &Leaf, character: char) -> bool
     }
 }
 
-/// Whether the atom holds between a place and itself, which may be the text's first or its last.
+/// Whether the atom holds between a position and itself, which may be the text's first or its last.
 pub fn holds_empty(leaf: &Leaf, first: bool, last: bool) -> bool
     ensures { result ≡ holds_empty first last (atom_of leaf.now) }
 {

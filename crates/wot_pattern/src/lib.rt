@@ -16,8 +16,6 @@ mod pattern;
 mod range;
 mod settle;
 mod stack;
-#[cfg(test)]
-mod tests;
 
 pub use fault::PatternFault;
 pub use matcher::Matcher;

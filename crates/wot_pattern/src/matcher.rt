@@ -56,8 +56,8 @@ impl Matcher {
         })
     }
 
-    /// Whether the pattern holds between some two places of the text. It takes time in proportion to the length of the
-    /// pattern times that of the text.
+    /// Whether the pattern holds between some two positions of the text. It takes time in proportion to the length of
+    /// the pattern times that of the text.
     pub fn matches(&mut self, text: &str) -> bool
         ensures exactly { IsTrue result ↔ Matches (chars text.now) self.old }
         ensures same { self.new ≡ self.old }
@@ -72,7 +72,7 @@ impl Matcher {
     }
 }
 
-/// Moves along the text, and keeps at each place which atoms ended there.
+/// Moves along the text, and keeps at each position which atoms ended there.
 fn finds(
     nodes: &[Node],
     slots: &mut [Flow],

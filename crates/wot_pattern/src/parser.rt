@@ -2,7 +2,7 @@ ghost use Rattle.std.specs.Prelude.{◌≡◌, ℕ, ◌+◌, ◌<◌, ◌≤◌,
 ghost use Rattle.std.specs.Str.{chars};
 ghost use Rattle.wot_pattern.specs.Reading.{Reading};
 ghost use Rattle.wot_pattern.specs.Grammar.{Reads, Says, pattern};
-ghost use Rattle.wot_pattern.specs.Steps.{State, Builds, Step, StepBy};
+ghost use Rattle.wot_pattern.specs.Steps.{State, Builds, ParserStep, ParserStepBy};
 ghost use Rattle.wot_pattern.specs.declared.fault.PatternFault.TheVariants.{Unreadable};
 
 use crate::builder::{Builder, Operator};
@@ -16,8 +16,8 @@ use std::alloc::Global;
 /// How many characters a pattern may have.
 const LONGEST: usize = 1024;
 
-/// Reads a pattern (RFC 9580, section 8), of at most 1,024 characters, with parentheses nested at most 64 deep. `Unreadable`
-/// comes exactly where the text is no such pattern.
+/// Reads a pattern (RFC 9580, section 8), of at most 1,024 characters, with parentheses nested at most 64 deep.
+/// `Unreadable` comes exactly where the text is no such pattern.
 pub fn parse(alloc: Global, text: &str) -> Result<Pattern, PatternFault>
     ensures read { IfOk result (λ p. Says (chars text.now) p) }
     ensures unreadable { IfErr result (λ e. e ≡ Unreadable → (p : Reading) → Says (chars text.now) p → ⊥) }
@@ -62,7 +62,7 @@ fn read_pattern(alloc: Global, text: &[char]) -> Result<Pattern, PatternFault>
     builder.finish()
 }
 
-/// Reads on from a character with this mark, and gives the place behind what was read.
+/// Reads on from a character with this mark, and gives the position behind what was read.
 fn step_by(
     alloc: Global,
     builder: &mut Builder,
@@ -71,9 +71,12 @@ fn step_by(
     mark: Mark,
 ) -> Result<usize, PatternFault>
     requires { at < length text.now }
-    ensures built { IfOk result (λ next. (s : State) → Builds builder.old s → (s' : State) × StepBy mark s (slice_index text.now at) (drop (at + 1) text.now) s' (drop next text.now) × Builds builder.new s') }
+    ensures built { IfOk result (λ next. (s : State) → Builds builder.old s → (s' : State)
+        × ParserStepBy mark s (slice_index text.now at) (drop (at + 1) text.now) s' (drop next text.now)
+        × Builds builder.new s') }
     ensures within { IfOk result (λ next. (at < next) × (next ≤ length text.now)) }
-    ensures unreadable { IfErr result (λ e. e ≡ Unreadable → (s s' : State) (t : List ℕ) → Builds builder.old s → StepBy mark s (slice_index text.now at) (drop (at + 1) text.now) s' t → ⊥) }
+    ensures unreadable { IfErr result (λ e. e ≡ Unreadable → (s s' : State) (t : List ℕ) → Builds builder.old s →
+        ParserStepBy mark s (slice_index text.now at) (drop (at + 1) text.now) s' t → ⊥) }
 {
     let behind = at + 1;
     match mark {

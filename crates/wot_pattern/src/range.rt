@@ -10,7 +10,7 @@ use crate::item::Item;
 use crate::node::Leaf;
 use std::alloc::Global;
 
-/// The item at the front of a text, and how many characters it takes.
+/// The item at the beginning of a text, and how many characters it takes.
 fn read_item(text: &[char]) -> Option<(Item, usize)>
     ensures some { IfSome result (λ read. item text.now ≡ Some (read.0, drop read.1 text.now)) }
     ensures within { IfSome result (λ read. (0 < read.1) × (read.1 ≤ length text.now)) }
@@ -63,10 +63,11 @@ fn read_first_item(text: &[char]) -> Option<(Item, usize)>
     }
 }
 
-/// Reads the items of a range after its first, up to the closing bracket, and gives the place behind that.
+/// Reads the items of a range after its first, up to the closing bracket, and gives the position behind that.
 fn read_items(items: &mut Vec<Item>, text: &[char], start: usize) -> Result<usize, PatternFault>
     requires { start ≤ length text.now }
-    ensures read { IfOk result (λ end. (xs : List Item) × (items.new.items ≡ items.old.items ++ xs) × Items (drop start text.now) xs (drop end text.now)) }
+    ensures read { IfOk result (λ end. (xs : List Item) × (items.new.items ≡ items.old.items ++ xs)
+        × Items (drop start text.now) xs (drop end text.now)) }
     ensures within { IfOk result (λ end. (start < end) × (end ≤ length text.now)) }
     ensures unreadable { IfErr result (λ e. e ≡ Unreadable → (xs : List Item) (r : List ℕ) → Items (drop start text.now) xs r → ⊥) }
 {
@@ -92,9 +93,12 @@ fn read_all_items(
     negated: bool,
 ) -> Result<(Leaf, usize), PatternFault>
     requires { start ≤ length text.now }
-    ensures read { IfOk result (λ read. (x : Item) × (u : List ℕ) × (xs : List Item) × (first_item (drop start text.now) ≡ Some (x, u)) × Items u xs (drop read.1 text.now) × (atom_of read.0 ≡ range negated (x ∷ xs))) }
+    ensures read { IfOk result (λ read. (x : Item) × (u : List ℕ) × (xs : List Item)
+        × (first_item (drop start text.now) ≡ Some (x, u)) × Items u xs (drop read.1 text.now)
+        × (atom_of read.0 ≡ range negated (x ∷ xs))) }
     ensures within { IfOk result (λ read. (start < read.1) × (read.1 ≤ length text.now)) }
-    ensures unreadable { IfErr result (λ e. e ≡ Unreadable → (x : Item) (u : List ℕ) (xs : List Item) (r : List ℕ) → first_item (drop start text.now) ≡ Some (x, u) → Items u xs r → ⊥) }
+    ensures unreadable { IfErr result (λ e. e ≡ Unreadable → (x : Item) (u : List ℕ) (xs : List Item) (r : List ℕ) →
+        first_item (drop start text.now) ≡ Some (x, u) → Items u xs r → ⊥) }
 {
     let Some((first, taken)) = read_first_item(&text[start..]) else {
         return Err(PatternFault::Unreadable);
@@ -105,7 +109,7 @@ fn read_all_items(
     Ok((Leaf::Range { negated, items }, end))
 }
 
-/// Reads a range behind its opening bracket, and gives the place behind the closing one.
+/// Reads a range behind its opening bracket, and gives the position behind the closing one.
 pub fn read_range(alloc: Global, text: &[char], start: usize) -> Result<(Leaf, usize), PatternFault>
     requires { start ≤ length text.now }
     ensures read { IfOk result (λ read. Range (drop start text.now) (atom_of read.0) (drop read.1 text.now)) }

@@ -7,7 +7,8 @@ use crate::leaf::holds_empty;
 use crate::node::Node;
 use crate::stack::{put, take_or};
 
-/// Takes the flows of the trees in this node off the stack, puts the flow of its own tree there, and gives the node's slot.
+/// Takes the flows of the trees in this node off the stack, puts the flow of its own tree there, and gives the node's
+/// slot.
 fn settle_one(node: &Node, slot: Flow, ready: &mut Vec<Flow>, first: bool, last: bool) -> Flow
     requires { vec_len ready.old < vec_capacity ready.old }
     ensures slot { result ≡ (settled_one first last (token_of node.now) slot (reverse ready.old.items)).0 }
@@ -39,17 +40,17 @@ fn settle_one(node: &Node, slot: Flow, ready: &mut Vec<Flow>, first: bool, last:
         }
         Node::Sequence => {
             let second = take_or(ready, Flow::NONE);
-            let front = take_or(ready, Flow::NONE);
-            let empty = front.empty && second.empty;
-            let ended = second.ended || (front.ended && second.empty);
+            let left = take_or(ready, Flow::NONE);
+            let empty = left.empty && second.empty;
+            let ended = second.ended || (left.ended && second.empty);
             put(ready, Flow { empty, ended });
-            front
+            left
         }
         Node::Either => {
             let second = take_or(ready, Flow::NONE);
-            let front = take_or(ready, Flow::NONE);
-            let empty = front.empty || second.empty;
-            let ended = front.ended || second.ended;
+            let left = take_or(ready, Flow::NONE);
+            let empty = left.empty || second.empty;
+            let ended = left.ended || second.ended;
             put(ready, Flow { empty, ended });
             slot
         }
@@ -83,7 +84,8 @@ fn settle_one(node: &Node, slot: Flow, ready: &mut Vec<Flow>, first: bool, last:
     }
 }
 
-/// The first pass at a place of the text: what the tree lets through there. The place may be the text's first or its last.
+/// The first pass at a position of the text: what the tree lets through there. The position may be the text's first
+/// or its last.
 pub fn settle(
     nodes: &[Node],
     slots: &mut [Flow],

@@ -5,6 +5,9 @@ ghost use Rattle.wot_policy.specs.Kept.{AnswersBy, IsFaithful, rows_of, asked_of
 use crate::{Ask, PolicyRows};
 
 /// A closure that answers by rows, and how often it was asked. No call shows the rows.
+///
+/// That it answers by them (`IsFaithful`) is a condition of `judge` and not an invariant: neither a ghost field nor a
+/// model's invariant can speak of a bound on `Fn`.
 #[derive(Drop)]
 pub struct Policy<F> {
     judge: F,

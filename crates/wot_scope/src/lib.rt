@@ -5,6 +5,3 @@ pub mod laws;
 mod scope;
 
 pub use scope::in_scope;
-
-#[cfg(test)]
-mod tests;

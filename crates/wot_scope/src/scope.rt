@@ -10,8 +10,8 @@ use wot_pattern::{Matcher, PatternFault, one_reading, parse};
 use wot_signature::{Scopes, scopes};
 use wot_types::Memory;
 
-/// Whether the scope of this signature body holds for the user ID: the body has no pattern, or the user ID is UTF-8 and one
-/// of its readable patterns matches it.
+/// Whether the scope of this signature body holds for the user ID: the body has no pattern, or the user ID is UTF-8
+/// and one of its readable patterns matches it.
 pub fn in_scope(alloc: Global, body: &[u8], uid: &[u8]) -> Result<bool, Memory>
     ensures holds { IfOk result (λ holds. IsTrue holds ↔ ScopeHolds (scopes_of body.now) uid.now) }
     ensures told { IfOk result (λ holds. holds ≡ scope_holds (scopes_of body.now) uid.now) }

@@ -21,7 +21,7 @@ use Rattle.wot_types.specs.ViewName.{is_name_octet, is_view_name}
 use Rattle.wot_script.specs.Spelling.{IsLineFor, most_octets}
 use Rattle.wot_script.specs.Texts.{joined}
 use Rattle.wot_script.specs.declared.command.Command.{Command}
-use Rattle.wot_script.specs.declared.command.Command.TheVariants.{Import, Remove, Good, Bad, Unjudge, Time, Root, Close, Ask, Export}
+use Rattle.wot_script.specs.declared.command.Command.TheVariants.{Import, Remove, Good, Bad, Unjudge, Time, Root, Close, Ask, Explain, Pending, Keys, Export, Dump}
 use Rattle.wot_script.specs.Uid.{escape, escaped}
 use Rattle.wot_script.proofs.Spaceless.{Lacks, feedless_digits, lacks_from_test, lacks_decimal, lacks_test, lacks_view_name}
 
@@ -126,14 +126,26 @@ length-joined : (texts : List (List ℕ)) → length (joined texts) ≡ sizes te
 length-joined [] = refl
 length-joined (text ∷ texts) = omega (arith, length-append text (joined texts), length-joined texts)
 
-one_line : (command : Command) (first : ℕ) (front : List ℕ) (texts : List (List ℕ)) → lacks_test 10 (first ∷ front) ≡ true
-    → (first ≡ 35 → ⊥) → AllByRecursion (Lacks 10) texts → sizes ((first ∷ front) ∷ texts) ≤ most_octets command
-    → IsLineFor command (joined ((first ∷ front) ∷ texts))
-one_line command first front texts fine apart free short = record {
-  no_feed = lacks-joined 10 ((first ∷ front) ∷ texts) (word (first ∷ front) fine, free);
+one_line : (command : Command) (first : ℕ) (prefix : List ℕ) (texts : List (List ℕ)) → lacks_test 10 (first ∷ prefix) ≡ true
+    → (first ≡ 35 → ⊥) → AllByRecursion (Lacks 10) texts → sizes ((first ∷ prefix) ∷ texts) ≤ most_octets command
+    → IsLineFor command (joined ((first ∷ prefix) ∷ texts))
+one_line command first prefix texts fine apart free short = record {
+  no_feed = lacks-joined 10 ((first ∷ prefix) ∷ texts) (word (first ∷ prefix) fine, free);
   heard = apart;
-  short = omega (arith, length-joined ((first ∷ front) ∷ texts), short);
+  short = omega (arith, length-joined ((first ∷ prefix) ∷ texts), short);
 }
+
+pub pending_line : IsLineFor Pending (codes "pending")
+unfolding lacks_test
+pending_line = one_line Pending 112 (codes "ending") [] refl (λ e. omega arith) tt (omega arith)
+
+pub keys_line : IsLineFor Keys (codes "keys")
+unfolding lacks_test
+keys_line = one_line Keys 107 (codes "eys") [] refl (λ e. omega arith) tt (omega arith)
+
+pub dump_line : IsLineFor Dump (codes "dump")
+unfolding lacks_test
+dump_line = one_line Dump 100 (codes "ump") [] refl (λ e. omega arith) tt (omega arith)
 
 pub import_line : (octets : List ℕ) → IsLineFor (Import octets) (joined (codes "import " ∷ encode_lower octets ∷ []))
 unfolding lacks_test
@@ -225,3 +237,18 @@ ask_line view fpr wanted uid ds ws name digits number =
     one_line (Ask view fpr wanted uid) 97 (codes "sk ") (view ∷ codes " " ∷ ds ∷ codes " " ∷ ws ∷ codes " " ∷ escaped uid ∷ []) refl (λ e. omega arith)
     (name.free, (word (codes " ") refl, (digits.free, (word (codes " ") refl, (number.free, (word (codes " ") refl, (feedless_escaped uid, tt)))))))
     (omega (arith, name.size, digits.size, number.size, length-escaped uid))
+
+pub list_line : (view : List ℕ) (wanted : ℕ) (ws : List ℕ) → IsName view → IsNumeral ws
+    → IsLineFor (Command.List view wanted) (joined (codes "list " ∷ view ∷ codes " " ∷ ws ∷ []))
+unfolding lacks_test
+list_line view wanted ws name number =
+    one_line (Command.List view wanted) 108 (codes "ist ") (view ∷ codes " " ∷ ws ∷ []) refl (λ e. omega arith)
+    (name.free, (word (codes " ") refl, (number.free, tt))) (omega (arith, name.size, number.size))
+
+pub explain_line : (view : List ℕ) (fpr : Fpr) (uid ds : List ℕ) → IsName view → AreDigits 40 ds
+    → IsLineFor (Explain view fpr uid) (joined (codes "explain " ∷ view ∷ codes " " ∷ ds ∷ codes " " ∷ escaped uid ∷ []))
+unfolding lacks_test
+explain_line view fpr uid ds name digits =
+    one_line (Explain view fpr uid) 101 (codes "xplain ") (view ∷ codes " " ∷ ds ∷ codes " " ∷ escaped uid ∷ []) refl (λ e. omega arith)
+    (name.free, (word (codes " ") refl, (digits.free, (word (codes " ") refl, (feedless_escaped uid, tt)))))
+    (omega (arith, name.size, digits.size, length-escaped uid))

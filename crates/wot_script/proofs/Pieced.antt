@@ -1,8 +1,12 @@
 -- Texts that are put piece by piece.
-use Rattle.std.proofs.Common.{◌≡◌, ℕ, zero, suc, ◌+◌, ◌<◌, ◌≤◌, List, [], ◌∷◌, ◌++◌, length, take, refl, ap, ◌∙◌, arith, length-append, get_or}
-use Rattle.std.proofs.lemmas.List.{take_all}
+use Rattle.std.proofs.Common.{◌≡◌, ℕ, zero, suc, ◌+◌, ◌<◌, ◌≤◌, List, [], ◌∷◌, ◌++◌, length, take, refl, ap, ◌∙◌, arith, length-append, get_or, Err}
+use Rattle.std.specs.Prelude.{Vec, vec_len, vec_capacity}
+use Rattle.std.specs.declared.alloc.Global.{Global}
+use Rattle.std.proofs.lemmas.List.{take_all, take-append-le}
 use Rattle.std.specs.List.{flat_map}
 use Rattle.hex.specs.Hex.{encode_lower, encode_with}
+use Rattle.wot_types.specs.declared.memory.Memory.{Memory}
+use Rattle.wot_script.specs.Appends.{Appends}
 
 -- the octets of what was put so far
 pub record PutSoFar (before now made : List ℕ) (capacity_before capacity : ℕ) : Type 0 where
@@ -24,7 +28,7 @@ encode_lower_by_octets [] = refl
 encode_lower_by_octets (octet ∷ octets) = ap (λ text. encode_lower (octet ∷ []) ++ text) (encode_lower_by_octets octets)
 
 -- where there was no room for a piece, there was none for all of them
-pub full_so_far : {X : Type 0} (f : X → List ℕ) (xs : List X) (i : ℕ) (d : X) (before now : List ℕ) (cap_before cap len_before len : ℕ)
+full_so_far : {X : Type 0} (f : X → List ℕ) (xs : List X) (i : ℕ) (d : X) (before now : List ℕ) (cap_before cap len_before len : ℕ)
     → i < length xs → PutSoFar before now (flat_map f (take i xs)) cap_before cap
     → len_before ≡ length before → len ≡ length now → cap < len + length (f (get_or xs i d))
     → cap_before < len_before + length (flat_map f xs)
@@ -33,6 +37,27 @@ full_so_far f xs i d before now cap_before cap len_before len h so_far is_before
     let size = ap length so_far.text in
     let parts = length-append before (flat_map f (take i xs)) in
     omega (arith, so_far.grows, fits, size, parts)
+
+-- what was put so far is cut off again
+cut_off : (before now again made after : List ℕ) (start : ℕ) → now ≡ before ++ made → again ≡ now → start ≡ length before → after ≡ take start again → after ≡ before
+cut_off before now again made after start text same is cut =
+    cut
+    ∙ ap (take start) (same ∙ text)
+    ∙ ap (λ n. take n (before ++ made)) is
+    ∙ take-append-le (length before) before made (omega arith)
+    ∙ take_all (length before) before (omega arith)
+
+-- Where a piece couldn't be put, and what was put before it is cut off again, no piece was put.
+pub none_put : {X : Type 0} (f : X → List ℕ) (xs : List X) (i : ℕ) (d : X) (old now again after : Vec ℕ Global) (start : ℕ) (fault other : Memory)
+    → i < length xs → PutSoFar old.items now.items (flat_map f (take i xs)) (vec_capacity old) (vec_capacity now)
+    → vec_len old ≡ length old.items → vec_len now ≡ length now.items → Appends (f (get_or xs i d)) now again (Err other)
+    → start ≡ vec_len old → after.items ≡ take start again.items → vec_capacity after ≡ vec_capacity again → Appends (flat_map f xs) old after (Err fault)
+none_put f xs i d old now again after start fault other lt so_far is_old is_now failed is cut same = record {
+  appended = tt;
+  kept = cut_off old.items now.items again.items (flat_map f (take i xs)) after.items start so_far.text failed.kept (is ∙ is_old) cut;
+  full = full_so_far f xs i d old.items now.items (vec_capacity old) (vec_capacity now) (vec_len old) (vec_len now) lt so_far is_old is_now failed.full;
+  grows = omega (arith, so_far.grows, failed.grows, same);
+}
 
 -- at the end all pieces were put
 pub all_put : {X : Type 0} (f : X → List ℕ) (xs : List X) (i : ℕ) (before now : List ℕ) (cap_before cap : ℕ) → length xs ≤ i

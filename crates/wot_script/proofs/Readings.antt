@@ -9,11 +9,13 @@ use Rattle.wot_types.specs.declared.fpr.Fpr.{Fpr}
 use Rattle.wot_types.specs.declared.number.SigNumber.{SigNumber}
 use Rattle.wot_script.specs.Decimal.{decimal_up_to, positive_up_to}
 use Rattle.wot_script.specs.Fields.{◌>>=◌, cut, octets_of_hex}
-use Rattle.wot_script.specs.Grammar.{ask_of, asked_of, command_of, drop_of, export_of, import_of, judgement_of, root_of, setting_of, single_of, verdict_of, view_of}
+use Rattle.wot_script.specs.Grammar.{about_of, asked_of, command_of, drop_of, explained_of, export_of, import_of, judgement_of, listed_of, root_of, setting_of, single_of, verdict_of, view_of}
 use Rattle.wot_script.specs.Texts.{joined}
 use Rattle.wot_script.specs.Uid.{unescaped}
 use Rattle.wot_script.specs.declared.command.Command.{Command}
-use Rattle.wot_script.specs.declared.command.Command.TheVariants.{Import, Remove, Good, Bad, Unjudge, Time, Root, Close, Ask, Keys, Export, Dump}
+use Rattle.wot_script.specs.declared.command.Command.TheVariants.{Import, Remove, Good, Bad, Unjudge, Time, Root, Close, Ask, Explain, Pending, Keys, Export, Dump}
+use Rattle.wot_script.specs.declared.read.About.{About}
+use Rattle.wot_script.specs.declared.read.About.TheVariants.{Setting, Asked, Listed, Explained}
 use Rattle.wot_script.proofs.Spaceless.{Spaceless, cut_spaceless, spaceless_view_name}
 
 -- a second reading behind a first one that gave a
@@ -34,6 +36,10 @@ pub export_reads : (digits : List ℕ) (fpr : Fpr) → fpr_of_digits digits ≡ 
     → command_of (joined (codes "export " ∷ digits ∷ [])) ≡ Some (Export fpr)
 unfolding command_of export_of
 export_reads digits fpr e = ap (λ text. option_map Export (fpr_of_digits text)) (append-nil digits) ∙ ap (option_map Export) e
+
+pub pending_reads : command_of (codes "pending") ≡ Some Pending
+unfolding command_of single_of
+pending_reads = refl
 
 pub keys_reads : command_of (codes "keys") ≡ Some Keys
 unfolding command_of single_of
@@ -84,14 +90,18 @@ none_reads ns number free number_is = verdict_reads ns (codes "none") number (Un
 name_is : (name : List ℕ) → is_view_name name ≡ true → view_name_of name ≡ Some name
 name_is name h = rw h refl
 
-view_reads : (name text : List ℕ) (command : Command) → is_view_name name ≡ true → setting_of name text ≡ Some command
-    → command_of (codes "view " ++ (name ++ 32 ∷ text)) ≡ Some command
-unfolding command_of view_of
-view_reads name text command h e =
-    bound (cut (name ++ 32 ∷ text)) (name, text) (λ first. view_name_of first.0 >>= (λ view. setting_of view first.1))
+view_reads : (about : About) (name text : List ℕ) (command : Command) → is_view_name name ≡ true
+    → about_of about name text ≡ Some command → view_of about (name ++ 32 ∷ text) ≡ Some command
+view_reads about name text command h e =
+    bound (cut (name ++ 32 ∷ text)) (name, text) (λ first. view_name_of first.0 >>= (λ view. about_of about view first.1))
     (cut_spaceless name text (spaceless_view_name name h))
-    ∙ bound (view_name_of name) name (λ view. setting_of view text) (name_is name h)
+    ∙ bound (view_name_of name) name (λ view. about_of about view text) (name_is name h)
     ∙ e
+
+setting_reads : (name text : List ℕ) (command : Command) → is_view_name name ≡ true → setting_of name text ≡ Some command
+    → command_of (codes "view " ++ (name ++ 32 ∷ text)) ≡ Some command
+unfolding command_of
+setting_reads name text command h e = view_reads Setting name text command h e
 
 time_set : (name digits : List ℕ) (t : ℕ) → decimal_up_to 4294967295 digits ≡ Some t
     → setting_of name (codes "time " ++ (digits ++ [])) ≡ Some (Time name t)
@@ -101,7 +111,7 @@ time_set name digits t e =
 
 pub time_reads : (name digits : List ℕ) (t : ℕ) → is_view_name name ≡ true → decimal_up_to 4294967295 digits ≡ Some t
     → command_of (joined (codes "view " ∷ name ∷ codes " time " ∷ digits ∷ [])) ≡ Some (Time name t)
-time_reads name digits t h e = view_reads name (codes "time " ++ (digits ++ [])) (Time name t) h (time_set name digits t e)
+time_reads name digits t h e = setting_reads name (codes "time " ++ (digits ++ [])) (Time name t) h (time_set name digits t e)
 
 root_of_parts : (name ds text : List ℕ) (fpr : Fpr) (amount : ℕ) → Spaceless ds → fpr_of_digits ds ≡ Some fpr
     → decimal_up_to 255 text ≡ Some amount → root_of name (ds ++ 32 ∷ text) ≡ Some (Root name fpr amount)
@@ -121,7 +131,7 @@ pub root_reads : (name ds an : List ℕ) (fpr : Fpr) (amount : ℕ) → is_view_
     → fpr_of_digits ds ≡ Some fpr → decimal_up_to 255 an ≡ Some amount
     → command_of (joined (codes "view " ∷ name ∷ codes " root " ∷ ds ∷ codes " " ∷ an ∷ [])) ≡ Some (Root name fpr amount)
 root_reads name ds an fpr amount h free fpr_is amount_is =
-    view_reads name (codes "root " ++ (ds ++ 32 ∷ (an ++ []))) (Root name fpr amount) h
+    setting_reads name (codes "root " ++ (ds ++ 32 ∷ (an ++ []))) (Root name fpr amount) h
     (root_set name (ds ++ 32 ∷ (an ++ []))
     ∙ root_of_parts name ds (an ++ []) fpr amount free fpr_is (ap (decimal_up_to 255) (append-nil an) ∙ amount_is))
 
@@ -131,7 +141,7 @@ close_set name = refl
 
 pub close_reads : (name : List ℕ) → is_view_name name ≡ true
     → command_of (joined (codes "view " ∷ name ∷ codes " close" ∷ [])) ≡ Some (Close name)
-close_reads name h = view_reads name (codes "close") (Close name) h (close_set name)
+close_reads name h = setting_reads name (codes "close") (Close name) h (close_set name)
 
 asked_reads : (name ds ws us uid : List ℕ) (fpr : Fpr) (wanted : ℕ) → Spaceless ds → fpr_of_digits ds ≡ Some fpr
     → Spaceless ws → positive_up_to 4294967295 ws ≡ Some wanted → unescaped us ≡ Some uid
@@ -155,10 +165,33 @@ pub ask_reads : (name ds ws us uid : List ℕ) (fpr : Fpr) (wanted : ℕ) → is
     → fpr_of_digits ds ≡ Some fpr → Spaceless ws → positive_up_to 4294967295 ws ≡ Some wanted → unescaped us ≡ Some uid
     → command_of (joined (codes "ask " ∷ name ∷ codes " " ∷ ds ∷ codes " " ∷ ws ∷ codes " " ∷ us ∷ []))
     ≡ Some (Ask name fpr wanted uid)
-unfolding command_of ask_of
+unfolding command_of
 ask_reads name ds ws us uid fpr wanted h free fpr_is free_too wanted_is uid_is =
-    let text : List ℕ = ds ++ 32 ∷ (ws ++ 32 ∷ (us ++ [])) in
-    bound (cut (name ++ 32 ∷ text)) (name, text) (λ first. view_name_of first.0 >>= (λ view. asked_of view first.1))
-    (cut_spaceless name text (spaceless_view_name name h))
-    ∙ bound (view_name_of name) name (λ view. asked_of view text) (name_is name h)
-    ∙ asked_reads name ds ws (us ++ []) uid fpr wanted free fpr_is free_too wanted_is (ap unescaped (append-nil us) ∙ uid_is)
+    view_reads Asked name (ds ++ 32 ∷ (ws ++ 32 ∷ (us ++ []))) (Ask name fpr wanted uid) h
+    (asked_reads name ds ws (us ++ []) uid fpr wanted free fpr_is free_too wanted_is (ap unescaped (append-nil us) ∙ uid_is))
+
+pub list_reads : (name ws : List ℕ) (wanted : ℕ) → is_view_name name ≡ true → positive_up_to 4294967295 ws ≡ Some wanted
+    → command_of (joined (codes "list " ∷ name ∷ codes " " ∷ ws ∷ [])) ≡ Some (Command.List name wanted)
+unfolding command_of listed_of
+list_reads name ws wanted h e =
+    view_reads Listed name (ws ++ []) (Command.List name wanted) h
+    (ap (λ text. option_map (Command.List name) (positive_up_to 4294967295 text)) (append-nil ws)
+    ∙ ap (option_map (Command.List name)) e)
+
+explained_reads : (name ds us uid : List ℕ) (fpr : Fpr) → Spaceless ds → fpr_of_digits ds ≡ Some fpr → unescaped us ≡ Some uid
+    → explained_of name (ds ++ 32 ∷ us) ≡ Some (Explain name fpr uid)
+unfolding explained_of
+explained_reads name ds us uid fpr free fpr_is uid_is =
+    bound (cut (ds ++ 32 ∷ us)) (ds, us)
+    (λ second. fpr_of_digits second.0 >>= (λ f. unescaped second.1 >>= (λ u. Some (Explain name f u))))
+    (cut_spaceless ds us free)
+    ∙ bound (fpr_of_digits ds) fpr (λ f. unescaped us >>= (λ u. Some (Explain name f u))) fpr_is
+    ∙ bound (unescaped us) uid (λ u. Some (Explain name fpr u)) uid_is
+
+pub explain_reads : (name ds us uid : List ℕ) (fpr : Fpr) → is_view_name name ≡ true → Spaceless ds
+    → fpr_of_digits ds ≡ Some fpr → unescaped us ≡ Some uid
+    → command_of (joined (codes "explain " ∷ name ∷ codes " " ∷ ds ∷ codes " " ∷ us ∷ [])) ≡ Some (Explain name fpr uid)
+unfolding command_of
+explain_reads name ds us uid fpr h free fpr_is uid_is =
+    view_reads Explained name (ds ++ 32 ∷ (us ++ [])) (Explain name fpr uid) h
+    (explained_reads name ds (us ++ []) uid fpr free fpr_is (ap unescaped (append-nil us) ∙ uid_is))

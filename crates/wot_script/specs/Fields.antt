@@ -10,11 +10,11 @@ abbrev pub ◌>>=◌ : {A B : Type 0} → Option A → (A → Option B) → Opti
 Some x >>= f = f x
 None >>= f = None
 
--- what stands behind a front
+-- what stands behind a prefix
 abbrev pub behind : List ℕ → List ℕ → Option (List ℕ)
 behind [] text = Some text
-behind (x ∷ front) [] = None
-behind (x ∷ front) (y ∷ text) = if x == y then behind front text else None
+behind (x ∷ prefix) [] = None
+behind (x ∷ prefix) (y ∷ text) = if x == y then behind prefix text else None
 
 -- the field before the first space, and what stands behind that space
 abbrev pub cut : List ℕ → Option (List ℕ × List ℕ)

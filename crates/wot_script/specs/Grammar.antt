@@ -10,9 +10,12 @@ use Rattle.wot_script.specs.Decimal.{decimal_up_to, positive_up_to}
 use Rattle.wot_script.specs.Fields.{◌>>=◌, behind, cut, octets_of_hex}
 use Rattle.wot_script.specs.Uid.{unescaped}
 use Rattle.wot_script.specs.declared.command.Command.{Command}
-use Rattle.wot_script.specs.declared.command.Command.TheVariants.{Import, Remove, Good, Bad, Unjudge, Time, Root, Close, Ask, Keys, Export, Dump}
+use Rattle.wot_script.specs.declared.read.About.{About}
+use Rattle.wot_script.specs.declared.read.About.TheVariants.{Setting, Asked, Listed, Explained}
+use Rattle.wot_script.specs.declared.command.Command.TheVariants.{Import, Remove, Good, Bad, Unjudge, Time}
+use Rattle.wot_script.specs.declared.command.Command.TheVariants.{Root, Close, Ask, Explain, Pending, Keys, Export, Dump}
 
--- A text with this front is read so, and another text otherwise.
+-- A text with this prefix is read so, and another text otherwise.
 abbrev pub read_behind : Option (List ℕ) → (List ℕ → Option Command) → Option Command → Option Command
 read_behind (Some rest) read other = read rest
 read_behind None read other = other
@@ -55,13 +58,6 @@ setting_of view text =
     read_behind (behind (codes "root ") text) (root_of view) (
     if bytes_eq text (codes "close") then Some (Close view) else None))
 
--- behind `view `: V and a setting
-unfoldable pub view_of : List ℕ → Option Command
-view_of text = do
-  first ← cut text
-  view ← view_name_of first.0
-  setting_of view first.1
-
 -- behind `ask V `: FPR N UID, where UID is the rest of the line
 unfoldable pub asked_of : List ℕ → List ℕ → Option Command
 asked_of view text = do
@@ -72,21 +68,41 @@ asked_of view text = do
   uid ← unescaped third.1
   Some (Ask view fpr wanted uid)
 
--- behind `ask `: V and what is asked
-unfoldable pub ask_of : List ℕ → Option Command
-ask_of text = do
+-- behind `list V `: N
+unfoldable pub listed_of : List ℕ → List ℕ → Option Command
+listed_of view digits = option_map (Command.List view) (positive_up_to 4294967295 digits)
+
+-- behind `explain V `: FPR UID, where UID is the rest of the line
+unfoldable pub explained_of : List ℕ → List ℕ → Option Command
+explained_of view text = do
+  second ← cut text
+  fpr ← fpr_of_digits second.0
+  uid ← unescaped second.1
+  Some (Explain view fpr uid)
+
+-- what is read behind the name of a view, by what the line is about
+abbrev pub about_of : About → List ℕ → List ℕ → Option Command
+about_of Setting view text = setting_of view text
+about_of Asked view text = asked_of view text
+about_of Listed view text = listed_of view text
+about_of Explained view text = explained_of view text
+
+-- V, and what is read behind its space
+abbrev pub view_of : About → List ℕ → Option Command
+view_of about text = do
   first ← cut text
   view ← view_name_of first.0
-  asked_of view first.1
+  about_of about view first.1
 
 -- behind `export `: FPR
 unfoldable pub export_of : List ℕ → Option Command
 export_of digits = option_map Export (fpr_of_digits digits)
 
--- a line without any such front: `keys` or `dump`
+-- a line without any such prefix: `pending`, `keys` or `dump`
 unfoldable pub single_of : List ℕ → Option Command
 single_of line =
-    if bytes_eq line (codes "keys") then Some Keys
+    if bytes_eq line (codes "pending") then Some Pending
+    else if bytes_eq line (codes "keys") then Some Keys
     else if bytes_eq line (codes "dump") then Some Dump
     else None
 
@@ -96,7 +112,9 @@ command_of line =
     read_behind (behind (codes "import ") line) import_of (
     read_behind (behind (codes "drop ") line) drop_of (
     read_behind (behind (codes "verdict ") line) verdict_of (
-    read_behind (behind (codes "view ") line) view_of (
-    read_behind (behind (codes "ask ") line) ask_of (
+    read_behind (behind (codes "view ") line) (view_of Setting) (
+    read_behind (behind (codes "ask ") line) (view_of Asked) (
+    read_behind (behind (codes "list ") line) (view_of Listed) (
+    read_behind (behind (codes "explain ") line) (view_of Explained) (
     read_behind (behind (codes "export ") line) export_of (
-    single_of line))))))
+    single_of line))))))))

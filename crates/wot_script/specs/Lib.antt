@@ -4,6 +4,8 @@ pub mod Grammar
 pub mod Pieces
 pub mod Replies
 pub mod Spelling
+pub mod Appends
 pub mod Texts
 pub mod Turned
 pub mod Uid
+pub mod Words

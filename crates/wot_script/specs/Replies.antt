@@ -1,56 +1,106 @@
 -- How a reply is printed.
 use Rattle.std.specs.Prelude.{ℕ, Bool, true, false, List, [], ◌∷◌, ◌++◌, codes}
 use Rattle.std.specs.Fmt.{decimal}
-use Rattle.std.specs.List.{flat_map}
+use Rattle.std.specs.List.{AllByRecursion, flat_map}
 use Rattle.hex.specs.Hex.{encode_lower}
 use Rattle.wot_types.specs.Fpr.{digits_of}
 use Rattle.wot_types.specs.Limits.{limit_word}
-use Rattle.wot_script.specs.Texts.{line_of}
+use Rattle.wot_types.specs.SigNumber.{number_digits}
+use Rattle.wot_script.specs.Texts.{joined_line}
 use Rattle.wot_script.specs.Uid.{escaped}
+use Rattle.wot_script.specs.Words.{IsWordOf, reason_words, target_words, word_at}
 use Rattle.wot_script.specs.declared.reply.AnswerLine.{AnswerLine}
 use Rattle.wot_script.specs.declared.reply.AnswerLine.TheVariants.{Path, Step}
+use Rattle.wot_script.specs.declared.reply.BindLine.{BindLine}
+use Rattle.wot_script.specs.declared.reply.ReasonLine.{ReasonLine}
+use Rattle.wot_script.specs.declared.reply.ReasonLine.TheVariants.{Word, Edge}
+use Rattle.wot_script.specs.declared.reply.PendingLine.{PendingLine}
+use Rattle.wot_script.specs.declared.reply.Hint.{Hint}
+use Rattle.wot_script.specs.declared.reply.Hint.TheVariants.{Full as Fingerprint, Short, Nothing}
 use Rattle.wot_script.specs.declared.reply.KeyLine.{KeyLine}
 use Rattle.wot_script.specs.declared.reply.Reply.{Reply}
-use Rattle.wot_script.specs.declared.reply.Reply.TheVariants.{Taken, Done, Amount, Keys, Export, Dump, Long, Line, View, Packet, Compressed, Secret, Kind, Order, Empty, Clash, Absent, Full}
+use Rattle.wot_script.specs.declared.reply.Reply.TheVariants.{Taken, Done, Amount, Explained, Pending, Keys, Export, Dump, Long, Line, View}
+use Rattle.wot_script.specs.declared.reply.Reply.TheVariants.{Packet, Compressed, Secret, Kind, Order, Empty, Clash, Absent, Full}
 
 -- `path AMOUNT steps L root FPR`, or `step ISSUER TARGET DEPTH AMOUNT UID`
 abbrev pub answer_line : AnswerLine → List ℕ
 answer_line (Path amount steps root) =
-    line_of (codes "path " ∷ decimal amount ∷ codes " steps " ∷ decimal steps ∷ codes " root " ∷ digits_of root ∷ [])
+    joined_line (codes "path " ∷ decimal amount ∷ codes " steps " ∷ decimal steps ∷ codes " root " ∷ digits_of root ∷ [])
 answer_line (Step issuer target depth amount uid) =
-    line_of (codes "step " ∷ digits_of issuer ∷ codes " " ∷ digits_of target ∷ codes " " ∷ decimal depth ∷ codes " "
+    joined_line (codes "step " ∷ digits_of issuer ∷ codes " " ∷ digits_of target ∷ codes " " ∷ decimal depth ∷ codes " "
     ∷ decimal amount ∷ codes " " ∷ escaped uid ∷ [])
+
+-- `bind SUM FPR UID`
+abbrev pub bind_line : BindLine → List ℕ
+bind_line line = joined_line (codes "bind " ∷ decimal line.0 ∷ codes " " ∷ digits_of line.1 ∷ codes " " ∷ escaped line.2 ∷ [])
+
+-- `cert NUM WORD`, or `cert NUM edge ISSUER DEPTH AMOUNT`
+abbrev pub reason_line : ReasonLine → List ℕ
+reason_line (Word number word) =
+    joined_line (codes "cert " ∷ number_digits number ∷ codes " " ∷ word_at reason_words word ∷ [])
+reason_line (Edge number issuer depth amount) =
+    joined_line (codes "cert " ∷ number_digits number ∷ codes " edge " ∷ digits_of issuer ∷ codes " " ∷ decimal depth
+    ∷ codes " " ∷ decimal amount ∷ [])
+
+-- the fingerprint of the issuer, or its key ID, or `-`
+abbrev pub hint_text : Hint → List ℕ
+hint_text (Fingerprint fpr) = digits_of fpr
+hint_text (Short octets) = encode_lower octets
+hint_text Nothing = codes "-"
+
+-- `sig NUM FPR HINT`
+abbrev pub pending_line : PendingLine → List ℕ
+pending_line line =
+    joined_line (codes "sig " ∷ number_digits line.0 ∷ codes " " ∷ digits_of line.1 ∷ codes " " ∷ hint_text line.2 ∷ [])
 
 -- `key FPR U S`
 abbrev pub key_line : KeyLine → List ℕ
-key_line line = line_of (codes "key " ∷ digits_of line.0 ∷ codes " " ∷ decimal line.1 ∷ codes " " ∷ decimal line.2 ∷ [])
+key_line line = joined_line (codes "key " ∷ digits_of line.0 ∷ codes " " ∷ decimal line.1 ∷ codes " " ∷ decimal line.2 ∷ [])
 
 -- a refusal
 abbrev pub refused : List (List ℕ) → List ℕ
-refused words = line_of (codes "refused " ∷ words)
+refused words = joined_line (codes "refused " ∷ words)
 
 -- the octets of a reply, with its line feeds
 unfoldable pub reply_text : Reply → List ℕ
 reply_text (Taken taken skipped new) =
-    line_of (codes "ok taken " ∷ decimal taken ∷ codes " skipped " ∷ decimal skipped ∷ codes " new " ∷ decimal new ∷ [])
-reply_text Done = line_of (codes "ok" ∷ [])
+    joined_line (codes "ok taken " ∷ decimal taken ∷ codes " skipped " ∷ decimal skipped ∷ codes " new " ∷ decimal new ∷ [])
+reply_text Done = joined_line (codes "ok" ∷ [])
 reply_text (Amount sum paths lines) =
-    line_of (codes "amount " ∷ decimal sum ∷ codes " paths " ∷ decimal paths ∷ []) ++ flat_map answer_line lines
-reply_text (Keys count lines) = line_of (codes "keys " ∷ decimal count ∷ []) ++ flat_map key_line lines
-reply_text (Export octets) = line_of (codes "export " ∷ encode_lower octets ∷ [])
-reply_text (Dump count lines) = line_of (codes "dump " ∷ decimal count ∷ []) ++ lines
+    joined_line (codes "amount " ∷ decimal sum ∷ codes " paths " ∷ decimal paths ∷ []) ++ flat_map answer_line lines
+reply_text (Reply.List count lines) = joined_line (codes "list " ∷ decimal count ∷ []) ++ flat_map bind_line lines
+reply_text (Explained word count lines) =
+    joined_line (codes "explain " ∷ word_at target_words word ∷ codes " " ∷ decimal count ∷ []) ++ flat_map reason_line lines
+reply_text (Pending count lines) = joined_line (codes "pending " ∷ decimal count ∷ []) ++ flat_map pending_line lines
+reply_text (Keys count lines) = joined_line (codes "keys " ∷ decimal count ∷ []) ++ flat_map key_line lines
+reply_text (Export octets) = joined_line (codes "export " ∷ encode_lower octets ∷ [])
+reply_text (Dump count lines) = joined_line (codes "dump " ∷ decimal count ∷ []) ++ lines
 reply_text Long = refused (codes "long" ∷ [])
 reply_text Line = refused (codes "line" ∷ [])
 reply_text View = refused (codes "view" ∷ [])
-reply_text (Packet why place) = refused (codes "packet " ∷ decimal why ∷ codes " " ∷ decimal place ∷ [])
+reply_text (Packet why offset) = refused (codes "packet " ∷ decimal why ∷ codes " " ∷ decimal offset ∷ [])
 reply_text Compressed = refused (codes "compressed" ∷ [])
 reply_text Secret = refused (codes "secret" ∷ [])
-reply_text (Kind kind place) = refused (codes "kind " ∷ decimal kind ∷ codes " " ∷ decimal place ∷ [])
-reply_text (Order place) = refused (codes "order " ∷ decimal place ∷ [])
+reply_text (Kind kind offset) = refused (codes "kind " ∷ decimal kind ∷ codes " " ∷ decimal offset ∷ [])
+reply_text (Order offset) = refused (codes "order " ∷ decimal offset ∷ [])
 reply_text Empty = refused (codes "empty" ∷ [])
 reply_text Clash = refused (codes "clash" ∷ [])
 reply_text Absent = refused (codes "absent" ∷ [])
 reply_text (Full limit) = refused (codes "full " ∷ limit_word limit ∷ [])
+
+-- ---- words
+
+-- The table of reasons has the number of its word.
+abbrev pub HasReason : ReasonLine → Type 0
+HasReason (Word number word) = IsWordOf reason_words word
+HasReason (Edge number issuer depth amount) = Unit {0}
+
+-- Each word of an explanation is in its table.
+abbrev pub HasWords : Reply → Type 0
+HasWords (Explained word count lines) = IsWordOf target_words word × AllByRecursion HasReason lines
+HasWords _ = Unit {0}
+
+-- ---- kinds of replies
 
 -- no element
 abbrev pub is_empty : {A : Type 0} → List A → Bool
@@ -60,6 +110,9 @@ is_empty (x ∷ xs) = false
 -- one line, and not that of `export`
 abbrev pub is_short : Reply → Bool
 is_short (Amount sum paths lines) = is_empty lines
+is_short (Reply.List count lines) = is_empty lines
+is_short (Explained word count lines) = is_empty lines
+is_short (Pending count lines) = is_empty lines
 is_short (Keys count lines) = is_empty lines
 is_short (Export octets) = false
 is_short (Dump count lines) = is_empty lines
@@ -70,6 +123,9 @@ abbrev pub is_refusal : Reply → Bool
 is_refusal (Taken taken skipped new) = false
 is_refusal Done = false
 is_refusal (Amount sum paths lines) = false
+is_refusal (Reply.List count lines) = false
+is_refusal (Explained word count lines) = false
+is_refusal (Pending count lines) = false
 is_refusal (Keys count lines) = false
 is_refusal (Export octets) = false
 is_refusal (Dump count lines) = false

@@ -8,11 +8,13 @@ use Rattle.wot_types.specs.SigNumber.{number_digits}
 use Rattle.wot_script.specs.Texts.{joined}
 use Rattle.wot_script.specs.Uid.{escaped}
 use Rattle.wot_script.specs.declared.command.Command.{Command}
-use Rattle.wot_script.specs.declared.command.Command.TheVariants.{Import, Remove, Good, Bad, Unjudge, Time, Root, Close, Ask, Keys, Export, Dump}
+use Rattle.wot_script.specs.declared.command.Command.TheVariants.{Import, Remove, Good, Bad, Unjudge, Time}
+use Rattle.wot_script.specs.declared.command.Command.TheVariants.{Root, Close, Ask, Explain, Pending, Keys, Export, Dump}
 
--- A question has a spelling where it wants at least 1; every other command has one.
+-- A question, and a list, have a spelling where they want at least 1; every other command has one.
 abbrev pub HasSpelling : Command → Type 0
 HasSpelling (Ask view fpr wanted uid) = 1 ≤ wanted
+HasSpelling (Command.List view wanted) = 1 ≤ wanted
 HasSpelling _ = Unit {0}
 
 -- The octets of an import are no more than half as many as the size of its line.
@@ -33,6 +35,10 @@ spelling (Root view fpr amount) =
 spelling (Close view) = joined (codes "view " ∷ view ∷ codes " close" ∷ [])
 spelling (Ask view fpr wanted uid) =
     joined (codes "ask " ∷ view ∷ codes " " ∷ digits_of fpr ∷ codes " " ∷ decimal wanted ∷ codes " " ∷ escaped uid ∷ [])
+spelling (Command.List view wanted) = joined (codes "list " ∷ view ∷ codes " " ∷ decimal wanted ∷ [])
+spelling (Explain view fpr uid) =
+    joined (codes "explain " ∷ view ∷ codes " " ∷ digits_of fpr ∷ codes " " ∷ escaped uid ∷ [])
+spelling Pending = codes "pending"
 spelling Keys = codes "keys"
 spelling (Export fpr) = joined (codes "export " ∷ digits_of fpr ∷ [])
 spelling Dump = codes "dump"
@@ -43,6 +49,7 @@ spelling Dump = codes "dump"
 abbrev pub most_octets : Command → ℕ
 most_octets (Import octets) = 7 + 2 * length octets
 most_octets (Ask view fpr wanted uid) = 128 + 4 * length uid
+most_octets (Explain view fpr uid) = 128 + 4 * length uid
 most_octets _ = 128
 
 -- It isn't empty and no comment.

@@ -7,6 +7,6 @@ joined [] = []
 joined (text ∷ texts) = text ++ joined texts
 
 -- a line of these texts, with its line feed
-abbrev pub line_of : List (List ℕ) → List ℕ
-line_of [] = 10 ∷ []
-line_of (text ∷ texts) = text ++ line_of texts
+abbrev pub joined_line : List (List ℕ) → List ℕ
+joined_line [] = 10 ∷ []
+joined_line (text ∷ texts) = text ++ joined_line texts

@@ -22,6 +22,12 @@ pub enum Command {
     Close(ViewName),
     /// `ask V FPR N UID`: the answer to wanted N, at least 1, for this binding.
     Ask(ViewName, Fpr, u32, UserId),
+    /// `list V N`: the bindings whose answer to wanted N, at least 1, reaches it.
+    List(ViewName, u32),
+    /// `explain V FPR UID`: why certifications on this binding count, or don't.
+    Explain(ViewName, Fpr, UserId),
+    /// `pending`: the signatures that have no verdict.
+    Pending,
     /// `keys`: the certificates.
     Keys,
     /// `export FPR`: one certificate as octets.

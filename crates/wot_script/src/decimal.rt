@@ -7,7 +7,8 @@ ghost use Rattle.wot_script.specs.Decimal.{decimal_up_to, positive_up_to};
 /// number ten times as large, unless it is 0, so the recursion ends early on a long text.
 fn read_digits(most: u32, value: u32, digits: &[u8]) -> Option<u32>
     requires { value ≤ most }
-    ensures read { result ≡ (if all_ascii_digits digits.now && nat_le (digits_value_after 10 value digits.now) most then Some (digits_value_after 10 value digits.now) else None) }
+    ensures read { result ≡ (if all_ascii_digits digits.now && nat_le (digits_value_after 10 value digits.now) most
+        then Some (digits_value_after 10 value digits.now) else None) }
     ensures small { IfSome result (λ number. number ≤ most) }
 {
     match digits {

@@ -2,17 +2,17 @@ ghost use Rattle.std.specs.Prelude.{◌≡◌, Some, None};
 ghost use Rattle.std.specs.Option.{option_map};
 ghost use Rattle.wot_script.specs.Fields.{behind, cut};
 
-/// What stands behind a front.
-pub fn after_front<'a>(front: &[u8], text: &'a [u8]) -> Option<&'a [u8]>
-    ensures { option_map (λ rest. rest.now) result ≡ behind front.now text.now }
+/// What stands behind a prefix.
+pub fn after_prefix<'a>(prefix: &[u8], text: &'a [u8]) -> Option<&'a [u8]>
+    ensures { option_map (λ rest. rest.now) result ≡ behind prefix.now text.now }
 {
-    match front {
+    match prefix {
         [] => Some(text),
-        [x, front @ ..] => match text {
+        [x, prefix @ ..] => match text {
             [] => None,
             [y, text @ ..] => {
                 if *x == *y {
-                    after_front(front, text)
+                    after_prefix(prefix, text)
                 } else {
                     None
                 }
@@ -32,11 +32,11 @@ pub struct Parts<'a> {
 pub fn cut_field(text: &[u8]) -> Option<Parts<'_>>
     ensures { option_map (λ parts. (parts.field.now, parts.rest.now)) result ≡ cut text.now }
 {
-    for (place, octet) in text.iter().enumerate() {
+    for (offset, octet) in text.iter().enumerate() {
         if *octet == b' ' {
             return Some(Parts {
-                field: &text[..place],
-                rest: &text[place + 1..],
+                field: &text[..offset],
+                rest: &text[offset + 1..],
             });
         }
     }

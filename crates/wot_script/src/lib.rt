@@ -5,7 +5,7 @@ mod command;
 mod decimal;
 mod fields;
 pub mod laws;
-mod lined;
+mod lines;
 mod lists;
 mod octets;
 mod piece;
@@ -16,14 +16,12 @@ mod spell;
 mod spelled;
 mod tell;
 mod uid;
+mod words;
 
 pub use command::Command;
-pub use lists::{AnswerLines, KeyLines};
+pub use lists::{AnswerLines, BindLines, KeyLines, Lines, PendingLines, ReasonLines};
 pub use octets::Octets;
 pub use read::{LineFault, read_line};
-pub use reply::{AnswerLine, KeyLine, Reply};
+pub use reply::{AnswerLine, BindLine, Hint, KeyLine, PendingLine, ReasonLine, Reply};
 pub use spell::print_command;
 pub use tell::print_reply;
-
-#[cfg(test)]
-mod tests;

@@ -1,120 +1,79 @@
 ghost use Rattle.std.specs.Prelude.{◌≡◌, [], ◌∷◌, ◌++◌, OnOk, OnErr};
 
-use crate::{AnswerLine, KeyLine};
+use crate::{AnswerLine, BindLine, KeyLine, PendingLine, ReasonLine};
 use std::alloc::Global;
 use std::marker::Model;
 use wot_types::Memory;
 
-/// The lines of an answer.
+/// Lines of one kind, in order.
 #[derive(Debug, Drop)]
-pub struct AnswerLines {
-    lines: Vec<AnswerLine>,
+pub struct Lines<T> {
+    lines: Vec<T>,
 }
 
-impl Model for AnswerLines {
-    ghost use Rattle.std.specs.Prelude.{List};
-    ghost use Rattle.wot_script.specs.declared.reply.AnswerLine.{AnswerLine};
+/// The lines of an answer.
+pub type AnswerLines = Lines<AnswerLine>;
 
-    ghost Value = { List AnswerLine };
+/// The lines of a listing of bindings.
+pub type BindLines = Lines<BindLine>;
 
-    ghost view = { λ a. a.lines.items };
-}
+/// The lines of reasons.
+pub type ReasonLines = Lines<ReasonLine>;
 
-impl AnswerLines {
-    /// No lines.
-    pub fn new(alloc: Global) -> AnswerLines
-        ensures none { result ≡ [] }
-    {
-        AnswerLines {
-            lines: Vec::new(alloc),
-        }
-    }
-
-    /// These lines, without a copy.
-    pub fn from_vec(lines: Vec<AnswerLine>) -> AnswerLines
-        ensures same { result ≡ lines.items }
-    {
-        AnswerLines { lines }
-    }
-
-    /// The lines, without a copy.
-    pub fn into_vec(self) -> Vec<AnswerLine>
-        ensures same { result.items ≡ self }
-    {
-        let AnswerLines { lines } = self;
-        lines
-    }
-
-    /// Appends one line. After `Memory` the list is as before.
-    pub fn push(&mut self, line: AnswerLine) -> Result<(), Memory>
-        ensures pushed { OnOk result (self.new ≡ self.old ++ line ∷ []) }
-        ensures kept { OnErr result (self.new ≡ self.old) }
-    {
-        self.lines.push(line)?;
-        Ok(())
-    }
-
-    /// The lines in order.
-    pub fn items(&self) -> &[AnswerLine]
-        ensures whole { result.now ≡ self.now }
-    {
-        self.lines.as_slice()
-    }
-}
+/// The lines of signatures that have no verdict.
+pub type PendingLines = Lines<PendingLine>;
 
 /// The lines of a list of certificates.
-#[derive(Debug, Drop)]
-pub struct KeyLines {
-    lines: Vec<KeyLine>,
-}
+pub type KeyLines = Lines<KeyLine>;
 
-impl Model for KeyLines {
+impl<T> Model for Lines<T> {
     ghost use Rattle.std.specs.Prelude.{List};
-    ghost use Rattle.wot_script.specs.declared.reply.KeyLine.{KeyLine};
 
-    ghost Value = { List KeyLine };
+    ghost Value = { List T };
 
     ghost view = { λ a. a.lines.items };
 }
 
-impl KeyLines {
+impl<T> Lines<T> {
     /// No lines.
-    pub fn new(alloc: Global) -> KeyLines
+    pub fn new(alloc: Global) -> Lines<T>
         ensures none { result ≡ [] }
     {
-        KeyLines {
+        Lines {
             lines: Vec::new(alloc),
         }
     }
 
     /// These lines, without a copy.
-    pub fn from_vec(lines: Vec<KeyLine>) -> KeyLines
+    pub fn from_vec(lines: Vec<T>) -> Lines<T>
         ensures same { result ≡ lines.items }
     {
-        KeyLines { lines }
+        Lines { lines }
     }
 
     /// The lines, without a copy.
-    pub fn into_vec(self) -> Vec<KeyLine>
+    pub fn into_vec(self) -> Vec<T>
         ensures same { result.items ≡ self }
     {
-        let KeyLines { lines } = self;
+        let Lines { lines } = self;
         lines
     }
 
+    /// The lines in order.
+    pub fn items(&self) -> &[T]
+        ensures whole { result.now ≡ self.now }
+    {
+        self.lines.as_slice()
+    }
+}
+
+impl<T: Drop> Lines<T> {
     /// Appends one line. After `Memory` the list is as before.
-    pub fn push(&mut self, line: KeyLine) -> Result<(), Memory>
+    pub fn push(&mut self, line: T) -> Result<(), Memory>
         ensures pushed { OnOk result (self.new ≡ self.old ++ line ∷ []) }
         ensures kept { OnErr result (self.new ≡ self.old) }
     {
         self.lines.push(line)?;
         Ok(())
-    }
-
-    /// The lines in order.
-    pub fn items(&self) -> &[KeyLine]
-        ensures whole { result.now ≡ self.now }
-    {
-        self.lines.as_slice()
     }
 }

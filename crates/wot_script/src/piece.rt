@@ -1,6 +1,7 @@
-ghost use Rattle.std.specs.Prelude.{◌≡◌, ◌<◌, ◌≤◌, ◌+◌, ◌++◌, ◌∷◌, [], OnOk, OnErr, length, vec_len, vec_capacity};
+ghost use Rattle.std.specs.Prelude.{◌≡◌, ◌∷◌, []};
 ghost use Rattle.std.specs.Fmt.{decimal};
 ghost use Rattle.hex.specs.Hex.{encode_lower};
+ghost use Rattle.wot_script.specs.Appends.{Appends};
 ghost use Rattle.wot_script.specs.Pieces.{piece_text, pieces_text};
 ghost use Rattle.wot_script.specs.Uid.{escape, escaped};
 
@@ -26,30 +27,21 @@ pub enum Piece<'a> {
 /// Appends octets. Like each call of this file it leaves `out` as before after `Memory`, which comes
 /// only where the capacity lacked, and the capacity never shrinks.
 fn put_text(text: &[u8], out: &mut Vec<u8>) -> Result<(), Memory>
-    ensures appended { OnOk result (out.new.items ≡ out.old.items ++ text.now) }
-    ensures kept { OnErr result (out.new.items ≡ out.old.items) }
-    ensures full { OnErr result (vec_capacity out.old < vec_len out.old + length text.now) }
-    ensures grows { vec_capacity out.old ≤ vec_capacity out.new }
+    ensures { Appends text.now out.old out.new result }
 {
     out.extend_from_slice(text)?;
     Ok(())
 }
 
 fn put_decimal(number: u64, out: &mut Vec<u8>) -> Result<(), Memory>
-    ensures appended { OnOk result (out.new.items ≡ out.old.items ++ decimal number) }
-    ensures kept { OnErr result (out.new.items ≡ out.old.items) }
-    ensures full { OnErr result (vec_capacity out.old < vec_len out.old + length (decimal number)) }
-    ensures grows { vec_capacity out.old ≤ vec_capacity out.new }
+    ensures { Appends (decimal number) out.old out.new result }
 {
     let mut buffer = itoa::Buffer::new();
     put_text(buffer.format(number).as_bytes(), out)
 }
 
 fn put_octet_digits(octet: u8, out: &mut Vec<u8>) -> Result<(), Memory>
-    ensures appended { OnOk result (out.new.items ≡ out.old.items ++ encode_lower (octet ∷ [])) }
-    ensures kept { OnErr result (out.new.items ≡ out.old.items) }
-    ensures full { OnErr result (vec_capacity out.old < vec_len out.old + length (encode_lower (octet ∷ []))) }
-    ensures grows { vec_capacity out.old ≤ vec_capacity out.new }
+    ensures { Appends (encode_lower (octet ∷ [])) out.old out.new result }
 {
     let mut digits = [0u8; 2];
     let _ = hex::encode_to_slice([octet].as_slice(), &mut digits);
@@ -57,10 +49,7 @@ fn put_octet_digits(octet: u8, out: &mut Vec<u8>) -> Result<(), Memory>
 }
 
 fn put_hex(octets: &[u8], out: &mut Vec<u8>) -> Result<(), Memory>
-    ensures appended { OnOk result (out.new.items ≡ out.old.items ++ encode_lower octets.now) }
-    ensures kept { OnErr result (out.new.items ≡ out.old.items) }
-    ensures full { OnErr result (vec_capacity out.old < vec_len out.old + length (encode_lower octets.now)) }
-    ensures grows { vec_capacity out.old ≤ vec_capacity out.new }
+    ensures { Appends (encode_lower octets.now) out.old out.new result }
 {
     let start = out.len();
     for octet in octets {
@@ -82,10 +71,7 @@ fn escape_of(octet: u8) -> [u8; 4]
 }
 
 fn put_escape(octet: u8, out: &mut Vec<u8>) -> Result<(), Memory>
-    ensures appended { OnOk result (out.new.items ≡ out.old.items ++ escape octet) }
-    ensures kept { OnErr result (out.new.items ≡ out.old.items) }
-    ensures full { OnErr result (vec_capacity out.old < vec_len out.old + length (escape octet)) }
-    ensures grows { vec_capacity out.old ≤ vec_capacity out.new }
+    ensures { Appends (escape octet) out.old out.new result }
 {
     if octet == b'\\' {
         return put_text(b"\\\\", out);
@@ -98,10 +84,7 @@ fn put_escape(octet: u8, out: &mut Vec<u8>) -> Result<(), Memory>
 
 #[tactic(auto, unfolding(crate::specs::Uid::escaped))]
 fn put_uid(octets: &[u8], out: &mut Vec<u8>) -> Result<(), Memory>
-    ensures appended { OnOk result (out.new.items ≡ out.old.items ++ escaped octets.now) }
-    ensures kept { OnErr result (out.new.items ≡ out.old.items) }
-    ensures full { OnErr result (vec_capacity out.old < vec_len out.old + length (escaped octets.now)) }
-    ensures grows { vec_capacity out.old ≤ vec_capacity out.new }
+    ensures { Appends (escaped octets.now) out.old out.new result }
 {
     let start = out.len();
     for octet in octets {
@@ -114,10 +97,7 @@ fn put_uid(octets: &[u8], out: &mut Vec<u8>) -> Result<(), Memory>
 }
 
 fn put_piece(piece: &Piece<'_>, out: &mut Vec<u8>) -> Result<(), Memory>
-    ensures appended { OnOk result (out.new.items ≡ out.old.items ++ piece_text piece.now) }
-    ensures kept { OnErr result (out.new.items ≡ out.old.items) }
-    ensures full { OnErr result (vec_capacity out.old < vec_len out.old + length (piece_text piece.now)) }
-    ensures grows { vec_capacity out.old ≤ vec_capacity out.new }
+    ensures { Appends (piece_text piece.now) out.old out.new result }
 {
     match piece {
         Piece::Text(text) => put_text(text, out),
@@ -131,10 +111,7 @@ fn put_piece(piece: &Piece<'_>, out: &mut Vec<u8>) -> Result<(), Memory>
 
 /// Appends pieces, one after another.
 pub fn put_pieces(pieces: &[Piece<'_>], out: &mut Vec<u8>) -> Result<(), Memory>
-    ensures appended { OnOk result (out.new.items ≡ out.old.items ++ pieces_text pieces.now) }
-    ensures kept { OnErr result (out.new.items ≡ out.old.items) }
-    ensures full { OnErr result (vec_capacity out.old < vec_len out.old + length (pieces_text pieces.now)) }
-    ensures grows { vec_capacity out.old ≤ vec_capacity out.new }
+    ensures { Appends (pieces_text pieces.now) out.old out.new result }
 {
     let start = out.len();
     for piece in pieces {

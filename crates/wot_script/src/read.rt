@@ -2,12 +2,13 @@ ghost use Rattle.std.specs.Prelude.{◌≡◌, ◌≤◌, length, Some, None, If
 ghost use Rattle.std.specs.Option.{option_map};
 ghost use Rattle.wot_types.specs.Fpr.{fpr_of_digits};
 ghost use Rattle.wot_script.specs.Fields.{octets_of_hex};
-ghost use Rattle.wot_script.specs.Decimal.{decimal_up_to};
-ghost use Rattle.wot_script.specs.Grammar.{ask_of, asked_of, command_of, drop_of, export_of, import_of, judgement_of, root_of, setting_of, single_of, verdict_of, view_of};
+ghost use Rattle.wot_script.specs.Decimal.{decimal_up_to, positive_up_to};
+ghost use Rattle.wot_script.specs.Grammar.{about_of, asked_of, command_of, drop_of, explained_of, export_of, import_of};
+ghost use Rattle.wot_script.specs.Grammar.{judgement_of, listed_of, root_of, setting_of, single_of, verdict_of, view_of};
 ghost use Rattle.wot_script.specs.Spelling.{HasSpelling, IsWithin};
 
 use crate::decimal::{read_decimal, read_positive};
-use crate::fields::{after_front, cut_field};
+use crate::fields::{after_prefix, cut_field};
 use crate::uid::read_uid;
 use crate::{Command, Octets};
 use hex::FromHexError;
@@ -70,7 +71,7 @@ fn read_good(number: SigNumber, digits: &[u8]) -> Option<Command>
 fn read_judgement(number: SigNumber, text: &[u8]) -> Option<Command>
     ensures { result ≡ judgement_of number text.now }
 {
-    if let Some(digits) = after_front(b"good ", text) {
+    if let Some(digits) = after_prefix(b"good ", text) {
         return read_good(number, digits);
     }
     if text == b"bad".as_slice() {
@@ -112,29 +113,16 @@ fn read_root(view: ViewName, text: &[u8]) -> Option<Command>
 fn read_setting(view: ViewName, text: &[u8]) -> Option<Command>
     ensures { result ≡ setting_of view text.now }
 {
-    if let Some(digits) = after_front(b"time ", text) {
+    if let Some(digits) = after_prefix(b"time ", text) {
         return read_time(view, digits);
     }
-    if let Some(rest) = after_front(b"root ", text) {
+    if let Some(rest) = after_prefix(b"root ", text) {
         return read_root(view, rest);
     }
     if text == b"close".as_slice() {
         return Some(Command::Close(view));
     }
     None
-}
-
-#[tactic(auto, unfolding(crate::specs::Grammar::view_of))]
-fn read_view(alloc: Global, text: &[u8]) -> Result<Option<Command>, Memory>
-    ensures { IfOk result (λ command. command ≡ view_of text.now) }
-{
-    let Some(first) = cut_field(text) else {
-        return Ok(None);
-    };
-    let Some(view) = ViewName::read(alloc, first.field)? else {
-        return Ok(None);
-    };
-    Ok(read_setting(view, first.rest))
 }
 
 #[tactic(auto, unfolding(crate::specs::Grammar::asked_of))]
@@ -159,9 +147,61 @@ fn read_asked(alloc: Global, view: ViewName, text: &[u8]) -> Result<Option<Comma
     Ok(Some(Command::Ask(view, fpr, wanted, uid)))
 }
 
-#[tactic(auto, unfolding(crate::specs::Grammar::ask_of))]
-fn read_ask(alloc: Global, text: &[u8]) -> Result<Option<Command>, Memory>
-    ensures { IfOk result (λ command. command ≡ ask_of text.now) }
+#[tactic(auto, unfolding(crate::specs::Grammar::listed_of))]
+fn read_listed(view: ViewName, digits: &[u8]) -> Option<Command>
+    ensures { result ≡ listed_of view digits.now }
+{
+    let wanted = read_positive(u32::MAX, digits)?;
+    Some(Command::List(view, wanted))
+}
+
+#[tactic(auto, unfolding(crate::specs::Grammar::explained_of))]
+fn read_explained(alloc: Global, view: ViewName, text: &[u8]) -> Result<Option<Command>, Memory>
+    ensures { IfOk result (λ command. command ≡ explained_of view text.now) }
+{
+    let Some(second) = cut_field(text) else {
+        return Ok(None);
+    };
+    let Some(fpr) = Fpr::read(second.field) else {
+        return Ok(None);
+    };
+    let Some(uid) = read_uid(alloc, second.rest)? else {
+        return Ok(None);
+    };
+    Ok(Some(Command::Explain(view, fpr, uid)))
+}
+
+/// What a line says of a view.
+#[derive(Clone, Copy)]
+pub enum About {
+    /// It sets it.
+    Setting,
+    /// It asks for an answer.
+    Asked,
+    /// It asks for a list.
+    Listed,
+    /// It asks for reasons.
+    Explained,
+}
+
+fn read_about(
+    alloc: Global,
+    about: About,
+    view: ViewName,
+    text: &[u8],
+) -> Result<Option<Command>, Memory>
+    ensures { IfOk result (λ command. command ≡ about_of about view text.now) }
+{
+    match about {
+        About::Setting => Ok(read_setting(view, text)),
+        About::Asked => read_asked(alloc, view, text),
+        About::Listed => Ok(read_listed(view, text)),
+        About::Explained => read_explained(alloc, view, text),
+    }
+}
+
+fn read_view(alloc: Global, about: About, text: &[u8]) -> Result<Option<Command>, Memory>
+    ensures { IfOk result (λ command. command ≡ view_of about text.now) }
 {
     let Some(first) = cut_field(text) else {
         return Ok(None);
@@ -169,13 +209,16 @@ fn read_ask(alloc: Global, text: &[u8]) -> Result<Option<Command>, Memory>
     let Some(view) = ViewName::read(alloc, first.field)? else {
         return Ok(None);
     };
-    read_asked(alloc, view, first.rest)
+    read_about(alloc, about, view, first.rest)
 }
 
 #[tactic(auto, unfolding(crate::specs::Grammar::single_of))]
 fn read_single(line: &[u8]) -> Option<Command>
     ensures { result ≡ single_of line.now }
 {
+    if line == b"pending".as_slice() {
+        return Some(Command::Pending);
+    }
     if line == b"keys".as_slice() {
         return Some(Command::Keys);
     }
@@ -189,22 +232,28 @@ fn read_single(line: &[u8]) -> Option<Command>
 fn read_command(alloc: Global, line: &[u8]) -> Result<Option<Command>, Memory>
     ensures { IfOk result (λ command. command ≡ command_of line.now) }
 {
-    if let Some(rest) = after_front(b"import ", line) {
+    if let Some(rest) = after_prefix(b"import ", line) {
         return read_import(alloc, rest);
     }
-    if let Some(rest) = after_front(b"drop ", line) {
+    if let Some(rest) = after_prefix(b"drop ", line) {
         return Ok(read_drop(rest));
     }
-    if let Some(rest) = after_front(b"verdict ", line) {
+    if let Some(rest) = after_prefix(b"verdict ", line) {
         return Ok(read_verdict(rest));
     }
-    if let Some(rest) = after_front(b"view ", line) {
-        return read_view(alloc, rest);
+    if let Some(rest) = after_prefix(b"view ", line) {
+        return read_view(alloc, About::Setting, rest);
     }
-    if let Some(rest) = after_front(b"ask ", line) {
-        return read_ask(alloc, rest);
+    if let Some(rest) = after_prefix(b"ask ", line) {
+        return read_view(alloc, About::Asked, rest);
     }
-    if let Some(rest) = after_front(b"export ", line) {
+    if let Some(rest) = after_prefix(b"list ", line) {
+        return read_view(alloc, About::Listed, rest);
+    }
+    if let Some(rest) = after_prefix(b"explain ", line) {
+        return read_view(alloc, About::Explained, rest);
+    }
+    if let Some(rest) = after_prefix(b"export ", line) {
         return Ok(read_export(rest));
     }
     Ok(read_single(line))

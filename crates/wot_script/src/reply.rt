@@ -1,5 +1,5 @@
-use crate::{AnswerLines, KeyLines, Octets};
-use wot_types::{Fpr, Limit, UserId};
+use crate::{AnswerLines, BindLines, KeyLines, Octets, PendingLines, ReasonLines};
+use wot_types::{Fpr, Limit, SigNumber, UserId};
 
 /// What is answered to a line.
 #[derive(Debug, Drop)]
@@ -10,6 +10,12 @@ pub enum Reply {
     Done,
     /// To `ask`: the sum of the amounts, the number of paths, and each path with its steps.
     Amount(u32, u64, AnswerLines),
+    /// To `list`: the number of bindings, and a line of each.
+    List(u64, BindLines),
+    /// To `explain`: the number of the target's word, the number of signatures, and a line of each.
+    Explained(u8, u64, ReasonLines),
+    /// To `pending`: the number of signatures, and a line of each.
+    Pending(u64, PendingLines),
     /// To `keys`: the number of certificates, and a line of each.
     Keys(u64, KeyLines),
     /// To `export`.
@@ -22,15 +28,15 @@ pub enum Reply {
     Line,
     /// The view isn't open.
     View,
-    /// The first packet fault: its number and its place.
+    /// The first packet fault: its number and its offset.
     Packet(u8, usize),
     /// A packet of compressed data.
     Compressed,
     /// A secret key.
     Secret,
-    /// A packet of another type: the type and its place.
+    /// A packet of another type: the type and its offset.
     Kind(u8, usize),
-    /// A packet that belongs to a certificate, before the first key: its place.
+    /// A packet that belongs to a certificate, before the first key: its offset.
     Order(usize),
     /// No key.
     Empty,
@@ -49,6 +55,34 @@ pub enum AnswerLine {
     Path(u8, u8, Fpr),
     /// An edge of the path: issuer, target, depth, amount, user ID.
     Step(Fpr, Fpr, u8, u8, UserId),
+}
+
+/// A binding: the sum of its answer, its key, its user ID.
+#[derive(Debug, Drop)]
+pub struct BindLine(pub u32, pub Fpr, pub UserId);
+
+/// Why a certification counts, or doesn't.
+#[derive(Clone, Copy, Debug, PartialEq, Eq)]
+pub enum ReasonLine {
+    /// Its number, and the number of the first word that applies.
+    Word(SigNumber, u8),
+    /// Its number, and the usable edge that it is: issuer, depth, amount.
+    Edge(SigNumber, Fpr, u8, u8),
+}
+
+/// A signature that has no verdict: its number, its certificate, and a hint of its issuer.
+#[derive(Clone, Copy, Debug, PartialEq, Eq)]
+pub struct PendingLine(pub SigNumber, pub Fpr, pub Hint);
+
+/// What a signature says of its issuer.
+#[derive(Clone, Copy, Debug, PartialEq, Eq)]
+pub enum Hint {
+    /// The fingerprint.
+    Full(Fpr),
+    /// The key ID.
+    Short([u8; 8]),
+    /// Neither.
+    Nothing,
 }
 
 /// A certificate: its fingerprint, the number of its user IDs, the number of its signatures.

@@ -1,13 +1,22 @@
 ghost use Rattle.std.specs.Prelude.{◌≡◌, ◌≤◌, length, true};
 ghost use Rattle.std.specs.Fmt.{decimal};
 ghost use Rattle.wot_script.specs.Replies.{is_short, reply_text};
+ghost use Rattle.wot_script.specs.Words.{target_words, word_at};
 
 use crate::Reply;
+use crate::words::target_word;
 
 /// A law: a number has at most 20 digits.
 fn decimals_fit(number: u64)
     ensures { length (decimal number) ≤ 20 }
 {}
+
+/// A law: a word of a target has at most 8 octets.
+fn words_fit(word: u8)
+    ensures { length (word_at target_words word) ≤ 8 }
+{
+    let _text = target_word(word);
+}
 
 /// A law: a reply of one line, other than that of `export`, has at most 128 octets.
 #[tactic(auto, unfolding(crate::specs::Replies::reply_text))]
@@ -24,12 +33,19 @@ pub fn short_replies_fit(reply: &Reply)
             decimals_fit(u64::from(*sum));
             decimals_fit(*paths);
         }
-        Reply::Keys(count, _) | Reply::Dump(count, _) => decimals_fit(*count),
-        Reply::Packet(number, place) | Reply::Kind(number, place) => {
-            decimals_fit(u64::from(*number));
-            decimals_fit(*place as u64);
+        Reply::Explained(word, count, _) => {
+            words_fit(*word);
+            decimals_fit(*count);
         }
-        Reply::Order(place) => decimals_fit(*place as u64),
+        Reply::List(count, _)
+        | Reply::Pending(count, _)
+        | Reply::Keys(count, _)
+        | Reply::Dump(count, _) => decimals_fit(*count),
+        Reply::Packet(number, offset) | Reply::Kind(number, offset) => {
+            decimals_fit(u64::from(*number));
+            decimals_fit(*offset as u64);
+        }
+        Reply::Order(offset) => decimals_fit(*offset as u64),
         _ => {}
     }
 }

@@ -1,9 +1,9 @@
 ghost use Rattle.std.specs.Prelude.{◌≡◌, ◌++◌, OnOk, OnErr};
+ghost use Rattle.wot_script.specs.Appends.{Appends};
 ghost use Rattle.wot_script.specs.Grammar.{command_of};
 ghost use Rattle.wot_script.specs.Spelling.{HasSpelling, IsLineFor, spelling};
 
 use crate::Command;
-use crate::lined::spelling_is_line;
 use crate::piece::Piece::{Decimal, Hex, Key, Signature, Text, Uid};
 use crate::piece::put_pieces;
 use crate::spelled::spelling_is_read;
@@ -11,8 +11,7 @@ use wot_types::{Fpr, Memory, UserId, ViewName};
 
 #[tactic(auto, unfolding(crate::specs::Spelling::spelling))]
 fn put_time(view: &ViewName, t: u32, out: &mut Vec<u8>) -> Result<(), Memory>
-    ensures appended { OnOk result (out.new.items ≡ out.old.items ++ spelling (Command.Time view.now t)) }
-    ensures kept { OnErr result (out.new.items ≡ out.old.items) }
+    ensures { Appends (spelling (Command.Time view.now t)) out.old out.new result }
 {
     let view = Text(view.octets());
     let t = Decimal(u64::from(t));
@@ -26,8 +25,7 @@ fn put_root<'a>(
     amount: u8,
     out: &mut Vec<u8>,
 ) -> Result<(), Memory>
-    ensures appended { OnOk result (out.new.items ≡ out.old.items ++ spelling (Command.Root view.now fpr.now amount)) }
-    ensures kept { OnErr result (out.new.items ≡ out.old.items) }
+    ensures { Appends (spelling (Command.Root view.now fpr.now amount)) out.old out.new result }
 {
     let view = Text(view.octets());
     let fpr = Key(fpr);
@@ -53,8 +51,7 @@ fn put_ask<'a>(
     uid: &'a UserId,
     out: &mut Vec<u8>,
 ) -> Result<(), Memory>
-    ensures appended { OnOk result (out.new.items ≡ out.old.items ++ spelling (Command.Ask view.now fpr.now wanted uid.now)) }
-    ensures kept { OnErr result (out.new.items ≡ out.old.items) }
+    ensures { Appends (spelling (Command.Ask view.now fpr.now wanted uid.now)) out.old out.new result }
 {
     let view = Text(view.octets());
     let fpr = Key(fpr);
@@ -76,9 +73,35 @@ fn put_ask<'a>(
 }
 
 #[tactic(auto, unfolding(crate::specs::Spelling::spelling))]
+fn put_list(view: &ViewName, wanted: u32, out: &mut Vec<u8>) -> Result<(), Memory>
+    ensures { Appends (spelling (Command.List view.now wanted)) out.old out.new result }
+{
+    let view = Text(view.octets());
+    let wanted = Decimal(u64::from(wanted));
+    put_pieces(&[Text(b"list "), view, Text(b" "), wanted], out)
+}
+
+#[tactic(auto, unfolding(crate::specs::Spelling::spelling))]
+fn put_explain<'a>(
+    view: &'a ViewName,
+    fpr: &'a Fpr,
+    uid: &'a UserId,
+    out: &mut Vec<u8>,
+) -> Result<(), Memory>
+    ensures { Appends (spelling (Command.Explain view.now fpr.now uid.now)) out.old out.new result }
+{
+    let view = Text(view.octets());
+    let fpr = Key(fpr);
+    let uid = Uid(uid.octets());
+    put_pieces(
+        &[Text(b"explain "), view, Text(b" "), fpr, Text(b" "), uid],
+        out,
+    )
+}
+
+#[tactic(auto, unfolding(crate::specs::Spelling::spelling))]
 fn put_command(command: &Command, out: &mut Vec<u8>) -> Result<(), Memory>
-    ensures appended { OnOk result (out.new.items ≡ out.old.items ++ spelling command.now) }
-    ensures kept { OnErr result (out.new.items ≡ out.old.items) }
+    ensures { Appends (spelling command.now) out.old out.new result }
 {
     match command {
         Command::Import(octets) => put_pieces(&[Text(b"import "), Hex(octets.items())], out),
@@ -99,6 +122,9 @@ fn put_command(command: &Command, out: &mut Vec<u8>) -> Result<(), Memory>
             put_pieces(&[Text(b"view "), Text(view.octets()), Text(b" close")], out)
         }
         Command::Ask(view, fpr, wanted, uid) => put_ask(view, fpr, *wanted, uid, out),
+        Command::List(view, wanted) => put_list(view, *wanted, out),
+        Command::Explain(view, fpr, uid) => put_explain(view, fpr, uid, out),
+        Command::Pending => put_pieces(&[Text(b"pending")], out),
         Command::Keys => put_pieces(&[Text(b"keys")], out),
         Command::Export(fpr) => put_pieces(&[Text(b"export "), Key(fpr)], out),
         Command::Dump => put_pieces(&[Text(b"dump")], out),
@@ -116,6 +142,5 @@ pub fn print_command(command: &Command, out: &mut Vec<u8>) -> Result<(), Memory>
     ensures line { IsLineFor command.now (spelling command.now) }
 {
     spelling_is_read(command);
-    spelling_is_line(command);
     put_command(command, out)
 }

@@ -4,7 +4,7 @@ ghost use Rattle.hex.specs.Hex.{encode_lower};
 ghost use Rattle.wot_script.specs.Decimal.{decimal_up_to, positive_up_to};
 ghost use Rattle.wot_script.specs.Fields.{octets_of_hex};
 ghost use Rattle.wot_script.specs.Grammar.{command_of};
-ghost use Rattle.wot_script.specs.Spelling.{HasSpelling, spelling};
+ghost use Rattle.wot_script.specs.Spelling.{HasSpelling, IsLineFor, spelling};
 ghost use Rattle.wot_script.specs.Uid.{escaped, unescaped};
 
 use crate::Command;
@@ -37,10 +37,12 @@ fn positive_is_read(most: u32, number: u32)
     ensures small { number < 2 ^ 64 }
 {}
 
-/// A law: the spelling of a command is read as that command.
+/// A law: the spelling of a command is read as that command, and is one line, which isn't passed over
+/// and is no longer than said.
 pub fn spelling_is_read(command: &Command)
     requires { HasSpelling command.now }
-    ensures { command_of (spelling command.now) ≡ Some command.now }
+    ensures read { command_of (spelling command.now) ≡ Some command.now }
+    ensures line { IsLineFor command.now (spelling command.now) }
 {
     match command {
         Command::Import(octets) => hex_is_read(octets.items()),
@@ -69,6 +71,16 @@ pub fn spelling_is_read(command: &Command)
             positive_is_read(u32::MAX, *wanted);
             uid_is_read(uid.octets());
         }
+        Command::List(view, wanted) => {
+            let _name = view.octets();
+            positive_is_read(u32::MAX, *wanted);
+        }
+        Command::Explain(view, fpr, uid) => {
+            let _name = view.octets();
+            fpr.printed_is_read();
+            uid_is_read(uid.octets());
+        }
+        Command::Pending => {}
         Command::Keys => {}
         Command::Export(fpr) => fpr.printed_is_read(),
         Command::Dump => {}

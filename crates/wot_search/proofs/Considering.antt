@@ -1,21 +1,22 @@
 -- One edge is considered.
-use Rattle.std.proofs.Common.{◌≡◌, ◌≢◌, ◌⊎◌, inl, inr, ℕ, suc, ◌+◌, ◌≤◌, min, Bool, true, false, cond, List, [], ◌∷◌, ◌++◌, length, map, Option, Some, None, refl, sym, ap, subst, ◌∙◌, arith, leb-true, le-leb, not}
-use Rattle.std.specs.Prelude.{◌&&◌, ◌||◌, nat_le, nat_eq, is_some}
-use Rattle.std.proofs.lemmas.Bool.{eqb-true, eq-eqb, not-true}
+use Rattle.std.proofs.Common.{◌≡◌, ◌≢◌, ◌⊎◌, inl, inr, ℕ, suc, ◌+◌, ◌<◌, ◌≤◌, min, Bool, true, false, cond, List, [], ◌∷◌, ◌++◌, length, map, Option, Some, None, refl, sym, ap, subst, ◌∙◌, arith, leb-true, le-leb, not}
+use Rattle.std.specs.Prelude.{◌&&◌, ◌||◌, nat_le, nat_lt, nat_eq, is_some}
+use Rattle.std.proofs.lemmas.Bool.{eqb-true, eq-eqb, lt-ltb, ltb-true, not-true}
 use Rattle.wot_types.specs.declared.fpr.Fpr.{Fpr}
 use Rattle.wot_edge.specs.declared.edge.EdgeFacts.{EdgeFacts}
 use Rattle.wot_edge.specs.declared.path.Step.{Step}
 use Rattle.wot_edge.specs.Order.{same_fpr}
 use Rattle.wot_edge.specs.Record.{Record, Row, Has, IsRecord, rows_into, edges_into, entry_at}
-use Rattle.wot_edge.specs.Path.{Question, Use, Reaches, start, step_of, step_left}
+use Rattle.wot_edge.specs.Path.{Question, Reaches, start, step_of, step_left}
 use Rattle.wot_search.specs.declared.node.Node.{Node}
 use Rattle.wot_search.specs.declared.node.Demand.{Demand}
 use Rattle.wot_search.specs.declared.node.Demand.TheVariants.{On, Before}
 use Rattle.wot_search.specs.declared.node.Goal.{Goal}
 use Rattle.wot_search.specs.declared.reached.Reached.{Reached}
+use Rattle.wot_search.specs.Quest.{Quest}
 use Rattle.wot_search.specs.Suffix.{Serves, Found, Kept, node_of, width}
 use Rattle.wot_search.specs.Layer.{AtMost, Covered, IsGrowing, is_kept}
-use Rattle.wot_search.specs.Demand.{is_place, is_met, demand_of, candidate_of}
+use Rattle.wot_search.specs.Demand.{is_place, is_met, is_enough, demand_of, candidate_of}
 use Rattle.wot_search.specs.Reached.{look}
 use Rattle.wot_search.specs.Growth.{if_kept, wanted_of, may_stand_of, IsPut, IsPutIf, IsRest, Advances, IsTaken, IsNoted, AreNoted}
 use Rattle.wot_search.proofs.Order.{same_fpr-true, same_fpr-refl, apart-false}
@@ -88,6 +89,13 @@ row_edge told fpr row h = by (rows_into told fpr) h
 
 -- ---- the candidate
 
+pub none_if : (a b : Bool) (x : Node) → b ≡ false → None ≡ cond (a && b) (Some x) None
+none_if true b x e = sym (ap (λ (t : Bool). cond t (Some x) None) e)
+none_if false b x e = refl
+
+pub some_if : (a b : Bool) (x y : Node) → a ≡ true → b ≡ true → x ≡ y → Some x ≡ cond (a && b) (Some y) None
+some_if a b x y e f same = ap Some same ∙ sym (ap (λ (t : Bool). cond t (Some y) None) (true-and a b e f))
+
 cond_some : (b : Bool) (x y : Node) → cond b (Some x) None ≡ Some y → (b ≡ true) × (x ≡ y)
 cond_some true x y e = (refl, cc)
 cond_some false x y e = absurd cc
@@ -105,80 +113,94 @@ if_kept_some goal found (Some x) node e =
 if_kept_none : (goal : Goal) (found : Found) (node : Node) → if_kept goal found (Some node) ≡ None → is_kept goal node (found node.step.issuer) ≡ false
 if_kept_none goal found node e = cond_none (is_kept goal node (found node.step.issuer)) node e
 
+-- what is wanted, by the candidate and whether it is kept
+pub wanted_none : (goal : Goal) (found : Found) (o : Option Node) → None ≡ o → None ≡ if_kept goal found o
+wanted_none goal found o e = ap (if_kept goal found) e
+
+pub wanted_kept : (goal : Goal) (found : Found) (o : Option Node) (node : Node) → Some node ≡ o → is_kept goal node (found node.step.issuer) ≡ true → Some node ≡ if_kept goal found o
+wanted_kept goal found o node e k = sym (ap (λ (b : Bool). cond b (Some node) None) k) ∙ ap (if_kept goal found) e
+
+pub wanted_unkept : (goal : Goal) (found : Found) (o : Option Node) (node : Node) → Some node ≡ o → is_kept goal node (found node.step.issuer) ≡ false → None ≡ if_kept goal found o
+wanted_unkept goal found o node e k = sym (ap (λ (b : Bool). cond b (Some node) None) k) ∙ ap (if_kept goal found) e
+
 unkept_found : (goal : Goal) (node : Node) (o : Option Node) → is_kept goal node o ≡ false → (old : Node) × (o ≡ Some old)
 unkept_found goal node None e = absurd cc
 unkept_found goal node (Some old) e = (old, refl)
 
-module _ (q : Question) (used : Use) (least : ℕ) (goal : Goal) (size wide : ℕ) (edge : EdgeFacts) where
+module _ (quest : Quest) (size wide : ℕ) (edge : EdgeFacts) where
   abbrev made : Node
-  made = record { step = step_of edge; size = size + 1; width = min (step_left used (step_of edge)) wide }
+  made = record { step = step_of edge; size = size + 1; width = min (step_left quest.used (step_of edge)) wide }
 
-  candidate_is : (row : Row) (rest : List Step) → length rest ≡ size → row.edge ≡ edge → Reaches q row rest → least ≤ step_left used (step_of edge) → candidate_of q.target used least (demand_of q size) size wide edge ≡ Some made
-  candidate_is row rest long e r le =
-      let m : is_met q.target (demand_of q size) edge ≡ true = subst (λ (n : ℕ). is_met q.target (demand_of q n) edge ≡ true) long (subst (λ (x : EdgeFacts). is_met q.target (demand_of q (length rest)) x ≡ true) e (reaches_met q row rest r)) in
-      ap (λ (b : Bool). cond b (Some made) None) (true-and (is_met q.target (demand_of q size) edge) (nat_le least (step_left used (step_of edge))) m (le-leb least (step_left used (step_of edge)) le))
+  enough : quest.least ≤ step_left quest.used (step_of edge) → size < quest.reach edge.issuer → is_enough quest size edge ≡ true
+  enough le far = true-and (nat_le quest.least (step_left quest.used (step_of edge))) (nat_lt size (quest.reach edge.issuer)) (le-leb quest.least (step_left quest.used (step_of edge)) le) (lt-ltb size (quest.reach edge.issuer) far)
 
-  candidate_met : (node : Node) → candidate_of q.target used least (demand_of q size) size wide edge ≡ Some node → (is_met q.target (demand_of q size) edge ≡ true) × (least ≤ step_left used (step_of edge)) × (made ≡ node)
+  candidate_is : (row : Row) (rest : List Step) → length rest ≡ size → row.edge ≡ edge → Reaches quest.question row rest → quest.least ≤ step_left quest.used (step_of edge) → length rest < quest.reach edge.issuer → candidate_of quest (demand_of quest.question size) size wide edge ≡ Some made
+  candidate_is row rest long e r le far =
+      let m : is_met quest.question.target (demand_of quest.question size) edge ≡ true = subst (λ (n : ℕ). is_met quest.question.target (demand_of quest.question n) edge ≡ true) long (subst (λ (x : EdgeFacts). is_met quest.question.target (demand_of quest.question (length rest)) x ≡ true) e (reaches_met quest.question row rest r)) in
+      ap (λ (b : Bool). cond b (Some made) None) (true-and (is_met quest.question.target (demand_of quest.question size) edge) (is_enough quest size edge) m (enough le (omega (arith, long, far))))
+
+  candidate_met : (node : Node) → candidate_of quest (demand_of quest.question size) size wide edge ≡ Some node → (is_met quest.question.target (demand_of quest.question size) edge ≡ true) × (quest.least ≤ step_left quest.used (step_of edge)) × (size < quest.reach edge.issuer) × (made ≡ node)
   candidate_met node e =
-      let s = cond_some (is_met q.target (demand_of q size) edge && nat_le least (step_left used (step_of edge))) made node e in
-      let a = and-true (is_met q.target (demand_of q size) edge) (nat_le least (step_left used (step_of edge))) s.0 in
-      (a.0, leb-true least (step_left used (step_of edge)) a.1, s.1)
+      let s = cond_some (is_met quest.question.target (demand_of quest.question size) edge && is_enough quest size edge) made node e in
+      let a = and-true (is_met quest.question.target (demand_of quest.question size) edge) (is_enough quest size edge) s.0 in
+      let b = and-true (nat_le quest.least (step_left quest.used (step_of edge))) (nat_lt size (quest.reach edge.issuer)) a.1 in
+      (a.0, leb-true quest.least (step_left quest.used (step_of edge)) b.0, ltb-true size (quest.reach edge.issuer) b.1, s.1)
 
-  made_is : (found : Found) (rest : List Step) → IsRest q used least found size edge.target wide rest → made ≡ node_of used (step_of edge) rest
+  made_is : (found : Found) (rest : List Step) → IsRest quest found size edge.target wide rest → made ≡ node_of quest.used (step_of edge) rest
   made_is found rest r =
       let l : size + 1 ≡ length (step_of edge ∷ rest) = (let m = r.long in omega (arith, m)) in
-      let w : min (step_left used (step_of edge)) wide ≡ width used (step_of edge ∷ rest) = ap (λ (n : ℕ). min (step_left used (step_of edge)) n) (sym r.width) in
+      let w : min (step_left quest.used (step_of edge)) wide ≡ width quest.used (step_of edge ∷ rest) = ap (λ (n : ℕ). min (step_left quest.used (step_of edge)) n) (sym r.width) in
       λ i. record { step = step_of edge; size = l i; width = w i }
 
   -- ---- nothing is wanted of it
 
-  pub taken_none : IsRecord q.told → (found : Found) (next : List Fpr) → wanted_of goal found q.target used least (demand_of q size) size wide edge ≡ None
-      → (rest : List Step) → IsRest q used least found size edge.target wide rest → IsGrowing q used least goal size found next → IsTaken q used least goal found edge rest
-  taken_none good found next w rest r growing row h e usable reaches le =
-      let c = candidate_is row rest r.long e reaches le in
-      let n : is_kept goal made (found edge.issuer) ≡ false = if_kept_none goal found made (subst (λ (o : Option Node). if_kept goal found o ≡ None) c w) in
-      let n' : is_kept goal (node_of used (step_of edge) rest) (found edge.issuer) ≡ false = subst (λ (x : Node). is_kept goal x (found edge.issuer) ≡ false) (made_is found rest r) n in
-      let serves : Serves q used least (step_of edge) rest = record { stands = record { row = row; into = h; usable = usable; shown = ap step_of e; reaches = reaches }; left = le } in
-      unkept_covered q used least good found (step_of edge) rest r.kept serves goal size next growing r.long n'
+  pub taken_none : IsRecord quest.question.told → (found : Found) (next : List Fpr) → wanted_of quest found (demand_of quest.question size) size wide edge ≡ None
+      → (rest : List Step) → IsRest quest found size edge.target wide rest → IsGrowing quest size found next → IsTaken quest found edge rest
+  taken_none good found next w rest r growing row h e usable reaches le far =
+      let c = candidate_is row rest r.long e reaches le far in
+      let n : is_kept quest.goal made (found edge.issuer) ≡ false = if_kept_none quest.goal found made (subst (λ (o : Option Node). if_kept quest.goal found o ≡ None) c w) in
+      let n' : is_kept quest.goal (node_of quest.used (step_of edge) rest) (found edge.issuer) ≡ false = subst (λ (x : Node). is_kept quest.goal x (found edge.issuer) ≡ false) (made_is found rest r) n in
+      let serves : Serves quest (step_of edge) rest = record { stands = record { row = row; into = h; usable = usable; shown = ap step_of e; reaches = reaches }; left = le; high = far } in
+      unkept_covered quest good found (step_of edge) rest r.kept serves size next growing r.long n'
 
-  pub noted_none : (found : Found) (set : List Fpr) → wanted_of goal found q.target used least (demand_of q size) size wide edge ≡ None
-      → (rest : List Step) → length rest ≡ size → AreNoted found set → IsNoted q used least set edge rest
-  noted_none found set w rest long noted row h e reaches le =
-      let c = candidate_is row rest long e reaches le in
-      let n : is_kept goal made (found edge.issuer) ≡ false = if_kept_none goal found made (subst (λ (o : Option Node). if_kept goal found o ≡ None) c w) in
-      let o = unkept_found goal made (found edge.issuer) n in
+  pub noted_none : (found : Found) (set : Fpr → Type 0) → wanted_of quest found (demand_of quest.question size) size wide edge ≡ None
+      → (rest : List Step) → length rest ≡ size → AreNoted found set → IsNoted quest set edge rest
+  noted_none found set w rest long noted row h e reaches le far =
+      let c = candidate_is row rest long e reaches le far in
+      let n : is_kept quest.goal made (found edge.issuer) ≡ false = if_kept_none quest.goal found made (subst (λ (o : Option Node). if_kept quest.goal found o ≡ None) c w) in
+      let o = unkept_found quest.goal made (found edge.issuer) n in
       noted edge.issuer o.0 o.1
 
   -- ---- it is wanted
 
-  pub wanted_issuer : (found : Found) (node : Node) → wanted_of goal found q.target used least (demand_of q size) size wide edge ≡ Some node → node.step.issuer ≡ edge.issuer
+  pub wanted_issuer : (found : Found) (node : Node) → wanted_of quest found (demand_of quest.question size) size wide edge ≡ Some node → node.step.issuer ≡ edge.issuer
   wanted_issuer found node w =
-      let k = if_kept_some goal found (candidate_of q.target used least (demand_of q size) size wide edge) node w in
-      ap (λ (n : Node). n.step.issuer) (sym (candidate_met node k.0).2)
+      let k = if_kept_some quest.goal found (candidate_of quest (demand_of quest.question size) size wide edge) node w in
+      ap (λ (n : Node). n.step.issuer) (sym (candidate_met node k.0).3)
 
-  module _ (good : IsRecord q.told) (old new : Reached) (node : Node) (w : wanted_of goal (look old.nodes) q.target used least (demand_of q size) size wide edge ≡ Some node) where
-    advances_unput : old ≡ new → IsGrowing q used least goal size (look old.nodes) old.layer.items → Advances q used least goal size old new
-    advances_unput e growing = subst (λ (r : Reached). Advances q used least goal size old r) e (record { growing = growing; onward = onward_refl q used least goal size (look old.nodes) })
+  module _ (good : IsRecord quest.question.told) (old new : Reached) (node : Node) (w : wanted_of quest (look old.nodes) (demand_of quest.question size) size wide edge ≡ Some node) where
+    advances_unput : old ≡ new → IsGrowing quest size (look old.nodes) old.layer.items → Advances quest size old new
+    advances_unput e growing = subst (λ (r : Reached). Advances quest size old r) e (record { growing = growing; onward = onward_refl quest size (look old.nodes) })
 
-    module _ (rest : List Step) (r : IsRest q used least (look old.nodes) size edge.target wide rest) (growing : IsGrowing q used least goal size (look old.nodes) old.layer.items) (row : Row) (h : Has (rows_into q.told edge.target) row) (e : row.edge ≡ edge) (stands : may_stand_of size row ≡ true) (put : IsPut old new node) where
-      abbrev parts : (candidate_of q.target used least (demand_of q size) size wide edge ≡ Some node) × (is_kept goal node (look old.nodes node.step.issuer) ≡ true)
-      parts = if_kept_some goal (look old.nodes) (candidate_of q.target used least (demand_of q size) size wide edge) node w
+    module _ (rest : List Step) (r : IsRest quest (look old.nodes) size edge.target wide rest) (growing : IsGrowing quest size (look old.nodes) old.layer.items) (row : Row) (h : Has (rows_into quest.question.told edge.target) row) (e : row.edge ≡ edge) (stands : may_stand_of size row ≡ true) (put : IsPut old new node) where
+      abbrev parts : (candidate_of quest (demand_of quest.question size) size wide edge ≡ Some node) × (is_kept quest.goal node (look old.nodes node.step.issuer) ≡ true)
+      parts = if_kept_some quest.goal (look old.nodes) (candidate_of quest (demand_of quest.question size) size wide edge) node w
 
-      is_node : node ≡ node_of used (step_of edge) rest
-      is_node = sym (candidate_met node parts.0).2 ∙ made_is (look old.nodes) rest r
+      is_node : node ≡ node_of quest.used (step_of edge) rest
+      is_node = sym (candidate_met node parts.0).3 ∙ made_is (look old.nodes) rest r
 
-      serves : Serves q used least (step_of edge) rest
+      serves : Serves quest (step_of edge) rest
       serves =
           let m = candidate_met node parts.0 in
           let a = and-true row.usable (nat_eq size 0 || row.scope) stands in
-          let met : is_met q.target (demand_of q (length rest)) row.edge ≡ true = subst (λ (n : ℕ). is_met q.target (demand_of q n) row.edge ≡ true) (sym r.long) (subst (λ (x : EdgeFacts). is_met q.target (demand_of q size) x ≡ true) (sym e) m.0) in
+          let met : is_met quest.question.target (demand_of quest.question (length rest)) row.edge ≡ true = subst (λ (n : ℕ). is_met quest.question.target (demand_of quest.question n) row.edge ≡ true) (sym r.long) (subst (λ (x : EdgeFacts). is_met quest.question.target (demand_of quest.question size) x ≡ true) (sym e) m.0) in
           let s : (nat_eq (length rest) 0 || row.scope) ≡ true = subst (λ (n : ℕ). (nat_eq n 0 || row.scope) ≡ true) (sym r.long) a.1 in
-          record { stands = record { row = row; into = subst (λ (f : Fpr). Has (rows_into q.told f) row) (sym r.there) h; usable = a.0; shown = ap step_of e; reaches = met_reaches q row rest met s }; left = m.1 }
+          record { stands = record { row = row; into = subst (λ (f : Fpr). Has (rows_into quest.question.told f) row) (sym r.there) h; usable = a.0; shown = ap step_of e; reaches = met_reaches quest.question row rest met s }; left = m.1; high = let far = m.2 in let l = r.long in omega (arith, far, l) }
 
-      keep : is_kept goal (node_of used (step_of edge) rest) (look old.nodes edge.issuer) ≡ true
-      keep = subst (λ (n : Node). is_kept goal n (look old.nodes n.step.issuer) ≡ true) is_node parts.1
+      keep : is_kept quest.goal (node_of quest.used (step_of edge) rest) (look old.nodes edge.issuer) ≡ true
+      keep = subst (λ (n : Node). is_kept quest.goal n (look old.nodes n.step.issuer) ≡ true) is_node parts.1
 
-      at : look new.nodes edge.issuer ≡ Some (node_of used (step_of edge) rest)
+      at : look new.nodes edge.issuer ≡ Some (node_of quest.used (step_of edge) rest)
       at =
           let f = put.nodes edge.issuer in
           let same : same_fpr node.step.issuer edge.issuer ≡ true = subst (λ (x : Node). same_fpr x.step.issuer edge.issuer ≡ true) (sym is_node) (same_fpr-refl edge.issuer) in
@@ -190,7 +212,7 @@ module _ (q : Question) (used : Use) (least : ℕ) (goal : Goal) (size wide : �
           put.nodes fpr ∙ ap (λ (b : Bool). cond b (Some node) (look old.nodes fpr)) apart
 
       free : (x : Node) → look old.nodes edge.issuer ≡ Some x → x.size ≡ suc size
-      free x f = let a = kept_free q used least good (look old.nodes) (step_of edge) rest r.kept serves goal keep x f in let l = r.long in omega (arith, a, l)
+      free x f = let a = kept_free quest good (look old.nodes) (step_of edge) rest r.kept serves keep x f in let l = r.long in omega (arith, a, l)
 
       layer_is : new.layer.items ≡ cond (is_some (look old.nodes edge.issuer)) old.layer.items (old.layer.items ++ edge.issuer ∷ [])
       layer_is = subst (λ (x : Node). new.layer.items ≡ cond (is_some (look old.nodes x.step.issuer)) old.layer.items (old.layer.items ++ x.step.issuer ∷ [])) is_node put.layer
@@ -225,52 +247,52 @@ module _ (q : Question) (used : Use) (least : ℕ) (goal : Goal) (size wide : �
       after_has (Some n) f =
           let en = growing.entries edge.issuer n f in
           let k = en.kept in
-          let eq : look old.nodes edge.issuer ≡ Some (node_of used n.step en.rest) = ap (look old.nodes) (sym en.there) ∙ k.0 in
-          let l = free (node_of used n.step en.rest) eq in
+          let eq : look old.nodes edge.issuer ≡ Some (node_of quest.used n.step en.rest) = ap (look old.nodes) (sym en.there) ∙ k.0 in
+          let l = free (node_of quest.used n.step en.rest) eq in
           subst (λ (z : Fpr). Has old.layer.items z) en.there (growing.layer.all (n.step ∷ en.rest) k l)
 
-      worse : (steps : List Step) → 1 ≤ length steps → Kept q used least (look old.nodes) steps → start q.target steps ≡ edge.issuer → AtMost used goal (step_of edge ∷ rest) steps
-      worse = kept_worse q used least good (look old.nodes) (step_of edge) rest r.kept serves goal keep
+      worse : (steps : List Step) → 1 ≤ length steps → Kept quest (look old.nodes) steps → start quest.question.target steps ≡ edge.issuer → AtMost quest.used quest.goal (step_of edge ∷ rest) steps
+      worse = kept_worse quest good (look old.nodes) (step_of edge) rest r.kept serves keep
 
-      pub advances_put : Advances q used least goal size old new
+      pub advances_put : Advances quest size old new
       advances_put = record {
-        growing = put_growing q used least goal size (look old.nodes) (look new.nodes) old.layer.items new.layer.items (step_of edge) rest growing r.kept r.long serves free worse at others
+        growing = put_growing quest size (look old.nodes) (look new.nodes) old.layer.items new.layer.items (step_of edge) rest growing r.kept r.long serves free worse at others
             (λ x k. subst (λ (xs : List Fpr). Has xs x) (sym layer_is) (after_grows (look old.nodes edge.issuer) x k))
             (subst (λ (xs : List Fpr). Has xs edge.issuer) (sym layer_is) (after_has (look old.nodes edge.issuer) refl))
             (λ x k. after_only (look old.nodes edge.issuer) x (subst (λ (xs : List Fpr). Has xs x) layer_is k));
-        onward = put_onward q used least goal size (look old.nodes) (look new.nodes) old.layer.items new.layer.items (step_of edge) rest growing r.kept r.long serves free worse at others;
+        onward = put_onward quest size (look old.nodes) (look new.nodes) old.layer.items new.layer.items (step_of edge) rest growing r.kept r.long serves free worse at others;
       }
 
-      pub covered_put : Covered q used least goal (look new.nodes) (step_of edge ∷ rest)
-      covered_put = put_covered q used least goal size (look old.nodes) (look new.nodes) old.layer.items new.layer.items (step_of edge) rest growing r.kept r.long serves free worse at others
+      pub covered_put : Covered quest (look new.nodes) (step_of edge ∷ rest)
+      covered_put = put_covered quest size (look old.nodes) (look new.nodes) old.layer.items new.layer.items (step_of edge) rest growing r.kept r.long serves free worse at others
 
     -- what may have been put
-    pub advances_if : ((row : Row) → Has (rows_into q.told edge.target) row → row.edge ≡ edge → IsPutIf (may_stand_of size row) old new node) → Has (edges_into q.told edge.target) edge
-        → (rest : List Step) → IsRest q used least (look old.nodes) size edge.target wide rest → IsGrowing q used least goal size (look old.nodes) old.layer.items → Advances q used least goal size old new
+    pub advances_if : ((row : Row) → Has (rows_into quest.question.told edge.target) row → row.edge ≡ edge → IsPutIf (may_stand_of size row) old new node) → Has (edges_into quest.question.told edge.target) edge
+        → (rest : List Step) → IsRest quest (look old.nodes) size edge.target wide rest → IsGrowing quest size (look old.nodes) old.layer.items → Advances quest size old new
     advances_if if has rest r growing =
-        let t = row_there q.told edge.target edge has in
+        let t = row_there quest.question.told edge.target edge has in
         by t.0 t.1 t.2 (may_stand_of size t.0) refl (if t.0 t.1 t.2)
       where
-        by : (row : Row) → Has (rows_into q.told edge.target) row → row.edge ≡ edge → (b : Bool) → may_stand_of size row ≡ b → IsPutIf (may_stand_of size row) old new node → Advances q used least goal size old new
+        by : (row : Row) → Has (rows_into quest.question.told edge.target) row → row.edge ≡ edge → (b : Bool) → may_stand_of size row ≡ b → IsPutIf (may_stand_of size row) old new node → Advances quest size old new
         by row h e true s p = advances_put rest r growing row h e s (subst (λ (b : Bool). IsPutIf b old new node) s p)
         by row h e false s p = advances_unput (subst (λ (b : Bool). IsPutIf b old new node) s p) growing
 
-    pub taken_if : ((row : Row) → Has (rows_into q.told edge.target) row → row.edge ≡ edge → IsPutIf (may_stand_of size row) old new node)
-        → (rest : List Step) → IsRest q used least (look old.nodes) size edge.target wide rest → IsGrowing q used least goal size (look old.nodes) old.layer.items → IsTaken q used least goal (look new.nodes) edge rest
-    taken_if if rest r growing row h e usable reaches le =
-        let h' = subst (λ (f : Fpr). Has (rows_into q.told f) row) r.there h in
-        let s : may_stand_of size row ≡ true = true-and row.usable (nat_eq size 0 || row.scope) usable (subst (λ (n : ℕ). (nat_eq n 0 || row.scope) ≡ true) r.long (scope_stands q row rest reaches)) in
+    pub taken_if : ((row : Row) → Has (rows_into quest.question.told edge.target) row → row.edge ≡ edge → IsPutIf (may_stand_of size row) old new node)
+        → (rest : List Step) → IsRest quest (look old.nodes) size edge.target wide rest → IsGrowing quest size (look old.nodes) old.layer.items → IsTaken quest (look new.nodes) edge rest
+    taken_if if rest r growing row h e usable reaches le far =
+        let h' = subst (λ (f : Fpr). Has (rows_into quest.question.told f) row) r.there h in
+        let s : may_stand_of size row ≡ true = true-and row.usable (nat_eq size 0 || row.scope) usable (subst (λ (n : ℕ). (nat_eq n 0 || row.scope) ≡ true) r.long (scope_stands quest.question row rest reaches)) in
         covered_put rest r growing row h' e s (subst (λ (b : Bool). IsPutIf b old new node) s (if row h' e))
 
     -- what was found is noted
-    pub noted_if : ((row : Row) → Has (rows_into q.told edge.target) row → row.edge ≡ edge → IsPutIf (may_stand_of size row) old new node) → Has (edges_into q.told edge.target) edge
-        → (set : List Fpr) → AreNoted (look old.nodes) set → Has set edge.issuer → AreNoted (look new.nodes) set
+    pub noted_if : ((row : Row) → Has (rows_into quest.question.told edge.target) row → row.edge ≡ edge → IsPutIf (may_stand_of size row) old new node) → Has (edges_into quest.question.told edge.target) edge
+        → (set : Fpr → Type 0) → AreNoted (look old.nodes) set → set edge.issuer → AreNoted (look new.nodes) set
     noted_if if has set noted it =
-        let t = row_there q.told edge.target edge has in
+        let t = row_there quest.question.told edge.target edge has in
         by t.0 (may_stand_of size t.0) (if t.0 t.1 t.2)
       where
-        at : (put : IsPut old new node) (fpr : Fpr) (x : Node) → look new.nodes fpr ≡ Some x → (b : Bool) → same_fpr node.step.issuer fpr ≡ b → Has set fpr
-        at put fpr x f true s = subst (Has set) (sym (wanted_issuer (look old.nodes) node w) ∙ same_fpr-true node.step.issuer fpr s) it
+        at : (put : IsPut old new node) (fpr : Fpr) (x : Node) → look new.nodes fpr ≡ Some x → (b : Bool) → same_fpr node.step.issuer fpr ≡ b → set fpr
+        at put fpr x f true s = subst set (sym (wanted_issuer (look old.nodes) node w) ∙ same_fpr-true node.step.issuer fpr s) it
         at put fpr x f false s = noted fpr x (sym (put.nodes fpr ∙ ap (λ (b : Bool). cond b (Some node) (look old.nodes fpr)) s) ∙ f)
 
         by : (row : Row) (b : Bool) → IsPutIf b old new node → AreNoted (look new.nodes) set

@@ -4,6 +4,7 @@ pub mod Suffixes
 pub mod Keeping
 pub mod Choosing
 pub mod Layers
+pub mod Within
 pub mod Rooted
 pub mod Picking
 pub mod Local
@@ -15,3 +16,4 @@ pub mod Nexting
 pub mod Members
 pub mod Taking
 pub mod Collecting
+pub mod Enough

@@ -3,9 +3,9 @@ use Rattle.std.proofs.Common.{◌≡◌, ℕ, ◌+◌, ◌<◌, ◌≤◌, Bool,
 use Rattle.std.specs.Prelude.{nat_le}
 use Rattle.std.proofs.lemmas.List.{drop_more}
 use Rattle.wot_types.specs.declared.fpr.Fpr.{Fpr}
-use Rattle.wot_edge.specs.Path.{Question, Use, root_left}
+use Rattle.wot_edge.specs.Path.{root_left}
 use Rattle.wot_search.specs.declared.node.Choice.{Choice}
-use Rattle.wot_search.specs.declared.node.Goal.{Goal}
+use Rattle.wot_search.specs.Quest.{Quest}
 use Rattle.wot_search.specs.Suffix.{Found}
 use Rattle.wot_search.specs.Choice.{choice_at, ahead_of, taken, chosen}
 
@@ -16,17 +16,17 @@ leb_gt a b lt = by (nat_le a b) refl
     by true e = absurd (let f = leb-true a b e in omega (arith, f, lt))
     by false e = refl
 
-module _ (q : Question) (used : Use) (least : ℕ) (goal : Goal) (found : Found) where
-  pub taken_not : (best : Option Choice) (fpr : Fpr) (left : ℕ) → left ≡ root_left q used fpr → left < least → best ≡ taken q used least goal found best fpr
-  taken_not best fpr left e lt = sym (ap (λ (b : Bool). cond b (Some (ahead_of goal (choice_at q used found fpr) best)) best) (leb_gt least (root_left q used fpr) (omega (arith, e, lt))))
+module _ (quest : Quest) (found : Found) where
+  pub taken_not : (best : Option Choice) (fpr : Fpr) (left : ℕ) → left ≡ root_left quest.question quest.used fpr → left < quest.least → best ≡ taken quest found best fpr
+  taken_not best fpr left e lt = sym (ap (λ (b : Bool). cond b (Some (ahead_of quest.goal (choice_at quest found fpr) best)) best) (leb_gt quest.least (root_left quest.question quest.used fpr) (omega (arith, e, lt))))
 
-  pub taken_is : (best : Option Choice) (fpr : Fpr) (left : ℕ) (choice : Choice) → left ≡ root_left q used fpr → least ≤ left → choice ≡ choice_at q used found fpr → Some (ahead_of goal choice best) ≡ taken q used least goal found best fpr
+  pub taken_is : (best : Option Choice) (fpr : Fpr) (left : ℕ) (choice : Choice) → left ≡ root_left quest.question quest.used fpr → quest.least ≤ left → choice ≡ choice_at quest found fpr → Some (ahead_of quest.goal choice best) ≡ taken quest found best fpr
   taken_is best fpr left choice e le f =
-      ap (λ (c : Choice). Some (ahead_of goal c best)) f
-      ∙ sym (ap (λ (b : Bool). cond b (Some (ahead_of goal (choice_at q used found fpr) best)) best) (le-leb least (root_left q used fpr) (omega (arith, e, le))))
+      ap (λ (c : Choice). Some (ahead_of quest.goal c best)) f
+      ∙ sym (ap (λ (b : Bool). cond b (Some (ahead_of quest.goal (choice_at quest found fpr) best)) best) (le-leb quest.least (root_left quest.question quest.used fpr) (omega (arith, e, le))))
 
-  pub chosen_more : (best best' : Option Choice) (layer : List Fpr) (i : ℕ) (d : Fpr) → i < length layer → best' ≡ taken q used least goal found best (get_or layer i d)
-      → chosen q used least goal found best' (drop (i + 1) layer) ≡ chosen q used least goal found best (drop i layer)
+  pub chosen_more : (best best' : Option Choice) (layer : List Fpr) (i : ℕ) (d : Fpr) → i < length layer → best' ≡ taken quest found best (get_or layer i d)
+      → chosen quest found best' (drop (i + 1) layer) ≡ chosen quest found best (drop i layer)
   chosen_more best best' layer i d lt e =
-      ap (λ (b : Option Choice). chosen q used least goal found b (drop (i + 1) layer)) e
-      ∙ sym (ap (chosen q used least goal found best) (drop_more layer i d lt))
+      ap (λ (b : Option Choice). chosen quest found b (drop (i + 1) layer)) e
+      ∙ sym (ap (chosen quest found best) (drop_more layer i d lt))

@@ -3,11 +3,12 @@ use Rattle.std.specs.Prelude.{ℕ, nat_lt, nat_le, min, Bool, List, [], ◌∷�
 use Rattle.std.specs.Ordering.{is_lt}
 use Rattle.wot_types.specs.declared.fpr.Fpr.{Fpr}
 use Rattle.wot_types.specs.Fpr.{fpr_cmp}
-use Rattle.wot_edge.specs.Path.{Question, Use, root_left}
+use Rattle.wot_edge.specs.Path.{root_left}
 use Rattle.wot_search.specs.declared.node.Node.{Node}
 use Rattle.wot_search.specs.declared.node.Choice.{Choice}
 use Rattle.wot_search.specs.declared.node.Goal.{Goal}
 use Rattle.wot_search.specs.declared.node.Goal.TheVariants.{Widest, Least}
+use Rattle.wot_search.specs.Quest.{Quest}
 use Rattle.wot_search.specs.Suffix.{Found}
 
 abbrev pub node_width : Option Node → ℕ
@@ -15,8 +16,8 @@ node_width None = 0
 node_width (Some node) = node.width
 
 -- what a path from here has: the least of what is left of the root and of the edges
-abbrev pub choice_at : Question → Use → Found → Fpr → Choice
-choice_at q used found fpr = record { fpr = fpr; width = min (root_left q used fpr) (node_width (found fpr)) }
+abbrev pub choice_at : Quest → Found → Fpr → Choice
+choice_at quest found fpr = record { fpr = fpr; width = min (root_left quest.question quest.used fpr) (node_width (found fpr)) }
 
 abbrev pub is_ahead : Goal → Choice → Choice → Bool
 is_ahead Widest a b = nat_lt b.width a.width
@@ -27,9 +28,10 @@ ahead_of goal a None = a
 ahead_of goal a (Some b) = cond (is_ahead goal a b) a b
 
 -- the choice so far, and one more fingerprint
-abbrev pub taken : Question → Use → ℕ → Goal → Found → Option Choice → Fpr → Option Choice
-taken q used least goal found best fpr = cond (nat_le least (root_left q used fpr)) (Some (ahead_of goal (choice_at q used found fpr) best)) best
+abbrev pub taken : Quest → Found → Option Choice → Fpr → Option Choice
+taken quest found best fpr =
+    cond (nat_le quest.least (root_left quest.question quest.used fpr)) (Some (ahead_of quest.goal (choice_at quest found fpr) best)) best
 
-abbrev pub chosen : Question → Use → ℕ → Goal → Found → Option Choice → List Fpr → Option Choice
-chosen q used least goal found best [] = best
-chosen q used least goal found best (fpr ∷ layer) = chosen q used least goal found (taken q used least goal found best fpr) layer
+abbrev pub chosen : Quest → Found → Option Choice → List Fpr → Option Choice
+chosen quest found best [] = best
+chosen quest found best (fpr ∷ layer) = chosen quest found (taken quest found best fpr) layer

@@ -1,13 +1,14 @@
 -- What is demanded of an edge, but for its being usable and its scope.
-use Rattle.std.specs.Prelude.{ℕ, ◌+◌, nat_le, nat_eq, ◌&&◌, not, min, Bool, false, Option, Some, None, cond}
+use Rattle.std.specs.Prelude.{ℕ, ◌+◌, nat_le, nat_lt, nat_eq, ◌&&◌, not, min, Bool, false, Option, Some, None, cond}
 use Rattle.wot_types.specs.declared.fpr.Fpr.{Fpr}
 use Rattle.wot_edge.specs.declared.edge.EdgeFacts.{EdgeFacts}
 use Rattle.wot_edge.specs.Order.{same_fpr}
 use Rattle.wot_edge.specs.Record.{entry_at}
-use Rattle.wot_edge.specs.Path.{Question, Use, step_of, step_left}
+use Rattle.wot_edge.specs.Path.{Question, step_of, step_left}
 use Rattle.wot_search.specs.declared.node.Node.{Node}
 use Rattle.wot_search.specs.declared.node.Demand.{Demand}
 use Rattle.wot_search.specs.declared.node.Demand.TheVariants.{On, Before}
+use Rattle.wot_search.specs.Quest.{Quest}
 
 abbrev pub is_place : Option ℕ → ℕ → Bool
 is_place None uid = false
@@ -21,7 +22,12 @@ is_met target (Before size) edge = nat_le size edge.depth && not (same_fpr edge.
 abbrev pub demand_of : Question → ℕ → Demand
 demand_of q size = cond (nat_eq size 0) (On (entry_at q.told q.target).place) (Before size)
 
-abbrev pub candidate_of : Fpr → Use → ℕ → Demand → ℕ → ℕ → EdgeFacts → Option Node
-candidate_of target used least demand size width edge =
-    cond (is_met target demand edge && nat_le least (step_left used (step_of edge)))
-    (Some (record { step = step_of edge; size = size + 1; width = min (step_left used (step_of edge)) width })) None
+-- whether so much is left of an edge before so many others, and its issuer reaches so far
+abbrev pub is_enough : Quest → ℕ → EdgeFacts → Bool
+is_enough quest size edge = nat_le quest.least (step_left quest.used (step_of edge)) && nat_lt size (quest.reach edge.issuer)
+
+-- what would be kept of an edge before a suffix of so many edges, and of so much
+abbrev pub candidate_of : Quest → Demand → ℕ → ℕ → EdgeFacts → Option Node
+candidate_of quest demand size width edge =
+    cond (is_met quest.question.target demand edge && is_enough quest size edge)
+    (Some (record { step = step_of edge; size = size + 1; width = min (step_left quest.used (step_of edge)) width })) None

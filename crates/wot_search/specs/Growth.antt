@@ -1,21 +1,24 @@
 -- How a layer grows, edge by edge.
-use Rattle.std.specs.Prelude.{◌≡◌, ℕ, ◌≤◌, nat_eq, ◌&&◌, ◌||◌, ◌++◌, suc, Bool, true, false, is_some, List, [], ◌∷◌, length, Option, Some, None, cond}
+use Rattle.std.specs.Prelude.{◌≡◌, ℕ, ◌<◌, ◌≤◌, nat_eq, ◌&&◌, ◌||◌, ◌++◌, suc, Bool, true}
+use Rattle.std.specs.Prelude.{false, is_some, List, [], ◌∷◌, length, Option, Some, None, cond, if◌then◌else◌}
 use Rattle.wot_types.specs.declared.fpr.Fpr.{Fpr}
 use Rattle.wot_edge.specs.declared.edge.EdgeFacts.{EdgeFacts}
 use Rattle.wot_edge.specs.declared.path.Path.{Path}
 use Rattle.wot_edge.specs.declared.path.Step.{Step}
 use Rattle.wot_edge.specs.Order.{same_fpr}
-use Rattle.wot_edge.specs.Record.{Row, Has, rows_into}
-use Rattle.wot_edge.specs.Path.{Question, Use, Reaches, start, step_of, step_left, root_left, path_amount}
+use Rattle.wot_edge.specs.Leads.{Leads}
+use Rattle.wot_edge.specs.Record.{Record, Row, Has, IsRecord, rows_into}
+use Rattle.wot_edge.specs.Path.{Reaches, start, step_of, step_left, root_left, path_amount}
 use Rattle.wot_search.specs.declared.node.Node.{Node}
 use Rattle.wot_search.specs.declared.node.Demand.{Demand}
 use Rattle.wot_search.specs.declared.node.Goal.{Goal}
 use Rattle.wot_search.specs.declared.reached.Reached.{Reached}
+use Rattle.wot_search.specs.Quest.{Quest}
 use Rattle.wot_search.specs.Suffix.{Serves, Found, Kept, width}
 use Rattle.wot_search.specs.Layer.{Covered, IsEntry, IsLayer, IsComplete, IsGrowing, Onward, is_kept}
 use Rattle.wot_search.specs.Choice.{node_width}
 use Rattle.wot_search.specs.Demand.{candidate_of}
-use Rattle.wot_search.specs.Looked.{IsLooked}
+use Rattle.wot_search.specs.Looked.{Gains, IsLooked, IsSeen}
 use Rattle.wot_search.specs.Reached.{look}
 use Rattle.wot_search.specs.Rooted.{Rooted, IsFirst}
 
@@ -26,45 +29,86 @@ abbrev pub if_kept : Goal → Found → Option Node → Option Node
 if_kept goal found None = None
 if_kept goal found (Some node) = cond (is_kept goal node (found node.step.issuer)) (Some node) None
 
-abbrev pub wanted_of : Goal → Found → Fpr → Use → ℕ → Demand → ℕ → ℕ → EdgeFacts → Option Node
-wanted_of goal found target used least demand size width edge = if_kept goal found (candidate_of target used least demand size width edge)
+abbrev pub wanted_of : Quest → Found → Demand → ℕ → ℕ → EdgeFacts → Option Node
+wanted_of quest found demand size width edge = if_kept quest.goal found (candidate_of quest demand size width edge)
 
 -- whether a row may stand before so many edges, if it meets the demand
 abbrev pub may_stand_of : ℕ → Row → Bool
 may_stand_of size row = row.usable && (nat_eq size 0 || row.scope)
 
 -- a node is put for its issuer, and a new issuer is of the last layer
+abbrev pub PutsNode : Reached → Reached → Node → Type 0
+PutsNode old new node = (fpr : Fpr) → look new.nodes fpr ≡ (if same_fpr node.step.issuer fpr then Some node else look old.nodes fpr)
+
+abbrev pub PutsIssuer : Reached → Reached → Fpr → Type 0
+PutsIssuer old new fpr =
+    new.layer.items ≡ (if is_some (look old.nodes fpr) then old.layer.items else old.layer.items ++ fpr ∷ [])
+
 pub record IsPut (old new : Reached) (node : Node) : Type 0 where
-  pub nodes : (fpr : Fpr) → look new.nodes fpr ≡ cond (same_fpr node.step.issuer fpr) (Some node) (look old.nodes fpr)
-  pub layer : new.layer.items ≡ cond (is_some (look old.nodes node.step.issuer)) old.layer.items (old.layer.items ++ node.step.issuer ∷ [])
+  pub nodes : PutsNode old new node
+  pub layer : PutsIssuer old new node.step.issuer
 
 abbrev pub IsPutIf : Bool → Reached → Reached → Node → Type 0
 IsPutIf true old new node = IsPut old new node
 IsPutIf false old new node = old ≡ new
 
 -- a suffix of so many edges and so much that was found, and begins there
-pub record IsRest (q : Question) (used : Use) (least : ℕ) (found : Found) (size : ℕ) (at : Fpr) (wide : ℕ) (rest : List Step) : Type 0 where
-  pub kept : Kept q used least found rest
+pub record IsRest (quest : Quest) (found : Found) (size : ℕ) (at : Fpr) (wide : ℕ) (rest : List Step) : Type 0 where
+  pub kept : Kept quest found rest
   pub long : length rest ≡ size
-  pub there : start q.target rest ≡ at
-  pub width : width used rest ≡ wide
+  pub there : start quest.question.target rest ≡ at
+  pub width : width quest.used rest ≡ wide
 
 -- the layer grew
-pub record Advances (q : Question) (used : Use) (least : ℕ) (goal : Goal) (size : ℕ) (old new : Reached) : Type 0 where
-  pub growing : IsGrowing q used least goal size (look new.nodes) new.layer.items
-  pub onward : Onward q used least goal size (look old.nodes) (look new.nodes)
+pub record Advances (quest : Quest) (size : ℕ) (old new : Reached) : Type 0 where
+  pub growing : IsGrowing quest size (look new.nodes) new.layer.items
+  pub onward : Onward quest size (look old.nodes) (look new.nodes)
 
 -- if this edge may stand before the rest, it is covered there
-abbrev pub IsTaken : Question → Use → ℕ → Goal → Found → EdgeFacts → List Step → Type 0
-IsTaken q used least goal found edge rest = (row : Row) → Has (rows_into q.told (start q.target rest)) row → row.edge ≡ edge → row.usable ≡ true → Reaches q row rest → least ≤ step_left used (step_of edge) → Covered q used least goal found (step_of edge ∷ rest)
+abbrev pub IsTaken : Quest → Found → EdgeFacts → List Step → Type 0
+IsTaken quest found edge rest =
+    (row : Row) → Has (rows_into quest.question.told (start quest.question.target rest)) row → row.edge ≡ edge → row.usable ≡ true
+    → Reaches quest.question row rest → quest.least ≤ step_left quest.used (step_of edge) → length rest < quest.reach edge.issuer
+    → Covered quest found (step_of edge ∷ rest)
 
 -- if it may stand there but for being usable, its issuer was looked at
-abbrev pub IsNoted : Question → Use → ℕ → List Fpr → EdgeFacts → List Step → Type 0
-IsNoted q used least set edge rest = (row : Row) → Has (rows_into q.told (start q.target rest)) row → row.edge ≡ edge → Reaches q row rest → least ≤ step_left used (step_of edge) → Has set edge.issuer
+abbrev pub IsNoted : Quest → (Fpr → Type 0) → EdgeFacts → List Step → Type 0
+IsNoted quest set edge rest =
+    (row : Row) → Has (rows_into quest.question.told (start quest.question.target rest)) row → row.edge ≡ edge
+    → Reaches quest.question row rest → quest.least ≤ step_left quest.used (step_of edge) → length rest < quest.reach edge.issuer
+    → set edge.issuer
 
 -- all for which something was found were looked at
-abbrev pub AreNoted : Found → List Fpr → Type 0
-AreNoted found set = (fpr : Fpr) (node : Node) → found fpr ≡ Some node → Has set fpr
+abbrev pub AreNoted : Found → (Fpr → Type 0) → Type 0
+AreNoted found set = (fpr : Fpr) (node : Node) → found fpr ≡ Some node → set fpr
+
+-- they still are
+abbrev pub KeepsNoted : Reached → Reached → (Fpr → Type 0) → (Fpr → Type 0) → Type 0
+KeepsNoted old new before after = AreNoted (look old.nodes) before → AreNoted (look new.nodes) after
+
+-- what is so of each row of an edge
+abbrev pub EachRow : Record → EdgeFacts → (Row → Type 0) → Type 0
+EachRow told edge holds = (row : Row) → Has (rows_into told edge.target) row → row.edge ≡ edge → holds row
+
+-- it is put if it may stand, as each row of the edge tells
+abbrev pub PutsIfStands : Record → ℕ → EdgeFacts → Reached → Reached → Node → Type 0
+PutsIfStands told size edge old new node = EachRow told edge (λ row. IsPutIf (may_stand_of size row) old new node)
+
+-- After an edge is considered before any suffix of so many edges and so much that begins at its target: the layer grew,
+-- the edge is taken, and its issuer is noted.
+abbrev pub GrowsByEdge : Quest → ℕ → ℕ → EdgeFacts → Reached → Reached → Type 0
+GrowsByEdge quest size wide edge old new =
+    (rest : List Step) → IsRest quest (look old.nodes) size edge.target wide rest
+    → IsGrowing quest size (look old.nodes) old.layer.items → Advances quest size old new
+
+abbrev pub TakesEdge : Quest → ℕ → ℕ → EdgeFacts → Reached → Reached → Type 0
+TakesEdge quest size wide edge old new =
+    (rest : List Step) → IsRest quest (look old.nodes) size edge.target wide rest
+    → IsGrowing quest size (look old.nodes) old.layer.items → IsTaken quest (look new.nodes) edge rest
+
+abbrev pub NotesEdge : Quest → ℕ → EdgeFacts → Reached → (Fpr → Type 0) → (Fpr → Type 0) → Type 0
+NotesEdge quest size edge old before after =
+    (rest : List Step) → length rest ≡ size → AreNoted (look old.nodes) before → IsNoted quest after edge rest
 
 -- ---- one fingerprint of the layer before
 
@@ -73,47 +117,104 @@ abbrev pub wide_of : ℕ → Option Node → ℕ
 wide_of size node = cond (nat_eq size 0) 255 (node_width node)
 
 -- each edge that may stand before the rest is covered there
-abbrev pub AreTaken : Question → Use → ℕ → Goal → Found → List Step → Type 0
-AreTaken q used least goal found rest = (step : Step) → Serves q used least step rest → Covered q used least goal found (step ∷ rest)
+abbrev pub AreTaken : Quest → Found → List Step → Type 0
+AreTaken quest found rest = (step : Step) → Serves quest step rest → Covered quest found (step ∷ rest)
+
+-- After the edges into a fingerprint are considered before any suffix of so many edges that begins there.
+abbrev pub GrowsInto : Quest → ℕ → Fpr → Reached → Reached → Type 0
+GrowsInto quest size at old new =
+    (rest : List Step) → Kept quest (look old.nodes) rest → length rest ≡ size → start quest.question.target rest ≡ at
+    → IsGrowing quest size (look old.nodes) old.layer.items → Advances quest size old new
+
+abbrev pub TakesInto : Quest → ℕ → Fpr → Reached → Reached → Type 0
+TakesInto quest size at old new =
+    (rest : List Step) → Kept quest (look old.nodes) rest → length rest ≡ size → start quest.question.target rest ≡ at
+    → IsGrowing quest size (look old.nodes) old.layer.items → AreTaken quest (look new.nodes) rest
+
+abbrev pub SeesInto : Quest → ℕ → Fpr → Reached → (Fpr → Type 0) → (Fpr → Type 0) → Type 0
+SeesInto quest size at old before after =
+    (rest : List Step) → length rest ≡ size → start quest.question.target rest ≡ at
+    → AreNoted (look old.nodes) before → IsSeen quest after rest
 
 -- ---- one layer
 
+-- After the edges into each fingerprint of the layer of so many edges are considered.
+abbrev pub GrowsByLayer : Quest → ℕ → List Fpr → Reached → Reached → Type 0
+GrowsByLayer quest size layer old new =
+    IsLayer quest (look old.nodes) size layer → IsGrowing quest size (look old.nodes) old.layer.items → Advances quest size old new
+
+abbrev pub TakesLayer : Quest → ℕ → List Fpr → Reached → Reached → Type 0
+TakesLayer quest size layer old new =
+    IsLayer quest (look old.nodes) size layer → IsGrowing quest size (look old.nodes) old.layer.items
+    → (rest : List Step) → Kept quest (look new.nodes) rest → length rest ≡ size → AreTaken quest (look new.nodes) rest
+
+abbrev pub SeesLayer : Quest → ℕ → List Fpr → Reached → (Fpr → Type 0) → (Fpr → Type 0) → Type 0
+SeesLayer quest size layer old before after =
+    AreNoted (look old.nodes) before
+    → (rest : List Step) → length rest ≡ size → Has layer (start quest.question.target rest) → IsSeen quest after rest
+
 -- what is known after a layer
-pub record IsAfter (q : Question) (used : Use) (least : ℕ) (goal : Goal) (size : ℕ) (reached : Reached) (set : List Fpr) : Type 0 where
-  pub entries : (fpr : Fpr) (node : Node) → look reached.nodes fpr ≡ Some node → IsEntry q used least (look reached.nodes) size fpr node
-  pub complete : IsComplete q used least goal (look reached.nodes) size
-  pub layer : IsLayer q used least (look reached.nodes) size reached.layer.items
+pub record IsAfter (quest : Quest) (size : ℕ) (reached : Reached) (set : Fpr → Type 0) : Type 0 where
+  pub entries : (fpr : Fpr) (node : Node) → look reached.nodes fpr ≡ Some node → IsEntry quest (look reached.nodes) size fpr node
+  pub complete : IsComplete quest (look reached.nodes) size
+  pub layer : IsLayer quest (look reached.nodes) size reached.layer.items
   pub noted : AreNoted (look reached.nodes) set
-  pub looked : IsLooked q used least size set
+  pub looked : IsLooked quest size set
 
 -- no suffix of fewer edges begins at a root of which so much is left
-abbrev pub IsUnrooted : Question → Use → ℕ → Found → ℕ → Type 0
-IsUnrooted q used least found size = (steps : List Step) → Kept q used least found steps → 1 ≤ length steps → suc (length steps) ≤ size → least ≤ root_left q used (start q.target steps) → ⊥
+abbrev pub IsUnrooted : Quest → Found → ℕ → Type 0
+IsUnrooted quest found size =
+    (steps : List Step) → Kept quest found steps → 1 ≤ length steps → suc (length steps) ≤ size
+    → quest.least ≤ root_left quest.question quest.used (start quest.question.target steps) → ⊥
+
+-- One layer more: what was known stays known, of one edge more.
+abbrev pub GoesOn : Quest → ℕ → Reached → Reached → (Fpr → Type 0) → (Fpr → Type 0) → Type 0
+GoesOn quest size old new before after = IsAfter quest size old before → IsAfter quest (suc size) new after
+
+abbrev pub StaysUnrooted : Quest → ℕ → Reached → Reached → (Fpr → Type 0) → Type 0
+StaysUnrooted quest size old new before =
+    IsAfter quest size old before → IsUnrooted quest (look old.nodes) (suc size) → IsUnrooted quest (look new.nodes) (suc size)
+
+abbrev pub GainsAfter : Quest → ℕ → Reached → (Fpr → Type 0) → (Fpr → Type 0) → Type 0
+GainsAfter quest size old before after =
+    IsAfter quest size old before → Gains (Leads quest.question.told quest.question.target) before after
 
 -- ---- what a search gives
 
-abbrev pub steps_of : Option Path → Option (List Step)
-steps_of None = None
-steps_of (Some path) = Some path.steps
+-- no root has more than an octet holds
+abbrev pub IsSmall : Quest → Type 0
+IsSmall quest = (fpr : Fpr) → root_left quest.question quest.used fpr ≤ 255
+
+-- this is the suffix of so many edges that was found from there, in whatever quest
+abbrev pub IsFoundFrom : Found → Fpr → ℕ → List Step → Type 0
+IsFoundFrom found from size made =
+    (quest : Quest) → IsRecord quest.question.told → (steps : List Step) → Kept quest found steps → length steps ≡ size
+    → start quest.question.target steps ≡ from → made ≡ steps
 
 -- a path that is the first, of so many edges, with its root and its amount
-pub record IsFirstPath (q : Question) (used : Use) (goal : Goal) (least : ℕ) (size : ℕ) (path : Path) : Type 0 where
-  pub first : IsFirst q used goal least path.steps
-  pub root : path.root ≡ start q.target path.steps
-  pub amount : path.amount ≡ path_amount q used path.steps
+pub record IsFirstPath (quest : Quest) (size : ℕ) (path : Path) : Type 0 where
+  pub first : IsFirst quest path.steps
+  pub root : path.root ≡ start quest.question.target path.steps
+  pub amount : path.amount ≡ path_amount quest.question quest.used path.steps
   pub long : length path.steps ≡ size
 
 -- the first path of a layer, or that no root of which so much is left is in it
-abbrev pub IsTurn : Question → Use → ℕ → Goal → Found → ℕ → Option Path → Type 0
-IsTurn q used least goal found size None = IsUnrooted q used least found (suc size)
-IsTurn q used least goal found size (Some path) = IsFirstPath q used goal least size path
+abbrev pub IsTurn : Quest → Found → ℕ → Option Path → Type 0
+IsTurn quest found size None = IsUnrooted quest found (suc size)
+IsTurn quest found size (Some path) = IsFirstPath quest size path
+
+-- it is so where all that was found is known, and no root is in an earlier layer
+abbrev pub TurnsTo : Quest → ℕ → Reached → Option Path → Type 0
+TurnsTo quest size reached found =
+    IsRecord quest.question.told → IsSmall quest → IsLayer quest (look reached.nodes) size reached.layer.items
+    → IsComplete quest (look reached.nodes) size → IsUnrooted quest (look reached.nodes) size → IsTurn quest (look reached.nodes) size found
 
 -- the first path, or that there is none
-abbrev pub IsResult : Question → Use → Goal → ℕ → Option Path → Type 0
-IsResult q used goal least None = (other : List Step) → Rooted q used least other → ⊥
-IsResult q used goal least (Some path) = IsFirstPath q used goal least (length path.steps) path
+abbrev pub IsResult : Quest → Option Path → Type 0
+IsResult quest None = (other : List Step) → Rooted quest other → ⊥
+IsResult quest (Some path) = IsFirstPath quest (length path.steps) path
 
 -- all that matters was looked at
-abbrev pub IsLookedBy : Question → Use → ℕ → List Fpr → Option Path → Type 0
-IsLookedBy q used least set None = IsLooked q used least 255 set
-IsLookedBy q used least set (Some path) = IsLooked q used least (length path.steps) set
+abbrev pub IsLookedBy : Quest → (Fpr → Type 0) → Option Path → Type 0
+IsLookedBy quest set None = IsLooked quest 255 set
+IsLookedBy quest set (Some path) = IsLooked quest (length path.steps) set

@@ -8,10 +8,11 @@ use Rattle.wot_types.specs.Fpr.{fpr_cmp}
 use Rattle.wot_edge.specs.declared.path.Step.{Step}
 use Rattle.wot_edge.specs.Order.{steps_cmp}
 use Rattle.wot_edge.specs.Record.{Has}
-use Rattle.wot_edge.specs.Path.{Question, Use, start}
+use Rattle.wot_edge.specs.Path.{Use, start}
 use Rattle.wot_search.specs.declared.node.Node.{Node}
 use Rattle.wot_search.specs.declared.node.Goal.{Goal}
 use Rattle.wot_search.specs.declared.node.Goal.TheVariants.{Widest, Least}
+use Rattle.wot_search.specs.Quest.{Quest}
 use Rattle.wot_search.specs.Suffix.{Suffix, Found, Kept, width}
 
 -- of two suffixes of as many edges, the first is as good
@@ -24,47 +25,48 @@ abbrev pub AtMost : Use → Goal → List Step → List Step → Type 0
 AtMost used goal a b = (length a < length b) ⊎ ((length a ≡ length b) × IsAsGood used goal a b)
 
 -- a suffix that was found begins where another one begins, and is at most it
-pub record Covered (q : Question) (used : Use) (least : ℕ) (goal : Goal) (found : Found) (other : List Step) : Type 0 where
+pub record Covered (quest : Quest) (found : Found) (other : List Step) : Type 0 where
   pub steps : List Step
-  pub kept : Kept q used least found steps
+  pub kept : Kept quest found steps
   pub some : 1 ≤ length steps
-  pub same : start q.target steps ≡ start q.target other
-  pub most : AtMost used goal steps other
+  pub same : start quest.question.target steps ≡ start quest.question.target other
+  pub most : AtMost quest.used quest.goal steps other
 
 -- a suffix of so many edges that begins there was found
-pub record Begins (q : Question) (used : Use) (least : ℕ) (found : Found) (size : ℕ) (fpr : Fpr) : Type 0 where
+pub record Begins (quest : Quest) (found : Found) (size : ℕ) (fpr : Fpr) : Type 0 where
   pub steps : List Step
-  pub kept : Kept q used least found steps
+  pub kept : Kept quest found steps
   pub long : length steps ≡ size
-  pub there : start q.target steps ≡ fpr
+  pub there : start quest.question.target steps ≡ fpr
 
 -- what was found for an issuer is the first edge of a suffix that was found, of at most so many edges
-pub record IsEntry (q : Question) (used : Use) (least : ℕ) (found : Found) (most : ℕ) (fpr : Fpr) (node : Node) : Type 0 where
+pub record IsEntry (quest : Quest) (found : Found) (most : ℕ) (fpr : Fpr) (node : Node) : Type 0 where
   pub rest : List Step
-  pub kept : Kept q used least found (node.step ∷ rest)
+  pub kept : Kept quest found (node.step ∷ rest)
   pub few : node.size ≤ most
   pub there : node.step.issuer ≡ fpr
 
 -- a layer: where the suffixes begin that were found of so many edges
-pub record IsLayer (q : Question) (used : Use) (least : ℕ) (found : Found) (size : ℕ) (layer : List Fpr) : Type 0 where
-  pub each : (fpr : Fpr) → Has layer fpr → Begins q used least found size fpr
-  pub all : (steps : List Step) → Kept q used least found steps → length steps ≡ size → Has layer (start q.target steps)
+pub record IsLayer (quest : Quest) (found : Found) (size : ℕ) (layer : List Fpr) : Type 0 where
+  pub each : (fpr : Fpr) → Has layer fpr → Begins quest found size fpr
+  pub all : (steps : List Step) → Kept quest found steps → length steps ≡ size → Has layer (start quest.question.target steps)
 
 -- all suffixes of at most so many edges are covered
-abbrev pub IsComplete : Question → Use → ℕ → Goal → Found → ℕ → Type 0
-IsComplete q used least goal found most = (other : List Step) → 1 ≤ length other → length other ≤ most → Suffix q used least other → Covered q used least goal found other
+abbrev pub IsComplete : Quest → Found → ℕ → Type 0
+IsComplete quest found most =
+    (other : List Step) → 1 ≤ length other → length other ≤ most → Suffix quest other → Covered quest found other
 
 -- while the layer after so many edges grows
-pub record IsGrowing (q : Question) (used : Use) (least : ℕ) (goal : Goal) (size : ℕ) (found : Found) (next : List Fpr) : Type 0 where
-  pub entries : (fpr : Fpr) (node : Node) → found fpr ≡ Some node → IsEntry q used least found (suc size) fpr node
-  pub complete : IsComplete q used least goal found size
-  pub layer : IsLayer q used least found (suc size) next
+pub record IsGrowing (quest : Quest) (size : ℕ) (found : Found) (next : List Fpr) : Type 0 where
+  pub entries : (fpr : Fpr) (node : Node) → found fpr ≡ Some node → IsEntry quest found (suc size) fpr node
+  pub complete : IsComplete quest found size
+  pub layer : IsLayer quest found (suc size) next
 
 -- what was found later, of which the suffixes of at most so many edges are the same, covers all that was covered
-pub record Onward (q : Question) (used : Use) (least : ℕ) (goal : Goal) (size : ℕ) (old new : Found) : Type 0 where
-  pub keeps : (steps : List Step) → length steps ≤ size → Kept q used least old steps → Kept q used least new steps
-  pub kept : (steps : List Step) → length steps ≤ size → Kept q used least new steps → Kept q used least old steps
-  pub covers : (other : List Step) → Covered q used least goal old other → Covered q used least goal new other
+pub record Onward (quest : Quest) (size : ℕ) (old new : Found) : Type 0 where
+  pub keeps : (steps : List Step) → length steps ≤ size → Kept quest old steps → Kept quest new steps
+  pub kept : (steps : List Step) → length steps ≤ size → Kept quest new steps → Kept quest old steps
+  pub covers : (other : List Step) → Covered quest old other → Covered quest new other
 
 -- ---- which of two suffixes from one issuer is kept
 

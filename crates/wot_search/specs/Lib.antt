@@ -1,8 +1,11 @@
+pub mod Reach
+pub mod Quest
 pub mod Suffix
 pub mod Layer
 pub mod Looked
 pub mod Choice
 pub mod Rooted
+pub mod Nexting
 pub mod Demand
 pub mod Reached
 pub mod Growth

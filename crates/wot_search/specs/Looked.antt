@@ -1,20 +1,30 @@
--- What a search has looked at.
+-- What a search has looked at, as what is so of each fingerprint of it.
 use Rattle.std.specs.Prelude.{◌≡◌, ◌⊎◌, ℕ, ◌<◌, ◌≤◌, List, length}
 use Rattle.wot_types.specs.declared.fpr.Fpr.{Fpr}
 use Rattle.wot_edge.specs.declared.path.Step.{Step}
 use Rattle.wot_edge.specs.Record.{Record, Row, Has, rows_into}
-use Rattle.wot_edge.specs.Path.{Question, Use, Reaches, start, step_of, step_left}
+use Rattle.wot_edge.specs.Path.{Reaches, start, step_of, step_left}
+use Rattle.wot_search.specs.Quest.{Quest}
 use Rattle.wot_search.specs.Suffix.{Suffix}
 
+-- all of the old set is in the new one
+abbrev pub Widens : (Fpr → Type 0) → (Fpr → Type 0) → Type 0
+Widens old new = (fpr : Fpr) → old fpr → new fpr
+
+-- what a set gained is only this
+abbrev pub Gains : (Fpr → Type 0) → (Fpr → Type 0) → (Fpr → Type 0) → Type 0
+Gains only before after = (fpr : Fpr) → after fpr → before fpr ⊎ only fpr
+
 -- Before these edges the search looked at all that matters: where they begin, and the issuer of each edge into it
--- that may stand before them and of which so much is left, if only it is usable.
-pub record IsSeen (q : Question) (used : Use) (least : ℕ) (set : List Fpr) (rest : List Step) : Type 0 where
-  pub it : Has set (start q.target rest)
-  pub issuers : (row : Row) → Has (rows_into q.told (start q.target rest)) row → Reaches q row rest → least ≤ step_left used (step_of row.edge) → Has set row.edge.issuer
+-- that may stand before them, of which so much is left, and that reaches so far, if only it is usable.
+pub record IsSeen (quest : Quest) (set : Fpr → Type 0) (rest : List Step) : Type 0 where
+  pub it : set (start quest.question.target rest)
+  pub issuers : (row : Row) → Has (rows_into quest.question.told (start quest.question.target rest)) row → Reaches quest.question row rest
+      → quest.least ≤ step_left quest.used (step_of row.edge) → length rest < quest.reach row.edge.issuer → set row.edge.issuer
 
 -- the same before each suffix of fewer edges
-abbrev pub IsLooked : Question → Use → ℕ → ℕ → List Fpr → Type 0
-IsLooked q used least size set = (rest : List Step) → length rest < size → Suffix q used least rest → IsSeen q used least set rest
+abbrev pub IsLooked : Quest → ℕ → (Fpr → Type 0) → Type 0
+IsLooked quest size set = (rest : List Step) → length rest < size → Suffix quest rest → IsSeen quest set rest
 
 -- a fingerprint, or the issuer of an edge into it
 abbrev pub IsNear : Record → Fpr → Fpr → Type 0

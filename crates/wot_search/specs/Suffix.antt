@@ -1,18 +1,20 @@
 -- Suffixes: lists of edges to the target, of each of which so much is left; and those that a search keeps.
-use Rattle.std.specs.Prelude.{◌≡◌, ℕ, ◌≤◌, List, [], ◌∷◌, length, Option, Some}
+use Rattle.std.specs.Prelude.{◌≡◌, ℕ, ◌<◌, ◌≤◌, List, [], ◌∷◌, length, Option, Some}
 use Rattle.wot_types.specs.declared.fpr.Fpr.{Fpr}
 use Rattle.wot_edge.specs.declared.path.Step.{Step}
-use Rattle.wot_edge.specs.Path.{Question, Use, Stands, step_left, least_left}
+use Rattle.wot_edge.specs.Path.{Use, Stands, step_left, least_left}
 use Rattle.wot_search.specs.declared.node.Node.{Node}
+use Rattle.wot_search.specs.Quest.{Quest}
 
--- a step that may stand before others, and of which so much is left
-pub record Serves (q : Question) (used : Use) (least : ℕ) (step : Step) (rest : List Step) : Type 0 where
-  pub stands : Stands q step rest
-  pub left : least ≤ step_left used step
+-- a step that may stand before others, of which so much is left, and whose issuer reaches so far
+pub record Serves (quest : Quest) (step : Step) (rest : List Step) : Type 0 where
+  pub stands : Stands quest.question step rest
+  pub left : quest.least ≤ step_left quest.used step
+  pub high : length rest < quest.reach step.issuer
 
-abbrev pub Suffix : Question → Use → ℕ → List Step → Type 0
-Suffix q used least [] = Unit {0}
-Suffix q used least (step ∷ rest) = Serves q used least step rest × Suffix q used least rest
+abbrev pub Suffix : Quest → List Step → Type 0
+Suffix quest [] = Unit {0}
+Suffix quest (step ∷ rest) = Serves quest step rest × Suffix quest rest
 
 -- the least of what is left of its edges, none of which has more than 255
 abbrev pub width : Use → List Step → ℕ
@@ -27,6 +29,7 @@ abbrev pub Found : Type 0
 Found = Fpr → Option Node
 
 -- a suffix that was found: its first edge for its first issuer, and so on
-abbrev pub Kept : Question → Use → ℕ → Found → List Step → Type 0
-Kept q used least found [] = Unit {0}
-Kept q used least found (step ∷ rest) = (found step.issuer ≡ Some (node_of used step rest)) × Serves q used least step rest × Kept q used least found rest
+abbrev pub Kept : Quest → Found → List Step → Type 0
+Kept quest found [] = Unit {0}
+Kept quest found (step ∷ rest) =
+    (found step.issuer ≡ Some (node_of quest.used step rest)) × Serves quest step rest × Kept quest found rest

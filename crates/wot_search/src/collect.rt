@@ -1,8 +1,5 @@
-ghost use Rattle.std.specs.Prelude.{◌≡◌, ℕ, List, IfOk, length};
-ghost use Rattle.wot_edge.specs.declared.path.Step.{Step as Edge};
-ghost use Rattle.wot_edge.specs.Record.{IsRecord};
-ghost use Rattle.wot_edge.specs.Path.{Question, Use, start};
-ghost use Rattle.wot_search.specs.Suffix.{Kept};
+ghost use Rattle.std.specs.Prelude.{IfOk};
+ghost use Rattle.wot_search.specs.Growth.{IsFoundFrom};
 ghost use Rattle.wot_search.specs.Reached.{look};
 
 use crate::node::Node;
@@ -19,7 +16,7 @@ pub fn collect(
     from: &Fpr,
     size: u8,
 ) -> Result<Vec<Step>, Memory>
-    ensures { IfOk result (λ made. (q : Question) (used : Use) (least : ℕ) → IsRecord q.told → (steps : List Edge) → Kept q used least (look nodes.now) steps → length steps ≡ size → start q.target steps ≡ from.now → made.items ≡ steps) }
+    ensures { IfOk result (λ made. IsFoundFrom (look nodes.now) from.now size made.items) }
 {
     let mut steps: Vec<Step> = Vec::new(alloc);
     let mut at = *from;

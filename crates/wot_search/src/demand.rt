@@ -1,15 +1,17 @@
-ghost use Rattle.std.specs.Prelude.{◌≡◌, ◌+◌, ◌<◌, ◌^◌, Option};
-ghost use Rattle.wot_search.specs.Demand.{is_place, is_met, demand_of, candidate_of};
-ghost use Rattle.wot_search.specs.Reached.{question_of};
+ghost use Rattle.std.specs.Prelude.{◌≡◌, ◌<◌, ℕ, List};
+ghost use Rattle.wot_search.specs.Demand.{is_place, is_met, is_enough, demand_of, candidate_of};
+ghost use Rattle.wot_search.specs.Quest.{quest_of};
 ghost use Rattle.wot_search.specs.Layer.{is_better, is_kept, link_cmp};
 ghost use Rattle.wot_edge.specs.Order.{same_fpr};
+ghost use Rattle.wot_edge.specs.Path.{step_left, step_of};
+ghost use Rattle.wot_edge.specs.Record.{Record};
 ghost use Rattle.wot_edge.specs.Sums.{use_in};
 
-use crate::ask::Ask;
 use crate::left::{left_of_step, step_from};
 use crate::node::{Demand, Goal, Node};
+use crate::quest::Quest;
 use std::cmp::Ordering;
-use wot_edge::{EdgeFacts, Roads, Step, Used};
+use wot_edge::{EdgeFacts, Roads, Step};
 use wot_types::{Fpr, compare_fprs};
 
 fn is_same(a: &Fpr, b: &Fpr) -> bool
@@ -19,11 +21,11 @@ fn is_same(a: &Fpr, b: &Fpr) -> bool
 }
 
 /// What the search demands of edges that stand before so many others.
-pub fn demand<R: Roads>(roads: &R, ask: &Ask, size: u8) -> Demand
-    ensures { result ≡ demand_of (question_of (R.told roads.now) ask.now) size }
+pub fn demand<R: Roads>(roads: &R, quest: &Quest, size: u8) -> Demand
+    ensures { result ≡ demand_of (quest_of (R.told roads.now) quest.now).question size }
 {
     if size == 0 {
-        Demand::On(roads.place(ask.target, ask.uid))
+        Demand::On(roads.place(quest.target, quest.uid))
     } else {
         Demand::Before(size)
     }
@@ -47,26 +49,32 @@ fn meets(demand: Demand, target: &Fpr, edge: &EdgeFacts) -> bool
     }
 }
 
+/// Whether so much is left of an edge before so many others, and its issuer reaches so far.
+fn suffices(quest: &Quest, size: u8, left: u8, edge: &EdgeFacts) -> bool
+    requires { left ≡ step_left (use_in quest.now.used.now) (step_of edge.now) }
+    ensures { (told : List ℕ → Record) → result ≡ is_enough (quest_of told quest.now) size edge.now }
+{
+    quest.least <= left && size < quest.reach.get(&edge.issuer)
+}
+
 /// What would be kept of an edge before a suffix of so many edges, and of so much; `None` where it
-/// doesn't meet the demand, or too little is left of it.
+/// doesn't meet the demand, too little is left of it, or its issuer doesn't reach so far.
 pub fn candidate(
-    used: &Used,
-    least: u8,
-    target: &Fpr,
+    quest: &Quest,
     demand: Demand,
     size: u8,
     width: u8,
     edge: &EdgeFacts,
 ) -> Option<Node>
     requires { size < 255 }
-    ensures { result ≡ candidate_of target.now (use_in used.now) least demand size width edge.now }
+    ensures { (told : List ℕ → Record) → result ≡ candidate_of (quest_of told quest.now) demand size width edge.now }
 {
-    if !meets(demand, target, edge) {
+    if !meets(demand, quest.target, edge) {
         return None;
     }
     let step = step_from(edge);
-    let left = left_of_step(used, &step);
-    if left < least {
+    let left = left_of_step(quest.used, &step);
+    if !suffices(quest, size, left, edge) {
         return None;
     }
     Some(Node {

@@ -1,15 +1,13 @@
-ghost use Rattle.std.specs.Prelude.{◌≡◌, ◌≤◌, ℕ, List, [], ◌∷◌, IfOk};
-ghost use Rattle.wot_types.specs.declared.fpr.Fpr.{Fpr as Print};
-ghost use Rattle.wot_edge.specs.Leads.{Grows, GainsLeads};
+ghost use Rattle.std.specs.Prelude.{◌≡◌, ℕ, List, [], ◌∷◌, IfOk};
+ghost use Rattle.wot_edge.specs.Leads.{Leads};
 ghost use Rattle.wot_edge.specs.Record.{IsRecord};
-ghost use Rattle.wot_edge.specs.Path.{root_left};
-ghost use Rattle.wot_edge.specs.Sums.{use_in};
-ghost use Rattle.wot_search.specs.Growth.{IsResult, IsLookedBy};
-ghost use Rattle.wot_search.specs.Reached.{question_of};
+ghost use Rattle.wot_search.specs.Growth.{IsSmall, IsResult, IsLookedBy};
+ghost use Rattle.wot_search.specs.Looked.{Gains, Widens};
+ghost use Rattle.wot_search.specs.Quest.{quest_of};
 
-use crate::ask::Ask;
-use crate::consulted::Consulted;
 use crate::grow::advance;
+use crate::notes::Notes;
+use crate::quest::Quest;
 use crate::reached::Reached;
 use crate::turn::turn;
 use std::alloc::Global;
@@ -32,26 +30,26 @@ fn begin(alloc: Global, target: &Fpr) -> Result<Reached, Memory>
 
 /// The first path of which so much is left: of fewest edges, and then as the goal says. It looks at
 /// one layer after the other, up to the first one that holds a root.
-pub fn first<R: Roads>(
+pub fn first<R: Roads, N: Notes>(
     alloc: Global,
     roads: &R,
-    ask: &Ask,
-    consulted: &mut Consulted,
+    quest: &Quest,
+    notes: &mut N,
 ) -> Result<Option<Path>, Memory>
     requires lawful { (id : List ℕ) → IsRecord (R.told roads.now id) }
-    requires small { (fpr : Print) → root_left (question_of (R.told roads.now) ask.now) (use_in ask.now.used.now) fpr ≤ 255 }
-    ensures first { IfOk result (λ found. IsResult (question_of (R.told roads.now) ask.now) (use_in ask.now.used.now) ask.now.goal ask.now.least found) }
-    ensures looked { IfOk result (λ found. IsLookedBy (question_of (R.told roads.now) ask.now) (use_in ask.now.used.now) ask.now.least consulted.new found) }
-    ensures grows { Grows consulted.old consulted.new }
-    ensures leads { GainsLeads (R.told roads.now ask.now.uid.now) ask.now.target.now consulted.old consulted.new }
+    requires small { IsSmall (quest_of (R.told roads.now) quest.now) }
+    ensures first { IfOk result (λ found. IsResult (quest_of (R.told roads.now) quest.now) found) }
+    ensures looked { IfOk result (λ found. IsLookedBy (quest_of (R.told roads.now) quest.now) (N.noted notes.new) found) }
+    ensures grows { Widens (N.noted notes.old) (N.noted notes.new) }
+    ensures leads { Gains (Leads (R.told roads.now quest.now.uid.now) quest.now.target.now) (N.noted notes.old) (N.noted notes.new) }
 {
-    let mut reached = begin(alloc, ask.target)?;
+    let mut reached = begin(alloc, quest.target)?;
     'layers: for size in 0..255u8 {
-        advance(alloc, roads, ask, size, &mut reached, consulted)?;
+        advance(alloc, roads, quest, size, &mut reached, notes)?;
         if reached.layer.is_empty() {
             return Ok(None);
         }
-        match turn(alloc, ask, &reached, size + 1)? {
+        match turn(alloc, quest, &reached, size + 1)? {
             None => {}
             Some(path) => return Ok(Some(path)),
         }

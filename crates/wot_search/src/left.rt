@@ -1,9 +1,10 @@
-ghost use Rattle.std.specs.Prelude.{◌≡◌, ◌-◌};
+ghost use Rattle.std.specs.Prelude.{◌≡◌, ◌-◌, ℕ, List};
 ghost use Rattle.wot_edge.specs.Record.{Record};
-ghost use Rattle.wot_edge.specs.Path.{asks, root_left, step_left, step_of};
+ghost use Rattle.wot_edge.specs.Path.{root_left, step_left, step_of};
 ghost use Rattle.wot_edge.specs.Sums.{use_in};
+ghost use Rattle.wot_search.specs.Quest.{quest_of};
 
-use crate::ask::Ask;
+use crate::quest::Quest;
 use wot_edge::{EdgeFacts, Step, Used};
 use wot_types::Fpr;
 
@@ -34,8 +35,8 @@ pub fn left_of_step(used: &Used, step: &Step) -> u8
 }
 
 /// What is left of a root.
-pub fn left_of_root(ask: &Ask, fpr: &Fpr) -> u8
-    ensures { (told : Record) → result ≡ root_left (asks told ask.now.roots.now ask.now.target.now) (use_in ask.now.used.now) fpr.now }
+pub fn left_of_root(quest: &Quest, fpr: &Fpr) -> u8
+    ensures { (told : List ℕ → Record) → result ≡ root_left (quest_of told quest.now).question (use_in quest.now.used.now) fpr.now }
 {
-    remaining(ask.roots.get(fpr), ask.used.root(fpr))
+    remaining(quest.roots.get(fpr), quest.used.root(fpr))
 }

@@ -1,7 +1,6 @@
 //! The search for the next path: backwards from the target, in layers of shortest suffixes.
 #![tactic(auto)]
 
-mod ask;
 mod choose;
 mod collect;
 mod consider;
@@ -13,11 +12,15 @@ mod grow;
 mod left;
 mod next;
 mod node;
+mod notes;
+mod quest;
+mod reach;
 mod reached;
+mod reaching;
 mod turn;
 
 pub use consulted::{Consulted, ConsultedIter};
-pub use next::next_path;
-
-#[cfg(test)]
-mod tests;
+pub use next::{next_path, next_path_within};
+pub use notes::{Notes, Unnoted};
+pub use reach::Reach;
+pub use reaching::make_reach;

@@ -1,9 +1,7 @@
-ghost use Rattle.std.specs.Prelude.{◌≡◌, ◌++◌, ◌∷◌, [], is_some, Some, OnOk, if◌then◌else◌, Option, None};
-ghost use Rattle.wot_types.specs.declared.fpr.Fpr.{Fpr as Print};
-ghost use Rattle.wot_edge.specs.Order.{same_fpr};
+ghost use Rattle.std.specs.Prelude.{◌≡◌, OnOk};
 ghost use Rattle.wot_search.specs.Choice.{node_width};
 ghost use Rattle.wot_search.specs.Reached.{look};
-ghost use Rattle.wot_search.specs.Growth.{wide_of};
+ghost use Rattle.wot_search.specs.Growth.{wide_of, PutsNode, PutsIssuer};
 
 use crate::node::Node;
 use std::alloc::Global;
@@ -49,8 +47,8 @@ pub fn width_at(reached: &Reached, size: u8, at: &Fpr) -> u8
 
 /// Keeps a node for its issuer; where it is the first one there, the issuer is of the last layer.
 pub fn put(reached: &mut Reached, node: Node) -> Result<(), Memory>
-    ensures nodes { OnOk result ((fpr : Print) → look reached.new.nodes fpr ≡ (if same_fpr node.step.issuer fpr then Some node else look reached.old.nodes fpr)) }
-    ensures layer { OnOk result (reached.new.layer.items ≡ (if is_some (look reached.old.nodes node.step.issuer) then reached.old.layer.items else reached.old.layer.items ++ node.step.issuer ∷ [])) }
+    ensures nodes { OnOk result (PutsNode reached.old reached.new node) }
+    ensures layer { OnOk result (PutsIssuer reached.old reached.new node.step.issuer) }
 {
     let issuer = node.step.issuer;
     let before = reached.nodes.insert(issuer, node)?;

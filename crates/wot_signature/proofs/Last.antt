@@ -54,15 +54,15 @@ says-push k meaning otherwise ss s =
 has-push : (k : ℕ) (ss : List Subpacket) (s : Subpacket) → is_some (last_body_of k (ss ++ s ∷ [])) ≡ cond (is_known_of k s) true (is_some (last_body_of k ss))
 has-push k ss s = ap is_some (last_body_of-push k ss s) ∙ is_said (is_known_of k s) s.body (last_body_of k ss)
 
-or_to_front : (a b c : Bool) → (a || (b || c)) ≡ (b || (a || c))
-or_to_front true true c = refl
-or_to_front true false c = refl
-or_to_front false b c = refl
+or_to_prefix : (a b c : Bool) → (a || (b || c)) ≡ (b || (a || c))
+or_to_prefix true true c = refl
+or_to_prefix true false c = refl
+or_to_prefix false b c = refl
 
 -- one more at the end, asked first
 any-push : {A : Type 0} (p : A → Bool) (xs : List A) (y : A) → list_any p (xs ++ y ∷ []) ≡ (p y || list_any p xs)
 any-push p [] y = refl
-any-push p (x ∷ xs) y = ap (λ b. p x || b) (any-push p xs y) ∙ or_to_front (p x) (p y) (list_any p xs)
+any-push p (x ∷ xs) y = ap (λ b. p x || b) (any-push p xs y) ∙ or_to_prefix (p x) (p y) (list_any p xs)
 
 -- the notes of one subpacket more
 pub notes_in-push : (kind hash : ℕ) (ss : List Subpacket) (s : Subpacket) → notes_in kind hash (ss ++ s ∷ []) ≡ note_more (notes_in kind hash ss) s

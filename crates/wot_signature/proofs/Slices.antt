@@ -13,24 +13,24 @@ use Rattle.wot_signature.specs.Signature.{trimmed, texts_in}
 pub slice_of_slice : (a b c : List ℕ) → IsSliceOf a b → IsSliceOf b c → IsSliceOf a c
 slice_of_slice a b c p q =
     record {
-      front = q.front ++ p.front;
+      prefix = q.prefix ++ p.prefix;
       back = p.back ++ q.back;
       stands =
           q.stands
-          ∙ ap (λ xs. q.front ++ (xs ++ q.back)) p.stands
-          ∙ ap (λ xs. q.front ++ xs) (append_assoc p.front (a ++ p.back) q.back)
-          ∙ ap (λ xs. q.front ++ (p.front ++ xs)) (append_assoc a p.back q.back)
-          ∙ sym (append_assoc q.front p.front (a ++ (p.back ++ q.back)));
+          ∙ ap (λ xs. q.prefix ++ (xs ++ q.back)) p.stands
+          ∙ ap (λ xs. q.prefix ++ xs) (append_assoc p.prefix (a ++ p.back) q.back)
+          ∙ ap (λ xs. q.prefix ++ (p.prefix ++ xs)) (append_assoc a p.back q.back)
+          ∙ sym (append_assoc q.prefix p.prefix (a ++ (p.back ++ q.back)));
     }
 
 pub slice_of_all : (xs : List ℕ) → IsSliceOf xs xs
-slice_of_all xs = record { front = []; back = []; stands = sym (append-nil xs) }
+slice_of_all xs = record { prefix = []; back = []; stands = sym (append-nil xs) }
 
 pub slice_of_take : (n : ℕ) (xs : List ℕ) → IsSliceOf (take n xs) xs
-slice_of_take n xs = record { front = []; back = drop n xs; stands = sym (take-append-drop n xs) }
+slice_of_take n xs = record { prefix = []; back = drop n xs; stands = sym (take-append-drop n xs) }
 
 pub slice_of_drop : (n : ℕ) (xs : List ℕ) → IsSliceOf (drop n xs) xs
-slice_of_drop n xs = record { front = take n xs; back = []; stands = sym (ap (λ ys. take n xs ++ ys) (append-nil (drop n xs)) ∙ take-append-drop n xs) }
+slice_of_drop n xs = record { prefix = take n xs; back = []; stands = sym (ap (λ ys. take n xs ++ ys) (append-nil (drop n xs)) ∙ take-append-drop n xs) }
 
 -- some octets behind the first n
 pub slice_of_middle : (n k : ℕ) (xs : List ℕ) → IsSliceOf (take k (drop n xs)) xs

@@ -10,26 +10,26 @@ use Rattle.wot_signature.specs.Facts.{facts_in}
 use Rattle.wot_signature.specs.Body.{Parts, parts_of}
 
 -- a readable body: its kind, the number of its hash algorithm, its hashed subpackets and the octets of its unhashed area
-pub record Reading : Type 0 where
+pub record ReadBody : Type 0 where
   pub kind : ℕ
   pub hash : ℕ
   pub hashed : List Subpacket
   pub unhashed : List ℕ
 
-abbrev pub with_hashed_list : Parts → Result (List Subpacket) AreaFault → Option Reading
+abbrev pub with_hashed_list : Parts → Result (List Subpacket) AreaFault → Option ReadBody
 with_hashed_list parts (Ok subpackets) = Some (record { kind = parts.kind; hash = parts.hash; hashed = subpackets; unhashed = parts.unhashed })
 with_hashed_list parts (Err fault) = None
 
 -- A body is readable where its parts are there and the hashed area is a list of subpackets.
-unfoldable pub reading_of : List ℕ → Option Reading
-reading_of body = option_and_then (λ parts. with_hashed_list parts (subpackets_of parts.hashed)) (parts_of body)
+unfoldable pub read_body_of : List ℕ → Option ReadBody
+read_body_of body = option_and_then (λ parts. with_hashed_list parts (subpackets_of parts.hashed)) (parts_of body)
 
 unfoldable pub is_readable : List ℕ → Bool
-is_readable body = is_some (reading_of body)
+is_readable body = is_some (read_body_of body)
 
 -- the facts of a signature body; none where it isn't readable
 unfoldable pub facts_of : List ℕ → Option SigFacts
-facts_of body = option_map (λ (r : Reading). facts_in r.kind r.hash r.hashed) (reading_of body)
+facts_of body = option_map (λ (r : ReadBody). facts_in r.kind r.hash r.hashed) (read_body_of body)
 
 -- without one zero octet at the end
 abbrev pub trimmed : List ℕ → List ℕ
@@ -41,12 +41,12 @@ texts_in subpackets = map trimmed (bodies_of 6 subpackets)
 
 -- the pattern texts of a signature body, in order; none of a body that isn't readable
 unfoldable pub scopes_of : List ℕ → List (List ℕ)
-scopes_of body = option_map_or (λ (r : Reading). texts_in r.hashed) (reading_of body) []
+scopes_of body = option_map_or (λ (r : ReadBody). texts_in r.hashed) (read_body_of body) []
 
 -- the last issuer key ID of the hashed area, else of the unhashed one if that is a list of subpackets
-abbrev pub hint_in : Reading → Option (List ℕ)
+abbrev pub hint_in : ReadBody → Option (List ℕ)
 hint_in r = option_or (last_body_of 16 r.hashed) (last_body_of 16 (list_of r.unhashed))
 
 -- the key ID that a signature body hints at; none of a body that isn't readable
 unfoldable pub hint_of : List ℕ → Option (List ℕ)
-hint_of body = option_and_then hint_in (reading_of body)
+hint_of body = option_and_then hint_in (read_body_of body)

@@ -4,7 +4,7 @@ ghost use Rattle.wot_signature.specs.Known.{is_known_of, last_body_of};
 ghost use Rattle.wot_signature.specs.Signature.{hint_of};
 
 use crate::known::{ISSUER_KEY_ID, is_known};
-use crate::reading::reading_of;
+use crate::read_body::read_body_of;
 use wot_subpacket::{Area, Sub};
 
 /// The last issuer key ID of the hashed area, else of the unhashed area where that is a list of subpackets.
@@ -13,7 +13,7 @@ use wot_subpacket::{Area, Sub};
 pub fn hint(body: &[u8]) -> Option<[u8; 8]>
     ensures hint { result ≡ hint_of body.now }
 {
-    let reading = reading_of(body)?;
+    let reading = read_body_of(body)?;
     if let Some(key_id) = last_key_id(&reading.hashed) {
         return Some(key_id);
     }

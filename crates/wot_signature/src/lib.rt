@@ -8,7 +8,7 @@ mod notes;
 mod parts;
 mod patterns;
 mod read;
-mod reading;
+mod read_body;
 mod texts;
 
 pub use facts::SigFacts;
@@ -16,6 +16,3 @@ pub use hints::hint;
 pub use patterns::scopes;
 pub use read::read_signature;
 pub use texts::Scopes;
-
-#[cfg(test)]
-mod tests;

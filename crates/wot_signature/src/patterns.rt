@@ -2,10 +2,10 @@ ghost use Rattle.std.specs.Prelude.{◌≡◌, IfSome};
 ghost use Rattle.std.specs.Option.{option_map};
 ghost use Rattle.std.specs.List.{AllByRecursion};
 ghost use Rattle.wot_subpacket.specs.Slice.{IsSliceOf, HaveSlicesOf};
-ghost use Rattle.wot_signature.specs.Signature.{Reading, reading_of as reading_of_spec, scopes_of};
+ghost use Rattle.wot_signature.specs.Signature.{ReadBody, read_body_of as read_body_of_spec, scopes_of};
 
 use crate::Scopes;
-use crate::reading::reading_of;
+use crate::read_body::read_body_of;
 use wot_subpacket::AreaIter;
 
 /// The pattern texts of a signature body in order, each a slice of the body without one zero octet at its end;
@@ -21,9 +21,9 @@ pub fn scopes(body: &[u8]) -> Scopes<'_>
 }
 
 fn subs_of(body: &[u8]) -> Option<AreaIter<'_>>
-    ensures hashed { result ≡ option_map (λ (r : Reading). r.hashed) (reading_of_spec body.now) }
+    ensures hashed { result ≡ option_map (λ (r : ReadBody). r.hashed) (read_body_of_spec body.now) }
     ensures slices { IfSome result (HaveSlicesOf body.now) }
 {
-    let reading = reading_of(body)?;
+    let reading = read_body_of(body)?;
     Some(reading.hashed.iter())
 }

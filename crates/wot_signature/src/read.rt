@@ -3,7 +3,7 @@ ghost use Rattle.wot_signature.specs.Signature.{facts_of, is_readable};
 
 use crate::SigFacts;
 use crate::notes::notes_of;
-use crate::reading::reading_of;
+use crate::read_body::read_body_of;
 
 /// The facts of a signature body, of which the hashed area alone is asked; `None` where the body isn't readable:
 /// it isn't of version 4, a part is missing, or the hashed area is no list of subpackets.
@@ -12,7 +12,7 @@ pub fn read_signature(body: &[u8]) -> Option<SigFacts>
     ensures facts { result ≡ facts_of body.now }
     ensures readable { is_some result ≡ is_readable body.now }
 {
-    let reading = reading_of(body)?;
+    let reading = read_body_of(body)?;
     let notes = notes_of(reading.kind, reading.hash, &reading.hashed);
     Some(notes.facts())
 }

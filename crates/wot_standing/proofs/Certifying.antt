@@ -1,19 +1,13 @@
 -- What one signature changes in the numbers that are kept for issuers.
-use Rattle.std.proofs.Common.{◌≡◌, ℕ, Bool, true, false, cond, not, ◌&&◌, ◌||◌, max, List, ◌∷◌, Option, Some, Ordering, refl, sym, ap, subst, ◌∙◌}
-use Rattle.std.specs.declared.cmp.Ordering.TheVariants.{Less, Equal, Greater}
+use Rattle.std.proofs.Common.{◌≡◌, ℕ, Bool, true, false, cond, not, ◌&&◌, ◌||◌, max, List, ◌∷◌, Option, Some, refl, sym, ap, subst, ◌∙◌}
 use Rattle.std.specs.Prelude.{filter}
 use Rattle.std.specs.Option.{option_map_or, option_and_then}
-use Rattle.std.specs.Ordering.{is_eq, ordering_reverse}
-use Rattle.std.specs.Cmp.{IsTotalOrder}
-use Rattle.std.proofs.lemmas.Cmp.{nat_list_cmp_total, on_total}
-use Rattle.std.proofs.lemmas.Map.Lookups.{exact_bytes}
 use Rattle.wot_types.specs.declared.fpr.Fpr.{Fpr}
-use Rattle.wot_types.specs.declared.fpr.Fpr.TheVariants.{V4}
-use Rattle.wot_types.specs.Fpr.{octets_of, fpr_cmp}
-use Rattle.wot_types.specs.contracts.fpr.FprOrd.TheImpl.{ghosts}
+use Rattle.wot_types.specs.Fpr.{same_fpr}
+use Rattle.wot_types.specs.FprLaws.{same_fpr-true, same_fpr-sym}
 use Rattle.wot_verdict.specs.Verdicts.{Entries}
 use Rattle.wot_cert.specs.Certificate.{Signature}
-use Rattle.wot_cert.specs.Issuer.{same_fpr, issuer_of, counts_by}
+use Rattle.wot_cert.specs.Issuer.{issuer_of, counts_by}
 use Rattle.wot_cert.specs.Ranked.{greatest, higher_of}
 use Rattle.wot_cert.specs.Revoked.{revokes_by, has_kind, is_revocable}
 use Rattle.wot_cert.specs.Time.{made_of, is_live, newness}
@@ -21,39 +15,6 @@ use Rattle.wot_standing.specs.declared.kinds.Binding.TheVariants.{Certification}
 use Rattle.wot_standing.specs.Kinds.{is_binding}
 use Rattle.wot_standing.specs.Latest.{revoked_at, outlives, is_valid_after}
 use Rattle.wot_standing.specs.Certifiers.{later_by, newer_by}
-
--- ---- fingerprints
-
-abbrev pub derived_cmp : Fpr → Fpr → Ordering
-derived_cmp = ghosts.cmp
-
-same_order : (a b : Fpr) → derived_cmp a b ≡ fpr_cmp a b
-same_order (V4 x) (V4 y) = refl
-
-pub same_cmp : derived_cmp ≡ fpr_cmp
-same_cmp = λ i a b. same_order a b i
-
-fpr_total : IsTotalOrder fpr_cmp
-fpr_total = on_total octets_of nat_list_cmp_total
-
-fpr_exact : (a b : Fpr) → fpr_cmp a b ≡ Equal → a ≡ b
-fpr_exact (V4 xs) (V4 ys) e = ap V4 (exact_bytes xs ys e)
-
-is_eq-Equal : (o : Ordering) → is_eq o ≡ true → o ≡ Equal
-is_eq-Equal Less e = absurd cc
-is_eq-Equal Equal e = refl
-is_eq-Equal Greater e = absurd cc
-
-same_fpr-true : (a b : Fpr) → same_fpr a b ≡ true → a ≡ b
-same_fpr-true a b e = fpr_exact a b (is_eq-Equal (fpr_cmp a b) e)
-
-turned : (o : Ordering) → is_eq (ordering_reverse o) ≡ is_eq o
-turned Less = refl
-turned Equal = refl
-turned Greater = refl
-
-same_fpr-sym : (a b : Fpr) → same_fpr a b ≡ same_fpr b a
-same_fpr-sym a b = ap is_eq (fpr_total.antisymm a b) ∙ turned (fpr_cmp b a)
 
 -- ---- one issuer's value changes
 
@@ -88,11 +49,11 @@ pub others_later : (verdicts : Entries) (t : ℕ) (s : Signature) (issuer : Fpr)
 others_later verdicts t s issuer e q h best =
     ap (λ b. cond b (Some (option_map_or (max (made_of s)) best (made_of s))) best) (others_fail verdicts s issuer q (has_kind 48 s) (is_live t s) e h)
 
-pub others_newer : (verdicts : Entries) (t : ℕ) (place : List Signature) (s : Signature) (issuer : Fpr) → issuer_of verdicts s ≡ Some issuer
-    → (q : Fpr) → same_fpr issuer q ≡ false → (best : Option Signature) → newer_by verdicts q t place s best ≡ best
-others_newer verdicts t place s issuer e q h best =
+pub others_newer : (verdicts : Entries) (t : ℕ) (sigs : List Signature) (s : Signature) (issuer : Fpr) → issuer_of verdicts s ≡ Some issuer
+    → (q : Fpr) → same_fpr issuer q ≡ false → (best : Option Signature) → newer_by verdicts q t sigs s best ≡ best
+others_newer verdicts t sigs s issuer e q h best =
     ap (λ b. cond b (higher_of newness s best) best)
-    (others_fail verdicts s issuer q (is_binding Certification s) (is_live t s && (not (is_revocable s) || outlives (revoked_at verdicts q t place) (made_of s))) e h)
+    (others_fail verdicts s issuer q (is_binding Certification s) (is_live t s && (not (is_revocable s) || outlives (revoked_at verdicts q t sigs) (made_of s))) e h)
 
 -- ---- what the issuer's becomes
 
@@ -105,19 +66,19 @@ is_later verdicts issuer t s best number made most h m n e =
     ap Some (e ∙ ap (λ m. option_map_or (max m) number m) m ∙ ap (λ n. option_map_or (max (made_of s)) n (made_of s)) n)
     ∙ sym (ap (λ b. cond b (Some (option_map_or (max (made_of s)) best (made_of s))) best) h)
 
-newer_as : (verdicts : Entries) (issuer : Fpr) (t : ℕ) (place : List Signature) (s : Signature) (best : Option Signature) (revoked : Option ℕ) (valid : Bool)
-    → revoked ≡ revoked_at verdicts issuer t place → is_valid_after verdicts issuer t Certification revoked s ≡ valid → newer_by verdicts issuer t place s best ≡ cond valid (higher_of newness s best) best
-newer_as verdicts issuer t place s best revoked valid r h =
+newer_as : (verdicts : Entries) (issuer : Fpr) (t : ℕ) (sigs : List Signature) (s : Signature) (best : Option Signature) (revoked : Option ℕ) (valid : Bool)
+    → revoked ≡ revoked_at verdicts issuer t sigs → is_valid_after verdicts issuer t Certification revoked s ≡ valid → newer_by verdicts issuer t sigs s best ≡ cond valid (higher_of newness s best) best
+newer_as verdicts issuer t sigs s best revoked valid r h =
     ap (λ b. cond b (higher_of newness s best) best) (ap (λ r. is_valid_after verdicts issuer t Certification r s) (sym r) ∙ h)
 
-pub not_newer : (verdicts : Entries) (issuer : Fpr) (t : ℕ) (place : List Signature) (s : Signature) (best : Option Signature) (revoked : Option ℕ)
-    → revoked ≡ revoked_at verdicts issuer t place → is_valid_after verdicts issuer t Certification revoked s ≡ false → newer_by verdicts issuer t place s best ≡ best
-not_newer verdicts issuer t place s best revoked r h = newer_as verdicts issuer t place s best revoked false r h
+pub not_newer : (verdicts : Entries) (issuer : Fpr) (t : ℕ) (sigs : List Signature) (s : Signature) (best : Option Signature) (revoked : Option ℕ)
+    → revoked ≡ revoked_at verdicts issuer t sigs → is_valid_after verdicts issuer t Certification revoked s ≡ false → newer_by verdicts issuer t sigs s best ≡ best
+not_newer verdicts issuer t sigs s best revoked r h = newer_as verdicts issuer t sigs s best revoked false r h
 
-pub is_newer : (verdicts : Entries) (issuer : Fpr) (t : ℕ) (place : List Signature) (s : Signature) (best kept then : Option Signature) (revoked : Option ℕ)
-    → revoked ≡ revoked_at verdicts issuer t place → is_valid_after verdicts issuer t Certification revoked s ≡ true → kept ≡ best → higher_of newness s kept ≡ then → newer_by verdicts issuer t place s best ≡ then
-is_newer verdicts issuer t place s best kept then revoked r h k e =
-    newer_as verdicts issuer t place s best revoked true r h ∙ ap (higher_of newness s) (sym k) ∙ e
+pub is_newer : (verdicts : Entries) (issuer : Fpr) (t : ℕ) (sigs : List Signature) (s : Signature) (best kept then : Option Signature) (revoked : Option ℕ)
+    → revoked ≡ revoked_at verdicts issuer t sigs → is_valid_after verdicts issuer t Certification revoked s ≡ true → kept ≡ best → higher_of newness s kept ≡ then → newer_by verdicts issuer t sigs s best ≡ then
+is_newer verdicts issuer t sigs s best kept then revoked r h k e =
+    newer_as verdicts issuer t sigs s best revoked true r h ∙ ap (higher_of newness s) (sym k) ∙ e
 
 -- ---- lists
 

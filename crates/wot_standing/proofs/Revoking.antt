@@ -36,21 +36,21 @@ all_after p m (r ∷ rs) =
     ]
 
 -- A signature is unrevoked where it isn't revocable, or was made after the latest revocation.
-pub unrevoked-latest : (verdicts : Entries) (fpr : Fpr) (t : ℕ) (place : List Signature) (s : Signature)
-    → is_unrevoked verdicts fpr t place s ≡ (not (is_revocable s) || outlives (revoked_at verdicts fpr t place) (made_of s))
-unrevoked-latest verdicts fpr t place s = ap (λ b. not (is_revocable s) || b) (all_after (revokes_by verdicts fpr t) (made_of s) place)
+pub unrevoked-latest : (verdicts : Entries) (fpr : Fpr) (t : ℕ) (sigs : List Signature) (s : Signature)
+    → is_unrevoked verdicts fpr t sigs s ≡ (not (is_revocable s) || outlives (revoked_at verdicts fpr t sigs) (made_of s))
+unrevoked-latest verdicts fpr t sigs s = ap (λ b. not (is_revocable s) || b) (all_after (revokes_by verdicts fpr t) (made_of s) sigs)
 
 filter-equal : {A : Type 0} (p q : A → Bool) → ((x : A) → p x ≡ q x) → (xs : List A) → filter p xs ≡ filter q xs
 filter-equal p q h [] = refl
 filter-equal p q h (x ∷ xs) = rw (h x, filter-equal p q h xs) refl
 
-valid-latest : (verdicts : Entries) (fpr : Fpr) (t : ℕ) (binding : Binding) (place : List Signature) (s : Signature)
-    → is_valid_after verdicts fpr t binding (revoked_at verdicts fpr t place) s ≡ is_valid verdicts fpr t binding place s
-valid-latest verdicts fpr t binding place s =
-    ap (λ b. is_binding binding s && (counts_by verdicts fpr s && (is_live t s && b))) (sym (unrevoked-latest verdicts fpr t place s))
+valid-latest : (verdicts : Entries) (fpr : Fpr) (t : ℕ) (binding : Binding) (sigs : List Signature) (s : Signature)
+    → is_valid_after verdicts fpr t binding (revoked_at verdicts fpr t sigs) s ≡ is_valid verdicts fpr t binding sigs s
+valid-latest verdicts fpr t binding sigs s =
+    ap (λ b. is_binding binding s && (counts_by verdicts fpr s && (is_live t s && b))) (sym (unrevoked-latest verdicts fpr t sigs s))
 
 -- The newest after the latest revocation is the newest valid one.
-pub newest-latest : (verdicts : Entries) (fpr : Fpr) (t : ℕ) (binding : Binding) (place : List Signature)
-    → greatest newness (filter (is_valid_after verdicts fpr t binding (revoked_at verdicts fpr t place)) place) ≡ newest_valid verdicts fpr t binding place
-newest-latest verdicts fpr t binding place =
-    ap (greatest newness) (filter-equal (is_valid_after verdicts fpr t binding (revoked_at verdicts fpr t place)) (is_valid verdicts fpr t binding place) (valid-latest verdicts fpr t binding place) place)
+pub newest-latest : (verdicts : Entries) (fpr : Fpr) (t : ℕ) (binding : Binding) (sigs : List Signature)
+    → greatest newness (filter (is_valid_after verdicts fpr t binding (revoked_at verdicts fpr t sigs)) sigs) ≡ newest_valid verdicts fpr t binding sigs
+newest-latest verdicts fpr t binding sigs =
+    ap (greatest newness) (filter-equal (is_valid_after verdicts fpr t binding (revoked_at verdicts fpr t sigs)) (is_valid verdicts fpr t binding sigs) (valid-latest verdicts fpr t binding sigs) sigs)

@@ -13,7 +13,7 @@ use Rattle.wot_cert.specs.Revoked.{revokes_by}
 use Rattle.wot_cert.specs.Time.{made_of, newness}
 use Rattle.wot_standing.specs.declared.kinds.Binding.TheVariants.{Certification}
 use Rattle.wot_standing.specs.Latest.{revoked_at, is_valid_after}
-use Rattle.wot_standing.specs.Standing.{self_certification}
+use Rattle.wot_standing.specs.Standing.{newest_certification}
 
 -- ---- numbers by issuer
 
@@ -27,13 +27,13 @@ kept_for places sigs issuer = option_and_then (slice_get sigs) (number_for place
 
 -- The places are those of the newest certification of each issuer that is live and unrevoked.
 abbrev pub KeepsNewest : Entries → ℕ → Component → List (Fpr × ℕ) → Type 0
-KeepsNewest verdicts t uid places = (issuer : Fpr) → kept_for places uid.sigs issuer ≡ self_certification verdicts issuer t uid
+KeepsNewest verdicts t uid places = (issuer : Fpr) → kept_for places uid.sigs issuer ≡ newest_certification verdicts issuer t uid
 
 -- ---- one signature more, in front
 
 -- The numbers are those of the latest live revocation of each issuer.
 abbrev pub KeepsLatest : Entries → ℕ → List Signature → List (Fpr × ℕ) → Type 0
-KeepsLatest verdicts t place numbers = (issuer : Fpr) → number_for numbers issuer ≡ revoked_at verdicts issuer t place
+KeepsLatest verdicts t sigs numbers = (issuer : Fpr) → number_for numbers issuer ≡ revoked_at verdicts issuer t sigs
 
 -- what the latest revocation by an issuer becomes with this signature
 abbrev pub later_by : Entries → Fpr → ℕ → Signature → Option ℕ → Option ℕ
@@ -42,5 +42,5 @@ later_by verdicts issuer t s best =
 
 -- what the newest valid certification by an issuer becomes with this signature
 abbrev pub newer_by : Entries → Fpr → ℕ → List Signature → Signature → Option Signature → Option Signature
-newer_by verdicts issuer t place s best =
-    if is_valid_after verdicts issuer t Certification (revoked_at verdicts issuer t place) s then higher_of newness s best else best
+newer_by verdicts issuer t sigs s best =
+    if is_valid_after verdicts issuer t Certification (revoked_at verdicts issuer t sigs) s then higher_of newness s best else best

@@ -18,7 +18,7 @@ latest (m ∷ ms) = Some (option_map_or (max m) (latest ms) m)
 
 -- when the latest live revocation by this one at a place was made
 abbrev pub revoked_at : Entries → Fpr → ℕ → List Signature → Option ℕ
-revoked_at verdicts fpr t place = latest (map made_of (filter (revokes_by verdicts fpr t) place))
+revoked_at verdicts fpr t sigs = latest (map made_of (filter (revokes_by verdicts fpr t) sigs))
 
 -- made after it, if it is there
 abbrev pub outlives : Option ℕ → ℕ → Bool

@@ -5,9 +5,9 @@ use Rattle.wot_types.specs.declared.fpr.Fpr.{Fpr}
 use Rattle.wot_verdict.specs.Verdicts.{Entries}
 use Rattle.wot_cert.specs.Certificate.{Component}
 use Rattle.wot_cert.specs.Revoked.{revokes_by}
-use Rattle.wot_standing.specs.Standing.{self_certification}
+use Rattle.wot_standing.specs.Standing.{newest_certification}
 
 -- A live revocation by this one stands on the user ID, and no live self-certification that it doesn't revoke.
 abbrev pub is_own_revoked : Entries → Fpr → ℕ → Component → Bool
 is_own_revoked verdicts fpr t uid =
-    list_any (revokes_by verdicts fpr t) uid.sigs && not (is_some (self_certification verdicts fpr t uid))
+    list_any (revokes_by verdicts fpr t) uid.sigs && not (is_some (newest_certification verdicts fpr t uid))

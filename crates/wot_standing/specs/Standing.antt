@@ -28,13 +28,13 @@ own c = fpr_of c.key
 abbrev pub primacy : Signature → Signature → Ordering
 primacy a b = ordering_then (bool_cmp (is_primary a) (is_primary b)) (newness a b)
 
--- the newest self-certification of a user ID
-abbrev pub self_certification : Entries → Fpr → ℕ → Component → Option Signature
-self_certification verdicts fpr t uid = newest_valid verdicts fpr t Certification uid.sigs
+-- the newest certification of a user ID by this one; by the user ID's own key it is its self-certification
+abbrev pub newest_certification : Entries → Fpr → ℕ → Component → Option Signature
+newest_certification verdicts fpr t uid = newest_valid verdicts fpr t Certification uid.sigs
 
 -- the one that governs among the user IDs: each gives its newest self-certification
 abbrev pub primary_among : Entries → Fpr → ℕ → List Component → Option Signature
-primary_among verdicts fpr t uids = greatest primacy (filter_map (self_certification verdicts fpr t) uids)
+primary_among verdicts fpr t uids = greatest primacy (filter_map (newest_certification verdicts fpr t) uids)
 
 -- The newest direct key signature governs, and where there is none the greatest of the self-certifications.
 abbrev pub governing : Entries → Certificate → ℕ → Option Signature

@@ -6,7 +6,7 @@ use Rattle.wot_cert.specs.Time.{is_live}
 use Rattle.wot_types.specs.declared.fpr.Fpr.{Fpr}
 use Rattle.wot_verdict.specs.Verdicts.{Entries}
 use Rattle.wot_standing.specs.Own.{is_own_revoked}
-use Rattle.wot_standing.specs.Standing.{self_certification}
+use Rattle.wot_standing.specs.Standing.{newest_certification}
 
 -- live at both times or at neither
 abbrev pub Same : ℕ → ℕ → Signature → Type 0
@@ -22,5 +22,5 @@ pub record IsSteady (c : Certificate) (t u : ℕ) : Type 0 where
 
 -- The newest certification by this one on a user ID is the same at both times, and so is whether it revoked the user ID.
 pub record SameBy (verdicts : Entries) (issuer : Fpr) (t u : ℕ) (uid : Component) : Type 0 where
-  pub certification : self_certification verdicts issuer t uid ≡ self_certification verdicts issuer u uid
+  pub certification : newest_certification verdicts issuer t uid ≡ newest_certification verdicts issuer u uid
   pub revoked : is_own_revoked verdicts issuer t uid ≡ is_own_revoked verdicts issuer u uid

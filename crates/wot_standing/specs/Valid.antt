@@ -12,12 +12,12 @@ use Rattle.wot_standing.specs.Kinds.{is_binding}
 
 -- It is of this kind, counts by this one, is live at t, and isn't revoked at its place.
 abbrev pub is_valid : Entries → Fpr → ℕ → Binding → List Signature → Signature → Bool
-is_valid verdicts fpr t binding place s =
-    is_binding binding s && (counts_by verdicts fpr s && (is_live t s && is_unrevoked verdicts fpr t place s))
+is_valid verdicts fpr t binding sigs s =
+    is_binding binding s && (counts_by verdicts fpr s && (is_live t s && is_unrevoked verdicts fpr t sigs s))
 
 abbrev pub valid : Entries → Fpr → ℕ → Binding → List Signature → List Signature
-valid verdicts fpr t binding place = filter (is_valid verdicts fpr t binding place) place
+valid verdicts fpr t binding sigs = filter (is_valid verdicts fpr t binding sigs) sigs
 
 -- the newest of the valid ones
 abbrev pub newest_valid : Entries → Fpr → ℕ → Binding → List Signature → Option Signature
-newest_valid verdicts fpr t binding place = greatest newness (valid verdicts fpr t binding place)
+newest_valid verdicts fpr t binding sigs = greatest newness (valid verdicts fpr t binding sigs)

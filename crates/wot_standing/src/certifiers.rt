@@ -5,7 +5,7 @@ ghost use Rattle.std.specs.Option.{option_copied};
 ghost use Rattle.wot_types.specs.declared.fpr.Fpr.{Fpr as TheFpr};
 ghost use Rattle.wot_cert.specs.Ranked.{higher_of};
 ghost use Rattle.wot_cert.specs.Time.{newness};
-ghost use Rattle.wot_cert.specs.Issuer.{same_fpr};
+ghost use Rattle.wot_types.specs.Fpr.{same_fpr};
 ghost use Rattle.wot_standing.specs.declared.kinds.Binding.TheVariants.{Certification};
 ghost use Rattle.wot_standing.specs.Valid.{newest_valid};
 ghost use Rattle.wot_standing.specs.Certifiers.{KeepsLatest, KeepsNewest, kept_for, later_by, newer_by, number_for};
@@ -64,7 +64,9 @@ fn number(numbers: &Numbers, issuer: &Fpr) -> Option<u32>
 }
 
 fn keep(numbers: &mut Numbers, issuer: Fpr, number: u32) -> Result<(), Memory>
-    ensures { OnOk result ((q : TheFpr) → number_for numbers.new.entries q ≡ cond (same_fpr issuer q) (Some number) (number_for numbers.old.entries q)) }
+    ensures { OnOk result ((q : TheFpr) →
+        number_for numbers.new.entries q
+        ≡ cond (same_fpr issuer q) (Some number) (number_for numbers.old.entries q)) }
 {
     numbers.insert(issuer, number)?;
     Ok(())
@@ -73,16 +75,16 @@ fn keep(numbers: &mut Numbers, issuer: Fpr, number: u32) -> Result<(), Memory>
 /// When each issuer made its latest live revocation at a place.
 fn latest_revocations(
     alloc: Global,
-    place: &[Sig],
+    sigs: &[Sig],
     verdicts: &Verdicts,
     t: u32,
 ) -> Result<Numbers, Memory>
-    ensures { IfOk result (λ latest. KeepsLatest verdicts.now t place.now latest.entries) }
+    ensures { IfOk result (λ latest. KeepsLatest verdicts.now t sigs.now latest.entries) }
 {
     let mut latest = BTreeMap::new(alloc);
-    let mut rest = place;
-    'back: while let Some((sig, front)) = rest.split_last() {
-        rest = front;
+    let mut rest = sigs;
+    'back: while let Some((sig, prefix)) = rest.split_last() {
+        rest = prefix;
         note_revocation(&mut latest, sig, verdicts, t)?;
     }
     Ok(latest)
@@ -95,7 +97,8 @@ fn note_revocation(
     verdicts: &Verdicts,
     t: u32,
 ) -> Result<(), Memory>
-    ensures { OnOk result ((q : TheFpr) → number_for latest.new.entries q ≡ later_by verdicts.now q t sig.now (number_for latest.old.entries q)) }
+    ensures { OnOk result ((q : TheFpr) →
+        number_for latest.new.entries q ≡ later_by verdicts.now q t sig.now (number_for latest.old.entries q)) }
 {
     let Some(issuer) = issuer_of(sig, verdicts) else {
         return Ok(());
@@ -111,23 +114,24 @@ fn note_revocation(
 /// The place of each issuer's newest valid certification.
 fn newest_places(
     alloc: Global,
-    place: &[Sig],
+    sigs: &[Sig],
     verdicts: &Verdicts,
     t: u32,
     latest: &Numbers,
 ) -> Result<Numbers, Memory>
-    requires few { length place.now < 2 ^ 32 }
-    requires latest { KeepsLatest verdicts.now t place.now latest.now.entries }
-    ensures { IfOk result (λ places. (q : TheFpr) → kept_for places.entries place.now q ≡ newest_valid verdicts.now q t Certification place.now) }
+    requires few { length sigs.now < 2 ^ 32 }
+    requires latest { KeepsLatest verdicts.now t sigs.now latest.now.entries }
+    ensures { IfOk result (λ places. (q : TheFpr) →
+        kept_for places.entries sigs.now q ≡ newest_valid verdicts.now q t Certification sigs.now) }
 {
     let mut places = BTreeMap::new(alloc);
-    let mut rest = place;
-    'back: while let Some((sig, front)) = rest.split_last() {
-        rest = front;
+    let mut rest = sigs;
+    'back: while let Some((sig, prefix)) = rest.split_last() {
+        rest = prefix;
         note_certification(
             &mut places,
-            place,
-            front.len() as u32,
+            sigs,
+            prefix.len() as u32,
             sig,
             verdicts,
             t,
@@ -140,16 +144,18 @@ fn newest_places(
 /// Takes a signature, which stands at this place, into the newest certifications.
 fn note_certification(
     places: &mut Numbers,
-    place: &[Sig],
+    sigs: &[Sig],
     at: u32,
     sig: &Sig,
     verdicts: &Verdicts,
     t: u32,
     latest: &Numbers,
 ) -> Result<(), Memory>
-    requires here { slice_get place.now at ≡ Some sig.now }
-    requires latest { KeepsLatest verdicts.now t place.now latest.now.entries }
-    ensures { OnOk result ((q : TheFpr) → kept_for places.new.entries place.now q ≡ newer_by verdicts.now q t place.now sig.now (kept_for places.old.entries place.now q)) }
+    requires here { slice_get sigs.now at ≡ Some sig.now }
+    requires latest { KeepsLatest verdicts.now t sigs.now latest.now.entries }
+    ensures { OnOk result ((q : TheFpr) →
+        kept_for places.new.entries sigs.now q
+        ≡ newer_by verdicts.now q t sigs.now sig.now (kept_for places.old.entries sigs.now q)) }
 {
     let Some(issuer) = issuer_of(sig, verdicts) else {
         return Ok(());
@@ -158,18 +164,18 @@ fn note_certification(
     if !is_valid_after(sig, verdicts, &issuer, t, Binding::Certification, revoked) {
         return Ok(());
     }
-    if !is_newest(sig, kept(places, place, &issuer)) {
+    if !is_newest(sig, kept(places, sigs, &issuer)) {
         return Ok(());
     }
     keep(places, issuer, at)?;
     Ok(())
 }
 
-fn kept<'a>(places: &Numbers, place: &'a [Sig], issuer: &Fpr) -> Option<&'a Sig>
-    ensures { option_copied result ≡ kept_for places.now.entries place.now issuer.now }
+fn kept<'a>(places: &Numbers, sigs: &'a [Sig], issuer: &Fpr) -> Option<&'a Sig>
+    ensures { option_copied result ≡ kept_for places.now.entries sigs.now issuer.now }
 {
     match number(places, issuer) {
-        Some(at) => place.get(at as usize),
+        Some(at) => sigs.get(at as usize),
         None => None,
     }
 }

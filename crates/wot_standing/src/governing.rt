@@ -60,9 +60,9 @@ fn standing_at(cert: &Cert, verdicts: &Verdicts, t: u32) -> Standing
 
 /// The standing of a certificate at a time, and the span of times through which it is the same.
 ///
-/// The newest direct key signature governs that counts by the key itself, is live and unrevoked; where there is none, the
-/// greatest, by the primary mark and then newness, of each user ID's newest self-certification. A revocation of the key
-/// that doesn't say that it was superseded, retired or renamed is hard.
+/// The newest direct key signature governs that counts by the key itself, is live and unrevoked; where there is none,
+/// the greatest, by the primary mark and then newness, of each user ID's newest self-certification. A revocation of
+/// the key that doesn't say that it was superseded, retired or renamed is hard.
 pub fn standing(cert: &Cert, verdicts: &Verdicts, t: u32) -> (Standing, Span)
     ensures standing { result.0 ≡ standing_of verdicts.now cert.now t }
     ensures span { result.1 ≡ span_of cert.now t }

@@ -15,18 +15,13 @@ pub(crate) fn revokes(sig: &Sig, verdicts: &Verdicts, fpr: &Fpr, t: u32) -> bool
 }
 
 /// When the latest live revocation by this one at a place was made.
-pub(crate) fn latest_revocation(
-    place: &[Sig],
-    verdicts: &Verdicts,
-    fpr: &Fpr,
-    t: u32,
-) -> Option<u32>
-    ensures { result ≡ revoked_at verdicts.now fpr.now t place.now }
+pub(crate) fn latest_revocation(sigs: &[Sig], verdicts: &Verdicts, fpr: &Fpr, t: u32) -> Option<u32>
+    ensures { result ≡ revoked_at verdicts.now fpr.now t sigs.now }
 {
     let mut best: Option<u32> = None;
-    let mut rest = place;
-    'back: while let Some((sig, front)) = rest.split_last() {
-        rest = front;
+    let mut rest = sigs;
+    'back: while let Some((sig, prefix)) = rest.split_last() {
+        rest = prefix;
         if revokes(sig, verdicts, fpr, t) {
             best = Some(later(made(sig), best));
         }

@@ -11,8 +11,6 @@ mod own;
 mod revoked;
 mod status;
 mod steady;
-#[cfg(test)]
-mod tests;
 mod usable;
 
 pub use certifiers::Certifiers;

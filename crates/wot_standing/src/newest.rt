@@ -66,19 +66,19 @@ pub(crate) fn is_valid_after(
 
 /// The newest of those that are valid, where the latest revocation was made then.
 fn newest_after<'a>(
-    place: &'a [Sig],
+    sigs: &'a [Sig],
     verdicts: &Verdicts,
     fpr: &Fpr,
     t: u32,
     binding: Binding,
     revoked: Option<u32>,
 ) -> Option<&'a Sig>
-    ensures { option_copied result ≡ greatest newness (filter (is_valid_after_spec verdicts.now fpr.now t binding revoked) place.now) }
+    ensures { option_copied result ≡ greatest newness (filter (is_valid_after_spec verdicts.now fpr.now t binding revoked) sigs.now) }
 {
     let mut best: Option<&'a Sig> = None;
-    let mut rest = place;
-    'back: while let Some((sig, front)) = rest.split_last() {
-        rest = front;
+    let mut rest = sigs;
+    'back: while let Some((sig, prefix)) = rest.split_last() {
+        rest = prefix;
         if is_valid_after(sig, verdicts, fpr, t, binding, revoked) {
             best = match best {
                 None => Some(sig),
@@ -91,16 +91,16 @@ fn newest_after<'a>(
 
 /// The newest valid one at a place.
 pub(crate) fn newest_valid<'a>(
-    place: &'a [Sig],
+    sigs: &'a [Sig],
     verdicts: &Verdicts,
     fpr: &Fpr,
     t: u32,
     binding: Binding,
 ) -> Option<&'a Sig>
-    ensures { option_copied result ≡ newest_valid_spec verdicts.now fpr.now t binding place.now }
+    ensures { option_copied result ≡ newest_valid_spec verdicts.now fpr.now t binding sigs.now }
 {
-    let revoked = latest_revocation(place, verdicts, fpr, t);
-    newest_after(place, verdicts, fpr, t, binding, revoked)
+    let revoked = latest_revocation(sigs, verdicts, fpr, t);
+    newest_after(sigs, verdicts, fpr, t, binding, revoked)
 }
 
 /// The greatest, by the primary mark and then newness, of the newest self-certifications of the user IDs.
@@ -114,8 +114,8 @@ pub(crate) fn primary<'a>(
 {
     let mut best: Option<&'a Sig> = None;
     let mut rest = user_ids;
-    'back: while let Some((uid, front)) = rest.split_last() {
-        rest = front;
+    'back: while let Some((uid, prefix)) = rest.split_last() {
+        rest = prefix;
         if let Some(sig) = newest_valid(uid.sigs(), verdicts, fpr, t, Binding::Certification) {
             best = match best {
                 None => Some(sig),

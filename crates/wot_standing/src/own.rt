@@ -10,20 +10,20 @@ use wot_cert::{Part, Sig};
 use wot_types::Fpr;
 use wot_verdict::Verdicts;
 
-fn has_revocation(place: &[Sig], verdicts: &Verdicts, fpr: &Fpr, t: u32) -> bool
-    ensures { result ≡ list_any (revokes_by verdicts.now fpr.now t) place.now }
+fn has_revocation(sigs: &[Sig], verdicts: &Verdicts, fpr: &Fpr, t: u32) -> bool
+    ensures { result ≡ list_any (revokes_by verdicts.now fpr.now t) sigs.now }
 {
     let mut found = false;
-    let mut rest = place;
-    'back: while let Some((sig, front)) = rest.split_last() {
-        rest = front;
+    let mut rest = sigs;
+    'back: while let Some((sig, prefix)) = rest.split_last() {
+        rest = prefix;
         found = revokes(sig, verdicts, fpr, t) || found;
     }
     found
 }
 
-/// Whether a user ID is revoked at a time by its own key, which has this fingerprint: a live revocation by it stands on the
-/// user ID, and no self-certification that is live and unrevoked.
+/// Whether a user ID is revoked at a time by its own key, which has this fingerprint: a live revocation by it stands
+/// on the user ID, and no self-certification that is live and unrevoked.
 pub fn is_own_revoked(uid: &Part, verdicts: &Verdicts, fpr: &Fpr, t: u32) -> bool
     ensures revoked { result ≡ is_own_revoked_spec verdicts.now fpr.now t uid.now }
 {

@@ -32,8 +32,8 @@ pub(crate) fn has_hard(direct: &[Sig], verdicts: &Verdicts, fpr: &Fpr) -> bool
 {
     let mut found = false;
     let mut rest = direct;
-    'back: while let Some((sig, front)) = rest.split_last() {
-        rest = front;
+    'back: while let Some((sig, prefix)) = rest.split_last() {
+        rest = prefix;
         found = is_hard_revocation(sig, verdicts, fpr) || found;
     }
     found
@@ -45,8 +45,8 @@ pub(crate) fn soft_moment(direct: &[Sig], verdicts: &Verdicts, fpr: &Fpr, t: u32
 {
     let mut first: Option<u32> = None;
     let mut rest = direct;
-    'back: while let Some((sig, front)) = rest.split_last() {
-        rest = front;
+    'back: while let Some((sig, prefix)) = rest.split_last() {
+        rest = prefix;
         if is_soft_revocation(sig, verdicts, fpr, t) {
             first = Some(sooner(made(sig), first));
         }

@@ -11,7 +11,8 @@ use wot_cert::{Cert, Span, span};
 pub fn steady_span(cert: &Cert, t: u32) -> Span
     ensures span { result ≡ span_of cert.now t }
     ensures steady { (u : ℕ) → InSpan result u → IsSteady cert.now t u }
-    ensures certifications { (u : ℕ) → InSpan result u → (verdicts : Entries) (issuer : Fpr) → AllByRecursion (SameBy verdicts issuer t u) cert.now.user_ids }
+    ensures certifications { (u : ℕ) → InSpan result u → (verdicts : Entries) (issuer : Fpr) →
+        AllByRecursion (SameBy verdicts issuer t u) cert.now.user_ids }
 {
     span(cert, t)
 }

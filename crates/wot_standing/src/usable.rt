@@ -22,8 +22,8 @@ fn is_after(t: u32, moment: Option<u32>) -> bool
     }
 }
 
-/// Whether an edge made then is usable, by the standing of its issuer: the issuer stands, was there by then, had not ended,
-/// isn't hard revoked, and wasn't soft revoked by then.
+/// Whether an edge made then is usable, by the standing of its issuer: the issuer stands, was there by then, had not
+/// ended, isn't hard revoked, and wasn't soft revoked by then.
 pub fn is_usable(issuer: &Standing, made: u32) -> bool
     ensures usable { result ≡ is_usable_spec issuer.now made }
 {

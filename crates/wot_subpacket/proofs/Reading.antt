@@ -1,4 +1,4 @@
--- Reading subpackets from the front.
+-- Reading subpackets from the beginning.
 use Rattle.std.proofs.Common.{◌≡◌, ℕ, zero, suc, ◌≤◌, ◌<◌, true, false, cond, ◌==◌, List, [], ◌∷◌, ◌++◌, length, take, drop, Option, Some, None, Result, Ok, Err, IsOk, refl, sym, ap, ◌∙◌, subst, append_assoc, arith, length-append}
 use Rattle.std.proofs.lemmas.Bool.{cond_both}
 use Rattle.std.proofs.lemmas.List.{take-append-drop}
@@ -22,7 +22,7 @@ record Leads (octets behind : List ℕ) : Type 0 where
 
 abbrev LeadsTo : List ℕ → Option (ℕ × List ℕ) → Type 0
 LeadsTo octets None = Unit {0}
-LeadsTo octets (Some front) = Leads octets front.1
+LeadsTo octets (Some found) = Leads octets found.1
 
 two-lead : (o : ℕ) (xs : List ℕ) → LeadsTo (o ∷ xs) (two_octets_at o xs)
 two-lead o [] = tt
@@ -47,7 +47,7 @@ record StandsFirst (octets body behind : List ℕ) : Type 0 where
 
 abbrev Fits : List ℕ → Result (Subpacket × List ℕ) AreaFault → Type 0
 Fits octets (Err fault) = Unit {0}
-Fits octets (Ok front) = StandsFirst octets front.0.body front.1
+Fits octets (Ok found) = StandsFirst octets found.0.body found.1
 
 cut-fits : (octets : List ℕ) (k : ℕ) (xs : List ℕ) → Leads octets xs → Fits octets (cut_at k xs)
 cut-fits octets k xs l =
@@ -67,9 +67,9 @@ cut-fits octets k xs l =
           ∙ sym (append_assoc l.lead (take 1 (take k xs)) (drop 1 (take k xs) ++ drop k xs));
     }))
 
-behind-fits : (octets : List ℕ) (front : Option (ℕ × List ℕ)) → LeadsTo octets front → Fits octets (behind_length front)
+behind-fits : (octets : List ℕ) (found : Option (ℕ × List ℕ)) → LeadsTo octets found → Fits octets (behind_length found)
 behind-fits octets None h = tt
-behind-fits octets (Some front) h = cut-fits octets front.0 front.1 h
+behind-fits octets (Some found) h = cut-fits octets found.0 found.1 h
 
 first-fits : (o : ℕ) (xs : List ℕ) → Fits (o ∷ xs) (first_of (o ∷ xs))
 first-fits o xs = behind-fits (o ∷ xs) (length_at (o ∷ xs)) (length-leads o xs)
@@ -77,14 +77,14 @@ first-fits o xs = behind-fits (o ∷ xs) (length_at (o ∷ xs)) (length-leads o 
 -- no more than n octets are behind the first one
 abbrev Leaves : ℕ → Result (Subpacket × List ℕ) AreaFault → Type 0
 Leaves n (Err fault) = Unit {0}
-Leaves n (Ok front) = length front.1 ≤ n
+Leaves n (Ok found) = length found.1 ≤ n
 
 leaves_fewer : (n : ℕ) (octets body behind : List ℕ) → length octets ≡ suc n → StandsFirst octets body behind → length behind ≤ n
 leaves_fewer n octets body behind h f = omega (arith, f.is_there, ap length f.stands, length-append f.lead (body ++ behind), length-append body behind)
 
 leaves_from_fits : (o : ℕ) (xs : List ℕ) (r : Result (Subpacket × List ℕ) AreaFault) → Fits (o ∷ xs) r → Leaves (length xs) r
 leaves_from_fits o xs (Err fault) h = tt
-leaves_from_fits o xs (Ok front) h = leaves_fewer (length xs) (o ∷ xs) front.0.body front.1 (omega arith) h
+leaves_from_fits o xs (Ok found) h = leaves_fewer (length xs) (o ∷ xs) found.0.body found.1 (omega arith) h
 
 first-leaves : (o : ℕ) (xs : List ℕ) → Leaves (length xs) (first_of (o ∷ xs))
 first-leaves o xs = leaves_from_fits o xs (first_of (o ∷ xs)) (first-fits o xs)
@@ -93,7 +93,7 @@ first-leaves o xs = leaves_from_fits o xs (first_of (o ∷ xs)) (first-fits o xs
 
 reads_same : (r : Result (Subpacket × List ℕ) AreaFault) (n : ℕ) (f g : List ℕ → Result (List Subpacket) AreaFault) → Leaves n r → ((xs : List ℕ) → length xs ≤ n → f xs ≡ g xs) → then_read r f ≡ then_read r g
 reads_same (Err e) n f g h s = refl
-reads_same (Ok front) n f g h s = ap (before front.0) (s front.1 h)
+reads_same (Ok found) n f g h s = ap (before found.0) (s found.1 h)
 
 -- any number is enough that isn't below the number of octets
 enough : (n m : ℕ) (xs : List ℕ) → length xs ≤ n → length xs ≤ m → spelled n xs ≡ spelled m xs
@@ -116,6 +116,10 @@ pub subpackets-none : subpackets_of [] ≡ Ok []
 unfolding subpackets_of
 subpackets-none = refl
 
+pub subpackets-any_bound : (n : ℕ) (xs : List ℕ) → length xs ≤ n → spelled n xs ≡ subpackets_of xs
+unfolding subpackets_of
+subpackets-any_bound n xs h = enough n (length xs) xs h (omega arith)
+
 -- ---- for the walks
 
 pub subpackets-ok : (xs : List ℕ) (s : Subpacket) (behind : List ℕ) → first_of xs ≡ Ok (s, behind) → subpackets_of xs ≡ before s (subpackets_of behind)
@@ -127,7 +131,7 @@ subpackets-err [] e n h = absurd (cc)
 subpackets-err (o ∷ xs) e n h = subpackets-first o xs ∙ ap (λ r. then_read r subpackets_of) h
 
 shorter_at : (n : ℕ) (r : Result (Subpacket × List ℕ) AreaFault) (s : Subpacket) (behind : List ℕ) → r ≡ Ok (s, behind) → Leaves n r → length behind ≤ n
-shorter_at n (Ok front) s behind e h = let g : front.1 ≡ behind = cc in omega (arith, h, ap length g)
+shorter_at n (Ok found) s behind e h = let g : found.1 ≡ behind = cc in omega (arith, h, ap length g)
 shorter_at n (Err f) s behind e h = absurd (cc)
 
 pub behind_is_shorter : (xs : List ℕ) (s : Subpacket) (behind : List ℕ) → first_of xs ≡ Ok (s, behind) → length behind < length xs
@@ -189,18 +193,18 @@ list-end (o ∷ xs) e ok h = absurd (fault_is_none (o ∷ xs) e ok (subpackets-f
 -- ---- each body is a slice of the octets
 
 slice_of_first : (octets body behind : List ℕ) → StandsFirst octets body behind → IsSliceOf body octets
-slice_of_first octets body behind f = record { front = f.lead; back = behind; stands = f.stands }
+slice_of_first octets body behind f = record { prefix = f.lead; back = behind; stands = f.stands }
 
 slice_behind : (part octets body behind : List ℕ) → StandsFirst octets body behind → IsSliceOf part behind → IsSliceOf part octets
 slice_behind part octets body behind f p =
     record {
-      front = f.lead ++ (body ++ p.front);
+      prefix = f.lead ++ (body ++ p.prefix);
       back = p.back;
       stands =
           f.stands
           ∙ ap (λ ys. f.lead ++ (body ++ ys)) p.stands
-          ∙ ap (λ ys. f.lead ++ ys) (sym (append_assoc body p.front (part ++ p.back)))
-          ∙ sym (append_assoc f.lead (body ++ p.front) (part ++ p.back));
+          ∙ ap (λ ys. f.lead ++ ys) (sym (append_assoc body p.prefix (part ++ p.back)))
+          ∙ sym (append_assoc f.lead (body ++ p.prefix) (part ++ p.back));
     }
 
 slices_behind : (octets body behind : List ℕ) (ss : List Subpacket) → StandsFirst octets body behind → HaveSlicesOf behind ss → HaveSlicesOf octets ss
@@ -217,7 +221,7 @@ slices_before octets behind s (Err fault) f h = tt
 
 slices_then : (octets : List ℕ) (r : Result (Subpacket × List ℕ) AreaFault) (read : List ℕ → Result (List Subpacket) AreaFault) → Fits octets r → ((xs : List ℕ) → HaveSlicesIfOk xs (read xs)) → HaveSlicesIfOk octets (then_read r read)
 slices_then octets (Err fault) read f h = tt
-slices_then octets (Ok front) read f h = slices_before octets front.1 front.0 (read front.1) f (h front.1)
+slices_then octets (Ok found) read f h = slices_before octets found.1 found.0 (read found.1) f (h found.1)
 
 spelled-slices : (n : ℕ) (xs : List ℕ) → HaveSlicesIfOk xs (spelled n xs)
 spelled-slices zero [] = tt
@@ -245,7 +249,7 @@ one_more n s (Err fault) h = tt
 
 then_one_more : (n : ℕ) (r : Result (Subpacket × List ℕ) AreaFault) (read : List ℕ → Result (List Subpacket) AreaFault) → ((xs : List ℕ) → HaveNoMoreThan n (read xs)) → HaveNoMoreThan (suc n) (then_read r read)
 then_one_more n (Err fault) read h = tt
-then_one_more n (Ok front) read h = one_more n front.0 (read front.1) (h front.1)
+then_one_more n (Ok found) read h = one_more n found.0 (read found.1) (h found.1)
 
 spelled-few : (n : ℕ) (xs : List ℕ) → HaveNoMoreThan n (spelled n xs)
 spelled-few zero [] = omega arith

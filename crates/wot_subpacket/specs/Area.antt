@@ -15,9 +15,9 @@ cut_at size octets =
 
 abbrev pub behind_length : Option (ℕ × List ℕ) → Result (Subpacket × List ℕ) AreaFault
 behind_length None = Err CutLength
-behind_length (Some front) = cut_at front.0 front.1
+behind_length (Some found) = cut_at found.0 found.1
 
--- the subpacket at the front of octets, and what is behind it; or its fault
+-- the subpacket at the beginning of octets, and what is behind it; or its fault
 abbrev pub first_of : List ℕ → Result (Subpacket × List ℕ) AreaFault
 first_of octets = behind_length (length_at octets)
 
@@ -29,7 +29,7 @@ before first (Err fault) = Err fault
 -- the first one, before those that are read behind it
 abbrev pub then_read : Result (Subpacket × List ℕ) AreaFault → (List ℕ → Result (List Subpacket) AreaFault) → Result (List Subpacket) AreaFault
 then_read (Err fault) read = Err fault
-then_read (Ok front) read = before front.0 (read front.1)
+then_read (Ok found) read = before found.0 (read found.1)
 
 -- the subpackets that no more than so many octets spell
 abbrev pub spelled : ℕ → List ℕ → Result (List Subpacket) AreaFault
@@ -37,7 +37,7 @@ spelled most [] = Ok []
 spelled zero (o ∷ octets) = Err CutBody
 spelled (suc most) (o ∷ octets) = then_read (first_of (o ∷ octets)) (spelled most)
 
--- The list of subpackets that octets spell, or their first fault from the front.
+-- The list of subpackets that octets spell, or their first fault from the beginning.
 unfoldable pub subpackets_of : List ℕ → Result (List Subpacket) AreaFault
 subpackets_of octets = spelled (length octets) octets
 

@@ -11,7 +11,7 @@ two_octets_at first (second ∷ rest) = Some ((first - 192) * 256 + second + 192
 abbrev pub four_octets_at : List ℕ → Option (ℕ × List ℕ)
 four_octets_at octets = if nat_lt (length octets) 4 then None else Some (from_be_bytes w32 (take 4 octets), drop 4 octets)
 
--- the length at the front of octets, and what is behind it; none where octets of the length are missing
+-- the length at the beginning of octets, and what is behind it; none where octets of the length are missing
 abbrev pub length_at : List ℕ → Option (ℕ × List ℕ)
 length_at [] = None
 length_at (first ∷ rest) =

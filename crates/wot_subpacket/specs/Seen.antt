@@ -11,5 +11,5 @@ seen sub = record { critical = sub.critical; kind = sub.kind; body = sub.body.no
 
 -- The first subpacket and what is behind it, or its fault.
 abbrev pub GivesFirst : Result (Sub × Bor (List ℕ)) AreaFault → Result (Subpacket × List ℕ) AreaFault → Type 0
-GivesFirst (Ok front) first = first ≡ Ok (seen front.0, front.1.now)
+GivesFirst (Ok found) first = first ≡ Ok (seen found.0, found.1.now)
 GivesFirst (Err fault) first = first ≡ Err fault

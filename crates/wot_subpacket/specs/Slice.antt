@@ -5,9 +5,9 @@ use Rattle.wot_subpacket.specs.Subpacket.{Subpacket}
 
 -- The part stands somewhere in the whole.
 pub record IsSliceOf (part whole : List ℕ) : Type 0 where
-  pub front : List ℕ
+  pub prefix : List ℕ
   pub back : List ℕ
-  pub stands : whole ≡ front ++ (part ++ back)
+  pub stands : whole ≡ prefix ++ (part ++ back)
 
 -- The body of each subpacket stands in the octets.
 abbrev pub HaveSlicesOf : List ℕ → List Subpacket → Type 0

@@ -2,7 +2,7 @@ ghost use Rattle.std.specs.Prelude.{◌≡◌, ◌<◌, ◌^◌, length, IfOk, I
 ghost use Rattle.wot_subpacket.specs.Area.{subpackets_of};
 ghost use Rattle.wot_subpacket.specs.Slice.{HaveSlicesOf};
 
-use crate::front::first;
+use crate::first::first;
 use crate::{AreaFault, Sub};
 use std::marker::Model;
 
@@ -25,7 +25,7 @@ impl<'a> Model for Area<'a> {
 }
 
 impl<'a> Area<'a> {
-    /// The octets as a list of subpackets, or the first fault from the front. Reads each length once.
+    /// The octets as a list of subpackets, or the first fault from the beginning. Reads each length once.
     pub fn new(bytes: &'a [u8]) -> Result<Area<'a>, AreaFault>
         ensures read { result ≡ subpackets_of bytes.now }
         ensures slices { IfOk result (HaveSlicesOf bytes.now) }

@@ -1,4 +1,4 @@
-/// Why octets are no list of subpackets. The first fault from the front is told.
+/// Why octets are no list of subpackets. The first fault from the beginning is told.
 #[derive(Clone, Copy, Debug, PartialEq, Eq)]
 pub enum AreaFault {
     /// Octets of a length are missing.

@@ -3,13 +3,11 @@
 
 mod area;
 mod fault;
-mod front;
+mod first;
+pub mod laws;
 mod size;
 mod sub;
 
 pub use area::{Area, AreaIter};
 pub use fault::AreaFault;
 pub use sub::Sub;
-
-#[cfg(test)]
-mod tests;

@@ -1,9 +1,9 @@
 ghost use Rattle.std.specs.Prelude.{◌≡◌, ◌<◌, ◌≤◌, MatchOption, None, Some};
 ghost use Rattle.wot_subpacket.specs.Length.{length_at, two_octets_at, four_octets_at};
 
-/// The length at the front, and the octets behind it; `None` where octets of the length are missing.
+/// The length at the beginning, and the octets behind it; `None` where octets of the length are missing.
 pub(crate) fn length_of(bytes: &[u8]) -> Option<(usize, &[u8])>
-    ensures { MatchOption result (length_at bytes.now ≡ None) (λ front. length_at bytes.now ≡ Some (front.0, front.1.now)) }
+    ensures { MatchOption result (length_at bytes.now ≡ None) (λ found. length_at bytes.now ≡ Some (found.0, found.1.now)) }
 {
     let (first, rest) = bytes.split_first()?;
     match *first {
@@ -15,7 +15,8 @@ pub(crate) fn length_of(bytes: &[u8]) -> Option<(usize, &[u8])>
 
 fn two_octets(first: u8, bytes: &[u8]) -> Option<(usize, &[u8])>
     requires { 192 ≤ first }
-    ensures { MatchOption result (two_octets_at first bytes.now ≡ None) (λ front. two_octets_at first bytes.now ≡ Some (front.0, front.1.now)) }
+    ensures { MatchOption result (two_octets_at first bytes.now ≡ None) (λ found. two_octets_at first bytes.now
+        ≡ Some (found.0, found.1.now)) }
 {
     let (second, rest) = bytes.split_first()?;
     let high = usize::from(first) - 192;
@@ -23,7 +24,7 @@ fn two_octets(first: u8, bytes: &[u8]) -> Option<(usize, &[u8])>
 }
 
 fn four_octets(bytes: &[u8]) -> Option<(usize, &[u8])>
-    ensures { MatchOption result (four_octets_at bytes.now ≡ None) (λ front. four_octets_at bytes.now ≡ Some (front.0, front.1.now)) }
+    ensures { MatchOption result (four_octets_at bytes.now ≡ None) (λ found. four_octets_at bytes.now ≡ Some (found.0, found.1.now)) }
 {
     if bytes.len() < 4 {
         return None;

@@ -3,10 +3,12 @@
 
 mod digits;
 mod fpr;
+pub mod laws;
 mod limits;
 mod memory;
 mod name;
 mod number;
+mod place;
 mod steps;
 mod user_id;
 mod view_name;
@@ -16,9 +18,7 @@ pub use limits::{Limit, Limits};
 pub use memory::Memory;
 pub use name::Name;
 pub use number::{SigNumber, compare_numbers};
+pub use place::Place;
 pub use steps::Steps;
 pub use user_id::UserId;
 pub use view_name::{ViewName, compare_view_names};
-
-#[cfg(test)]
-mod tests;

@@ -27,5 +27,5 @@ abbrev pub without_verdict : Entries → SigNumber → Entries
 without_verdict verdicts number = remove_entry (is_number number) verdicts
 
 -- The numbers ascend, so that none stands twice.
-abbrev pub InOrder : Entries → Type 0
-InOrder verdicts = IsStrictlySortedBy number_cmp (keys_of verdicts)
+abbrev pub AreSortedByNumber : Entries → Type 0
+AreSortedByNumber verdicts = IsStrictlySortedBy number_cmp (keys_of verdicts)

@@ -2,8 +2,6 @@
 #![tactic(auto)]
 
 mod number;
-#[cfg(test)]
-mod tests;
 mod verdict;
 mod verdicts;
 

@@ -13,10 +13,11 @@ fn feed(hasher: &mut Sha256, octets: &[u8])
     hasher.update(octets);
 }
 
-/// The number of a signature at its place: SHA-256 (FIPS 180-4) over five fields, each behind its length in four octets.
+/// The number of a signature at its place: SHA-256 (FIPS 180-4) over five fields, each behind its length in four
+/// octets.
 ///
-/// `kind` is 0 for a signature on the key itself, 1 on a user ID, 2 on a user attribute and 3 on a subkey. `component` is
-/// the body of what the signature stands on, empty where that is the key.
+/// `kind` is 0 for a signature on the key itself, 1 on a user ID, 2 on a user attribute and 3 on a subkey.
+/// `component` is the body of what the signature stands on, empty where that is the key.
 #[tactic(auto, unfolding(crate::specs::Number::number_of))]
 pub fn number_of(key: &[u8], kind: u8, component: &[u8], signature: &[u8]) -> SigNumber
     requires key { length key.now < 2 ^ 32 }

@@ -1,7 +1,7 @@
 ghost use Rattle.std.specs.Prelude.{◌≡◌, ◌≢◌, ◌<◌, ◌^◌, ◌↔◌, [], Bool, length, IsTrue, IfOk, OnOk, OnErr, Some, None, is_some, cond};
 ghost use Rattle.std.specs.Iterator.{YieldsFirst, item_count};
 ghost use Rattle.wot_types.specs.declared.number.SigNumber.{SigNumber as SigNumberOf};
-ghost use Rattle.wot_verdict.specs.Verdicts.{verdict_at, with_verdict, without_verdict, is_number, InOrder};
+ghost use Rattle.wot_verdict.specs.Verdicts.{verdict_at, with_verdict, without_verdict, is_number, AreSortedByNumber};
 
 use crate::Verdict;
 use std::alloc::Global;
@@ -45,7 +45,8 @@ impl Verdicts {
     /// After `Memory` all is as before.
     pub fn set(&mut self, number: SigNumber, verdict: Verdict) -> Result<bool, Memory>
         ensures set { OnOk result (self.new ≡ with_verdict self.old number verdict) }
-        ensures at_each { OnOk result ((q : SigNumberOf) → verdict_at self.new q ≡ cond (is_number number q) (Some verdict) (verdict_at self.old q)) }
+        ensures at_each { OnOk result ((q : SigNumberOf) →
+            verdict_at self.new q ≡ cond (is_number number q) (Some verdict) (verdict_at self.old q)) }
         ensures changed { IfOk result (λ changed. IsTrue changed ↔ (verdict_at self.old number ≢ Some verdict)) }
         ensures kept { OnErr result (self.new ≡ self.old) }
         ensures was_absent { OnErr result (verdict_at self.old number ≡ None) }
@@ -67,7 +68,7 @@ impl Verdicts {
     pub fn len(&self) -> usize
         ensures count { result ≡ length self.now }
         ensures few { result < 2 ^ 63 }
-        ensures in_order { InOrder self.now }
+        ensures sorted { AreSortedByNumber self.now }
     {
         self.by_number.len()
     }
@@ -75,7 +76,7 @@ impl Verdicts {
     /// Each number with its verdict, once, in the order of the numbers.
     pub fn iter(&self) -> VerdictsIter<'_>
         ensures entries { result ≡ self.now }
-        ensures in_order { InOrder self.now }
+        ensures sorted { AreSortedByNumber self.now }
     {
         VerdictsIter {
             entries: self.by_number.iter(),

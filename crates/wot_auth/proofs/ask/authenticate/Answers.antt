@@ -1,4 +1,4 @@
-use Rattle.std.proofs.Common.{◌≡◌, sym, ◌∙◌}
+use Rattle.std.proofs.Common.{sym, ◌∙◌}
 use Rattle.wot_edge.specs.Path.{asks}
 use Rattle.wot_auth.proofs.ask.authenticate.Goals as goal
 
@@ -25,4 +25,8 @@ returns-clause-roots g c fpr =
 
 pub returns-clause-local_one : goal.returns-clause-local_one
 returns-clause-local_one g c other agree lawful paths a =
-    c.answer_is_one.ensures.one other c.args.wanted paths c.in_ok-answer.answer.paths lawful a (c.in_ok-answer.ensures.local other agree)
+    c.answer_is_one.ensures.one other c.args.wanted paths c.in_ok-answer.answer.paths lawful a
+    (c.in_ok-answer.ensures.local c.everywhere-reach.ensures.all c.take.new.notes (λ fpr h. h) other agree)
+
+pub returns-clause-local : goal.returns-clause-local
+returns-clause-local g c other agree = c.in_ok-answer.ensures.local c.everywhere-reach.ensures.all c.take.new.notes (λ fpr h. h) other agree

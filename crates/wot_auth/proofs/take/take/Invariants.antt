@@ -1,10 +1,13 @@
-use Rattle.std.proofs.Common.{◌≡◌, ◌<◌, ◌-◌, []}
-use Rattle.wot_edge.specs.Record.{IsRecord}
+use Rattle.std.proofs.Common.{◌≡◌, ◌<◌, ◌-◌, [], List}
+use Rattle.wot_types.specs.declared.fpr.Fpr.{Fpr}
+use Rattle.wot_edge.specs.Record.{Has, IsRecord}
 use Rattle.wot_edge.specs.Path.{Question, asks, use_of}
 use Rattle.wot_edge.specs.Sums.{use_in}
 use Rattle.wot_edge.specs.Answer.{EachNext, amount_of, but_last}
 use Rattle.wot_edge.specs.Agree.{Agree}
-use Rattle.wot_edge.specs.Leads.{Grows, GainsLeads}
+use Rattle.wot_edge.specs.Leads.{Leads}
+use Rattle.wot_search.specs.Looked.{Gains, Widens}
+use Rattle.wot_search.specs.Reach.{number_at}
 use Rattle.wot_auth.proofs.take.take.Given as goal
 
 abbrev pub invariant-paths : goal.invariant-paths
@@ -17,9 +20,10 @@ invariant-paths g l =
       used : use_in l.used ≡ use_of l.paths.items;
       sum : l.sum ≡ amount_of l.paths.items;
       lawful : 0 < l.sum → IsRecord told;
-      grows : Grows l.fn.consulted l.consulted;
-      leads : GainsLeads told l.target l.fn.consulted l.consulted;
-      local : (other : Question) → Agree q other l.consulted → EachNext other [] l.paths.items;
+      grows : Widens (g.N.Notes.noted l.fn.notes) (g.N.Notes.noted l.notes);
+      leads : Gains (Leads told l.target) (g.N.Notes.noted l.fn.notes) (g.N.Notes.noted l.notes);
+      local : ((fpr : Fpr) → number_at l.reach fpr ≡ 255) → (set : List Fpr) → Widens (g.N.Notes.noted l.notes) (Has set)
+          → (other : Question) → Agree q other set → EachNext other [] l.paths.items;
     }
 
 abbrev pub decreases-paths : goal.decreases-paths

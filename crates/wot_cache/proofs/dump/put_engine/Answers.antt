@@ -29,5 +29,9 @@ returns-in-Ok-clause-read_back c =
 
 pub returns-in-Ok-clause-restored : goal.returns-in-Ok-clause-restored
 returns-in-Ok-clause-restored c =
-    λ rows. c.replayed.ensures rows (engine_of c.args.keyring.now c.args.views.now.entries) (c.in_ok-held.ensures.restored rows)
-    c.requires.within c.in-Ok.ensures.roots c.put_views.ensures.in_order
+    λ rows. c.replayed.ensures rows (engine_of c.args.keyring.now c.args.views.now.entries) (record {
+      keyring = c.in_ok-held.ensures.restored rows;
+      within = c.requires.within;
+      roots = c.in-Ok.ensures.roots;
+      sorted = c.put_views.ensures.sorted;
+    })

@@ -2,4 +2,4 @@ use Rattle.wot_cache.proofs.Replay.{restored}
 use Rattle.wot_cache.proofs.dump.replayed.Goals as goal
 
 pub returns : goal.returns
-returns c = restored
+returns c = λ rows engine is. restored rows engine is.keyring is.within is.roots is.sorted

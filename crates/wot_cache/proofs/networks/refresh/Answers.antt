@@ -1,4 +1,4 @@
-use Rattle.std.proofs.Common.{◌≡◌, sym}
+use Rattle.std.proofs.Common.{sym}
 use Rattle.wot_cache.proofs.Inside.{fit_set, fits_found}
 use Rattle.wot_cache.proofs.networks.refresh.Goals as goal
 

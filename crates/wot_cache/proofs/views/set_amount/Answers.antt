@@ -1,4 +1,4 @@
-use Rattle.std.proofs.Common.{rules, ◌≡◌}
+use Rattle.std.proofs.Common.{rules}
 use Rattle.std.proofs.lemmas.Map.Steps.{set_value_same}
 use Rattle.wot_cache.proofs.views.set_amount.Goals as goal
 

@@ -3,7 +3,7 @@ use Rattle.wot_types.specs.Limits.{standard_limits}
 use Rattle.wot_types.specs.declared.fpr.Fpr.{Fpr}
 use Rattle.wot_keyring.specs.declared.kept.Kept.{Kept}
 use Rattle.wot_keyring.specs.Keyring.{Keyring}
-use Rattle.wot_engine.specs.Outcome.{line_of}
+use Rattle.wot_engine.specs.Outcome.{key_line_of}
 use Rattle.wot_engine.proofs.Keeping.{sized, keys_told}
 use Rattle.wot_engine.proofs.listing.keys.Goals as goal
 
@@ -14,7 +14,7 @@ pub returns : goal.returns
 returns c = record {
   keys = rw c.items.ensures.whole (keys_told c.args.engine.now.keyring c.in_ok-lines.lines (
       c.in_ok-lines.ensures.lines
-      ∙ ap (map line_of) c.certs.ensures.certs
-      ∙ ap (λ (k : Keyring). map line_of (map (λ (e : Fpr × Kept). e.1.cert) k.certs)) c.keyring.ensures.keyring
+      ∙ ap (map key_line_of) c.certs.ensures.certs
+      ∙ ap (λ (k : Keyring). map key_line_of (map (λ (e : Fpr × Kept). e.1.cert) k.certs)) c.keyring.ensures.keyring
       ));
 }

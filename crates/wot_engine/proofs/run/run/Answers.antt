@@ -1,11 +1,35 @@
-use Rattle.std.proofs.Common.{◌≡◌, ◌^◌, ◌<◌, refl, arith, subst, ◌∙◌}
+use Rattle.std.proofs.Common.{◌≡◌, ◌^◌, ◌<◌, ℕ, List, Option, Some, None, refl, arith, subst, ◌∙◌}
+use Rattle.std.proofs.lemmas.Result.{err_from_is_err_and}
 use Rattle.wot_policy.specs.declared.rows.PolicyRows.{PolicyRows}
 use Rattle.wot_policy.specs.Kept.{rows_of}
 use Rattle.wot_keyring.specs.Kept.{IsJudgedBy}
 use Rattle.wot_cache.specs.State.{state_of}
+use Rattle.wot_engine.specs.Transcript.{Told}
 use Rattle.wot_engine.proofs.Turns.{Answered-end, Answered-stop, Told-weaker, Turns-reply, Stood-write, Begun-cut, Begun-here, Begun-nothing, Most-cut, Most-stop}
 use Rattle.wot_engine.proofs.Replying.{answered, not_end, begins, no_fault, within, counted, judged}
+use Rattle.wot_engine.proofs.Taking.{took_nothing, took_both, takes_more}
 use Rattle.wot_engine.proofs.run.run.Goals as goal
+
+-- what holds of all contents holds where they are told
+told_always : (left written : Option (List ℕ)) (P : List ℕ → List ℕ → Type 0) → ((input before : List ℕ) → P input before) → Told left written P
+told_always None written P f = tt
+told_always (Some input) None P f = tt
+told_always (Some input) (Some before) P f = f input before
+
+pub returns-in_err-write_all-clause-taken : goal.returns-in_err-write_all-clause-taken
+returns-in_err-write_all-clause-taken g c =
+    let p = err_from_is_err_and c.from_residual-in_err-write_all.result c.from_residual-in_err-write_all.ensures.1 in
+    told_always (g.S.Source.left c.args.input.now) (g.K.Sink.written c.args.output.now) _ (λ input before e. absurd (cc (e, p.1, p.2)))
+
+pub returns-in_err-write_all-clause-most : goal.returns-in_err-write_all-clause-most
+returns-in_err-write_all-clause-most g c =
+    let p = err_from_is_err_and c.from_residual-in_err-write_all.result c.from_residual-in_err-write_all.ensures.1 in
+    told_always (g.S.Source.left c.args.input.now) (g.K.Sink.written c.args.output.now) _ (λ input before e. absurd (cc (e, p.1, p.2)))
+
+pub returns-in_err-write_all-clause-at_most : goal.returns-in_err-write_all-clause-at_most
+returns-in_err-write_all-clause-at_most g c =
+    takes_more (g.S.Source.left c.args.input.now) (g.S.Source.left c.lines.input) (g.S.Source.left c.next.new.from) c.lines.lines.taken c.next.new.self.taken
+    c.lines.invariant.took c.next.ensures.took c.next.ensures.within
 
 pub returns-in-Err-ReadFault-clause-taken : goal.returns-in-Err-ReadFault-clause-taken
 returns-in-Err-ReadFault-clause-taken g c =
@@ -18,8 +42,8 @@ returns-in-Err-TooMuch-clause-most g c =
     Told-weaker (rows_of c.args.policy.now) (g.S.Source.left c.args.input.now) (g.K.Sink.written c.args.output.now) _ _ (λ input before both e. both.1 n)
     (Answered-stop (rows_of c.args.policy.now) (g.S.Source.left c.args.input.now) (g.K.Sink.written c.args.output.now) c.lines.lines.held c.lines.lines.taken (g.S.Source.left c.lines.input) (g.K.Sink.written c.lines.output) (state_of c.lines.machine) (g.S.Source.left c.next.new.from) c.next.new.self.taken c.lines.invariant.stood (c.in-Err-TooMuch.ensures.stops c.lines.invariant.no_fault))
 
-pub returns-in_err-write_all-clause-front : goal.returns-in_err-write_all-clause-front
-returns-in_err-write_all-clause-front g c =
+pub returns-in_err-write_all-clause-prefix : goal.returns-in_err-write_all-clause-prefix
+returns-in_err-write_all-clause-prefix g c =
     let replies = answered (rows_of c.lines.policy) (rows_of c.args.policy.now) c.in-Ok.line c.text.result.now c.next.new.self.text (state_of c.lines.machine) c.reply_to.new.out.items (state_of c.reply_to.new.machine) c.lines.invariant.rows c.text.ensures c.in_ok-reply_to.ensures.replies in
     let t = Turns-reply (rows_of c.args.policy.now) (g.S.Source.left c.args.input.now) (g.K.Sink.written c.args.output.now) c.lines.lines (g.S.Source.left c.lines.input) (g.K.Sink.written c.lines.output) (state_of c.lines.machine) c.next.new.self (g.S.Source.left c.next.new.from) (state_of c.reply_to.new.machine) c.in-Ok.line c.reply_to.new.out.items c.lines.invariant.stood c.in-Ok.ensures.ok replies in
     Begun-cut (rows_of c.args.policy.now) c.lines.invariant.law (g.S.Source.left c.args.input.now) (g.K.Sink.written c.args.output.now) c.next.new.self.held c.next.new.self.taken (g.S.Source.left c.next.new.from) (g.K.Sink.written c.lines.output) c.reply_to.new.out.items (state_of c.reply_to.new.machine) (g.K.Sink.written c.write_all.new.to) t (rw c.deref.ensures.value at c.in_err-write_all.ensures.err)
@@ -32,6 +56,7 @@ lines-preserved g c =
       law = c.lines.invariant.law;
       stood = Stood-write (rows_of c.args.policy.now) (g.S.Source.left c.args.input.now) (g.K.Sink.written c.args.output.now) c.next.new.self.held c.next.new.self.taken (g.S.Source.left c.next.new.from) (g.K.Sink.written c.lines.output) c.reply_to.new.out.items (state_of c.reply_to.new.machine) (g.K.Sink.written c.write_all.new.to) t (rw c.deref.ensures.value at c.in_ok-write_all.ensures.ok);
       no_fault = c.in-Ok.ensures.well.1;
+      took = took_both (g.S.Source.left c.args.input.now) (g.S.Source.left c.lines.input) (g.S.Source.left c.next.new.from) 0 c.lines.lines.taken c.next.new.self.taken c.lines.invariant.took c.next.ensures.took;
       within = c.next.ensures.within;
       empty = c.clear.ensures.items;
       source = omega (arith, c.next.ensures.later, c.lines.invariant.source);
@@ -55,16 +80,16 @@ returns-in-Err-ReadFault-clause-most_only g c =
     Told-weaker (rows_of c.args.policy.now) (g.S.Source.left c.args.input.now) (g.K.Sink.written c.args.output.now) _ _ (λ input before no most. absurd (no most))
     (Most-stop (rows_of c.args.policy.now) (g.S.Source.left c.args.input.now) (g.K.Sink.written c.args.output.now) c.lines.lines.held c.lines.lines.taken (g.S.Source.left c.lines.input) (g.K.Sink.written c.lines.output) (state_of c.lines.machine) (g.S.Source.left c.next.new.from) c.next.new.self.taken c.lines.invariant.stood (c.in-Err-ReadFault.ensures.stops c.lines.invariant.no_fault) lt)
 
-pub returns-in_err-lines-clause-front : goal.returns-in_err-lines-clause-front
-returns-in_err-lines-clause-front g c = Begun-nothing (rows_of c.args.policy.now) (record { some = c.each_line_has_one_outcome.ensures.some (rows_of c.args.policy.now); one = c.each_line_has_one_outcome.ensures.one (rows_of c.args.policy.now); stays = c.each_line_has_one_outcome.ensures.stays (rows_of c.args.policy.now) }) (g.S.Source.left c.args.input.now) (g.K.Sink.written c.args.output.now)
+pub returns-in_err-lines-clause-prefix : goal.returns-in_err-lines-clause-prefix
+returns-in_err-lines-clause-prefix g c = Begun-nothing (rows_of c.args.policy.now) (record { some = c.each_line_has_one_outcome.ensures.some (rows_of c.args.policy.now); one = c.each_line_has_one_outcome.ensures.one (rows_of c.args.policy.now); stays = c.each_line_has_one_outcome.ensures.stays (rows_of c.args.policy.now) }) (g.S.Source.left c.args.input.now) (g.K.Sink.written c.args.output.now)
 
 pub returns-in-Ok-End-clause-whole : goal.returns-in-Ok-End-clause-whole
 returns-in-Ok-End-clause-whole g c =
     Answered-end (rows_of c.args.policy.now) (g.S.Source.left c.args.input.now) (g.K.Sink.written c.args.output.now) c.lines.lines (g.S.Source.left c.lines.input) (g.K.Sink.written c.lines.output) (state_of c.lines.machine) c.next.new.self (g.S.Source.left c.next.new.from)
     c.lines.invariant.stood (rw c.in-Ok-End.field-0-is at c.in-Ok-End.ensures.ok)
 
-pub returns-in_err-reply_to-clause-front : goal.returns-in_err-reply_to-clause-front
-returns-in_err-reply_to-clause-front g c =
+pub returns-in_err-reply_to-clause-prefix : goal.returns-in_err-reply_to-clause-prefix
+returns-in_err-reply_to-clause-prefix g c =
     Begun-here (rows_of c.args.policy.now) c.lines.invariant.law (g.S.Source.left c.args.input.now) (g.K.Sink.written c.args.output.now) c.lines.lines.held c.lines.lines.taken (g.S.Source.left c.lines.input) (g.K.Sink.written c.lines.output) (state_of c.lines.machine) c.lines.invariant.stood
 
 pub lines-init : goal.lines-init
@@ -72,6 +97,7 @@ lines-init g c = record {
   law = (record { some = c.each_line_has_one_outcome.ensures.some (rows_of c.args.policy.now); one = c.each_line_has_one_outcome.ensures.one (rows_of c.args.policy.now); stays = c.each_line_has_one_outcome.ensures.stays (rows_of c.args.policy.now) });
   stood = begins (rows_of c.args.policy.now) (g.S.Source.left c.args.input.now) (g.K.Sink.written c.args.output.now) c.in_ok-lines.lines c.new-machine.result c.in_ok-lines.ensures c.new-machine.ensures.start;
   no_fault = no_fault c.in_ok-lines.lines c.in_ok-lines.ensures;
+  took = took_nothing (g.S.Source.left c.args.input.now) c.in_ok-lines.lines c.in_ok-lines.ensures;
   within = within c.in_ok-lines.lines c.in_ok-lines.ensures;
   empty = c.new-out.ensures.items;
   source = omega arith;

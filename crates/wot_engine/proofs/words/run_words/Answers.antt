@@ -6,5 +6,5 @@ pub returns-then-not-is_form-clause-most_only : goal.returns-then-not-is_form-cl
 returns-then-not-is_form-clause-most_only g c =
     Told-weaker (rows_of c.args.policy.now) (g.S.Source.left c.args.input.now) (g.K.Sink.written c.args.output.now) _ _ (λ input before no most. absurd (no most)) (Most-untouched (rows_of c.args.policy.now) (g.S.Source.left c.args.input.now) (g.K.Sink.written c.args.output.now))
 
-pub returns-then-not-is_form-clause-front : goal.returns-then-not-is_form-clause-front
-returns-then-not-is_form-clause-front g c = Begun-nothing (rows_of c.args.policy.now) (record { some = c.each_line_has_one_outcome.ensures.some (rows_of c.args.policy.now); one = c.each_line_has_one_outcome.ensures.one (rows_of c.args.policy.now); stays = c.each_line_has_one_outcome.ensures.stays (rows_of c.args.policy.now) }) (g.S.Source.left c.args.input.now) (g.K.Sink.written c.args.output.now)
+pub returns-then-not-is_form-clause-prefix : goal.returns-then-not-is_form-clause-prefix
+returns-then-not-is_form-clause-prefix g c = Begun-nothing (rows_of c.args.policy.now) (record { some = c.each_line_has_one_outcome.ensures.some (rows_of c.args.policy.now); one = c.each_line_has_one_outcome.ensures.one (rows_of c.args.policy.now); stays = c.each_line_has_one_outcome.ensures.stays (rows_of c.args.policy.now) }) (g.S.Source.left c.args.input.now) (g.K.Sink.written c.args.output.now)

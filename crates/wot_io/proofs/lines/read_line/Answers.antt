@@ -1,5 +1,5 @@
 use Rattle.std.proofs.Common.{None}
-use Rattle.wot_io.specs.Reading.{reading}
+use Rattle.wot_io.specs.ReaderState.{reader_state}
 use Rattle.wot_io.proofs.Cutting.{feed_answers, rest_answers, long_after, Took-after, Stops-moved, Stops-after}
 use Rattle.wot_io.proofs.lines.read_line.Goals as goal
 
@@ -12,14 +12,14 @@ pub returns-in-Ok-Feed-clause-ok : goal.returns-in-Ok-Feed-clause-ok
 returns-in-Ok-Feed-clause-ok g c =
     let moves = rw c.give_none.ensures.held at c.in-Ok-Feed.ensures.moves in
     let tells = rw c.in-Ok-Feed.field-0-is at c.in-Ok-Feed.ensures.ok in
-    feed_answers (reading c.args.buffer.now c.args.intake.now None) (reading c.cut.new.buffer c.fill.new.intake None) (g.S.Source.left c.args.from.now) (g.S.Source.left c.fill.new.from) c.fill.new.buffer.held c.in-Ok-Feed.i c.cut.result
+    feed_answers (reader_state c.args.buffer.now c.args.intake.now None) (reader_state c.cut.new.buffer c.fill.new.intake None) (g.S.Source.left c.args.from.now) (g.S.Source.left c.fill.new.from) c.fill.new.buffer.held c.in-Ok-Feed.i c.cut.result
     moves tells.0 tells.1 tells.2 c.cut.ensures.line c.cut.ensures.text c.cut.ensures.held
 
 pub returns-in-Ok-End-clause-ok : goal.returns-in-Ok-End-clause-ok
 returns-in-Ok-End-clause-ok g c =
     let moves = rw c.give_none.ensures.held at c.in-Ok-End.ensures.moves in
     let tells = rw c.in-Ok-End.field-0-is at c.in-Ok-End.ensures.ok in
-    rest_answers (reading c.args.buffer.now c.args.intake.now None) (reading c.give_last.new.buffer c.fill.new.intake None) (g.S.Source.left c.args.from.now) (g.S.Source.left c.fill.new.from) c.fill.new.buffer.held c.give_last.result
+    rest_answers (reader_state c.args.buffer.now c.args.intake.now None) (reader_state c.give_last.new.buffer c.fill.new.intake None) (g.S.Source.left c.args.from.now) (g.S.Source.left c.fill.new.from) c.fill.new.buffer.held c.give_last.result
     moves tells c.give_last.ensures.end c.give_last.ensures.text c.give_last.ensures.held
 
 pub returns-in-Err-pass-clause-took : goal.returns-in-Err-pass-clause-took
@@ -40,4 +40,4 @@ returns-in-Ok-clause-took g c =
 pub returns-in-Ok-clause-ok : goal.returns-in-Ok-clause-ok
 returns-in-Ok-clause-ok g c =
     let moves = rw c.give_none.ensures.held at c.in-Ok-Over.ensures.moves in
-    long_after (reading c.args.buffer.now c.args.intake.now None) (reading c.pass.new.buffer c.pass.new.intake None) (g.S.Source.left c.args.from.now) c.fill.new.buffer.held (g.S.Source.left c.fill.new.from) c.fill.new.intake.taken (g.S.Source.left c.pass.new.from) moves c.in-Ok.ensures.ok
+    long_after (reader_state c.args.buffer.now c.args.intake.now None) (reader_state c.pass.new.buffer c.pass.new.intake None) (g.S.Source.left c.args.from.now) c.fill.new.buffer.held (g.S.Source.left c.fill.new.from) c.fill.new.intake.taken (g.S.Source.left c.pass.new.from) moves c.in-Ok.ensures.ok

@@ -21,7 +21,7 @@ returns-in-Ok-clause-same c =
 
 pub returns-in-Ok-clause-clash : goal.returns-in-Ok-clause-clash
 returns-in-Ok-clause-clash c =
-    clashes_told (rows_of c.new-policy.result) c.args.terms.now.stamp c.args.certs.now.entries c.args.list.now c.requires.named c.requires.in_order ∙ c.in-Ok.ensures.clash
+    clashes_told (rows_of c.new-policy.result) c.args.terms.now.stamp c.args.certs.now.entries c.args.list.now c.requires.named c.requires.sorted ∙ c.in-Ok.ensures.clash
 
 pub returns-in-Err-clause-same : goal.returns-in-Err-clause-same
 returns-in-Err-clause-same c =
@@ -30,4 +30,4 @@ returns-in-Err-clause-same c =
 
 pub returns-in-Err-clause-clash : goal.returns-in-Err-clause-clash
 returns-in-Err-clause-clash c =
-    subst (IsClashTold c.in-Err.fault) (sym (clashes_told (rows_of c.new-policy.result) c.args.terms.now.stamp c.args.certs.now.entries c.args.list.now c.requires.named c.requires.in_order)) c.in-Err.ensures.clash
+    subst (IsClashTold c.in-Err.fault) (sym (clashes_told (rows_of c.new-policy.result) c.args.terms.now.stamp c.args.certs.now.entries c.args.list.now c.requires.named c.requires.sorted)) c.in-Err.ensures.clash

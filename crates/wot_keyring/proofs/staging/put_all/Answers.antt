@@ -8,7 +8,7 @@ use Rattle.wot_keyring.proofs.staging.put_all.Goals as goal
 
 pub left-init : goal.left-init
 left-init g c = record {
-  run = record { same = refl; in_order = c.requires.in_order; leads = λ start led. led; tallied = c.requires.tallied; fresh = refl; clash = refl; judged = λ h. h };
+  run = record { same = refl; sorted = c.requires.sorted; leads = λ start led. led; tallied = c.requires.tallied; fresh = refl; clash = refl; judged = λ h. h };
   asked = (0, not_asked c.args.policy.now, none_yet _);
   faithful = c.requires.faithful;
 }
@@ -24,7 +24,7 @@ left-preserved g c =
     let same = ap rows_of i.asked.1 in
     let done : Put (rows_of c.left.policy) stamp limit cert es c.put_one.new.certs.entries c.left.log.items c.put_one.new.log.items c.left.tally c.put_one.new.tally = record {
       put = c.in-Ok.ensures.put;
-      in_order = c.in-Ok.ensures.in_order;
+      sorted = c.in-Ok.ensures.sorted;
       leads = c.in-Ok.ensures.log;
       tallied = c.in-Ok.ensures.tallied;
       fresh = c.in-Ok.ensures.fresh;

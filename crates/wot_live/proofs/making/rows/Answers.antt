@@ -35,7 +35,7 @@ pub returns-clause-order : goal.returns-clause-order
 returns-clause-order c =
     let a = c.args in
     let same = c.in_ok-edges.ensures.edges ∙ ap values_of c.in_ok-found.ensures ∙ values_by_place (edges_of a.verdicts.now a.cert.now a.t) in
-    subst (IsStrictlySortedBy edge_cmp) (sym same) (c.edges_are_rows.ensures.rows a.verdicts.now a.cert.now a.t).in_order
+    subst (IsStrictlySortedBy edge_cmp) (sym same) (c.edges_are_rows.ensures.rows a.verdicts.now a.cert.now a.t).sorted
 
 pub returns-clause-into : goal.returns-clause-into
 returns-clause-into c =

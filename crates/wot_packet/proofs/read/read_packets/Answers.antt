@@ -28,7 +28,7 @@ pub packets-preserved : goal.packets-preserved
 packets-preserved c =
     rw c.in_ok-push.ensures.items
     (one_more c.args.bytes.now c.packets.at c.packets.packets.items c.in-Ok.found.0 c.in-Ok.found.1.now (λ i. omega (arith, c.type_inv.bytes i)) c.packets.invariant c.packets-test.true
-    c.in-Ok.ensures.place (ap first_of (sym c.split_at.ensures.back) ∙ c.in-Ok.ensures.first))
+    c.in-Ok.ensures.offset (ap first_of (sym c.split_at.ensures.back) ∙ c.in-Ok.ensures.first))
 
 pub returns-clause-each_list : goal.returns-clause-each_list
 returns-clause-each_list c = λ packets h.

@@ -7,7 +7,8 @@ use Rattle.wot_pattern.specs.Steps.{State, Builds, Runs, fresh, level_so_far}
 use Rattle.wot_pattern.specs.declared.fault.PatternFault.TheVariants.{Unreadable}
 use Rattle.wot_pattern.proofs.Sound.{SoFar, SoFar-fresh, SoFar-step, SoFar-end}
 use Rattle.wot_pattern.proofs.Complete.{runs_from_reads, Runs-step, Runs-end}
-use Rattle.wot_pattern.proofs.Lists.{if_ok, if_err, step_here, no_step_here}
+use Rattle.std.proofs.lemmas.Result.{IfOk-weaker}
+use Rattle.wot_pattern.proofs.Lists.{if_err, step_here, no_step_here}
 use Rattle.wot_pattern.proofs.parser.read_pattern.Goals as goal
 
 pub steps-init : goal.steps-init
@@ -34,7 +35,7 @@ pub returns-clause-read : goal.returns-clause-read
 returns-clause-read c =
     let (s, b, so_far, runs) = c.steps.invariant.1 in
     let none : drop c.steps.at c.args.text.now ≡ [] = drop_all c.steps.at c.args.text.now c.steps-test.false in
-    if_ok c.finish.result (λ p. (s : State) → Builds c.steps.builder s → (s.outer ≡ []) × (p ≡ level_so_far s)) (λ p. Reads pattern 64 c.args.text.now p [])
+    IfOk-weaker c.finish.result (λ p. (s : State) → Builds c.steps.builder s → (s.outer ≡ []) × (p ≡ level_so_far s)) (λ p. Reads pattern 64 c.args.text.now p [])
     (λ p h. let (e, is) = h s b in
     subst (λ z. Reads pattern 64 c.args.text.now z []) (sym is) (SoFar-end c.args.text.now s (subst (λ z. SoFar c.args.text.now s z) none so_far) e))
     c.finish.ensures.whole

@@ -1,3 +1,4 @@
+use Rattle.std.proofs.Common.{arith}
 use Rattle.wot_types.specs.Fpr.{digits_of, octets_of}
 use Rattle.wot_types.specs.SigNumber.{number_digits}
 use Rattle.std.specs.Fmt.{decimal}
@@ -5,53 +6,111 @@ use Rattle.hex.specs.Hex.{encode_lower}
 use Rattle.wot_script.specs.Spelling.{spelling}
 use Rattle.wot_script.specs.Uid.{escaped}
 use Rattle.wot_script.proofs.Spaceless.{spaceless_decimal, spaceless_digits}
-use Rattle.wot_script.proofs.Readings.{ask_reads, bad_reads, close_reads, drop_reads, dump_reads, export_reads, good_reads, import_reads, keys_reads, none_reads, root_reads, time_reads}
+use Rattle.wot_script.proofs.Readings.{ask_reads, bad_reads, close_reads, drop_reads, dump_reads, explain_reads, export_reads, good_reads, import_reads, keys_reads, list_reads, none_reads, pending_reads, root_reads, time_reads}
+use Rattle.wot_script.proofs.OneLine.{ask_line, bad_line, close_line, dump_line, explain_line, export_line, fpr_digits, good_line, import_line, keys_line, list_line, name_is, number_digits_are, numeral, pending_line, remove_line, root_line, time_line, unjudge_line}
 use Rattle.wot_script.proofs.spelled.spelling_is_read.Goals as goal
 
 pub returns-in-Import : goal.returns-in-Import
 unfolding spelling
-returns-in-Import c = rw c.in-Import.is (import_reads (encode_lower c.in-Import.octets) c.in-Import.octets (rw c.items.ensures.whole at c.hex_is_read.ensures))
+returns-in-Import c = rw c.in-Import.is (record {
+  read = import_reads (encode_lower c.in-Import.octets) c.in-Import.octets (rw c.items.ensures.whole at c.hex_is_read.ensures);
+  line = import_line c.in-Import.octets;
+})
 
 pub returns-in-Remove : goal.returns-in-Remove
 unfolding spelling
-returns-in-Remove c = rw c.in-Remove.is (drop_reads (digits_of c.in-Remove.fpr) c.in-Remove.fpr c.printed_is_read.ensures.read_back)
+returns-in-Remove c = rw c.in-Remove.is (record {
+  read = drop_reads (digits_of c.in-Remove.fpr) c.in-Remove.fpr c.printed_is_read.ensures.read_back;
+  line = remove_line c.in-Remove.fpr (digits_of c.in-Remove.fpr) (fpr_digits c.in-Remove.fpr c.printed_is_read.ensures.read_back);
+})
 
 pub returns-in-Good : goal.returns-in-Good
 unfolding spelling
-returns-in-Good c = rw c.in-Good.is (good_reads (number_digits c.in-Good.number) (digits_of c.in-Good.fpr) c.in-Good.number c.in-Good.fpr (spaceless_digits c.in-Good.number.0) c.printed_is_read-in-Good.ensures.read_back c.printed_is_read-in-Good-2.ensures.read_back)
+returns-in-Good c = rw c.in-Good.is (record {
+  read = good_reads (number_digits c.in-Good.number) (digits_of c.in-Good.fpr) c.in-Good.number c.in-Good.fpr (spaceless_digits c.in-Good.number.0) c.printed_is_read-in-Good.ensures.read_back c.printed_is_read-in-Good-2.ensures.read_back;
+  line = good_line c.in-Good.number c.in-Good.fpr (number_digits c.in-Good.number) (digits_of c.in-Good.fpr) (number_digits_are c.in-Good.number c.printed_is_read-in-Good.ensures.read_back) (fpr_digits c.in-Good.fpr c.printed_is_read-in-Good-2.ensures.read_back);
+})
 
 pub returns-in-Bad : goal.returns-in-Bad
 unfolding spelling
-returns-in-Bad c = rw c.in-Bad.is (bad_reads (number_digits c.in-Bad.number) c.in-Bad.number (spaceless_digits c.in-Bad.number.0) c.printed_is_read-in-Bad.ensures.read_back)
+returns-in-Bad c = rw c.in-Bad.is (record {
+  read = bad_reads (number_digits c.in-Bad.number) c.in-Bad.number (spaceless_digits c.in-Bad.number.0) c.printed_is_read-in-Bad.ensures.read_back;
+  line = bad_line c.in-Bad.number (number_digits c.in-Bad.number) (number_digits_are c.in-Bad.number c.printed_is_read-in-Bad.ensures.read_back);
+})
 
 pub returns-in-Unjudge : goal.returns-in-Unjudge
 unfolding spelling
-returns-in-Unjudge c = rw c.in-Unjudge.is (none_reads (number_digits c.in-Unjudge.number) c.in-Unjudge.number (spaceless_digits c.in-Unjudge.number.0) c.printed_is_read-in-Unjudge.ensures.read_back)
+returns-in-Unjudge c = rw c.in-Unjudge.is (record {
+  read = none_reads (number_digits c.in-Unjudge.number) c.in-Unjudge.number (spaceless_digits c.in-Unjudge.number.0) c.printed_is_read-in-Unjudge.ensures.read_back;
+  line = unjudge_line c.in-Unjudge.number (number_digits c.in-Unjudge.number) (number_digits_are c.in-Unjudge.number c.printed_is_read-in-Unjudge.ensures.read_back);
+})
 
 pub returns-in-Time : goal.returns-in-Time
 unfolding spelling
-returns-in-Time c = rw c.in-Time.is (time_reads c.in-Time.view (decimal c.in-Time.t) c.in-Time.t c.octets-name.ensures.name c.decimal_is_read.ensures)
+returns-in-Time c = rw c.in-Time.is (record {
+  read = time_reads c.in-Time.view (decimal c.in-Time.t) c.in-Time.t c.octets-name.ensures.name c.decimal_is_read.ensures;
+  line = time_line c.in-Time.view c.in-Time.t (decimal c.in-Time.t) (name_is c.in-Time.view c.octets-name.ensures.name) (numeral c.in-Time.t (omega arith));
+})
 
 pub returns-in-Root : goal.returns-in-Root
 unfolding spelling
-returns-in-Root c = rw c.in-Root.is (root_reads c.in-Root.view (digits_of c.in-Root.fpr) (decimal c.in-Root.amount) c.in-Root.fpr c.in-Root.amount c.octets-name-in-Root.ensures.name (spaceless_digits (octets_of c.in-Root.fpr)) c.printed_is_read-in-Root.ensures.read_back (rw c.from.ensures at c.decimal_is_read-in-Root.ensures))
+returns-in-Root c = rw c.in-Root.is (record {
+  read = root_reads c.in-Root.view (digits_of c.in-Root.fpr) (decimal c.in-Root.amount) c.in-Root.fpr c.in-Root.amount c.octets-name-in-Root.ensures.name (spaceless_digits (octets_of c.in-Root.fpr)) c.printed_is_read-in-Root.ensures.read_back (rw c.from.ensures at c.decimal_is_read-in-Root.ensures);
+  line = root_line c.in-Root.view c.in-Root.fpr c.in-Root.amount (digits_of c.in-Root.fpr) (decimal c.in-Root.amount) (name_is c.in-Root.view c.octets-name-in-Root.ensures.name) (fpr_digits c.in-Root.fpr c.printed_is_read-in-Root.ensures.read_back) (numeral c.in-Root.amount (omega arith));
+})
 
 pub returns-in-Close : goal.returns-in-Close
 unfolding spelling
-returns-in-Close c = rw c.in-Close.is (close_reads c.in-Close.view c.octets-name-in-Close.ensures.name)
+returns-in-Close c = rw c.in-Close.is (record {
+  read = close_reads c.in-Close.view c.octets-name-in-Close.ensures.name;
+  line = close_line c.in-Close.view (name_is c.in-Close.view c.octets-name-in-Close.ensures.name);
+})
 
 pub returns-in-Ask : goal.returns-in-Ask
 unfolding spelling
-returns-in-Ask c = rw c.in-Ask.is (ask_reads c.in-Ask.view (digits_of c.in-Ask.fpr) (decimal c.in-Ask.wanted) (escaped c.in-Ask.uid) c.in-Ask.uid c.in-Ask.fpr c.in-Ask.wanted c.octets-name-in-Ask.ensures.name (spaceless_digits (octets_of c.in-Ask.fpr)) c.printed_is_read-in-Ask.ensures.read_back (spaceless_decimal c.in-Ask.wanted c.positive_is_read.ensures.small) c.positive_is_read.ensures.read (rw c.octets.ensures.whole at c.uid_is_read.ensures))
+returns-in-Ask c = rw c.in-Ask.is (record {
+  read = ask_reads c.in-Ask.view (digits_of c.in-Ask.fpr) (decimal c.in-Ask.wanted) (escaped c.in-Ask.uid) c.in-Ask.uid c.in-Ask.fpr c.in-Ask.wanted c.octets-name-in-Ask.ensures.name (spaceless_digits (octets_of c.in-Ask.fpr)) c.printed_is_read-in-Ask.ensures.read_back (spaceless_decimal c.in-Ask.wanted c.positive_is_read.ensures.small) c.positive_is_read.ensures.read (rw c.octets.ensures.whole at c.uid_is_read.ensures);
+  line = ask_line c.in-Ask.view c.in-Ask.fpr c.in-Ask.wanted c.in-Ask.uid (digits_of c.in-Ask.fpr) (decimal c.in-Ask.wanted) (name_is c.in-Ask.view c.octets-name-in-Ask.ensures.name) (fpr_digits c.in-Ask.fpr c.printed_is_read-in-Ask.ensures.read_back) (numeral c.in-Ask.wanted (omega arith));
+})
+
+pub returns-in-List : goal.returns-in-List
+unfolding spelling
+returns-in-List c = rw c.in-List.is (record {
+  read = list_reads c.in-List.view (decimal c.in-List.wanted) c.in-List.wanted c.octets-name-in-List.ensures.name c.positive_is_read-in-List.ensures.read;
+  line = list_line c.in-List.view c.in-List.wanted (decimal c.in-List.wanted) (name_is c.in-List.view c.octets-name-in-List.ensures.name) (numeral c.in-List.wanted (omega arith));
+})
+
+pub returns-in-Explain : goal.returns-in-Explain
+unfolding spelling
+returns-in-Explain c = rw c.in-Explain.is (record {
+  read = explain_reads c.in-Explain.view (digits_of c.in-Explain.fpr) (escaped c.in-Explain.uid) c.in-Explain.uid c.in-Explain.fpr c.octets-name-in-Explain.ensures.name (spaceless_digits (octets_of c.in-Explain.fpr)) c.printed_is_read-in-Explain.ensures.read_back (rw c.octets-in-Explain.ensures.whole at c.uid_is_read-in-Explain.ensures);
+  line = explain_line c.in-Explain.view c.in-Explain.fpr c.in-Explain.uid (digits_of c.in-Explain.fpr) (name_is c.in-Explain.view c.octets-name-in-Explain.ensures.name) (fpr_digits c.in-Explain.fpr c.printed_is_read-in-Explain.ensures.read_back);
+})
+
+pub returns-in-Pending : goal.returns-in-Pending
+unfolding spelling
+returns-in-Pending c = rw c.in-Pending.is (record {
+  read = pending_reads;
+  line = pending_line;
+})
 
 pub returns-in-Keys : goal.returns-in-Keys
 unfolding spelling
-returns-in-Keys c = rw c.in-Keys.is (keys_reads)
+returns-in-Keys c = rw c.in-Keys.is (record {
+  read = keys_reads;
+  line = keys_line;
+})
 
 pub returns-in-Export : goal.returns-in-Export
 unfolding spelling
-returns-in-Export c = rw c.in-Export.is (export_reads (digits_of c.in-Export.fpr) c.in-Export.fpr c.printed_is_read-in-Export.ensures.read_back)
+returns-in-Export c = rw c.in-Export.is (record {
+  read = export_reads (digits_of c.in-Export.fpr) c.in-Export.fpr c.printed_is_read-in-Export.ensures.read_back;
+  line = export_line c.in-Export.fpr (digits_of c.in-Export.fpr) (fpr_digits c.in-Export.fpr c.printed_is_read-in-Export.ensures.read_back);
+})
 
 pub returns-in-Dump : goal.returns-in-Dump
 unfolding spelling
-returns-in-Dump c = rw c.in-Dump.is (dump_reads)
+returns-in-Dump c = rw c.in-Dump.is (record {
+  read = dump_reads;
+  line = dump_line;
+})

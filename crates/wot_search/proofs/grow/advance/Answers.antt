@@ -4,56 +4,50 @@ use Rattle.std.specs.declared.alloc.Global.{Global}
 use Rattle.wot_types.specs.declared.fpr.Fpr.{Fpr}
 use Rattle.wot_edge.specs.Record.{Has}
 use Rattle.wot_edge.specs.Path.{start}
-use Rattle.wot_edge.specs.Sums.{use_in}
+use Rattle.wot_search.specs.Quest.{quest_of}
 use Rattle.wot_search.specs.Layer.{IsLayer, IsGrowing}
 use Rattle.wot_search.specs.Looked.{IsNearOne}
-use Rattle.wot_search.specs.Reached.{look, question_of}
+use Rattle.wot_search.specs.Reached.{look}
 use Rattle.wot_search.proofs.Growing.{growing_start, after_more, unrooted_more, near_leads}
 use Rattle.wot_search.proofs.grow.advance.Goals as goal
 
 pub returns-in_err-grow-clause-leads : goal.returns-in_err-grow-clause-leads
 returns-in_err-grow-clause-leads g c a fpr h =
-    let q = question_of (g.R.Roads.told c.args.roads.now) c.args.ask.now in
+    let quest = quest_of (g.R.Roads.told c.args.roads.now) c.args.quest.now in
     let layer = c.deref.ensures.value ∙ ap (λ (v : Vec Fpr Global). v.items) c.replace-layer.ensures.value in
     elim (c.in_err-grow.ensures.gains fpr h) [
       | inl k ↦ inl k
-      | inr n ↦ inr (near_leads q (use_in c.args.ask.now.used.now) c.args.ask.now.least (look c.args.reached.now.nodes) c.args.size c.args.reached.now.layer.items fpr a.layer (subst (λ (xs : List Fpr). IsNearOne q.told xs fpr) layer n))
+      | inr n ↦ inr (near_leads quest (look c.args.reached.now.nodes) c.args.size c.args.reached.now.layer.items fpr a.layer (subst (λ (xs : List Fpr). IsNearOne quest.question.told xs fpr) layer n))
     ]
 
 pub returns-clause-leads : goal.returns-clause-leads
 returns-clause-leads g c a fpr h =
-    let q = question_of (g.R.Roads.told c.args.roads.now) c.args.ask.now in
+    let quest = quest_of (g.R.Roads.told c.args.roads.now) c.args.quest.now in
     let layer = c.deref.ensures.value ∙ ap (λ (v : Vec Fpr Global). v.items) c.replace-layer.ensures.value in
     elim (c.in_ok-grow.ensures.gains fpr h) [
       | inl k ↦ inl k
-      | inr n ↦ inr (near_leads q (use_in c.args.ask.now.used.now) c.args.ask.now.least (look c.args.reached.now.nodes) c.args.size c.args.reached.now.layer.items fpr a.layer (subst (λ (xs : List Fpr). IsNearOne q.told xs fpr) layer n))
+      | inr n ↦ inr (near_leads quest (look c.args.reached.now.nodes) c.args.size c.args.reached.now.layer.items fpr a.layer (subst (λ (xs : List Fpr). IsNearOne quest.question.told xs fpr) layer n))
     ]
 
 pub returns-clause-after : goal.returns-clause-after
 returns-clause-after g c a =
-    let q = question_of (g.R.Roads.told c.args.roads.now) c.args.ask.now in
-    let used = use_in c.args.ask.now.used.now in
-    let least = c.args.ask.now.least in
-    let way = c.args.ask.now.goal in
+    let quest = quest_of (g.R.Roads.told c.args.roads.now) c.args.quest.now in
     let found = look c.args.reached.now.nodes in
     let layer = c.deref.ensures.value ∙ ap (λ (v : Vec Fpr Global). v.items) c.replace-layer.ensures.value in
     let empty = ap (λ (v : Vec Fpr Global). v.items) c.replace-layer.ensures.after ∙ c.new.ensures.items in
-    let is = subst (λ (xs : List Fpr). IsLayer q used least found c.args.size xs) (sym layer) a.layer in
-    let growing = subst (λ (xs : List Fpr). IsGrowing q used least way c.args.size found xs) (sym empty) (growing_start q used least way c.args.size c.args.reached.now c.args.consulted.now a) in
+    let is = subst (λ (xs : List Fpr). IsLayer quest found c.args.size xs) (sym layer) a.layer in
+    let growing = subst (λ (xs : List Fpr). IsGrowing quest c.args.size found xs) (sym empty) (growing_start quest c.args.size c.args.reached.now (g.N.Notes.noted c.args.notes.now) a) in
     let adv = c.in_ok-grow.ensures.grown is growing in
-    after_more q used least way c.args.size c.args.reached.now c.grow.new.reached c.args.consulted.now c.grow.new.consulted a adv.growing adv.onward (c.in_ok-grow.ensures.taken is growing) (c.in_ok-grow.ensures.noted a.noted)
-    (λ rest l h. c.in_ok-grow.ensures.seen a.noted rest l (subst (λ (xs : List Fpr). Has xs (start q.target rest)) (sym layer) h)) c.in_ok-grow.ensures.grows
+    after_more quest c.args.size c.args.reached.now c.grow.new.reached (g.N.Notes.noted c.args.notes.now) (g.N.Notes.noted c.grow.new.notes) a adv.growing adv.onward (c.in_ok-grow.ensures.taken is growing) (c.in_ok-grow.ensures.noted a.noted)
+    (λ rest l h. c.in_ok-grow.ensures.seen a.noted rest l (subst (λ (xs : List Fpr). Has xs (start quest.question.target rest)) (sym layer) h)) c.in_ok-grow.ensures.grows
 
 pub returns-clause-unrooted : goal.returns-clause-unrooted
 returns-clause-unrooted g c a u =
-    let q = question_of (g.R.Roads.told c.args.roads.now) c.args.ask.now in
-    let used = use_in c.args.ask.now.used.now in
-    let least = c.args.ask.now.least in
-    let way = c.args.ask.now.goal in
+    let quest = quest_of (g.R.Roads.told c.args.roads.now) c.args.quest.now in
     let found = look c.args.reached.now.nodes in
     let layer = c.deref.ensures.value ∙ ap (λ (v : Vec Fpr Global). v.items) c.replace-layer.ensures.value in
     let empty = ap (λ (v : Vec Fpr Global). v.items) c.replace-layer.ensures.after ∙ c.new.ensures.items in
-    let is = subst (λ (xs : List Fpr). IsLayer q used least found c.args.size xs) (sym layer) a.layer in
-    let growing = subst (λ (xs : List Fpr). IsGrowing q used least way c.args.size found xs) (sym empty) (growing_start q used least way c.args.size c.args.reached.now c.args.consulted.now a) in
+    let is = subst (λ (xs : List Fpr). IsLayer quest found c.args.size xs) (sym layer) a.layer in
+    let growing = subst (λ (xs : List Fpr). IsGrowing quest c.args.size found xs) (sym empty) (growing_start quest c.args.size c.args.reached.now (g.N.Notes.noted c.args.notes.now) a) in
     let adv = c.in_ok-grow.ensures.grown is growing in
-    unrooted_more q used least way c.args.size found (look c.grow.new.reached.nodes) adv.onward u
+    unrooted_more quest c.args.size found (look c.grow.new.reached.nodes) adv.onward u

@@ -1,16 +1,13 @@
 use Rattle.std.proofs.Common.{inl, inr, arith}
-use Rattle.wot_edge.specs.Sums.{use_in}
-use Rattle.wot_search.specs.Reached.{look, question_of}
+use Rattle.wot_search.specs.Quest.{quest_of}
+use Rattle.wot_search.specs.Reached.{look}
 use Rattle.wot_search.proofs.Extending.{has_at, advances_trans}
 use Rattle.wot_search.proofs.Growing.{layer_more, layer_end, seen_more, seen_end}
 use Rattle.wot_search.proofs.grow.grow.Goals as goal
 
 pub layer-preserved : goal.layer-preserved
 layer-preserved g c =
-    let q = question_of (g.R.Roads.told c.args.roads.now) c.args.ask.now in
-    let used = use_in c.args.ask.now.used.now in
-    let least = c.args.ask.now.least in
-    let way = c.args.ask.now.goal in
+    let quest = quest_of (g.R.Roads.told c.args.roads.now) c.args.quest.now in
     let layer = c.args.layer.now in
     let i = c.layer.at-index in
     let has = has_at layer i _ c.layer-test.true in
@@ -21,15 +18,15 @@ layer-preserved g c =
           let a = inv.grown is growing in
           let b = is.each _ has in
           let l = b.long in
-          advances_trans q used least way c.args.size c.args.reached.now c.layer.reached c.extend.new.reached a (ok.grown b.steps (a.onward.keeps b.steps (omega (arith, l)) b.kept) b.long b.there a.growing);
+          advances_trans quest c.args.size c.args.reached.now c.layer.reached c.extend.new.reached a (ok.grown b.steps (a.onward.keeps b.steps (omega (arith, l)) b.kept) b.long b.there a.growing);
       taken = λ is growing.
           let a = inv.grown is growing in
           let b = is.each _ has in
           let l = b.long in
-          layer_more q used least way c.args.size (look c.layer.reached.nodes) (look c.extend.new.reached.nodes) layer i _ c.layer-test.true (inv.taken is growing) (ok.grown b.steps (a.onward.keeps b.steps (omega (arith, l)) b.kept) b.long b.there a.growing).onward
+          layer_more quest c.args.size (look c.layer.reached.nodes) (look c.extend.new.reached.nodes) layer i _ c.layer-test.true (inv.taken is growing) (ok.grown b.steps (a.onward.keeps b.steps (omega (arith, l)) b.kept) b.long b.there a.growing).onward
           (λ rest k l there. ok.taken rest k l there a.growing);
       noted = λ n. ok.noted (inv.noted n);
-      seen = λ n. seen_more q used least way c.args.size c.layer.consulted c.extend.new.consulted layer i _ c.layer-test.true (inv.seen n) ok.grows (λ rest l there. ok.seen rest l there (inv.noted n));
+      seen = λ n. seen_more quest c.args.size (g.N.Notes.noted c.layer.notes) (g.N.Notes.noted c.extend.new.notes) layer i _ c.layer-test.true (inv.seen n) ok.grows (λ rest l there. ok.seen rest l there (inv.noted n));
       grows = λ f h. ok.grows f (inv.grows f h);
       gains = λ fpr h. elim (ok.gains fpr h) [ inl k ↦ inv.gains fpr k | inr near ↦ inr (_, has, near) ];
     }
@@ -40,13 +37,11 @@ returns-in_err-extend-clause-gains g c fpr h =
 
 pub returns-clause-taken : goal.returns-clause-taken
 returns-clause-taken g c is growing rest k l =
-    let q = question_of (g.R.Roads.told c.args.roads.now) c.args.ask.now in
-    let used = use_in c.args.ask.now.used.now in
+    let quest = quest_of (g.R.Roads.told c.args.roads.now) c.args.quest.now in
     let a = c.layer.invariant.grown is growing in
-    layer_end q used c.args.ask.now.least c.args.ask.now.goal c.args.size (look c.layer.reached.nodes) c.args.layer.now c.layer.at-index c.layer-test.false (c.layer.invariant.taken is growing) rest k l (is.all rest (a.onward.kept rest (omega (arith, l)) k) l)
+    layer_end quest c.args.size (look c.layer.reached.nodes) c.args.layer.now c.layer.at-index c.layer-test.false (c.layer.invariant.taken is growing) rest k l (is.all rest (a.onward.kept rest (omega (arith, l)) k) l)
 
 pub returns-clause-seen : goal.returns-clause-seen
 returns-clause-seen g c n rest l h =
-    let q = question_of (g.R.Roads.told c.args.roads.now) c.args.ask.now in
-    let used = use_in c.args.ask.now.used.now in
-    seen_end q used c.args.ask.now.least c.args.ask.now.goal c.args.size c.layer.consulted c.args.layer.now c.layer.at-index c.layer-test.false (c.layer.invariant.seen n) rest l h
+    let quest = quest_of (g.R.Roads.told c.args.roads.now) c.args.quest.now in
+    seen_end quest c.args.size (g.N.Notes.noted c.layer.notes) c.args.layer.now c.layer.at-index c.layer-test.false (c.layer.invariant.seen n) rest l h

@@ -2,7 +2,7 @@ use Rattle.std.proofs.Common.{◌≡◌, cond, Some, Ordering, subst}
 use Rattle.std.specs.BTreeMap.{is_at}
 use Rattle.std.specs.Map.{lookup}
 use Rattle.wot_types.specs.declared.fpr.Fpr.{Fpr}
-use Rattle.wot_standing.proofs.Certifying.{same_cmp}
+use Rattle.wot_types.specs.FprLaws.{same_cmp}
 use Rattle.wot_standing.proofs.certifiers.keep.Goals as goal
 
 pub returns : goal.returns

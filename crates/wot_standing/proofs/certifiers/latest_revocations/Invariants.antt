@@ -6,7 +6,7 @@ use Rattle.wot_standing.proofs.certifiers.latest_revocations.Given as goal
 abbrev pub invariant-back : goal.invariant-back
 invariant-back l = record {
   seen : List Signature;
-  all : l.place ≡ l.rest ++ seen;
+  all : l.sigs ≡ l.rest ++ seen;
   latest : KeepsLatest l.verdicts l.t seen l.latest.entries;
 }
 

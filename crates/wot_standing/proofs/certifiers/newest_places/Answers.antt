@@ -1,5 +1,7 @@
-use Rattle.std.proofs.Common.{◌≡◌, ◌++◌, ◌∷◌, [], List, length, refl, arith, append_assoc, ap, sym, ◌∙◌}
+use Rattle.std.proofs.Common.{◌≡◌, ◌++◌, ◌∷◌, ap, sym, ◌∙◌}
+use Rattle.std.proofs.lemmas.List.{nil_from_length}
 use Rattle.std.specs.Prelude.{filter}
+use Rattle.wot_types.specs.PlainLaws.{seam}
 use Rattle.wot_cert.specs.Ranked.{greatest}
 use Rattle.wot_cert.specs.Time.{newness}
 use Rattle.wot_standing.specs.declared.kinds.Binding.TheVariants.{Certification}
@@ -9,29 +11,21 @@ use Rattle.wot_standing.proofs.Certifying.{greatest_more}
 use Rattle.wot_standing.proofs.Revoking.{newest-latest}
 use Rattle.wot_standing.proofs.certifiers.newest_places.Goals as goal
 
--- A list of length 0 is empty.
-empty_from_length : {X : Type 0} (xs : List X) → length xs ≡ 0 → xs ≡ []
-empty_from_length [] h = refl
-empty_from_length (x ∷ xs) h = absurd (omega arith)
-
-seam : {X : Type 0} (place rest front seen : List X) (x : X) → place ≡ rest ++ seen → rest ≡ front ++ x ∷ [] → place ≡ front ++ x ∷ seen
-seam place rest front seen x e f = e ∙ ap (λ r. r ++ seen) f ∙ simp append_assoc
-
 pub back-preserved : goal.back-preserved
 back-preserved c =
     let a = c.args in
     record {
       seen = c.in-Some.sig.now ∷ c.back.invariant.seen;
-      all = seam a.place.now c.back.rest.now c.in-Some.front.now c.back.invariant.seen c.in-Some.sig.now c.back.invariant.all c.in-Some.ensures.cases.0;
+      all = seam a.sigs.now c.back.rest.now c.in-Some.prefix.now c.back.invariant.seen c.in-Some.sig.now c.back.invariant.all c.in-Some.ensures.cases.0;
       newest = λ q. c.in_ok-note_certification.ensures q
-          ∙ ap (newer_by a.verdicts.now q a.t a.place.now c.in-Some.sig.now) (c.back.invariant.newest q)
-          ∙ greatest_more (is_valid_after a.verdicts.now q a.t Certification (revoked_at a.verdicts.now q a.t a.place.now)) c.in-Some.sig.now c.back.invariant.seen;
+          ∙ ap (newer_by a.verdicts.now q a.t a.sigs.now c.in-Some.sig.now) (c.back.invariant.newest q)
+          ∙ greatest_more (is_valid_after a.verdicts.now q a.t Certification (revoked_at a.verdicts.now q a.t a.sigs.now)) c.in-Some.sig.now c.back.invariant.seen;
     }
 
 pub returns : goal.returns
 returns c q =
     let a = c.args in
-    let e : c.back.invariant.seen ≡ a.place.now = sym (c.back.invariant.all ∙ ap (λ r. r ++ c.back.invariant.seen) (empty_from_length c.back.rest.now c.in_default.ensures.cases)) in
+    let e : c.back.invariant.seen ≡ a.sigs.now = sym (c.back.invariant.all ∙ ap (λ r. r ++ c.back.invariant.seen) (nil_from_length c.back.rest.now c.in_default.ensures.cases)) in
     c.back.invariant.newest q
-    ∙ ap (λ ss. greatest newness (filter (is_valid_after a.verdicts.now q a.t Certification (revoked_at a.verdicts.now q a.t a.place.now)) ss)) e
-    ∙ newest-latest a.verdicts.now q a.t Certification a.place.now
+    ∙ ap (λ ss. greatest newness (filter (is_valid_after a.verdicts.now q a.t Certification (revoked_at a.verdicts.now q a.t a.sigs.now)) ss)) e
+    ∙ newest-latest a.verdicts.now q a.t Certification a.sigs.now

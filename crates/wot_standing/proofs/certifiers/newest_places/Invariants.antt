@@ -12,8 +12,8 @@ use Rattle.wot_standing.proofs.certifiers.newest_places.Given as goal
 abbrev pub invariant-back : goal.invariant-back
 invariant-back l = record {
   seen : List Signature;
-  all : l.place ≡ l.rest ++ seen;
-  newest : (q : Fpr) → kept_for l.places.entries l.place q ≡ greatest newness (filter (is_valid_after l.verdicts q l.t Certification (revoked_at l.verdicts q l.t l.place)) seen);
+  all : l.sigs ≡ l.rest ++ seen;
+  newest : (q : Fpr) → kept_for l.places.entries l.sigs q ≡ greatest newness (filter (is_valid_after l.verdicts q l.t Certification (revoked_at l.verdicts q l.t l.sigs)) seen);
 }
 
 abbrev pub decreases-back : goal.decreases-back

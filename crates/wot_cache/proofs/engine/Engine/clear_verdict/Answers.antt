@@ -1,7 +1,9 @@
 use Rattle.std.proofs.Common.{sym, subst}
+use Rattle.wot_keyring.specs.Held.{verdict_cleared}
 use Rattle.wot_keyring.specs.Kept.{IsJudgedBy}
 use Rattle.wot_cache.specs.State.{Engine}
-use Rattle.wot_cache.proofs.Plain.{on_ok, cleared_state}
+use Rattle.wot_cache.proofs.Changes.{held_state}
+use Rattle.wot_cache.proofs.Inside.{engine_on}
 use Rattle.wot_cache.proofs.engine.Engine.clear_verdict.Goals as goal
 
 pub returns-clause-judged : goal.returns-clause-judged
@@ -10,4 +12,9 @@ returns-clause-judged c rows judged =
 
 pub returns-clause-state : goal.returns-clause-state
 returns-clause-state c =
-    on_ok c.clear_verdict.result _ _ (cleared_state c.args.self.now c.self.inside.held.keyring c.clear_verdict.new.self c.self.inside.views.entries c.args.number.now c.self.view_is) c.clear_verdict.ensures.cleared
+    held_state c.clear_verdict.result c.args.self.now c.self.inside.networked.keyring c.clear_verdict.new.self c.self.inside.networked.views.entries
+    (verdict_cleared c.args.number.now) c.self.view_is c.clear_verdict.ensures.held
+
+pub invariant_of-self : goal.invariant_of-self
+invariant_of-self c =
+    engine_on c.fits_later.ensures.later c.self.inside.networked.keyring c.clear_verdict.new.self c.self.inside.networked.views.entries c.self.inside.networked.networks.entries c.clear_verdict.ensures.limits c.clear_verdict.ensures.later c.self.invariant

@@ -1,7 +1,9 @@
 use Rattle.std.proofs.Common.{rules, sym, subst}
+use Rattle.wot_keyring.specs.Held.{removing}
 use Rattle.wot_keyring.specs.Kept.{IsJudgedBy}
 use Rattle.wot_cache.specs.State.{Engine}
-use Rattle.wot_cache.proofs.Plain.{on_ok, removed_state, found}
+use Rattle.wot_cache.proofs.Changes.{found, held_state}
+use Rattle.wot_cache.proofs.Inside.{engine_on}
 use Rattle.wot_cache.proofs.engine.Engine.remove.Goals as goal
 
 pub returns-clause-judged : goal.returns-clause-judged
@@ -10,7 +12,12 @@ returns-clause-judged c rows judged =
 
 pub returns-clause-state : goal.returns-clause-state
 returns-clause-state c =
-    on_ok c.remove.result _ _ (removed_state c.args.self.now c.self.inside.held.keyring c.remove.new.self c.self.inside.views.entries c.args.fpr.now c.self.view_is) c.remove.ensures.removed
+    held_state c.remove.result c.args.self.now c.self.inside.networked.keyring c.remove.new.self c.self.inside.networked.views.entries
+    (removing c.args.fpr.now) c.self.view_is c.remove.ensures.held
 
 pub returns-clause-absent : goal.returns-clause-absent
 returns-clause-absent c = search (rules, found)
+
+pub invariant_of-self : goal.invariant_of-self
+invariant_of-self c =
+    engine_on c.fits_later.ensures.later c.self.inside.networked.keyring c.remove.new.self c.self.inside.networked.views.entries c.self.inside.networked.networks.entries c.remove.ensures.limits c.remove.ensures.later c.self.invariant

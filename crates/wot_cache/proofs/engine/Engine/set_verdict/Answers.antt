@@ -1,9 +1,11 @@
 use Rattle.std.proofs.Common.{◌≡◌, ◌≢◌, Some, OnOk, sym, subst}
+use Rattle.wot_keyring.specs.Held.{verdict_set}
 use Rattle.wot_keyring.specs.Keyring.{verdict_on}
 use Rattle.wot_keyring.specs.Kept.{IsJudgedBy}
 use Rattle.wot_keyring.specs.Verdict.{with_verdict_on}
 use Rattle.wot_cache.specs.State.{Engine}
-use Rattle.wot_cache.proofs.Plain.{judged_state, judged_limits}
+use Rattle.wot_cache.proofs.Changes.{held_state}
+use Rattle.wot_cache.proofs.Inside.{engine_on}
 use Rattle.wot_cache.proofs.engine.Engine.set_verdict.Goals as goal
 
 pub returns-clause-judged : goal.returns-clause-judged
@@ -17,8 +19,9 @@ returns-clause-set c =
 
 pub returns-clause-state : goal.returns-clause-state
 returns-clause-state c =
-    judged_state c.args.self.now c.self.inside.held.keyring c.set_verdict.new.self c.self.inside.views.entries c.args.number c.args.verdict c.set_verdict.result c.self.view_is c.set_verdict.ensures.same c.set_verdict.ensures.set
+    held_state c.set_verdict.result c.args.self.now c.self.inside.networked.keyring c.set_verdict.new.self c.self.inside.networked.views.entries
+    (verdict_set c.args.number c.args.verdict) c.self.view_is c.set_verdict.ensures.held
 
-pub returns-clause-limits : goal.returns-clause-limits
-returns-clause-limits c =
-    judged_limits c.args.self.now c.self.inside.held.keyring c.set_verdict.new.self c.self.inside.views.entries c.args.number c.args.verdict c.set_verdict.result c.self.view_is c.set_verdict.ensures.same c.set_verdict.ensures.set c.set_verdict.ensures.kept
+pub invariant_of-self : goal.invariant_of-self
+invariant_of-self c =
+    engine_on c.fits_later.ensures.later c.self.inside.networked.keyring c.set_verdict.new.self c.self.inside.networked.views.entries c.self.inside.networked.networks.entries c.set_verdict.ensures.limits c.set_verdict.ensures.later c.self.invariant

@@ -10,7 +10,7 @@ use Rattle.wot_cache.proofs.engine.Engine.view_root.Goals as goal
 pub invariant_of-self : goal.invariant_of-self
 invariant_of-self c = record {
   small = c.self.invariant.small;
-  within = set_within c.self.inside.held.keyring.limits c.self.inside.views.entries c.set_amount.new.views.entries c.args.view.now c.args.fpr.now c.args.amount c.set_amount.result
+  within = set_within c.self.inside.networked.keyring.limits c.self.inside.networked.views.entries c.set_amount.new.views.entries c.args.view.now c.args.fpr.now c.args.amount c.set_amount.result
       (subst (λ (e : Engine). IfSome (view_at e.views c.args.view.now) (λ (v : View). IsRoots v.roots)) (sym c.self.view_is) c.root_fault.ensures.roots)
       (subst (λ (e : Engine). root_fault e.keyring.limits (view_at e.views c.args.view.now) c.args.fpr.now c.args.amount ≡ None) (sym c.self.view_is) (sym c.root_fault.ensures.fault ∙ c.in_default.is))
       c.set_amount.ensures.set c.set_amount.ensures.kept c.self.invariant.within;

@@ -4,6 +4,6 @@ use Rattle.wot_cache.proofs.engine.Engine.view_time.Goals as goal
 pub invariant_of-self : goal.invariant_of-self
 invariant_of-self c = record {
   small = c.self.invariant.small;
-  within = moved_within c.self.inside.held.keyring.limits c.self.inside.views.entries c.move_time.new.views.entries c.args.view.now c.args.t c.move_time.result c.move_time.ensures.moved c.self.invariant.within;
+  within = moved_within c.self.inside.networked.keyring.limits c.self.inside.networked.views.entries c.move_time.new.views.entries c.args.view.now c.args.t c.move_time.result c.move_time.ensures.moved c.self.invariant.within;
   fit = c.self.invariant.fit;
 }

@@ -4,17 +4,25 @@ use Rattle.wot_keyring.specs.Index.{IsIndexOf}
 use Rattle.wot_keyring.specs.Keyring.{Entries}
 use Rattle.wot_keyring.proofs.Accepted.{asked_now, asked_by_now, no_clash, answered_now, held_now, counted_now, keyring_now}
 use Rattle.wot_keyring.proofs.Noted.{indexed_all}
+use Rattle.wot_keyring.proofs.Restamping.{logged_now, united_later_now}
 use Rattle.wot_keyring.proofs.keyring.Keyring.accept.Goals as goal
 
 pub invariant_of-self : goal.invariant_of-self
 invariant_of-self g c =
     let kept = keyring_now (rows_of c.args.policy.now) (record { limits = c.self.inside.limits; certs = c.self.inside.certs.entries; verdicts = c.self.inside.verdicts; changes = c.self.inside.changes }) c.args.self.now c.self.view_is c.terms-terms.result.stamp c.terms-terms.ensures.stamp c.args.list.now c.args.list.now refl c.self.invariant.0 c.unite_all.new.certs.entries c.in-Ok.tally.fresh c.raised-self-inside.result c.in-Ok.ensures.put c.in-Ok.ensures.fresh c.united_grows.ensures.items c.raised-self-inside.ensures.raised c.nothing_added.ensures.items c.united_whole.ensures.united c.united_whole.ensures.judged c.in-Ok.tally.total c.terms-terms.result.limit c.terms-terms.ensures.limit
-    c.in-Ok.ensures.in_order c.in-Ok.ensures.tallied c.in-Ok.ensures.clash c.requires.whole c.requires.may in (
+    c.in-Ok.ensures.sorted c.in-Ok.ensures.tallied c.in-Ok.ensures.clash c.requires.whole c.requires.may in (
       kept.0,
       kept.1,
       subst (λ (es : Entries). IsIndexOf c.unite_all.new.index es) (sym c.in-Ok.ensures.put)
           (indexed_all c.united_whole.ensures.united c.united_whole.ensures.judged (rows_of c.args.policy.now) c.terms-terms.result.stamp c.self.inside.index c.unite_all.new.index c.self.inside.certs.entries c.args.list.now c.self.invariant.0.whole c.requires.whole c.in-Ok.ensures.clash c.in-Ok.ensures.noted c.self.invariant.2),
+      logged_now (rows_of c.args.policy.now) c.terms-terms.result.stamp c.nothing_added.ensures.items c.united_grows.ensures.items (record { limits = c.self.inside.limits; certs = c.self.inside.certs.entries; verdicts = c.self.inside.verdicts; changes = c.self.inside.changes }) c.args.self.now c.self.view_is
+          c.terms-terms.ensures.stamp c.args.list.now c.self.inside.log c.make_room.new.log c.log_union.new.log c.unite_all.new.certs.entries c.in-Ok.tally.fresh c.raised-self-inside.result c.self.invariant.0 c.in-Ok.ensures.put c.raised-self-inside.ensures.raised c.in-Ok.ensures.fresh c.make_room.ensures.from c.make_room.ensures.entries c.log_union.ensures.logged c.self.invariant.3,
     )
+
+pub returns-in-Ok-clause-later : goal.returns-in-Ok-clause-later
+returns-in-Ok-clause-later g c =
+    united_later_now (rows_of c.args.policy.now) c.terms-terms.result.stamp c.nothing_added.ensures.items c.united_grows.ensures.items (record { limits = c.self.inside.limits; certs = c.self.inside.certs.entries; verdicts = c.self.inside.verdicts; changes = c.self.inside.changes }) c.args.self.now c.self.view_is
+    c.terms-terms.ensures.stamp c.args.list.now c.unite_all.new.certs.entries c.in-Ok.tally.fresh c.raised-self-inside.result c.in-Ok.ensures.put c.raised-self-inside.ensures.raised
 
 pub returns-in-Ok-clause-answer : goal.returns-in-Ok-clause-answer
 returns-in-Ok-clause-answer g c =

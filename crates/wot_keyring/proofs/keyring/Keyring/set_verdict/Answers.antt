@@ -1,9 +1,13 @@
 use Rattle.std.proofs.Common.{◌≡◌, false, sym, subst}
-use Rattle.wot_verdict.specs.Verdicts.{InOrder}
+use Rattle.wot_verdict.specs.Verdicts.{AreSortedByNumber}
 use Rattle.wot_keyring.specs.Keyring.{Keyring}
 use Rattle.wot_keyring.specs.Kept.{IsJudgedBy}
 use Rattle.wot_keyring.specs.Verdict.{is_over}
+use Rattle.wot_keyring.proofs.Altered.{set_once}
+use Rattle.wot_keyring.proofs.Holding.{held_said, set_in_place}
 use Rattle.wot_keyring.proofs.Keeping.{judged_keyring, set_few}
+use Rattle.wot_keyring.proofs.Later.{later_itself, set_later_now}
+use Rattle.wot_keyring.proofs.Logged.{logged_again}
 use Rattle.wot_keyring.proofs.keyring.Keyring.set_verdict.Goals as goal
 
 pub returns-in-Ok-clause-judged : goal.returns-in-Ok-clause-judged
@@ -12,9 +16,35 @@ returns-in-Ok-clause-judged c = λ rows all. c.altered_at.ensures.judged rows (s
 pub invariant_of-self : goal.invariant_of-self
 invariant_of-self c =
     let passes : is_over c.self.inside.limits c.self.inside.verdicts c.args.number ≡ false = subst (λ (k : Keyring). is_over k.limits k.verdicts c.args.number ≡ false) (sym c.self.view_is) (sym c.if-would_pass.ensures.passes) in
-    let sorted : InOrder c.self.inside.verdicts = subst (λ (k : Keyring). InOrder k.verdicts) (sym c.self.view_is) c.would_pass.ensures.in_order in
+    let sorted : AreSortedByNumber c.self.inside.verdicts = subst (λ (k : Keyring). AreSortedByNumber k.verdicts) (sym c.self.view_is) c.would_pass.ensures.sorted in
     rw c.in-Ok.ensures.set (
       judged_keyring (record { limits = c.self.inside.limits; certs = c.self.inside.certs.entries; verdicts = c.self.inside.verdicts; changes = c.self.inside.changes }) _ c.self.invariant.0 (set_few c.self.inside.limits c.self.inside.verdicts c.args.number c.args.verdict sorted passes c.self.invariant.0.within.verdicts),
       record { octets = c.self.invariant.1.octets; signatures = c.self.invariant.1.signatures },
       c.self.invariant.2,
+      logged_again c.self.inside.log c.make_room.new.log c.self.inside.certs.entries c.self.inside.changes c.make_room.ensures.from c.make_room.ensures.entries c.self.invariant.3,
     )
+
+pub returns-in-Ok-clause-later : goal.returns-in-Ok-clause-later
+returns-in-Ok-clause-later c =
+    set_later_now (record { limits = c.self.inside.limits; certs = c.self.inside.certs.entries; verdicts = c.self.inside.verdicts; changes = c.self.inside.changes }) c.args.self.now c.altered_at.new.self
+    c.args.number c.args.verdict _ c.self.view_is c.in-Ok.ensures.set c.altered_at.ensures.counted
+
+pub returns-then-says-clause-later : goal.returns-then-says-clause-later
+returns-then-says-clause-later c = later_itself c.args.self.now
+
+pub returns-then-would_pass-clause-later : goal.returns-then-would_pass-clause-later
+returns-then-would_pass-clause-later c = later_itself c.args.self.now
+
+pub returns-then-says-clause-held : goal.returns-then-says-clause-held
+returns-then-says-clause-held c =
+    held_said c.args.self.now c.args.number c.args.verdict c.if-says.ensures.says
+
+pub returns-in-Ok-clause-counted : goal.returns-in-Ok-clause-counted
+returns-in-Ok-clause-counted c =
+    set_once (record { limits = c.self.inside.limits; certs = c.self.inside.certs.entries; verdicts = c.self.inside.verdicts; changes = c.self.inside.changes }) c.args.self.now c.altered_at.new.self
+    c.args.number c.args.verdict _ c.self.view_is c.if-says.ensures.says c.in-Ok.ensures.set c.altered_at.ensures.counted
+
+pub returns-in-Ok-clause-held : goal.returns-in-Ok-clause-held
+returns-in-Ok-clause-held c =
+    set_in_place (record { limits = c.self.inside.limits; certs = c.self.inside.certs.entries; verdicts = c.self.inside.verdicts; changes = c.self.inside.changes }) c.args.self.now c.altered_at.new.self
+    c.args.number c.args.verdict _ c.self.view_is c.if-says.ensures.says c.in-Ok.ensures.set c.altered_at.ensures.counted

@@ -1,35 +1,38 @@
-use Rattle.std.proofs.Common.{◌∙◌, sym, ap, ℕ}
-use Rattle.wot_verdict.specs.Verdicts.{Entries}
+use Rattle.std.proofs.Common.{◌∙◌, sym, ap, subst, ℕ, List, length, ◌<◌, ◌^◌}
+use Rattle.wot_cert.specs.Certificate.{Component}
 use Rattle.wot_edge.specs.Record.{Entry}
 use Rattle.wot_standing.specs.Standing.{standing_of}
 use Rattle.wot_standing.specs.Usable.{is_in_order}
-use Rattle.wot_network.specs.Net.{told_of}
-use Rattle.wot_network.specs.Roads.{present_of}
+use Rattle.wot_keyring.specs.Keyring.{certificates_in}
+use Rattle.wot_live.specs.Rows.{revoked_of}
 use Rattle.wot_network.specs.Told.{is_user_id}
-use Rattle.wot_network.proofs.Looking.{present, absent_line, absent_cert, standing_here, entries_here}
+use Rattle.wot_network.proofs.Few.{user_ids_few}
+use Rattle.wot_network.proofs.Fprs.{named_certs}
+use Rattle.wot_network.proofs.Looking.{present, absent_line, absent_cert, standing_here, revoked_here}
 use Rattle.wot_network.proofs.roads.NetRoadsRoads.in_order.Goals as goal
 
 pub is_in_order-requires : goal.is_in_order-requires
 is_in_order-requires c = record {
-  standing =
-      c.standing.ensures.standing
-      ∙ standing_here c.args.self.now.network.now c.args.self.now.keyring.now c.args.self.now.right c.args.target.now c.in-Some.line.now c.in-Some-get.cert.now
-      (sym c.in-Some.ensures.found) (sym c.in-Some-get.ensures.found)
-      ∙ ap (λ (verdicts : Entries). standing_of verdicts c.in-Some-get.cert.now c.args.self.now.network.now.time) (sym c.verdicts.ensures.verdicts)
-      ∙ ap (λ (t : ℕ). standing_of c.verdicts.result.now c.in-Some-get.cert.now t) (sym c.time-t.ensures.time);
+  few = subst (λ (uids : List Component). length uids < 2 ^ 32) (sym c.user_ids.ensures.user_ids) (user_ids_few c.in-Some-get.cert.now c.in-Some-get.ensures.size);
 }
 
 pub returns-in-Some-get-clause-in_order : goal.returns-in-Some-get-clause-in_order
 returns-in-Some-get-clause-in_order c =
-    c.is_in_order.ensures.in_order
-    ∙ ap (λ (verdicts : Entries). is_in_order verdicts c.in-Some-get.cert.now c.time-t.result (is_user_id c.args.uid.now)) c.verdicts.ensures.verdicts
-    ∙ ap (λ (t : ℕ). is_in_order c.args.self.now.keyring.now.verdicts c.in-Some-get.cert.now t (is_user_id c.args.uid.now)) c.time-t.ensures.time
-    ∙ ap (λ (e : Entry). e.in_order) (present c.args.self.now.network.now c.args.self.now.keyring.now c.args.self.now.right c.args.uid.now c.args.target.now c.in-Some-get.cert.now (sym c.in-Some-get.ensures.found))
+    let n = c.args.self.now.network.now in
+    let k = c.args.self.now.keyring.now in
+    let cert = c.in-Some-get.cert.now in
+    let line = sym c.in-Some.ensures.found in
+    let found = sym c.in-Some-get.ensures.found in
+    c.is_in_order.ensures.in_order k.verdicts cert
+    (c.standing.ensures.standing ∙ standing_here n k c.args.self.now.right c.args.target.now c.in-Some.line.now cert line found ∙ ap (standing_of k.verdicts cert) (sym c.time-t.ensures.time))
+    (c.revoked.ensures.revoked ∙ revoked_here n k c.args.self.now.right c.args.target.now c.in-Some.line.now cert line found ∙ ap (revoked_of k.verdicts cert) (sym c.time-t.ensures.time))
+    c.user_ids.ensures.user_ids
+    ∙ ap (λ (t : ℕ). is_in_order k.verdicts cert t (is_user_id c.args.uid.now)) c.time-t.ensures.time
+    ∙ ap (λ (e : Entry). e.in_order) (present n k c.args.self.now.right c.args.uid.now c.args.target.now cert found)
 
 pub returns-in-Some-get-clause-lawful : goal.returns-in-Some-get-clause-lawful
 returns-in-Some-get-clause-lawful c uid =
-    c.entries_are_record.ensures.lawful (told_of (present_of c.args.self.now) uid)
-    (entries_here c.args.self.now.network.now c.args.self.now.keyring.now c.args.self.now.right uid c.line.ensures.lawful)
+    c.record_is_lawful.ensures.lawful (certificates_in c.args.self.now.keyring.now) c.args.self.now.keyring.now.verdicts c.args.self.now.network.now.time uid (named_certs c.args.self.now.keyring.now.certs c.ordered.ensures.named)
 
 pub returns-in-None-get-clause-in_order : goal.returns-in-None-get-clause-in_order
 returns-in-None-get-clause-in_order c =
@@ -37,8 +40,7 @@ returns-in-None-get-clause-in_order c =
 
 pub returns-in-None-get-clause-lawful : goal.returns-in-None-get-clause-lawful
 returns-in-None-get-clause-lawful c uid =
-    c.entries_are_record.ensures.lawful (told_of (present_of c.args.self.now) uid)
-    (entries_here c.args.self.now.network.now c.args.self.now.keyring.now c.args.self.now.right uid c.line.ensures.lawful)
+    c.record_is_lawful.ensures.lawful (certificates_in c.args.self.now.keyring.now) c.args.self.now.keyring.now.verdicts c.args.self.now.network.now.time uid (named_certs c.args.self.now.keyring.now.certs c.ordered.ensures.named)
 
 pub returns-in-None-clause-in_order : goal.returns-in-None-clause-in_order
 returns-in-None-clause-in_order c =
@@ -46,5 +48,4 @@ returns-in-None-clause-in_order c =
 
 pub returns-in-None-clause-lawful : goal.returns-in-None-clause-lawful
 returns-in-None-clause-lawful c uid =
-    c.entries_are_record.ensures.lawful (told_of (present_of c.args.self.now) uid)
-    (entries_here c.args.self.now.network.now c.args.self.now.keyring.now c.args.self.now.right uid c.line.ensures.lawful)
+    c.record_is_lawful.ensures.lawful (certificates_in c.args.self.now.keyring.now) c.args.self.now.keyring.now.verdicts c.args.self.now.network.now.time uid (named_certs c.args.self.now.keyring.now.certs c.ordered.ensures.named)

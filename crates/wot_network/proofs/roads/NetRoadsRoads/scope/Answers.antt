@@ -5,12 +5,13 @@ use Rattle.wot_edge.specs.Record.{Has, Row, rows_into}
 use Rattle.wot_network.specs.Net.{told_of}
 use Rattle.wot_network.specs.Roads.{present_of}
 use Rattle.wot_network.specs.Told.{is_in_scope}
-use Rattle.wot_network.proofs.Looking.{scope_some, scope_none, if_ok}
+use Rattle.std.proofs.lemmas.Result.{IfOk-weaker}
+use Rattle.wot_network.proofs.Looking.{scope_some, scope_none}
 use Rattle.wot_network.proofs.roads.NetRoadsRoads.scope.Goals as goal
 
 pub returns-in-Some : goal.returns-in-Some
 returns-in-Some c = record {
-  scope = if_ok c.holds_for.result (λ holds. holds ≡ is_in_scope c.user_ids.result.now c.args.uid.now c.facts-facts.result)
+  scope = IfOk-weaker c.holds_for.result (λ holds. holds ≡ is_in_scope c.user_ids.result.now c.args.uid.now c.facts-facts.result)
       (λ holds. (row : Row) → Has (rows_into (told_of (present_of c.args.self.now) c.args.uid.now) c.args.edge.now.target) row → row.edge ≡ c.args.edge.now → row.scope ≡ holds)
       (λ holds is row h e.
       scope_some c.args.self.now.network.now c.args.self.now.keyring.now c.args.self.now.right c.args.uid.now row c.facts-facts.result c.in-Some.cert.now

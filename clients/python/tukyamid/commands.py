@@ -1,0 +1,215 @@
+"""The commands of the protocol, one type each. `line()` gives a command's line, without its line feed.
+
+>>> Ask("me", "fac804259d6b2997afe074fcd2112d7c6c04741c", 120, "Alice").line()
+b'ask me fac804259d6b2997afe074fcd2112d7c6c04741c 120 Alice'
+>>> read_command(b"view me root fac804259d6b2997afe074fcd2112d7c6c04741c 120")
+Root(view='me', fpr='fac804259d6b2997afe074fcd2112d7c6c04741c', amount=120)
+"""
+
+from dataclasses import dataclass
+
+from . import spelling
+
+MOST_TIME = 2**32 - 1
+MOST_WANTED = 2**32 - 1
+TRUST_ROOT = "trust-root"
+
+_CHECKS = {
+    "fpr": spelling.fingerprint,
+    "number": spelling.number,
+    "view": spelling.view_name,
+    "time": lambda value: spelling.decimal(value, 0, MOST_TIME, "time"),
+    "amount": lambda value: spelling.decimal(value, 0, 255, "amount"),
+    "wanted": lambda value: spelling.decimal(value, 1, MOST_WANTED, "wanted amount"),
+    "user_id": spelling.user_id,
+    "octets": bytes,
+    "name": lambda value: value if value == TRUST_ROOT else spelling.fingerprint(value),
+}
+
+
+class Command:
+    """A command. Its fields are checked when it is made: a field that has no spelling is a ValueError."""
+
+    def __post_init__(self):
+        for field, value in list(vars(self).items()):
+            object.__setattr__(self, field, _CHECKS[field](value))
+
+    def text(self):
+        raise NotImplementedError
+
+    def line(self):
+        return self.text().encode("ascii")
+
+
+@dataclass(frozen=True)
+class Import(Command):
+    octets: bytes
+
+    def text(self):
+        return f"import {self.octets.hex()}"
+
+
+@dataclass(frozen=True)
+class Load(Command):
+    """Reads one entry of the directory that the engine was started with. The engine may not know it yet."""
+    name: str
+
+    def text(self):
+        return f"load {self.name}"
+
+
+@dataclass(frozen=True)
+class Drop(Command):
+    fpr: str
+
+    def text(self):
+        return f"drop {self.fpr}"
+
+
+@dataclass(frozen=True)
+class Good(Command):
+    number: str
+    fpr: str
+
+    def text(self):
+        return f"verdict {self.number} good {self.fpr}"
+
+
+@dataclass(frozen=True)
+class Bad(Command):
+    number: str
+
+    def text(self):
+        return f"verdict {self.number} bad"
+
+
+@dataclass(frozen=True)
+class Unjudge(Command):
+    number: str
+
+    def text(self):
+        return f"verdict {self.number} none"
+
+
+@dataclass(frozen=True)
+class Time(Command):
+    view: str
+    time: int
+
+    def text(self):
+        return f"view {self.view} time {self.time}"
+
+
+@dataclass(frozen=True)
+class Root(Command):
+    view: str
+    fpr: str
+    amount: int
+
+    def text(self):
+        return f"view {self.view} root {self.fpr} {self.amount}"
+
+
+@dataclass(frozen=True)
+class Close(Command):
+    view: str
+
+    def text(self):
+        return f"view {self.view} close"
+
+
+@dataclass(frozen=True)
+class Ask(Command):
+    view: str
+    fpr: str
+    wanted: int
+    user_id: bytes
+
+    def text(self):
+        return f"ask {self.view} {self.fpr} {self.wanted} {spelling.write_user_id(self.user_id)}"
+
+
+@dataclass(frozen=True)
+class List(Command):
+    view: str
+    wanted: int
+
+    def text(self):
+        return f"list {self.view} {self.wanted}"
+
+
+@dataclass(frozen=True)
+class Explain(Command):
+    view: str
+    fpr: str
+    user_id: bytes
+
+    def text(self):
+        return f"explain {self.view} {self.fpr} {spelling.write_user_id(self.user_id)}"
+
+
+@dataclass(frozen=True)
+class Pending(Command):
+    def text(self):
+        return "pending"
+
+
+@dataclass(frozen=True)
+class Keys(Command):
+    def text(self):
+        return "keys"
+
+
+@dataclass(frozen=True)
+class Export(Command):
+    fpr: str
+
+    def text(self):
+        return f"export {self.fpr}"
+
+
+@dataclass(frozen=True)
+class Dump(Command):
+    def text(self):
+        return "dump"
+
+
+def _verdict(number, word, *rest):
+    if word == "good":
+        return Good(number, *rest)
+    return {"bad": Bad, "none": Unjudge}[word](number, *rest)
+
+
+def _view(view, word, *rest):
+    if word == "time":
+        return Time(view, int(*rest))
+    if word == "root":
+        return Root(view, rest[0], int(rest[1]))
+    return {"close": Close}[word](view, *rest)
+
+
+_READ = {
+    "import": lambda digits: Import(bytes.fromhex(digits)),
+    "load": Load,
+    "drop": Drop,
+    "verdict": _verdict,
+    "view": _view,
+    "ask": lambda view, fpr, wanted, uid: Ask(view, fpr, int(wanted), spelling.read_user_id(uid.encode("latin-1"))),
+    "list": lambda view, wanted: List(view, int(wanted)),
+    "explain": lambda view, fpr, uid: Explain(view, fpr, spelling.read_user_id(uid.encode("latin-1"))),
+    "pending": Pending,
+    "keys": Keys,
+    "export": Export,
+    "dump": Dump,
+}
+_FIELDS = {"ask": 4, "explain": 3}  # The last of them is the rest of the line.
+
+
+def read_command(line):
+    """The command of a line, as of a dump; ValueError where the client knows none."""
+    word, space, rest = line.decode("latin-1").removesuffix("\n").partition(" ")
+    fields = rest.split(" ", _FIELDS[word] - 1 if word in _FIELDS else -1) if space else []
+    try:
+        return _READ[word](*fields)
+    except (KeyError, TypeError, IndexError):
+        raise ValueError(f"{line!r} is no command") from None

@@ -1,0 +1,34 @@
+use Rattle.std.proofs.Common.{◌≡◌, ◌+◌, ◌≤◌, true, refl, subst}
+use Rattle.std.specs.Prelude.{IfSome, is_some}
+use Rattle.wot_network.specs.Net.{signatures_in}
+use Rattle.wot_network.specs.Roads.{present_of}
+use Rattle.wot_cache.specs.declared.view.View.{View}
+use Rattle.wot_cache.specs.Question.{IsLocalTo}
+use Rattle.wot_cache.specs.State.{Engine}
+use Rattle.wot_cache.specs.Views.{view_at}
+use Rattle.wot_cache.proofs.Asking.{few_seen, same_engine, seen_after}
+use Rattle.wot_cache.proofs.engine.Engine.parts.Goals as goal
+
+pub returns : goal.returns
+returns c =
+    let name = c.args.view.now in
+    let k = c.refresh.new.self.keyring in
+    let views = c.refresh.new.self.views.entries in
+    let p = c.parts.result in
+    let same = same_engine c.args.self.now c.self.inside.networked.keyring k c.self.inside.networked.views.entries views c.self.view_is c.refresh.ensures.keyring c.refresh.ensures.views in
+    let seen = seen_after c.args.self.now c.self.inside.networked.keyring k c.self.inside.networked.views.entries views name p c.self.view_is
+    c.refresh.ensures.keyring c.refresh.ensures.views c.parts.ensures.parts in (
+      (refl, λ engine. tt, same),
+      record {
+        kept = tt;
+        parts = seen;
+        few = few_seen c.args.self.now c.self.inside.networked.keyring c.self.inside.networked.views.entries c.self.inside.networked.networks.entries name p
+            c.self.view_is c.self.invariant seen;
+        entries = c.parts.ensures.entries;
+        lawful = c.parts.ensures.lawful;
+        local = subst (λ (e : Engine). IfSome (view_at e.views name) (λ (v : View). IsLocalTo e.keyring v.time (present_of p.roads))) same c.parts.ensures.local;
+        «open» = subst (λ (e : Engine). is_some (view_at e.views name) ≡ true) c.self.view_is c.in_ok-refresh.ensures.open;
+        made_most = subst (λ (e : Engine). c.refresh.new.steps.made ≤ c.args.steps.now.made + signatures_in e.keyring) c.self.view_is c.refresh.ensures.made_most;
+        never_less = c.refresh.ensures.never_less;
+      },
+    )

@@ -1,0 +1,13 @@
+use wot_edge::Roots;
+use wot_keyring::Keyring;
+use wot_network::NetRoads;
+
+/// What listing and explaining take, seen from an open view: the keyring, its roads at the view's time, the view's
+/// roots, and its time in seconds since 1970.
+#[derive(Drop)]
+pub struct Parts<'a> {
+    pub keyring: &'a Keyring,
+    pub roads: NetRoads<'a>,
+    pub roots: &'a Roots,
+    pub t: u32,
+}

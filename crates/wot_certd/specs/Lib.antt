@@ -1,0 +1,4 @@
+pub mod Names
+pub mod World
+pub mod Shelf
+pub mod Memory

@@ -1,0 +1,34 @@
+-- The names of entries: their order, and their places in a directory.
+use Rattle.std.specs.Prelude.{◌≡◌, ℕ, ◌++◌, List, length, take, drop, codes}
+use Rattle.std.specs.declared.cmp.Ordering.{Ordering}
+use Rattle.std.specs.declared.cmp.Ordering.TheVariants.{Less, Equal, Greater}
+use Rattle.hex.specs.Hex.{IsBytes}
+use Rattle.wot_types.specs.declared.name.Name.{Name}
+use Rattle.wot_types.specs.declared.name.Name.TheVariants.{Cert, TrustRoot}
+use Rattle.wot_types.specs.declared.fpr.Fpr.{Fpr}
+use Rattle.wot_types.specs.declared.fpr.Fpr.TheVariants.{V4}
+use Rattle.wot_types.specs.Fpr.{digits_of, fpr_cmp}
+
+-- Certificates come in the order of their fingerprints, and the trust root last.
+abbrev pub name_cmp : Name → Name → Ordering
+name_cmp (Cert a) (Cert b) = fpr_cmp a b
+name_cmp (Cert a) TrustRoot = Less
+name_cmp TrustRoot (Cert b) = Greater
+name_cmp TrustRoot TrustRoot = Equal
+
+-- The first two of these digits name the folder, and the others the file.
+abbrev pub split_digits : List ℕ → List ℕ
+split_digits digits = take 2 digits ++ codes "/" ++ drop 2 digits
+
+-- Where an entry stands in a directory: a certificate by the digits of its fingerprint in lower case.
+abbrev pub place_of : Name → List ℕ
+place_of (Cert fpr) = split_digits (digits_of fpr)
+place_of TrustRoot = codes "trust-root"
+
+-- A fingerprint has 20 octets.
+abbrev pub IsFpr : Fpr → Type 0
+IsFpr (V4 octets) = (length octets ≡ 20) × IsBytes octets
+
+abbrev pub IsName : Name → Type 0
+IsName (Cert fpr) = IsFpr fpr
+IsName TrustRoot = Unit {0}

@@ -1,0 +1,111 @@
+ghost use Rattle.std.specs.Prelude.{◌≡◌, ◌≤◌, None, IfOk, OnOk, IsErrOf};
+ghost use Rattle.wot_io.specs.Counts.{Rose, next_count};
+ghost use Rattle.wot_certd.specs.Shelf.{IsWithin};
+
+use crate::writing::{path_of, read_entry, write_entry};
+use crate::{Given, Shelf, ShelfFault};
+use std::alloc::Global;
+use std::io::{self, ErrorKind};
+use std::marker::Model;
+use std::rt::Files;
+use wot_types::{Memory, Name};
+
+/// A certificate directory in the file system. It tells nothing of its entries, and contracts see its count of faults
+/// alone.
+#[derive(Drop)]
+pub struct FolderShelf<'a, R: Files> {
+    files: &'a R,
+    alloc: Global,
+    folder: String,
+    faults: u64,
+}
+
+impl<'a, R: Files> Model for FolderShelf<'a, R> {
+    ghost use Rattle.std.specs.Prelude.{ℕ};
+
+    ghost Value = { ℕ };
+
+    ghost view = { λ a. a.faults };
+}
+
+impl<'a, R: Files> FolderShelf<'a, R> {
+    /// The directory in this folder, which needn't be there. `files` is the runtime of `main`.
+    pub fn new(alloc: Global, files: &'a R, folder: &str) -> Result<FolderShelf<'a, R>, Memory>
+        ensures { IfOk result (λ shelf. shelf ≡ 0) }
+    {
+        let folder = String::from_str(alloc, folder)?;
+        Ok(FolderShelf {
+            files,
+            alloc,
+            folder,
+            faults: 0,
+        })
+    }
+
+    /// What an error of the system is: want of memory, or a fault, which is counted.
+    fn fault_of(&mut self, error: &io::Error) -> ShelfFault
+        ensures cause { result ≡ ShelfFault.Failed → self.new ≡ next_count self.old }
+        ensures wanting { result ≡ ShelfFault.Memory → self.new ≡ self.old }
+        ensures later { self.old ≤ self.new }
+    {
+        if error.kind() == ErrorKind::OutOfMemory {
+            return ShelfFault::Memory;
+        }
+        self.faults = self.faults.saturating_add(1);
+        ShelfFault::Failed
+    }
+}
+
+/// Every error of the system is a fault, other than want of memory and, for a read, that a file or its folder isn't
+/// there.
+impl<R: Files> Shelf for FolderShelf<'_, R> {
+    ghost world = { λ _. None };
+
+    ghost faults = { λ faults. faults };
+
+    fn read(&mut self, name: &Name) -> Result<Given, ShelfFault>
+        ensures within { IfOk result (λ given. IsWithin given) }
+        ensures later { self.old ≤ self.new }
+        ensures cause { IsErrOf result ShelfFault.Failed → Rose self.old self.new }
+        ensures same { OnOk result (self.new ≡ self.old) }
+        ensures counted { IsErrOf result ShelfFault.Failed → self.new ≡ next_count self.old }
+        ensures wanting { IsErrOf result ShelfFault.Memory → self.new ≡ self.old }
+    {
+        match read_at(self.files, self.alloc, &self.folder, name) {
+            Ok(given) => Ok(given),
+            Err(e) => Err(self.fault_of(&e)),
+        }
+    }
+
+    /// A new file is written beside the old one, stored, and takes its place; then the folders are stored.
+    fn replace(&mut self, name: &Name, bytes: &[u8]) -> Result<(), ShelfFault>
+        ensures later { self.old ≤ self.new }
+        ensures cause { IsErrOf result ShelfFault.Failed → Rose self.old self.new }
+        ensures same { OnOk result (self.new ≡ self.old) }
+        ensures counted { IsErrOf result ShelfFault.Failed → self.new ≡ next_count self.old }
+        ensures wanting { IsErrOf result ShelfFault.Memory → self.new ≡ self.old }
+    {
+        match replace_at(self.files, self.alloc, &self.folder, name, bytes) {
+            Ok(()) => Ok(()),
+            Err(e) => Err(self.fault_of(&e)),
+        }
+    }
+}
+
+fn read_at<R: Files>(files: &R, alloc: Global, folder: &str, name: &Name) -> io::Result<Given>
+    ensures within { IfOk result (λ given. IsWithin given) }
+{
+    let path = path_of(alloc, folder, name)?;
+    read_entry(files, alloc, &path)
+}
+
+fn replace_at<R: Files>(
+    files: &R,
+    alloc: Global,
+    folder: &str,
+    name: &Name,
+    octets: &[u8],
+) -> io::Result<()> {
+    let path = path_of(alloc, folder, name)?;
+    write_entry(files, alloc, folder, &path, octets)
+}

@@ -1,0 +1,161 @@
+ghost use Rattle.std.specs.Prelude.{◌≡◌, ◌↔◌, ◌+◌, ◌++◌, Some, take, drop, slice_index, codes, length, string_bytes, IsTrue, IfOk, IfSome};
+ghost use Rattle.hex.specs.Hex.{encode_lower};
+ghost use Rattle.wot_types.specs.declared.fpr.Fpr.{Fpr as FprOf};
+ghost use Rattle.wot_types.specs.declared.name.Name.{Name as NameOf};
+ghost use Rattle.wot_types.specs.declared.name.Name.TheVariants.{Cert};
+ghost use Rattle.wot_types.specs.Fpr.{digits_of};
+ghost use Rattle.wot_certd.specs.Names.{IsFpr, IsName, place_of, split_digits};
+
+use std::alloc::Global;
+use wot_types::{Fpr, Memory, Name};
+
+/// Where an entry stands in a directory: a certificate at the first two digits of its fingerprint, in lower case, a
+/// slash and the others; the trust root at `trust-root`.
+pub fn name_of(alloc: Global, name: &Name) -> Result<String, Memory>
+    ensures place { IfOk result (λ text. string_bytes text ≡ place_of name.now) }
+{
+    match name {
+        Name::Cert(Fpr::V4(octets)) => split_text(alloc, octets),
+        Name::TrustRoot => Ok(String::from_str(alloc, "trust-root")?),
+    }
+}
+
+/// The digits of octets, with a slash behind those of the first one.
+#[tactic(auto, using(crate::proofs::Places::split_text))]
+fn split_text(alloc: Global, octets: &[u8; 20]) -> Result<String, Memory>
+    ensures { IfOk result (λ text. string_bytes text ≡ split_digits (encode_lower octets.now)) }
+{
+    let (first, others) = octets.as_slice().split_at(1);
+    joined_text(alloc, first, others)
+}
+
+/// The digits of octets and of others, with a slash between.
+fn joined_text(alloc: Global, first: &[u8], others: &[u8]) -> Result<String, Memory>
+    ensures { IfOk result (λ text. string_bytes text ≡ (encode_lower first.now ++ codes "/") ++ encode_lower others.now) }
+{
+    let mut text = hex::encode(alloc, first)?;
+    text.push_str("/")?;
+    let file = hex::encode(alloc, others)?;
+    text.push_str(&file)?;
+    Ok(text)
+}
+
+/// The name of the entry that stands at this place; `None` for every other text, also where a digit is in upper case.
+pub fn fpr_of(text: &str) -> Option<Name>
+    ensures found { IfSome result (λ name. text.now ≡ place_of name) }
+    ensures again { (name : NameOf) → IsName name → text.now ≡ place_of name → result ≡ Some name }
+{
+    name_at(text.as_bytes())
+}
+
+fn name_at(place: &[u8]) -> Option<Name>
+    ensures found { IfSome result (λ name. place.now ≡ place_of name) }
+    ensures again { (name : NameOf) → IsName name → place.now ≡ place_of name → result ≡ Some name }
+{
+    if is_same(place, b"trust-root") {
+        Some(Name::TrustRoot)
+    } else {
+        certificate_at(place)
+    }
+}
+
+fn certificate_at(place: &[u8]) -> Option<Name>
+    ensures found { IfSome result (λ name. place.now ≡ place_of name) }
+    ensures again { (fpr : FprOf) → IsFpr fpr → place.now ≡ split_digits (digits_of fpr) → result ≡ Some (Cert fpr) }
+{
+    match fpr_at(place) {
+        Some(fpr) => Some(Name::Cert(fpr)),
+        None => None,
+    }
+}
+
+/// The fingerprint of the certificate that stands at this place.
+fn fpr_at(place: &[u8]) -> Option<Fpr>
+    ensures found { IfSome result (λ fpr. place.now ≡ split_digits (digits_of fpr)) }
+    ensures again { (fpr : FprOf) → IsFpr fpr → place.now ≡ split_digits (digits_of fpr) → result ≡ Some fpr }
+{
+    if is_split(place) {
+        fpr_of_split(place)
+    } else {
+        None
+    }
+}
+
+/// Whether a slash stands behind the first two of 41 octets.
+fn is_split(place: &[u8]) -> bool
+    ensures long { IsTrue result → length place.now ≡ 41 }
+    ensures slash { IsTrue result → slice_index place.now 2 ≡ 47 }
+    ensures only { length place.now ≡ 41 → slice_index place.now 2 ≡ 47 → IsTrue result }
+{
+    place.len() == 41 && place[2] == b'/'
+}
+
+#[tactic(auto, using(crate::proofs::Places::placing))]
+fn fpr_of_split(place: &[u8]) -> Option<Fpr>
+    requires long { length place.now ≡ 41 }
+    requires slash { slice_index place.now 2 ≡ 47 }
+    ensures found { IfSome result (λ fpr. place.now ≡ split_digits (digits_of fpr)) }
+    ensures again { (fpr : FprOf) → IsFpr fpr → place.now ≡ split_digits (digits_of fpr) → result ≡ Some fpr }
+{
+    let digits = digits_at(place);
+    match Fpr::read(&digits) {
+        Some(fpr) => as_printed(fpr, &digits),
+        None => None,
+    }
+}
+
+/// A fingerprint, where it is printed by these digits.
+fn as_printed(fpr: Fpr, digits: &[u8; 40]) -> Option<Fpr>
+    ensures same { IfSome result (λ found. (found ≡ fpr) × (digits.now ≡ digits_of fpr)) }
+    ensures again { digits.now ≡ digits_of fpr → result ≡ Some fpr }
+{
+    if is_same(&printed(&fpr), digits) {
+        Some(fpr)
+    } else {
+        None
+    }
+}
+
+/// The digits of a place.
+fn digits_at(place: &[u8]) -> [u8; 40]
+    requires { length place.now ≡ 41 }
+    ensures { result ≡ take 2 place.now ++ drop 3 place.now }
+{
+    let (folder, _) = place.split_at(2);
+    let (_, file) = place.split_at(3);
+    let mut digits = [0u8; 40];
+    put_both(&mut digits, folder, file);
+    digits
+}
+
+fn put_both(to: &mut [u8], front: &[u8], back: &[u8])
+    requires { length to.old ≡ length front.now + length back.now }
+    ensures { to.new ≡ front.now ++ back.now }
+{
+    let (first, second) = to.split_at_mut(front.len());
+    first.copy_from_slice(front);
+    second.copy_from_slice(back);
+}
+
+/// The digits of a fingerprint, as it is printed.
+fn printed(fpr: &Fpr) -> [u8; 40]
+    ensures { result ≡ digits_of fpr.now }
+{
+    match fpr {
+        Fpr::V4(octets) => printed_twenty(octets),
+    }
+}
+
+fn printed_twenty(octets: &[u8; 20]) -> [u8; 40]
+    ensures { result ≡ encode_lower octets.now }
+{
+    let mut digits = [0u8; 40];
+    let _ = hex::encode_to_slice(octets.as_slice(), &mut digits);
+    digits
+}
+
+fn is_same(left: &[u8], right: &[u8]) -> bool
+    ensures { IsTrue result ↔ (left.now ≡ right.now) }
+{
+    left == right
+}

@@ -1,0 +1,13 @@
+pub mod Truths
+pub mod Demands
+pub mod Trails
+pub mod Entries
+pub mod Rows
+pub mod Tracing
+pub mod Lefts
+pub mod Sums
+pub mod Showing
+pub mod Testing
+pub mod Growing
+pub mod Layering
+pub mod Judging

@@ -1,0 +1,14 @@
+use Rattle.std.proofs.Common.{Vec, Global, refl, ap, ◌∙◌}
+use Rattle.wot_types.specs.declared.fpr.Fpr.{Fpr}
+use Rattle.wot_check.specs.declared.growth.Growth.{Growth}
+use Rattle.wot_check.specs.Asked.{question_of, used_in}
+use Rattle.wot_check.proofs.Layering.{advanced}
+use Rattle.wot_check.proofs.extend.advance.Goals as goal
+
+pub returns : goal.returns
+returns g c =
+    let q = question_of (g.R.Roads.told c.args.roads.now) c.args.asked.now in
+    let now : Growth = record { table = c.args.growth.now.table; layer = c.replace-layer.new.dest } in
+    let l = c.deref.ensures.value ∙ ap (λ (v : Vec Fpr Global). v.items) c.replace-layer.ensures.value in
+    let e = ap (λ (v : Vec Fpr Global). v.items) c.replace-layer.ensures.after ∙ c.new.ensures.items in
+    record { after = advanced q (used_in c.args.asked.now) c.args.size c.args.growth.now now c.extend_all.new.growth c.deref.result.now l refl e c.in_ok-extend_all.ensures.grown }

@@ -1,0 +1,55 @@
+-- What is demanded of an edge into a fingerprint from which so many edges lead to the target.
+use Rattle.std.specs.Prelude.{◌≡◌, ℕ, ◌+◌, nat_le, nat_lt, nat_eq, ◌&&◌, ◌||◌, not, Bool, true, false, Option, Some, None, cond}
+use Rattle.wot_types.specs.declared.fpr.Fpr.{Fpr}
+use Rattle.wot_types.specs.Fpr.{same_fpr}
+use Rattle.wot_edge.specs.declared.edge.EdgeFacts.{EdgeFacts}
+use Rattle.wot_edge.specs.Record.{Record, Row, Has, entry_at, rows_into}
+use Rattle.wot_edge.specs.Path.{Question, Use, step_of, step_left}
+use Rattle.wot_check.specs.declared.demand.Demand.{Demand}
+use Rattle.wot_check.specs.declared.demand.Demand.TheVariants.{On, Before}
+use Rattle.wot_check.specs.Table.{Labels, label_at}
+
+abbrev pub is_place : Option ℕ → ℕ → Bool
+is_place None uid = false
+is_place (Some place) uid = nat_eq place uid
+
+abbrev pub is_met : Fpr → Demand → EdgeFacts → Bool
+is_met target (On place) edge = is_place place edge.uid
+is_met target (Before size) edge = nat_le size edge.depth && not (same_fpr edge.issuer target)
+
+-- the demand before so many edges
+abbrev pub demand_of : Question → ℕ → Demand
+demand_of q size = cond (nat_eq size 0) (On (entry_at q.told q.target).place) (Before size)
+
+-- the last edge of a path needs no scope
+abbrev pub is_in_scope : Demand → Row → Bool
+is_in_scope (On place) row = true
+is_in_scope (Before size) row = row.scope
+
+-- the edge meets the demand, and something is left of it
+abbrev pub promises : Fpr → Use → Demand → EdgeFacts → Bool
+promises target used demand edge = is_met target demand edge && nat_lt 0 (step_left used (step_of edge))
+
+-- an edge may stand there
+abbrev pub may_stand : Fpr → Use → Demand → Row → Bool
+may_stand target used demand row = promises target used demand row.edge && (row.usable && is_in_scope demand row)
+
+-- what is so of each row of an edge
+abbrev pub EachRow : Record → EdgeFacts → (Row → Type 0) → Type 0
+EachRow told edge holds = (row : Row) → Has (rows_into told edge.target) row → row.edge ≡ edge → holds row
+
+-- ---- what a table owes to an edge
+
+abbrev pub is_within : ℕ → Option ℕ → Bool
+is_within most None = false
+is_within most (Some label) = nat_le label most
+
+-- the issuer has a label of at most so much, or the edge may not stand there
+abbrev pub is_covered : Fpr → Use → Demand → ℕ → Labels → Row → Bool
+is_covered target used demand most table row =
+    is_within most (label_at table row.edge.issuer) || not (may_stand target used demand row)
+
+-- so is each edge into a fingerprint from which so many edges lead to the target
+abbrev pub Covers : Question → Use → ℕ → Labels → Fpr → Type 0
+Covers q used size table at =
+    (row : Row) → Has (rows_into q.told at) row → is_covered q.target used (demand_of q size) (size + 1) table row ≡ true

@@ -1,0 +1,29 @@
+-- Tables: labels from 1 to 255 by fingerprint, as the list of their entries in order.
+use Rattle.std.specs.Prelude.{ℕ, ◌<◌, ◌≤◌, List, Option, Some, None}
+use Rattle.std.specs.Map.{lookup, keys_of}
+use Rattle.std.specs.BTreeMap.{is_at}
+use Rattle.std.specs.List.{AllByRecursion}
+use Rattle.std.specs.List.Sorted.{IsStrictlySortedBy}
+use Rattle.wot_types.specs.declared.fpr.Fpr.{Fpr}
+use Rattle.wot_types.specs.Fpr.{fpr_cmp}
+
+abbrev pub Labels : Type 0
+Labels = List (Fpr × ℕ)
+
+-- the label of a fingerprint, if it has one
+abbrev pub label_at : Labels → Fpr → Option ℕ
+label_at table fpr = lookup (is_at (fpr_cmp fpr)) table
+
+-- a label is there, and at most so much
+abbrev pub IsWithin : ℕ → Option ℕ → Type 0
+IsWithin most None = ⊥
+IsWithin most (Some label) = label ≤ most
+
+-- each label is from 1 to 255
+abbrev pub AreLabels : Labels → Type 0
+AreLabels table = AllByRecursion (λ entry. (0 < entry.1) × (entry.1 ≤ 255)) table
+
+-- what every value of `Table` is
+pub record IsTable (table : Labels) : Type 0 where
+  pub order : IsStrictlySortedBy fpr_cmp (keys_of table)
+  pub labels : AreLabels table

@@ -1,0 +1,85 @@
+ghost use Rattle.std.specs.Prelude.{◌≡◌, ◌↔◌, ◌<◌, ◌^◌, ℕ, [], ◌∷◌, None, length, IfOk};
+ghost use Rattle.wot_edge.specs.Answer.{IsAnswer, amount_of};
+ghost use Rattle.wot_edge.specs.Path.{asks, use_of};
+ghost use Rattle.wot_check.specs.Absence.{IsAccepted, IsLeft, IsMade};
+ghost use Rattle.wot_check.specs.Asked.{question_of, used_in};
+ghost use Rattle.wot_check.specs.Growth.{IsSettled};
+
+use crate::asked::Asked;
+use crate::extend::advance;
+use crate::growth::Growth;
+use crate::points::roots_spent;
+use crate::table::Table;
+use crate::using::used_by;
+use std::alloc::Global;
+use wot_edge::{Path, Roads, Roots};
+use wot_types::{Fpr, Memory};
+
+/// Before the first layer: the target alone, and no labels.
+fn begin(alloc: Global, target: &Fpr) -> Result<Growth, Memory>
+    ensures table { IfOk result (λ growth. growth.table ≡ []) }
+    ensures layer { IfOk result (λ growth. growth.layer.items ≡ target.now ∷ []) }
+{
+    let mut layer: Vec<Fpr> = Vec::new(alloc);
+    layer.push(*target)?;
+    Ok(Growth {
+        table: Table::new(alloc),
+        layer,
+    })
+}
+
+/// The labels of the least table: of each fingerprint, how many edges lead at least from there to
+/// the target.
+fn settle<R: Roads>(alloc: Global, roads: &R, asked: &Asked) -> Result<Table, Memory>
+    ensures settled { IfOk result (λ table. IsSettled (question_of (R.told roads.now) asked.now) (used_in asked.now) table) }
+{
+    let mut growth = begin(alloc, asked.target)?;
+    'layers: for size in 0..255u8 {
+        advance(alloc, roads, asked, size, &mut growth)?;
+        if growth.layer.is_empty() {
+            return Ok(growth.table);
+        }
+    }
+    Ok(growth.table)
+}
+
+/// The least table of absence after these paths; `None` exactly where a valid path of positive
+/// amount is left after them. Where the target isn't in order for the user ID it is empty.
+pub fn absence<R: Roads>(
+    alloc: Global,
+    roads: &R,
+    roots: &Roots,
+    paths: &[Path],
+    target: &Fpr,
+    uid: &[u8],
+) -> Result<Option<Table>, Memory>
+    requires few { length paths.now < 2 ^ 24 }
+    // The least table, and nothing is left; or none, and something is.
+    ensures made { IfOk result (λ made. IsMade (asks (R.told roads.now uid.now) roots.now target.now) (use_of paths.now) made) }
+    ensures none { IfOk result (λ made. (made ≡ None) ↔ IsLeft (asks (R.told roads.now uid.now) roots.now target.now) (use_of paths.now)) }
+
+    // For an answer that missed its wanted amount there is a table, and `check` accepts it.
+    ensures accepted { IfOk result (λ made. (wanted : ℕ)
+        → IsAnswer (asks (R.told roads.now uid.now) roots.now target.now) wanted paths.now → amount_of paths.now < wanted
+        → IsAccepted (asks (R.told roads.now uid.now) roots.now target.now) paths.now made) }
+{
+    let used = used_by(alloc, paths)?;
+    if !roads.in_order(target, uid) {
+        let empty = Table::new(alloc);
+        let _labels = empty.iter();
+        return Ok(Some(empty));
+    }
+    let asked = Asked {
+        roots,
+        used: &used,
+        target,
+        uid,
+    };
+    let table = settle(alloc, roads, &asked)?;
+    let _labels = table.iter();
+    if roots_spent(&asked, &table) {
+        Ok(Some(table))
+    } else {
+        Ok(None)
+    }
+}

@@ -1,0 +1,126 @@
+ghost use Rattle.std.specs.Prelude.{◌≡◌, ◌↔◌, ◌≤◌, ◌<◌, ◌+◌, ℕ, List, Option, true, IfOk};
+ghost use Rattle.wot_edge.specs.Record.{Has, Record, edges_into};
+ghost use Rattle.wot_check.specs.Absence.{Excludes, OthersLabelled};
+ghost use Rattle.wot_check.specs.Asked.{question_of, used_in};
+ghost use Rattle.wot_check.specs.Demand.{Covers, EachRow, is_covered, is_within};
+ghost use Rattle.wot_check.specs.Growth.{AreRootsSpent};
+
+use crate::asked::Asked;
+use crate::demand::{Demand, demanded, stands};
+use crate::left::left_of_root;
+use crate::table::Table;
+use wot_edge::{Edge, Roads};
+use wot_types::{Fpr, Memory};
+
+fn within(most: u8, label: Option<u8>) -> bool
+    ensures { result ≡ is_within most label }
+{
+    match label {
+        Some(label) => label <= most,
+        None => false,
+    }
+}
+
+/// Whether the issuer of an edge has a label of at most so much, or the edge may not stand there.
+fn covers_edge<R: Roads>(
+    roads: &R,
+    asked: &Asked,
+    demand: Demand,
+    most: u8,
+    table: &Table,
+    edge: &Edge,
+) -> Result<bool, Memory>
+    requires row { (id : List ℕ) → Has (edges_into (R.told roads.now id) edge.now.target) edge.now }
+    ensures { IfOk result (λ covered. EachRow (R.told roads.now asked.now.uid.now) edge.now
+        (λ row. is_covered asked.now.target.now (used_in asked.now) demand most table.now row ≡ covered)) }
+{
+    if within(most, table.get(&edge.facts().issuer)) {
+        return Ok(true);
+    }
+    let stands = stands(roads, asked, demand, edge)?;
+    Ok(!stands)
+}
+
+/// Whether so is each edge into a fingerprint from which so many edges lead to the target.
+fn covers<R: Roads>(
+    roads: &R,
+    asked: &Asked,
+    size: u8,
+    table: &Table,
+    at: &Fpr,
+) -> Result<bool, Memory>
+    requires size { size < 255 }
+    ensures { IfOk result (λ covered. (covered ≡ true)
+        ↔ Covers (question_of (R.told roads.now) asked.now) (used_in asked.now) size table.now at.now) }
+{
+    let demand = demanded(roads, asked, size);
+    let mut rest = roads.rows(at);
+    'rest: while let Some((edge, later)) = rest.split_first() {
+        if !covers_edge(roads, asked, demand, size + 1, table, edge)? {
+            return Ok(false);
+        }
+        rest = later;
+    }
+    Ok(true)
+}
+
+/// The same of a label; nothing is asked of the greatest one.
+fn covers_below<R: Roads>(
+    roads: &R,
+    asked: &Asked,
+    label: u8,
+    table: &Table,
+    at: &Fpr,
+) -> Result<bool, Memory>
+    ensures { IfOk result (λ covered. (covered ≡ true)
+        ↔ (label < 255 → Covers (question_of (R.told roads.now) asked.now) (used_in asked.now) label table.now at.now)) }
+{
+    if label == 255 {
+        return Ok(true);
+    }
+    let covered = covers(roads, asked, label, table, at)?;
+    Ok(covered)
+}
+
+/// Whether so is each edge into each labelled fingerprint.
+fn covers_all<R: Roads>(roads: &R, asked: &Asked, table: &Table) -> Result<bool, Memory>
+    ensures { IfOk result (λ covered. (covered ≡ true)
+        ↔ OthersLabelled (question_of (R.told roads.now) asked.now) (used_in asked.now) table.now) }
+{
+    let mut rest = table.iter();
+    'rest: while let Some((fpr, label)) = rest.next() {
+        if !covers_below(roads, asked, label, table, &fpr)? {
+            return Ok(false);
+        }
+    }
+    Ok(true)
+}
+
+/// Whether of no labelled fingerprint anything is left as a root.
+pub fn roots_spent(asked: &Asked, table: &Table) -> bool
+    ensures { (told : List ℕ → Record) → AreRootsSpent result (question_of told asked.now) (used_in asked.now) table.now }
+{
+    let mut rest = table.iter();
+    'rest: while let Some((fpr, _)) = rest.next() {
+        if left_of_root(asked, &fpr) > 0 {
+            return false;
+        }
+    }
+    true
+}
+
+/// Whether a table meets the three points.
+pub fn excludes<R: Roads>(roads: &R, asked: &Asked, table: &Table) -> Result<bool, Memory>
+    ensures { IfOk result (λ meets. (meets ≡ true) ↔ Excludes (question_of (R.told roads.now) asked.now) (used_in asked.now) table.now) }
+{
+    // What every table is.
+    let _labels = table.iter();
+    if !roots_spent(asked, table) {
+        return Ok(false);
+    }
+    if !covers(roads, asked, 0, table, asked.target)? {
+        return Ok(false);
+    }
+    let covered = covers_all(roads, asked, table)?;
+    Ok(covered)
+}

@@ -1,0 +1,104 @@
+ghost use Rattle.std.specs.Prelude.{◌≡◌, ◌≤◌, [], Some, OnOk, OnErr, if◌then◌else◌};
+ghost use Rattle.std.specs.BTreeMap.{insert_entry};
+ghost use Rattle.std.specs.Iterator.{YieldsFirst, item_count};
+ghost use Rattle.wot_types.specs.declared.fpr.Fpr.{Fpr as Print};
+ghost use Rattle.wot_types.specs.Fpr.{fpr_cmp, same_fpr};
+ghost use Rattle.wot_check.specs.Table.{IsTable, label_at};
+
+use std::alloc::Global;
+use std::collections::BTreeMap;
+use std::collections::btree_map::Iter;
+use std::marker::Model;
+use wot_types::{Fpr, Memory};
+
+/// Labels from 1 to 255 by fingerprint.
+#[derive(Drop)]
+pub struct Table {
+    labels: BTreeMap<Fpr, u8, Global>,
+}
+
+impl Model for Table {
+    ghost use Rattle.std.specs.Prelude.{List, ℕ};
+    ghost use Rattle.wot_types.specs.declared.fpr.Fpr.{Fpr};
+    ghost use Rattle.wot_check.specs.Table.{AreLabels};
+
+    ghost Value = { List (Fpr × ℕ) };
+
+    ghost view = { λ table. table.labels.entries };
+
+    ghost invariant = { λ table. AreLabels table.labels.entries };
+}
+
+impl Table {
+    /// No labels.
+    pub fn new(alloc: Global) -> Table
+        ensures none { result ≡ [] }
+    {
+        Table {
+            labels: BTreeMap::new(alloc),
+        }
+    }
+
+    /// Gives a fingerprint its label, in place of an earlier one. After `Memory` the table is as
+    /// before.
+    pub fn set(&mut self, fpr: Fpr, label: u8) -> Result<(), Memory>
+        requires some { 1 ≤ label }
+        ensures set { OnOk result (self.new ≡ insert_entry fpr_cmp self.old fpr label) }
+        ensures gets { OnOk result ((other : Print)
+            → label_at self.new other ≡ (if same_fpr fpr other then Some label else label_at self.old other)) }
+        ensures kept { OnErr result (self.new ≡ self.old) }
+    {
+        self.labels.insert(fpr, label)?;
+        Ok(())
+    }
+
+    /// The label of a fingerprint; `None` exactly where it has none.
+    pub fn get(&self, fpr: &Fpr) -> Option<u8>
+        ensures label { result ≡ label_at self.now fpr.now }
+    {
+        match self.labels.get(fpr) {
+            Some(label) => Some(*label),
+            None => None,
+        }
+    }
+
+    /// The labels, in the order of their fingerprints.
+    pub fn iter(&self) -> TableIter<'_>
+        ensures rest { result ≡ self.now }
+        ensures table { IsTable self.now }
+    {
+        TableIter {
+            entries: self.labels.iter(),
+        }
+    }
+}
+
+/// Goes over labels, in the order of their fingerprints.
+#[derive(Drop)]
+pub struct TableIter<'a> {
+    entries: Iter<'a, Fpr, u8>,
+}
+
+impl<'a> Model for TableIter<'a> {
+    ghost use Rattle.std.specs.Prelude.{List, ℕ};
+    ghost use Rattle.wot_types.specs.declared.fpr.Fpr.{Fpr};
+
+    ghost Value = { List (Fpr × ℕ) };
+
+    ghost view = { λ iter. iter.entries };
+}
+
+impl<'a> Iterator for TableIter<'a> {
+    type Item = (Fpr, u8);
+
+    ghost next_gives = { YieldsFirst (λ rest. rest) };
+
+    ghost remaining = { item_count (λ rest. rest) };
+
+    fn next(&mut self) -> Option<(Fpr, u8)> {
+        match self.entries.next() {
+            Some((fpr, label)) => Some((*fpr, *label)),
+            None => None,
+        }
+    }
+}

@@ -1,0 +1,94 @@
+ghost use Rattle.std.specs.Prelude.{◌≡◌, ◌≤◌, ◌<◌, ℕ, List, length, IfOk, MatchOption};
+ghost use Rattle.wot_edge.specs.declared.edge.EdgeFacts.{EdgeFacts as Facts};
+ghost use Rattle.wot_edge.specs.Record.{Has, IsRecord};
+ghost use Rattle.wot_check.specs.Asked.{question_of, used_in};
+ghost use Rattle.wot_check.specs.Trace.{begin_of, IsFollower, IsNamed, IsTrace, has_name};
+
+use crate::asked::Asked;
+use crate::claimed::ClaimedStep;
+use crate::demand::{demanded, stands};
+use crate::left::step_from;
+use crate::same::is_same;
+use std::alloc::Global;
+use wot_edge::{Edge, Roads, Step};
+use wot_types::{Fpr, Memory};
+
+fn names(item: &ClaimedStep, edge: &Edge) -> bool
+    ensures { result ≡ has_name item.now edge.now }
+{
+    let facts = edge.facts();
+    is_same(&facts.issuer, &item.issuer) && facts.uid == item.place
+}
+
+/// The edge of this issuer on the user ID at this place.
+fn find<'a>(edges: &'a [Edge], item: &ClaimedStep) -> Option<&'a Edge>
+    ensures { MatchOption result ((edge : Facts) → Has edges.now edge → IsNamed item.now edge → ⊥)
+        (λ edge. Has edges.now edge.now × IsNamed item.now edge.now) }
+{
+    let mut rest = edges;
+    'rest: while let Some((edge, later)) = rest.split_first() {
+        if names(item, edge) {
+            return Some(edge);
+        }
+        rest = later;
+    }
+    None
+}
+
+/// Where claimed steps begin: the first issuer, or the target itself.
+fn begin(target: &Fpr, later: &[ClaimedStep]) -> Fpr
+    ensures { result ≡ begin_of target.now later.now }
+{
+    match later.first() {
+        Some(item) => item.issuer,
+        None => *target,
+    }
+}
+
+/// The step that is claimed before the later ones, if it may stand there.
+fn follow<R: Roads>(
+    roads: &R,
+    asked: &Asked,
+    item: &ClaimedStep,
+    later: &[ClaimedStep],
+) -> Result<Option<Step>, Memory>
+    requires few { length later.now < 255 }
+    ensures found { IfOk result (λ step.
+        IsFollower (question_of (R.told roads.now) asked.now) (used_in asked.now) item.now later.now step) }
+{
+    let target = begin(asked.target, later);
+    match find(roads.rows(&target), item) {
+        None => Ok(None),
+        Some(edge) => {
+            let demand = demanded(roads, asked, later.len() as u8);
+            if stands(roads, asked, demand, edge)? {
+                Ok(Some(step_from(&edge.facts())))
+            } else {
+                Ok(None)
+            }
+        }
+    }
+}
+
+/// The steps that are claimed, if each of them may stand before those after it.
+pub fn trace<R: Roads>(
+    alloc: Global,
+    roads: &R,
+    asked: &Asked,
+    items: &[ClaimedStep],
+) -> Result<Option<Vec<Step>>, Memory>
+    requires few { length items.now ≤ 255 }
+    requires lawful { IsRecord (R.told roads.now asked.now.uid.now) }
+    ensures traced { IfOk result (λ found. IsTrace (question_of (R.told roads.now) asked.now) (used_in asked.now) items.now found) }
+{
+    let mut steps: Vec<Step> = Vec::new(alloc);
+    let mut rest = items;
+    'rest: while let Some((item, later)) = rest.split_first() {
+        match follow(roads, asked, item, later)? {
+            None => return Ok(None),
+            Some(step) => steps.push(step)?,
+        }
+        rest = later;
+    }
+    Ok(Some(steps))
+}

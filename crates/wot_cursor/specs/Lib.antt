@@ -1,0 +1,3 @@
+pub mod Age
+pub mod Cursors
+pub mod Telling

@@ -1,0 +1,118 @@
+ghost use Rattle.std.specs.Prelude.{◌≡◌, [], Err, true, is_some, OnOk, OnErr};
+ghost use Rattle.std.specs.Option.{option_copied};
+ghost use Rattle.wot_cursor.specs.Cursors.{begun, cursor_at, is_full, with_cursor, with_place, without_cursor};
+ghost use Rattle.wot_cursor.specs.declared.cursors.BeginFault.TheVariants as faults;
+ghost use Rattle.wot_cursor.specs.Telling.{TellsFull};
+
+use crate::cursor::Cursor;
+use crate::stamps::Stamps;
+use std::alloc::Global;
+use std::collections::BTreeMap;
+use std::marker::Model;
+use wot_types::{Memory, Place, ViewName};
+
+/// How many cursors there may be.
+const MOST: usize = 16;
+
+/// Why a cursor doesn't begin.
+#[derive(Clone, Copy, Debug, PartialEq, Eq)]
+pub enum BeginFault {
+    /// As many cursors as may be are there, and none has this name.
+    Full,
+    /// No memory was found.
+    Memory,
+}
+
+impl From<Memory> for BeginFault {
+    ghost from_gives = { λ _ e. e ≡ faults.Memory };
+
+    fn from(_: Memory) -> BeginFault {
+        BeginFault::Memory
+    }
+}
+
+/// The cursors by name.
+#[derive(Drop)]
+pub struct Cursors {
+    cursors: BTreeMap<ViewName, Cursor, Global>,
+}
+
+impl Model for Cursors {
+    ghost use Rattle.wot_cursor.specs.Cursors.{Cursors as TheCursors};
+
+    ghost Value = { TheCursors };
+
+    ghost view = { λ a. a.cursors.entries };
+}
+
+impl Cursors {
+    /// No cursors.
+    pub fn new(alloc: Global) -> Cursors
+        ensures none { result ≡ [] }
+    {
+        Cursors {
+            cursors: BTreeMap::new(alloc),
+        }
+    }
+
+    /// Begins a cursor, or begins it anew. After a refusal all cursors are as before.
+    pub fn begin(
+        &mut self,
+        name: ViewName,
+        view: ViewName,
+        wanted: u32,
+        stamps: Stamps,
+    ) -> Result<(), BeginFault>
+        ensures full { TellsFull result (is_full self.old name) }
+        ensures begun { OnOk result (self.new ≡ with_cursor self.old name (begun view wanted stamps)) }
+        ensures kept { OnErr result (self.new ≡ self.old) }
+    {
+        if self.cursors.len() >= MOST && !self.cursors.contains_key(&name) {
+            return Err(BeginFault::Full);
+        }
+        put(&mut self.cursors, name, Cursor::new(view, wanted, stamps))?;
+        Ok(())
+    }
+
+    /// The cursor of a name; `None` exactly where it isn't there.
+    pub fn get(&self, name: &ViewName) -> Option<&Cursor>
+        ensures found { option_copied result ≡ cursor_at self.now name.now }
+    {
+        self.cursors.get(name)
+    }
+
+    /// The binding is the last one that the cursor gave; whether the cursor is there.
+    pub fn advance(&mut self, name: &ViewName, place: Place) -> bool
+        ensures there { result ≡ is_some (cursor_at self.old name.now) }
+        ensures advanced { self.new ≡ with_place self.old name.now place }
+    {
+        match self.cursors.get_mut(name) {
+            Some(cursor) => {
+                cursor.advance(place);
+                true
+            }
+            None => false,
+        }
+    }
+
+    /// Takes a cursor away; whether it was there.
+    pub fn end(&mut self, name: &ViewName) -> bool
+        ensures there { result ≡ is_some (cursor_at self.old name.now) }
+        ensures ended { self.new ≡ without_cursor self.old name.now }
+    {
+        self.cursors.remove(name).is_some()
+    }
+}
+
+/// Keeps a cursor under a name, in place of an earlier one.
+fn put(
+    cursors: &mut BTreeMap<ViewName, Cursor, Global>,
+    name: ViewName,
+    cursor: Cursor,
+) -> Result<(), Memory>
+    ensures kept_now { OnOk result (cursors.new.entries ≡ with_cursor cursors.old.entries name cursor) }
+    ensures kept { OnErr result (cursors.new.entries ≡ cursors.old.entries) }
+{
+    cursors.insert(name, cursor)?;
+    Ok(())
+}

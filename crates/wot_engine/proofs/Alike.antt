@@ -1,0 +1,127 @@
+-- An answer depends on certificates, verdicts and the asking view alone.
+use Rattle.std.proofs.Common.{◌≡◌, ℕ, Bool, true, false, List, [], ◌∷◌, length, map, Option, Some, None, refl, sym, ap, subst, ◌∙◌}
+use Rattle.std.specs.Prelude.{MatchBool, nat_lt}
+use Rattle.wot_types.specs.declared.fpr.Fpr.{Fpr}
+use Rattle.wot_policy.specs.declared.rows.PolicyRows.{PolicyRows}
+use Rattle.wot_verdict.specs.Verdicts as verdicts
+use Rattle.wot_script.specs.declared.command.Command.{Command}
+use Rattle.wot_script.specs.declared.command.Command.TheVariants.{Import, Remove, Good, Bad, Unjudge, Time, Root, Close, Ask, Explain, Pending, Keys, Export, Dump}
+use Rattle.wot_script.specs.declared.reply.Reply.{Reply}
+use Rattle.wot_script.specs.declared.reply.Reply.TheVariants as replies
+use Rattle.wot_script.specs.Grammar.{command_of}
+use Rattle.wot_cert.specs.Certificate.{Certificate, unmarked}
+use Rattle.wot_cert.specs.Judged.{judged}
+use Rattle.wot_keyring.specs.Keyring.{Certificates}
+use Rattle.wot_keyring.specs.Dump.{judged_anew, judged_by}
+use Rattle.wot_keyring.specs.Held.{Held}
+use Rattle.wot_cache.specs.declared.view.View.{View}
+use Rattle.wot_cache.specs.State.{State, start}
+use Rattle.wot_cache.specs.Views.{view_at}
+use Rattle.wot_engine.specs.Answer.{Asks}
+use Rattle.wot_engine.specs.Depends.{AsksFrom, bare, IsAsk}
+use Rattle.wot_engine.specs.Law.{OneOutcome}
+use Rattle.wot_engine.specs.Lines.{is_silent, longest}
+use Rattle.wot_engine.specs.Outcome.{only}
+use Rattle.wot_engine.specs.Listing.{Lists, explained_from}
+use Rattle.wot_engine.specs.LineStep.{LineStep, HasReply, Answers, Does, Gives}
+use Rattle.wot_engine.proofs.Named.{AreNamed, named_all, named_without}
+use Rattle.wot_engine.proofs.Stays.{run_stays}
+use Rattle.wot_engine.specs.Transcript.{Run}
+
+-- ---- marks
+
+module _ (rows : PolicyRows) (forgets : (c : Certificate) → judged rows (unmarked c) ≡ judged rows c) where
+  -- Judging looks at no mark.
+  anew_bare : (certs : Certificates) → map (judged_anew rows) (bare certs) ≡ map (judged_anew rows) certs
+  anew_bare [] = refl
+  anew_bare (e ∷ es) =
+      let Entry : Certificate → Fpr × Certificate = λ c. (e.0, c) in
+      ap (λ (x : Fpr × Certificate). x ∷ map (judged_anew rows) (bare es)) (ap Entry (forgets e.1))
+      ∙ ap (λ (xs : Certificates). judged_anew rows e ∷ xs) (anew_bare es)
+
+  -- Where each mark is the one that the rows give, equal certificates but for marks are equal.
+  pub same_certs : (one other : State) → judged_by rows one.held ≡ one.held → judged_by rows other.held ≡ other.held → bare one.held.certs ≡ bare other.held.certs
+      → one.held.certs ≡ other.held.certs
+  same_certs one other p q e =
+      let first : map (judged_anew rows) one.held.certs ≡ one.held.certs = ap (λ (h : Held). h.certs) p in
+      let second : map (judged_anew rows) other.held.certs ≡ other.held.certs = ap (λ (h : Held). h.certs) q in
+      sym first ∙ sym (anew_bare one.held.certs) ∙ ap (map (judged_anew rows)) e ∙ anew_bare other.held.certs ∙ second
+
+-- ---- one question in two states
+
+-- the state of these certificates and verdicts alone
+abbrev held_alone : Certificates → verdicts.Entries → State
+held_alone certs entries = record { held = record { certs = certs; verdicts = entries }; views = [] }
+
+-- What is so by certificates, verdicts and the asking view is so in both states.
+alike : (P : State → Option View → Type 0) (one other : State) (name : List ℕ) → one.held.certs ≡ other.held.certs → one.held.verdicts ≡ other.held.verdicts
+    → view_at one.views name ≡ view_at other.views name → P (held_alone one.held.certs one.held.verdicts) (view_at one.views name)
+    → P (held_alone other.held.certs other.held.verdicts) (view_at other.views name)
+alike P one other name c v w asks =
+    subst (λ (view : Option View). P (held_alone other.held.certs other.held.verdicts) view) w
+    (subst (λ (entries : verdicts.Entries). P (held_alone other.held.certs entries) (view_at one.views name)) v
+    (subst (λ (certs : Certificates). P (held_alone certs one.held.verdicts) (view_at one.views name)) c asks))
+
+-- The views are no part of what decides a reply but the one that asks.
+does_alike : (rows : PolicyRows) (one other : State) (name : List ℕ) (command : Command) (reply : Reply) (new : State) → one.held.certs ≡ other.held.certs
+    → one.held.verdicts ≡ other.held.verdicts → view_at one.views name ≡ view_at other.views name → AsksFrom name command
+    → Does rows one command reply new → Does rows other command reply other
+does_alike rows one other name (Ask view target wanted uid) reply new c v w a does =
+    let W : view_at one.views view ≡ view_at other.views view = subst (λ (n : List ℕ). view_at one.views n ≡ view_at other.views n) (sym a) w in
+    (alike (λ s shown. Asks s shown target wanted uid reply) one other view c v W does.0, refl)
+does_alike rows one other name (Command.List view wanted) reply new c v w a does =
+    let W : view_at one.views view ≡ view_at other.views view = subst (λ (n : List ℕ). view_at one.views n ≡ view_at other.views n) (sym a) w in
+    (alike (λ s shown. Lists s shown wanted reply) one other view c v W does.0, refl)
+does_alike rows one other name (Explain view fpr uid) reply new c v w a does =
+    let W : view_at one.views view ≡ view_at other.views view = subst (λ (n : List ℕ). view_at one.views n ≡ view_at other.views n) (sym a) w in
+    (alike (λ s shown. reply ≡ explained_from s shown fpr uid) one other view c v W does.0, refl)
+does_alike rows one other name (Import octets) reply new c v w a does = absurd a
+does_alike rows one other name (Remove fpr) reply new c v w a does = absurd a
+does_alike rows one other name (Good number fpr) reply new c v w a does = absurd a
+does_alike rows one other name (Bad number) reply new c v w a does = absurd a
+does_alike rows one other name (Unjudge number) reply new c v w a does = absurd a
+does_alike rows one other name (Time view t) reply new c v w a does = absurd a
+does_alike rows one other name (Root view fpr amount) reply new c v w a does = absurd a
+does_alike rows one other name (Close view) reply new c v w a does = absurd a
+does_alike rows one other name Pending reply new c v w a does = absurd a
+does_alike rows one other name Keys reply new c v w a does = absurd a
+does_alike rows one other name (Export fpr) reply new c v w a does = absurd a
+does_alike rows one other name Dump reply new c v w a does = absurd a
+
+-- A step of a question in the one state is one in the other.
+pub step_alike : (rows : PolicyRows) (one other : State) (name line : List ℕ) (reply : Option Reply) (new : State) → one.held.certs ≡ other.held.certs
+    → one.held.verdicts ≡ other.held.verdicts → view_at one.views name ≡ view_at other.views name → IsAsk name line
+    → LineStep rows one line reply new → LineStep rows other line reply other
+step_alike rows one other name line reply new c v w ask step = long (nat_lt longest (length line)) step
+  where
+    answers : (o : Option Command) → o ≡ Some ask.command → (r : Option Reply) → HasReply (Answers rows one o) r new → HasReply (Answers rows other o) r other
+    answers o e None s = absurd s
+    answers o e (Some r) s =
+        let Told : Option Command → Type 0 = λ o. Answers rows other o r other in
+        let s' : Does rows one ask.command r new = subst (λ (o : Option Command). Answers rows one o r new) e s in
+        subst Told (sym e) (does_alike rows one other name ask.command r new c v w ask.asks s')
+
+    refused : (r : Option Reply) → HasReply (Gives (only one replies.Long)) r new → HasReply (Gives (only other replies.Long)) r other
+    refused None g = absurd g
+    refused (Some r) g = (g.0, refl)
+
+    silent : (b : Bool) → MatchBool b ((reply ≡ None) × (new ≡ one)) (HasReply (Answers rows one (command_of line)) reply new)
+        → MatchBool b ((reply ≡ None) × (other ≡ other)) (HasReply (Answers rows other (command_of line)) reply other)
+    silent true g = (g.0, refl)
+    silent false g = answers (command_of line) ask.read reply g
+
+    long : (b : Bool)
+        → MatchBool b (HasReply (Gives (only one replies.Long)) reply new) (MatchBool (is_silent line) ((reply ≡ None) × (new ≡ one)) (HasReply (Answers rows one (command_of line)) reply new))
+        → MatchBool b (HasReply (Gives (only other replies.Long)) reply other) (MatchBool (is_silent line) ((reply ≡ None) × (other ≡ other)) (HasReply (Answers rows other (command_of line)) reply other))
+    long true g = refused reply g
+    long false g = silent (is_silent line) g
+
+-- What is reached can be.
+pub reached_can_be : (rows : PolicyRows) (lines : List (List ℕ)) (replies : List Reply) (s : State) → Run rows start lines replies s → AreNamed s.held.certs
+reached_can_be rows lines replies s run = run_stays rows AreNamed (named_all rows) named_without lines start replies s tt run
+
+pub replied_alike : (rows : PolicyRows) → OneOutcome rows → (one other : State) (name line : List ℕ) → AreNamed other.held.certs → one.held.certs ≡ other.held.certs
+    → one.held.verdicts ≡ other.held.verdicts → view_at one.views name ≡ view_at other.views name → IsAsk name line
+    → (reply second : Option Reply) (new third : State) → LineStep rows one line reply new → LineStep rows other line second third → reply ≡ second
+replied_alike rows law one other name line can c v w ask reply second new third p q =
+    (law.one other line reply second other third can (step_alike rows one other name line reply new c v w ask p) q).0

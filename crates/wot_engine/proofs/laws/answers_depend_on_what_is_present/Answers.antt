@@ -1,0 +1,18 @@
+use Rattle.wot_engine.proofs.Alike.{reached_can_be, replied_alike, same_certs}
+use Rattle.wot_engine.proofs.laws.answers_depend_on_what_is_present.Goals as goal
+
+pub returns : goal.returns
+returns c = record {
+  present = λ rows name one other first second alike line ask.
+      replied_alike rows
+      (record {
+        some = c.each_line_has_one_outcome.ensures.some rows;
+        one = c.each_line_has_one_outcome.ensures.one rows;
+        stays = c.each_line_has_one_outcome.ensures.stays rows;
+      })
+      one other name line (reached_can_be rows second.lines second.replies other second.run)
+      (same_certs rows (c.judging.ensures.unmarked rows) one other
+      (c.reached_states_are_judged.ensures rows first.lines first.replies one first.run)
+      (c.reached_states_are_judged.ensures rows second.lines second.replies other second.run) alike.certs)
+      alike.verdicts alike.view ask;
+}

@@ -1,0 +1,60 @@
+//! The reply to `list`.
+ghost use Rattle.std.specs.Prelude.{◌≡◌, ◌≤◌, List, length, map, IfOk};
+ghost use Rattle.wot_keyring.specs.Keyring.{certificates_in};
+ghost use Rattle.wot_network.specs.Net.{told_of};
+ghost use Rattle.wot_network.specs.Roads.{present_of};
+ghost use Rattle.wot_cache.specs.State.{state_of};
+ghost use Rattle.wot_cache.specs.Views.{view_at};
+ghost use Rattle.wot_explain.specs.declared.bind.Bind.{Bind as TheBind};
+ghost use Rattle.wot_explain.specs.Listing.{IsListed, pairs_in};
+ghost use Rattle.wot_engine.specs.Listing.{Lists, bind_line, bindings};
+
+use std::alloc::Global;
+use wot_cache::{AskFault, Engine, Parts};
+use wot_explain::Bind;
+use wot_script::{BindLine, BindLines, Reply};
+use wot_types::{Memory, Steps, ViewName};
+
+/// The bindings whose answer reaches what is wanted, seen from a view.
+pub fn list(
+    alloc: Global,
+    engine: &mut Engine,
+    steps: &mut Steps,
+    view: &ViewName,
+    wanted: u32,
+) -> Result<Reply, Memory>
+    requires wanted { 1 ≤ wanted }
+    ensures lists { IfOk result (λ reply. Lists (state_of engine.old) (view_at engine.old.views view.now) wanted reply) }
+    ensures kept { engine.new ≡ engine.old }
+{
+    match engine.parts(view, steps) {
+        Ok(parts) => list_from(alloc, &parts, wanted),
+        Err(AskFault::View) => Ok(Reply::View),
+        Err(AskFault::Memory) => Err(Memory),
+    }
+}
+
+/// The same over the parts that are seen from the view.
+fn list_from(alloc: Global, parts: &Parts<'_>, wanted: u32) -> Result<Reply, Memory>
+    requires wanted { 1 ≤ wanted }
+    requires few { length parts.now.roots.now ≤ 64 }
+    ensures lists { IfOk result (λ reply. (binds : List TheBind)
+        × IsListed (told_of (present_of parts.now.roads)) parts.now.roots.now wanted
+        (pairs_in (certificates_in parts.now.keyring.now)) binds
+        × (reply ≡ bindings binds)) }
+{
+    let binds = wot_explain::list(alloc, parts.keyring, &parts.roads, parts.roots, wanted)?;
+    let lines = bind_lines(alloc, binds)?;
+    Ok(Reply::List(lines.items().len() as u64, lines))
+}
+
+/// A line for each of these bindings.
+fn bind_lines(alloc: Global, binds: Vec<Bind>) -> Result<BindLines, Memory>
+    ensures lines { IfOk result (λ lines. lines ≡ map bind_line binds.items) }
+{
+    let mut lines = BindLines::new(alloc);
+    'binds: for bind in binds {
+        lines.push(BindLine(bind.sum, bind.fpr, bind.uid))?;
+    }
+    Ok(lines)
+}

@@ -1,0 +1,7 @@
+pub mod Few
+pub mod Listed
+pub mod Pieces
+pub mod Places
+pub mod Clear
+pub mod Edges
+pub mod Targets

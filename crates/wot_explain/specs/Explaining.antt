@@ -1,0 +1,47 @@
+-- What is told of a certificate and one of its user IDs U at t: whether it is in order for U, and of each certification
+-- on U whether it is a usable edge; where not, the first reason.
+use Rattle.std.specs.Prelude.{◌≡◌, ℕ, List, filter, map, Option, Some, None, Result, Ok, Err}
+use Rattle.std.specs.List.{slice_get}
+use Rattle.std.specs.Map.{lookup}
+use Rattle.std.specs.Option.{option_and_then, option_map}
+use Rattle.wot_types.specs.declared.fpr.Fpr.{Fpr}
+use Rattle.wot_verdict.specs.Verdicts.{Entries}
+use Rattle.wot_cert.specs.Certificate.{Component, Certificate}
+use Rattle.wot_keyring.specs.Keyring.{Certificates, is_fpr}
+use Rattle.wot_network.specs.Told.{place_of}
+use Rattle.wot_standing.specs.Kinds.{is_certification}
+use Rattle.wot_standing.specs.Own.{is_own_revoked}
+use Rattle.wot_standing.specs.Standing.{own, standing_of}
+use Rattle.wot_explain.specs.Reasons.{Reason, reason_of}
+use Rattle.wot_explain.specs.Target.{target_word}
+use Rattle.wot_explain.specs.declared.explained.ExplainFault.{ExplainFault}
+use Rattle.wot_explain.specs.declared.explained.ExplainFault.TheVariants.{Absent, Memory}
+use Rattle.wot_explain.specs.declared.explained.Explained.{Explained}
+
+-- the certifications on a user ID, in the order of their bodies, each with its word
+abbrev pub reasons_on : Entries → Certificates → ℕ → Fpr → ℕ → Component → List Reason
+reasons_on verdicts certs t target place uid =
+    map (reason_of verdicts certs t target place uid) (filter is_certification uid.sigs)
+
+-- what is told of the user ID at this place
+abbrev pub explained_on : Entries → Certificates → ℕ → Certificate → ℕ → Component → Explained
+explained_on verdicts certs t c place uid = record {
+  target = target_word (standing_of verdicts c t) t (is_own_revoked verdicts (own c) t uid);
+  certs = reasons_on verdicts certs t (own c) place uid;
+}
+
+abbrev pub explained_at : Entries → Certificates → ℕ → Certificate → ℕ → Option Explained
+explained_at verdicts certs t c place = option_map (explained_on verdicts certs t c place) (slice_get c.user_ids place)
+
+-- nothing where the certificate or the user ID isn't there
+abbrev pub explanation : Certificates → Entries → ℕ → Fpr → List ℕ → Option Explained
+explanation certs verdicts t fpr u =
+    option_and_then (λ (c : Certificate). option_and_then (explained_at verdicts certs t c) (place_of u c.user_ids))
+    (lookup (is_fpr fpr) certs)
+
+-- This is what is told; `Absent` is answered exactly where there is nothing to tell. The only other fault is want of
+-- memory.
+abbrev pub Explains : Result Explained ExplainFault → Option Explained → Type 0
+Explains (Ok explained) told = told ≡ Some explained
+Explains (Err Absent) told = told ≡ None
+Explains (Err Memory) told = Unit {0}

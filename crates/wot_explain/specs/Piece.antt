@@ -1,0 +1,50 @@
+-- A piece of the list of bindings: the first of those that come after a place.
+use Rattle.std.specs.Prelude.{◌≡◌, ℕ, Bool, true, List, ◌++◌, filter, take, Option, Some, None}
+use Rattle.std.specs.Cmp.Lexicographic.{slice_cmp}
+use Rattle.std.specs.Option.{option_map}
+use Rattle.std.specs.Ordering.{is_gt, nat_cmp, ordering_then}
+use Rattle.wot_types.specs.Fpr.{fpr_cmp}
+use Rattle.wot_types.specs.declared.fpr.Fpr.{Fpr}
+use Rattle.wot_types.specs.declared.place.Place.{Place}
+use Rattle.wot_verdict.specs.Verdicts.{Entries}
+use Rattle.wot_edge.specs.Record.{Record}
+use Rattle.wot_keyring.specs.Keyring.{Certificates}
+use Rattle.wot_network.specs.Told.{record_of}
+use Rattle.wot_explain.specs.declared.bind.Bind.{Bind}
+use Rattle.wot_explain.specs.Listing.{IsListed, Pair, pairs_in}
+
+-- by fingerprint, then user ID; each comes after no place
+abbrev pub comes_after : Option Place → Pair → Bool
+comes_after None pair = true
+comes_after (Some place) pair = is_gt (ordering_then (fpr_cmp pair.0 place.fpr) (slice_cmp nat_cmp pair.1 place.uid))
+
+abbrev pub is_bind_after : Option Place → Bind → Bool
+is_bind_after after bind = comes_after after (bind.fpr, bind.uid)
+
+-- those of a list that come after it
+abbrev pub binds_after : Option Place → List Bind → List Bind
+binds_after after binds = filter (is_bind_after after) binds
+
+-- the first of them, as many as this or all
+abbrev pub piece_of : Option Place → ℕ → List Bind → List Bind
+piece_of after count binds = take count (binds_after after binds)
+
+-- From the piece of a list `old` came the piece of the list that has these pairs' list behind.
+abbrev pub AddsPiece : (List ℕ → Record) → List (Fpr × ℕ) → ℕ → Option Place → ℕ → List Pair → List Bind → List Bind → Type 0
+AddsPiece told roots wanted after count pairs old new =
+    (before binds : List Bind) → old ≡ piece_of after count before → IsListed told roots wanted pairs binds
+    → new ≡ piece_of after count (before ++ binds)
+
+-- the fingerprint of a place
+abbrev pub fpr_at : Option Place → Option Fpr
+fpr_at after = option_map (λ (place : Place). place.fpr) after
+
+-- These are the piece of whatever is the list of these pairs.
+abbrev pub IsThePiece : (List ℕ → Record) → List (Fpr × ℕ) → ℕ → List Pair → Option Place → ℕ → List Bind → Type 0
+IsThePiece told roots wanted pairs after count binds =
+    (all : List Bind) → IsListed told roots wanted pairs all → binds ≡ piece_of after count all
+
+-- The piece of the list of all bindings, by what certificates and verdicts tell at t.
+abbrev pub IsPieceOf : Certificates → Entries → ℕ → List (Fpr × ℕ) → ℕ → Option Place → ℕ → List Bind → Type 0
+IsPieceOf certs verdicts t roots wanted after count binds =
+    IsThePiece (record_of certs verdicts t) roots wanted (pairs_in certs) after count binds

@@ -1,0 +1,51 @@
+-- Which certification is a usable edge, by the definitions of edges alone.
+use Rattle.std.specs.Prelude.{◌≡◌, ◌↔◌, ℕ, true, List, Some}
+use Rattle.std.specs.List.{slice_get}
+use Rattle.wot_types.specs.declared.fpr.Fpr.{Fpr}
+use Rattle.wot_verdict.specs.Verdicts.{Entries}
+use Rattle.wot_cert.specs.Certificate.{Signature, Component, Certificate, sig_cmp}
+use Rattle.wot_cert.specs.Ranked.{IsRising}
+use Rattle.wot_edge.specs.declared.edge.EdgeFacts.{EdgeFacts}
+use Rattle.wot_edge.specs.declared.path.Step.{Step}
+use Rattle.wot_edge.specs.Path.{step_of}
+use Rattle.wot_edge.specs.Record.{Has, Record}
+use Rattle.wot_keyring.specs.Keyring.{Certificates, Keyring, certificates_in}
+use Rattle.wot_live.specs.Edge.{edge_of, place_of}
+use Rattle.wot_network.specs.Told.{is_usable_by, record_of}
+use Rattle.wot_standing.specs.Kinds.{is_certification}
+use Rattle.wot_standing.specs.Standing.{own}
+use Rattle.wot_explain.specs.Reasons.{reason_word, step_by}
+
+-- The signature at this place on the user ID at this place makes the edge of some issuer at t. The edge is usable, and
+-- its step is this.
+pub record IsUsableEdge (verdicts : Entries) (certs : Certificates) (t : ℕ) (c : Certificate) (uid sig : ℕ) (step : Step)
+    : Type 0 where
+  pub issuer : Fpr
+  pub edge : EdgeFacts
+  pub made : edge_of verdicts c t issuer uid ≡ Some edge
+  pub place : edge.sig ≡ sig
+  pub usable : is_usable_by verdicts certs t edge.issuer edge.made ≡ true
+  pub shown : step_of edge ≡ step
+
+-- The record that roads tell of each user ID is the one that the certificates and verdicts of this keyring give at t.
+abbrev pub AreRoadsOf : (List ℕ → Record) → Keyring → ℕ → Type 0
+AreRoadsOf told k t = (u : List ℕ) → told u ≡ record_of (certificates_in k) k.verdicts t u
+
+-- A certification on the user ID at this place of a certificate, whose signatures rise by their bodies.
+pub record IsOnUserId (c : Certificate) (place : ℕ) (uid : Component) (s : Signature) : Type 0 where
+  pub here : slice_get c.user_ids place ≡ Some uid
+  pub rises : IsRising sig_cmp uid.sigs
+  pub there : Has uid.sigs s
+  pub kind : is_certification s ≡ true
+
+-- Its word is 0 exactly where it is a usable edge.
+abbrev pub ZeroIsUsable : Entries → Certificates → ℕ → Certificate → ℕ → Component → Signature → Type 0
+ZeroIsUsable verdicts certs t c place uid s =
+    (reason_word verdicts certs t uid s ≡ 0)
+    ↔ ((step : Step) × IsUsableEdge verdicts certs t c place (place_of s uid.sigs) step)
+
+-- The step told of it is then the edge's.
+abbrev pub TellsStep : Entries → Certificates → ℕ → Certificate → ℕ → Component → Signature → Type 0
+TellsStep verdicts certs t c place uid s =
+    (step : Step) → IsUsableEdge verdicts certs t c place (place_of s uid.sigs) step
+    → step_by verdicts (own c) place uid s ≡ Some step

@@ -1,0 +1,61 @@
+ghost use Rattle.std.specs.Prelude.{◌≡◌};
+
+use std::alloc::Global;
+use std::marker::Model;
+use wot_edge::Step;
+use wot_types::SigNumber;
+
+/// A certification on a user ID: its number, the number of its word and, exactly beside the word 0, its step.
+pub type Reason = (SigNumber, u8, Option<Step>);
+
+/// What is told of certifications, in the order of their bodies.
+#[derive(Drop)]
+pub struct ReasonList {
+    items: Vec<Reason, Global>,
+}
+
+impl Model for ReasonList {
+    ghost use Rattle.std.specs.Prelude.{List};
+    ghost use Rattle.wot_explain.specs.Reasons.{Reason};
+
+    ghost Value = { List Reason };
+
+    ghost view = { λ list. list.items.items };
+}
+
+impl ReasonList {
+    /// The list of these.
+    pub fn new(items: Vec<Reason>) -> ReasonList
+        ensures items { result ≡ items.items }
+    {
+        ReasonList { items }
+    }
+
+    pub fn as_slice(&self) -> &[Reason]
+        ensures items { result.now ≡ self.now }
+    {
+        self.items.as_slice()
+    }
+
+    pub fn into_vec(self) -> Vec<Reason>
+        ensures items { result.items ≡ self }
+    {
+        self.items
+    }
+}
+
+/// What is told of a certificate and one of its user IDs.
+#[derive(Drop)]
+pub struct Explained {
+    /// The number of the target's word; 0 where it is in order for the user ID.
+    pub target: u8,
+    pub certs: ReasonList,
+}
+
+#[derive(Clone, Copy, Debug, PartialEq, Eq)]
+pub enum ExplainFault {
+    /// The certificate or the user ID isn't there.
+    Absent,
+    /// No memory was found.
+    Memory,
+}

@@ -1,0 +1,70 @@
+ghost use Rattle.std.specs.Prelude.{◌≡◌, slice_get, IfOk};
+ghost use Rattle.std.specs.Option.{option_copied};
+ghost use Rattle.wot_explain.specs.Explaining.{Explains, explained_on, explanation};
+ghost use Rattle.wot_explain.specs.Usable.{AreRoadsOf};
+ghost use Rattle.wot_keyring.specs.Keyring.{certificates_in};
+ghost use Rattle.wot_live.specs.Found.{HasFew};
+
+use crate::reasons::reasons;
+use crate::target::target_word;
+use crate::{ExplainFault, Explained};
+use std::alloc::Global;
+use wot_cert::{Cert, Part};
+use wot_edge::Roads;
+use wot_keyring::Keyring;
+use wot_standing::{is_own_revoked, standing};
+use wot_types::{Fpr, Memory};
+
+fn explain_on(
+    alloc: Global,
+    keyring: &Keyring,
+    t: u32,
+    cert: &Cert,
+    place: u32,
+    uid: &Part,
+) -> Result<Explained, Memory>
+    requires few { HasFew uid.now }
+    ensures { IfOk result (λ explained. explained
+        ≡ explained_on keyring.now.verdicts (certificates_in keyring.now) t cert.now place uid.now) }
+{
+    let verdicts = keyring.verdicts();
+    let fpr = cert.fpr();
+    let (standing, _) = standing(cert, verdicts, t);
+    let target = target_word(&standing, t, is_own_revoked(uid, verdicts, &fpr, t));
+    let certs = reasons(alloc, uid, keyring, t, fpr, place)?;
+    Ok(Explained { target, certs })
+}
+
+fn user_id_at(user_ids: &[Part], place: u32) -> Option<&Part>
+    ensures { option_copied result ≡ slice_get user_ids.now place }
+{
+    user_ids.get(place as usize)
+}
+
+/// Why a certificate is or isn't in order for a user ID at `t`, and why each certification on it is or isn't a usable
+/// edge. The roads are those of this keyring at `t`.
+pub fn explain<R: Roads>(
+    alloc: Global,
+    keyring: &Keyring,
+    roads: &R,
+    t: u32,
+    fpr: &Fpr,
+    uid: &[u8],
+) -> Result<Explained, ExplainFault>
+    requires present { AreRoadsOf (R.told roads.now) keyring.now t }
+    ensures explained { Explains result (explanation (certificates_in keyring.now) keyring.now.verdicts t fpr.now uid.now) }
+{
+    let Some(place) = roads.place(fpr, uid) else {
+        return Err(ExplainFault::Absent);
+    };
+    let Some(cert) = keyring.get(fpr) else {
+        return Err(ExplainFault::Absent);
+    };
+    let Some(part) = user_id_at(cert.user_ids(), place) else {
+        return Err(ExplainFault::Absent);
+    };
+    match explain_on(alloc, keyring, t, cert, place, part) {
+        Ok(explained) => Ok(explained),
+        Err(Memory) => Err(ExplainFault::Memory),
+    }
+}

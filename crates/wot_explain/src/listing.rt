@@ -1,0 +1,137 @@
+ghost use Rattle.std.specs.Prelude.{◌≡◌, ◌≤◌, ◌∷◌, ℕ, [], length, map, IfOk, OnOk};
+ghost use Rattle.wot_explain.specs.Listing.{AddsListed, IsListOf, IsSought, IsTheList, pair_of, pairs_in, pairs_of, pairs_of_all};
+ghost use Rattle.wot_explain.specs.Usable.{AreRoadsOf};
+ghost use Rattle.wot_keyring.specs.Keyring.{certificates_in};
+
+use crate::Bind;
+use crate::sought::Sought;
+use std::alloc::Global;
+use wot_auth::authenticate_within;
+use wot_cert::{Cert, Part};
+use wot_edge::{Roads, Roots};
+use wot_keyring::{CertsIter, Keyring};
+use wot_search::make_reach;
+use wot_types::{Fpr, Memory, UserId};
+
+/// Appends a binding whose sum reaches what is wanted.
+pub(crate) fn list_pair<R: Roads>(
+    alloc: Global,
+    roads: &R,
+    sought: &Sought,
+    fpr: &Fpr,
+    uid: &[u8],
+    out: &mut Vec<Bind>,
+) -> Result<(), Memory>
+    requires sought { IsSought (R.told roads.now) sought.now }
+    ensures { OnOk result (AddsListed (R.told roads.now) sought.now.roots.now sought.now.wanted
+        ((fpr.now, uid.now) ∷ []) out.old.items out.new.items) }
+{
+    let answer = authenticate_within(
+        alloc,
+        roads,
+        sought.roots,
+        sought.reach,
+        fpr,
+        uid,
+        sought.wanted,
+    )?;
+    let sum = answer.sum;
+    if sum < sought.wanted {
+        return Ok(());
+    }
+    let uid = UserId::new(alloc, uid)?;
+    out.push(Bind {
+        sum,
+        fpr: *fpr,
+        uid,
+    })?;
+    Ok(())
+}
+
+/// Appends those of these user IDs of a key.
+fn list_user_ids<R: Roads>(
+    alloc: Global,
+    roads: &R,
+    sought: &Sought,
+    fpr: &Fpr,
+    user_ids: &[Part],
+    out: &mut Vec<Bind>,
+) -> Result<(), Memory>
+    requires sought { IsSought (R.told roads.now) sought.now }
+    ensures { OnOk result (AddsListed (R.told roads.now) sought.now.roots.now sought.now.wanted (map (pair_of fpr.now) user_ids.now)
+        out.old.items out.new.items) }
+{
+    let mut rest = user_ids;
+    'rest: while let Some((uid, others)) = rest.split_first() {
+        list_pair(alloc, roads, sought, fpr, uid.body(), out)?;
+        rest = others;
+    }
+    Ok(())
+}
+
+fn list_cert<R: Roads>(
+    alloc: Global,
+    roads: &R,
+    sought: &Sought,
+    cert: &Cert,
+    out: &mut Vec<Bind>,
+) -> Result<(), Memory>
+    requires sought { IsSought (R.told roads.now) sought.now }
+    ensures { OnOk result (AddsListed (R.told roads.now) sought.now.roots.now sought.now.wanted
+        (pairs_of cert.now) out.old.items out.new.items) }
+{
+    list_user_ids(alloc, roads, sought, &cert.fpr(), cert.user_ids(), out)
+}
+
+fn list_certs<R: Roads>(
+    alloc: Global,
+    roads: &R,
+    sought: &Sought,
+    certs: CertsIter<'_>,
+    out: &mut Vec<Bind>,
+) -> Result<(), Memory>
+    requires sought { IsSought (R.told roads.now) sought.now }
+    ensures { OnOk result (AddsListed (R.told roads.now) sought.now.roots.now sought.now.wanted
+        (pairs_of_all certs.entry) out.old.items out.new.items) }
+{
+    'certs: for cert in certs {
+        list_cert(alloc, roads, sought, cert, out)?;
+    }
+    Ok(())
+}
+
+fn fprs_of(alloc: Global, certs: CertsIter<'_>) -> Result<Vec<Fpr>, Memory> {
+    let mut fprs = Vec::new(alloc);
+    'certs: for cert in certs {
+        fprs.push(cert.fpr())?;
+    }
+    Ok(fprs)
+}
+
+/// Each user ID of a kept certificate whose answer reaches what is wanted, with the sum of that answer, in the order of
+/// fingerprint and user ID.
+pub fn list<R: Roads>(
+    alloc: Global,
+    keyring: &Keyring,
+    roads: &R,
+    roots: &Roots,
+    wanted: u32,
+) -> Result<Vec<Bind>, Memory>
+    requires wanted { 1 ≤ wanted }
+    requires few { length roots.now ≤ 64 }
+    ensures listed { IfOk result (λ binds. IsTheList (R.told roads.now) roots.now wanted
+        (pairs_in (certificates_in keyring.now)) binds.items) }
+    ensures list { IfOk result (λ binds. (t : ℕ) → AreRoadsOf (R.told roads.now) keyring.now t
+        → IsListOf (certificates_in keyring.now) keyring.now.verdicts t roots.now wanted binds.items) }
+{
+    let fprs = fprs_of(alloc, keyring.certs())?;
+    let reach = make_reach(alloc, roads, roots, &fprs)?;
+    let sought = Sought {
+        roots,
+        reach: &reach,
+        wanted,
+    };
+    let mut binds = Vec::new(alloc);
+    list_certs(alloc, roads, &sought, keyring.certs(), &mut binds)?;
+    Ok(binds)
+}

@@ -1,0 +1,187 @@
+ghost use Rattle.std.specs.Prelude.{◌≡◌, ◌≤◌, ◌∷◌, ℕ, [], length, map, IfOk, OnOk};
+ghost use Rattle.std.specs.Option.{option_copied};
+ghost use Rattle.wot_explain.specs.Listing.{IsSought, pair_of, pairs_in, pairs_of, pairs_of_all};
+ghost use Rattle.wot_explain.specs.Piece.{AddsPiece, IsPieceOf, IsThePiece, comes_after as comes_after_spec, fpr_at};
+ghost use Rattle.wot_explain.specs.Usable.{AreRoadsOf};
+ghost use Rattle.wot_keyring.specs.Keyring.{certificates_in};
+ghost use Rattle.wot_search.specs.Reach.{IsReach, number_at};
+
+use crate::Bind;
+use crate::listing::list_pair;
+use crate::sought::Sought;
+use std::alloc::Global;
+use std::cmp::Ordering;
+use wot_cert::{Cert, Part};
+use wot_edge::{Roads, Roots};
+use wot_keyring::{CertsFrom, Keyring};
+use wot_search::Reach;
+use wot_types::{Fpr, Memory, Place, compare_fprs};
+
+/// Whether a fingerprint and a user ID come after a place, if there is one.
+fn comes_after(fpr: &Fpr, uid: &[u8], after: Option<&Place>) -> bool
+    ensures { result ≡ comes_after_spec (option_copied after.entry) (fpr.now, uid.now) }
+{
+    let Some(place) = after else { return true };
+    match compare_fprs(fpr, &place.fpr) {
+        Ordering::Less => false,
+        Ordering::Greater => true,
+        Ordering::Equal => uid.cmp(place.uid.octets()) == Ordering::Greater,
+    }
+}
+
+/// Where the walk begins.
+fn start(after: Option<&Place>) -> Option<Fpr>
+    ensures { result ≡ fpr_at (option_copied after.entry) }
+{
+    match after {
+        Some(place) => Some(place.fpr),
+        None => None,
+    }
+}
+
+/// Appends a binding if it comes after the place, its sum reaches what is wanted, and the piece isn't full.
+fn piece_pair<R: Roads>(
+    alloc: Global,
+    roads: &R,
+    sought: &Sought,
+    after: Option<&Place>,
+    count: u32,
+    fpr: &Fpr,
+    uid: &[u8],
+    out: &mut Vec<Bind>,
+) -> Result<(), Memory>
+    requires sought { IsSought (R.told roads.now) sought.now }
+    ensures { OnOk result (AddsPiece (R.told roads.now) sought.now.roots.now sought.now.wanted (option_copied after.entry) count
+        ((fpr.now, uid.now) ∷ []) out.old.items out.new.items) }
+{
+    if out.len() >= count as usize {
+        return Ok(());
+    }
+    if !comes_after(fpr, uid, after) {
+        return Ok(());
+    }
+    list_pair(alloc, roads, sought, fpr, uid, out)?;
+    Ok(())
+}
+
+fn piece_user_ids<R: Roads>(
+    alloc: Global,
+    roads: &R,
+    sought: &Sought,
+    after: Option<&Place>,
+    count: u32,
+    fpr: &Fpr,
+    user_ids: &[Part],
+    out: &mut Vec<Bind>,
+) -> Result<(), Memory>
+    requires sought { IsSought (R.told roads.now) sought.now }
+    ensures { OnOk result (AddsPiece (R.told roads.now) sought.now.roots.now sought.now.wanted (option_copied after.entry) count
+        (map (pair_of fpr.now) user_ids.now) out.old.items out.new.items) }
+{
+    let mut rest = user_ids;
+    'rest: while let Some((uid, others)) = rest.split_first() {
+        piece_pair(alloc, roads, sought, after, count, fpr, uid.body(), out)?;
+        rest = others;
+    }
+    Ok(())
+}
+
+fn piece_cert<R: Roads>(
+    alloc: Global,
+    roads: &R,
+    sought: &Sought,
+    after: Option<&Place>,
+    count: u32,
+    cert: &Cert,
+    out: &mut Vec<Bind>,
+) -> Result<(), Memory>
+    requires sought { IsSought (R.told roads.now) sought.now }
+    ensures { OnOk result (AddsPiece (R.told roads.now) sought.now.roots.now sought.now.wanted (option_copied after.entry) count
+        (pairs_of cert.now) out.old.items out.new.items) }
+{
+    piece_user_ids(
+        alloc,
+        roads,
+        sought,
+        after,
+        count,
+        &cert.fpr(),
+        cert.user_ids(),
+        out,
+    )
+}
+
+/// Goes on until the piece is full.
+fn piece_certs<R: Roads>(
+    alloc: Global,
+    roads: &R,
+    sought: &Sought,
+    after: Option<&Place>,
+    count: u32,
+    certs: CertsFrom<'_>,
+    out: &mut Vec<Bind>,
+) -> Result<(), Memory>
+    requires sought { IsSought (R.told roads.now) sought.now }
+    ensures { OnOk result (AddsPiece (R.told roads.now) sought.now.roots.now sought.now.wanted (option_copied after.entry) count
+        (pairs_of_all certs.entry) out.old.items out.new.items) }
+{
+    'certs: for cert in certs {
+        if out.len() >= count as usize {
+            return Ok(());
+        }
+        piece_cert(alloc, roads, sought, after, count, cert, out)?;
+    }
+    Ok(())
+}
+
+/// The first `count` of the bindings of [`list`](crate::list) that come after the place, or of all of them where there
+/// is none.
+pub fn list_after<R: Roads>(
+    alloc: Global,
+    keyring: &Keyring,
+    roads: &R,
+    roots: &Roots,
+    wanted: u32,
+    after: Option<&Place>,
+    count: u32,
+) -> Result<Vec<Bind>, Memory>
+    requires wanted { 1 ≤ wanted }
+    requires few { length roots.now ≤ 64 }
+    ensures piece { IfOk result (λ binds. IsThePiece (R.told roads.now) roots.now wanted (pairs_in (certificates_in keyring.now))
+        (option_copied after.entry) count binds.items) }
+    ensures list { IfOk result (λ binds. (t : ℕ) → AreRoadsOf (R.told roads.now) keyring.now t
+        → IsPieceOf (certificates_in keyring.now) keyring.now.verdicts t roots.now wanted (option_copied after.entry) count binds.items) }
+{
+    let reach = Reach::everywhere(alloc);
+    list_after_within(alloc, keyring, roads, roots, &reach, wanted, after, count)
+}
+
+/// The same piece, by searches within a table of how far issuers reach, which serves all pieces of a list.
+pub fn list_after_within<R: Roads>(
+    alloc: Global,
+    keyring: &Keyring,
+    roads: &R,
+    roots: &Roots,
+    reach: &Reach,
+    wanted: u32,
+    after: Option<&Place>,
+    count: u32,
+) -> Result<Vec<Bind>, Memory>
+    requires wanted { 1 ≤ wanted }
+    requires few { length roots.now ≤ 64 }
+    requires reach { IsReach (R.told roads.now) roots.now (number_at reach.now) }
+    ensures piece { IfOk result (λ binds. IsThePiece (R.told roads.now) roots.now wanted (pairs_in (certificates_in keyring.now))
+        (option_copied after.entry) count binds.items) }
+    ensures list { IfOk result (λ binds. (t : ℕ) → AreRoadsOf (R.told roads.now) keyring.now t
+        → IsPieceOf (certificates_in keyring.now) keyring.now.verdicts t roots.now wanted (option_copied after.entry) count binds.items) }
+{
+    let sought = Sought {
+        roots,
+        reach,
+        wanted,
+    };
+    let mut binds = Vec::new(alloc);
+    let certs = keyring.certs_from(start(after));
+    piece_certs(alloc, roads, &sought, after, count, certs, &mut binds)?;
+    Ok(binds)
+}

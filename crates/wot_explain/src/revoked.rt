@@ -1,0 +1,29 @@
+ghost use Rattle.std.specs.Prelude.{◌≡◌, ◌||◌, not, nat_lt};
+ghost use Rattle.std.specs.List.{list_all};
+ghost use Rattle.wot_cert.specs.Revoked.{is_unrevoked as is_unrevoked_spec, revokes_by};
+ghost use Rattle.wot_cert.specs.Time.{made_of};
+
+use crate::signature::{is_revocable, made, revokes};
+use wot_cert::Sig;
+use wot_types::Fpr;
+use wot_verdict::Verdicts;
+
+/// Whether each live revocation by this one was made before then.
+fn are_before(sigs: &[Sig], verdicts: &Verdicts, fpr: &Fpr, t: u32, then: u32) -> bool
+    ensures { result ≡ list_all (λ r. not (revokes_by verdicts.now fpr.now t r) || nat_lt (made_of r) then) sigs.now }
+{
+    let mut all = true;
+    let mut rest = sigs;
+    'back: while let Some((sig, prefix)) = rest.split_last() {
+        rest = prefix;
+        all = (!revokes(sig, verdicts, fpr, t) || made(sig) < then) && all;
+    }
+    all
+}
+
+/// Whether no revocation by this one, among the signatures at its place, takes a signature away at `t`.
+pub(crate) fn is_unrevoked(sig: &Sig, sigs: &[Sig], verdicts: &Verdicts, fpr: &Fpr, t: u32) -> bool
+    ensures { result ≡ is_unrevoked_spec verdicts.now fpr.now t sigs.now sig.now }
+{
+    !is_revocable(sig) || are_before(sigs, verdicts, fpr, t, made(sig))
+}

@@ -1,0 +1,142 @@
+// The words of certifications.
+ghost use Rattle.std.specs.Prelude.{◌≡◌, ◌++◌, not, Some};
+ghost use Rattle.std.specs.Ordering.{is_eq};
+ghost use Rattle.wot_cert.specs.Certificate.{sig_cmp};
+ghost use Rattle.wot_cert.specs.Time.{made_of};
+ghost use Rattle.wot_explain.specs.Reasons.{counting_words, issuer_words, reason_word as reason_word_spec, standing_by as standing_by_spec, time_words};
+ghost use Rattle.wot_explain.specs.Words.{first_word, is_so};
+ghost use Rattle.wot_keyring.specs.Keyring.{certificates_in};
+ghost use Rattle.wot_standing.specs.Certifiers.{KeepsNewest, kept_for};
+ghost use Rattle.wot_standing.specs.Standing.{standing_of};
+
+use crate::moments::{ends_after, is_after};
+use crate::revoked::is_unrevoked;
+use crate::signature::{is_live, is_sound, made, names_other};
+use std::cmp::Ordering;
+use wot_cert::{Cert, Part, Sig};
+use wot_keyring::Keyring;
+use wot_standing::{Certifiers, Standing, standing};
+use wot_types::Fpr;
+use wot_verdict::{Verdict, Verdicts};
+
+fn standing_at(cert: &Cert, verdicts: &Verdicts, t: u32) -> Standing
+    ensures { result ≡ standing_of verdicts.now cert.now t }
+{
+    standing(cert, verdicts, t).0
+}
+
+/// The standing of a key at `t`, where it is kept.
+fn standing_by(keyring: &Keyring, fpr: &Fpr, t: u32) -> Option<Standing>
+    ensures { result ≡ standing_by_spec keyring.now.verdicts (certificates_in keyring.now) t fpr.now }
+{
+    match keyring.get(fpr) {
+        Some(cert) => Some(standing_at(cert, keyring.verdicts(), t)),
+        None => None,
+    }
+}
+
+/// Why an issuer of this standing makes an edge that was made then unusable.
+fn issuer_word(made: u32, issuer: Option<Standing>) -> u8
+    ensures { result ≡ first_word (issuer_words made issuer) }
+{
+    let Some(issuer) = issuer else { return 10 };
+    if !issuer.has {
+        return 11;
+    }
+    if made < issuer.created {
+        return 12;
+    }
+    if !ends_after(made, issuer.end) {
+        return 13;
+    }
+    if issuer.hard {
+        return 14;
+    }
+    if is_after(made, issuer.soft) { 0 } else { 15 }
+}
+
+/// Whether an issuer's newest certification on a user ID is another one.
+fn is_older(sig: &Sig, uid: &Part, certifiers: &Certifiers, issuer: &Fpr) -> bool
+    ensures { result ≡ not (is_so (λ newest. is_eq (sig_cmp sig.now newest)) (kept_for certifiers.now uid.now.sigs issuer.now)) }
+{
+    let Some(place) = certifiers.place(issuer) else {
+        return true;
+    };
+    match uid.sigs().get(place as usize) {
+        Some(newest) => sig.body().cmp(newest.body()) != Ordering::Equal,
+        None => true,
+    }
+}
+
+/// The word of a certification that counts by its issuer.
+fn counting_word(
+    sig: &Sig,
+    uid: &Part,
+    keyring: &Keyring,
+    t: u32,
+    certifiers: &Certifiers,
+    issuer: &Fpr,
+) -> u8
+    requires newest { KeepsNewest keyring.now.verdicts t uid.now certifiers.now }
+    ensures { result ≡ first_word (time_words keyring.now.verdicts t uid.now sig.now (Some issuer.now)
+        ++ issuer_words (made_of sig.now) (standing_by_spec keyring.now.verdicts (certificates_in keyring.now) t issuer.now)) }
+{
+    if t < made(sig) {
+        return 6;
+    }
+    if !is_live(sig, t) {
+        return 7;
+    }
+    if !is_unrevoked(sig, uid.sigs(), keyring.verdicts(), issuer, t) {
+        return 8;
+    }
+    if is_older(sig, uid, certifiers, issuer) {
+        return 9;
+    }
+    issuer_word(made(sig), standing_by(keyring, issuer, t))
+}
+
+/// The word of a sound certification on which the verdict is good by this issuer.
+fn good_word(
+    sig: &Sig,
+    uid: &Part,
+    keyring: &Keyring,
+    t: u32,
+    certifiers: &Certifiers,
+    issuer: &Fpr,
+) -> u8
+    requires newest { KeepsNewest keyring.now.verdicts t uid.now certifiers.now }
+    ensures { result ≡ first_word (counting_words sig.now (Some issuer.now)
+        ++ time_words keyring.now.verdicts t uid.now sig.now (Some issuer.now)
+        ++ issuer_words (made_of sig.now) (standing_by_spec keyring.now.verdicts (certificates_in keyring.now) t issuer.now)) }
+{
+    if names_other(sig, issuer) {
+        return 4;
+    }
+    if !sig.admitted() {
+        return 5;
+    }
+    counting_word(sig, uid, keyring, t, certifiers, issuer)
+}
+
+/// The number of the word of a certification on a user ID: of the first reason for which it isn't a usable edge, and 0
+/// where it is one.
+pub(crate) fn reason_word(
+    sig: &Sig,
+    uid: &Part,
+    keyring: &Keyring,
+    t: u32,
+    certifiers: &Certifiers,
+) -> u8
+    requires newest { KeepsNewest keyring.now.verdicts t uid.now certifiers.now }
+    ensures word { result ≡ reason_word_spec keyring.now.verdicts (certificates_in keyring.now) t uid.now sig.now }
+{
+    if !is_sound(sig) {
+        return 1;
+    }
+    match keyring.verdicts().get(&sig.number()) {
+        None => 2,
+        Some(Verdict::Bad) => 3,
+        Some(Verdict::Good(issuer)) => good_word(sig, uid, keyring, t, certifiers, &issuer),
+    }
+}

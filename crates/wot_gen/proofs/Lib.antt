@@ -1,0 +1,10 @@
+pub mod Below
+pub mod Shapes
+pub mod WordLaws
+pub mod Spelled
+pub mod SoFar
+pub mod Certifying
+pub mod Putting
+pub mod Counting
+pub mod Sizes
+pub mod Summarizing

@@ -1,0 +1,6 @@
+pub mod Words
+pub mod Bodies
+pub mod Identities
+pub mod Certifications
+pub mod Script
+pub mod Summary

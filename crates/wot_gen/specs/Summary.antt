@@ -1,0 +1,36 @@
+-- What is printed of a run of the generated script.
+use Rattle.std.specs.Prelude.{ℕ, List, [], ◌∷◌, ◌++◌, length, codes}
+use Rattle.std.specs.List.{flat_map, sum_by}
+use Rattle.std.specs.Fmt.{decimal}
+use Rattle.hex.specs.Hex.{encode_lower}
+use Rattle.sha2.specs.Sha256.{sha256}
+use Rattle.wot_script.specs.Texts.{joined_line}
+use Rattle.wot_script.specs.Replies.{reply_text}
+use Rattle.wot_script.specs.declared.reply.Reply.{Reply}
+use Rattle.wot_script.specs.declared.reply.Reply.TheVariants.{Amount}
+use Rattle.wot_gen.specs.Script.{commands_of}
+
+-- the amount that the reply to a question tells; other replies tell none
+abbrev pub amount_in : Reply → ℕ
+amount_in (Amount sum paths lines) = sum
+amount_in _ = 0
+
+-- the sum of the amounts that replies tell
+abbrev pub amounts_in : List Reply → ℕ
+amounts_in replies = sum_by amount_in replies
+
+-- the digest of a transcript: the octets of all replies
+abbrev pub transcript_digest : List Reply → List ℕ
+transcript_digest replies = sha256 (flat_map reply_text replies)
+
+-- Three lines: start, count and how many lines the script has; the sum of amounts; a digest in digits.
+abbrev pub summary : ℕ → ℕ → ℕ → ℕ → List ℕ → List ℕ
+summary start count lines amounts digest =
+    joined_line (codes "gen " ∷ decimal start ∷ codes " " ∷ decimal count ∷ codes " lines " ∷ decimal lines ∷ [])
+    ++ joined_line (codes "amounts " ∷ decimal amounts ∷ [])
+    ++ joined_line (codes "transcript " ∷ encode_lower digest ∷ [])
+
+-- the three lines of the script of a start and a count that had these replies
+abbrev pub report : ℕ → ℕ → List Reply → List ℕ
+report start count replies =
+    summary start count (length (commands_of start count)) (amounts_in replies) (transcript_digest replies)

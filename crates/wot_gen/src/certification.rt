@@ -1,0 +1,79 @@
+ghost use Rattle.std.specs.Prelude.{◌≡◌, ◌+◌, ◌*◌, ◌<◌, ◌≤◌, ◌^◌, ℕ, [], ◌∷◌, length, IfOk, OnOk};
+ghost use Rattle.wot_gen.specs.Certifications.{certification_by, certifications_at, drawn_before};
+ghost use Rattle.wot_gen.specs.Identities.{AreIdentities};
+
+use crate::bodies::signature_body;
+use crate::identity::Identity;
+use crate::words::Words;
+use std::alloc::Global;
+use wot_packet::write_packet;
+use wot_script::Octets;
+use wot_types::{Fpr, Memory, SigNumber};
+use wot_verdict::number_of;
+
+/// A certification of a user ID.
+#[derive(Debug, Drop)]
+pub struct Certification {
+    pub packet: Octets,
+    pub number: SigNumber,
+    pub issuer: Fpr,
+}
+
+/// The certification that is made in this turn, which takes two words: one for the issuer, one for depth and amount.
+fn certify(
+    alloc: Global,
+    words: &mut Words,
+    identities: &[Identity],
+    index: u32,
+    turn: u32,
+) -> Result<Certification, Memory>
+    requires drawn { words.old.drawn < 2 ^ 32 }
+    requires turn { turn ≤ 3 }
+    requires index { 0 < index }
+    requires identities { (count : ℕ) × (index < count) × AreIdentities words.old.start count identities.now }
+    ensures made { IfOk result (λ made. made ≡ certification_by words.old.start words.old.drawn index turn) }
+    ensures start { words.new.start ≡ words.old.start }
+    ensures drawn { words.new.drawn ≡ words.old.drawn + 2 }
+{
+    let issuer = identities[(words.draw() % u64::from(index)) as usize].fpr;
+    let trust = words.draw();
+    let depth = (trust % 4) as u8;
+    let amount = (60 + trust / 4 % 61) as u8;
+    let made = 1_100_000_000 + turn;
+    let body = signature_body(alloc, 0x10, made, &issuer, &[3, 5, depth, amount])?;
+    let subject = &identities[index as usize];
+    let number = number_of(subject.body.items(), 1, subject.uid.octets(), &body);
+    let mut packet = Vec::new(alloc);
+    write_packet(2, &body, &mut packet)?;
+    Ok(Certification {
+        packet: Octets::from_vec(packet),
+        number,
+        issuer,
+    })
+}
+
+/// The certifications of the user ID of an index.
+#[tactic(auto, unfolding(crate::specs::Certifications::certifications_at))]
+pub fn certifications(
+    alloc: Global,
+    words: &mut Words,
+    identities: &[Identity],
+    index: u32,
+) -> Result<Vec<Certification>, Memory>
+    requires few { length identities.now ≤ 2000 }
+    requires index { index < length identities.now }
+    requires identities { AreIdentities words.old.start (length identities.now) identities.now }
+    requires drawn { words.old.drawn ≡ drawn_before (length identities.now) index }
+    ensures made { IfOk result (λ made. made.items ≡ certifications_at words.old.start (length identities.now) index) }
+    ensures start { words.new.start ≡ words.old.start }
+    ensures drawn { OnOk result (words.new.drawn ≡ drawn_before (length identities.now) (index + 1)) }
+{
+    let mut made = Vec::new(alloc);
+    if index == 0 {
+        return Ok(made);
+    }
+    made.push(certify(alloc, words, identities, index, 1)?)?;
+    made.push(certify(alloc, words, identities, index, 2)?)?;
+    made.push(certify(alloc, words, identities, index, 3)?)?;
+    Ok(made)
+}

@@ -1,0 +1,9 @@
+//! Laws of the definitions. Each function does nothing: its contract is the law.
+ghost use Rattle.wot_keyring.specs.Keyring.{Keyring};
+ghost use Rattle.wot_keyring.specs.Later.{IsLater};
+
+/// A keyring is later than itself, and what is later than a later one is later.
+pub fn later_is_order()
+    ensures itself { (k : Keyring) → IsLater k k }
+    ensures further { (old mid new : Keyring) → IsLater old mid → IsLater mid new → IsLater old new }
+{}

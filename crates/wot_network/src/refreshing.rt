@@ -1,0 +1,161 @@
+//! The steps of a refresh: each certificate that may be stale is looked at.
+ghost use Rattle.std.specs.Prelude.{◌≡◌, ◌≤◌, ◌<◌, OnOk, IfSome};
+ghost use Rattle.wot_types.specs.declared.fpr.Fpr.{Fpr as TheFpr};
+ghost use Rattle.wot_cert.specs.Span.{InSpan};
+ghost use Rattle.wot_keyring.specs.Kept.{AreNamed, AreSortedByFpr, AreStamped};
+ghost use Rattle.wot_keyring.specs.Log.{HasChangedSince, is_listed};
+ghost use Rattle.wot_network.specs.Net.{AreKnown};
+ghost use Rattle.wot_network.specs.Refreshing.{Advances, AreDone, AreDoneBut, AreKept, IsDone, IsProgress, KeepsPresent};
+
+use crate::making::make;
+use crate::table::{Table, forget, forget_absent, is_done, narrow, put, rises, window_of};
+use std::alloc::Global;
+use wot_cert::Span;
+use wot_keyring::Keyring;
+use wot_types::{Fpr, Memory, Steps};
+
+/// A law: the certificates of a keyring are named, and in order.
+pub(crate) fn ordered(keyring: &Keyring)
+    ensures sorted { AreSortedByFpr keyring.now.certs }
+    ensures named { AreNamed keyring.now.certs }
+    ensures stamped { AreStamped keyring.now.changes keyring.now.certs }
+{
+    let _ = keyring.len();
+}
+
+/// Makes the line of a certificate, unless it is current; takes it away where the certificate isn't kept.
+fn look_at(
+    alloc: Global,
+    lines: &mut Table,
+    window: &mut Span,
+    keyring: &Keyring,
+    fpr: &Fpr,
+    t: u32,
+    steps: &mut Steps,
+) -> Result<(), Memory>
+    requires sorted { AreSortedByFpr keyring.now.certs }
+    requires kept { AreKept keyring.now window.old lines.old.entries }
+    ensures kept { AreKept keyring.now window.new lines.new.entries }
+    ensures progress { IsProgress keyring.now t lines.old.entries lines.new.entries steps.old.made steps.new.made }
+    ensures advances { OnOk result (Advances keyring.now t lines.old.entries lines.new.entries steps.old.made steps.new.made) }
+    ensures done { OnOk result (IsDone keyring.now t lines.new.entries fpr.now) }
+{
+    let stamp = keyring.stamp(fpr);
+    let Some(cert) = keyring.get(fpr) else {
+        rises(lines);
+        forget(lines, fpr);
+        return Ok(());
+    };
+    if is_done(lines, fpr, stamp, t) {
+        return Ok(());
+    }
+    let line = make(alloc, cert, keyring.verdicts(), stamp, t, steps)?;
+    let span = line.span();
+    put(lines, *fpr, line)?;
+    *window = narrow(*window, span);
+    Ok(())
+}
+
+/// Looks at each certificate.
+fn look_at_all(
+    alloc: Global,
+    lines: &mut Table,
+    window: &mut Span,
+    keyring: &Keyring,
+    t: u32,
+    steps: &mut Steps,
+) -> Result<(), Memory>
+    requires sorted { AreSortedByFpr keyring.now.certs }
+    requires named { AreNamed keyring.now.certs }
+    requires kept { AreKept keyring.now window.old lines.old.entries }
+    ensures kept { AreKept keyring.now window.new lines.new.entries }
+    ensures progress { IsProgress keyring.now t lines.old.entries lines.new.entries steps.old.made steps.new.made }
+    ensures advances { OnOk result (Advances keyring.now t lines.old.entries lines.new.entries steps.old.made steps.new.made) }
+    ensures done { OnOk result (AreDone keyring.now t lines.new.entries) }
+{
+    'certs: for cert in keyring.certs() {
+        look_at(alloc, lines, window, keyring, &cert.fpr(), t, steps)?;
+    }
+    *window = window_of(lines);
+    Ok(())
+}
+
+/// Looks at these certificates, beside which no other is stale.
+fn look_at_changed(
+    alloc: Global,
+    lines: &mut Table,
+    window: &mut Span,
+    keyring: &Keyring,
+    changed: &[(u64, Fpr)],
+    t: u32,
+    steps: &mut Steps,
+) -> Result<(), Memory>
+    requires sorted { AreSortedByFpr keyring.now.certs }
+    requires kept { AreKept keyring.now window.old lines.old.entries }
+    requires others { AreDoneBut keyring.now t lines.old.entries (λ (q : TheFpr). is_listed q changed.now) }
+    ensures kept { AreKept keyring.now window.new lines.new.entries }
+    ensures progress { IsProgress keyring.now t lines.old.entries lines.new.entries steps.old.made steps.new.made }
+    ensures advances { OnOk result (Advances keyring.now t lines.old.entries lines.new.entries steps.old.made steps.new.made) }
+    ensures done { OnOk result (AreDone keyring.now t lines.new.entries) }
+{
+    let mut left = changed;
+    'left: while let Some((entry, rest)) = left.split_first() {
+        look_at(alloc, lines, window, keyring, &entry.1, t, steps)?;
+        left = rest;
+    }
+    Ok(())
+}
+
+/// The certificates beside which none is stale, where that is known without a walk: where `t` is in the window.
+fn may_be_stale<'a>(
+    keyring: &'a Keyring,
+    window: &Span,
+    count: u64,
+    t: u32,
+) -> Option<&'a [(u64, Fpr)]>
+    ensures inside { IfSome result (λ changed. InSpan window.now t) }
+    ensures since { IfSome result (λ changed. HasChangedSince keyring.now count changed.now) }
+{
+    if window.from <= t && t <= window.to {
+        return keyring.changed_since(count);
+    }
+    None
+}
+
+/// Looks at each certificate that may be stale. What has a stamp up to the count has a line of that stamp.
+pub(crate) fn look_at_stale(
+    alloc: Global,
+    lines: &mut Table,
+    window: &mut Span,
+    count: u64,
+    keyring: &Keyring,
+    t: u32,
+    steps: &mut Steps,
+) -> Result<(), Memory>
+    requires sorted { AreSortedByFpr keyring.now.certs }
+    requires named { AreNamed keyring.now.certs }
+    requires kept { AreKept keyring.now window.old lines.old.entries }
+    requires stamped { AreStamped keyring.now.changes keyring.now.certs }
+    requires known { AreKnown keyring.now count lines.old.entries }
+    ensures kept { AreKept keyring.now window.new lines.new.entries }
+    ensures progress { IsProgress keyring.now t lines.old.entries lines.new.entries steps.old.made steps.new.made }
+    ensures advances { OnOk result (Advances keyring.now t lines.old.entries lines.new.entries steps.old.made steps.new.made) }
+    ensures done { OnOk result (AreDone keyring.now t lines.new.entries) }
+{
+    match may_be_stale(keyring, window, count, t) {
+        Some(changed) => look_at_changed(alloc, lines, window, keyring, changed, t, steps),
+        None => look_at_all(alloc, lines, window, keyring, t, steps),
+    }
+}
+
+/// Takes the lines away of certificates that aren't kept, where there are as many lines as certificates none is.
+pub(crate) fn settle(lines: &mut Table, keyring: &Keyring, t: u32)
+    requires sorted { AreSortedByFpr keyring.now.certs }
+    requires done { AreDone keyring.now t lines.old.entries }
+    ensures present { KeepsPresent keyring.now lines.old.entries lines.new.entries }
+{
+    rises(lines);
+    if lines.len() != keyring.len() {
+        forget_absent(lines, keyring);
+    }
+}

@@ -1,0 +1,18 @@
+//! Certificates for tests, written down by name. No part of the product.
+//!
+//! A test says packet by packet what a certificate holds, and [`text`] gives its octets (RFC 9580, section 10.1).
+#![tactic(auto)]
+
+mod certificates;
+mod names;
+mod packet;
+mod signature;
+
+pub use certificates::{OWN_USER_IDS_REVOKED, SEVERAL_ISSUERS, SPANS};
+pub use names::{
+    A, ATTRIBUTE, CASUAL, CERTIFICATION, CERTIFICATION_REVOCATION, DIRECT, DIRECT_KEY, KEY, KEY_A,
+    KEY_R, KEY_REVOCATION, KEY_T, MARKER, PADDING, PERSONA, POSITIVE, R, SIGNATURE, SUBKEY, T,
+    TRUST,
+};
+pub use packet::{Packet, text};
+pub use signature::Says;

@@ -1,0 +1,50 @@
+use crate::Says;
+use crate::signature::signature;
+use std::alloc::Global;
+
+/// One packet of a certificate.
+#[derive(Clone, Copy)]
+pub enum Packet {
+    /// A public key of version 4, made at 1000, of public key algorithm 27 and with this one octet of material.
+    Key(u8),
+    /// A user ID.
+    UserId(&'static [u8]),
+    /// A signature of this kind by SHA2-256, and what its hashed subpackets say, in order.
+    Signature(u8, &'static [Says]),
+    /// The same by the hash algorithm of this number, which stands first.
+    SignatureByHash(u8, u8, &'static [Says]),
+    /// Any other packet: its type and its body.
+    Other(u8, &'static [u8]),
+}
+
+/// The octets of these packets, in the OpenPGP format. `None` where no memory is found, or a body has 192 octets or
+/// more.
+pub fn text(alloc: Global, packets: &[Packet]) -> Option<Vec<u8>> {
+    let mut out = Vec::new(alloc);
+    for packet in packets {
+        put_packet(alloc, packet, &mut out)?;
+    }
+    Some(out)
+}
+
+fn put_packet(alloc: Global, packet: &Packet, out: &mut Vec<u8>) -> Option<()> {
+    match packet {
+        Packet::Key(material) => put(6, &[4, 0, 0, 3, 232, 27, *material], out),
+        Packet::UserId(body) => put(13, body, out),
+        Packet::Signature(kind, says) => put(2, &signature(alloc, *kind, 8, says)?, out),
+        Packet::SignatureByHash(hash, kind, says) => put(
+            2,
+            &signature(alloc, *kind, *hash, says)?,
+            out,
+        ),
+        Packet::Other(kind, body) => put(*kind, body, out),
+    }
+}
+
+fn put(kind: u8, body: &[u8], out: &mut Vec<u8>) -> Option<()> {
+    if kind >= 64 || body.len() >= 192 {
+        return None;
+    }
+    out.extend_from_slice(&[192 + kind, body.len() as u8]).ok()?;
+    out.extend_from_slice(body).ok()
+}

@@ -1,0 +1,89 @@
+use std::alloc::Global;
+use wot_types::Fpr;
+
+/// What a hashed subpacket of a signature says (RFC 9580, section 5.2.3.7). Times are in seconds.
+#[derive(Clone, Copy)]
+pub enum Says {
+    /// When the signature was made.
+    Made(u32),
+    /// How long it lasts.
+    Lasts(u32),
+    /// How long it lets its key last, from the key's making on.
+    KeyLasts(u32),
+    /// Trust of this depth and amount.
+    Trust(u8, u8),
+    /// The scope of trust: a pattern.
+    Scope(&'static [u8]),
+    /// It can't be revoked.
+    Final,
+    /// Its user ID is the primary one.
+    Primary,
+    /// The reason of a revocation, without a text.
+    Reason(u8),
+    /// Who made it.
+    By(Fpr),
+    /// Any other subpacket: its type octet, of which bit 7 marks it critical, and its body.
+    Subpacket(u8, &'static [u8]),
+}
+
+/// The body of a version 4 signature: its kind, the number of its hash algorithm, and what it says. Its public key
+/// algorithm is 27; it has no unhashed area, no octets of the hash and no cryptography.
+pub(crate) fn signature(
+    alloc: Global,
+    kind: u8,
+    hash: u8,
+    says: &'static [Says],
+) -> Option<Vec<u8>> {
+    let hashed = area(alloc, says)?;
+    let length = u16::try_from(hashed.len()).ok()?;
+    let mut body = Vec::new(alloc);
+    body.extend_from_slice(&[4, kind, 27, hash]).ok()?;
+    body.extend_from_slice(&length.to_be_bytes()).ok()?;
+    body.extend_from_slice(&hashed).ok()?;
+    body.extend_from_slice(&[0, 0, 0, 0]).ok()?;
+    Some(body)
+}
+
+fn area(alloc: Global, says: &'static [Says]) -> Option<Vec<u8>> {
+    let mut area = Vec::new(alloc);
+    for said in says {
+        put_subpacket(&mut area, said)?;
+    }
+    Some(area)
+}
+
+fn put_subpacket(area: &mut Vec<u8>, said: &Says) -> Option<()> {
+    match said {
+        Says::Made(moment) => put_number(area, 2, *moment),
+        Says::Lasts(seconds) => put_number(area, 3, *seconds),
+        Says::KeyLasts(seconds) => put_number(area, 9, *seconds),
+        Says::Trust(depth, amount) => put(area, 5, &[*depth, *amount], &[]),
+        Says::Scope(pattern) => put(area, 6, pattern, &[0]),
+        Says::Final => put(area, 7, &[0], &[]),
+        Says::Primary => put(area, 25, &[1], &[]),
+        Says::Reason(code) => put(area, 29, &[*code], &[]),
+        Says::By(fpr) => put_issuer(area, fpr),
+        Says::Subpacket(kind, body) => put(area, *kind, body, &[]),
+    }
+}
+
+fn put_issuer(area: &mut Vec<u8>, fpr: &Fpr) -> Option<()> {
+    match fpr {
+        Fpr::V4(octets) => put(area, 33, &[4], octets.as_slice()),
+    }
+}
+
+fn put_number(area: &mut Vec<u8>, kind: u8, number: u32) -> Option<()> {
+    put(area, kind, &number.to_be_bytes(), &[])
+}
+
+/// Appends a subpacket of a type, whose body is both parts together, with a length of one octet.
+fn put(area: &mut Vec<u8>, kind: u8, body: &[u8], rest: &[u8]) -> Option<()> {
+    if body.len() > 100 || rest.len() > 50 {
+        return None;
+    }
+    let length = body.len() + rest.len() + 1;
+    area.extend_from_slice(&[length as u8, kind]).ok()?;
+    area.extend_from_slice(body).ok()?;
+    area.extend_from_slice(rest).ok()
+}

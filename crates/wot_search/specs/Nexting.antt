@@ -1,0 +1,14 @@
+-- What a next path rests on.
+use Rattle.std.specs.Prelude.{List, Option}
+use Rattle.wot_types.specs.declared.fpr.Fpr.{Fpr}
+use Rattle.wot_edge.specs.declared.path.Path.{Path}
+use Rattle.wot_edge.specs.Agree.{Agree}
+use Rattle.wot_edge.specs.Answer.{IsNextOrSpent}
+use Rattle.wot_edge.specs.Path.{Question, Use}
+use Rattle.wot_edge.specs.Record.{Has}
+use Rattle.wot_search.specs.Looked.{Widens}
+
+-- the next path, or that there is none, of each question that agrees with this one on a set that has all that is noted
+abbrev pub IsNextWhereAgreed : Question → Use → (Fpr → Type 0) → Option Path → Type 0
+IsNextWhereAgreed q used noted found =
+    (set : List Fpr) → Widens noted (Has set) → (other : Question) → Agree q other set → IsNextOrSpent other used found

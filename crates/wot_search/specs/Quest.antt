@@ -1,0 +1,28 @@
+-- What a search is for.
+use Rattle.std.specs.Prelude.{ℕ, List}
+use Rattle.wot_types.specs.declared.fpr.Fpr.{Fpr}
+use Rattle.wot_edge.specs.Record.{Record}
+use Rattle.wot_edge.specs.Path.{Question, Use, asks}
+use Rattle.wot_edge.specs.Sums.{use_in}
+use Rattle.wot_search.specs.Reach.{number_at}
+use Rattle.wot_search.specs.declared.node.Goal.{Goal}
+use Rattle.wot_search.specs.declared.quest.Quest.{Quest as Told}
+
+-- The paths that answer the question, after what is used, of which so much is left; and which of those of fewest edges.
+-- No issuer is looked for further before the target than its reach.
+pub record Quest : Type 0 where
+  pub question : Question
+  pub used : Use
+  pub reach : Fpr → ℕ
+  pub least : ℕ
+  pub goal : Goal
+
+-- the program's quest, by what the roads tell
+abbrev pub quest_of : (List ℕ → Record) → Told → Quest
+quest_of told quest = record {
+  question = asks (told quest.uid.now) quest.roots.now quest.target.now;
+  used = use_in quest.used.now;
+  reach = number_at quest.reach.now;
+  least = quest.least;
+  goal = quest.goal;
+}

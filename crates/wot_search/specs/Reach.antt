@@ -1,0 +1,32 @@
+-- Reach: how far before a target an issuer may stand, by a table of numbers that serves every question.
+use Rattle.std.specs.Prelude.{◌≡◌, ℕ, ◌<◌, ◌≤◌, ◌-◌, min, true, List}
+use Rattle.std.specs.Option.{unwrap_or}
+use Rattle.std.specs.Map.{lookup}
+use Rattle.std.specs.BTreeMap.{is_at}
+use Rattle.wot_types.specs.declared.fpr.Fpr.{Fpr}
+use Rattle.wot_types.specs.Fpr.{fpr_cmp}
+use Rattle.wot_edge.specs.declared.edge.EdgeFacts.{EdgeFacts}
+use Rattle.wot_edge.specs.Record.{Record, Row, Has, rows_into}
+use Rattle.wot_edge.specs.Roots.{root_amount}
+
+-- the number of a fingerprint, of at most 255; 255 where the table has none
+abbrev pub number_at : List (Fpr × ℕ) → Fpr → ℕ
+number_at numbers fpr = min 255 (unwrap_or (lookup (is_at (fpr_cmp fpr)) numbers) 255)
+
+-- A fingerprint has enough where it has 255 if it is a root, and the target of each usable edge of positive amount has
+-- at least the lesser of the edge's depth and one less than its issuer's number.
+pub record HasEnough (told : List ℕ → Record) (roots : List (Fpr × ℕ)) (number : Fpr → ℕ) (fpr : Fpr) : Type 0 where
+  pub root : 0 < root_amount roots fpr → number fpr ≡ 255
+  pub edges : (uid : List ℕ) (row : Row) → Has (rows_into (told uid) fpr) row → row.usable ≡ true → 0 < row.edge.amount
+      → min row.edge.depth (number row.edge.issuer - 1) ≤ number fpr
+
+-- These numbers are the reach of all records, scopes left aside, and of the roots: on a path from a root no issuer stands
+-- further before the target than its number.
+abbrev pub IsReach : (List ℕ → Record) → List (Fpr × ℕ) → (Fpr → ℕ) → Type 0
+IsReach told roots number = (fpr : Fpr) → HasEnough told roots number fpr
+
+-- an edge asks no more than n of its target
+abbrev pub Allows : (List ℕ → Record) → (Fpr → ℕ) → ℕ → EdgeFacts → Type 0
+Allows told number n edge =
+    (uid : List ℕ) (row : Row) → Has (rows_into (told uid) edge.target) row → row.edge ≡ edge → row.usable ≡ true
+    → 0 < row.edge.amount → min row.edge.depth (number row.edge.issuer - 1) ≤ n

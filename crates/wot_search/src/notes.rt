@@ -1,0 +1,39 @@
+ghost use Rattle.std.specs.Prelude.{◌≡◌, ◌⊎◌, OnOk};
+ghost use Rattle.wot_types.specs.declared.fpr.Fpr.{Fpr as Print};
+ghost use Rattle.wot_edge.specs.Record.{Has};
+ghost use Rattle.wot_search.specs.Looked.{Widens};
+
+use crate::consulted::Consulted;
+use wot_types::{Fpr, Memory};
+
+/// What a search does with each fingerprint whose rows, standing or root amount it looks at.
+pub trait Notes {
+    // which fingerprints are noted
+    ghost noted: { Self → Print → Type 0 };
+
+    /// Notes that a fingerprint is looked at.
+    fn note(&mut self, fpr: &Fpr) -> Result<(), Memory>
+        ensures has { OnOk result (noted self.new fpr.now) }
+        ensures grows { Widens (noted self.old) (noted self.new) }
+        ensures only { (other : Print) → noted self.new other → noted self.old other ⊎ (other ≡ fpr.now) };
+}
+
+impl Notes for Consulted {
+    ghost noted = { λ set fpr. Has set fpr };
+
+    fn note(&mut self, fpr: &Fpr) -> Result<(), Memory> {
+        self.add(fpr)
+    }
+}
+
+/// Keeps nothing of what is looked at, and takes no memory: nobody asks for it later.
+#[derive(Clone, Copy, Debug)]
+pub struct Unnoted;
+
+impl Notes for Unnoted {
+    ghost noted = { λ nothing fpr. Unit {0} };
+
+    fn note(&mut self, fpr: &Fpr) -> Result<(), Memory> {
+        Ok(())
+    }
+}

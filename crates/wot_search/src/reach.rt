@@ -1,0 +1,119 @@
+ghost use Rattle.std.specs.Prelude.{◌≡◌, ◌<◌, ℕ, List, true, false};
+ghost use Rattle.wot_types.specs.declared.fpr.Fpr.{Fpr as Print};
+ghost use Rattle.wot_edge.specs.Record.{Has, edges_into};
+ghost use Rattle.wot_edge.specs.Roots.{root_amount};
+ghost use Rattle.wot_search.specs.Reach.{Allows, HasEnough, IsReach, number_at};
+
+use std::alloc::Global;
+use std::collections::BTreeMap;
+use std::marker::Model;
+use wot_edge::{Edge, Roads, Roots};
+use wot_types::{Fpr, Memory};
+
+/// How far before a target an issuer may stand: a number of edges for each fingerprint. A search passes over an issuer
+/// that would stand further. One that has no number may stand anywhere.
+#[derive(Drop)]
+pub struct Reach {
+    numbers: BTreeMap<Fpr, u8, Global>,
+}
+
+impl Model for Reach {
+    ghost use Rattle.std.specs.Prelude.{List, ℕ};
+    ghost use Rattle.wot_types.specs.declared.fpr.Fpr.{Fpr};
+
+    ghost Value = { List (Fpr × ℕ) };
+
+    ghost view = { λ reach. reach.numbers.entries };
+}
+
+impl Reach {
+    /// Leaves nothing out.
+    pub fn everywhere(alloc: Global) -> Reach
+        ensures all { (fpr : Print) → number_at result fpr ≡ 255 }
+    {
+        Reach {
+            numbers: BTreeMap::new(alloc),
+        }
+    }
+
+    /// How many edges before a target a fingerprint may stand at most.
+    pub fn get(&self, fpr: &Fpr) -> u8
+        ensures number { result ≡ number_at self.now fpr.now }
+    {
+        match self.numbers.get(fpr) {
+            Some(number) => *number,
+            None => 255,
+        }
+    }
+
+    /// A table of these numbers, one for each of the fingerprints; where there are fewer numbers, the last have none.
+    pub(crate) fn new(alloc: Global, fprs: &[Fpr], numbers: &[u8]) -> Result<Reach, Memory> {
+        let mut table = BTreeMap::new(alloc);
+        for (fpr, number) in fprs.iter().zip(numbers) {
+            table.insert(*fpr, *number)?;
+        }
+        Ok(Reach { numbers: table })
+    }
+
+    /// Whether each fingerprint has enough.
+    pub(crate) fn is_over<R: Roads>(&self, roads: &R, roots: &Roots) -> bool
+        ensures enough { result ≡ true → IsReach (R.told roads.now) roots.now (number_at self.now) }
+    {
+        have_enough(roads, roots, self, &self.numbers)
+    }
+}
+
+/// Whether each of these fingerprints has enough, and so whether all have, since one without a number has 255.
+fn have_enough<R: Roads>(
+    roads: &R,
+    roots: &Roots,
+    reach: &Reach,
+    numbers: &BTreeMap<Fpr, u8>,
+) -> bool
+    requires { reach.now ≡ numbers.now.entries }
+    ensures enough { result ≡ true → IsReach (R.told roads.now) roots.now (number_at reach.now) }
+{
+    'numbers: for (fpr, _number) in numbers.iter() {
+        if !has_enough(roads, roots, reach, fpr) {
+            return false;
+        }
+    }
+    true
+}
+
+/// Whether a root has less than 255.
+fn is_low_root(roots: &Roots, number: u8, fpr: &Fpr) -> bool
+    ensures low { result ≡ false → 0 < root_amount roots.now fpr.now → number ≡ 255 }
+{
+    number < 255 && roots.get(fpr) > 0
+}
+
+/// Whether a fingerprint has 255 if it is a root, and as much as each edge into it asks for.
+fn has_enough<R: Roads>(roads: &R, roots: &Roots, reach: &Reach, fpr: &Fpr) -> bool
+    ensures enough { result ≡ true → HasEnough (R.told roads.now) roots.now (number_at reach.now) fpr.now }
+{
+    let number = reach.get(fpr);
+    if is_low_root(roots, number, fpr) {
+        return false;
+    }
+    let edges = roads.rows(fpr);
+    'edges: for edge in edges {
+        if !allows(roads, reach, number, edge) {
+            return false;
+        }
+    }
+    true
+}
+
+/// Whether an edge asks no more of its target than this number.
+fn allows<R: Roads>(roads: &R, reach: &Reach, number: u8, edge: &Edge) -> bool
+    requires row { (id : List ℕ) → Has (edges_into (R.told roads.now id) edge.now.target) edge.now }
+    ensures allows { result ≡ true → Allows (R.told roads.now) (number_at reach.now) number edge.now }
+{
+    let facts = edge.facts();
+    let passed_on = reach.get(&facts.issuer).saturating_sub(1);
+    if facts.amount == 0 || facts.depth.min(passed_on) <= number {
+        return true;
+    }
+    !roads.usable(edge)
+}

@@ -1,5 +1,0 @@
-use Rattle.wot_signature.proofs.Slices.{slices_of_whole}
-use Rattle.wot_signature.proofs.reading.reading_of.Goals as goal
-
-pub returns-clause-slices : goal.returns-clause-slices
-returns-clause-slices c = slices_of_whole c.in_ok-parts.parts.hashed.now c.args.body.now c.in-Ok.hashed c.in_ok-parts.ensures.slice c.in-Ok.ensures.slices

@@ -1,0 +1,655 @@
+ghost use Rattle.wot_policy.specs.Kept.{IsFaithful};
+
+use std::alloc::Global;
+use std::cell::Cell;
+use std::test::Fail;
+use wot_cert::{
+    Adds, Assembled, Cert, CertFault, MergeFault, Part, Span, assemble, issuer_of, span,
+};
+use wot_packet::read_packets;
+use wot_policy::{Ask, Policy, admits, standard_rows};
+use wot_sample::Packet::{self, Other, Signature, SignatureByHash, UserId};
+use wot_sample::Says::{Lasts, Made, Subpacket, Trust};
+use wot_sample::{
+    ATTRIBUTE, CERTIFICATION, DIRECT, KEY, KEY_A, KEY_R, KEY_T, MARKER, PADDING, SIGNATURE, SUBKEY,
+    TRUST,
+};
+use wot_types::{Fpr, SigNumber};
+use wot_verdict::{Verdict, Verdicts};
+
+/// The certificates of a text whose packets are read.
+fn assembled(alloc: Global, text: &[u8]) -> Result<Assembled, CertFault> {
+    match read_packets(alloc, text) {
+        Ok(packets) => {
+            if packets.len() < 1 << 28 {
+                assemble(alloc, &packets)
+            } else {
+                Err(CertFault::Memory)
+            }
+        }
+        Err(_) => Err(CertFault::Memory),
+    }
+}
+
+/// The certificates of these packets.
+fn of_packets(alloc: Global, packets: &[Packet]) -> Option<Assembled> {
+    let text = wot_sample::text(alloc, packets)?;
+    assembled(alloc, &text).ok()
+}
+
+/// Packets, and how many certificates and skipped keys they give, or the first fault in the order of the packets.
+const OUTCOMES: [(&[Packet], Result<(usize, u64), CertFault>); 29] = [
+    (&[KEY_R, KEY_A], Ok((2, 0))),
+    (
+        &[KEY_R, KEY_A, Other(8, b"\x00")],
+        Err(CertFault::Compressed),
+    ),
+    (&[KEY_R, KEY_A, Other(5, b"\x00")], Err(CertFault::Secret)),
+    (
+        &[KEY_R, KEY_A, Other(9, b"\x00")],
+        Err(CertFault::Kind(9, 18)),
+    ),
+    (&[], Err(CertFault::Empty)),
+    (&[Other(MARKER, b"PGP")], Err(CertFault::Empty)),
+    (&[UserId(b"t")], Err(CertFault::Order(0))),
+    (&[KEY_R, DIRECT], Ok((1, 0))),
+    // Markers, trust, padding and what is dropped, before a key and behind it.
+    (
+        &[
+            Other(MARKER, b"PGP"),
+            Other(TRUST, b"x"),
+            Other(PADDING, b""),
+            KEY_R,
+        ],
+        Ok((1, 0)),
+    ),
+    (&[Other(40, b""), KEY_R, Other(63, b"")], Ok((1, 0))),
+    (
+        &[Other(44, b""), Other(PADDING, b"")],
+        Err(CertFault::Empty),
+    ),
+    // Signatures and components before the first key.
+    (&[Other(SIGNATURE, b"")], Err(CertFault::Order(0))),
+    (&[Other(ATTRIBUTE, b""), KEY_R], Err(CertFault::Order(0))),
+    (&[Other(SUBKEY, b"")], Err(CertFault::Order(0))),
+    (
+        &[Other(60, b"?"), Other(SIGNATURE, b""), Other(8, b"")],
+        Err(CertFault::Order(3)),
+    ),
+    (
+        &[Other(60, b"?"), Other(PADDING, b""), UserId(b"t")],
+        Err(CertFault::Order(5)),
+    ),
+    // Faults inside what is skipped, and the first of two.
+    (
+        &[
+            Other(KEY, b"\x03\x00\x00\x03\xe8\x01"),
+            UserId(b"t"),
+            Other(9, b""),
+        ],
+        Err(CertFault::Kind(9, 11)),
+    ),
+    (
+        &[
+            KEY_R,
+            Other(KEY, b"\x03\x00\x00\x03\xe8\x01"),
+            Other(SIGNATURE, b""),
+            Other(7, b""),
+        ],
+        Err(CertFault::Secret),
+    ),
+    (
+        &[KEY_R, Other(9, b""), Other(8, b"")],
+        Err(CertFault::Kind(9, 9)),
+    ),
+    (&[UserId(b"t"), Other(8, b"")], Err(CertFault::Order(0))),
+    (&[Other(8, b""), UserId(b"t")], Err(CertFault::Compressed)),
+    // Types on both sides of those that have a place.
+    (&[KEY_R, Other(0, b"")], Err(CertFault::Kind(0, 9))),
+    (&[KEY_R, Other(11, b"")], Err(CertFault::Kind(11, 9))),
+    (&[KEY_R, Other(18, b"")], Err(CertFault::Kind(18, 9))),
+    (&[KEY_R, Other(22, b"")], Err(CertFault::Kind(22, 9))),
+    (&[KEY_R, Other(39, b"")], Err(CertFault::Kind(39, 9))),
+    // Keys of five and of six octets, and one key twice.
+    (&[Other(KEY, b"\x04\x00\x00\x03\xe8")], Ok((0, 1))),
+    (&[Other(KEY, b"\x04\x00\x00\x03\xe8\x1b")], Ok((1, 0))),
+    (&[KEY_R, KEY_R], Ok((2, 0))),
+];
+
+/// Keys and a trust packet, with lengths in the legacy format; the second key isn't of version 4.
+const LEGACY: &[u8] =
+    b"\x98\x07\x04\x00\x00\x03\xe8\x1b\x01\xb0\x02\x00\x00\x98\x06\x03\x00\x00\x03\xe8\x01\x98\x07\x04\x00\x00\x03\xe8\x1b\x02";
+
+fn outcome(alloc: Global, text: &[u8]) -> Result<(usize, u64), CertFault> {
+    match assembled(alloc, text) {
+        Ok(assembled) => Ok((assembled.certs.as_slice().len(), assembled.skipped)),
+        Err(fault) => Err(fault),
+    }
+}
+
+#[test]
+fn first_faults_and_skipped_keys(rt: HostRuntime) -> Result<(), Fail> {
+    for (packets, expected) in OUTCOMES {
+        let text = wot_sample::text(rt.alloc(), packets).ok_or("memory")?;
+        assert_eq!(rt; outcome(rt.alloc(), &text), expected, "{text:?}");
+    }
+    assert_eq!(rt; outcome(rt.alloc(), LEGACY), Ok((2, 1)));
+    Ok(())
+}
+
+/// Packets, and those of the first certificate of each: in order, without doubles.
+const TEXTS: [(&[Packet], &[Packet]); 6] = [
+    // Signatures in every place, among markers, padding and what is dropped, with doubles and a user ID that comes
+    // twice.
+    (
+        &[
+            KEY_R,
+            Other(SIGNATURE, b"zz"),
+            Other(SIGNATURE, b"aa"),
+            UserId(b"t"),
+            Other(SIGNATURE, b"cc"),
+            Other(MARKER, b"PGP"),
+            Other(SIGNATURE, b"bb"),
+            Other(44, b"?"),
+            Other(SIGNATURE, b"dd"),
+            Other(PADDING, b""),
+            Other(SIGNATURE, b"ee"),
+            Other(ATTRIBUTE, b"at"),
+            Other(SIGNATURE, b"ff"),
+            Other(SUBKEY, b"sub"),
+            Other(SIGNATURE, b"gg"),
+            UserId(b"a"),
+            UserId(b"t"),
+            Other(SIGNATURE, b"cc"),
+            Other(SIGNATURE, b"ab"),
+            Other(TRUST, b"x"),
+            Other(SIGNATURE, b"aa"),
+        ],
+        &[
+            KEY_R,
+            Other(SIGNATURE, b"aa"),
+            Other(SIGNATURE, b"zz"),
+            UserId(b"a"),
+            UserId(b"t"),
+            Other(SIGNATURE, b"aa"),
+            Other(SIGNATURE, b"ab"),
+            Other(SIGNATURE, b"bb"),
+            Other(SIGNATURE, b"cc"),
+            Other(ATTRIBUTE, b"at"),
+            Other(SIGNATURE, b"ff"),
+            Other(SUBKEY, b"sub"),
+            Other(SIGNATURE, b"gg"),
+        ],
+    ),
+    // Two user IDs of the same octets.
+    (
+        &[
+            KEY_R,
+            UserId(b"t"),
+            Other(SIGNATURE, b"b"),
+            UserId(b"s"),
+            UserId(b"t"),
+            Other(SIGNATURE, b"a"),
+            Other(SIGNATURE, b"b"),
+        ],
+        &[
+            KEY_R,
+            UserId(b"s"),
+            UserId(b"t"),
+            Other(SIGNATURE, b"a"),
+            Other(SIGNATURE, b"b"),
+        ],
+    ),
+    // What is passed over and what is dropped, in every place.
+    (
+        &[
+            KEY_R,
+            Other(MARKER, b""),
+            Other(SIGNATURE, b"a"),
+            Other(TRUST, b""),
+            Other(SIGNATURE, b"b"),
+            Other(50, b""),
+            Other(SIGNATURE, b"c"),
+            Other(PADDING, b""),
+            Other(SIGNATURE, b"d"),
+            UserId(b"t"),
+            Other(MARKER, b""),
+            Other(SIGNATURE, b"e"),
+            Other(40, b""),
+            Other(SIGNATURE, b"f"),
+            Other(63, b""),
+            Other(SIGNATURE, b"g"),
+            Other(SUBKEY, b"s"),
+            Other(PADDING, b""),
+            Other(SIGNATURE, b"h"),
+        ],
+        &[
+            KEY_R,
+            Other(SIGNATURE, b"a"),
+            Other(SIGNATURE, b"b"),
+            UserId(b"t"),
+            Other(SIGNATURE, b"e"),
+            Other(SUBKEY, b"s"),
+            Other(SIGNATURE, b"h"),
+        ],
+    ),
+    // Attributes and subkeys with signatures, one of them on both.
+    (
+        &[
+            KEY_R,
+            Other(SUBKEY, b"y"),
+            Other(SIGNATURE, b"b"),
+            Other(SIGNATURE, b"a"),
+            Other(ATTRIBUTE, b"x"),
+            Other(SIGNATURE, b"c"),
+            UserId(b"w"),
+            Other(SUBKEY, b"x"),
+            Other(SIGNATURE, b"b"),
+        ],
+        &[
+            KEY_R,
+            UserId(b"w"),
+            Other(ATTRIBUTE, b"x"),
+            Other(SIGNATURE, b"c"),
+            Other(SUBKEY, b"x"),
+            Other(SIGNATURE, b"b"),
+            Other(SUBKEY, b"y"),
+            Other(SIGNATURE, b"a"),
+            Other(SIGNATURE, b"b"),
+        ],
+    ),
+    // A signature behind a key that ends a dropping.
+    (
+        &[Other(55, b""), KEY_R, Other(SIGNATURE, b"a")],
+        &[KEY_R, Other(SIGNATURE, b"a")],
+    ),
+    // Bodies of which one is a prefix of another.
+    (
+        &[
+            KEY_R,
+            Other(SIGNATURE, b"ab"),
+            Other(SIGNATURE, b"a"),
+            Other(SIGNATURE, b""),
+            Other(SIGNATURE, b"b"),
+        ],
+        &[
+            KEY_R,
+            Other(SIGNATURE, b""),
+            Other(SIGNATURE, b"a"),
+            Other(SIGNATURE, b"ab"),
+            Other(SIGNATURE, b"b"),
+        ],
+    ),
+];
+
+/// Texts, and the text of the first certificate of each, in the shortest spelling.
+const SPELLED: [(&[u8], &[u8]); 2] = [
+    // Lengths in the legacy format.
+    (LEGACY, b"\xc6\x07\x04\x00\x00\x03\xe8\x1b\x01"),
+    // User IDs of 191 and of 192 octets.
+    (
+        b"\xc6\x07\x04\x00\x00\x03\xe8\x1b\x01\xcd\xc0\x00uuuuuuuuuuuuuuuuuuuuuuuuuuuuuuuuuuuuuuuuuuuuuuuuuuuuuuuuuuuuuuuuuuuuuuuuuuuuuuuuuuuuuuuuuuuuuuuuuuuuuuuuuuuuuuuuuuuuuuuuuuuuuuuuuuuuuuuuuuuuuuuuuuuuuuuuuuuuuuuuuuuuuuuuuuuuuuuuuuuuuuuuuuuuuuuu\xcd\xbfuuuuuuuuuuuuuuuuuuuuuuuuuuuuuuuuuuuuuuuuuuuuuuuuuuuuuuuuuuuuuuuuuuuuuuuuuuuuuuuuuuuuuuuuuuuuuuuuuuuuuuuuuuuuuuuuuuuuuuuuuuuuuuuuuuuuuuuuuuuuuuuuuuuuuuuuuuuuuuuuuuuuuuuuuuuuuuuuuuuuuuuuuuuuuuu",
+        b"\xc6\x07\x04\x00\x00\x03\xe8\x1b\x01\xcd\xbfuuuuuuuuuuuuuuuuuuuuuuuuuuuuuuuuuuuuuuuuuuuuuuuuuuuuuuuuuuuuuuuuuuuuuuuuuuuuuuuuuuuuuuuuuuuuuuuuuuuuuuuuuuuuuuuuuuuuuuuuuuuuuuuuuuuuuuuuuuuuuuuuuuuuuuuuuuuuuuuuuuuuuuuuuuuuuuuuuuuuuuuuuuuuuuu\xcd\xc0\x00uuuuuuuuuuuuuuuuuuuuuuuuuuuuuuuuuuuuuuuuuuuuuuuuuuuuuuuuuuuuuuuuuuuuuuuuuuuuuuuuuuuuuuuuuuuuuuuuuuuuuuuuuuuuuuuuuuuuuuuuuuuuuuuuuuuuuuuuuuuuuuuuuuuuuuuuuuuuuuuuuuuuuuuuuuuuuuuuuuuuuuuuuuuuuuuu",
+    ),
+];
+
+/// Whether the first certificate of a text, and a copy of it, is written so.
+fn is_written_so(alloc: Global, text: &[u8], expected: &[u8]) -> Option<bool> {
+    let found = assembled(alloc, text).ok()?;
+    let cert = found.certs.as_slice().first()?;
+    let copy = cert.duplicate(alloc).ok()?;
+    let mut out = Vec::new(alloc);
+    copy.export(&mut out).ok()?;
+    Some(out.as_slice() == expected && cert.size() == expected.len() as u64)
+}
+
+#[test]
+fn texts_in_order(rt: HostRuntime) -> Result<(), Fail> {
+    for (packets, expected) in TEXTS {
+        let text = wot_sample::text(rt.alloc(), packets).ok_or("memory")?;
+        let expected = wot_sample::text(rt.alloc(), expected).ok_or("memory")?;
+        assert_eq!(rt; is_written_so(rt.alloc(), &text, &expected), Some(true));
+    }
+    for (text, expected) in SPELLED {
+        assert_eq!(rt; is_written_so(rt.alloc(), text, expected), Some(true));
+    }
+    Ok(())
+}
+
+/// One signature body on a key, and on a user ID, an attribute and a subkey of the same octets.
+const IN_EVERY_PLACE: &[Packet] = &[
+    KEY_R,
+    DIRECT,
+    UserId(b"t"),
+    DIRECT,
+    Other(ATTRIBUTE, b"t"),
+    DIRECT,
+    Other(SUBKEY, b"t"),
+    DIRECT,
+];
+
+/// Its four numbers.
+const NUMBERS: [SigNumber; 4] = [
+    SigNumber([
+        104, 208, 235, 95, 140, 161, 57, 20, 252, 221, 241, 178, 62, 95, 96, 139, 249, 132, 118, 3,
+        131, 77, 162, 132, 240, 26, 112, 114, 8, 5, 18, 9,
+    ]),
+    SigNumber([
+        227, 114, 83, 191, 177, 190, 138, 36, 99, 208, 27, 87, 108, 215, 205, 218, 70, 2, 132, 160,
+        249, 84, 167, 48, 91, 91, 170, 107, 157, 17, 160, 196,
+    ]),
+    SigNumber([
+        75, 97, 169, 105, 116, 131, 180, 242, 14, 178, 20, 69, 115, 148, 10, 57, 199, 197, 35, 150,
+        238, 148, 79, 203, 229, 76, 90, 56, 41, 80, 104, 5,
+    ]),
+    SigNumber([
+        108, 64, 40, 242, 234, 112, 90, 191, 200, 236, 42, 77, 29, 51, 180, 134, 171, 175, 223, 83,
+        37, 186, 91, 94, 51, 107, 168, 170, 223, 234, 145, 159,
+    ]),
+];
+
+fn first_number(parts: &[Part]) -> Option<SigNumber> {
+    Some(parts.first()?.sigs().first()?.number())
+}
+
+#[test]
+fn a_number_for_each_place(rt: HostRuntime) -> Result<(), Fail> {
+    let found = of_packets(rt.alloc(), IN_EVERY_PLACE).ok_or("assembled")?;
+    let cert = found.certs.as_slice().first().ok_or("one")?;
+    let [on_key, on_user_id, on_attribute, on_subkey] = NUMBERS;
+    assert_eq!(rt; cert.direct().first().ok_or("direct")?.number(), on_key);
+    assert_eq!(rt; first_number(cert.user_ids()), Some(on_user_id));
+    assert_eq!(rt; first_number(cert.attributes()), Some(on_attribute));
+    assert_eq!(rt; first_number(cert.subkeys()), Some(on_subkey));
+    Ok(())
+}
+
+/// Kind, hash number, time made, depth, amount, and whether it is sound.
+type Facts = Option<(u8, u8, u32, u8, u8, bool)>;
+
+/// Keys with one signature, and what that says.
+const FACTS: [(&[Packet], Facts); 8] = [
+    (
+        &[
+            KEY_R,
+            Signature(CERTIFICATION, &[Made(2000), Trust(1, 120)]),
+        ],
+        Some((16, 8, 2000, 1, 120, true)),
+    ),
+    (
+        &[
+            KEY_R,
+            Other(
+                SIGNATURE,
+                b"\x04\x10\x1b\x08\x00\x06\x05\x02\x00\x00\x07\xd0\x00\x04\x03\x05\x01x\x00\x00",
+            ),
+        ],
+        Some((16, 8, 2000, 0, 120, true)),
+    ),
+    (
+        &[KEY_R, Signature(CERTIFICATION, &[Made(2000), Made(2001)])],
+        Some((16, 8, 2001, 0, 120, true)),
+    ),
+    (
+        &[
+            KEY_R,
+            Signature(CERTIFICATION, &[Made(2000), Subpacket(0xe5, b"")]),
+        ],
+        Some((16, 8, 2000, 0, 120, false)),
+    ),
+    (
+        &[
+            KEY_R,
+            Signature(CERTIFICATION, &[Made(2000), Subpacket(0x65, b"")]),
+        ],
+        Some((16, 8, 2000, 0, 120, true)),
+    ),
+    (
+        &[
+            KEY_R,
+            Signature(
+                CERTIFICATION,
+                &[Made(2000), Subpacket(0x82, b"\x00\x00\x07")],
+            ),
+        ],
+        Some((16, 8, 2000, 0, 120, false)),
+    ),
+    (
+        &[KEY_R, Signature(CERTIFICATION, &[])],
+        Some((16, 8, 0, 0, 120, false)),
+    ),
+    (&[KEY_R, Other(SIGNATURE, b"\x03")], None),
+];
+
+#[test]
+fn facts_of_signatures(rt: HostRuntime) -> Result<(), Fail> {
+    for (packets, expected) in FACTS {
+        let found = of_packets(rt.alloc(), packets).ok_or("assembled")?;
+        let cert = found.certs.as_slice().first().ok_or("one")?;
+        let said = cert.direct().first().ok_or("direct")?.facts();
+        let told = match said {
+            Some(f) => Some((f.kind, f.hash, f.made, f.depth, f.amount, f.sound)),
+            None => None,
+        };
+        assert_eq!(rt; told, expected);
+    }
+    Ok(())
+}
+
+/// The key R with a direct key signature; T with one and an unsound signature on `t`; T with one of hash number 1
+/// there; T with that and one of hash number 8; and another key.
+const R_WITH_DIRECT: &[Packet] = &[KEY_R, DIRECT];
+
+const T_WITH_UNSOUND: &[Packet] = &[
+    KEY_T,
+    DIRECT,
+    UserId(b"t"),
+    Signature(CERTIFICATION, &[Made(2000), Subpacket(0xe5, b"")]),
+];
+
+const T_WITH_OLD_HASH: &[Packet] = &[
+    KEY_T,
+    UserId(b"t"),
+    SignatureByHash(1, CERTIFICATION, &[Made(2000)]),
+];
+
+const T_WITH_BOTH_HASHES: &[Packet] = &[
+    KEY_T,
+    UserId(b"t"),
+    Signature(CERTIFICATION, &[Made(2000)]),
+    SignatureByHash(1, CERTIFICATION, &[Made(2000)]),
+];
+
+const OTHER_KEY: &[Packet] = &[KEY_A];
+
+/// Merges the first certificate of a text, where both are small.
+fn merge_text<F: Fn(Ask) -> bool>(
+    alloc: Global,
+    cert: &mut Cert,
+    text: &[u8],
+    policy: &mut Policy<F>,
+) -> Result<u64, MergeFault>
+    requires { IsFaithful F.Fn policy.old }
+    ensures { IsFaithful F.Fn policy.new }
+{
+    let Ok(found) = assembled(alloc, text) else {
+        return Err(MergeFault::Memory);
+    };
+    let Some(other) = found.certs.as_slice().first() else {
+        return Err(MergeFault::Memory);
+    };
+    if cert.size() >= 1000 || other.size() >= 1000 {
+        return Err(MergeFault::Memory);
+    }
+    cert.merge(alloc, other, policy)
+}
+
+/// Packets to merge, the answer, and how often the policy was asked by then.
+type Merge = (&'static [Packet], Result<u64, MergeFault>, u64);
+
+/// The same with the octets of the packets.
+type Written = (Vec<u8>, Result<u64, MergeFault>, u64);
+
+fn written(alloc: Global, rows: &[Merge]) -> Option<Vec<Written>> {
+    let mut all = Vec::new(alloc);
+    for case in rows {
+        let text = wot_sample::text(alloc, case.0)?;
+        all.push((text, case.1, case.2)).ok()?;
+    }
+    Some(all)
+}
+
+const INTO_R: [Merge; 3] = [
+    (R_WITH_DIRECT, Ok(1), 1),
+    (R_WITH_DIRECT, Ok(0), 1),
+    (OTHER_KEY, Err(MergeFault::Clash), 1),
+];
+
+const INTO_T: [Merge; 5] = [
+    (T_WITH_UNSOUND, Ok(3), 2),
+    (T_WITH_OLD_HASH, Ok(1), 3),
+    (T_WITH_UNSOUND, Ok(0), 3),
+    (T_WITH_BOTH_HASHES, Ok(1), 4),
+    (R_WITH_DIRECT, Err(MergeFault::Clash), 4),
+];
+
+/// Whether these merges answer so.
+fn merges<F: Fn(Ask) -> bool>(
+    alloc: Global,
+    cert: &mut Cert,
+    policy: &mut Policy<F>,
+    rows: &[Written],
+) -> bool
+    requires { IsFaithful F.Fn policy.old }
+    ensures { IsFaithful F.Fn policy.new }
+{
+    for case in rows {
+        if merge_text(alloc, cert, &case.0, policy) != case.1 || policy.asked() != case.2 {
+            return false;
+        }
+    }
+    true
+}
+
+fn bare(alloc: Global, key: &[u8]) -> Option<Cert> {
+    Cert::bare(alloc, key).ok().flatten()
+}
+
+#[test]
+fn merging_asks_of_new_sound_signatures(rt: HostRuntime) -> Result<(), Fail> {
+    let rows = standard_rows();
+    let calls = Cell::new(0u64);
+    let mut policy = Policy::new(rows, |ask| {
+        calls.set(calls.get().wrapping_add(1));
+        admits(&rows, ask)
+    });
+    let mut r = bare(rt.alloc(), b"\x04\x00\x00\x03\xe8\x1b\x01").ok_or("readable")?;
+    let mut t = bare(rt.alloc(), b"\x04\x00\x00\x03\xe8\x1b\x04").ok_or("readable")?;
+    let into_r = written(rt.alloc(), &INTO_R).ok_or("memory")?;
+    let into_t = written(rt.alloc(), &INTO_T).ok_or("memory")?;
+    assert!(rt; merges(rt.alloc(), &mut r, &mut policy, &into_r));
+    assert!(rt; merges(rt.alloc(), &mut t, &mut policy, &into_t));
+    assert_eq!(rt; (policy.asked(), calls.get()), (4, 4));
+    let marks = t.user_ids().first().ok_or("user ID")?.sigs();
+    let [old, new, unsound] = marks else {
+        return Err("three".into());
+    };
+    assert_eq!(rt;
+        (old.admitted(), new.admitted(), unsound.admitted()),
+        (false, true, false)
+    );
+    Ok(())
+}
+
+/// The text of a certificate.
+fn text_of(alloc: Global, cert: &Cert) -> Option<Vec<u8>> {
+    let mut out = Vec::new(alloc);
+    cert.export(&mut out).ok()?;
+    Some(out)
+}
+
+/// The key R and nothing else.
+const KEY_ALONE: &[u8] = b"\xc6\x07\x04\x00\x00\x03\xe8\x1b\x01";
+
+#[test]
+fn other_keys_clash(rt: HostRuntime) -> Result<(), Fail> {
+    let mut r = bare(rt.alloc(), b"\x04\x00\x00\x03\xe8\x1b\x01").ok_or("readable")?;
+    let mut t = bare(rt.alloc(), b"\x04\x00\x00\x03\xe8\x1b\x04").ok_or("readable")?;
+    assert_eq!(rt; r.unite(rt.alloc(), &t), Err(MergeFault::Clash));
+    assert_eq!(rt; t.unite(rt.alloc(), &r), Err(MergeFault::Clash));
+    let text = text_of(rt.alloc(), &r).ok_or("memory")?;
+    assert_eq!(rt; text.as_slice(), KEY_ALONE);
+    Ok(())
+}
+
+/// What the union of the first certificates of two lists of packets would add to the first.
+fn adds_of(alloc: Global, packets: &[Packet], more: &[Packet]) -> Option<Adds> {
+    let one = of_packets(alloc, packets)?;
+    let other = of_packets(alloc, more)?;
+    let one = one.certs.as_slice().first()?;
+    let other = other.certs.as_slice().first()?;
+    if !one.has_key_of(other) || one.size() >= 1000 || other.size() >= 1000 {
+        return None;
+    }
+    Some(one.adds(other))
+}
+
+#[test]
+fn what_a_union_adds(rt: HostRuntime) -> Result<(), Fail> {
+    let found = adds_of(rt.alloc(), T_WITH_UNSOUND, T_WITH_BOTH_HASHES);
+    let expected = Adds {
+        items: 2,
+        signatures: 2,
+        octets: 36,
+    };
+    assert_eq!(rt; found, Some(expected));
+    Ok(())
+}
+
+/// A key made at 1000 with a direct key signature, and on `t` a signature made at 2000 and one made at 3000 that
+/// lasts 100.
+const WITH_TIMES: &[Packet] = &[
+    KEY_T,
+    DIRECT,
+    UserId(b"t"),
+    Signature(CERTIFICATION, &[Made(2000), Trust(0, 60)]),
+    Signature(CERTIFICATION, &[Made(3000), Lasts(100), Trust(0, 120)]),
+];
+
+#[test]
+fn spans(rt: HostRuntime) -> Result<(), Fail> {
+    let found = of_packets(rt.alloc(), WITH_TIMES).ok_or("assembled")?;
+    let cert = found.certs.as_slice().first().ok_or("one")?;
+    for (t, from, to) in [
+        (999, 0, 999),
+        (2500, 2000, 2999),
+        (3050, 3000, 3099),
+        (5000, 3100, 4294967295),
+    ] {
+        assert_eq!(rt; span(cert, t), Span { from, to });
+    }
+    Ok(())
+}
+
+#[test]
+fn issuers(rt: HostRuntime) -> Result<(), Fail> {
+    let rows = standard_rows();
+    let mut policy = Policy::new(rows, |ask| admits(&rows, ask));
+    let mut judged = bare(rt.alloc(), b"\x04\x00\x00\x03\xe8\x1b\x01").ok_or("readable")?;
+    let direct = wot_sample::text(rt.alloc(), R_WITH_DIRECT).ok_or("memory")?;
+    assert_eq!(rt;
+        merge_text(rt.alloc(), &mut judged, &direct, &mut policy),
+        Ok(1)
+    );
+    let fpr = Fpr::V4([7; 20]);
+    let sig = judged.direct().first().ok_or("direct")?;
+    let mut verdicts = Verdicts::new(rt.alloc());
+    assert_eq!(rt; issuer_of(sig, &verdicts), None);
+    assert!(rt; verdicts.set(sig.number(), Verdict::Good(fpr)).is_ok());
+    assert_eq!(rt; issuer_of(sig, &verdicts), Some(fpr));
+    let other = bare(rt.alloc(), b"\x04\x00\x00\x03\xe8\x1b\x01").ok_or("readable")?;
+    assert_eq!(rt; judged.unite(rt.alloc(), &other), Ok(()));
+    let unjudged = judged.direct().first().ok_or("direct")?;
+    assert_eq!(rt; issuer_of(unjudged, &verdicts), None);
+    Ok(())
+}

@@ -1,0 +1,13 @@
+//! Tests of the keyring, the views over it, lists and explanations, and the machine.
+#![tactic(auto)]
+
+#[cfg(test)]
+mod cache;
+#[cfg(test)]
+mod engine;
+#[cfg(test)]
+mod explain;
+#[cfg(test)]
+mod keyring;
+#[cfg(test)]
+mod layers;

@@ -1,0 +1,81 @@
+use sha2::{Digest, Sha256};
+use std::alloc::Global;
+use std::test::Fail;
+use wot_gen::script;
+use wot_script::{print_command, read_line};
+
+/// The script of the start 7 and of one key, in pieces, as a Python program with hashlib gives it.
+static SINGLE: [&str; 12] = [
+    "import c626043b9aca001b63cbe1e459320dd7044c3cd7f43c661ce6984080bab12a02953aeb70673e29cbc227041f1b0800",
+    "1d05023b9aca001621043563ca707db33566cec6b808619003ac27efbb3400000000",
+    "cd17757365722030203c7530406578616d706c652e6f72673e\n",
+    "verdict 79924e47dec9b2e9b96fda0ae4b84f42b5451b2dd8a5eb98fb64c6f5ff181627",
+    " good 3563ca707db33566cec6b808619003ac27efbb34\n",
+    "view a time 1200000000\n",
+    "view a root 3563ca707db33566cec6b808619003ac27efbb34 120\n",
+    "view b time 1200000000\n",
+    "view b root 3563ca707db33566cec6b808619003ac27efbb34 60\n",
+    "view b root 3563ca707db33566cec6b808619003ac27efbb34 60\n",
+    "ask a 3563ca707db33566cec6b808619003ac27efbb34 120 user 0 <u0@example.org>\n",
+    "ask b 3563ca707db33566cec6b808619003ac27efbb34 60 user 0 <u0@example.org>\n",
+];
+
+/// A start and a count, and the lines and the SHA-256 of their script, by the same program.
+static SCRIPTS: [(u64, u32, u64, &str); 3] = [
+    (
+        7,
+        12,
+        90,
+        "a89b65a310a77549555ade5cbbcdb043858a950df4453c04247be0363ebf1d3f",
+    ),
+    (
+        7,
+        50,
+        368,
+        "48b680d7c9105c1c5b73c94948017a13923bc65a1629ce9221a482b813fce6c4",
+    ),
+    (
+        u64::MAX,
+        21,
+        157,
+        "4f8b954fda609d6372ff83fc5d42bcce3c805be1126638fa4d474a38c2005dfa",
+    ),
+];
+
+/// The commands of these lines, printed again.
+fn printed_again(alloc: Global, text: &[u8]) -> Result<Vec<u8>, Fail> {
+    let mut again = Vec::new(alloc);
+    for line in str::from_utf8(text)?.lines() {
+        let Ok(command) = read_line(alloc, line.as_bytes()) else {
+            return Err("a line is no command".into());
+        };
+        print_command(&command, &mut again)?;
+        again.push(b'\n')?;
+    }
+    Ok(again)
+}
+
+#[test]
+fn one_key_behind_other_text(rt: HostRuntime) -> Result<(), Fail> {
+    let mut wanted = Vec::from_slice(rt.alloc(), b"# before\n")?;
+    let mut out = Vec::from_slice(rt.alloc(), b"# before\n")?;
+    for piece in SINGLE {
+        wanted.extend_from_slice(piece.as_bytes())?;
+    }
+    assert_eq!(rt; script(rt.alloc(), 7, 1, &mut out)?, 9);
+    assert!(rt; out == wanted);
+    Ok(())
+}
+
+#[test]
+fn scripts_of_a_start_and_a_count(rt: HostRuntime) -> Result<(), Fail> {
+    for (start, count, lines, digest) in SCRIPTS {
+        let mut out = Vec::new(rt.alloc());
+        assert_eq!(rt; script(rt.alloc(), start, count, &mut out)?, lines);
+        let mut digits = [0u8; 64];
+        let _ = hex::encode_to_slice(Sha256::digest(&out).as_slice(), &mut digits);
+        assert!(rt; digits.as_slice() == digest.as_bytes());
+        assert!(rt; printed_again(rt.alloc(), &out)? == out);
+    }
+    Ok(())
+}

@@ -1,0 +1,256 @@
+use std::alloc::Global;
+use std::test::Fail;
+use wot_pattern::{Matcher, PatternFault, one_reading, parse};
+use wot_types::Memory;
+
+#[derive(Clone, Copy, Debug, PartialEq, Eq)]
+enum Answer {
+    Matches,
+    Differs,
+    Unreadable,
+    NoMemory,
+}
+
+use Answer::{Differs, Matches, Unreadable};
+
+fn answer_to(alloc: Global, pattern: &str, text: &str) -> Answer {
+    match parse(alloc, pattern) {
+        Err(PatternFault::Unreadable) => Answer::Unreadable,
+        Err(PatternFault::Memory) => Answer::NoMemory,
+        Ok(pattern) => match Matcher::new(alloc, pattern) {
+            Err(Memory) => Answer::NoMemory,
+            Ok(mut matcher) => {
+                if matcher.matches(text) {
+                    Answer::Matches
+                } else {
+                    Answer::Differs
+                }
+            }
+        },
+    }
+}
+
+/// Patterns, texts and answers. The answers were computed by another program, with sets of positions and no passes.
+static ROWS: [(&str, &str, Answer); 139] = [
+    ("", "", Matches),
+    ("", "abc", Matches),
+    ("a*", "bbb", Matches),
+    ("^a+$", "aab", Differs),
+    ("^a+$", "aaa", Matches),
+    ("^a+$", "", Differs),
+    ("a+", "", Differs),
+    ("a+", "ba", Matches),
+    ("a?b", "b", Matches),
+    ("^a?$", "aa", Differs),
+    ("^a*$", "aaaa", Matches),
+    ("b", "ab", Matches),
+    ("^b", "ab", Differs),
+    ("a$", "ab", Differs),
+    ("a$", "ba", Matches),
+    ("^", "", Matches),
+    ("$", "", Matches),
+    ("^$", "", Matches),
+    ("^$", "a", Differs),
+    ("a^", "a", Differs),
+    ("$a", "a", Differs),
+    ("(^|x)b", "ab", Differs),
+    ("(^|x)b", "xb", Matches),
+    ("(^|x)b", "b", Matches),
+    ("^*", "a", Matches),
+    ("$?a", "a", Matches),
+    ("a^*b", "ab", Matches),
+    ("()", "x", Matches),
+    ("^()$", "", Matches),
+    ("|", "x", Matches),
+    ("^(|a)$", "", Matches),
+    ("^(a||b)$", "b", Matches),
+    ("^(a||b)$", "c", Differs),
+    ("ab|cd", "xcdx", Matches),
+    ("ab|cd", "acbd", Differs),
+    ("^(ab|cd)+$", "abcdab", Matches),
+    ("^(ab|cd)+$", "abcdb", Differs),
+    ("a**", "a", Unreadable),
+    ("*", "a", Unreadable),
+    ("+a", "a", Unreadable),
+    ("a|?", "a", Unreadable),
+    ("(*)", "a", Unreadable),
+    ("a+?", "a", Unreadable),
+    ("(", "", Unreadable),
+    (")", "", Unreadable),
+    ("(a", "a", Unreadable),
+    ("a)", "a", Unreadable),
+    ("())", "", Unreadable),
+    ("a\\", "a", Unreadable),
+    ("[", "[", Unreadable),
+    ("[]", "]", Unreadable),
+    ("[^", "^", Unreadable),
+    ("[^]", "]", Unreadable),
+    ("[a", "a", Unreadable),
+    ("[c-a]", "b", Unreadable),
+    ("[a-", "a", Unreadable),
+    ("[a-b", "a", Unreadable),
+    ("[^]]", "]", Differs),
+    ("[^]]", "a", Matches),
+    ("[^^]", "^", Differs),
+    ("[^^]", "a", Matches),
+    ("[a^]", "^", Matches),
+    ("[]x]", "]", Matches),
+    ("[]x]", "x", Matches),
+    ("[]x]", "a", Differs),
+    ("[x]]", "x", Differs),
+    ("[x]]", "x]", Matches),
+    ("[]-a]", "`", Matches),
+    ("[]-a]", "-", Differs),
+    ("[]-a]", "b", Differs),
+    ("[-a]", "-", Matches),
+    ("[-a]", "A", Differs),
+    ("[--a]", "-", Matches),
+    ("[--a]", "a", Matches),
+    ("[--a]", "0", Differs),
+    ("[^-a]", "-", Differs),
+    ("[^-a]", "b", Matches),
+    ("[a-c-]", "-", Matches),
+    ("[a-c-]", "b", Matches),
+    ("[a-c-]", "d", Differs),
+    ("[a-]", "-", Matches),
+    ("[a-]", "a", Matches),
+    ("[a-]", "b", Differs),
+    ("[+--]", ",", Matches),
+    ("[+--]", ".", Differs),
+    ("[a-c]", "a", Matches),
+    ("[a-c]", "c", Matches),
+    ("[a-c]", "d", Differs),
+    ("[a-a]", "a", Matches),
+    ("[a-c-e]", "d", Differs),
+    ("[a-c-e]", "-", Matches),
+    ("[\\n]", "\\", Matches),
+    ("[\\n]", "n", Matches),
+    ("[\\]", "\\", Matches),
+    ("[\\-a]", "`", Matches),
+    ("[*.(|$]", "$", Matches),
+    ("[*.(|$]", "+", Differs),
+    ("^(a?)*$", "aaa", Matches),
+    ("^(a?)*$", "ab", Differs),
+    ("^((a*)*)*$", "aaaa", Matches),
+    ("^((a*)*)*$", "aab", Differs),
+    ("(^)*a", "ba", Matches),
+    ("^(^)*a", "ba", Differs),
+    ("a($)*", "ab", Matches),
+    ("a($)+", "ab", Differs),
+    ("(($)*|(^)+)*b", "ab", Matches),
+    ("^(a*)*$", "aaaaaaaaaaaaaaaab", Differs),
+    ("(|a)*b", "aaab", Matches),
+    ("^(|a)*b$", "aacb", Differs),
+    ("^(a*b?)+c$", "aabababc", Matches),
+    ("^((a|b)*c?)*d$", "abcabd", Matches),
+    ("^((a+)?b)*$", "abbaab", Matches),
+    ("^((a+)?b)*$", "abba", Differs),
+    ("^.$", "é", Matches),
+    ("^.$", "😀", Matches),
+    ("^..$", "😀", Differs),
+    ("^[à-ï]$", "é", Matches),
+    ("^[à-ï]$", "ð", Differs),
+    ("^[^a]$", "😀", Matches),
+    ("^[😀-😂]$", "😁", Matches),
+    ("^[a-😀]$", "é", Matches),
+    ("é+", "eéé", Matches),
+    ("^\\é$", "é", Matches),
+    ("a", "A", Differs),
+    ("[a-z]", "Q", Differs),
+    ("\\.", "a", Differs),
+    ("\\.", ".", Matches),
+    ("\\(\\[\\*", "([*", Matches),
+    ("a\\|b", "a|b", Matches),
+    ("^\\\\$", "\\", Matches),
+    ("a]b", "a]b", Matches),
+    ("a-b{2}", "a-b{2}", Matches),
+    ("^\0$", "\0", Matches),
+    (
+        "<[^>]+[@.]example\\.org>$",
+        "Ann <ann@example.org>",
+        Matches,
+    ),
+    (
+        "<[^>]+[@.]example\\.org>$",
+        "Ann <ann@example.org.net>",
+        Differs,
+    ),
+    (
+        "<[^>]+[@.]example\\.org>$",
+        "Ann <ann@example.org> ",
+        Differs,
+    ),
+    (
+        "<[^>]+[@.]example\\.org>$",
+        "Ann <ann@mail.example.org>",
+        Matches,
+    ),
+    (
+        "<[^>]+[@.]example\\.org>$",
+        "Ann <ann@badexample.org>",
+        Differs,
+    ),
+    ("<[^>]+[@.]example\\.org>$", "<@example.org>", Differs),
+];
+
+#[test]
+fn answers_as_another_program(rt: HostRuntime) {
+    for (pattern, text, expected) in ROWS.iter() {
+        assert_eq!(rt;
+            answer_to(rt.alloc(), pattern, text),
+            *expected,
+            "{pattern:?} on {text:?}"
+        );
+    }
+}
+
+/// The text of so many times the one part and then so many times the other.
+fn repeated(alloc: Global, count: u32, first: &str, second: &str) -> Result<String, Fail> {
+    let mut text = String::new(alloc);
+    for _ in 0..count {
+        text.push_str(first)?;
+    }
+    for _ in 0..count {
+        text.push_str(second)?;
+    }
+    Ok(text)
+}
+
+#[test]
+fn bounds_are_exact(rt: HostRuntime) -> Result<(), Fail> {
+    for (count, first, second, expected) in [
+        (64, "(", ")", Matches),
+        (65, "(", ")", Unreadable),
+        (64, "(x|", ")*", Matches),
+        (1024, "a", "", Differs),
+        (1025, "a", "", Unreadable),
+        (512, "é?", "", Matches),
+        (513, "é?", "", Unreadable),
+    ] {
+        let pattern = repeated(rt.alloc(), count, first, second)?;
+        assert_eq!(rt;
+            answer_to(rt.alloc(), pattern.as_str(), "x"),
+            expected,
+            "{count} of {first:?} and {second:?}"
+        );
+    }
+    Ok(())
+}
+
+#[test]
+fn matches_again(rt: HostRuntime) -> Result<(), Fail> {
+    one_reading();
+    let pattern = parse(rt.alloc(), "^(a|bc)+$").ok().ok_or("no pattern")?;
+    let mut matcher = Matcher::new(rt.alloc(), pattern).ok().ok_or("no matcher")?;
+    for (text, expected) in [
+        ("abc", true),
+        ("abb", false),
+        ("", false),
+        ("bca", true),
+        ("abcb", false),
+        ("a", true),
+    ] {
+        assert_eq!(rt; matcher.matches(text), expected, "{text:?}");
+    }
+    Ok(())
+}

@@ -1,0 +1,425 @@
+ghost use Rattle.std.specs.Prelude.{◌<◌};
+ghost use Rattle.wot_script.specs.Replies.{HasWords};
+
+use std::alloc::Global;
+use std::test::Fail;
+use wot_script::{
+    AnswerLine, AnswerLines, BindLine, BindLines, Command, Hint, KeyLine, KeyLines, LineFault,
+    Octets, PendingLine, PendingLines, ReasonLine, ReasonLines, Reply, print_command, print_reply,
+    read_line,
+};
+use wot_types::{Fpr, Limit, SigNumber, UserId, ViewName};
+
+/// Lines, and how the command that was read is printed; `None` where a line is no command. `$`
+/// stands for a fingerprint, `%` for a signature number.
+static LINES: [(&[u8], Option<&[u8]>); 88] = [
+    (b"import ", Some(b"import ")),
+    (b"import c6", Some(b"import c6")),
+    (b"import C6aB0f", Some(b"import c6ab0f")),
+    (b"import", None),
+    (b"import c6 ", None),
+    (b"import  c6", None),
+    (b"import c", None),
+    (b"import cg", None),
+    (b"Import c6", None),
+    (b"drop $", Some(b"drop $")),
+    (
+        b"drop C959BDBAFA32A2F89A153B678CFDE12197965A9A",
+        Some(b"drop $"),
+    ),
+    (b"drop xyz", None),
+    (b"drop ", None),
+    (b"drop $1", None),
+    (b"drop $ ", None),
+    (b"drop $\r", None),
+    (b"verdict % good $", Some(b"verdict % good $")),
+    (b"verdict % bad", Some(b"verdict % bad")),
+    (b"verdict % none", Some(b"verdict % none")),
+    (b"verdict % bad ", None),
+    (b"verdict % bad $", None),
+    (b"verdict % good", None),
+    (b"verdict %", None),
+    (b"verdict $ bad", None),
+    (b"verdict x", None),
+    (b"view a time 0", Some(b"view a time 0")),
+    (b"view a time 4294967295", Some(b"view a time 4294967295")),
+    (b"view a time 4294967296", None),
+    (b"view a time 00", None),
+    (b"view a time 05", None),
+    (b"view a time +5", None),
+    (b"view a time", None),
+    (b"view a time ", None),
+    (b"view a time 5 ", None),
+    (b"view a  time 5", None),
+    (b"view a time 18446744073709551617", None),
+    (
+        b"view abcdefghijklmnopqrstuvwxyz012345 time 5",
+        Some(b"view abcdefghijklmnopqrstuvwxyz012345 time 5"),
+    ),
+    (b"view abcdefghijklmnopqrstuvwxyz0123456 time 5", None),
+    (b"view -_9 close", Some(b"view -_9 close")),
+    (b"view A close", None),
+    (b"view  close", None),
+    (b"view a close ", None),
+    (b"view a root $ 0", Some(b"view a root $ 0")),
+    (b"view a root $ 255", Some(b"view a root $ 255")),
+    (b"view a root $ 256", None),
+    (b"view a root $ 007", None),
+    (b"view a root $", None),
+    (
+        b"ask a $ 120 Ann <a@b.org>",
+        Some(b"ask a $ 120 Ann <a@b.org>"),
+    ),
+    (b"ask a $ 1 ", Some(b"ask a $ 1 ")),
+    (b"ask a $ 1", None),
+    (b"ask a $ 0 r", None),
+    (b"ask a $ 4294967296 r", None),
+    (
+        b"ask a $ 4294967295 \xc3\xa9\r",
+        Some(b"ask a $ 4294967295 \\xc3\\xa9\\x0d"),
+    ),
+    (
+        b"ask a $ 7 \\\\ \\x41\\xC3\\xa9~",
+        Some(b"ask a $ 7 \\\\ A\\xc3\\xa9~"),
+    ),
+    (b"ask a $ 7 \\X41", None),
+    (b"ask a $ 7 r\\", None),
+    (b"ask a $ 7 \\n", None),
+    (b"ask a $ 7 \\x4", None),
+    (b"ask a $ 7 \\x4g", None),
+    (b"keys", Some(b"keys")),
+    (b"keys ", None),
+    (b"export $", Some(b"export $")),
+    (b"export $ ", None),
+    (b"dump", Some(b"dump")),
+    (b"", None),
+    (b"# keys", None),
+    (b"list a 1", Some(b"list a 1")),
+    (b"list -_9 4294967295", Some(b"list -_9 4294967295")),
+    (b"list a 4294967296", None),
+    (b"list a 0", None),
+    (b"list a 05", None),
+    (b"list a 5 ", None),
+    (b"list a  5", None),
+    (b"list a ", None),
+    (b"list a", None),
+    (b"list A 5", None),
+    (b"list 5", None),
+    (
+        b"explain a $ \xc3\xa9 Ann",
+        Some(b"explain a $ \\xc3\\xa9 Ann"),
+    ),
+    (b"explain a $ ", Some(b"explain a $ ")),
+    (b"explain a $", None),
+    (b"explain a $ \\", None),
+    (b"explain a $1 r", None),
+    (b"explain A $ r", None),
+    (b"explain  $ r", None),
+    (b"explain a", None),
+    (b"pending", Some(b"pending")),
+    (b"pending ", None),
+    (b"pending a", None),
+];
+
+const FPR: &[u8] = b"c959bdbafa32a2f89a153b678cfde12197965a9a";
+
+const NUMBER: &[u8] = b"0a0b0c0d0e0f101112131415161718191a1b1c1d1e1f20212223242526272829";
+
+/// The line that a row stands for.
+fn whole(alloc: Global, case: &[u8]) -> Result<Vec<u8>, Fail> {
+    let mut line = Vec::new(alloc);
+    for octet in case {
+        match octet {
+            b'$' => line.extend_from_slice(FPR)?,
+            b'%' => line.extend_from_slice(NUMBER)?,
+            other => line.push(*other)?,
+        }
+    }
+    Ok(line)
+}
+
+/// How the command of a line is printed; `None` where the line is no command.
+fn printed(alloc: Global, line: &[u8]) -> Result<Option<Vec<u8>>, Fail> {
+    match read_line(alloc, line) {
+        Ok(command) => {
+            let mut out = Vec::new(alloc);
+            print_command(&command, &mut out)?;
+            Ok(Some(out))
+        }
+        Err(LineFault::Line) => Ok(None),
+        Err(fault) => Err(fault)?,
+    }
+}
+
+/// Whether a row's line is read and printed as the row says.
+fn is_read(alloc: Global, case: &[u8], wanted: Option<&[u8]>) -> Result<bool, Fail> {
+    let line = whole(alloc, case)?;
+    let found = printed(alloc, &line)?;
+    match (found, wanted) {
+        (Some(found), Some(wanted)) => Ok(found == whole(alloc, wanted)?),
+        (found, wanted) => Ok(found.is_none() && wanted.is_none()),
+    }
+}
+
+#[test]
+fn lines_are_read_and_printed(rt: HostRuntime) -> Result<(), Fail> {
+    for (case, wanted) in &LINES {
+        assert!(rt; is_read(rt.alloc(), case, *wanted)?);
+    }
+    Ok(())
+}
+
+fn read_name(alloc: Global, text: &[u8]) -> Result<ViewName, Fail> {
+    Ok(ViewName::read(alloc, text)?.ok_or("a name")?)
+}
+
+const ISSUER: Fpr = Fpr::V4([0x12; 20]);
+
+const TARGET: Fpr = Fpr::V4([0xef; 20]);
+
+const ASK: &[u8] = b"ask v 1212121212121212121212121212121212121212 7 \\\\x";
+
+const LIST: &[u8] = b"list v 7";
+
+const EXPLAIN: &[u8] = b"explain v 1212121212121212121212121212121212121212 \\\\x";
+
+const ROOT: &[u8] = b"view v root 1212121212121212121212121212121212121212 9";
+
+#[test]
+fn fields_stand_in_their_order(rt: HostRuntime) -> Result<(), Fail> {
+    let alloc = rt.alloc();
+    let view = read_name(alloc, b"v")?;
+    let ask = read_line(alloc, ASK)?;
+    let uid = UserId::new(alloc, b"\\x")?;
+    assert!(rt; ask == Command::Ask(view.duplicate(alloc)?, ISSUER, 7, uid));
+    let list = read_line(alloc, LIST)?;
+    assert!(rt; list == Command::List(view.duplicate(alloc)?, 7));
+    let explain = read_line(alloc, EXPLAIN)?;
+    let uid = UserId::new(alloc, b"\\x")?;
+    assert!(rt; explain == Command::Explain(view.duplicate(alloc)?, ISSUER, uid));
+    let root = read_line(alloc, ROOT)?;
+    assert!(rt; root == Command::Root(view, ISSUER, 9));
+    Ok(())
+}
+
+#[test]
+fn import_gives_its_octets(rt: HostRuntime) -> Result<(), Fail> {
+    let mut octets = Octets::new(rt.alloc());
+    octets.push(0xc6)?;
+    octets.push(0x07)?;
+    let import = read_line(rt.alloc(), b"import c607")?;
+    assert!(rt; import == Command::Import(octets));
+    Ok(())
+}
+
+/// Whether a reply is printed as this text, behind what stood there.
+fn is_printed(alloc: Global, reply: &Reply, text: &[u8]) -> Result<bool, Fail>
+    requires { HasWords reply.now }
+{
+    let mut out = Vec::from_slice(alloc, b"> ")?;
+    print_reply(reply, &mut out)?;
+    let mut wanted = Vec::from_slice(alloc, b"> ")?;
+    wanted.extend_from_slice(text)?;
+    Ok(out == wanted)
+}
+
+/// The same of a reply other than that of `explain`.
+fn is_printed_without_words(alloc: Global, reply: &Reply, text: &[u8]) -> Result<bool, Fail> {
+    match reply {
+        Reply::Explained(_, _, _) => Ok(false),
+        _ => is_printed(alloc, reply, text),
+    }
+}
+
+/// Replies of one line, and how they are printed.
+fn short_replies(export: Octets, dump: Octets) -> [(Reply, &'static [u8]); 18] {
+    let most = u64::MAX;
+    [
+        (Reply::Taken(2, 1, 20), b"ok taken 2 skipped 1 new 20\n"),
+        (
+            Reply::Taken(most, 0, most),
+            b"ok taken 18446744073709551615 skipped 0 new 18446744073709551615\n",
+        ),
+        (Reply::Done, b"ok\n"),
+        (Reply::Export(export), b"export c60f\n"),
+        (Reply::Dump(0, dump), b"dump 0\n"),
+        (Reply::Long, b"refused long\n"),
+        (Reply::Line, b"refused line\n"),
+        (Reply::View, b"refused view\n"),
+        (Reply::Packet(3, 0), b"refused packet 3 0\n"),
+        (Reply::Compressed, b"refused compressed\n"),
+        (Reply::Secret, b"refused secret\n"),
+        (Reply::Kind(9, 18), b"refused kind 9 18\n"),
+        (Reply::Order(5), b"refused order 5\n"),
+        (Reply::Empty, b"refused empty\n"),
+        (Reply::Clash, b"refused clash\n"),
+        (Reply::Absent, b"refused absent\n"),
+        (Reply::Full(Limit::Views), b"refused full views\n"),
+        (
+            Reply::Full(Limit::Certificates),
+            b"refused full certificates\n",
+        ),
+    ]
+}
+
+#[test]
+fn replies_of_one_line_are_printed(rt: HostRuntime) -> Result<(), Fail> {
+    let alloc = rt.alloc();
+    let octets = Octets::from_vec(Vec::from_slice(alloc, b"\xc6\x0f")?);
+    for (reply, text) in &short_replies(octets, Octets::new(alloc)) {
+        assert!(rt; is_printed_without_words(alloc, reply, text)?);
+    }
+    Ok(())
+}
+
+fn answer_lines(alloc: Global) -> Result<AnswerLines, Fail> {
+    let mut lines = AnswerLines::new(alloc);
+    lines.push(AnswerLine::Path(60, 1, ISSUER))?;
+    let uid = UserId::new(alloc, b"\xc3\xa9 \\")?;
+    lines.push(AnswerLine::Step(ISSUER, TARGET, 255, 120, uid))?;
+    Ok(AnswerLines::from_vec(lines.into_vec()))
+}
+
+fn answer_text() -> &'static [u8] {
+    b"amount 60 paths 1\n\
+      path 60 steps 1 root 1212121212121212121212121212121212121212\n\
+      step 1212121212121212121212121212121212121212 efefefefefefefefefefefefefefefefefefefef 255 120 \\xc3\\xa9 \\\\\n"
+}
+
+#[test]
+fn an_answer_is_printed(rt: HostRuntime) -> Result<(), Fail> {
+    let reply = Reply::Amount(60, 1, answer_lines(rt.alloc())?);
+    assert!(rt; is_printed(rt.alloc(), &reply, answer_text())?);
+    let none = Reply::Amount(0, 0, AnswerLines::new(rt.alloc()));
+    assert!(rt; is_printed(rt.alloc(), &none, b"amount 0 paths 0\n")?);
+    Ok(())
+}
+
+fn key_lines(alloc: Global) -> Result<KeyLines, Fail> {
+    let mut lines = KeyLines::new(alloc);
+    lines.push(KeyLine(TARGET, 0, 1))?;
+    lines.push(KeyLine(ISSUER, 10, 0))?;
+    Ok(KeyLines::from_vec(lines.into_vec()))
+}
+
+fn keys_text() -> &'static [u8] {
+    b"keys 2\nkey efefefefefefefefefefefefefefefefefefefef 0 1\nkey 1212121212121212121212121212121212121212 10 0\n"
+}
+
+#[test]
+fn keys_and_dump_are_printed(rt: HostRuntime) -> Result<(), Fail> {
+    let keys = Reply::Keys(2, key_lines(rt.alloc())?);
+    assert!(rt; is_printed(rt.alloc(), &keys, keys_text())?);
+    let lines = Octets::from_vec(Vec::from_slice(rt.alloc(), b"keys\ndump\n")?);
+    let dump = Reply::Dump(2, Octets::from_vec(lines.into_vec()));
+    assert!(rt; is_printed(rt.alloc(), &dump, b"dump 2\nkeys\ndump\n")?);
+    Ok(())
+}
+
+fn bind_lines(alloc: Global) -> Result<BindLines, Fail> {
+    let mut lines = BindLines::new(alloc);
+    lines.push(BindLine(120, ISSUER, UserId::new(alloc, b"\\ \x7f")?))?;
+    lines.push(BindLine(u32::MAX, TARGET, UserId::new(alloc, b"")?))?;
+    Ok(BindLines::from_vec(lines.into_vec()))
+}
+
+const LISTED: &[u8] = b"list 2\n\
+    bind 120 1212121212121212121212121212121212121212 \\\\ \\x7f\n\
+    bind 4294967295 efefefefefefefefefefefefefefefefefefefef \n";
+
+const SIGNATURE: SigNumber = SigNumber([0x0a; 32]);
+
+fn pending_lines(alloc: Global) -> Result<PendingLines, Fail> {
+    let mut lines = PendingLines::new(alloc);
+    lines.push(PendingLine(SIGNATURE, TARGET, Hint::Full(ISSUER)))?;
+    lines.push(PendingLine(SIGNATURE, TARGET, Hint::Short([0, 1, 0xab, 3, 4, 5, 6, 7])))?;
+    lines.push(PendingLine(SIGNATURE, TARGET, Hint::Nothing))?;
+    Ok(PendingLines::from_vec(lines.into_vec()))
+}
+
+const WAITING: &[u8] = b"pending 3\n\
+    sig 0a0a0a0a0a0a0a0a0a0a0a0a0a0a0a0a0a0a0a0a0a0a0a0a0a0a0a0a0a0a0a0a \
+    efefefefefefefefefefefefefefefefefefefef 1212121212121212121212121212121212121212\n\
+    sig 0a0a0a0a0a0a0a0a0a0a0a0a0a0a0a0a0a0a0a0a0a0a0a0a0a0a0a0a0a0a0a0a \
+    efefefefefefefefefefefefefefefefefefefef 0001ab0304050607\n\
+    sig 0a0a0a0a0a0a0a0a0a0a0a0a0a0a0a0a0a0a0a0a0a0a0a0a0a0a0a0a0a0a0a0a \
+    efefefefefefefefefefefefefefefefefefefef -\n";
+
+#[test]
+fn listed_and_pending_are_printed(rt: HostRuntime) -> Result<(), Fail> {
+    let list = Reply::List(2, bind_lines(rt.alloc())?);
+    assert!(rt; is_printed(rt.alloc(), &list, LISTED)?);
+    let pending = Reply::Pending(3, pending_lines(rt.alloc())?);
+    assert!(rt; is_printed(rt.alloc(), &pending, WAITING)?);
+    Ok(())
+}
+
+static TARGET_WORDS: [&[u8]; 7] = [
+    b"explain ok 0\n",
+    b"explain standing 0\n",
+    b"explain young 0\n",
+    b"explain ended 0\n",
+    b"explain hard 0\n",
+    b"explain soft 0\n",
+    b"explain uid 0\n",
+];
+
+static REASON_WORDS: [&[u8]; 16] = [
+    b"edge",
+    b"unsound",
+    b"unjudged",
+    b"bad",
+    b"foreign",
+    b"policy",
+    b"early",
+    b"expired",
+    b"revoked",
+    b"older",
+    b"issuer-absent",
+    b"issuer-standing",
+    b"issuer-young",
+    b"issuer-ended",
+    b"issuer-hard",
+    b"issuer-soft",
+];
+
+/// Whether the certification's line tells this word.
+fn is_told(alloc: Global, word: u8, text: &[u8]) -> Result<bool, Fail>
+    requires { word < 16 }
+{
+    let mut lines = ReasonLines::new(alloc);
+    lines.push(ReasonLine::Word(SIGNATURE, word))?;
+    let mut wanted = Vec::from_slice(
+        alloc,
+        b"explain ok 1\n\
+        cert 0a0a0a0a0a0a0a0a0a0a0a0a0a0a0a0a0a0a0a0a0a0a0a0a0a0a0a0a0a0a0a0a ",
+    )?;
+    wanted.extend_from_slice(text)?;
+    wanted.push(b'\n')?;
+    is_printed(alloc, &Reply::Explained(0, 1, lines), &wanted)
+}
+
+#[test]
+fn words_are_told(rt: HostRuntime) -> Result<(), Fail> {
+    for word in 0..7u8 {
+        let reply = Reply::Explained(word, 0, ReasonLines::new(rt.alloc()));
+        assert!(rt; is_printed(rt.alloc(), &reply, TARGET_WORDS[word as usize])?);
+    }
+    for word in 0..16u8 {
+        assert!(rt; is_told(rt.alloc(), word, REASON_WORDS[word as usize])?);
+    }
+    Ok(())
+}
+
+const EXPLAINED: &[u8] = b"explain soft 1\n\
+    cert 0a0a0a0a0a0a0a0a0a0a0a0a0a0a0a0a0a0a0a0a0a0a0a0a0a0a0a0a0a0a0a0a edge \
+    1212121212121212121212121212121212121212 7 60\n";
+
+#[test]
+fn an_edge_is_told(rt: HostRuntime) -> Result<(), Fail> {
+    let mut lines = ReasonLines::new(rt.alloc());
+    lines.push(ReasonLine::Edge(SIGNATURE, ISSUER, 7, 60))?;
+    let lines = ReasonLines::from_vec(lines.into_vec());
+    assert!(rt; is_printed(rt.alloc(), &Reply::Explained(5, 1, lines), EXPLAINED)?);
+    Ok(())
+}

@@ -1,0 +1,61 @@
+use std::alloc::{AllocError, Global};
+use std::process::Abort;
+use wot_signature::{SigFacts, read_signature};
+
+/// The hashed subpacket of a creation time, 2000.
+pub(crate) const MADE_2000: [u8; 6] = [0x05, 0x02, 0x00, 0x00, 0x07, 0xd0];
+
+/// What a certification with that subpacket alone says.
+pub(crate) const PLAIN: SigFacts = SigFacts {
+    kind: 0x10,
+    hash: 8,
+    made: 2000,
+    lasts: 0,
+    key_lasts: 0,
+    depth: 0,
+    amount: 120,
+    scoped: false,
+    revocable: true,
+    primary: false,
+    reason: None,
+    issuer: None,
+    sound: true,
+};
+
+/// A certification with these areas and no material.
+pub(crate) fn certification(
+    alloc: Global,
+    hashed: &[u8],
+    unhashed: &[u8],
+) -> Result<Vec<u8>, AllocError> {
+    let mut body = Vec::new(alloc);
+    body.extend_from_slice(&[0x04, 0x10, 0x1b, 0x08])?;
+    extend_with_field(&mut body, hashed)?;
+    extend_with_field(&mut body, unhashed)?;
+    body.extend_from_slice(&[0x00, 0x00])?;
+    Ok(body)
+}
+
+/// Appends the number of octets, by two octets, and the octets.
+fn extend_with_field(body: &mut Vec<u8>, octets: &[u8]) -> Result<(), AllocError> {
+    let size = u16::try_from(octets.len()).unwrap_or(0);
+    body.extend_from_slice(&size.to_be_bytes())?;
+    body.extend_from_slice(octets)?;
+    Ok(())
+}
+
+pub(crate) fn assert_facts(rt: &impl Abort, body: &[u8], expected: Option<SigFacts>) {
+    assert_eq!(rt; read_signature(body), expected, "of {body:?}");
+}
+
+/// Asserts what a certification with these areas says.
+pub(crate) fn assert_said(
+    rt: &(impl Abort + AllocGlobal),
+    hashed: &[u8],
+    unhashed: &[u8],
+    expected: Option<SigFacts>,
+) -> Result<(), AllocError> {
+    let body = certification(rt.alloc(), hashed, unhashed)?;
+    assert_facts(rt, body.as_slice(), expected);
+    Ok(())
+}

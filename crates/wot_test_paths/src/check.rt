@@ -1,0 +1,389 @@
+use std::alloc::Global;
+use std::process::Abort;
+use std::test::Fail;
+use wot_check::{Checked, Claimed, Table, absence, check};
+use wot_edge::plain::PlainRoads;
+use wot_edge::{Edge, EdgeFacts, Path, Roots, Step, StepList};
+use wot_types::{Fpr, Memory, Steps};
+
+const A: u8 = b'a';
+
+const B: u8 = b'b';
+
+const C: u8 = b'c';
+
+const T: u8 = b't';
+
+/// An edge: issuer, target, user ID, depth, amount. The keys R, A, B, T, C are 1 to 5.
+#[derive(Clone, Copy)]
+struct Row(u8, u8, u8, u8, u8);
+
+/// A path: its amount, and the issuers and user IDs of its steps.
+#[derive(Clone, Copy)]
+struct Taken(u8, &'static [(u8, u8)]);
+
+/// Earlier paths to a user ID of a key, and a table: what their check comes to, and which table is
+/// made after these paths. The edges of 6 have a scope in which the user ID `t` is alone, and those
+/// of 7 aren't usable.
+#[derive(Clone, Copy)]
+struct Case {
+    rows: &'static [Row],
+    roots: &'static [(u8, u8)],
+    target: u8,
+    uid: &'static [u8],
+    paths: &'static [Taken],
+    table: &'static [(u8, u8)],
+    checked: Checked,
+    made: Option<&'static [(u8, u8)]>,
+}
+
+// A>T, and R>A without depth
+const SHALLOW: Case = Case {
+    rows: &[Row(1, 2, A, 0, 120), Row(2, 4, T, 0, 120)],
+    roots: &[(1, 120)],
+    target: 4,
+    uid: b"t",
+    paths: &[],
+    table: &[(2, 1)],
+    checked: Checked::Yes,
+    made: Some(&[(2, 1)]),
+};
+
+const ROW: Case = Case {
+    rows: &[
+        Row(1, 2, A, 2, 60),
+        Row(2, 3, B, 1, 120),
+        Row(2, 5, C, 1, 120),
+        Row(3, 4, T, 0, 120),
+        Row(5, 4, T, 0, 120),
+    ],
+    paths: &[Taken(60, &[(1, A), (2, B), (3, T)])],
+    table: &[(2, 2), (3, 1), (5, 1)],
+    made: Some(&[(2, 2), (3, 1), (5, 1)]),
+    ..SHALLOW
+};
+
+// R>A>T with depth
+const DEEP: Case = Case {
+    rows: &[Row(1, 2, A, 1, 120), Row(2, 4, T, 0, 120)],
+    checked: Checked::BadTable,
+    made: None,
+    ..SHALLOW
+};
+
+static CASES: [Case; 26] = [
+    SHALLOW,
+    Case {
+        table: &[],
+        checked: Checked::BadTable,
+        ..SHALLOW
+    },
+    // A is a root too
+    Case {
+        roots: &[(1, 120), (2, 5)],
+        checked: Checked::BadTable,
+        made: None,
+        ..SHALLOW
+    },
+    ROW,
+    Case {
+        paths: &[Taken(61, &[(1, A), (2, B), (3, T)])],
+        checked: Checked::BadPaths,
+        ..ROW
+    },
+    // a table for the others, after the same path through C
+    Case {
+        paths: &[Taken(60, &[(1, A), (2, C), (5, T)])],
+        ..ROW
+    },
+    // the first point: a label is missing, or isn't 1
+    Case {
+        table: &[(2, 2), (3, 1)],
+        checked: Checked::BadTable,
+        ..ROW
+    },
+    Case {
+        table: &[(2, 2), (3, 1), (5, 2)],
+        checked: Checked::BadTable,
+        ..ROW
+    },
+    // the second point: the label is more than one more
+    Case {
+        table: &[(2, 3), (3, 1), (5, 1)],
+        checked: Checked::BadTable,
+        ..ROW
+    },
+    // labels may be less, and of keys that aren't kept
+    Case {
+        table: &[(2, 1), (3, 1), (5, 1), (9, 7), (200, 255)],
+        ..ROW
+    },
+    // the second and the third point
+    DEEP,
+    Case {
+        table: &[(1, 2), (2, 1)],
+        ..DEEP
+    },
+    // nothing is left of R after the path
+    Case {
+        paths: &[Taken(120, &[(1, A), (2, T)])],
+        table: &[],
+        checked: Checked::Yes,
+        made: Some(&[]),
+        ..DEEP
+    },
+    // the same amount twice
+    Case {
+        paths: &[Taken(120, &[(1, A), (2, T)]), Taken(120, &[(1, A), (2, T)])],
+        checked: Checked::BadPaths,
+        made: Some(&[]),
+        ..DEEP
+    },
+    // no path is of less than is left
+    Case {
+        paths: &[Taken(60, &[(1, A), (2, T)])],
+        checked: Checked::BadPaths,
+        made: None,
+        ..DEEP
+    },
+    // two paths share what R has
+    Case {
+        rows: &[
+            Row(1, 2, A, 1, 70),
+            Row(1, 4, T, 0, 60),
+            Row(2, 4, T, 0, 120),
+        ],
+        paths: &[Taken(60, &[(1, T)]), Taken(60, &[(1, A), (2, T)])],
+        table: &[(1, 2), (2, 1)],
+        checked: Checked::Yes,
+        made: Some(&[(1, 2), (2, 1)]),
+        ..DEEP
+    },
+    // no root, no such edge, no steps, an issuer twice
+    Case {
+        paths: &[Taken(120, &[(2, T)])],
+        checked: Checked::BadPaths,
+        made: Some(&[]),
+        ..DEEP
+    },
+    Case {
+        paths: &[Taken(120, &[(1, B), (2, T)])],
+        checked: Checked::BadPaths,
+        made: Some(&[]),
+        ..DEEP
+    },
+    Case {
+        paths: &[Taken(120, &[])],
+        checked: Checked::BadPaths,
+        made: None,
+        ..DEEP
+    },
+    Case {
+        rows: &[Row(1, 1, T, 9, 120), Row(1, 4, T, 0, 120)],
+        paths: &[Taken(120, &[(1, T), (1, T)])],
+        checked: Checked::BadPaths,
+        made: Some(&[]),
+        ..DEEP
+    },
+    // a scope that holds, and one that doesn't
+    Case {
+        rows: &[Row(6, 2, A, 1, 120), Row(2, 4, T, 0, 120)],
+        roots: &[(6, 120)],
+        table: &[(2, 1)],
+        ..DEEP
+    },
+    Case {
+        rows: &[Row(6, 2, A, 1, 120), Row(2, 4, B, 0, 120)],
+        roots: &[(6, 120)],
+        uid: b"b",
+        table: &[(2, 1)],
+        ..SHALLOW
+    },
+    // an edge that isn't usable
+    Case {
+        rows: &[Row(7, 4, T, 0, 120)],
+        roots: &[(7, 120)],
+        table: &[],
+        made: Some(&[]),
+        ..SHALLOW
+    },
+    // no such target, no such user ID: every table does, and no path
+    Case {
+        target: 200,
+        table: &[(1, 255)],
+        made: Some(&[]),
+        ..SHALLOW
+    },
+    Case {
+        uid: b"",
+        table: &[(1, 9)],
+        made: Some(&[]),
+        ..SHALLOW
+    },
+    Case {
+        uid: b"",
+        paths: &[Taken(120, &[(1, A), (2, T)])],
+        checked: Checked::BadPaths,
+        made: Some(&[]),
+        ..SHALLOW
+    },
+];
+
+fn key(octet: u8) -> Fpr {
+    Fpr::V4([octet; 20])
+}
+
+fn edge(row: Row) -> Edge {
+    let facts = EdgeFacts {
+        issuer: key(row.0),
+        target: key(row.1),
+        uid: row.2 as u32,
+        sig: 0,
+        made: if row.0 == 7 { 0 } else { 2000 },
+        depth: row.3,
+        amount: row.4,
+        scoped: row.0 == 6,
+    };
+    Edge::make(facts, &mut Steps::new())
+}
+
+/// The network of these edges, which are in the order of their issuers.
+fn network(alloc: Global, rows: &[Row]) -> Result<PlainRoads, Memory> {
+    let mut roads = PlainRoads::new(alloc, T);
+    for target in 1..8u8 {
+        let mut edges = Vec::new(alloc);
+        for row in rows {
+            if row.1 == target {
+                edges.push(edge(*row))?;
+            }
+        }
+        let _put = roads.put(key(target), true, edges)?;
+    }
+    Ok(roads)
+}
+
+fn roots_of(alloc: Global, amounts: &[(u8, u8)]) -> Result<Roots, Memory> {
+    let mut roots = Roots::new(alloc);
+    for (octet, amount) in amounts {
+        roots.set(key(*octet), *amount)?;
+    }
+    Ok(roots)
+}
+
+fn table_of(alloc: Global, labels: &[(u8, u8)]) -> Result<Table, Memory> {
+    let mut table = Table::new(alloc);
+    for (octet, label) in labels {
+        if *label > 0 {
+            table.set(key(*octet), *label)?;
+        }
+    }
+    Ok(table)
+}
+
+fn claim(alloc: Global, taken: &Taken) -> Result<Claimed, Memory> {
+    let mut claim = Claimed::new(alloc, taken.0);
+    for (issuer, place) in taken.1 {
+        claim.push(key(*issuer), *place as u32)?;
+    }
+    Ok(claim)
+}
+
+/// A path to the target. Nothing depends on the depths and amounts of its edges.
+fn path(alloc: Global, taken: &Taken, target: u8) -> Result<Path, Memory> {
+    let mut steps = Vec::new(alloc);
+    let mut root = target;
+    let mut last: Option<Step> = None;
+    for (issuer, place) in taken.1 {
+        match last {
+            Some(step) => steps.push(Step {
+                target: key(*issuer),
+                ..step
+            })?,
+            None => root = *issuer,
+        }
+        last = Some(Step {
+            issuer: key(*issuer),
+            target: key(target),
+            uid: *place as u32,
+            depth: 0,
+            amount: 0,
+        });
+    }
+    if let Some(step) = last {
+        steps.push(step)?;
+    }
+    Ok(Path {
+        amount: taken.0,
+        root: key(root),
+        steps: StepList::new(steps),
+    })
+}
+
+fn checked(alloc: Global, case: &Case) -> Result<Checked, Memory> {
+    let roads = network(alloc, case.rows)?;
+    let roots = roots_of(alloc, case.roots)?;
+    let table = table_of(alloc, case.table)?;
+    let mut claims = Vec::new(alloc);
+    for taken in case.paths {
+        claims.push(claim(alloc, taken)?)?;
+    }
+    if claims.len() > 9 {
+        return Err(Memory);
+    }
+    check(
+        alloc,
+        &roads,
+        &roots,
+        &claims,
+        &table,
+        &key(case.target),
+        case.uid,
+    )
+}
+
+fn made(alloc: Global, case: &Case) -> Result<Option<Table>, Memory> {
+    let roads = network(alloc, case.rows)?;
+    let roots = roots_of(alloc, case.roots)?;
+    let mut paths = Vec::new(alloc);
+    for taken in case.paths {
+        paths.push(path(alloc, taken, case.target)?)?;
+    }
+    if paths.len() > 9 {
+        return Err(Memory);
+    }
+    absence(alloc, &roads, &roots, &paths, &key(case.target), case.uid)
+}
+
+fn expect_labels(rt: &impl Abort, table: &Table, labels: &[(u8, u8)]) {
+    let mut all = table.iter();
+    for (octet, label) in labels {
+        assert_eq!(rt; all.next(), Some((key(*octet), *label)));
+        assert_eq!(rt; table.get(&key(*octet)), Some(*label));
+    }
+    assert_eq!(rt; all.next(), None);
+    assert_eq!(rt; table.get(&key(77)), None);
+}
+
+#[test]
+fn tables_of_absence(rt: HostRuntime) -> Result<(), Fail> {
+    for case in &CASES {
+        assert_eq!(rt; checked(rt.alloc(), case)?, case.checked);
+        match (made(rt.alloc(), case)?, case.made) {
+            (Some(table), Some(labels)) => expect_labels(&rt, &table, labels),
+            (None, None) => {}
+            _ => assert!(rt; false),
+        }
+    }
+    Ok(())
+}
+
+#[test]
+fn what_is_claimed_of_a_path(rt: HostRuntime) -> Result<(), Fail> {
+    let taken = Taken(60, &[(1, A), (2, T)]);
+    let of = Claimed::of(rt.alloc(), &path(rt.alloc(), &taken, 4)?)?;
+    let made = claim(rt.alloc(), &taken)?;
+    assert_eq!(rt; of.amount(), 60);
+    assert_eq!(rt; made.amount(), 60);
+    assert_eq!(rt; of.steps(), made.steps());
+    Ok(())
+}

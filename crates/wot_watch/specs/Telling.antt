@@ -1,0 +1,10 @@
+-- What the answer to a watch's beginning tells.
+use Rattle.std.specs.Prelude.{◌≡◌, Bool, true, false, Result, Ok, Err}
+use Rattle.wot_watch.specs.declared.watches.PutFault.{PutFault}
+use Rattle.wot_watch.specs.declared.watches.PutFault.TheVariants as faults
+
+-- `Full` comes exactly where there would be one too many. The only other refusal is want of memory.
+abbrev pub TellsFull : {T : Type 0} → Result T PutFault → Bool → Type 0
+TellsFull (Ok done) full = full ≡ false
+TellsFull (Err faults.Full) full = full ≡ true
+TellsFull (Err faults.Memory) full = full ≡ false

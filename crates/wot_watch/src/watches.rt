@@ -1,0 +1,148 @@
+ghost use Rattle.std.specs.Prelude.{◌≡◌, [], is_some, OnOk, OnErr};
+ghost use Rattle.std.specs.Option.{option_copied};
+ghost use Rattle.std.specs.Iterator.{YieldsFirstBy, item_count};
+ghost use Rattle.wot_watch.specs.Watches.{watch_at, is_full, with_watch, with_told, without_watch};
+ghost use Rattle.wot_watch.specs.declared.watches.PutFault.TheVariants as faults;
+ghost use Rattle.wot_watch.specs.Telling.{TellsFull};
+
+use crate::watch::Watch;
+use std::alloc::Global;
+use std::collections::BTreeMap;
+use std::collections::btree_map::Iter;
+use std::marker::Model;
+use wot_types::{Memory, ViewName};
+
+/// How many watches there may be.
+const MOST: usize = 64;
+
+/// Why a watch doesn't begin.
+#[derive(Clone, Copy, Debug, PartialEq, Eq)]
+pub enum PutFault {
+    /// As many watches as may be are there, and none has this name.
+    Full,
+    /// No memory was found.
+    Memory,
+}
+
+impl From<Memory> for PutFault {
+    ghost from_gives = { λ _ e. e ≡ faults.Memory };
+
+    fn from(_: Memory) -> PutFault {
+        PutFault::Memory
+    }
+}
+
+/// The watches by name.
+#[derive(Drop)]
+pub struct Watches {
+    watches: BTreeMap<ViewName, Watch, Global>,
+}
+
+impl Model for Watches {
+    ghost use Rattle.wot_watch.specs.Watches.{Watches as TheWatches};
+
+    ghost Value = { TheWatches };
+
+    ghost view = { λ a. a.watches.entries };
+}
+
+impl Watches {
+    /// No watches.
+    pub fn new(alloc: Global) -> Watches
+        ensures none { result ≡ [] }
+    {
+        Watches {
+            watches: BTreeMap::new(alloc),
+        }
+    }
+
+    /// Begins a watch, or begins it anew. After a refusal all watches are as before.
+    pub fn put(&mut self, name: ViewName, watch: Watch) -> Result<(), PutFault>
+        ensures full { TellsFull result (is_full self.old name) }
+        ensures put { OnOk result (self.new ≡ with_watch self.old name watch) }
+        ensures kept { OnErr result (self.new ≡ self.old) }
+    {
+        if self.watches.len() >= MOST && !self.watches.contains_key(&name) {
+            return Err(PutFault::Full);
+        }
+        put(&mut self.watches, name, watch)?;
+        Ok(())
+    }
+
+    /// The watch of a name; `None` exactly where it isn't there.
+    pub fn get(&self, name: &ViewName) -> Option<&Watch>
+        ensures found { option_copied result ≡ watch_at self.now name.now }
+    {
+        self.watches.get(name)
+    }
+
+    /// This amount was told for the watch; whether it is there.
+    pub fn tell(&mut self, name: &ViewName, amount: u32) -> bool
+        ensures there { result ≡ is_some (watch_at self.old name.now) }
+        ensures told { self.new ≡ with_told self.old name.now amount }
+    {
+        match self.watches.get_mut(name) {
+            Some(watch) => {
+                watch.tell(amount);
+                true
+            }
+            None => false,
+        }
+    }
+
+    /// Takes a watch away; whether it was there.
+    pub fn take(&mut self, name: &ViewName) -> bool
+        ensures there { result ≡ is_some (watch_at self.old name.now) }
+        ensures taken { self.new ≡ without_watch self.old name.now }
+    {
+        self.watches.remove(name).is_some()
+    }
+
+    /// The watches with their names, in the order of the names.
+    pub fn iter(&self) -> WatchesIter<'_>
+        ensures rest { result ≡ self.now }
+    {
+        WatchesIter {
+            entries: self.watches.iter(),
+        }
+    }
+}
+
+/// Keeps a watch under a name, in place of an earlier one.
+fn put(
+    watches: &mut BTreeMap<ViewName, Watch, Global>,
+    name: ViewName,
+    watch: Watch,
+) -> Result<(), Memory>
+    ensures put { OnOk result (watches.new.entries ≡ with_watch watches.old.entries name watch) }
+    ensures kept { OnErr result (watches.new.entries ≡ watches.old.entries) }
+{
+    watches.insert(name, watch)?;
+    Ok(())
+}
+
+/// Goes over watches and their names, in the order of the names.
+#[derive(Drop)]
+pub struct WatchesIter<'a> {
+    entries: Iter<'a, ViewName, Watch>,
+}
+
+impl<'a> Model for WatchesIter<'a> {
+    ghost use Rattle.wot_watch.specs.Watches.{Watches as TheWatches};
+
+    ghost Value = { TheWatches };
+
+    ghost view = { λ iter. iter.entries };
+}
+
+impl<'a> Iterator for WatchesIter<'a> {
+    type Item = (&'a ViewName, &'a Watch);
+
+    ghost next_gives = { YieldsFirstBy (λ e. (e.0.now, e.1.now)) (λ rest. rest) };
+
+    ghost remaining = { item_count (λ rest. rest) };
+
+    fn next(&mut self) -> Option<(&'a ViewName, &'a Watch)> {
+        self.entries.next()
+    }
+}

@@ -1,0 +1,272 @@
+"""The plain machine: a state of certificates, verdicts and views, and what each command comes to."""
+
+from . import script
+from .answers import Question, answer, next_path_by_layers
+from .certificates import CertificateFault, assemble
+from .edges import Network
+from .packets import PacketFault, read_packets
+from .reasons import Certification, certifications, target_word
+from .signatures import key_id_hint, read_signature
+from .standing import BAD
+
+LIMITS = {
+    "certificate": 4194304,
+    "certificates": 65536,
+    "octets": 268435456,
+    "signatures": 1048576,
+    "verdicts": 2097152,
+    "views": 16,
+    "roots": 64,
+}
+
+
+class Refused(Exception):
+    """The line is refused, and changes nothing; `words` are those behind `refused`."""
+
+    def __init__(self, *words):
+        super().__init__(*words)
+        self.words = words
+
+
+class View:
+    """An open view: its time, and the amounts of its roots by fingerprint."""
+
+    def __init__(self, time):
+        self.time = time
+        self.roots = {}
+
+
+class Machine:
+    """The state. `next_path` is the search that questions use."""
+
+    def __init__(self, next_path=next_path_by_layers, limits=LIMITS):
+        self.certificates = {}
+        self.verdicts = {}
+        self.views = {}
+        self.next_path = next_path
+        self.limits = limits
+
+    def line(self, line):
+        """One step: the lines of the reply, as text; none for a silent line."""
+        if script.is_silent(line):
+            return []
+        try:
+            if len(line) > script.LONGEST_LINE:
+                raise Refused("long")
+            form, values = script.read_line(line, COMMANDS)
+            return COMMANDS[form](self, *values)
+        except script.Malformed:
+            return ["refused line"]
+        except Refused as refusal:
+            return [words("refused", *refusal.words)]
+
+    def transcript(self, octets):
+        """The replies to all lines of an input, as octets."""
+        replies = (self.line(line) for line in script.lines_of(octets))
+        return "".join(reply + "\n" for lines in replies for reply in lines).encode("ascii")
+
+    def view(self, name):
+        if name not in self.views:
+            raise Refused("view")
+        return self.views[name]
+
+    def check_limit(self, word, count):
+        if count > self.limits[word]:
+            raise Refused("full", word)
+
+
+def words(*parts):
+    return " ".join(part.hex() if isinstance(part, bytes) else str(part) for part in parts)
+
+
+def import_(machine, octets):
+    try:
+        certificates, skipped = assemble(read_packets(octets))
+    except PacketFault as fault:
+        raise Refused("packet", fault.why, fault.at) from None
+    except CertificateFault as fault:
+        raise Refused(*fault.words) from None
+    united, fresh = unite(machine.certificates, certificates)
+    if fresh:
+        check_keyring(machine, {**machine.certificates, **united})
+    machine.certificates.update(united)
+    return [words("ok taken", len(certificates), "skipped", skipped, "new", fresh)]
+
+
+def unite(kept, certificates):
+    """The kept certificates that these touch, united with them, and how many things are new."""
+    united = {}
+    fresh = 0
+    for certificate in certificates:
+        fingerprint = certificate.fingerprint
+        before = united.get(fingerprint) or kept.get(fingerprint)
+        if before is None:
+            after = certificate
+        elif before.body != certificate.body:
+            raise Refused("clash")
+        else:
+            after = before.united(certificate)
+        fresh += after.items() - (before.items() if before else 0)
+        united[fingerprint] = after
+    return united, fresh
+
+
+def check_keyring(machine, certificates):
+    sizes = [certificate.size for certificate in certificates.values()]
+    machine.check_limit("certificate", max(sizes))
+    machine.check_limit("certificates", len(sizes))
+    machine.check_limit("octets", sum(sizes))
+    machine.check_limit("signatures", sum(each.signatures() for each in certificates.values()))
+
+
+def drop(machine, fingerprint):
+    if machine.certificates.pop(fingerprint, None) is None:
+        raise Refused("absent")
+    return ["ok"]
+
+
+def set_verdict(machine, number, verdict):
+    machine.check_limit("verdicts", len(machine.verdicts.keys() | {number}))
+    machine.verdicts[number] = verdict
+    return ["ok"]
+
+
+def set_bad(machine, number):
+    return set_verdict(machine, number, BAD)
+
+
+def clear_verdict(machine, number):
+    if machine.verdicts.pop(number, None) is None:
+        raise Refused("absent")
+    return ["ok"]
+
+
+def view_time(machine, name, time):
+    if name in machine.views:
+        machine.views[name].time = time
+    else:
+        machine.check_limit("views", len(machine.views) + 1)
+        machine.views[name] = View(time)
+    return ["ok"]
+
+
+def view_root(machine, name, fingerprint, amount):
+    roots = machine.view(name).roots
+    if amount > 0:
+        machine.check_limit("roots", len(roots.keys() | {fingerprint}))
+        roots[fingerprint] = amount
+    elif roots.pop(fingerprint, None) is None:
+        raise Refused("absent")
+    return ["ok"]
+
+
+def view_close(machine, name):
+    machine.view(name)
+    del machine.views[name]
+    return ["ok"]
+
+
+def ask(machine, name, fingerprint, wanted, user_id):
+    view = machine.view(name)
+    network = Network(machine.certificates, machine.verdicts, view.time)
+    paths = answer(Question(network, view.roots, fingerprint, user_id), wanted, machine.next_path)
+    reply = [words("amount", sum(path.amount for path in paths), "paths", len(paths))]
+    for path in paths:
+        reply.append(words("path", path.amount, "steps", len(path.edges), "root", path.root))
+        reply.extend(step_line(edge) for edge in path.edges)
+    return reply
+
+
+def step_line(edge):
+    return words("step", edge.issuer, edge.target, edge.depth, edge.amount, script.print_user_id(edge.user_id))
+
+
+def list_(machine, name, wanted):
+    view = machine.view(name)
+    network = Network(machine.certificates, machine.verdicts, view.time)
+    lines = []
+    for fingerprint, certificate in sorted(machine.certificates.items()):
+        for user_id in sorted(certificate.user_ids):
+            paths = answer(Question(network, view.roots, fingerprint, user_id), wanted, machine.next_path)
+            amount = sum(path.amount for path in paths)
+            if amount >= wanted:
+                lines.append(words("bind", amount, fingerprint, script.print_user_id(user_id)))
+    return [words("list", len(lines)), *lines]
+
+
+def explain(machine, name, fingerprint, user_id):
+    view = machine.view(name)
+    certificate = machine.certificates.get(fingerprint)
+    if certificate is None or user_id not in certificate.user_ids:
+        raise Refused("absent")
+    network = Network(machine.certificates, machine.verdicts, view.time)
+    lines = [
+        reason_line(Certification(network, certificate, user_id, body))
+        for body in certifications(certificate, user_id)
+    ]
+    return [words("explain", target_word(network, certificate, user_id), len(lines)), *lines]
+
+
+def reason_line(certification):
+    word, edge = certification.reason()
+    shown = (edge.issuer, edge.depth, edge.amount) if edge else ()
+    return words("cert", certification.number, word, *shown)
+
+
+def pending(machine):
+    lines = []
+    for fingerprint, certificate in sorted(machine.certificates.items()):
+        for kind, component, signatures in certificate.places():
+            for body in sorted(signatures):
+                number = certificate.number(kind, component, body)
+                facts = read_signature(body)
+                if facts is not None and facts.sound and number not in machine.verdicts:
+                    lines.append(words("sig", number, fingerprint, facts.issuer or key_id_hint(body) or "-"))
+    return [words("pending", len(lines)), *lines]
+
+
+def keys(machine):
+    lines = [
+        words("key", fingerprint, len(certificate.user_ids), certificate.signatures())
+        for fingerprint, certificate in sorted(machine.certificates.items())
+    ]
+    return [words("keys", len(lines)), *lines]
+
+
+def export(machine, fingerprint):
+    if fingerprint not in machine.certificates:
+        raise Refused("absent")
+    return [words("export", machine.certificates[fingerprint].export())]
+
+
+def dump(machine):
+    lines = [words("import", certificate.export()) for _, certificate in sorted(machine.certificates.items())]
+    for number, verdict in sorted(machine.verdicts.items()):
+        lines.append(words("verdict", number, "bad") if verdict == BAD else words("verdict", number, "good", verdict))
+    for name, view in sorted(machine.views.items()):
+        lines.append(words("view", name.decode("ascii"), "time", view.time))
+        lines.extend(
+            words("view", name.decode("ascii"), "root", fingerprint, amount)
+            for fingerprint, amount in sorted(view.roots.items())
+        )
+    return [words("dump", len(lines)), *lines]
+
+
+# A command is added here: the form of its line, and what it comes to.
+COMMANDS = {
+    "import HEX": import_,
+    "drop FPR": drop,
+    "verdict NUM good FPR": set_verdict,
+    "verdict NUM bad": set_bad,
+    "verdict NUM none": clear_verdict,
+    "view V time T": view_time,
+    "view V root FPR A": view_root,
+    "view V close": view_close,
+    "ask V FPR N UID": ask,
+    "list V N": list_,
+    "explain V FPR UID": explain,
+    "pending": pending,
+    "keys": keys,
+    "export FPR": export,
+    "dump": dump,
+}

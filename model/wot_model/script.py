@@ -1,0 +1,124 @@
+"""The script: lines, the spellings of fields, and the text of replies (docs/PROTOCOL.md)."""
+
+import re
+
+LONGEST_LINE = 16777216
+GREATEST = 4294967295
+
+ESCAPE = re.compile(rb"\\(\\|x[0-9a-fA-F]{2}|)")
+DECIMAL = re.compile(rb"0|[1-9][0-9]*")
+DIGITS = re.compile(rb"[0-9a-fA-F]*")
+VIEW_NAME = re.compile(rb"[a-z0-9_-]{1,32}")
+
+
+class Malformed(Exception):
+    """The line spells no command."""
+
+
+def lines_of(octets):
+    """The lines of an input; the last one may lack its line feed."""
+    lines = octets.split(b"\n")
+    return lines if lines[-1] else lines[:-1]
+
+
+def is_silent(line):
+    """Whether the line has no reply."""
+    return len(line) <= LONGEST_LINE and (not line or line.startswith(b"#"))
+
+
+def require(holds):
+    if not holds:
+        raise Malformed
+
+
+def read_hex(text):
+    require(DIGITS.fullmatch(text) and len(text) % 2 == 0)
+    return bytes.fromhex(text.decode("ascii"))
+
+
+def read_fingerprint(text):
+    require(len(text) == 40)
+    return read_hex(text)
+
+
+def read_number(text):
+    require(len(text) == 64)
+    return read_hex(text)
+
+
+def read_view_name(text):
+    require(VIEW_NAME.fullmatch(text))
+    return text
+
+
+def read_decimal(text, least, most):
+    require(DECIMAL.fullmatch(text) and len(text) <= 10 and least <= int(text) <= most)
+    return int(text)
+
+
+def read_time(text):
+    return read_decimal(text, 0, GREATEST)
+
+
+def read_amount(text):
+    return read_decimal(text, 0, 255)
+
+
+def read_wanted(text):
+    return read_decimal(text, 1, GREATEST)
+
+
+def read_user_id(text):
+    def octet(found):
+        escape = found.group(1)
+        require(escape)
+        return b"\\" if escape == b"\\" else bytes([int(escape[1:], 16)])
+
+    return ESCAPE.sub(octet, text)
+
+
+def print_user_id(user_id):
+    return "".join(print_octet(octet) for octet in user_id)
+
+
+def print_octet(octet):
+    if octet == 0x5C:
+        return "\\\\"
+    return chr(octet) if 0x20 <= octet <= 0x7E else f"\\x{octet:02x}"
+
+
+# The forms of lines: words that stand as they are, and the fields between them. A user ID is the rest of its line.
+FIELDS = {
+    "HEX": read_hex,
+    "FPR": read_fingerprint,
+    "NUM": read_number,
+    "V": read_view_name,
+    "T": read_time,
+    "A": read_amount,
+    "N": read_wanted,
+    "UID": read_user_id,
+}
+
+
+def read_form(form, line):
+    """The values of the fields of a line of this form; raises Malformed."""
+    words = form.split(" ")
+    parts = line.split(b" ", len(words) - 1) if words[-1] == "UID" else line.split(b" ")
+    require(len(parts) == len(words))
+    values = []
+    for word, part in zip(words, parts):
+        if word in FIELDS:
+            values.append(FIELDS[word](part))
+        else:
+            require(part == word.encode())
+    return values
+
+
+def read_line(line, forms):
+    """The form that a line has, and the values of its fields; raises Malformed where it has none of these."""
+    for form in forms:
+        try:
+            return form, read_form(form, line)
+        except Malformed:
+            continue
+    raise Malformed

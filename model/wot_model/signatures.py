@@ -1,0 +1,164 @@
+"""What a version 4 signature says (RFC 9580, section 5.2.3), and the policy on hash algorithms."""
+
+from dataclasses import dataclass
+from functools import lru_cache
+
+CREATED, EXPIRATION, TRUST, PATTERN, REVOCABLE, KEY_EXPIRATION = 2, 3, 5, 6, 7, 9
+ISSUER_KEY_ID, PRIMARY, REASON, ISSUER = 16, 25, 29, 33
+OTHER_KNOWN = {4, 11, 12, 21, 22, 23, 24, 26, 27, 28, 30, 31, 32, 35, 39}
+
+# How many octets follow the type of a subpacket that is known.
+SIZES = {CREATED: 4, EXPIRATION: 4, TRUST: 2, REVOCABLE: 1, KEY_EXPIRATION: 4, ISSUER_KEY_ID: 8, PRIMARY: 1, ISSUER: 21}
+
+CERTIFICATIONS = range(0x10, 0x14)
+DIRECT_KEY, KEY_REVOCATION, CERTIFICATION_REVOCATION = 0x1F, 0x20, 0x30
+SOFT_REASONS = {1, 3, 32}
+
+ALWAYS_ADMITTED = {8, 9, 10, 11, 12, 14}
+ADMITTED_UNTIL_2013 = {2, 3}
+FEBRUARY_2013 = 1359676800
+
+
+class AreaFault(Exception):
+    """The octets are no list of subpackets."""
+
+
+@dataclass(frozen=True)
+class Facts:
+    """What the hashed area says. `made` is 0 where no creation time is given; then the signature is unsound."""
+
+    kind: int
+    hash: int
+    sound: bool
+    made: int
+    lasts: int
+    key_lasts: int
+    depth: int
+    amount: int
+    patterns: tuple
+    revocable: bool
+    primary: bool
+    reason: int | None
+    issuer: bytes | None
+
+    def is_live(self, time):
+        return self.made <= time and (self.lasts == 0 or time < self.made + self.lasts)
+
+    def is_certification(self):
+        return self.kind in CERTIFICATIONS
+
+    def is_hard(self):
+        """Of a key revocation: whether it holds for all times."""
+        return self.reason not in SOFT_REASONS
+
+    def is_admitted(self):
+        """Whether the standard policy admits the hash algorithm at the time of signing."""
+        if self.hash in ADMITTED_UNTIL_2013:
+            return self.made < FEBRUARY_2013
+        return self.hash in ALWAYS_ADMITTED
+
+
+@lru_cache(maxsize=None)
+def read_signature(body):
+    """The facts of a signature body; None where it isn't readable."""
+    if len(body) < 6 or body[0] != 4:
+        return None
+    areas = cut_areas(body)
+    if areas is None:
+        return None
+    try:
+        subpackets = read_area(areas[0])
+    except AreaFault:
+        return None
+    return facts_of(body[1], body[3], subpackets)
+
+
+def cut_areas(body):
+    """The hashed and the unhashed area; None where a part of the signature is missing."""
+    areas = []
+    at = 4
+    for _ in range(2):
+        length = body[at : at + 2]
+        begin = at + 2
+        at = begin + int.from_bytes(length, "big")
+        if len(length) < 2 or at > len(body):
+            return None
+        areas.append(body[begin:at])
+    return areas if at + 2 <= len(body) else None
+
+
+def read_area(octets):
+    """The subpackets of an area: whether each is critical, its type, and the octets after its type."""
+    subpackets = []
+    at = 0
+    while at < len(octets):
+        begin, length = read_subpacket_length(octets, at)
+        at = begin + length
+        if length == 0 or at > len(octets):
+            raise AreaFault
+        kind = octets[begin]
+        subpackets.append((bool(kind & 0x80), kind & 0x7F, octets[begin + 1 : at]))
+    return subpackets
+
+
+def read_subpacket_length(octets, at):
+    first = octets[at]
+    count = 1 if first < 192 else 2 if first < 255 else 5
+    if at + count > len(octets):
+        raise AreaFault
+    if count == 1:
+        return at + 1, first
+    if count == 2:
+        return at + 2, (first - 192) * 256 + octets[at + 1] + 192
+    return at + 5, int.from_bytes(octets[at + 1 : at + 5], "big")
+
+
+def is_known(kind, content):
+    if kind in OTHER_KNOWN or kind == PATTERN:
+        return True
+    if kind == REASON:
+        return len(content) >= 1
+    if kind == ISSUER and content[:1] != b"\x04":
+        return False
+    return SIZES.get(kind) == len(content)
+
+
+def facts_of(kind, hash_number, subpackets):
+    known = [(name, content) for _, name, content in subpackets if is_known(name, content)]
+    faulty = any(critical and not is_known(name, content) for critical, name, content in subpackets)
+    last = dict(known)
+
+    def number(name):
+        return int.from_bytes(last.get(name, b""), "big")
+
+    trust = last.get(TRUST, bytes([0, 120]))
+    return Facts(
+        kind=kind,
+        hash=hash_number,
+        sound=not faulty and CREATED in last,
+        made=number(CREATED),
+        lasts=number(EXPIRATION),
+        key_lasts=number(KEY_EXPIRATION),
+        depth=trust[0],
+        amount=trust[1],
+        patterns=tuple(content.removesuffix(b"\0") for name, content in known if name == PATTERN),
+        revocable=last.get(REVOCABLE) != b"\0",
+        primary=number(PRIMARY) != 0,
+        reason=last[REASON][0] if REASON in last else None,
+        issuer=last[ISSUER][1:] if ISSUER in last else None,
+    )
+
+
+def key_id_hint(body):
+    """The last issuer key ID of the hashed area, else of the unhashed area where that is a list of subpackets; None
+    where there is none, and for a body that isn't readable."""
+    if read_signature(body) is None:
+        return None
+    for area in cut_areas(body):
+        try:
+            known = {kind: content for _, kind, content in read_area(area) if is_known(kind, content)}
+        except AreaFault:
+            known = {}
+        if ISSUER_KEY_ID in known:
+            return known[ISSUER_KEY_ID]
+    return None

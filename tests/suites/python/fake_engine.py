@@ -1,0 +1,66 @@
+"""A program that answers with set replies, to show how replies are framed, also of commands that are still to come."""
+
+import sys
+
+A, B = "aa" * 20, "bb" * 20
+N = "11" * 32
+REPLIES = {
+    "keys": ["keys 3", f"key {A} 1 2", f"key {B} 0 0", f"key {A} 18446744073709551615 3"],
+    "pending": ["pending 3", f"sig {N} {A} {B}", f"sig {N} {A} 0123456789abcdef", f"sig {N} {B} -"],
+    "list v 120": ["list 2", f"bind 120 {A} Alice", rf"bind 250 {B} B\\ob \x0a"],
+    "list v 121": ["list 0"],
+    f"explain v {A} Alice": ["explain ok 3", f"cert {N} edge {B} 255 120", f"cert {N} issuer-hard", f"cert {N} older"],
+    f"explain v {A} ": ["explain uid 0"],
+    f"explain w {A} ": ["refused view"],
+    f"explain v {B} ": ["refused absent"],
+    f"explain v {A} no target's word": ["explain edge 0"],
+    f"explain v {A} no reason's word": ["explain ok 1", f"cert {N} ok"],
+    f"explain v {A} an edge alone": ["explain ok 1", f"cert {N} edge"],
+    "list w 1": ["refused view"],
+    f"ask v {A} 120 Alice": ["amount 120 paths 2", f"path 40 steps 1 root {B}", f"step {B} {A} 0 40 Alice",
+                             f"path 80 steps 2 root {B}", f"step {B} {B} 1 80 ", f"step {B} {A} 0 120 Alice and more"],
+    f"ask v {A} 120 ": ["amount 0 paths 0"],
+    "dump": ["dump 2", "import ", f"verdict {N} bad"],
+    "import ": ["refused empty"],
+    "import 01": ["refused packet 1 0"],
+    "import 02": ["refused kind 9 7"],
+    "import 03": ["refused order 5"],
+    "import 04": ["refused full certificates"],
+    "import 05": ["ok taken 1 skipped 2 new 3"],
+    "import 06": ["refused clash"],
+    "import 07": ["refused secret"],
+    "import 08": ["refused compressed"],
+    f"load {A}": ["refused misfiled"],
+    "load trust-root": ["fault shelf"],
+    f"drop {A}": ["refused absent"],
+    f"drop {B}": ["ok"],
+    "view v close": ["refused view"],
+    "view w close": ["what is this"],
+    "view x close": ["keys"],
+}
+TARGET_WORDS = "ok standing young ended hard soft uid".split()
+REASON_WORDS = ("unsound unjudged bad foreign policy early expired revoked older issuer-absent issuer-standing "
+                "issuer-young issuer-ended issuer-hard issuer-soft").split()
+REPLIES |= {f"explain v {A} {word}": [f"explain {word} 0"] for word in TARGET_WORDS}
+REPLIES |= {f"explain v {A} {word}": ["explain ok 1", f"cert {N} {word}"] for word in REASON_WORDS}
+REPLIES[f"explain v {A} edge"] = ["explain ok 1", f"cert {N} edge {B} 0 60"]
+
+
+def main():
+    if sys.argv[1:] != ["run"]:
+        return 2
+    for line in sys.stdin:
+        line = line.removesuffix("\n")
+        if line == "view end close":
+            return 5
+        if line.startswith("export "):
+            print(line)
+        elif line.startswith("verdict "):
+            print("ok")
+        elif line and not line.startswith("#"):
+            print("\n".join(REPLIES.get(line, ["refused line"])))
+        sys.stdout.flush()
+    return 0
+
+
+sys.exit(main())

@@ -1,0 +1,50 @@
+"""What the tests use from outside: the engine's program, gpg, Chromium, and commands run to their end."""
+
+import atexit
+import functools
+import os
+import shutil
+import subprocess
+import sys
+import tempfile
+import unittest
+from pathlib import Path
+
+HERE = Path(__file__).resolve().parent
+ROOT = Path(os.environ.get("WOT_ROOT") or HERE.parents[2])
+CLIENT = ROOT / "clients" / "python"
+COMMAND = CLIENT / "bin" / "tukyamid"
+PROGRAM = os.environ.get("WOT_PROGRAM") or str(ROOT / "crates" / "wot_cli" / "out" / "wot_cli")
+TRUSTING = [sys.executable, str(HERE / "trusting_verdicts.py")]
+FAKE_ENGINE = [sys.executable, str(HERE / "fake_engine.py")]
+
+if os.access(PROGRAM, os.X_OK):
+    os.environ["TUKYAMID_ENGINE"] = PROGRAM
+
+needs_engine = unittest.skipUnless(os.access(PROGRAM, os.X_OK), f"the engine isn't built: {PROGRAM}")
+needs_gpg = unittest.skipUnless(shutil.which("gpg"), "gpg isn't installed")
+
+
+def run(words, **options):
+    return subprocess.run([str(word) for word in words], capture_output=True, timeout=600, check=False, **options)
+
+
+os.environ["PYTHONDONTWRITEBYTECODE"] = "1"
+
+
+@functools.cache
+def folder():
+    """A folder for all tests of this run."""
+    path = tempfile.mkdtemp(prefix="tukyamid-tests-")
+    atexit.register(shutil.rmtree, path, ignore_errors=True)
+    os.environ["XDG_CACHE_HOME"] = f"{path}/cache-home"
+    return Path(path)
+
+
+@functools.cache
+def installed(program, package):
+    """The path of a program, installed by apt-get where it may; None where it can't be had."""
+    if not shutil.which(program) and shutil.which("apt-get") and os.geteuid() == 0 and not os.environ.get("WOT_NO_APT"):
+        words = ["apt-get", "-o", "DPkg::Lock::Timeout=300", "install", "-y", "--no-install-recommends", package]
+        subprocess.run(words, capture_output=True, stdin=subprocess.DEVNULL, check=False)
+    return shutil.which(program)

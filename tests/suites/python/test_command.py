@@ -1,0 +1,288 @@
+"""The command, over a keyring that gpg made. What is expected is known from who certified whom."""
+
+import json
+import os
+import stat
+import time
+import unittest
+
+from friends import PEOPLE, friends
+from outside import COMMAND, ROOT, TRUSTING, folder, installed, needs_engine, needs_gpg, run
+from tukyamid import Engine
+from tukyamid.reasons import TargetWord
+from tukyamid.refusals import RefusedAbsent, RefusedView
+
+DECEMBER, APRIL, FEBRUARY = "2025-12-01", "2025-04-15T00:00:00Z", "1739577600"  # The last is 15 February 2025.
+
+
+def verifier(name, text):
+    path = folder() / name
+    path.write_text(f"#!/bin/sh\n{text}\n")
+    path.chmod(0o755)
+    return path
+
+
+@needs_engine
+@needs_gpg
+class Loop(unittest.TestCase):
+    def test_what_is_pending_is_judged_and_then_listed_and_explained(self):
+        fpr = friends().fpr
+        with Engine() as engine:
+            engine.import_certificates(friends().keyring.read_bytes())
+            engine.open_view("v", 1764547200)
+            engine.set_root("v", fpr["Alice"])
+            pending = list(engine.pending())
+            self.assertEqual({one.fpr for one in pending}, set(fpr.values()))
+            self.assertEqual(list(engine.list("v", 1)), [])
+            for one in pending:
+                engine.judge_good(one.number, one.hint)
+            self.assertEqual(list(engine.pending()), [])
+            listed = {one.user_id.decode(): one.amount for one in engine.list("v", 60)}
+            amounts = {"Alice": 120, "Bob": 120, "Carol": 60, "Dave": 60}
+            self.assertEqual(listed, {PEOPLE[name]: amount for name, amount in amounts.items()})
+            erin = engine.explain("v", fpr["Erin"], PEOPLE["Erin"])
+            self.assertEqual(erin.word, TargetWord.HARD)
+            self.assertEqual(sorted((one.word, one.issuer) for one in erin.reasons if one.issuer),
+                             sorted([("edge", fpr["Alice"]), ("edge", fpr["Bob"])]))
+            self.assertRaises(RefusedAbsent, engine.explain, "v", fpr["Erin"], PEOPLE["Bob"])
+            self.assertRaises(RefusedView, engine.list, "w", 60)
+
+
+@needs_engine
+@needs_gpg
+class Questions(unittest.TestCase):
+    @classmethod
+    def setUpClass(cls):
+        cls.friends = friends()
+        cls.fpr = cls.friends.fpr
+        cls.verifier = verifier("trusting", f'exec "{TRUSTING[0]}" "{TRUSTING[1]}" "$@"')
+
+    def ask(self, *words, root="Alice", time=DECEMBER, **options):
+        roots = [f"--root={self.fpr[root]}"] if root else []
+        return run([COMMAND, "--keyring", self.friends.keyring, "--cache", folder() / "cache",
+                    "--verifier", self.verifier, *roots, "--time", time, *words], **options)
+
+    def answer(self, *words, **options):
+        """The status and the JSON of an answer."""
+        done = self.ask("--format", "json", *words, **options)
+        self.assertEqual(done.stderr, b"")
+        return done.returncode, json.loads(done.stdout)
+
+    def chains(self, binding):
+        """Each path as its amount and the names along it."""
+        names = {fpr: name for name, fpr in self.fpr.items()}
+        return [(path["amount"], [names[path["root"]], *(names[step["target"]] for step in path["steps"])])
+                for path in binding["paths"]]
+
+    def test_authenticate(self):
+        table = [
+            ("Alice", DECEMBER, 0, [(120, ["Alice", "Alice"])]),
+            ("Bob", DECEMBER, 0, [(120, ["Alice", "Bob"])]),
+            ("Carol", DECEMBER, 0, [(60, ["Alice", "Carol"]), (60, ["Alice", "Bob", "Carol"])]),
+            ("Carol", FEBRUARY, 1, [(60, ["Alice", "Carol"])]),
+            ("Dave", DECEMBER, 1, [(60, ["Alice", "Carol", "Dave"])]),
+            ("Erin", DECEMBER, 1, []),
+            ("Frank", DECEMBER, 1, []),
+            ("Frank", APRIL, 0, [(120, ["Alice", "Bob", "Frank"])]),
+        ]
+        for name, time, status, chains in table:
+            with self.subTest(name, time=time):
+                got, report = self.answer("authenticate", self.fpr[name], PEOPLE[name], time=time)
+                (binding,) = report["bindings"]
+                self.assertEqual((got, self.chains(binding)), (status, chains))
+                self.assertEqual(binding["amount"], sum(amount for amount, _ in chains))
+                self.assertEqual((report["reached"], binding["reached"]), (status == 0,) * 2)
+
+    def test_the_facts_of_each_step(self):
+        _, report = self.answer("authenticate", self.fpr["Carol"], PEOPLE["Carol"])
+        short, long = report["bindings"][0]["paths"]
+        facts = [(step["amount"], step["depth"], step["made"], step["ends"], step["scopes"], step["user_id"])
+                 for path in (short, long) for step in path["steps"]]
+        self.assertEqual(facts, [
+            (60, 1, 1738454400, None, [], PEOPLE["Carol"]),
+            (120, 1, 1738368000, None, [r"<[^>]+[@.]example\.org>$"], PEOPLE["Bob"]),
+            (120, 0, 1740787200, None, [], PEOPLE["Carol"])])
+        self.assertTrue(all(len(step["signature"]) == 64 for path in (short, long) for step in path["steps"]))
+
+    def test_why_others_do_not_count(self):
+        table = [
+            ("Frank", DECEMBER, "ok", {("Bob", "expired"), ("Erin", "issuer-hard"), ("Frank", "edge")}),
+            ("Frank", "2025-01-10", "ok", {("Bob", "early"), ("Erin", "early"), ("Frank", "edge")}),
+            ("Erin", DECEMBER, "hard", {("Alice", "edge"), ("Bob", "edge"), ("Erin", "issuer-hard")}),
+            ("Dave", DECEMBER, "ok", {("Bob", "edge"), ("Dave", "edge")}),
+        ]
+        names = {fpr: name for name, fpr in self.fpr.items()}
+        for name, time, word, others in table:
+            with self.subTest(name, time=time):
+                (binding,) = self.answer("authenticate", self.fpr[name], PEOPLE[name], time=time)[1]["bindings"]
+                got = {(names[other["issuer"]], other["word"]) for other in binding["others"]}
+                self.assertEqual((binding["target"], got), (word, others))
+
+    def test_wanted_amounts_and_roots(self):
+        dave = self.fpr["Dave"], PEOPLE["Dave"]
+        for amount, status in ("partial", 0), ("60", 0), ("61", 1), ("full", 1), ("double", 1):
+            with self.subTest(amount):
+                self.assertEqual(self.ask("--amount", amount, "authenticate", *dave).returncode, status)
+        # Two roots: the fewest steps first, from Carol with 90 of her 120; then through her from Alice, with 30 left of
+        # what she said of Dave.
+        got, report = self.answer("--root", self.fpr["Carol"] + ":90", "authenticate", *dave)
+        self.assertEqual((got, self.chains(report["bindings"][0])),
+                         (0, [(90, ["Carol", "Dave"]), (30, ["Alice", "Carol", "Dave"])]))
+
+    def test_lookup_and_identify(self):
+        for words, status, found in [
+            (["lookup", PEOPLE["Carol"]], 0, ["Carol"]), (["lookup", "--email", "CAROL@Example.ORG"], 0, ["Carol"]),
+            (["lookup", "carol@example.org"], 1, []), (["lookup", "--email", "erin@example.org"], 1, ["Erin"]),
+            (["identify", self.fpr["Bob"]], 0, ["Bob"]), (["identify", self.fpr["Dave"].upper()], 1, ["Dave"]),
+            (["identify", "00" * 20], 1, []),
+        ]:
+            with self.subTest(words):
+                got, report = self.answer(*words)
+                uids = [one["user_id"] for one in report["bindings"]]
+                self.assertEqual((got, uids), (status, [PEOPLE[name] for name in found]))
+
+    def test_list(self):
+        for words, status, found in [
+            (["list"], 0, {"Alice": 120, "Bob": 120, "Carol": 120}),
+            (["--amount", "partial", "list"], 0, {"Alice": 120, "Bob": 120, "Carol": 60, "Dave": 60}),
+            (["list", "EXAMPLE.org"], 0, {"Bob": 120, "Carol": 120}), (["list", "dave"], 1, {}),
+        ]:
+            with self.subTest(words):
+                got, report = self.answer(*words)
+                listed = {one["user_id"]: one["amount"] for one in report["bindings"]}
+                self.assertEqual((got, listed), (status, {PEOPLE[name]: amount for name, amount in found.items()}))
+
+    def test_path(self):
+        for names, status, amount in [
+            (["Alice", "Bob", "Carol"], 0, 120), (["Alice", "Carol"], 1, 60), (["Alice", "Carol", "Dave"], 1, 60),
+            (["Alice", "Bob", "Dave"], 1, 0), (["Bob", "Carol"], 0, 120), (["Bob", "Carol", "Dave"], 1, 0),
+            (["Alice", "Dave"], 1, 0), (["Carol"], 0, 120),
+        ]:
+            with self.subTest(names):
+                got, report = self.answer("path", *(self.fpr[name] for name in names), PEOPLE[names[-1]], root=names[0])
+                self.assertEqual((got, report["bindings"][0]["amount"]), (status, amount))
+                self.assertEqual(len(report["notes"]), len(names) - 1)
+
+    def test_explain(self):
+        names = {fpr: name for name, fpr in self.fpr.items()}
+        for name, status, target, said in [
+            ("Carol", 0, "ok", {("Alice", "edge", 60, 1), ("Bob", "edge", 120, 0), ("Carol", "edge", 120, 0)}),
+            ("Frank", 1, "ok", {("Bob", "expired", 120, 0), ("Erin", "issuer-hard", 120, 0),
+                                ("Frank", "edge", 120, 0)}),
+            ("Erin", 1, "hard", {("Alice", "edge", 120, 1), ("Bob", "edge", 120, 0),
+                                 ("Erin", "issuer-hard", 120, 0)}),
+        ]:
+            with self.subTest(name):
+                got, report = self.answer("explain", self.fpr[name], PEOPLE[name])
+                (binding,) = report["bindings"]
+                others = [(names[one["issuer"]], one["word"], one["amount"], one["depth"]) for one in binding["others"]]
+                self.assertEqual((got, binding["target"], set(others)), (status, target, said))
+                self.assertEqual((len(others), report["notes"], binding["reasons_by"]), (3, [], "engine"))
+        for target, *words in ("no-uid", self.fpr["Bob"], PEOPLE["Carol"]), ("absent", "00" * 20, PEOPLE["Carol"]):
+            got, report = self.answer("explain", *words)
+            self.assertEqual((got, report["bindings"][0]["target"], report["bindings"][0]["others"]), (1, target, []))
+
+    def test_the_tree(self):
+        shown = self.ask("authenticate", self.fpr["Dave"], PEOPLE["Dave"]).stdout.decode()
+        lines = [line.strip(" │├└─") for line in shown.splitlines()]
+        for line in ("[✗] Dave <dave@example.net>", "amount 60 of 120 (50 %): not reached",
+                     "path 1: amount 60, 2 steps",
+                     f"{self.fpr['Alice']} Alice <alice@example.net> (root, amount 120)",
+                     "certified with amount 60, depth 1, made 2025-02-02",
+                     f"by {self.fpr['Bob']} Bob <bob@example.org>, made 2025-03-02"):
+            self.assertIn(line, lines)
+
+    def test_colons(self):
+        done = self.ask("--format", "colons", "authenticate", self.fpr["Frank"], PEOPLE["Frank"], time=APRIL)
+        lines = [line.split(":") for line in done.stdout.decode().splitlines()]
+        alice, bob, frank = (self.fpr[name] for name in ("Alice", "Bob", "Frank"))
+        self.assertEqual([line for line in lines if line[0] in ("tkd", "rot", "bnd", "pth")], [
+            ["tkd", "1", "authenticate", "120", "1744675200", "yes"], ["rot", alice, "120"],
+            ["bnd", frank, PEOPLE["Frank"], "120", "yes", "ok"], ["pth", "1", "120", "2", alice]])
+        steps = [line for line in lines if line[0] == "stp"]
+        self.assertEqual([line[1:8] for line in steps], [["1", "1", alice, bob, "1", "120", "1738368000"],
+                                                         ["1", "2", bob, frank, "0", "120", "1743552000"]])
+        self.assertEqual([line[8] for line in steps], ["", str(1743552000 + 30 * 86400)])
+
+    def test_dot(self):
+        shown = self.ask("--format", "dot", "authenticate", self.fpr["Carol"], PEOPLE["Carol"]).stdout.decode()
+        self.assertEqual(sum(" -> " in line for line in shown.splitlines()), 3)
+        self.assertIn(f'"{self.fpr["Alice"]}" -> "{self.fpr["Bob"]}"', shown)
+
+    def test_wrong_words(self):
+        carol = self.fpr["Carol"]
+        for words in (["authenticate", carol], ["authenticate", "carol", "Carol"], ["nonsense"], [], ["identify"],
+                      ["list", "a", "b"], ["path", carol], ["--time", "yesterday", "list"], ["--amount", "0", "list"],
+                      ["--root", carol + ":0", "list"], ["--root", carol + ":256", "list"],
+                      ["--format", "xml", "list"]):
+            with self.subTest(words):
+                done = self.ask(*words)
+                self.assertEqual((done.returncode, done.stdout), (2, b""))
+        self.assertEqual(self.ask("list", root=None).returncode, 2)
+        self.assertEqual(run([COMMAND, "--root", carol, "list"]).returncode, 2)
+
+    def test_no_answer(self):
+        for words in (["--keyring", "/nowhere"], ["--engine", "/nowhere"], ["--anew", "--verifier", "/nowhere"],
+                      ["--anew", "--verifier", verifier("failing", "exit 3")], ["--engine", "/bin/false"]):
+            with self.subTest(words):
+                done = self.ask(*words, "list")
+                self.assertEqual((done.returncode, done.stdout), (3, b""))
+                self.assertTrue(done.stderr.startswith(b"tukyamid: "), done.stderr)
+
+    def test_what_was_verified_is_kept(self):
+        counted = verifier("counted", f'echo once >> "{folder()}/counted.log"; exec "{self.verifier}" "$@"')
+        cache = folder() / "own-cache"
+        words = ["--cache", cache, "--verifier", counted]
+        log = folder() / "counted.log"
+
+        def asked(*more):
+            self.assertEqual(self.ask(*words, *more, "authenticate", self.fpr["Bob"], PEOPLE["Bob"]).returncode, 0)
+            return log.read_text().count("once")
+
+        self.assertEqual([asked(), asked(), asked("--anew"), asked(), asked("--no-cache")], [1, 1, 2, 2, 3])
+        (entry,) = cache.iterdir()
+        self.assertEqual(stat.S_IMODE(cache.stat().st_mode), 0o700)
+        self.assertEqual(sorted(file.name for file in entry.iterdir()), ["about.json", "bindings", "dump"])
+        os.truncate(entry / "dump", 100)
+        self.assertEqual([asked(), asked()], [4, 4])
+        dump = (entry / "dump").read_bytes()
+        (entry / "dump").write_bytes(dump.replace(b"import c6", b"import 06", 1))
+        self.assertEqual(self.ask(*words, "identify", self.fpr["Bob"]).returncode, 3)
+        self.assertEqual([asked(), asked()], [5, 5])
+
+    def test_standard_input_and_a_directory(self):
+        carol = ["authenticate", self.fpr["Carol"], PEOPLE["Carol"]]
+        options = ["--cache", folder() / "cache", "--verifier", self.verifier, "--time", DECEMBER]
+        alice = ["--root", self.fpr["Alice"]]
+        done = run([COMMAND, "--keyring", "-", *alice, *options, *carol], input=self.friends.keyring.read_bytes())
+        self.assertEqual(done.returncode, 0, done.stderr)
+        directory = self.friends.as_directory(folder() / "certificates", "Alice")
+        self.assertEqual(run([COMMAND, "--directory", directory, *options, *carol]).returncode, 0)
+        dave = ["--root", self.fpr["Dave"]]
+        self.assertEqual(run([COMMAND, "--directory", directory, *options, *dave, *carol]).returncode, 1)
+
+    def test_beside_sq_wot(self):
+        """Both find the same at 120 and at 40, as of now: another program says what is expected."""
+        sq_wot = installed("sq-wot", "sq-wot")
+        if sq_wot is None:
+            self.skipTest("sq-wot isn't there, and couldn't be installed")
+        for name, uid in PEOPLE.items():
+            for amount in "40", "120":
+                with self.subTest(name, amount=amount):
+                    theirs = run([sq_wot, "-k", self.friends.keyring, "-r", self.fpr["Alice"], "authenticate",
+                                  "-a", amount, uid, self.fpr[name]])
+                    now = str(int(time.time()))
+                    ours = self.ask("--amount", amount, "authenticate", self.fpr[name], uid, time=now)
+                    self.assertEqual(ours.returncode, theirs.returncode)
+
+    def test_with_the_verifier(self):
+        """The verifier that stands in the repository says the same as gpg, who made the signatures: all are good."""
+        built = ROOT / "tools" / "verdicts" / "out" / "wot-verdicts"
+        if not os.access(built, os.X_OK):
+            self.skipTest("tools/verdicts isn't built")
+        said = [run([*words, self.friends.keyring]).stdout.splitlines() for words in ([built], TRUSTING)]
+        verdicts = [{line for line in lines if line.startswith(b"verdict ")} for lines in said]
+        self.assertEqual(verdicts[0], verdicts[1])
+        for name, status in ("Carol", 0), ("Dave", 1), ("Erin", 1):
+            done = self.ask("--no-cache", "--verifier", built, "authenticate", self.fpr[name], PEOPLE[name])
+            self.assertEqual((done.returncode, done.stderr), (status, b""))

@@ -1,0 +1,154 @@
+//! Files and folders as texts of packets, out of their armor.
+
+use std::fs;
+use std::io::{self, Read};
+use std::path::{Path, PathBuf};
+
+use sequoia_openpgp::armor::{Kind, Reader, ReaderMode};
+
+use crate::notice::{Notice, What};
+
+/// Octets that are packets, and where they come from.
+pub struct Text {
+    pub name: String,
+    pub octets: Vec<u8>,
+    /// The fingerprint under which a certificate directory has it, in lower-case digits.
+    pub filed: Option<String>,
+}
+
+/// The texts of these files and certificate directories, in the order of the words and of the files' names.
+pub fn read_all(paths: &[PathBuf], notices: &mut Vec<Notice>) -> io::Result<Vec<Text>> {
+    let mut texts = Vec::new();
+    for path in paths {
+        let read = if path.is_dir() {
+            read_folder(path, notices, &mut texts)
+        } else {
+            read_file(path, None, notices).map(|text| texts.push(text))
+        };
+        read.map_err(|error| io::Error::new(error.kind(), format!("{}: {error}", path.display())))?;
+    }
+    Ok(texts)
+}
+
+/// A certificate directory: folders named by the first two digits of a fingerprint, files by the others, and the
+/// special name `trust-root`.
+fn read_folder(folder: &Path, notices: &mut Vec<Notice>, texts: &mut Vec<Text>) -> io::Result<()> {
+    let before = texts.len();
+    let root = folder.join("trust-root");
+    if root.is_file() {
+        texts.push(read_file(&root, None, notices)?);
+    }
+    for front in names(folder, &[2])? {
+        let inner = folder.join(&front);
+        if !inner.is_dir() {
+            continue;
+        }
+        for rest in names(&inner, &[38, 62])? {
+            texts.push(read_file(&inner.join(&rest), Some(format!("{front}{rest}")), notices)?);
+        }
+    }
+    if texts.len() == before {
+        notices.push(Notice { name: folder.display().to_string(), place: 0, what: What::Empty });
+    }
+    Ok(())
+}
+
+/// The names in a folder that are so many lower-case digits, in their order.
+fn names(folder: &Path, lengths: &[usize]) -> io::Result<Vec<String>> {
+    let mut names = Vec::new();
+    for entry in fs::read_dir(folder)? {
+        let name = entry?.file_name();
+        let digits = name.to_str().filter(|name| {
+            lengths.contains(&name.len()) && name.bytes().all(|octet| matches!(octet, b'0'..=b'9' | b'a'..=b'f'))
+        });
+        names.extend(digits.map(str::to_owned));
+    }
+    names.sort();
+    Ok(names)
+}
+
+fn read_file(path: &Path, filed: Option<String>, notices: &mut Vec<Notice>) -> io::Result<Text> {
+    let name = path.display().to_string();
+    let octets = if name == "-" {
+        let mut octets = Vec::new();
+        io::stdin().lock().read_to_end(&mut octets)?;
+        octets
+    } else {
+        fs::read(path)?
+    };
+    let octets = match octets.first() {
+        None => octets,
+        Some(first) if first & 0x80 != 0 => octets,
+        Some(_) => dearmored(&octets, &mut |place, what| notices.push(Notice { name: name.clone(), place, what }))?,
+    };
+    Ok(Text { name, octets, filed })
+}
+
+/// The packets of all armored keys of a text.
+fn dearmored(text: &[u8], tell: &mut impl FnMut(usize, What)) -> io::Result<Vec<u8>> {
+    if text.get(8..12) == Some(b"KBXf") {
+        return Err(invalid("a keybox; write its keys with `gpg --export`"));
+    }
+    let blocks = armored_blocks(text);
+    if blocks.is_empty() {
+        return Err(invalid("neither packets nor armored packets"));
+    }
+    let mut packets = Vec::new();
+    for (place, block) in blocks {
+        let mut reader = Reader::from_bytes(block, ReaderMode::Tolerant(None));
+        let mut octets = Vec::new();
+        match reader.read_to_end(&mut octets) {
+            Ok(_) if matches!(reader.kind(), Some(Kind::PublicKey | Kind::SecretKey)) => packets.append(&mut octets),
+            Ok(_) => tell(place, What::Armor("it holds no keys".to_owned())),
+            Err(error) => tell(place, What::Armor(error.to_string())),
+        }
+    }
+    Ok(packets)
+}
+
+fn invalid(why: &str) -> io::Error {
+    io::Error::new(io::ErrorKind::InvalidData, why)
+}
+
+/// The armored blocks of a text, each from the line that begins it to the line that ends it, with their places.
+fn armored_blocks(text: &[u8]) -> Vec<(usize, &[u8])> {
+    let mut blocks = Vec::new();
+    let mut begun = None;
+    let mut at = 0;
+    for line in text.split_inclusive(|octet| *octet == b'\n') {
+        if line.starts_with(b"-----BEGIN PGP ") {
+            blocks.extend(begun.map(|begin| (begin, &text[begin..at])));
+            begun = Some(at);
+        }
+        at += line.len();
+        if line.starts_with(b"-----END PGP ") {
+            blocks.extend(begun.take().map(|begin| (begin, &text[begin..at])));
+        }
+    }
+    blocks.extend(begun.map(|begin| (begin, &text[begin..])));
+    blocks
+}
+
+#[cfg(test)]
+mod tests {
+    use super::*;
+
+    #[test]
+    fn blocks_are_cut_at_their_lines() {
+        let blocks = [
+            "-----BEGIN PGP A-----\n1\n-----END PGP A-----\n",
+            "-----BEGIN PGP B-----\n2\n",
+            "-----BEGIN PGP C-----\n3",
+        ];
+        let text = format!("before\n{}between\n{}{}", blocks[0], blocks[1], blocks[2]);
+        let expected: Vec<_> = blocks.iter().map(|block| (text.find(block).unwrap(), block.as_bytes())).collect();
+        assert_eq!(armored_blocks(text.as_bytes()), expected);
+    }
+
+    #[test]
+    fn a_file_that_is_no_keyring_says_so() {
+        for text in [&b"hello"[..], b"\0\0\0 \x01\x01\0\x02KBXf"] {
+            assert!(dearmored(text, &mut |_, _| ()).is_err());
+        }
+    }
+}

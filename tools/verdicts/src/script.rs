@@ -1,0 +1,79 @@
+//! The engine's script: lines `import` and `verdict`.
+
+use std::collections::HashSet;
+use std::io::{self, Write};
+
+use crate::certificate::Certificate;
+use crate::judge::Verdict;
+use crate::number::Number;
+
+/// Writes lines and counts their octets.
+pub struct Script<W> {
+    to: W,
+    told: HashSet<Number>,
+    pub octets: u64,
+}
+
+impl<W: Write> Script<W> {
+    pub fn new(to: W) -> Script<W> {
+        Script { to, told: HashSet::new(), octets: 0 }
+    }
+
+    pub fn import(&mut self, certificate: &Certificate) -> io::Result<()> {
+        self.line(&format!("import {}\n", digits(&certificate.octets())))
+    }
+
+    /// The verdict on a number, where none was written yet.
+    pub fn verdict(&mut self, number: &Number, verdict: &Verdict) -> io::Result<()> {
+        if !self.told.insert(*number) {
+            return Ok(());
+        }
+        let number = digits(number);
+        match verdict {
+            Verdict::Good(issuer) => self.line(&format!("verdict {number} good {issuer:x}\n")),
+            Verdict::Bad => self.line(&format!("verdict {number} bad\n")),
+        }
+    }
+
+    pub fn flush(&mut self) -> io::Result<()> {
+        self.to.flush()
+    }
+
+    fn line(&mut self, line: &str) -> io::Result<()> {
+        self.octets += line.len() as u64;
+        self.to.write_all(line.as_bytes())
+    }
+}
+
+/// Octets as lower-case digits.
+pub fn digits(octets: &[u8]) -> String {
+    const DIGITS: &[u8; 16] = b"0123456789abcdef";
+    let digit = |half: u8| DIGITS[usize::from(half)] as char;
+    let mut text = String::with_capacity(2 * octets.len());
+    for octet in octets {
+        text.push(digit(octet >> 4));
+        text.push(digit(octet & 15));
+    }
+    text
+}
+
+#[cfg(test)]
+mod tests {
+    use super::*;
+
+    #[test]
+    fn a_verdict_is_written_once() {
+        let mut script = Script::new(Vec::new());
+        let issuer = "7F35C8DBD6B3EB2FFD59CBDD2E41EA291212AC38".parse().unwrap();
+        script.verdict(&[0x0a; 32], &Verdict::Good(issuer)).unwrap();
+        script.verdict(&[0x0a; 32], &Verdict::Bad).unwrap();
+        script.verdict(&[0xf0; 32], &Verdict::Bad).unwrap();
+        let expected = format!(
+            "verdict {} good 7f35c8dbd6b3eb2ffd59cbdd2e41ea291212ac38\nverdict {} bad\n",
+            "0a".repeat(32),
+            "f0".repeat(32)
+        );
+        assert_eq!(String::from_utf8(script.to).unwrap(), expected);
+        assert_eq!(script.octets, expected.len() as u64);
+    }
+}

@@ -1,0 +1,151 @@
+//! The fields of a version 4 signature (RFC 9580, section 5.2.3), as slices of its body.
+
+use sequoia_openpgp::{Fingerprint, KeyID};
+
+/// The kinds of signatures (RFC 9580, section 5.2.1) on which verdicts are given.
+pub mod kind {
+    pub const CERTIFICATION_FIRST: u8 = 0x10;
+    pub const CERTIFICATION_LAST: u8 = 0x13;
+    pub const SUBKEY_BINDING: u8 = 0x18;
+    pub const DIRECT_KEY: u8 = 0x1f;
+    pub const KEY_REVOCATION: u8 = 0x20;
+    pub const SUBKEY_REVOCATION: u8 = 0x28;
+    pub const CERTIFICATION_REVOCATION: u8 = 0x30;
+}
+
+const ISSUER_KEY_ID: u8 = 16;
+const ISSUER_FINGERPRINT: u8 = 33;
+
+pub struct Signature<'a> {
+    pub kind: u8,
+    pub key_algorithm: u8,
+    pub hash_algorithm: u8,
+    /// From the version to the end of the hashed area: what the digest is of, besides what is signed.
+    pub hashed: &'a [u8],
+    /// The first two octets of the digest.
+    pub digest_front: [u8; 2],
+    pub material: &'a [u8],
+    areas: [&'a [u8]; 2],
+}
+
+/// Who made a signature, by its own words.
+#[derive(Clone, Debug, PartialEq, Eq)]
+pub enum Issuer {
+    Fingerprint(Fingerprint),
+    KeyId(KeyID),
+}
+
+impl<'a> Signature<'a> {
+    /// None where the body isn't of version 4 or lacks a part. That the areas are lists of subpackets isn't asked.
+    pub fn read(body: &'a [u8]) -> Option<Signature<'a>> {
+        let head = body.get(..4)?;
+        if head[0] != 4 {
+            return None;
+        }
+        let (hashed_area, hashed_end) = area(body, 4)?;
+        let (unhashed_area, unhashed_end) = area(body, hashed_end)?;
+        let front = body.get(unhashed_end..unhashed_end + 2)?;
+        Some(Signature {
+            kind: head[1],
+            key_algorithm: head[2],
+            hash_algorithm: head[3],
+            hashed: &body[..hashed_end],
+            digest_front: [front[0], front[1]],
+            material: &body[unhashed_end + 2..],
+            areas: [hashed_area, unhashed_area],
+        })
+    }
+
+    /// The issuers that the signature names, in both areas.
+    pub fn issuers(&self) -> Vec<Issuer> {
+        self.areas.iter().flat_map(|area| Subpackets { rest: area }).filter_map(issuer).collect()
+    }
+}
+
+/// The area whose length stands at a place, and the place behind it.
+fn area(body: &[u8], at: usize) -> Option<(&[u8], usize)> {
+    let length = body.get(at..at + 2)?;
+    let end = at + 2 + u16::from_be_bytes([length[0], length[1]]) as usize;
+    Some((body.get(at + 2..end)?, end))
+}
+
+fn issuer(subpacket: &[u8]) -> Option<Issuer> {
+    let (kind, content) = subpacket.split_first()?;
+    match (kind & 0x7f, content) {
+        (ISSUER_KEY_ID, id) if id.len() == 8 => Some(Issuer::KeyId(KeyID::from_bytes(id))),
+        (ISSUER_FINGERPRINT, [4, digest @ ..]) if digest.len() == 20 => {
+            Some(Issuer::Fingerprint(Fingerprint::from_bytes(digest)))
+        }
+        _ => None,
+    }
+}
+
+/// The subpackets of an area up to the first that has no reading, each from its type on.
+struct Subpackets<'a> {
+    rest: &'a [u8],
+}
+
+impl<'a> Iterator for Subpackets<'a> {
+    type Item = &'a [u8];
+
+    fn next(&mut self) -> Option<&'a [u8]> {
+        let (at, length) = match *self.rest {
+            [first @ 0..=191, ..] => (1, first as usize),
+            [first @ 192..=254, second, ..] => (2, ((first as usize - 192) << 8) + second as usize + 192),
+            [255, a, b, c, d, ..] => (5, u32::from_be_bytes([a, b, c, d]) as usize),
+            _ => return None,
+        };
+        let rest = self.rest;
+        let subpacket = rest.get(at..at + length)?;
+        self.rest = &rest[at + length..];
+        Some(subpacket)
+    }
+}
+
+#[cfg(test)]
+mod tests {
+    use super::*;
+
+    fn body(hashed: &[u8], unhashed: &[u8]) -> Vec<u8> {
+        [
+            &[4, 0x10, 22, 8, 0, hashed.len() as u8][..],
+            hashed,
+            &[0, unhashed.len() as u8],
+            unhashed,
+            &[0xab, 0xcd, 0, 1, 1],
+        ]
+        .concat()
+    }
+
+    #[test]
+    fn issuers_are_read_from_both_areas() {
+        let by_fingerprint = [&[22, 0x80 | 33, 4][..], &[7; 20]].concat();
+        let hashed = [&[5, 2, 0, 0, 0, 1][..], &by_fingerprint].concat();
+        let unhashed = [&[9, 16][..], &[8; 8]].concat();
+        let body = body(&hashed, &unhashed);
+        let signature = Signature::read(&body).unwrap();
+        assert_eq!(signature.hashed, &body[..6 + hashed.len()]);
+        assert_eq!((signature.digest_front, signature.material), ([0xab, 0xcd], &[0, 1, 1][..]));
+        let named = [Issuer::Fingerprint(Fingerprint::from_bytes(&[7; 20])), Issuer::KeyId(KeyID::from_bytes(&[8; 8]))];
+        assert_eq!(signature.issuers(), named);
+    }
+
+    #[test]
+    fn a_fault_in_an_area_ends_it_alone() {
+        let unhashed = [&[9, 16][..], &[8; 8]].concat();
+        let body = body(&[200], &unhashed);
+        let issuers = Signature::read(&body).unwrap().issuers();
+        assert_eq!(issuers, [Issuer::KeyId(KeyID::from_bytes(&[8; 8]))]);
+    }
+
+    #[test]
+    fn other_versions_and_cut_bodies_have_no_fields() {
+        let body = body(&[], &[]);
+        let signature_end = body.len() - 3;
+        assert!(Signature::read(&body[..signature_end]).is_some());
+        assert!(Signature::read(&body[..signature_end - 1]).is_none());
+        let mut older = body;
+        older[0] = 3;
+        assert!(Signature::read(&older).is_none());
+    }
+}
