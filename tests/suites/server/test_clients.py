@@ -172,15 +172,17 @@ class OddClients(unittest.TestCase):
 
     def test_one_never_reads(self):
         with Client(self.server.path) as silent:
-            silent.send(*(b"view v%d time 5000" % place for place in range(16)))
+            for place in range(16):
+                self.assertEqual(silent.tell(b"view v%d time 5000" % place), b"ok")
             threading.Thread(target=self.pour, args=(silent,), daemon=True).start()
-            begun = time.monotonic()
-            while self.other.tell(b"view p time 5000") == b"refused full views":
-                self.assertLess(time.monotonic() - begun, PATIENCE)
-                self.assertEqual(self.other.tell(b"keys"), b"keys 12")
-                time.sleep(0.05)
+            self.server.wait_for(self.is_answered_and_has_room)
             self.assertIn("doesn't read its replies and is dropped", self.server.said())
             self.server.wait_for(lambda: self.has_seats(15))
+
+    def is_answered_and_has_room(self):
+        """Whether the other client has got room for a view; its lines are answered in any case."""
+        self.assertEqual(self.other.tell(b"keys"), b"keys 12")
+        return self.other.tell(b"view p time 5000") == b"ok"
 
     def pour(self, client):
         """Sends questions for ever, and reads nothing."""
