@@ -7,9 +7,8 @@ use Rattle.std.specs.List.{list_any}
 use Rattle.std.proofs.lemmas.List.{append-nil}
 use Rattle.std.proofs.lemmas.List.Sums.{sum_by-cons, sum_by_push}
 use Rattle.wot_types.specs.declared.fpr.Fpr.{Fpr}
-use Rattle.wot_types.specs.Fpr.{fpr_cmp}
+use Rattle.wot_types.specs.Fpr.{fpr_cmp, same_fpr}
 use Rattle.wot_edge.specs.declared.path.Path.{Path}
-use Rattle.wot_edge.specs.Order.{same_fpr}
 use Rattle.wot_edge.specs.Roots.{root_amount, AreAmounts}
 use Rattle.wot_edge.specs.Path.{Question, Use, use_of, path_pair, path_root, is_of, IsNextPath, IsSpent}
 use Rattle.wot_edge.specs.Sums.{Sums, pair_sum, root_sum, use_in}

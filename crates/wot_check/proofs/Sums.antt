@@ -4,8 +4,8 @@ use Rattle.std.specs.List.{list_any}
 use Rattle.std.proofs.lemmas.List.{append-nil}
 use Rattle.std.proofs.lemmas.List.Sums.{sum_by_push}
 use Rattle.wot_types.specs.declared.fpr.Fpr.{Fpr}
+use Rattle.wot_types.specs.Fpr.{same_fpr}
 use Rattle.wot_edge.specs.declared.path.Path.{Path}
-use Rattle.wot_edge.specs.Order.{same_fpr}
 use Rattle.wot_edge.specs.Path.{Use, use_of, path_pair, path_root, is_of}
 use Rattle.wot_edge.specs.Sums.{Sums, pair_sum, root_sum, use_in}
 use Rattle.wot_check.specs.Using.{AreBelow}

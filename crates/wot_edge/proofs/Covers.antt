@@ -1,20 +1,21 @@
 -- Trails that cover others, and how they grow by layers.
 use Rattle.std.proofs.Common.{◌≡◌, ◌⊎◌, inl, inr, ℕ, suc, ◌≤◌, Bool, true, false, cond, List, [], ◌∷◌, length, Ordering, refl, sym, ap, subst, ◌∙◌, arith}
 use Rattle.std.specs.Prelude.{◌&&◌, ◌||◌, nat_lt, nat_eq}
-use Rattle.std.specs.declared.cmp.Ordering.TheVariants.{Less, Equal, Greater}
+use Rattle.std.specs.declared.cmp.Ordering.TheVariants.{Less, Greater}
 use Rattle.std.specs.Ordering.{is_lt, ordering_reverse}
 use Rattle.std.specs.List.{AllByRecursion}
-use Rattle.std.proofs.lemmas.Bool.{cases_lt, ltb-true, eqb-true, eq-eqb}
+use Rattle.std.proofs.lemmas.Bool.{cases_lt, ltb-true, eqb-true, eq-eqb, and_parts, or_cases}
 use Rattle.std.specs.Ordering.{ordering_then}
 use Rattle.std.proofs.lemmas.Cmp.{tied_itself}
 use Rattle.wot_types.specs.declared.fpr.Fpr.{Fpr}
+use Rattle.wot_types.specs.Fpr.{same_fpr}
+use Rattle.wot_types.specs.FprLaws.{same_fpr-true}
 use Rattle.wot_edge.specs.declared.path.Step.{Step}
 use Rattle.wot_edge.specs.Record.{Has}
-use Rattle.wot_edge.specs.Order.{same_fpr}
 use Rattle.wot_edge.specs.Path.{Question, Use, start}
 use Rattle.wot_edge.specs.Order.{steps_cmp, step_cmp}
 use Rattle.wot_edge.proofs.Layers.{is_better, kept}
-use Rattle.wot_edge.proofs.Orders.{same_fpr-true, step_total, steps_total}
+use Rattle.wot_edge.specs.StepLaws.{is_lt-Less, step_total, steps_total}
 use Rattle.std.proofs.Common.{lt-ltb}
 use Rattle.wot_edge.proofs.Trail.{Serves, Trail}
 use Rattle.wot_edge.proofs.Trail.{AtMost, AtMost-refl, AtMost-trans, AtMost-le, serves_shorter}
@@ -94,23 +95,10 @@ first_complete q used least new c (row ∷ next ∷ rest) some few t = absurd (o
 
 -- ---- keeping the better of two from one issuer
 
-or-true : (a b : Bool) → (a || b) ≡ true → (a ≡ true) ⊎ (b ≡ true)
-or-true true b e = inl refl
-or-true false b e = inr e
-
-pub and-true : (a b : Bool) → (a && b) ≡ true → (a ≡ true) × (b ≡ true)
-and-true true b e = (refl, e)
-and-true false b e = absurd cc
-
-is_lt-Less : (o : Ordering) → is_lt o ≡ true → o ≡ Less
-is_lt-Less Less e = refl
-is_lt-Less Equal e = absurd cc
-is_lt-Less Greater e = absurd cc
-
 pub better_most : (a b : List Step) → is_better a b ≡ true → AtMost a b
-better_most a b e = elim (or-true (nat_lt (length a) (length b)) _ e) [
+better_most a b e = elim (or_cases (nat_lt (length a) (length b)) _ e) [
   | inl f ↦ inl (ltb-true (length a) (length b) f)
-  | inr f ↦ let g = and-true (nat_eq (length a) (length b)) (is_lt (steps_cmp a b)) f in
+  | inr f ↦ let g = and_parts (nat_eq (length a) (length b)) (is_lt (steps_cmp a b)) f in
       inr (eqb-true (length a) (length b) g.0, λ l. let h : steps_cmp a b ≡ Greater = steps_total.antisymm a b ∙ ap ordering_reverse l in let k : steps_cmp a b ≡ Less = is_lt-Less (steps_cmp a b) g.1 in cc)
 ]
 

@@ -4,15 +4,14 @@ use Rattle.std.specs.Prelude.{nat_le}
 use Rattle.std.specs.List.{AllByRecursion}
 use Rattle.std.proofs.lemmas.Bool.{cases_lt, leb-false}
 use Rattle.wot_types.specs.declared.fpr.Fpr.{Fpr}
+use Rattle.wot_types.specs.Fpr.{same_fpr, fpr_cmp}
 use Rattle.wot_edge.specs.declared.path.Step.{Step}
 use Rattle.wot_edge.specs.Record.{Has, entry_at}
 use Rattle.wot_edge.specs.Roots.{root_amount}
-use Rattle.wot_edge.specs.Order.{same_fpr}
 use Rattle.wot_edge.specs.Path.{Question, Use, start, path_amount, root_left, IsNext, IsSpent}
 use Rattle.std.specs.Option.{unwrap_or}
 use Rattle.std.specs.Map.{lookup}
 use Rattle.std.specs.BTreeMap.{is_at}
-use Rattle.wot_types.specs.Fpr.{fpr_cmp}
 use Rattle.wot_edge.proofs.Trail.{AtMost, AtMost-refl, AtMost-trans, AtMost-le, Rooted, IsFirst, rooted_amount, first_next, none_spent, disordered_spent}
 use Rattle.wot_edge.proofs.Covers.{Covers-has, IsComplete, IsFound, better_most, worse_most}
 use Rattle.wot_edge.proofs.Layers.{is_better, better_of, chosen, grown, first_layer, first_or, climbed_to, next_from, first_from, first_of, total, climbed, next_of}

@@ -5,16 +5,15 @@ use Rattle.std.specs.Option.{unwrap_or}
 use Rattle.std.specs.Map.{lookup}
 use Rattle.std.specs.BTreeMap.{is_at}
 use Rattle.wot_types.specs.declared.fpr.Fpr.{Fpr}
-use Rattle.wot_types.specs.Fpr.{fpr_cmp}
+use Rattle.wot_types.specs.Fpr.{fpr_cmp, same_fpr}
+use Rattle.wot_types.specs.FprLaws.{same_fpr-true, same_fpr-sym}
 use Rattle.wot_edge.specs.declared.path.Path.{Path}
 use Rattle.wot_edge.specs.declared.path.Step.{Step}
 use Rattle.wot_edge.specs.Record.{Has}
 use Rattle.wot_edge.specs.Roots.{root_amount}
-use Rattle.wot_edge.specs.Order.{same_fpr}
 use Rattle.wot_edge.specs.Path.{Question, Use, use_of, start, path_root, root_left, step_left, least_left, IsNextPath}
 use Rattle.wot_edge.specs.Answer.{EachNext, amount_of}
 use Rattle.wot_edge.specs.Capacity.{Fits, AllFit}
-use Rattle.wot_edge.proofs.Orders.{same_fpr-true, same_fpr-sym}
 
 -- ---- by pair
 

@@ -3,9 +3,9 @@
 use Rattle.std.specs.Prelude.{ℕ, zero, suc, ◌+◌, ◌&&◌, ◌||◌, nat_lt, nat_le, nat_eq, not, Bool, false, cond, List, [], ◌∷◌, length, Option, Some, None}
 use Rattle.std.specs.Ordering.{is_lt}
 use Rattle.wot_types.specs.declared.fpr.Fpr.{Fpr}
+use Rattle.wot_types.specs.Fpr.{same_fpr}
 use Rattle.wot_edge.specs.declared.path.Step.{Step}
 use Rattle.wot_edge.specs.Record.{Row, rows_into, entry_at}
-use Rattle.wot_edge.specs.Order.{same_fpr}
 use Rattle.wot_edge.specs.Path.{Question, Use, start, step_left, root_left, path_amount, step_of}
 use Rattle.wot_edge.specs.Order.{steps_cmp}
 

@@ -1,6 +1,4 @@
 pub mod Amounts
-pub mod Fprs
-pub mod Orders
 pub mod PairSums
 pub mod Layers
 pub mod Trail

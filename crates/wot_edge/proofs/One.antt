@@ -2,12 +2,13 @@
 use Rattle.std.proofs.Common.{◌≡◌, inl, inr, List, [], ◌∷◌, length, refl, sym, ap, subst, ◌∙◌, arith}
 use Rattle.std.specs.declared.cmp.Ordering.TheVariants.{Equal}
 use Rattle.std.proofs.lemmas.Bool.{cases_lt}
+use Rattle.wot_types.specs.PlainLaws.{then-Equal}
 use Rattle.wot_edge.specs.declared.path.Step.{Step}
 use Rattle.wot_edge.specs.Record.{Row, IsRecord, rows_into, Has}
 use Rattle.wot_edge.specs.Path.{Question, Use, Chain, start, IsNext, IsNextPath, path_amount, step_of}
 use Rattle.wot_edge.specs.Order.{steps_cmp, step_cmp}
 use Rattle.wot_edge.specs.declared.path.Path.{Path}
-use Rattle.wot_edge.proofs.Orders.{step_exact, then-Equal, ranked_steps}
+use Rattle.wot_edge.specs.StepLaws.{step_exact, ranked_steps}
 
 -- lists of edges to one target that tie are the same
 pub chain_exact : (q : Question) → IsRecord q.told → (a b : List Step) → Chain q a → Chain q b → steps_cmp a b ≡ Equal → a ≡ b

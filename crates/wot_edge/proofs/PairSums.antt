@@ -5,15 +5,13 @@ use Rattle.std.specs.Prelude.{◌&&◌, ◌||◌}
 use Rattle.std.specs.Ordering.{is_eq, ordering_then}
 use Rattle.std.specs.List.{list_any}
 use Rattle.wot_types.specs.declared.fpr.Fpr.{Fpr}
-use Rattle.wot_types.specs.Fpr.{fpr_cmp}
+use Rattle.wot_types.specs.Fpr.{fpr_cmp, same_fpr}
+use Rattle.wot_types.specs.FprLaws.{same_cmp, same_fpr-true, same_fpr-refl, same_fpr-sym}
 use Rattle.wot_edge.specs.declared.path.Step.{Step}
 use Rattle.wot_edge.specs.declared.used.Pair.{Pair}
 use Rattle.wot_edge.specs.contracts.used.PairOrd.TheImpl.{ghosts}
 use Rattle.wot_edge.specs.Path.{is_of, pair_part}
-use Rattle.wot_edge.specs.Order.{same_fpr}
 use Rattle.wot_edge.specs.Sums.{pair_cmp, pair_of}
-use Rattle.wot_edge.proofs.Fprs.{same_cmp}
-use Rattle.wot_edge.proofs.Orders.{same_fpr-true, same_fpr-refl, same_fpr-sym}
 
 abbrev pub derived_pair_cmp : Pair → Pair → Ordering
 derived_pair_cmp = ghosts.cmp

@@ -9,13 +9,14 @@ use Rattle.std.specs.List.{AllByRecursion, slice_get}
 use Rattle.std.specs.List.Sorted.{IsStrictlySortedBy}
 use Rattle.std.proofs.lemmas.Map.Made.{lookup-map_values}
 use Rattle.wot_types.specs.declared.fpr.Fpr.{Fpr}
-use Rattle.wot_types.specs.Fpr.{fpr_cmp}
+use Rattle.wot_types.specs.Fpr.{fpr_cmp, same_fpr}
+use Rattle.wot_types.specs.FprLaws.{same_fpr-true, same_fpr-refl, fpr_exact}
 use Rattle.wot_edge.specs.declared.edge.EdgeFacts.{EdgeFacts}
-use Rattle.wot_edge.specs.Order.{edge_cmp, same_fpr}
+use Rattle.wot_edge.specs.Order.{edge_cmp}
 use Rattle.wot_edge.specs.Record.{Has, Row, Entry, IsRecord, blank, entry_at, rows_into, edges_into}
 use Rattle.wot_edge.specs.Lawful.{AreEntries, AreRows}
 use Rattle.wot_edge.specs.Plain.{Line, Plain, place_of, row_of, entry_of, told_of, AreLines, MayPrecede}
-use Rattle.wot_edge.proofs.Orders.{same_fpr-true, same_fpr-refl, fpr_exact}
+use Rattle.wot_edge.specs.StepLaws.{is_lt-Less}
 use Rattle.wot_edge.proofs.Recorded.{is_record, no_rows, edge_total}
 
 -- ---- what is told of a fingerprint
@@ -108,11 +109,6 @@ lines_put (l ∷ lines) fpr line all r = by (lines_put lines fpr line all.1 r) (
     by ih Less e = (r, all)
     by ih Equal e = (subst (λ (x : Fpr). AreRows x line.edges) (fpr_exact fpr l.0 e) r, all.1)
     by ih Greater e = (all.0, ih)
-
-is_lt-Less : (o : Ordering) → is_lt o ≡ true → o ≡ Less
-is_lt-Less Less e = refl
-is_lt-Less Equal e = absurd cc
-is_lt-Less Greater e = absurd cc
 
 may_target : (fpr : Fpr) (edge : EdgeFacts) (later : List EdgeFacts) → MayPrecede fpr edge later → edge.target ≡ fpr
 may_target fpr edge [] m = m

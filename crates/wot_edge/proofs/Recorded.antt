@@ -10,12 +10,12 @@ use Rattle.std.specs.List.Sorted.{IsStrictlySortedBy}
 use Rattle.std.specs.Cmp.{IsTotalOrder}
 use Rattle.std.proofs.lemmas.Cmp.{tied_itself, nat_cmp_total, on_total, then_total}
 use Rattle.wot_types.specs.declared.fpr.Fpr.{Fpr}
-use Rattle.wot_types.specs.Fpr.{fpr_cmp}
+use Rattle.wot_types.specs.Fpr.{fpr_cmp, same_fpr}
+use Rattle.wot_types.specs.FprLaws.{same_fpr-true, fpr_total}
 use Rattle.wot_edge.specs.declared.edge.EdgeFacts.{EdgeFacts}
-use Rattle.wot_edge.specs.Order.{edge_cmp, same_fpr}
+use Rattle.wot_edge.specs.Order.{edge_cmp}
 use Rattle.wot_edge.specs.Record.{Has, Row, Record, IsRecord, blank, rows_into, edges_into}
 use Rattle.wot_edge.specs.Lawful.{AreEntries, AreRows}
-use Rattle.wot_edge.proofs.Orders.{same_fpr-true, fpr_total}
 
 pub edge_total : IsTotalOrder edge_cmp
 edge_total = then_total (on_total (λ edge. edge.issuer) fpr_total) (on_total (λ edge. edge.uid) nat_cmp_total)

@@ -2,16 +2,16 @@
 use Rattle.std.proofs.Common.{◌≡◌, inl, inr, ℕ, suc, ◌≤◌, Bool, true, false, cond, List, [], ◌∷◌, length, Option, Some, None, refl, sym, ap, subst, ◌∙◌, arith, leb-true, le-leb, not}
 use Rattle.std.specs.Prelude.{◌&&◌, nat_le, nat_eq}
 use Rattle.std.specs.List.{AllByRecursion}
-use Rattle.std.proofs.lemmas.Bool.{eqb-true, eq-eqb, not-true}
+use Rattle.std.proofs.lemmas.Bool.{eqb-true, eq-eqb, not-true, and_parts, and_from}
 use Rattle.wot_types.specs.declared.fpr.Fpr.{Fpr}
+use Rattle.wot_types.specs.Fpr.{same_fpr}
+use Rattle.wot_types.specs.FprLaws.{same_fpr-true, same_fpr-refl}
 use Rattle.wot_edge.specs.declared.path.Step.{Step}
 use Rattle.wot_edge.specs.Record.{Row, Has, rows_into, entry_at}
-use Rattle.wot_edge.specs.Order.{same_fpr}
 use Rattle.wot_edge.specs.Path.{Question, Use, Reaches, start, step_left, step_of}
 use Rattle.wot_edge.proofs.Layers.{kept, is_place, reaches, serves, with_rows, grown, first_layer}
-use Rattle.wot_edge.proofs.Orders.{same_fpr-true, same_fpr-refl}
 use Rattle.wot_edge.proofs.Trail.{Serves}
-use Rattle.wot_edge.proofs.Covers.{Covers, CoversAll, IsComplete, IsFound, IsGrown, grown_complete, first_complete, kept-covers, kept-keeps, kept-all, and-true}
+use Rattle.wot_edge.proofs.Covers.{Covers, CoversAll, IsComplete, IsFound, IsGrown, grown_complete, first_complete, kept-covers, kept-keeps, kept-all}
 
 -- ---- which edges serve
 
@@ -22,20 +22,17 @@ place-true (Some place) uid e = ap Some (eqb-true place uid e)
 true-place : (p : Option ℕ) (uid : ℕ) → p ≡ Some uid → is_place p uid ≡ true
 true-place p uid e = subst (λ (x : Option ℕ). is_place x uid ≡ true) (sym e) (eq-eqb uid uid refl)
 
-true-and : (a b : Bool) → a ≡ true → b ≡ true → (a && b) ≡ true
-true-and a b e f = rw (e, f) refl
-
 reaches-true : (q : Question) (row : Row) (rest : List Step) → reaches q row rest ≡ true → Reaches q row rest
 reaches-true q row [] e = place-true (entry_at q.told q.target).place row.edge.uid e
 reaches-true q row (next ∷ rest) e =
-    let a = and-true (nat_le (length (next ∷ rest)) row.edge.depth) (row.scope && not (same_fpr row.edge.issuer q.target)) e in
-    let b = and-true row.scope (not (same_fpr row.edge.issuer q.target)) a.1 in
+    let a = and_parts (nat_le (length (next ∷ rest)) row.edge.depth) (row.scope && not (same_fpr row.edge.issuer q.target)) e in
+    let b = and_parts row.scope (not (same_fpr row.edge.issuer q.target)) a.1 in
     (leb-true (length (next ∷ rest)) row.edge.depth a.0, b.0, λ same. let f = not-true (same_fpr row.edge.issuer q.target) b.1 in let g : same_fpr row.edge.issuer q.target ≡ true = subst (λ (x : Fpr). same_fpr row.edge.issuer x ≡ true) same (same_fpr-refl row.edge.issuer) in cc)
 
 true-reaches : (q : Question) (row : Row) (rest : List Step) → Reaches q row rest → reaches q row rest ≡ true
 true-reaches q row [] r = true-place (entry_at q.told q.target).place row.edge.uid r
 true-reaches q row (next ∷ rest) r =
-    true-and (nat_le (length (next ∷ rest)) row.edge.depth) _ (le-leb (length (next ∷ rest)) row.edge.depth r.0) (true-and row.scope _ r.1 (by (same_fpr row.edge.issuer q.target) (same_fpr-true row.edge.issuer q.target)))
+    and_from (nat_le (length (next ∷ rest)) row.edge.depth) _ (le-leb (length (next ∷ rest)) row.edge.depth r.0) (and_from row.scope _ r.1 (by (same_fpr row.edge.issuer q.target) (same_fpr-true row.edge.issuer q.target)))
   where
     by : (b : Bool) → (b ≡ true → row.edge.issuer ≡ q.target) → not b ≡ true
     by true f = absurd (r.2 (f refl))
@@ -43,15 +40,15 @@ true-reaches q row (next ∷ rest) r =
 
 pub serves-true : (q : Question) (used : Use) (least : ℕ) (row : Row) (rest : List Step) → Has (rows_into q.told (start q.target rest)) row → serves q used least row rest ≡ true → Serves q used least (step_of row.edge) rest
 serves-true q used least row rest h e =
-    let a = and-true row.usable (nat_le least (step_left used (step_of row.edge)) && reaches q row rest) e in
-    let b = and-true (nat_le least (step_left used (step_of row.edge))) (reaches q row rest) a.1 in
+    let a = and_parts row.usable (nat_le least (step_left used (step_of row.edge)) && reaches q row rest) e in
+    let b = and_parts (nat_le least (step_left used (step_of row.edge))) (reaches q row rest) a.1 in
     record { stands = record { row = row; into = h; usable = a.0; shown = refl; reaches = reaches-true q row rest b.1 }; left = leb-true least (step_left used (step_of row.edge)) b.0 }
 
 pub true-serves : (q : Question) (used : Use) (least : ℕ) (step : Step) (rest : List Step) → (s : Serves q used least step rest) → serves q used least s.stands.row rest ≡ true
 true-serves q used least step rest s =
     let row = s.stands.row in
     let left : least ≤ step_left used (step_of row.edge) = subst (λ (x : Step). least ≤ step_left used x) (sym s.stands.shown) s.left in
-    true-and row.usable _ s.stands.usable (true-and (nat_le least (step_left used (step_of row.edge))) (reaches q row rest) (le-leb least (step_left used (step_of row.edge)) left) (true-reaches q row rest s.stands.reaches))
+    and_from row.usable _ s.stands.usable (and_from (nat_le least (step_left used (step_of row.edge))) (reaches q row rest) (le-leb least (step_left used (step_of row.edge)) left) (true-reaches q row rest s.stands.reaches))
 
 -- ---- a layer
 

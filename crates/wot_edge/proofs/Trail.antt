@@ -9,7 +9,7 @@ use Rattle.wot_edge.specs.Record.{Has, rows_into, entry_at}
 use Rattle.wot_edge.specs.Path.{Question, Use, Chain, Stands, start, issuers, Distinct, IsValid, IsOpen, IsNext, IsSpent, Precedes, path_amount, least_left, root_left, step_left}
 use Rattle.wot_edge.specs.Order.{steps_cmp}
 use Rattle.std.proofs.lemmas.Bool.{cases_lt}
-use Rattle.wot_edge.proofs.Orders.{steps_total}
+use Rattle.wot_edge.specs.StepLaws.{steps_total}
 
 -- an edge before rest of which at least so much is left
 pub record Serves (q : Question) (used : Use) (least : ℕ) (step : Step) (rest : List Step) : Type 0 where

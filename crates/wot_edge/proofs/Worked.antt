@@ -3,10 +3,10 @@ use Rattle.std.proofs.Common.{◌≡◌, ◌≤◌, inl, inr, ℕ, true, false, 
 use Rattle.std.specs.Option.{unwrap_or}
 use Rattle.wot_types.specs.declared.fpr.Fpr.{Fpr}
 use Rattle.wot_types.specs.declared.fpr.Fpr.TheVariants.{V4}
+use Rattle.wot_types.specs.Fpr.{same_fpr}
 use Rattle.wot_edge.specs.declared.edge.EdgeFacts.{EdgeFacts}
 use Rattle.wot_edge.specs.declared.path.Path.{Path}
 use Rattle.wot_edge.specs.declared.path.Step.{Step}
-use Rattle.wot_edge.specs.Order.{same_fpr}
 use Rattle.wot_edge.specs.Record.{Row, Entry, Record}
 use Rattle.wot_edge.specs.Roots.{root_amount}
 use Rattle.wot_edge.specs.Path.{Question, use_of, asks, step_of, start, IsNextPath, IsSpent}

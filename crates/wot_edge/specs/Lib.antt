@@ -1,4 +1,5 @@
 pub mod Order
+pub mod StepLaws
 pub mod Record
 pub mod Roots
 pub mod Path

@@ -1,15 +1,11 @@
 -- The orders of edges, of steps, and of lists of steps.
-use Rattle.std.specs.Prelude.{Bool, List}
+use Rattle.std.specs.Prelude.{List}
 use Rattle.std.specs.declared.cmp.Ordering.{Ordering}
-use Rattle.std.specs.Ordering.{is_eq, nat_cmp, on, then_cmp}
+use Rattle.std.specs.Ordering.{nat_cmp, on, then_cmp}
 use Rattle.std.specs.Cmp.Lexicographic.{slice_cmp}
-use Rattle.wot_types.specs.declared.fpr.Fpr.{Fpr}
 use Rattle.wot_types.specs.Fpr.{fpr_cmp}
 use Rattle.wot_edge.specs.declared.edge.EdgeFacts.{EdgeFacts}
 use Rattle.wot_edge.specs.declared.path.Step.{Step}
-
-abbrev pub same_fpr : Fpr → Fpr → Bool
-same_fpr a b = is_eq (fpr_cmp a b)
 
 -- Edges into one target are ordered by issuer and user ID.
 abbrev pub edge_cmp : EdgeFacts → EdgeFacts → Ordering

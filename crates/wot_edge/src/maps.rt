@@ -4,8 +4,7 @@ ghost use Rattle.std.specs.BTreeMap.{insert_entry, is_at};
 ghost use Rattle.std.specs.Map.{lookup, remove_entry};
 ghost use Rattle.std.specs.Option.{option_copied};
 ghost use Rattle.wot_types.specs.declared.fpr.Fpr.{Fpr as TheFpr};
-ghost use Rattle.wot_types.specs.Fpr.{fpr_cmp};
-ghost use Rattle.wot_edge.specs.Order.{same_fpr};
+ghost use Rattle.wot_types.specs.Fpr.{fpr_cmp, same_fpr};
 ghost use Rattle.wot_edge.specs.Sums.{sum_at};
 
 use crate::sums::{make_room, raise};

@@ -3,9 +3,9 @@ ghost use Rattle.std.specs.Prelude.{◌≡◌, ◌+◌, ◌<◌, ◌^◌, ◌∷
 ghost use Rattle.std.specs.BTreeMap.{is_at};
 ghost use Rattle.std.specs.Map.{lookup};
 ghost use Rattle.std.specs.List.{list_any};
+ghost use Rattle.wot_types.specs.Fpr.{same_fpr};
 ghost use Rattle.wot_edge.specs.declared.path.Step.{Step as TheStep};
 ghost use Rattle.wot_edge.specs.declared.used.Pair.{Pair as ThePair};
-ghost use Rattle.wot_edge.specs.Order.{same_fpr};
 ghost use Rattle.wot_edge.specs.Record.{Has};
 ghost use Rattle.wot_edge.specs.Path.{is_of, pair_part};
 ghost use Rattle.wot_edge.specs.Sums.{sum_at, pair_cmp, pair_of};

@@ -3,9 +3,8 @@ ghost use Rattle.std.specs.BTreeMap.{insert_entry, is_at};
 ghost use Rattle.std.specs.Map.{remove_entry};
 ghost use Rattle.std.specs.Iterator.{YieldsFirst, item_count};
 ghost use Rattle.wot_types.specs.declared.fpr.Fpr.{Fpr as TheFpr};
-ghost use Rattle.wot_types.specs.Fpr.{fpr_cmp};
+ghost use Rattle.wot_types.specs.Fpr.{fpr_cmp, same_fpr};
 ghost use Rattle.wot_edge.specs.Roots.{IsRoots, root_amount};
-ghost use Rattle.wot_edge.specs.Order.{same_fpr};
 
 use crate::maps::{put, take_out};
 use std::alloc::Global;

@@ -1,7 +1,7 @@
 -- Which of two suffixes from one issuer is kept.
 use Rattle.std.proofs.Common.{◌≡◌, inl, inr, ℕ, suc, ◌≤◌, Bool, true, false, List, [], ◌∷◌, length, Option, Some, None, refl, sym, ap, subst, ◌∙◌, arith}
 use Rattle.std.specs.Prelude.{◌&&◌, nat_eq}
-use Rattle.std.proofs.lemmas.Bool.{cases_lt, ltb-true, ltb-false, eqb-true, eq-eqb}
+use Rattle.std.proofs.lemmas.Bool.{cases_lt, ltb-true, ltb-false, eqb-true, eq-eqb, and_parts}
 use Rattle.wot_types.specs.declared.fpr.Fpr.{Fpr}
 use Rattle.wot_edge.specs.declared.path.Step.{Step}
 use Rattle.wot_edge.specs.Record.{IsRecord}
@@ -12,13 +12,10 @@ use Rattle.wot_search.specs.declared.node.Goal.TheVariants.{Widest, Least}
 use Rattle.wot_search.specs.Quest.{Quest}
 use Rattle.wot_search.specs.Suffix.{Serves, Found, Kept, node_of, width}
 use Rattle.wot_search.specs.Layer.{AtMost, IsAsGood, Covered, IsGrowing, is_better, is_kept, link_cmp}
-use Rattle.wot_search.proofs.Order.{is_lt-Less, not_lt-Less, less_not}
+use Rattle.wot_edge.specs.StepLaws.{is_lt-Less}
+use Rattle.wot_search.proofs.Order.{not_lt-Less, less_not}
 use Rattle.wot_search.proofs.Suffixes.{links}
 use Rattle.wot_search.proofs.Keeping.{entry_is}
-
-pub and-true : (a b : Bool) → (a && b) ≡ true → (a ≡ true) × (b ≡ true)
-and-true true b e = (refl, e)
-and-true false b e = absurd cc
 
 module _ (quest : Quest) (good : IsRecord quest.question.told) (found : Found) (step : Step) (rest : List Step) (kept : Kept quest found rest) (serves : Serves quest step rest) where
   -- the better one is as good as the other
@@ -36,7 +33,7 @@ module _ (quest : Quest) (good : IsRecord quest.question.told) (found : Found) (
   pub kept_free : is_kept quest.goal (node_of quest.used step rest) (found step.issuer) ≡ true → (node : Node) → found step.issuer ≡ Some node → node.size ≡ length (step ∷ rest)
   kept_free t node e =
       let f : is_kept quest.goal (node_of quest.used step rest) (Some node) ≡ true = subst (λ (o : Option Node). is_kept quest.goal (node_of quest.used step rest) o ≡ true) e t in
-      eqb-true node.size (length (step ∷ rest)) (and-true (nat_eq node.size (length (step ∷ rest))) (is_better quest.goal (node_of quest.used step rest) node) f).0
+      eqb-true node.size (length (step ∷ rest)) (and_parts (nat_eq node.size (length (step ∷ rest))) (is_better quest.goal (node_of quest.used step rest) node) f).0
 
   pub kept_worse : is_kept quest.goal (node_of quest.used step rest) (found step.issuer) ≡ true → (steps : List Step) → 1 ≤ length steps → Kept quest found steps → start quest.question.target steps ≡ step.issuer → AtMost quest.used quest.goal (step ∷ rest) steps
   kept_worse t [] some k e = absurd (omega arith)
@@ -44,7 +41,7 @@ module _ (quest : Quest) (good : IsRecord quest.question.told) (found : Found) (
       let at : found step.issuer ≡ Some (node_of quest.used x xs) = ap found (sym e) ∙ k.0 in
       let f : is_kept quest.goal (node_of quest.used step rest) (Some (node_of quest.used x xs)) ≡ true = subst (λ (o : Option Node). is_kept quest.goal (node_of quest.used step rest) o ≡ true) at t in
       let l : length (x ∷ xs) ≡ length (step ∷ rest) = kept_free t (node_of quest.used x xs) at in
-      inr (sym l, better_good quest.goal x xs k e (omega (arith, l)) (and-true (nat_eq (length (x ∷ xs)) (length (step ∷ rest))) (is_better quest.goal (node_of quest.used step rest) (node_of quest.used x xs)) f).1)
+      inr (sym l, better_good quest.goal x xs k e (omega (arith, l)) (and_parts (nat_eq (length (x ∷ xs)) (length (step ∷ rest))) (is_better quest.goal (node_of quest.used step rest) (node_of quest.used x xs)) f).1)
 
   -- where it isn't kept, it is covered
   pub unkept_covered : (size : ℕ) (next : List Fpr) → IsGrowing quest size found next → length rest ≡ size → is_kept quest.goal (node_of quest.used step rest) (found step.issuer) ≡ false → Covered quest found (step ∷ rest)

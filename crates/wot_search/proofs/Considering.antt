@@ -1,11 +1,12 @@
 -- One edge is considered.
 use Rattle.std.proofs.Common.{◌≡◌, ◌≢◌, ◌⊎◌, inl, inr, ℕ, suc, ◌+◌, ◌<◌, ◌≤◌, min, Bool, true, false, cond, List, [], ◌∷◌, ◌++◌, length, map, Option, Some, None, refl, sym, ap, subst, ◌∙◌, arith, leb-true, le-leb, not}
 use Rattle.std.specs.Prelude.{◌&&◌, ◌||◌, nat_le, nat_lt, nat_eq, is_some}
-use Rattle.std.proofs.lemmas.Bool.{eqb-true, eq-eqb, lt-ltb, ltb-true, not-true}
+use Rattle.std.proofs.lemmas.Bool.{eqb-true, eq-eqb, lt-ltb, ltb-true, not-true, and_parts, and_from}
 use Rattle.wot_types.specs.declared.fpr.Fpr.{Fpr}
+use Rattle.wot_types.specs.Fpr.{same_fpr}
+use Rattle.wot_types.specs.FprLaws.{same_fpr-true, same_fpr-refl}
 use Rattle.wot_edge.specs.declared.edge.EdgeFacts.{EdgeFacts}
 use Rattle.wot_edge.specs.declared.path.Step.{Step}
-use Rattle.wot_edge.specs.Order.{same_fpr}
 use Rattle.wot_edge.specs.Record.{Record, Row, Has, IsRecord, rows_into, edges_into, entry_at}
 use Rattle.wot_edge.specs.Path.{Question, Reaches, start, step_of, step_left}
 use Rattle.wot_search.specs.declared.node.Node.{Node}
@@ -19,15 +20,12 @@ use Rattle.wot_search.specs.Layer.{AtMost, Covered, IsGrowing, is_kept}
 use Rattle.wot_search.specs.Demand.{is_place, is_met, is_enough, demand_of, candidate_of}
 use Rattle.wot_search.specs.Reached.{look}
 use Rattle.wot_search.specs.Growth.{if_kept, wanted_of, may_stand_of, IsPut, IsPutIf, IsRest, Advances, IsTaken, IsNoted, AreNoted}
-use Rattle.wot_search.proofs.Order.{same_fpr-true, same_fpr-refl, apart-false}
+use Rattle.wot_search.proofs.Order.{apart-false}
 use Rattle.wot_search.proofs.Keeping.{put_onward, put_covered, put_growing}
-use Rattle.wot_search.proofs.Choosing.{and-true, kept_free, kept_worse, unkept_covered}
+use Rattle.wot_search.proofs.Choosing.{kept_free, kept_worse, unkept_covered}
 use Rattle.wot_search.proofs.Layers.{onward_refl}
 
 -- ---- the demand
-
-true-and : (a b : Bool) → a ≡ true → b ≡ true → (a && b) ≡ true
-true-and a b e f = rw (e, f) refl
 
 place-true : (p : Option ℕ) (uid : ℕ) → is_place p uid ≡ true → p ≡ Some uid
 place-true None uid e = absurd cc
@@ -50,12 +48,12 @@ reaches_met : (q : Question) (row : Row) (rest : List Step) → Reaches q row re
 reaches_met q row [] r = true-place (entry_at q.told q.target).place row.edge.uid r
 reaches_met q row (next ∷ rest) r =
     subst (λ (d : Demand). is_met q.target d row.edge ≡ true) (sym (demand_some q (length rest)))
-    (true-and (nat_le (length (next ∷ rest)) row.edge.depth) (not (same_fpr row.edge.issuer q.target)) (le-leb (length (next ∷ rest)) row.edge.depth r.0) (ap not (apart-false row.edge.issuer q.target r.2)))
+    (and_from (nat_le (length (next ∷ rest)) row.edge.depth) (not (same_fpr row.edge.issuer q.target)) (le-leb (length (next ∷ rest)) row.edge.depth r.0) (ap not (apart-false row.edge.issuer q.target r.2)))
 
 met_reaches : (q : Question) (row : Row) (rest : List Step) → is_met q.target (demand_of q (length rest)) row.edge ≡ true → (nat_eq (length rest) 0 || row.scope) ≡ true → Reaches q row rest
 met_reaches q row [] m s = place-true (entry_at q.told q.target).place row.edge.uid m
 met_reaches q row (next ∷ rest) m s =
-    let a = and-true (nat_le (length (next ∷ rest)) row.edge.depth) (not (same_fpr row.edge.issuer q.target)) (subst (λ (d : Demand). is_met q.target d row.edge ≡ true) (demand_some q (length rest)) m) in (
+    let a = and_parts (nat_le (length (next ∷ rest)) row.edge.depth) (not (same_fpr row.edge.issuer q.target)) (subst (λ (d : Demand). is_met q.target d row.edge ≡ true) (demand_some q (length rest)) m) in (
       leb-true (length (next ∷ rest)) row.edge.depth a.0,
       subst (λ (b : Bool). (b || row.scope) ≡ true) (suc-zero (length rest)) s,
       λ same. let f = not-true (same_fpr row.edge.issuer q.target) a.1 in let g : same_fpr row.edge.issuer q.target ≡ true = subst (λ (x : Fpr). same_fpr row.edge.issuer x ≡ true) same (same_fpr-refl row.edge.issuer) in cc,
@@ -94,7 +92,7 @@ none_if true b x e = sym (ap (λ (t : Bool). cond t (Some x) None) e)
 none_if false b x e = refl
 
 pub some_if : (a b : Bool) (x y : Node) → a ≡ true → b ≡ true → x ≡ y → Some x ≡ cond (a && b) (Some y) None
-some_if a b x y e f same = ap Some same ∙ sym (ap (λ (t : Bool). cond t (Some y) None) (true-and a b e f))
+some_if a b x y e f same = ap Some same ∙ sym (ap (λ (t : Bool). cond t (Some y) None) (and_from a b e f))
 
 cond_some : (b : Bool) (x y : Node) → cond b (Some x) None ≡ Some y → (b ≡ true) × (x ≡ y)
 cond_some true x y e = (refl, cc)
@@ -132,18 +130,18 @@ module _ (quest : Quest) (size wide : ℕ) (edge : EdgeFacts) where
   made = record { step = step_of edge; size = size + 1; width = min (step_left quest.used (step_of edge)) wide }
 
   enough : quest.least ≤ step_left quest.used (step_of edge) → size < quest.reach edge.issuer → is_enough quest size edge ≡ true
-  enough le far = true-and (nat_le quest.least (step_left quest.used (step_of edge))) (nat_lt size (quest.reach edge.issuer)) (le-leb quest.least (step_left quest.used (step_of edge)) le) (lt-ltb size (quest.reach edge.issuer) far)
+  enough le far = and_from (nat_le quest.least (step_left quest.used (step_of edge))) (nat_lt size (quest.reach edge.issuer)) (le-leb quest.least (step_left quest.used (step_of edge)) le) (lt-ltb size (quest.reach edge.issuer) far)
 
   candidate_is : (row : Row) (rest : List Step) → length rest ≡ size → row.edge ≡ edge → Reaches quest.question row rest → quest.least ≤ step_left quest.used (step_of edge) → length rest < quest.reach edge.issuer → candidate_of quest (demand_of quest.question size) size wide edge ≡ Some made
   candidate_is row rest long e r le far =
       let m : is_met quest.question.target (demand_of quest.question size) edge ≡ true = subst (λ (n : ℕ). is_met quest.question.target (demand_of quest.question n) edge ≡ true) long (subst (λ (x : EdgeFacts). is_met quest.question.target (demand_of quest.question (length rest)) x ≡ true) e (reaches_met quest.question row rest r)) in
-      ap (λ (b : Bool). cond b (Some made) None) (true-and (is_met quest.question.target (demand_of quest.question size) edge) (is_enough quest size edge) m (enough le (omega (arith, long, far))))
+      ap (λ (b : Bool). cond b (Some made) None) (and_from (is_met quest.question.target (demand_of quest.question size) edge) (is_enough quest size edge) m (enough le (omega (arith, long, far))))
 
   candidate_met : (node : Node) → candidate_of quest (demand_of quest.question size) size wide edge ≡ Some node → (is_met quest.question.target (demand_of quest.question size) edge ≡ true) × (quest.least ≤ step_left quest.used (step_of edge)) × (size < quest.reach edge.issuer) × (made ≡ node)
   candidate_met node e =
       let s = cond_some (is_met quest.question.target (demand_of quest.question size) edge && is_enough quest size edge) made node e in
-      let a = and-true (is_met quest.question.target (demand_of quest.question size) edge) (is_enough quest size edge) s.0 in
-      let b = and-true (nat_le quest.least (step_left quest.used (step_of edge))) (nat_lt size (quest.reach edge.issuer)) a.1 in
+      let a = and_parts (is_met quest.question.target (demand_of quest.question size) edge) (is_enough quest size edge) s.0 in
+      let b = and_parts (nat_le quest.least (step_left quest.used (step_of edge))) (nat_lt size (quest.reach edge.issuer)) a.1 in
       (a.0, leb-true quest.least (step_left quest.used (step_of edge)) b.0, ltb-true size (quest.reach edge.issuer) b.1, s.1)
 
   made_is : (found : Found) (rest : List Step) → IsRest quest found size edge.target wide rest → made ≡ node_of quest.used (step_of edge) rest
@@ -192,7 +190,7 @@ module _ (quest : Quest) (size wide : ℕ) (edge : EdgeFacts) where
       serves : Serves quest (step_of edge) rest
       serves =
           let m = candidate_met node parts.0 in
-          let a = and-true row.usable (nat_eq size 0 || row.scope) stands in
+          let a = and_parts row.usable (nat_eq size 0 || row.scope) stands in
           let met : is_met quest.question.target (demand_of quest.question (length rest)) row.edge ≡ true = subst (λ (n : ℕ). is_met quest.question.target (demand_of quest.question n) row.edge ≡ true) (sym r.long) (subst (λ (x : EdgeFacts). is_met quest.question.target (demand_of quest.question size) x ≡ true) (sym e) m.0) in
           let s : (nat_eq (length rest) 0 || row.scope) ≡ true = subst (λ (n : ℕ). (nat_eq n 0 || row.scope) ≡ true) (sym r.long) a.1 in
           record { stands = record { row = row; into = subst (λ (f : Fpr). Has (rows_into quest.question.told f) row) (sym r.there) h; usable = a.0; shown = ap step_of e; reaches = met_reaches quest.question row rest met s }; left = m.1; high = let far = m.2 in let l = r.long in omega (arith, far, l) }
@@ -281,7 +279,7 @@ module _ (quest : Quest) (size wide : ℕ) (edge : EdgeFacts) where
         → (rest : List Step) → IsRest quest (look old.nodes) size edge.target wide rest → IsGrowing quest size (look old.nodes) old.layer.items → IsTaken quest (look new.nodes) edge rest
     taken_if if rest r growing row h e usable reaches le far =
         let h' = subst (λ (f : Fpr). Has (rows_into quest.question.told f) row) r.there h in
-        let s : may_stand_of size row ≡ true = true-and row.usable (nat_eq size 0 || row.scope) usable (subst (λ (n : ℕ). (nat_eq n 0 || row.scope) ≡ true) r.long (scope_stands quest.question row rest reaches)) in
+        let s : may_stand_of size row ≡ true = and_from row.usable (nat_eq size 0 || row.scope) usable (subst (λ (n : ℕ). (nat_eq n 0 || row.scope) ≡ true) r.long (scope_stands quest.question row rest reaches)) in
         covered_put rest r growing row h' e s (subst (λ (b : Bool). IsPutIf b old new node) s (if row h' e))
 
     -- what was found is noted

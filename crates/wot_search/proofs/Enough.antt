@@ -6,12 +6,12 @@ use Rattle.std.specs.BTreeMap.{is_at}
 use Rattle.std.proofs.lemmas.List.{drop_more, drop_all}
 use Rattle.wot_types.specs.declared.fpr.Fpr.{Fpr}
 use Rattle.wot_types.specs.Fpr.{fpr_cmp}
+use Rattle.wot_types.specs.FprLaws.{same_fpr-true}
 use Rattle.wot_edge.specs.declared.edge.EdgeFacts.{EdgeFacts}
 use Rattle.wot_edge.specs.Record.{Record, Row, Has, IsRecord, rows_into, edges_into}
 use Rattle.wot_edge.specs.Roots.{root_amount}
 use Rattle.wot_search.specs.Reach.{Allows, HasEnough, IsReach, number_at}
 use Rattle.wot_search.proofs.Considering.{row_edge}
-use Rattle.wot_search.proofs.Order.{same_fpr-true}
 
 -- ---- the edges into one fingerprint
 

@@ -7,10 +7,9 @@ use Rattle.std.specs.BTreeMap.{is_at}
 use Rattle.std.specs.BTreeSet.{insert_key}
 use Rattle.std.specs.List.{list_any}
 use Rattle.wot_types.specs.declared.fpr.Fpr.{Fpr}
-use Rattle.wot_types.specs.Fpr.{fpr_cmp}
-use Rattle.wot_edge.specs.Order.{same_fpr}
+use Rattle.wot_types.specs.Fpr.{fpr_cmp, same_fpr}
+use Rattle.wot_types.specs.FprLaws.{same_fpr-true, same_fpr-refl, fpr_exact}
 use Rattle.wot_edge.specs.Record.{Has}
-use Rattle.wot_search.proofs.Order.{same_fpr-true, same_fpr-refl, fpr_exact}
 
 pub any_has : (xs : List Fpr) (x : Fpr) → list_any (is_at (fpr_cmp x)) xs ≡ true → Has xs x
 any_has [] x e = absurd cc

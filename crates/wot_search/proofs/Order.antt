@@ -1,33 +1,14 @@
--- The orders of fingerprints, edges and lists of edges.
-use Rattle.std.proofs.Common.{◌≡◌, ◌≢◌, ◌⊎◌, inl, inr, Bool, true, false, List, ◌∷◌, Ordering, refl, sym, ap, subst, ◌∙◌}
+-- The orders of fingerprints and of lists of steps.
+use Rattle.std.proofs.Common.{◌≡◌, ◌≢◌, ◌⊎◌, inl, inr, Bool, true, false, List, ◌∷◌, Ordering, refl, sym, subst, ◌∙◌}
 use Rattle.std.specs.declared.cmp.Ordering.TheVariants.{Less, Equal, Greater}
-use Rattle.std.specs.Ordering.{is_eq, is_gt, is_lt, ordering_then, ordering_reverse}
-use Rattle.std.specs.Cmp.{IsTotalOrder}
-use Rattle.std.proofs.lemmas.Cmp.{nat_cmp_total, nat_list_cmp_total, on_total, then_total, lists_total, tied_itself, upto}
-use Rattle.std.proofs.lemmas.Map.Lookups.{exact_bytes}
+use Rattle.std.specs.Ordering.{is_gt, is_lt, ordering_then, ordering_reverse}
+use Rattle.std.proofs.lemmas.Cmp.{tied_itself, upto}
 use Rattle.wot_types.specs.declared.fpr.Fpr.{Fpr}
-use Rattle.wot_types.specs.declared.fpr.Fpr.TheVariants.{V4}
-use Rattle.wot_types.specs.Fpr.{octets_of, fpr_cmp}
-use Rattle.wot_types.specs.contracts.fpr.FprOrd.TheImpl.{ghosts}
+use Rattle.wot_types.specs.Fpr.{same_fpr}
+use Rattle.wot_types.specs.FprLaws.{same_fpr-true, same_fpr-refl}
 use Rattle.wot_edge.specs.declared.path.Step.{Step}
-use Rattle.wot_edge.specs.Order.{same_fpr, step_cmp, steps_cmp}
-
-pub fpr_total : IsTotalOrder fpr_cmp
-fpr_total = on_total octets_of nat_list_cmp_total
-
-pub fpr_exact : (a b : Fpr) → fpr_cmp a b ≡ Equal → a ≡ b
-fpr_exact (V4 xs) (V4 ys) e = ap V4 (exact_bytes xs ys e)
-
-is_eq-Equal : (o : Ordering) → is_eq o ≡ true → o ≡ Equal
-is_eq-Equal Less e = absurd cc
-is_eq-Equal Equal e = refl
-is_eq-Equal Greater e = absurd cc
-
-pub same_fpr-true : (a b : Fpr) → same_fpr a b ≡ true → a ≡ b
-same_fpr-true a b e = fpr_exact a b (is_eq-Equal (fpr_cmp a b) e)
-
-pub same_fpr-refl : (a : Fpr) → same_fpr a a ≡ true
-same_fpr-refl a = ap is_eq (tied_itself fpr_total a)
+use Rattle.wot_edge.specs.Order.{step_cmp, steps_cmp}
+use Rattle.wot_edge.specs.StepLaws.{step_total, steps_total}
 
 -- two fingerprints are the same, or not
 pub fpr_cases : (a b : Fpr) → (a ≡ b) ⊎ (a ≢ b)
@@ -43,12 +24,6 @@ apart-false a b n = by (same_fpr a b) refl
     by : (t : Bool) → same_fpr a b ≡ t → t ≡ false
     by true e = absurd (n (same_fpr-true a b e))
     by false e = refl
-
-pub step_total : IsTotalOrder step_cmp
-step_total = then_total (on_total (λ step. step.issuer) fpr_total) (then_total (on_total (λ step. step.target) fpr_total) (on_total (λ step. step.uid) nat_cmp_total))
-
-pub steps_total : IsTotalOrder steps_cmp
-steps_total = lists_total step_total
 
 -- ---- not less
 
@@ -88,11 +63,6 @@ less_not a b e f = by (steps_cmp a b) (steps_cmp b a) (steps_total.antisymm a b)
     by o Equal e f g = cc
     by o Greater e f g = cc
 
-pub is_lt-Less : (o : Ordering) → is_lt o ≡ true → o ≡ Less
-is_lt-Less Less e = refl
-is_lt-Less Equal e = absurd cc
-is_lt-Less Greater e = absurd cc
-
 pub not_lt-Less : (o : Ordering) → is_lt o ≡ false → o ≢ Less
 not_lt-Less Less e f = cc
 not_lt-Less Equal e f = cc
@@ -102,14 +72,3 @@ pub cons_less : (x : Step) (a b : List Step) → steps_cmp (x ∷ a) (x ∷ b) �
 cons_less x a b l =
     let t : ordering_then (step_cmp x x) (steps_cmp a b) ≡ Less = l in
     subst (λ (o : Ordering). ordering_then o (steps_cmp a b) ≡ Less) (tied_itself step_total x) t
-
--- ---- the order of keys
-
-abbrev pub derived_cmp : Fpr → Fpr → Ordering
-derived_cmp = ghosts.cmp
-
-same_order : (a b : Fpr) → derived_cmp a b ≡ fpr_cmp a b
-same_order (V4 x) (V4 y) = refl
-
-pub same_cmp : derived_cmp ≡ fpr_cmp
-same_cmp = λ i a b. same_order a b i

@@ -7,6 +7,7 @@ use Rattle.std.proofs.lemmas.Bool.{cases_lt, ltb-true, ltb-false, leb-false}
 use Rattle.std.proofs.lemmas.Cmp.{upto, tied_itself}
 use Rattle.wot_types.specs.declared.fpr.Fpr.{Fpr}
 use Rattle.wot_types.specs.Fpr.{fpr_cmp}
+use Rattle.wot_types.specs.FprLaws.{fpr_total, fpr_exact}
 use Rattle.wot_edge.specs.declared.path.Step.{Step}
 use Rattle.wot_edge.specs.Order.{steps_cmp}
 use Rattle.wot_edge.specs.Record.{Has, IsRecord}
@@ -20,7 +21,7 @@ use Rattle.wot_search.specs.Layer.{AtMost, IsAsGood, IsComplete, IsLayer}
 use Rattle.wot_search.specs.Choice.{node_width, choice_at, is_ahead, ahead_of, taken, chosen}
 use Rattle.wot_search.specs.Growth.{IsUnrooted, IsSmall}
 use Rattle.wot_search.specs.Rooted.{Rooted, IsGood, IsFirst}
-use Rattle.wot_search.proofs.Order.{fpr_total, fpr_exact, not_less_itself}
+use Rattle.wot_search.proofs.Order.{not_less_itself}
 use Rattle.wot_search.proofs.Comparing.{AtMost-le}
 use Rattle.wot_search.proofs.Suffixes.{kept_suffix, kept_one}
 use Rattle.wot_search.proofs.Rooted.{good-trans, amount_width, as_good_good}

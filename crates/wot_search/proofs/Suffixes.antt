@@ -5,15 +5,17 @@ use Rattle.std.specs.Ordering.{ordering_then, nat_cmp}
 use Rattle.std.proofs.lemmas.Cmp.{tied_itself}
 use Rattle.wot_types.specs.declared.fpr.Fpr.{Fpr}
 use Rattle.wot_types.specs.Fpr.{fpr_cmp}
+use Rattle.wot_types.specs.FprLaws.{fpr_total, fpr_exact}
+use Rattle.wot_types.specs.PlainLaws.{then-Equal}
 use Rattle.wot_edge.specs.declared.path.Step.{Step}
 use Rattle.wot_edge.specs.Order.{steps_cmp}
+use Rattle.wot_edge.specs.StepLaws.{steps_total}
 use Rattle.wot_edge.specs.Record.{Row, Has, IsRecord, rows_into}
 use Rattle.wot_edge.specs.Path.{Question, Reaches, start}
 use Rattle.wot_search.specs.declared.node.Node.{Node}
 use Rattle.wot_search.specs.Quest.{Quest}
 use Rattle.wot_search.specs.Suffix.{Serves, Suffix, Found, Kept, node_of}
 use Rattle.wot_search.specs.Layer.{link_cmp}
-use Rattle.wot_search.proofs.Order.{fpr_total, fpr_exact, steps_total}
 
 -- An edge may also stand before fewer edges from the same issuer.
 pub reaches_shorter : (q : Question) (row : Row) (rest other : List Step) → 1 ≤ length rest → 1 ≤ length other → length other ≤ length rest → Reaches q row rest → Reaches q row other
@@ -57,11 +59,6 @@ kept_one quest good found (x ∷ a) (y ∷ b) l e j k =
     let rest : a ≡ b = kept_one quest good found a b (omega (arith, l)) there j.2 k.2 in
     ap (λ (z : Step). z ∷ a) first ∙ ap (λ (z : List Step). y ∷ z) rest
 
-then_Equal : (o p : Ordering) → ordering_then o p ≡ Equal → (o ≡ Equal) × (p ≡ Equal)
-then_Equal Less p e = absurd cc
-then_Equal Equal p e = (refl, e)
-then_Equal Greater p e = absurd cc
-
 then_of : (o p : Ordering) → (o ≡ Equal → p ≡ Equal) → ordering_then o p ≡ o
 then_of Less p f = refl
 then_of Equal p f = f refl
@@ -79,6 +76,6 @@ links quest good found x a y b e l s t j k =
     let tied : fpr_cmp x.issuer y.issuer ≡ Equal = subst (λ (f : Fpr). fpr_cmp x.issuer f ≡ Equal) e (tied_itself fpr_total x.issuer) in
     then_then (fpr_cmp x.issuer y.issuer) (link_cmp x y) (steps_cmp a b) tied
     ∙ then_of (link_cmp x y) (steps_cmp a b) (λ f.
-    let same : x.target ≡ y.target = fpr_exact x.target y.target (then_Equal (fpr_cmp x.target y.target) (nat_cmp x.uid y.uid) f).0 in
+    let same : x.target ≡ y.target = fpr_exact x.target y.target (then-Equal (fpr_cmp x.target y.target) (nat_cmp x.uid y.uid) f).0 in
     let there : start quest.question.target a ≡ start quest.question.target b = sym (serves_into quest good x a s) ∙ same ∙ serves_into quest good y b t in
     subst (λ (z : List Step). steps_cmp a z ≡ Equal) (kept_one quest good found a b l there j k) (tied_itself steps_total a))

@@ -1,8 +1,8 @@
 -- What is demanded of an edge, but for its being usable and its scope.
 use Rattle.std.specs.Prelude.{ℕ, ◌+◌, nat_le, nat_lt, nat_eq, ◌&&◌, not, min, Bool, false, Option, Some, None, cond}
 use Rattle.wot_types.specs.declared.fpr.Fpr.{Fpr}
+use Rattle.wot_types.specs.Fpr.{same_fpr}
 use Rattle.wot_edge.specs.declared.edge.EdgeFacts.{EdgeFacts}
-use Rattle.wot_edge.specs.Order.{same_fpr}
 use Rattle.wot_edge.specs.Record.{entry_at}
 use Rattle.wot_edge.specs.Path.{Question, step_of, step_left}
 use Rattle.wot_search.specs.declared.node.Node.{Node}

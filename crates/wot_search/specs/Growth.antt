@@ -2,10 +2,10 @@
 use Rattle.std.specs.Prelude.{◌≡◌, ℕ, ◌<◌, ◌≤◌, nat_eq, ◌&&◌, ◌||◌, ◌++◌, suc, Bool, true}
 use Rattle.std.specs.Prelude.{false, is_some, List, [], ◌∷◌, length, Option, Some, None, cond, if◌then◌else◌}
 use Rattle.wot_types.specs.declared.fpr.Fpr.{Fpr}
+use Rattle.wot_types.specs.Fpr.{same_fpr}
 use Rattle.wot_edge.specs.declared.edge.EdgeFacts.{EdgeFacts}
 use Rattle.wot_edge.specs.declared.path.Path.{Path}
 use Rattle.wot_edge.specs.declared.path.Step.{Step}
-use Rattle.wot_edge.specs.Order.{same_fpr}
 use Rattle.wot_edge.specs.Leads.{Leads}
 use Rattle.wot_edge.specs.Record.{Record, Row, Has, IsRecord, rows_into}
 use Rattle.wot_edge.specs.Path.{Reaches, start, step_of, step_left, root_left, path_amount}

@@ -1,8 +1,8 @@
 ghost use Rattle.std.specs.Prelude.{◌≡◌, ◌<◌, ℕ, List};
+ghost use Rattle.wot_types.specs.Fpr.{same_fpr};
 ghost use Rattle.wot_search.specs.Demand.{is_place, is_met, is_enough, demand_of, candidate_of};
 ghost use Rattle.wot_search.specs.Quest.{quest_of};
 ghost use Rattle.wot_search.specs.Layer.{is_better, is_kept, link_cmp};
-ghost use Rattle.wot_edge.specs.Order.{same_fpr};
 ghost use Rattle.wot_edge.specs.Path.{step_left, step_of};
 ghost use Rattle.wot_edge.specs.Record.{Record};
 ghost use Rattle.wot_edge.specs.Sums.{use_in};

@@ -1,7 +1,7 @@
 use Rattle.std.proofs.Common.{◌≡◌, Ordering, subst}
 use Rattle.wot_types.specs.declared.fpr.Fpr.{Fpr}
+use Rattle.wot_types.specs.FprLaws.{same_cmp}
 use Rattle.wot_edge.specs.Sums.{sum_at}
-use Rattle.wot_edge.proofs.Fprs.{same_cmp}
 use Rattle.wot_edge.proofs.maps.make_root_room.Goals as goal
 
 pub returns-clause-same : goal.returns-clause-same

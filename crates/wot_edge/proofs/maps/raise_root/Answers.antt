@@ -2,9 +2,8 @@ use Rattle.std.proofs.Common.{◌≡◌, ◌+◌, Ordering, Bool, cond, subst, a
 use Rattle.std.specs.Ordering.{is_eq}
 use Rattle.wot_types.specs.declared.fpr.Fpr.{Fpr}
 use Rattle.wot_types.specs.Fpr.{fpr_cmp}
+use Rattle.wot_types.specs.FprLaws.{same_cmp, same_fpr-sym}
 use Rattle.wot_edge.specs.Sums.{sum_at}
-use Rattle.wot_edge.proofs.Fprs.{same_cmp}
-use Rattle.wot_edge.proofs.Orders.{same_fpr-sym}
 use Rattle.wot_edge.proofs.maps.raise_root.Goals as goal
 
 pub returns : goal.returns

@@ -2,7 +2,7 @@ use Rattle.std.proofs.Common.{◌≡◌, cond, None, Ordering, subst}
 use Rattle.std.specs.BTreeMap.{is_at}
 use Rattle.std.specs.Map.{lookup}
 use Rattle.wot_types.specs.declared.fpr.Fpr.{Fpr}
-use Rattle.wot_edge.proofs.Fprs.{same_cmp}
+use Rattle.wot_types.specs.FprLaws.{same_cmp}
 use Rattle.wot_edge.proofs.maps.take_out.Goals as goal
 
 pub returns-clause-gets : goal.returns-clause-gets

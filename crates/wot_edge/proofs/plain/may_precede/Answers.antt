@@ -1,8 +1,8 @@
 use Rattle.std.proofs.Common.{◌≡◌, refl, sym, ap, ◌∙◌, false}
 use Rattle.std.specs.Ordering.{is_lt, is_eq}
+use Rattle.wot_types.specs.Fpr.{same_fpr}
+use Rattle.wot_types.specs.FprLaws.{same_fpr-true}
 use Rattle.wot_edge.specs.declared.edge.EdgeFacts.{EdgeFacts}
-use Rattle.wot_edge.specs.Order.{same_fpr}
-use Rattle.wot_edge.proofs.Orders.{same_fpr-true}
 use Rattle.wot_edge.proofs.PlainTold.{may_first, may_last, may_other, may_less}
 use Rattle.wot_edge.proofs.plain.may_precede.Goals as goal
 

@@ -2,7 +2,7 @@ use Rattle.std.proofs.Common.{◌≡◌, cond, subst, Ordering, Some}
 use Rattle.std.specs.BTreeMap.{is_at}
 use Rattle.std.specs.Map.{lookup}
 use Rattle.wot_types.specs.declared.fpr.Fpr.{Fpr}
-use Rattle.wot_search.proofs.Order.{same_cmp}
+use Rattle.wot_types.specs.FprLaws.{same_cmp}
 use Rattle.wot_search.proofs.reached.put.Goals as goal
 
 pub returns-in_ok-push-clause-nodes : goal.returns-in_ok-push-clause-nodes

@@ -1,7 +1,7 @@
 use Rattle.std.proofs.Common.{◌+◌, ◌<◌, ◌^◌, ℕ, Bool, cond, sym, ap, subst, ◌∙◌}
-use Rattle.wot_edge.specs.Order.{same_fpr}
+use Rattle.wot_types.specs.Fpr.{same_fpr}
+use Rattle.wot_types.specs.FprLaws.{same_fpr-refl}
 use Rattle.wot_edge.specs.Sums.{Sums, root_sum}
-use Rattle.wot_edge.proofs.Orders.{same_fpr-refl}
 use Rattle.wot_edge.proofs.used.Used.add.Goals as goal
 
 pub raise_root-requires-clause-fits : goal.raise_root-requires-clause-fits

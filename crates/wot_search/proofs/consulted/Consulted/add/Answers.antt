@@ -1,8 +1,8 @@
 use Rattle.std.proofs.Common.{◌≡◌, ◌⊎◌, sym, subst, List, Ordering}
 use Rattle.std.specs.BTreeSet.{insert_key}
 use Rattle.wot_types.specs.declared.fpr.Fpr.{Fpr}
+use Rattle.wot_types.specs.FprLaws.{same_cmp}
 use Rattle.wot_edge.specs.Record.{Has}
-use Rattle.wot_search.proofs.Order.{same_cmp}
 use Rattle.wot_search.proofs.Members.{insert_has, insert_grows, insert_only}
 use Rattle.wot_search.proofs.consulted.Consulted.add.Goals as goal
 

@@ -2,8 +2,8 @@ use Rattle.std.proofs.Common.{◌≡◌, sym, subst, ◌∙◌, List, Ordering}
 use Rattle.std.specs.BTreeMap.{is_at}
 use Rattle.std.specs.List.{list_any}
 use Rattle.wot_types.specs.declared.fpr.Fpr.{Fpr}
+use Rattle.wot_types.specs.FprLaws.{same_cmp}
 use Rattle.wot_edge.specs.Record.{Has}
-use Rattle.wot_search.proofs.Order.{same_cmp}
 use Rattle.wot_search.proofs.Members.{any_has, has_any}
 use Rattle.wot_search.proofs.consulted.Consulted.has.Goals as goal
 
