@@ -14,7 +14,7 @@ ClashesExactly a b (Ok done) = a.key ≡ b.key
 ClashesExactly a b (Err Clash) = a.key ≢ b.key
 ClashesExactly a b (Err Memory) = a.key ≡ b.key
 
--- A fault is told exactly where it is the first one in the order of the packets; want of memory where there is none.
+-- A fault is told exactly where it is the first one in the order of the packets; "out of memory" where there is none.
 abbrev pub TellsFirstFault : {T : Type 0} → List Spelled → Result T CertFault → Type 0
 TellsFirstFault packets (Ok done) = first_fault packets ≡ None
 TellsFirstFault packets (Err fault) = (first_fault packets ≡ Some fault) ⊎ ((fault ≡ faults.Memory) × (first_fault packets ≡ None))

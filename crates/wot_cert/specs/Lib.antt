@@ -2,6 +2,7 @@ pub mod Ranked
 pub mod Certificate
 pub mod Copied
 pub mod Whole
+pub mod Parts
 pub mod Text
 pub mod Counts
 pub mod Packets

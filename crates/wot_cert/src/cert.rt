@@ -45,16 +45,15 @@ pub struct Cert {
 }
 
 impl Model for Cert {
-    ghost use Rattle.std.specs.Prelude.{◌≡◌, Some};
-    ghost use Rattle.wot_key.specs.Key.{key_of, fpr_of};
     ghost use Rattle.wot_cert.specs.Certificate.{Certificate};
-    ghost use Rattle.wot_cert.specs.Whole.{IsCertificate};
+    ghost use Rattle.wot_cert.specs.Parts.{IsCertOf, of_parts};
 
     ghost Value = { Certificate };
 
-    ghost view = { λ a. record { key = a.body.items; direct = a.direct.items; user_ids = a.user_ids.items; attributes = a.attributes.items; subkeys = a.subkeys.items } };
+    ghost view = { λ a. of_parts a.body.items a.direct.items a.user_ids.items a.attributes.items a.subkeys.items };
 
-    ghost invariant = { λ a. (Some a.key ≡ key_of a.body.items) × (a.fpr ≡ fpr_of a.body.items) × IsCertificate (record { key = a.body.items; direct = a.direct.items; user_ids = a.user_ids.items; attributes = a.attributes.items; subkeys = a.subkeys.items }) };
+    ghost invariant = { λ a. IsCertOf a.key a.fpr
+        (of_parts a.body.items a.direct.items a.user_ids.items a.attributes.items a.subkeys.items) };
 }
 
 impl Cert {

@@ -42,7 +42,7 @@ impl<'a, R: Files> FolderShelf<'a, R> {
         })
     }
 
-    /// What an error of the system is: want of memory, or a fault, which is counted.
+    /// What an error of the system is: "out of memory", or a fault, which is counted.
     fn fault_of(&mut self, error: &io::Error) -> ShelfFault
         ensures cause { result ≡ ShelfFault.Failed → self.new ≡ next_count self.old }
         ensures wanting { result ≡ ShelfFault.Memory → self.new ≡ self.old }
@@ -56,7 +56,7 @@ impl<'a, R: Files> FolderShelf<'a, R> {
     }
 }
 
-/// Every error of the system is a fault, other than want of memory and, for a read, that a file or its folder isn't
+/// Every error of the system is a fault, other than "out of memory" and, for a read, that a file or its folder isn't
 /// there.
 impl<R: Files> Shelf for FolderShelf<'_, R> {
     ghost world = { λ _. None };

@@ -194,7 +194,7 @@ impl Shelf for MemoryShelf {
         ensures later { self.old.faults ≤ self.new.faults }
         ensures cause { IsErrOf result ShelfFault.Failed → Rose self.old.faults self.new.faults }
 
-        // What the trait leaves open: the count rises in these calls alone, and want of memory changes no entry.
+        // What the trait leaves open: the count rises in these calls alone, and "out of memory" leaves all entries.
         ensures counted { IsErrOf result ShelfFault.Failed → self.new.faults ≡ next_count self.old.faults }
         ensures done { OnOk result (self.new.faults ≡ self.old.faults) }
         ensures wanting { IsErrOf result ShelfFault.Memory → self.new ≡ record self.old { world = called self.old.world } }

@@ -1,7 +1,7 @@
 -- What is demanded of an edge, as its parts.
-use Rattle.std.proofs.Common.{◌≡◌, ◌≢◌, inl, inr, ℕ, suc, zero, ◌+◌, ◌<◌, ◌≤◌, Bool, true, false, cond, List, [], ◌∷◌, length, Option, Some, None, refl, sym, ap, subst, ◌∙◌, arith, leb-true, le-leb, not}
-use Rattle.std.specs.Prelude.{◌&&◌, nat_le, nat_lt, nat_eq}
-use Rattle.std.proofs.lemmas.Bool.{eqb-true, eq-eqb, not-true, ltb-true, lt-ltb}
+use Rattle.std.proofs.Common.{◌≡◌, ◌≢◌, ◌⊎◌, inl, inr, ℕ, suc, zero, ◌+◌, ◌<◌, ◌≤◌, Bool, true, false, cond, List, [], ◌∷◌, length, Option, Some, None, refl, sym, ap, subst, ◌∙◌, arith, leb-true, le-leb, not}
+use Rattle.std.specs.Prelude.{◌&&◌, ◌||◌, nat_le, nat_lt, nat_eq}
+use Rattle.std.proofs.lemmas.Bool.{eqb-true, eq-eqb, not-true, ltb-true, lt-ltb, and_parts, and_from, or_cases}
 use Rattle.wot_types.specs.declared.fpr.Fpr.{Fpr}
 use Rattle.wot_types.specs.Fpr.{same_fpr}
 use Rattle.wot_types.specs.FprLaws.{same_fpr-true, same_fpr-refl}
@@ -13,7 +13,6 @@ use Rattle.wot_check.specs.declared.demand.Demand.TheVariants.{On, Before}
 use Rattle.wot_check.specs.Demand.{is_place, is_met, demand_of, is_in_scope, promises, may_stand, is_within, is_covered, Covers}
 use Rattle.wot_check.specs.Table.{Labels, label_at, IsWithin}
 use Rattle.wot_check.specs.Absence.{MayPrecede, LastLabelled}
-use Rattle.wot_check.proofs.Truths.{and-true, true-and, or-true, true-or}
 
 -- ---- fingerprints
 
@@ -54,16 +53,16 @@ pub record IsOpenRow (used : Use) (row : Row) : Type 0 where
 module _ (target : Fpr) (used : Use) (row : Row) where
   parts : (demand : Demand) → may_stand target used demand row ≡ true → (is_met target demand row.edge ≡ true) × IsOpenRow used row × (is_in_scope demand row ≡ true)
   parts demand s =
-      let a = and-true (promises target used demand row.edge) (row.usable && is_in_scope demand row) s in
-      let b = and-true (is_met target demand row.edge) (nat_lt 0 (step_left used (step_of row.edge))) a.0 in
-      let c = and-true row.usable (is_in_scope demand row) a.1 in
+      let a = and_parts (promises target used demand row.edge) (row.usable && is_in_scope demand row) s in
+      let b = and_parts (is_met target demand row.edge) (nat_lt 0 (step_left used (step_of row.edge))) a.0 in
+      let c = and_parts row.usable (is_in_scope demand row) a.1 in
       (b.0, record { usable = c.0; left = ltb-true 0 (step_left used (step_of row.edge)) b.1 }, c.1)
 
   whole : (demand : Demand) → is_met target demand row.edge ≡ true → IsOpenRow used row → is_in_scope demand row ≡ true → may_stand target used demand row ≡ true
   whole demand m o s =
-      true-and (promises target used demand row.edge) (row.usable && is_in_scope demand row)
-      (true-and (is_met target demand row.edge) (nat_lt 0 (step_left used (step_of row.edge))) m (lt-ltb 0 (step_left used (step_of row.edge)) o.left))
-      (true-and row.usable (is_in_scope demand row) o.usable s)
+      and_from (promises target used demand row.edge) (row.usable && is_in_scope demand row)
+      (and_from (is_met target demand row.edge) (nat_lt 0 (step_left used (step_of row.edge))) m (lt-ltb 0 (step_left used (step_of row.edge)) o.left))
+      (and_from row.usable (is_in_scope demand row) o.usable s)
 
   pub on_parts : (place : Option ℕ) → may_stand target used (On place) row ≡ true → (place ≡ Some row.edge.uid) × IsOpenRow used row
   on_parts place s = let p = parts (On place) s in (place-true place row.edge.uid p.0, p.1)
@@ -74,12 +73,12 @@ module _ (target : Fpr) (used : Use) (row : Row) where
   pub before_parts : (size : ℕ) → may_stand target used (Before size) row ≡ true → (size ≤ row.edge.depth) × (row.scope ≡ true) × (row.edge.issuer ≢ target) × IsOpenRow used row
   before_parts size s =
       let p = parts (Before size) s in
-      let a = and-true (nat_le size row.edge.depth) (not (same_fpr row.edge.issuer target)) p.0 in
+      let a = and_parts (nat_le size row.edge.depth) (not (same_fpr row.edge.issuer target)) p.0 in
       (leb-true size row.edge.depth a.0, p.2, false-apart row.edge.issuer target (not-true (same_fpr row.edge.issuer target) a.1), p.1)
 
   pub before_whole : (size : ℕ) → size ≤ row.edge.depth → row.scope ≡ true → row.edge.issuer ≢ target → IsOpenRow used row → may_stand target used (Before size) row ≡ true
   before_whole size d s n o =
-      whole (Before size) (true-and (nat_le size row.edge.depth) (not (same_fpr row.edge.issuer target)) (le-leb size row.edge.depth d) (ap not (apart-false row.edge.issuer target n))) o s
+      whole (Before size) (and_from (nat_le size row.edge.depth) (not (same_fpr row.edge.issuer target)) (le-leb size row.edge.depth d) (ap not (apart-false row.edge.issuer target n))) o s
 
 -- ---- before steps
 
@@ -114,10 +113,15 @@ some_within most label o e le = subst (IsWithin most) (sym e) le
 
 -- a covered edge that may stand there
 pub covered_within : (target : Fpr) (used : Use) (demand : Demand) (most : ℕ) (table : Labels) (row : Row) → is_covered target used demand most table row ≡ true → may_stand target used demand row ≡ true → IsWithin most (label_at table row.edge.issuer)
-covered_within target used demand most table row c s = elim (or-true (is_within most (label_at table row.edge.issuer)) (not (may_stand target used demand row)) c) [
+covered_within target used demand most table row c s = elim (or_cases (is_within most (label_at table row.edge.issuer)) (not (may_stand target used demand row)) c) [
   | inl w ↦ within-true most (label_at table row.edge.issuer) w
   | inr n ↦ let f = not-true (may_stand target used demand row) n in absurd cc
 ]
+
+true-or : (a b : Bool) → (a ≡ true) ⊎ (b ≡ true) → (a || b) ≡ true
+true-or true b e = refl
+true-or false b (inl e) = absurd cc
+true-or false b (inr e) = e
 
 pub within_covered : (target : Fpr) (used : Use) (demand : Demand) (most : ℕ) (table : Labels) (row : Row) → (may_stand target used demand row ≡ true → IsWithin most (label_at table row.edge.issuer)) → is_covered target used demand most table row ≡ true
 within_covered target used demand most table row f = by (may_stand target used demand row) refl

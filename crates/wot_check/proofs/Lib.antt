@@ -1,4 +1,3 @@
-pub mod Truths
 pub mod Demands
 pub mod Trails
 pub mod Entries

@@ -2,7 +2,7 @@
 use Rattle.std.proofs.Common.{◌≡◌, ℕ, suc, ◌<◌, true, false, List, [], ◌∷◌, ◌++◌, length, map, Some, None, refl, sym, ap, subst, ◌∙◌, arith, append_assoc}
 use Rattle.std.proofs.lemmas.List.{append-nil}
 use Rattle.std.specs.Prelude.{nat_eq}
-use Rattle.std.proofs.lemmas.Bool.{eqb-true, eq-eqb}
+use Rattle.std.proofs.lemmas.Bool.{eqb-true, eq-eqb, and_parts, and_from}
 use Rattle.wot_types.specs.declared.fpr.Fpr.{Fpr}
 use Rattle.wot_types.specs.Fpr.{same_fpr}
 use Rattle.wot_types.specs.FprLaws.{same_fpr-true, same_fpr-refl}
@@ -16,19 +16,18 @@ use Rattle.wot_check.specs.Demand.{demand_of, may_stand}
 use Rattle.wot_check.specs.Trace.{begin_of, Follows, Traces, IsNamed, IsFollower, has_name}
 use Rattle.wot_check.proofs.Demands.{stands_reaches, reaches_stands}
 use Rattle.wot_check.proofs.Rows.{row_edge}
-use Rattle.wot_check.proofs.Truths.{and-true, true-and}
 use Rattle.wot_check.proofs.Trails.{Trail}
 
 -- ---- names
 
 pub has_name-true : (item : ClaimedStep) (edge : EdgeFacts) → has_name item edge ≡ true → IsNamed item edge
 has_name-true item edge e =
-    let a = and-true (same_fpr edge.issuer item.issuer) (nat_eq edge.uid item.place) e in
+    let a = and_parts (same_fpr edge.issuer item.issuer) (nat_eq edge.uid item.place) e in
     (same_fpr-true edge.issuer item.issuer a.0, eqb-true edge.uid item.place a.1)
 
 pub true-has_name : (item : ClaimedStep) (edge : EdgeFacts) → IsNamed item edge → has_name item edge ≡ true
 true-has_name item edge n =
-    true-and (same_fpr edge.issuer item.issuer) (nat_eq edge.uid item.place)
+    and_from (same_fpr edge.issuer item.issuer) (nat_eq edge.uid item.place)
     (subst (λ (x : Fpr). same_fpr edge.issuer x ≡ true) n.0 (same_fpr-refl edge.issuer)) (eq-eqb edge.uid item.place n.1)
 
 -- ---- one step

@@ -5,7 +5,7 @@ use Rattle.wot_verdict.specs.Verdicts.{Entries}
 use Rattle.wot_cert.specs.Certificate.{Component, Certificate}
 use Rattle.wot_edge.specs.Answer.{IsAnswer, amount_of}
 use Rattle.wot_edge.specs.Path.{Question, asks}
-use Rattle.wot_edge.specs.Record.{Record}
+use Rattle.wot_edge.specs.Record.{IsRecord, Record}
 use Rattle.wot_edge.specs.declared.path.Path.{Path}
 use Rattle.wot_keyring.specs.Keyring.{Certificates}
 use Rattle.wot_network.specs.Told.{record_of}
@@ -45,6 +45,21 @@ abbrev pub IsListed : (List ℕ → Record) → List (Fpr × ℕ) → ℕ → Li
 IsListed told roots wanted [] binds = binds ≡ []
 IsListed told roots wanted (pair ∷ pairs) binds =
     IsWithFirst (asks (told pair.1) roots pair.0) wanted pair (IsListed told roots wanted pairs) binds
+
+-- That is so of any pairs, by whatever is told, from whatever roots, up to whatever amount.
+abbrev pub IsOfEachList : ((List ℕ → Record) → List (Fpr × ℕ) → ℕ → List Pair → Type 0) → Type 0
+IsOfEachList P =
+    (told : List ℕ → Record) (roots : List (Fpr × ℕ)) (wanted : ℕ) (pairs : List Pair) → P told roots wanted pairs
+
+-- There is such a list, where an amount is wanted.
+abbrev pub HasList : (List ℕ → Record) → List (Fpr × ℕ) → ℕ → List Pair → Type 0
+HasList told roots wanted pairs = 1 ≤ wanted → (binds : List Bind) × IsListed told roots wanted pairs binds
+
+-- There is only one, where what is told is a record.
+abbrev pub HasOneList : (List ℕ → Record) → List (Fpr × ℕ) → ℕ → List Pair → Type 0
+HasOneList told roots wanted pairs =
+    (a b : List Bind) → ((u : List ℕ) → IsRecord (told u))
+    → IsListed told roots wanted pairs a → IsListed told roots wanted pairs b → a ≡ b
 
 -- These are so listed, and nothing else is.
 pub record IsTheList (told : List ℕ → Record) (roots : List (Fpr × ℕ)) (wanted : ℕ) (pairs : List Pair) (binds : List Bind)

@@ -38,6 +38,12 @@ pub record IsOnUserId (c : Certificate) (place : ℕ) (uid : Component) (s : Sig
   pub there : Has uid.sigs s
   pub kind : is_certification s ≡ true
 
+-- That is so of each certification on a user ID, by whatever verdicts and certificates tell at whatever time.
+abbrev pub IsOfEachUserId : (Entries → Certificates → ℕ → Certificate → ℕ → Component → Signature → Type 0) → Type 0
+IsOfEachUserId P =
+    (verdicts : Entries) (certs : Certificates) (t : ℕ) (c : Certificate) (place : ℕ) (uid : Component) (s : Signature)
+    → IsOnUserId c place uid s → P verdicts certs t c place uid s
+
 -- Its word is 0 exactly where it is a usable edge.
 abbrev pub ZeroIsUsable : Entries → Certificates → ℕ → Certificate → ℕ → Component → Signature → Type 0
 ZeroIsUsable verdicts certs t c place uid s =

@@ -10,6 +10,7 @@ use Rattle.std.proofs.lemmas.Map.Entries.{none_past_head}
 use Rattle.std.proofs.lemmas.Map.Keys.{IsDistinct-from_sorted, sorted_tail}
 use Rattle.wot_types.specs.declared.fpr.Fpr.{Fpr}
 use Rattle.wot_types.specs.Fpr.{fpr_cmp}
+use Rattle.wot_types.specs.FprLaws.{fpr_total, same_fpr-true}
 use Rattle.wot_key.specs.Key.{fpr_of}
 use Rattle.wot_policy.specs.declared.rows.PolicyRows.{PolicyRows}
 use Rattle.wot_cert.specs.Certificate.{Certificate}
@@ -18,7 +19,6 @@ use Rattle.wot_keyring.specs.Import.{clash, any_clash}
 use Rattle.wot_keyring.specs.Keyring.{Entries, is_fpr, stripped}
 use Rattle.wot_keyring.specs.Kept.{AreNamed, AreSortedByFpr}
 use Rattle.wot_keyring.specs.Staging.{found_for, kept_as, kept_with, clash_at, clash_in}
-use Rattle.wot_keyring.proofs.Places.{fprs_total, same_fpr}
 use Rattle.wot_keyring.proofs.Inserts.{lookup_insert}
 
 -- the kept certificates
@@ -31,7 +31,7 @@ or_false false c h = h
 
 no_more : (x : Certificate) (e : Fpr × Kept) (es : Entries) → AreSortedByFpr (e ∷ es) → is_fpr (fpr_of x.key) e.0 ≡ true → lookup (is_fpr (fpr_of x.key)) es ≡ None
 no_more x e es sorted t =
-    lookup-none (is_fpr (fpr_of x.key)) es (none_past_head (eq_by_cmp_equiv fprs_total) (fpr_of x.key) e es (IsDistinct-from_sorted fpr_cmp (keys_of (e ∷ es)) sorted) t)
+    lookup-none (is_fpr (fpr_of x.key)) es (none_past_head (eq_by_cmp_equiv fpr_total) (fpr_of x.key) e es (IsDistinct-from_sorted fpr_cmp (keys_of (e ∷ es)) sorted) t)
 
 pub clash_kept : (x : Certificate) (es : Entries) → AreNamed es → AreSortedByFpr es → list_any (clash x) (bodies_of es) ≡ clash_at (found_for es x) x
 clash_kept x [] named sorted = refl
@@ -87,7 +87,7 @@ module _ (rows : PolicyRows) (stamp : ℕ) where
       ap (λ b. clash x c || b) (alike x)
       ∙ ((elim (is_fpr (fpr_of x.key) (fpr_of c.key)) as (λ b. is_fpr (fpr_of x.key) (fpr_of c.key) ≡ b → (b && not (pointwise nat_eq x.key c.key)) || clash_at (found_for es x) x ≡ clash_at (cond b (Some (kept_as rows stamp (found_for es c) c)) (found_for es x)) x) [
         | true ↦ λ t.
-            let one : fpr_of x.key ≡ fpr_of c.key = same_fpr (fpr_of x.key) (fpr_of c.key) t in
+            let one : fpr_of x.key ≡ fpr_of c.key = same_fpr-true (fpr_of x.key) (fpr_of c.key) t in
             ap (λ (f : Fpr). not (pointwise nat_eq x.key c.key) || clash_at (lookup (is_fpr f) es) x) one ∙ same_name c x (found_for es c) none
         | false ↦ λ t. refl
       ]) refl)

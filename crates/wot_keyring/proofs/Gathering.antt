@@ -8,6 +8,7 @@ use Rattle.std.specs.BTreeMap.{insert_entry}
 use Rattle.std.specs.Map.{lookup, remove_entry, values_of}
 use Rattle.wot_types.specs.declared.fpr.Fpr.{Fpr}
 use Rattle.wot_types.specs.Fpr.{fpr_cmp}
+use Rattle.wot_types.specs.FprLaws.{same_fpr-true, same_fpr-sym}
 use Rattle.wot_key.specs.Key.{fpr_of}
 use Rattle.wot_policy.specs.declared.rows.PolicyRows.{PolicyRows}
 use Rattle.wot_cert.specs.Certificate.{Certificate, unite, unmarked}
@@ -18,8 +19,6 @@ use Rattle.wot_keyring.specs.declared.staging.Fault.TheVariants.{Clash, Memory}
 use Rattle.wot_keyring.specs.Gather.{taken_one, taken_all, IsWholeState, DoTheSame, ComeToNothing, IsNothingTold, IsOwn, AreOwn, IsGathered}
 use Rattle.wot_keyring.specs.Keyring.{Certificates, is_fpr}
 use Rattle.wot_keyring.proofs.Inserts.{put_at, found_at}
-use Rattle.wot_keyring.proofs.Noted.{turned}
-use Rattle.wot_keyring.proofs.Places.{same_fpr}
 use Rattle.wot_keyring.proofs.Taking.{none_stays, all_of_both, swapped, come_to_nothing, whole_with_all, united_first}
 
 -- ---- names
@@ -65,7 +64,7 @@ module _ (rows : PolicyRows) where
       ∙ ap (λ (s : Option Certificates). taken_all rows s (values_of es ++ rest)) (sym (swapped rows kept c e.1 (turned_so c e.1 apart.0)))
     where
       turned_so : (x y : Certificate) → is_fpr (fpr_of x.key) (fpr_of y.key) ≡ false → is_fpr (fpr_of y.key) (fpr_of x.key) ≡ false
-      turned_so x y h = turned (fpr_of y.key) (fpr_of x.key) ∙ h
+      turned_so x y h = same_fpr-sym (fpr_of y.key) (fpr_of x.key) ∙ h
 
   -- what was taken out comes behind the others
   taken_behind : (fpr : Fpr) (es : Certificates) (c : Certificate) (rest : List Certificate) → AreOwn es → lookup (is_fpr fpr) (remove_entry (is_fpr fpr) es) ≡ None → lookup (is_fpr fpr) es ≡ Some c
@@ -76,7 +75,7 @@ module _ (rows : PolicyRows) where
       → taken_all rows (taken_one rows kept e.1) (values_of es ++ rest) ≡ taken_all rows kept (values_of (cond b es (e ∷ remove_entry (is_fpr fpr) es)) ++ c ∷ rest)) [
         | true ↦ λ t none some.
             let this : e.1 ≡ c = cc in
-            let one : fpr ≡ fpr_of e.1.key = same_fpr fpr e.0 t ∙ own.0.0 in
+            let one : fpr ≡ fpr_of e.1.key = same_fpr-true fpr e.0 t ∙ own.0.0 in
             sym (moved es e.1 rest (subst (λ (f : Fpr). AreOthers f es) one (others fpr es own.1 none)) kept)
             ∙ ap (λ (x : Certificate). taken_all rows kept (values_of es ++ x ∷ rest)) this
         | false ↦ λ f none some.

@@ -1,11 +1,10 @@
 -- What is held after a change of the keyring: the change of what is held.
 use Rattle.std.proofs.Common.{◌≡◌, ◌≢◌, ℕ, ◌+◌, Bool, true, false, cond, if◌then◌else◌, List, [], ◌∷◌, map, Option, Some, None, Result, Ok, Err, OnOk, refl, sym, ap, subst, ◌∙◌}
 use Rattle.std.specs.Option.{option_map_or}
-use Rattle.std.specs.Ordering.{is_eq}
 use Rattle.std.specs.Map.{remove_entry}
-use Rattle.std.proofs.lemmas.Cmp.{tied_itself}
 use Rattle.wot_types.specs.declared.fpr.Fpr.{Fpr}
 use Rattle.wot_types.specs.declared.number.SigNumber.{SigNumber}
+use Rattle.wot_types.specs.FprLaws.{same_fpr-true, same_fpr-refl}
 use Rattle.wot_policy.specs.declared.rows.PolicyRows.{PolicyRows}
 use Rattle.wot_verdict.specs.Verdicts as verdicts
 use Rattle.wot_verdict.specs.Verdicts.{verdict_at, with_verdict, without_verdict}
@@ -18,7 +17,6 @@ use Rattle.wot_keyring.specs.Import.{imported, importing, spelled_in, stamped, w
 use Rattle.wot_keyring.specs.Removal.{without_cert}
 use Rattle.wot_keyring.specs.Verdict.{counted_at, with_verdict_on, without_verdict_on}
 use Rattle.wot_keyring.proofs.Keeping.{restamped_same}
-use Rattle.wot_keyring.proofs.Places.{fprs_total, same_fpr}
 
 -- ---- certificates
 
@@ -46,17 +44,14 @@ held_removed k fpr = ap (with_certs_of k) (removed_stripped (is_fpr fpr) k.certs
 
 -- ---- verdicts
 
-itself : (a : Fpr) → is_fpr a a ≡ true
-itself a = ap is_eq (tied_itself fprs_total a)
-
 verdict_same : (a b : Verdict) → is_verdict a b ≡ true → b ≡ a
-verdict_same (Good fpr) (Good other) e = ap Good (sym (same_fpr fpr other e))
+verdict_same (Good fpr) (Good other) e = ap Good (sym (same_fpr-true fpr other e))
 verdict_same (Good fpr) Bad e = absurd cc
 verdict_same Bad (Good other) e = absurd cc
 verdict_same Bad Bad e = refl
 
 verdict_itself : (a : Verdict) → is_verdict a a ≡ true
-verdict_itself (Good fpr) = itself fpr
+verdict_itself (Good fpr) = same_fpr-refl fpr
 verdict_itself Bad = refl
 
 said : (v : Verdict) (o : Option Verdict) → option_map_or (is_verdict v) o false ≡ true → o ≡ Some v

@@ -11,10 +11,10 @@ use Rattle.std.proofs.lemmas.Map.Entries.{none_below_head}
 use Rattle.std.proofs.lemmas.Map.Keys.{sorted_head, sorted_tail}
 use Rattle.wot_types.specs.declared.fpr.Fpr.{Fpr}
 use Rattle.wot_types.specs.Fpr.{fpr_cmp}
+use Rattle.wot_types.specs.FprLaws.{fpr_total, fpr_exact, same_fpr-true}
 use Rattle.wot_keyring.specs.declared.kept.Kept.{Kept}
 use Rattle.wot_keyring.specs.Keyring.{Entries, is_fpr}
 use Rattle.wot_keyring.specs.Kept.{AreSortedByFpr}
-use Rattle.wot_keyring.proofs.Places.{fprs_total, exact, same_fpr}
 
 -- Mapping the values and putting one in commute.
 pub map_insert : {X : Type 0} (g : Kept → X) (es : Entries) (fpr : Fpr) (kept : Kept) → map (λ (e : Fpr × Kept). (e.0, g e.1)) (insert_entry fpr_cmp es fpr kept) ≡ insert_entry fpr_cmp (map (λ (e : Fpr × Kept). (e.0, g e.1)) es) fpr (g kept)
@@ -32,7 +32,7 @@ put_at P [] fpr kept all p = (p, tt)
 put_at {V} P (e ∷ es) fpr kept all p =
     elim (fpr_cmp fpr e.0) as (λ r. fpr_cmp fpr e.0 ≡ r → AllByRecursion (λ (x : Fpr × V). P x.0 x.1) (match_ordering r ((fpr, kept) ∷ e ∷ es) ((e.0, kept) ∷ es) (e ∷ insert_entry fpr_cmp es fpr kept))) [
       | Less ↦ λ less. (p, all)
-      | Equal ↦ λ equal. (subst (λ (f : Fpr). P f kept) (exact fpr e.0 equal) p, all.1)
+      | Equal ↦ λ equal. (subst (λ (f : Fpr). P f kept) (fpr_exact fpr e.0 equal) p, all.1)
       | Greater ↦ λ greater. (all.0, put_at P es fpr kept all.1 p)
     ] refl
 
@@ -41,7 +41,7 @@ pub found_at : {V : Type 0} (P : Fpr → V → Type 0) (fpr : Fpr) (es : List (F
 found_at P fpr [] kept all found = absurd cc
 found_at {V} P fpr (e ∷ es) kept all found =
     (elim (is_fpr fpr e.0) as (λ b. is_fpr fpr e.0 ≡ b → cond b (Some e.1) (lookup (is_fpr fpr) es) ≡ Some kept → P fpr kept) [
-      | true ↦ λ t f. let same : e.1 ≡ kept = cc in subst (λ (x : V). P fpr x) same (subst (λ (g : Fpr). P g e.1) (sym (same_fpr fpr e.0 t)) all.0)
+      | true ↦ λ t f. let same : e.1 ≡ kept = cc in subst (λ (x : V). P fpr x) same (subst (λ (g : Fpr). P g e.1) (sym (same_fpr-true fpr e.0 t)) all.0)
       | false ↦ λ t f. found_at P fpr es kept all.1 f
     ]) refl found
 
@@ -75,7 +75,7 @@ pub insert_same : (es : Entries) (fpr : Fpr) (kept : Kept) → AreSortedByFpr es
 insert_same [] fpr kept sorted found = absurd cc
 insert_same (e ∷ es) fpr kept sorted found =
     (elim (fpr_cmp fpr e.0) as (λ r. fpr_cmp fpr e.0 ≡ r → cond (is_eq r) (Some e.1) (lookup (is_fpr fpr) es) ≡ Some kept → match_ordering r ((fpr, kept) ∷ e ∷ es) ((e.0, kept) ∷ es) (e ∷ insert_entry fpr_cmp es fpr kept) ≡ e ∷ es) [
-      | Less ↦ λ less some. absurd (none_some _ _ (lookup-none (is_fpr fpr) (e ∷ es) (none_below_head fprs_total fpr e es sorted less)) found)
+      | Less ↦ λ less some. absurd (none_some _ _ (lookup-none (is_fpr fpr) (e ∷ es) (none_below_head fpr_total fpr e es sorted less)) found)
       | Equal ↦ λ equal some. let same : e.1 ≡ kept = cc in ap (λ (x : Kept). (e.0, x) ∷ es) (sym same)
       | Greater ↦ λ greater some. ap (λ (rest : Entries). e ∷ rest) (insert_same es fpr kept (sorted_tail fpr_cmp e.0 (keys_of es) sorted) some)
     ]) refl found
@@ -84,12 +84,12 @@ insert_same (e ∷ es) fpr kept sorted found =
 lifted : (e : Fpr × Kept) (es ys : Entries) → AllByRecursion (λ (x : Fpr × Kept). lookup (is_fpr x.0) es ≡ Some x.1) ys → AllByRecursion (λ y. fpr_cmp e.0 y ≡ Less) (keys_of ys) → AllByRecursion (λ (x : Fpr × Kept). lookup (is_fpr x.0) (e ∷ es) ≡ Some x.1) ys
 lifted e es [] all below = tt
 lifted e es (y ∷ ys) all below =
-    (ap (λ r. cond (is_eq r) (Some e.1) (lookup (is_fpr y.0) es)) (fprs_total.antisymm y.0 e.0 ∙ ap ordering_reverse below.0) ∙ all.0, lifted e es ys all.1 below.1)
+    (ap (λ r. cond (is_eq r) (Some e.1) (lookup (is_fpr y.0) es)) (fpr_total.antisymm y.0 e.0 ∙ ap ordering_reverse below.0) ∙ all.0, lifted e es ys all.1 below.1)
 
 pub found_each : (es : Entries) → AreSortedByFpr es → AllByRecursion (λ (x : Fpr × Kept). lookup (is_fpr x.0) es ≡ Some x.1) es
 found_each [] sorted = tt
 found_each (e ∷ es) sorted =
-    (ap (λ r. cond (is_eq r) (Some e.1) (lookup (is_fpr e.0) es)) (tied_itself fprs_total e.0), lifted e es es (found_each es (sorted_tail fpr_cmp e.0 (keys_of es) sorted)) (sorted_head fpr_cmp e.0 (keys_of es) sorted))
+    (ap (λ r. cond (is_eq r) (Some e.1) (lookup (is_fpr e.0) es)) (tied_itself fpr_total e.0), lifted e es es (found_each es (sorted_tail fpr_cmp e.0 (keys_of es) sorted)) (sorted_head fpr_cmp e.0 (keys_of es) sorted))
 
 -- ---- a look-up after something is put in
 
@@ -105,8 +105,8 @@ swapped false false x y o apart = refl
 
 greater_apart : (q a b : Fpr) → fpr_cmp a b ≡ Greater → is_fpr q b ≡ true → is_fpr q a ≡ true → ⊥
 greater_apart q a b greater h k =
-    let same : a ≡ b = sym (same_fpr q a k) ∙ same_fpr q b h in
-    let equal : fpr_cmp a b ≡ Equal = ap (λ (x : Fpr). fpr_cmp a x) (sym same) ∙ tied_itself fprs_total a in
+    let same : a ≡ b = sym (same_fpr-true q a k) ∙ same_fpr-true q b h in
+    let equal : fpr_cmp a b ≡ Equal = ap (λ (x : Fpr). fpr_cmp a x) (sym same) ∙ tied_itself fpr_total a in
     cc
 
 pub lookup_insert : {V : Type 0} (q : Fpr) (es : List (Fpr × V)) (fpr : Fpr) (kept : V) → lookup (is_fpr q) (insert_entry fpr_cmp es fpr kept) ≡ cond (is_fpr q fpr) (Some kept) (lookup (is_fpr q) es)
@@ -114,6 +114,6 @@ lookup_insert q [] fpr kept = refl
 lookup_insert {V} q (e ∷ es) fpr kept =
     elim (fpr_cmp fpr e.0) as (λ r. fpr_cmp fpr e.0 ≡ r → lookup (is_fpr q) (match_ordering r ((fpr, kept) ∷ e ∷ es) ((e.0, kept) ∷ es) (e ∷ insert_entry fpr_cmp es fpr kept)) ≡ cond (is_fpr q fpr) (Some kept) (cond (is_fpr q e.0) (Some e.1) (lookup (is_fpr q) es))) [
       | Less ↦ λ less. refl
-      | Equal ↦ λ equal. same_twice (is_fpr q e.0) kept e.1 (lookup (is_fpr q) es) ∙ ap (λ (f : Fpr). cond (is_fpr q f) (Some kept) (cond (is_fpr q e.0) (Some e.1) (lookup (is_fpr q) es))) (sym (exact fpr e.0 equal))
+      | Equal ↦ λ equal. same_twice (is_fpr q e.0) kept e.1 (lookup (is_fpr q) es) ∙ ap (λ (f : Fpr). cond (is_fpr q f) (Some kept) (cond (is_fpr q e.0) (Some e.1) (lookup (is_fpr q) es))) (sym (fpr_exact fpr e.0 equal))
       | Greater ↦ λ greater. ap (λ (o : Option V). cond (is_fpr q e.0) (Some e.1) o) (lookup_insert q es fpr kept) ∙ swapped (is_fpr q e.0) (is_fpr q fpr) e.1 kept (lookup (is_fpr q) es) (greater_apart q fpr e.0 greater)
     ] refl

@@ -8,6 +8,7 @@ use Rattle.std.proofs.lemmas.List.Folds.{list_any-append}
 use Rattle.std.proofs.lemmas.Map.Made.{lookup-map_values}
 use Rattle.wot_types.specs.declared.fpr.Fpr.{Fpr}
 use Rattle.wot_types.specs.declared.number.SigNumber.{SigNumber}
+use Rattle.wot_types.specs.FprLaws.{same_fpr-true, same_fpr-refl}
 use Rattle.wot_key.specs.Key.{fpr_of}
 use Rattle.wot_cert.specs.Certificate.{Certificate}
 use Rattle.wot_keyring.specs.declared.kept.Kept.{Kept}
@@ -17,8 +18,7 @@ use Rattle.wot_keyring.specs.Keyring.{Entries, is_fpr}
 use Rattle.wot_keyring.specs.Kept.{AreSortedByFpr, AreStamped}
 use Rattle.wot_keyring.specs.Log.{Logged, AreRising, IsRisingTo, IsLogOf, LogsAt, RestampsThese, is_logged_at, is_named_in}
 use Rattle.wot_keyring.specs.Verdict.{has_number, restamped, restamped_all}
-use Rattle.wot_keyring.proofs.Noted.{found_without, itself}
-use Rattle.wot_keyring.proofs.Places.{same_fpr}
+use Rattle.wot_keyring.proofs.Noted.{found_without}
 use Rattle.wot_keyring.proofs.Stamps.{stamp_found}
 
 same_number : (n : ℕ) → nat_eq n n ≡ true
@@ -69,10 +69,10 @@ logs_one stamp fpr old new past from put = record {
   past = subst (λ n. n ≤ stamp) (sym from) past;
   kept = λ s q h k logged. ap (is_logged_at s q) put ∙ logged_and s q old.entries.items (stamp, fpr) ∙ or_left (is_logged_at s q old.entries.items) _ logged;
   logged = λ q h k.
-      let same : q ≡ fpr = sym (same_fpr fpr q k) in
+      let same : q ≡ fpr = sym (same_fpr-true fpr q k) in
       ap (is_logged_at stamp q) put
       ∙ logged_and stamp q old.entries.items (stamp, fpr)
-      ∙ or_right (is_logged_at stamp q old.entries.items) _ (or_left (nat_eq stamp stamp && is_fpr q fpr) false (ap (λ b. b && is_fpr q fpr) (same_number stamp) ∙ ap (λ (f : Fpr). is_fpr f fpr) same ∙ itself fpr));
+      ∙ or_right (is_logged_at stamp q old.entries.items) _ (or_left (nat_eq stamp stamp && is_fpr q fpr) false (ap (λ b. b && is_fpr q fpr) (same_number stamp) ∙ ap (λ (f : Fpr). is_fpr f fpr) same ∙ same_fpr-refl fpr));
   rising = λ r. record {
     rising = subst AreRising (sym put) (rising_and stamp fpr old.entries.items r.rising r.past);
     past = subst (AllByRecursion (λ (e : ℕ × Fpr). e.0 ≤ stamp)) (sym put) (all_and (λ e. e.0 ≤ stamp) old.entries.items (stamp, fpr) r.past (reach stamp));

@@ -10,12 +10,12 @@ use Rattle.std.proofs.lemmas.Map.Keys.{sorted_tail}
 use Rattle.std.proofs.lemmas.Cmp.{tied_itself}
 use Rattle.wot_types.specs.declared.fpr.Fpr.{Fpr}
 use Rattle.wot_types.specs.Fpr.{fpr_cmp}
+use Rattle.wot_types.specs.FprLaws.{fpr_total}
 use Rattle.wot_keyring.specs.declared.kept.Kept.{Kept}
 use Rattle.wot_keyring.specs.declared.staging.Was.{Was}
 use Rattle.wot_keyring.specs.Keyring.{Entries, is_fpr}
 use Rattle.wot_keyring.specs.Kept.{AreSortedByFpr}
 use Rattle.wot_keyring.specs.Staging.{back, LeadsBack, IsLog, StillLeadsBack}
-use Rattle.wot_keyring.proofs.Places.{fprs_total}
 
 -- the last step of a log
 pub log_more : (first : Entries) (ws : List Was) (w : Was) (es es' : Entries) → IsLog first ws es → LeadsBack es w es' → IsLog first (ws ++ w ∷ []) es'
@@ -34,7 +34,7 @@ absurd_found : (o : Option Kept) → o ≡ None → is_some o ≡ true → ⊥
 absurd_found o e f = let g : is_some {T = Kept} None ≡ true = subst (λ (x : Option Kept). is_some x ≡ true) e f in cc
 
 same_place : (fpr : Fpr) → fpr_cmp fpr fpr ≡ Equal
-same_place fpr = tied_itself fprs_total fpr
+same_place fpr = tied_itself fpr_total fpr
 
 -- a certificate that was put in is found
 pub put_found : (es : Entries) (fpr : Fpr) (kept : Kept) → is_some (lookup (is_fpr fpr) (insert_entry fpr_cmp es fpr kept)) ≡ true
@@ -62,7 +62,7 @@ place_again [] fpr kept old sorted found = absurd cc
 place_again (e ∷ es) fpr kept old sorted found =
     (elim (fpr_cmp fpr e.0) as (λ r. fpr_cmp fpr e.0 ≡ r → cond (is_eq r) (Some e.1) (lookup (is_fpr fpr) es) ≡ Some old → insert_entry fpr_cmp (match_ordering r ((fpr, kept) ∷ e ∷ es) ((e.0, kept) ∷ es) (e ∷ insert_entry fpr_cmp es fpr kept)) fpr old ≡ e ∷ es) [
       | Less ↦ λ less some.
-          let absent : lookup (is_fpr fpr) (e ∷ es) ≡ None = lookup-none (is_fpr fpr) (e ∷ es) (none_below_head fprs_total fpr e es sorted less) in
+          let absent : lookup (is_fpr fpr) (e ∷ es) ≡ None = lookup-none (is_fpr fpr) (e ∷ es) (none_below_head fpr_total fpr e es sorted less) in
           absurd (none_some _ _ absent found)
       | Equal ↦ λ equal some.
           let same : e.1 ≡ old = cc in

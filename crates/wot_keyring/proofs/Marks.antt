@@ -4,6 +4,7 @@ use Rattle.std.specs.List.{AllByRecursion}
 use Rattle.std.specs.Map.{lookup}
 use Rattle.std.proofs.lemmas.Bool.Decides.{nat_tests}
 use Rattle.wot_types.specs.declared.fpr.Fpr.{Fpr}
+use Rattle.wot_types.specs.PlainLaws.{all_then}
 use Rattle.wot_key.specs.Key.{fpr_of}
 use Rattle.wot_policy.specs.declared.rows.PolicyRows.{PolicyRows}
 use Rattle.wot_cert.specs.Certificate.{Certificate, unite}
@@ -31,10 +32,6 @@ none_least n = omega arith
 
 chain : (a b c : ℕ) → a ≤ b → b ≤ c → a ≤ c
 chain a b c h k = omega arith
-
-all_map : {A : Type 0} (P Q : A → Type 0) → ((x : A) → P x → Q x) → (xs : List A) → AllByRecursion P xs → AllByRecursion Q xs
-all_map P Q f [] all = tt
-all_map P Q f (x ∷ xs) all = (f x all.0, all_map P Q f xs all.1)
 
 marked_first : (k : Keyring) (e : Fpr × Kept) → lookup (is_fpr e.0) k.certs ≡ Some e.1 → Marked k e.0 e.1
 marked_first k e found = record {
@@ -91,7 +88,7 @@ module _ (rows : PolicyRows) (k : Keyring) (grows : (a b : Certificate) → item
   -- What is kept is what the definition says, with its stamps.
   pub stamped_all : (cs : List Certificate) → AreSortedByFpr k.certs → kept_all rows s k.certs cs ≡ map (stamped k) (with_certs rows (certificates_in k) cs)
   stamped_all cs sorted =
-      stamps_are (kept_all rows s k.certs cs) (all_marked k.certs cs (all_map (λ (e : Fpr × Kept). lookup (is_fpr e.0) k.certs ≡ Some e.1) (λ (e : Fpr × Kept). Marked k e.0 e.1) (marked_first k) k.certs (found_each k.certs sorted)) (λ q h. h))
+      stamps_are (kept_all rows s k.certs cs) (all_marked k.certs cs (all_then (λ (e : Fpr × Kept). lookup (is_fpr e.0) k.certs ≡ Some e.1) (λ (e : Fpr × Kept). Marked k e.0 e.1) (marked_first k) k.certs (found_each k.certs sorted)) (λ q h. h))
       ∙ ap (map (stamped k)) (certs_all rows s k.certs cs)
 
 -- ---- stamps stay the counts of changes

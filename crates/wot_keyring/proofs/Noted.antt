@@ -6,13 +6,14 @@ use Rattle.std.specs.Option.{option_map, option_map_or, MatchOption}
 use Rattle.std.specs.List.{AllByRecursion}
 use Rattle.std.specs.Map.{lookup, remove_entry, set_value, keys_of}
 use Rattle.std.proofs.lemmas.Bool.{or_parts}
-use Rattle.std.proofs.lemmas.Cmp.{eq_by_cmp_equiv, tied_itself}
+use Rattle.std.proofs.lemmas.Cmp.{eq_by_cmp_equiv}
 use Rattle.std.proofs.lemmas.Map.{lookup-remove_entry}
 use Rattle.std.proofs.lemmas.Map.Keys.{IsDistinct-from_sorted, sorted_head, sorted_tail}
 use Rattle.std.proofs.lemmas.Map.Made.{lookup-map_values}
 use Rattle.wot_types.specs.declared.fpr.Fpr.{Fpr}
 use Rattle.wot_types.specs.declared.number.SigNumber.{SigNumber}
 use Rattle.wot_types.specs.Fpr.{fpr_cmp}
+use Rattle.wot_types.specs.FprLaws.{fpr_total, same_fpr-true, same_fpr-refl, same_fpr-sym}
 use Rattle.wot_key.specs.Key.{fpr_of}
 use Rattle.wot_policy.specs.declared.rows.PolicyRows.{PolicyRows}
 use Rattle.wot_cert.specs.Certificate.{Certificate, unite}
@@ -26,19 +27,10 @@ use Rattle.wot_keyring.specs.Kept.{AreSortedByFpr, AreWhole}
 use Rattle.wot_keyring.specs.Staging.{found_for, kept_as, kept_with, kept_all, clash_at, clash_in}
 use Rattle.wot_keyring.specs.Verdict.{has_number, restamped, restamped_all}
 use Rattle.wot_keyring.proofs.Accepting.{whole_all}
-use Rattle.wot_keyring.proofs.Choices.{or_false, or_more, and_true, and_false, either_way}
+use Rattle.wot_keyring.proofs.Choices.{or_false, or_more, and_true, and_false}
 use Rattle.wot_keyring.proofs.Clashes.{keys_same}
 use Rattle.wot_keyring.proofs.Inserts.{found_at, found_each, lookup_insert}
 use Rattle.wot_keyring.proofs.Numbers.{united_numbers, judged_numbers}
-use Rattle.wot_keyring.proofs.Places.{fprs_total, same_fpr}
-
--- ---- fingerprints
-
-pub itself : (f : Fpr) → is_fpr f f ≡ true
-itself f = ap is_eq (tied_itself fprs_total f)
-
-pub turned : (a b : Fpr) → is_fpr a b ≡ is_fpr b a
-turned a b = either_way (is_fpr a b) (is_fpr b a) (λ h. subst (λ (x : Fpr). is_fpr x a ≡ true) (same_fpr a b h) (itself a)) (λ h. subst (λ (x : Fpr). is_fpr x b ≡ true) (same_fpr b a h) (itself b))
 
 -- whether a number stands on what was found
 abbrev on_found : SigNumber → Option Kept → Bool
@@ -59,10 +51,10 @@ module _ (united : (a b : Certificate) → IsCertificate a → IsCertificate b �
       ∙ ((elim (is_fpr q (fpr_of c.key)) as (λ b. is_fpr q (fpr_of c.key) ≡ b → on_found n (cond b (Some (kept_as rows stamp (found_for es c) c)) (lookup (is_fpr q) es)) ≡ (stands_at es n q || (has_number n c && b))) [
         | true ↦ λ same.
             on_kept n (found_for es c) c es refl all whole none
-            ∙ (λ i. on_found n (lookup (is_fpr (sym (same_fpr q (fpr_of c.key) same) i)) es) || sym (and_true (has_number n c)) i)
+            ∙ (λ i. on_found n (lookup (is_fpr (sym (same_fpr-true q (fpr_of c.key) same) i)) es) || sym (and_true (has_number n c)) i)
         | false ↦ λ other. sym (or_false (stands_at es n q)) ∙ ap (λ b. stands_at es n q || b) (sym (and_false (has_number n c)))
       ]) refl)
-      ∙ ap (λ b. stands_at es n q || (has_number n c && b)) (turned q (fpr_of c.key))
+      ∙ ap (λ b. stands_at es n q || (has_number n c && b)) (same_fpr-sym q (fpr_of c.key))
 
   stands_all : (n : SigNumber) (q : Fpr) (es : Entries) (cs : List Certificate) → AreWhole es → AllByRecursion IsCertificate cs → clash_in rows stamp es cs ≡ false → stands_at (kept_all rows stamp es cs) n q ≡ (stands_at es n q || stands_among cs n q)
   stands_all n q es [] all whole none = sym (or_false (stands_at es n q))
@@ -89,7 +81,7 @@ indexed_same old new es nothing before exact n q =
 
 place_is : (holder : Option Fpr) (p q : Fpr) → is_holder holder p ≡ true → is_holder holder q ≡ is_fpr p q
 place_is None p q h = absurd cc
-place_is (Some r) p q h = ap (λ (x : Fpr). is_fpr x q) (same_fpr r p h)
+place_is (Some r) p q h = ap (λ (x : Fpr). is_fpr x q) (same_fpr-true r p h)
 
 module _ (n : SigNumber) (fpr q : Fpr) (holder : Option Fpr) (es : Entries) (noted : (f : Fpr) → is_holder holder f ≡ stands_at es n f) where
   out_there : is_holder holder fpr ≡ true → false ≡ on_found n (cond (is_fpr fpr q) None (lookup (is_fpr q) es))
@@ -102,7 +94,7 @@ module _ (n : SigNumber) (fpr q : Fpr) (holder : Option Fpr) (es : Entries) (not
   out_not_there : is_holder holder fpr ≡ false → is_holder holder q ≡ on_found n (cond (is_fpr fpr q) None (lookup (is_fpr q) es))
   out_not_there not_there =
       (elim (is_fpr fpr q) as (λ b. is_fpr fpr q ≡ b → is_holder holder q ≡ on_found n (cond b None (lookup (is_fpr q) es))) [
-        | true ↦ λ same. ap (is_holder holder) (sym (same_fpr fpr q same)) ∙ not_there
+        | true ↦ λ same. ap (is_holder holder) (sym (same_fpr-true fpr q same)) ∙ not_there
         | false ↦ λ other. noted q
       ]) refl
 
@@ -113,7 +105,7 @@ module _ (n : SigNumber) (fpr q : Fpr) (holder : Option Fpr) (es : Entries) (not
 -- what is found without an entry
 pub found_without : (q fpr : Fpr) (es : Entries) → AreSortedByFpr es → lookup (is_fpr q) (remove_entry (is_fpr fpr) es) ≡ cond (is_fpr fpr q) None (lookup (is_fpr q) es)
 found_without q fpr es sorted =
-    lookup-remove_entry (eq_by_cmp_equiv fprs_total) (is_fpr fpr) (λ x y h. ap (λ (z : Fpr). is_fpr z y) (same_fpr fpr x h)) q es (IsDistinct-from_sorted fpr_cmp (keys_of es) sorted)
+    lookup-remove_entry (eq_by_cmp_equiv fpr_total) (is_fpr fpr) (λ x y h. ap (λ (z : Fpr). is_fpr z y) (same_fpr-true fpr x h)) q es (IsDistinct-from_sorted fpr_cmp (keys_of es) sorted)
 
 -- What stood on a certificate that is taken out isn't noted any more.
 pub indexed_without : (old new : Index) (es : Entries) (fpr : Fpr) (kept : Kept) → AreSortedByFpr es → Some kept ≡ lookup (is_fpr fpr) es → new.exact ≡ old.exact → ((n : SigNumber) → holder_of new.holders.entries n ≡ unless (has_number n kept.cert) (holder_of old.holders.entries n)) → IsIndexOf old es
@@ -153,7 +145,7 @@ module _ (n : SigNumber) (stamp : ℕ) where
       (elim (is_fpr g e.0) as (λ b. is_fpr g e.0 ≡ b → has_number n e.1.cert ≡ b → cond b (Some e.1) (lookup (is_fpr g) es) ≡ Some x → cond b ((e.0, record { cert = x.cert; stamp = stamp }) ∷ es) (e ∷ set_value (is_fpr g) es (record { cert = x.cert; stamp = stamp })) ≡ restamped_all n stamp (e ∷ es)) [
         | true ↦ λ t h f.
             let same : e.1 ≡ x = cc in
-            let below = subst (λ (y : Fpr). AllByRecursion (λ z. fpr_cmp y z ≡ Less) (keys_of es)) (sym (same_fpr g e.0 t)) (sorted_head fpr_cmp e.0 (keys_of es) sorted) in
+            let below = subst (λ (y : Fpr). AllByRecursion (λ z. fpr_cmp y z ≡ Less) (keys_of es)) (sym (same_fpr-true g e.0 t)) (sorted_head fpr_cmp e.0 (keys_of es) sorted) in
             sym (λ i. (e.0, record { cert = (same i).cert; stamp = cond (h i) stamp e.1.stamp }) ∷ unmoved es (apart g es below noted.1) i)
         | false ↦ λ t h f.
             λ i. (e.0, record { cert = e.1.cert; stamp = cond (sym h i) stamp e.1.stamp }) ∷ moved g x es (sorted_tail fpr_cmp e.0 (keys_of es) sorted) noted.1 f i
@@ -170,7 +162,7 @@ module _ (n : SigNumber) (stamp : ℕ) where
   restamped_there i es new fpr sorted indexed exact some done =
       let noted : (q : Fpr) → is_fpr fpr q ≡ stands_at es n q = λ q. ap (λ (p : Option Fpr). is_holder p q) (sym some) ∙ indexed exact n q in
       (elim (lookup (is_fpr fpr) es) as (λ (o : Option Kept). lookup (is_fpr fpr) es ≡ o → MatchOption o (new ≡ es) (λ (x : Kept). new ≡ set_value (is_fpr fpr) es (record { cert = x.cert; stamp = stamp })) → new ≡ restamped_all n stamp es) [
-        | None ↦ λ absent d. absurd (true_false (itself fpr) (noted fpr ∙ ap (on_found n) absent))
+        | None ↦ λ absent d. absurd (true_false (same_fpr-refl fpr) (noted fpr ∙ ap (on_found n) absent))
         | Some x ↦ λ found d. d ∙ moved fpr x es sorted (each_noted (Some fpr) es es noted (found_each es sorted)) found
       ]) refl done
     where

@@ -6,10 +6,10 @@ use Rattle.std.specs.BTreeMap.{insert_entry}
 use Rattle.std.proofs.lemmas.Cmp.{tied_itself}
 use Rattle.wot_types.specs.declared.fpr.Fpr.{Fpr}
 use Rattle.wot_types.specs.Fpr.{fpr_cmp}
-use Rattle.wot_keyring.proofs.Places.{fprs_total, exact}
+use Rattle.wot_types.specs.FprLaws.{fpr_total, fpr_exact}
 
 greater : (f g : Fpr) → fpr_cmp f g ≡ Less → fpr_cmp g f ≡ Greater
-greater f g less = fprs_total.antisymm g f ∙ ap ordering_reverse less
+greater f g less = fpr_total.antisymm g f ∙ ap ordering_reverse less
 
 module _ {V : Type 0} where
   abbrev put_into : List (Fpr × V) → Fpr → V → List (Fpr × V)
@@ -42,13 +42,13 @@ module _ {V : Type 0} where
             ∙ behind (f, x) (e ∷ es) g y (greater f g less)
             ∙ sym (lowest e es f g x y less h)
         | Equal ↦ λ h.
-            let above : fpr_cmp g e.0 ≡ Greater = ap (fpr_cmp g) (sym (exact f e.0 h)) ∙ greater f g less in
+            let above : fpr_cmp g e.0 ≡ Greater = ap (fpr_cmp g) (sym (fpr_exact f e.0 h)) ∙ greater f g less in
             ap (λ (z : List (Fpr × V)). put_into z g y) (in_place e es f x h)
             ∙ behind (e.0, x) es g y above
             ∙ sym (ap (λ (z : List (Fpr × V)). put_into z f x) (behind e es g y above) ∙ in_place e (put_into es g y) f x h)
         | Greater ↦ λ h.
-            let under : fpr_cmp e.0 f ≡ Less = fprs_total.antisymm e.0 f ∙ ap ordering_reverse h in
-            let above : fpr_cmp g e.0 ≡ Greater = greater e.0 g (fprs_total.trans e.0 f g under less) in
+            let under : fpr_cmp e.0 f ≡ Less = fpr_total.antisymm e.0 f ∙ ap ordering_reverse h in
+            let above : fpr_cmp g e.0 ≡ Greater = greater e.0 g (fpr_total.trans e.0 f g under less) in
             ap (λ (z : List (Fpr × V)). put_into z g y) (behind e es f x h)
             ∙ behind e (put_into es f x) g y above
             ∙ ap (λ (z : List (Fpr × V)). e ∷ z) (rising es f g x y less)
@@ -59,15 +59,15 @@ module _ {V : Type 0} where
   either_order es f g x y apart =
       (elim (fpr_cmp f g) as (λ r. fpr_cmp f g ≡ r → put_into (put_into es f x) g y ≡ put_into (put_into es g y) f x) [
         | Less ↦ λ h. rising es f g x y h
-        | Equal ↦ λ h. absurd (apart (exact f g h))
-        | Greater ↦ λ h. sym (rising es g f y x (fprs_total.antisymm g f ∙ ap ordering_reverse h))
+        | Equal ↦ λ h. absurd (apart (fpr_exact f g h))
+        | Greater ↦ λ h. sym (rising es g f y x (fpr_total.antisymm g f ∙ ap ordering_reverse h))
       ]) refl
 
   pub put_twice : (es : List (Fpr × V)) (f : Fpr) (x y : V) → put_into (put_into es f x) f y ≡ put_into es f y
-  put_twice [] f x y = in_place (f, x) [] f y (tied_itself fprs_total f)
+  put_twice [] f x y = in_place (f, x) [] f y (tied_itself fpr_total f)
   put_twice (e ∷ es) f x y =
       (elim (fpr_cmp f e.0) as (λ r. fpr_cmp f e.0 ≡ r → put_into (put_into (e ∷ es) f x) f y ≡ put_into (e ∷ es) f y) [
-        | Less ↦ λ h. ap (λ (z : List (Fpr × V)). put_into z f y) (in_front e es f x h) ∙ in_place (f, x) (e ∷ es) f y (tied_itself fprs_total f) ∙ sym (in_front e es f y h)
+        | Less ↦ λ h. ap (λ (z : List (Fpr × V)). put_into z f y) (in_front e es f x h) ∙ in_place (f, x) (e ∷ es) f y (tied_itself fpr_total f) ∙ sym (in_front e es f y h)
         | Equal ↦ λ h. ap (λ (z : List (Fpr × V)). put_into z f y) (in_place e es f x h) ∙ in_place (e.0, x) es f y h ∙ sym (in_place e es f y h)
         | Greater ↦ λ h. ap (λ (z : List (Fpr × V)). put_into z f y) (behind e es f x h) ∙ behind e (put_into es f x) f y h ∙ ap (λ (z : List (Fpr × V)). e ∷ z) (put_twice es f x y) ∙ sym (behind e es f y h)
       ]) refl

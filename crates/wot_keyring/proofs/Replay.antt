@@ -18,6 +18,8 @@ use Rattle.wot_types.specs.declared.limits.Limit.TheVariants as limits
 use Rattle.wot_types.specs.declared.number.SigNumber.{SigNumber}
 use Rattle.wot_types.specs.Fpr.{fpr_cmp}
 use Rattle.wot_types.specs.SigNumber.{number_cmp}
+use Rattle.wot_types.specs.FprLaws.{fpr_total}
+use Rattle.wot_types.specs.PlainLaws.{all_prefix}
 use Rattle.wot_key.specs.Key.{fpr_of}
 use Rattle.wot_packet.specs.Spelling.{Spelled}
 use Rattle.wot_packet.specs.Reading.{packets_of}
@@ -45,7 +47,6 @@ use Rattle.wot_keyring.specs.Verdict.{is_over}
 use Rattle.wot_keyring.specs.Kept.{AreSortedByFpr, AreNamed, IsNamed, AreSized, AreWhole, IsKeyring}
 use Rattle.wot_keyring.specs.Held.{Held, nothing, is_verdict, verdict_set}
 use Rattle.wot_keyring.specs.Dump.{after, after_all, import_of, judged_anew, setting, setting_of, text_import, unless_over, unless_refused, IsRestored}
-use Rattle.wot_keyring.proofs.Places.{fprs_total}
 use Rattle.wot_keyring.proofs.Behind.{AreBelow, all_at, below_next, none_before, put_behind}
 
 -- what is known of certificates
@@ -70,7 +71,7 @@ IsBefore fpr e = (e.0 ≡ fpr_of e.1.key) × (fpr_cmp e.0 fpr ≡ Less)
 
 apart : (a b : Fpr) → fpr_cmp b a ≡ Less → is_fpr a b ≡ false
 apart a b h =
-    let above : fpr_cmp a b ≡ Greater = fprs_total.antisymm a b ∙ ap ordering_reverse h in
+    let above : fpr_cmp a b ≡ Greater = fpr_total.antisymm a b ∙ ap ordering_reverse h in
     rw above refl
 
 no_clash : (c : Certificate) (certs : Certificates) → AllByRecursion (IsBefore (fpr_of c.key)) certs
@@ -93,9 +94,9 @@ put_last laws rows certs e named before =
     let below : AreBelow fpr_cmp e.0 certs = keys_below e.0 certs before in
     let At : Fpr → Certificates = λ f. insert_entry fpr_cmp certs f (united_with (lookup (is_fpr f) certs) (judged rows (unmarked c))) in
     ap At (sym named)
-    ∙ ap (λ (o : Option Certificate). insert_entry fpr_cmp certs e.0 (united_with o (judged rows (unmarked c)))) (none_before fpr_cmp fprs_total certs e.0 below)
+    ∙ ap (λ (o : Option Certificate). insert_entry fpr_cmp certs e.0 (united_with o (judged rows (unmarked c)))) (none_before fpr_cmp fpr_total certs e.0 below)
     ∙ ap (λ (d : Certificate). insert_entry fpr_cmp certs e.0 d) (laws.anew rows c)
-    ∙ put_behind fpr_cmp fprs_total certs e.0 (judged rows c) below
+    ∙ put_behind fpr_cmp fpr_total certs e.0 (judged rows c) below
 
 -- the answer to one certificate that clashes with none and passes no limit
 counted : (clashing : Bool) (full : Option Limit) (counts : Imported) → clashing ≡ false → full ≡ None
@@ -160,11 +161,6 @@ prefix_before : (rows : PolicyRows) (prefix : Entries) (e : Fpr × Kept) → Are
 prefix_before rows [] e named below = tt
 prefix_before rows (f ∷ prefix) e named below = ((named.0, below.0), prefix_before rows prefix e named.1 below.1)
 
--- what is true of each is true of each of a prefix
-prefix_all : {A : Type 0} (P : A → Type 0) (prefix rest : List A) → AllByRecursion P (prefix ++ rest) → AllByRecursion P prefix
-prefix_all P [] rest all = tt
-prefix_all P (x ∷ prefix) rest all = (all.0, prefix_all P prefix rest all.1)
-
 -- a prefix weighs no more than the whole
 prefix_weighs : (rows : PolicyRows) (weight : Certificate → ℕ) (same : (c : Certificate) → weight (judged rows c) ≡ weight c) (prefix rest : Entries)
     → weigh weight (map (anew rows) prefix) ≤ weigh weight (stripped (prefix ++ rest))
@@ -200,7 +196,7 @@ prefix_fits laws rows l prefix rest held =
     let same_size : (c : Certificate) → size_of (judged rows c) ≡ size_of c = λ c. ap length (laws.same_text rows c) in
     let certs : Certificates = map (anew rows) prefix in
     no_limit (has_greater l.certificate certs) (nat_lt l.certificates (length certs)) (nat_lt l.octets (weigh size_of certs)) (nat_lt l.signatures (weigh signatures_of certs))
-    (none_greater rows l.certificate same_size prefix (prefix_all (λ (e : Fpr × Kept). size_of e.1.cert ≤ l.certificate) prefix rest held.sized))
+    (none_greater rows l.certificate same_size prefix (all_prefix (λ (e : Fpr × Kept). size_of e.1.cert ≤ l.certificate) prefix rest held.sized))
     (within (length certs) (length (prefix ++ rest)) l.certificates (length-prefix rows prefix rest) held.few)
     (within (weigh size_of certs) (weigh size_of (stripped (prefix ++ rest))) l.octets (prefix_weighs rows size_of same_size prefix rest) held.octets)
     (within (weigh signatures_of certs) (weigh signatures_of (stripped (prefix ++ rest))) l.signatures
@@ -217,7 +213,7 @@ import_next : (laws : Laws) (rows : PolicyRows) (l : Limits) (prefix : Entries) 
 import_next laws rows l prefix e rest held =
     let Holdable : Entries → Type 0 = λ all. CanBeHeld l all in
     let Gives : Certificates → Option Held = λ certs. Some (record { certs = certs; verdicts = [] }) in
-    let named = prefix_all IsNamed prefix (e ∷ rest) held.named in
+    let named = all_prefix IsNamed prefix (e ∷ rest) held.named in
     let below = below_next fpr_cmp prefix e rest held.sorted in
     let fits = prefix_fits laws rows l (prefix ++ e ∷ []) rest (subst Holdable (sym (append_assoc prefix (e ∷ []) rest)) held) in
     let whole : map (anew rows) (prefix ++ e ∷ []) ≡ map (anew rows) prefix ++ anew rows e ∷ [] = map-append (anew rows) prefix (e ∷ []) in

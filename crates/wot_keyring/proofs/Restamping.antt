@@ -6,6 +6,7 @@ use Rattle.std.specs.List.{AllByRecursion}
 use Rattle.std.specs.Map.{lookup}
 use Rattle.std.proofs.lemmas.Bool.Decides.{nat_tests}
 use Rattle.wot_types.specs.declared.fpr.Fpr.{Fpr}
+use Rattle.wot_types.specs.FprLaws.{same_fpr-true, same_fpr-sym}
 use Rattle.wot_key.specs.Key.{fpr_of}
 use Rattle.wot_policy.specs.declared.rows.PolicyRows.{PolicyRows}
 use Rattle.wot_cert.specs.Certificate.{Certificate, unite}
@@ -22,8 +23,6 @@ use Rattle.wot_keyring.specs.Log.{is_named_in, IsLogOf, LogsAt, RestampsThese}
 use Rattle.wot_keyring.specs.Staging.{found_for, joined, kept_as, kept_with, kept_all, weigh_kept}
 use Rattle.wot_keyring.proofs.Inserts.{lookup_insert}
 use Rattle.wot_keyring.proofs.Later.{above, stamp_by, says_same}
-use Rattle.wot_keyring.proofs.Noted.{turned}
-use Rattle.wot_keyring.proofs.Places.{same_fpr}
 use Rattle.wot_keyring.proofs.Logged.{one_on, logged_on, logged_again}
 use Rattle.wot_keyring.proofs.Unchanged.{kept_same, all_same}
 
@@ -55,8 +54,8 @@ module _ (rows : PolicyRows) (stamp : ℕ) (still : (a b : Certificate) → item
       by true t =
           let same : kept_as rows stamp (found_for es c) c ≡ x = (let f : Some (kept_as rows stamp (found_for es c) c) ≡ Some x = found true t in cc) in
           (elim (one_by (found_for es c) c) as (λ _. IsStampedOr stamp (is_named_in (c ∷ [])) es q x) [
-            | inl s ↦ inl (ap (λ (k : Kept). k.stamp) (sym same) ∙ s, ap (λ b. b || false) (turned (fpr_of c.key) q ∙ t))
-            | inr s ↦ inr (ap (λ (f : Fpr). lookup (is_fpr f) es) (same_fpr q (fpr_of c.key) t) ∙ s ∙ ap Some same)
+            | inl s ↦ inl (ap (λ (k : Kept). k.stamp) (sym same) ∙ s, ap (λ b. b || false) (same_fpr-sym (fpr_of c.key) q ∙ t))
+            | inr s ↦ inr (ap (λ (f : Fpr). lookup (is_fpr f) es) (same_fpr-true q (fpr_of c.key) t) ∙ s ∙ ap Some same)
           ])
 
   or_left : (a b : Bool) → a ≡ true → a || b ≡ true

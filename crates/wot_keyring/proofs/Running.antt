@@ -8,6 +8,7 @@ use Rattle.std.specs.BTreeMap.{insert_entry}
 use Rattle.std.specs.Map.{keys_of}
 use Rattle.wot_types.specs.declared.fpr.Fpr.{Fpr}
 use Rattle.wot_types.specs.Fpr.{fpr_cmp}
+use Rattle.wot_types.specs.FprLaws.{fpr_total}
 use Rattle.wot_key.specs.Key.{fpr_of}
 use Rattle.wot_policy.specs.declared.policy.Policy.{Policy}
 use Rattle.wot_policy.specs.declared.rows.PolicyRows.{PolicyRows}
@@ -23,7 +24,6 @@ use Rattle.wot_keyring.specs.declared.tally.Tally.{Tally}
 use Rattle.wot_keyring.specs.Keyring.{Entries}
 use Rattle.wot_keyring.specs.Kept.{AreSortedByFpr, AreJudged}
 use Rattle.wot_keyring.specs.Staging.{found_for, found_by, joined, kept_as, kept_with, kept_all, clash_at, clash_in, weigh_kept, IsTally, AskedOnFault, AskedUpTo, StillLeadsBack, IsClashTold}
-use Rattle.wot_keyring.proofs.Places.{fprs_total}
 use Rattle.wot_keyring.proofs.Steps.{weighs_by}
 
 -- ---- order
@@ -39,7 +39,7 @@ less_all a (e ∷ es) k v all less =
 
 below_all : (a b : Fpr) (ks : List Fpr) → fpr_cmp a b ≡ Less → AllByRecursion (λ y. fpr_cmp b y ≡ Less) ks → AllByRecursion (λ y. fpr_cmp a y ≡ Less) ks
 below_all a b [] less all = tt
-below_all a b (k ∷ ks) less all = (fprs_total.trans a b k less all.0, below_all a b ks less all.1)
+below_all a b (k ∷ ks) less all = (fpr_total.trans a b k less all.0, below_all a b ks less all.1)
 
 pub sorted_insert : (es : Entries) (k : Fpr) (v : Kept) → AreSortedByFpr es → AreSortedByFpr (insert_entry fpr_cmp es k v)
 unfolding IsStrictlySortedBy
@@ -48,7 +48,7 @@ sorted_insert (e ∷ es) k v sorted =
     elim (fpr_cmp k e.0) as (λ r. fpr_cmp k e.0 ≡ r → AreSortedByFpr (match_ordering r ((k, v) ∷ e ∷ es) ((e.0, v) ∷ es) (e ∷ insert_entry fpr_cmp es k v))) [
       | Less ↦ λ less. ((less, below_all k e.0 (keys_of es) less sorted.0), sorted)
       | Equal ↦ λ equal. sorted
-      | Greater ↦ λ greater. (less_all e.0 es k v sorted.0 (fprs_total.antisymm e.0 k ∙ ap ordering_reverse greater), sorted_insert es k v sorted.1)
+      | Greater ↦ λ greater. (less_all e.0 es k v sorted.0 (fpr_total.antisymm e.0 k ∙ ap ordering_reverse greater), sorted_insert es k v sorted.1)
     ] refl
 
 -- ---- what is kept grows

@@ -7,6 +7,7 @@ use Rattle.std.specs.BTreeMap.{insert_entry}
 use Rattle.std.specs.Map.{lookup}
 use Rattle.wot_types.specs.declared.fpr.Fpr.{Fpr}
 use Rattle.wot_types.specs.Fpr.{fpr_cmp}
+use Rattle.wot_types.specs.FprLaws.{fpr_total}
 use Rattle.wot_key.specs.Key.{fpr_of}
 use Rattle.wot_policy.specs.declared.rows.PolicyRows.{PolicyRows}
 use Rattle.wot_cert.specs.Certificate.{Certificate}
@@ -19,7 +20,6 @@ use Rattle.wot_keyring.specs.declared.tally.Weight.{Weight}
 use Rattle.wot_keyring.specs.Keyring.{Entries, is_fpr}
 use Rattle.wot_keyring.specs.Kept.{AreSortedByFpr, AreJudged}
 use Rattle.wot_keyring.specs.Staging.{found_for, found_by, kept_with, long_of, WeighsFound, weigh_kept, IsTally, CanMove, Moves, IsFoundJudged, IsStaged}
-use Rattle.wot_keyring.proofs.Places.{fprs_total}
 use Rattle.wot_keyring.proofs.Weighing.{found_weight, insert_weighs}
 
 -- ---- something put in
@@ -38,7 +38,7 @@ pub weighs_by : (measure : Certificate → ℕ) (es : Entries) (fpr : Fpr) (kept
     → weigh_kept measure (insert_entry fpr_cmp es fpr kept) + found_by measure (lookup (is_fpr fpr) es) ≡ weigh_kept measure es + measure kept.cert
 weighs_by measure es fpr kept sorted =
     ap (λ n. weigh_kept measure (insert_entry fpr_cmp es fpr kept) + n) (sym (same_found (lookup (is_fpr fpr) es)))
-    ∙ insert_weighs fpr_cmp fprs_total (λ (x : Kept). measure x.cert) fpr kept es sorted
+    ∙ insert_weighs fpr_cmp fpr_total (λ (x : Kept). measure x.cert) fpr kept es sorted
   where
     same_found : (o : Option Kept) → found_weight (λ (x : Kept). measure x.cert) o ≡ found_by measure o
     same_found None = refl

@@ -7,6 +7,7 @@ use Rattle.std.specs.Map.{lookup}
 use Rattle.std.proofs.lemmas.Bool.Decides.{nat_tests}
 use Rattle.wot_types.specs.declared.fpr.Fpr.{Fpr}
 use Rattle.wot_types.specs.Fpr.{fpr_cmp}
+use Rattle.wot_types.specs.FprLaws.{same_fpr-refl, same_fpr-sym}
 use Rattle.wot_key.specs.Key.{fpr_of}
 use Rattle.wot_policy.specs.declared.rows.PolicyRows.{PolicyRows}
 use Rattle.wot_cert.specs.Certificate.{Certificate, unite, unmarked}
@@ -17,7 +18,6 @@ use Rattle.wot_keyring.specs.Import.{united_with, with_cert}
 use Rattle.wot_keyring.specs.Keyring.{Certificates, is_fpr}
 use Rattle.wot_keyring.proofs.Clashes.{keys_same}
 use Rattle.wot_keyring.proofs.Inserts.{put_at, found_at, lookup_insert}
-use Rattle.wot_keyring.proofs.Noted.{itself, turned}
 use Rattle.wot_keyring.proofs.Puts.{either_order, put_twice}
 
 -- ---- lists
@@ -63,8 +63,8 @@ module _ (rows : PolicyRows) where
   swapped (Some certs) c d apart =
       one_then_other certs c d apart
       ∙ either_test (clashes_with (lookup (is_fpr (fpr_of c.key)) certs) c) (clashes_with (lookup (is_fpr (fpr_of d.key)) certs) d) _ _
-      (either_order certs (fpr_of c.key) (fpr_of d.key) _ _ (λ same. true_false _ (itself (fpr_of d.key)) (ap (λ (f : Fpr). is_fpr (fpr_of d.key) f) (sym same) ∙ apart)))
-      ∙ sym (one_then_other certs d c (turned (fpr_of c.key) (fpr_of d.key) ∙ apart))
+      (either_order certs (fpr_of c.key) (fpr_of d.key) _ _ (λ same. true_false _ (same_fpr-refl (fpr_of d.key)) (ap (λ (f : Fpr). is_fpr (fpr_of d.key) f) (sym same) ∙ apart)))
+      ∙ sym (one_then_other certs d c (same_fpr-sym (fpr_of c.key) (fpr_of d.key) ∙ apart))
 
 -- ---- one fingerprint
 
@@ -90,7 +90,7 @@ module _ (rows : PolicyRows) (certs : Certificates) (fpr : Fpr) (x d : Certifica
   follows : taken_one rows (Some (insert_entry fpr_cmp certs fpr x)) d ≡ cond (not (pointwise nat_eq d.key x.key)) None (Some (insert_entry fpr_cmp certs fpr (unite x (judged rows d))))
   follows =
       let there : lookup (is_fpr fpr) (insert_entry fpr_cmp certs fpr x) ≡ Some x =
-      lookup_insert fpr certs fpr x ∙ ap (λ b. cond b (Some x) (lookup (is_fpr fpr) certs)) (itself fpr) in
+      lookup_insert fpr certs fpr x ∙ ap (λ b. cond b (Some x) (lookup (is_fpr fpr) certs)) (same_fpr-refl fpr) in
       ap (λ (f : Fpr). cond (clashes_with (lookup (is_fpr f) (insert_entry fpr_cmp certs fpr x)) d) None (Some (insert_entry fpr_cmp (insert_entry fpr_cmp certs fpr x) f (united_with (lookup (is_fpr f) (insert_entry fpr_cmp certs fpr x)) (judged rows d))))) one
       ∙ ap (λ (o : Option Certificate). cond (clashes_with o d) None (Some (insert_entry fpr_cmp (insert_entry fpr_cmp certs fpr x) fpr (united_with o (judged rows d))))) there
       ∙ ap (λ (es : Certificates). cond (not (pointwise nat_eq d.key x.key)) None (Some es)) (put_twice certs fpr x (unite x (judged rows d)))

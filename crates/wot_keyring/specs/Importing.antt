@@ -32,7 +32,7 @@ IsRefused refusal octets =
     (demand : Demand) (rows : PolicyRows) (limits : Limits) (certs : Certificates)
     → answer_under demand rows limits certs octets ≡ Err refusal
 
--- What was read, or why nothing was; want of memory says nothing.
+-- What was read, or why nothing was; "out of memory" says nothing.
 abbrev pub TellsRead : Result Assembled Refusal → List ℕ → Type 0
 TellsRead (Ok read) octets = IsRead octets read
 TellsRead (Err Memory) octets = Unit {0}
@@ -49,7 +49,7 @@ pub record MayUnite (limits : Limits) (certs : Certificates) (cs : List Certific
   pub clash : any_clash (alone certs) cs ≡ false
   pub full : (rows : PolicyRows) → first_full limits (with_certs rows certs cs) ≡ None
 
--- Whether these certificates may be united with the kept ones, or why not; want of memory says nothing.
+-- Whether these certificates may be united with the kept ones, or why not; "out of memory" says nothing.
 abbrev pub TellsUnion : Option Refusal → Limits → Certificates → List Certificate → Type 0
 TellsUnion None limits certs cs = MayUnite limits certs cs
 TellsUnion (Some Memory) limits certs cs = Unit {0}

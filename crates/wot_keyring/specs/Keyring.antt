@@ -24,6 +24,11 @@ pub record Keyring : Type 0 where
   pub verdicts : verdicts.Entries
   pub changes : ℕ
 
+-- the keyring of these
+abbrev pub of_parts : Limits → Entries → verdicts.Entries → ℕ → Keyring
+of_parts limits certs verdicts changes =
+    record { limits = limits; certs = certs; verdicts = verdicts; changes = changes }
+
 -- the keyring before the first change
 abbrev pub empty : Limits → Keyring
 empty limits = record { limits = limits; certs = []; verdicts = []; changes = 0 }
@@ -60,7 +65,7 @@ stripped entries = map (λ (e : Fpr × Kept). (e.0, e.1.cert)) entries
 abbrev pub certificates_in : Keyring → Certificates
 certificates_in k = stripped k.certs
 
--- `Absent` is told exactly where nothing is kept; the only other fault is want of memory.
+-- `Absent` is told exactly where nothing is kept; the only other fault is "out of memory".
 abbrev pub TellsAbsent : {T : Type 0} → Result T ExportFault → Option Certificate → Type 0
 TellsAbsent (Ok done) (Some c) = Unit {0}
 TellsAbsent (Ok done) None = ⊥

@@ -65,7 +65,7 @@ abbrev pub clash_in : PolicyRows → ℕ → Entries → List Certificate → Bo
 clash_in rows stamp es [] = false
 clash_in rows stamp es (c ∷ cs) = clash_at (found_for es c) c || clash_in rows stamp (kept_with rows stamp es c) cs
 
--- A clash is told exactly where there is one; want of memory in either case.
+-- A clash is told exactly where there is one; "out of memory" may come in either case.
 abbrev pub IsClashTold : Fault → Bool → Type 0
 IsClashTold Clash clashes = clashes ≡ true
 IsClashTold Memory clashes = Unit {0}

@@ -66,7 +66,7 @@ is_over limits entries number = is_none (verdicts.verdict_at entries number) && 
 abbrev pub would_pass : Keyring → SigNumber → Bool
 would_pass k number = is_over k.limits k.verdicts number
 
--- `Full` is told exactly where a new verdict would pass the limit; the only other refusal is want of memory.
+-- `Full` is told exactly where a new verdict would pass the limit; the only other refusal is "out of memory".
 abbrev pub TellsFull : {T : Type 0} → Result T Refusal → Keyring → SigNumber → Type 0
 TellsFull (Ok done) k number = would_pass k number ≡ false
 TellsFull (Err (Full Verdicts)) k number = would_pass k number ≡ true

@@ -7,7 +7,7 @@ use wot_types::Limit;
 pub enum Refusal {
     /// The octets are no list of packets; this is their first fault.
     Packet(PacketFault),
-    /// The packets are no certificates; this is their first fault, and never want of memory.
+    /// The packets are no certificates; this is their first fault, and never "out of memory".
     Cert(CertFault),
     /// An entry of a directory isn't the one certificate that its name says.
     Misfiled,

@@ -5,5 +5,6 @@ pub mod Meaning
 pub mod Nodes
 pub mod Passes
 pub mod Reading
+pub mod Room
 pub mod Steps
 pub mod Tokens

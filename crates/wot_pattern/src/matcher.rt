@@ -24,10 +24,11 @@ pub struct Matcher {
 }
 
 impl Model for Matcher {
-    ghost use Rattle.std.specs.Prelude.{◌≡◌, ◌+◌, ◌≤◌, vec_len, vec_capacity};
+    ghost use Rattle.std.specs.Prelude.{vec_len, vec_capacity};
     ghost use Rattle.wot_pattern.specs.Reading.{Reading};
     ghost use Rattle.wot_pattern.specs.Tokens.{tree, reading_code};
     ghost use Rattle.wot_pattern.specs.Nodes.{tokens_of, OneTree};
+    ghost use Rattle.wot_pattern.specs.Room.{HasRoom};
 
     ghost Value = { Reading };
 
@@ -35,7 +36,8 @@ impl Model for Matcher {
 
     ghost view = { λ m. tree (tokens_of m.nodes.items) };
 
-    ghost invariant = { λ m. OneTree m.nodes.items × (vec_len m.slots ≡ vec_len m.nodes) × (vec_len m.nodes ≤ vec_capacity m.ready) × (vec_len m.nodes + 1 ≤ vec_capacity m.begins) };
+    ghost invariant = { λ m. OneTree m.nodes.items
+        × HasRoom (vec_len m.nodes) (vec_len m.slots) (vec_capacity m.ready) (vec_capacity m.begins) };
 }
 
 impl Matcher {

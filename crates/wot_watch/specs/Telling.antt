@@ -3,7 +3,7 @@ use Rattle.std.specs.Prelude.{◌≡◌, Bool, true, false, Result, Ok, Err}
 use Rattle.wot_watch.specs.declared.watches.PutFault.{PutFault}
 use Rattle.wot_watch.specs.declared.watches.PutFault.TheVariants as faults
 
--- `Full` comes exactly where there would be one too many. The only other refusal is want of memory.
+-- `Full` comes exactly where there would be one too many. The only other refusal is "out of memory".
 abbrev pub TellsFull : {T : Type 0} → Result T PutFault → Bool → Type 0
 TellsFull (Ok done) full = full ≡ false
 TellsFull (Err faults.Full) full = full ≡ true
