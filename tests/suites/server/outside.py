@@ -20,7 +20,7 @@ ROOT = Path(os.environ.get("WOT_ROOT") or HERE.parents[2])
 PROGRAM = os.environ.get("WOT_PROGRAM") or str(ROOT / "crates" / "wot_cli" / "out" / "wot_cli")
 SERVER = ROOT / "clients" / "server" / "bin" / "tukyamid-server"
 WORN_ENGINE = HERE / "worn_engine.py"
-PATIENCE = 600  # Of a test that waits for what must come; no machine is so slow.
+PATIENCE = 1200  # Of a test that waits for what must come; no machine is so slow.
 
 needs_engine = unittest.skipUnless(os.access(PROGRAM, os.X_OK), f"the engine isn't built: {PROGRAM}")
 
