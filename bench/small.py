@@ -39,7 +39,7 @@ def bad(signed):
     return f"verdict {signed[1]} bad\n".encode()
 
 
-def verdicts(certificates):
+def all_good(certificates):
     """Every signature is good by its issuer."""
     for certificate in certificates:
         for signed in [certificate.direct, *certificate.signatures]:
