@@ -27,7 +27,7 @@ fn roots(words: &[String]) -> Result<Roots> {
     for word in words {
         roots.push(Root::new(word.parse::<Fingerprint>()?, FULL));
     }
-    Ok(Roots::new(roots.into_iter()))
+    Ok(Roots::new(roots))
 }
 
 fn main() -> Result<()> {
@@ -55,7 +55,7 @@ fn main() -> Result<()> {
     bindings.sort();
     let mut reached = 0;
     for (fingerprint, user_id) in &bindings {
-        let paths = rooted.authenticate(user_id.clone(), fingerprint.clone(), FULL);
+        let paths = rooted.authenticate(user_id, fingerprint, FULL);
         reached += usize::from(paths.amount() >= FULL);
     }
     let listing = begun.elapsed().as_secs_f64();
