@@ -1,4 +1,4 @@
-"""Small certificates, each a key with one user ID, and signatures as a bench puts them on: for large random keyrings."""
+"""Small certificates for large random keyrings: each a key with one user ID, certified as a bench says."""
 from developer import fingerprint, number, packet
 
 MADE = 1400000000

@@ -15,8 +15,8 @@ from world import Chatter, World
 
 
 def talk(path, name, lines, seed, before_burst):
-    """One client: sends its lines in bursts of some size, and waits a moment now and then; gives what it heard. It reads
-    all the while, so that no end waits for room in a buffer of the other."""
+    """One client: sends its lines in bursts of some size, and waits a moment now and then; gives what it heard. It
+    reads all the while, so that no end waits for room in a buffer of the other."""
     draw = random.Random(seed)
     size = draw.choice([1, 2, 7, len(lines)])
     with Client(path) as client, ThreadPoolExecutor(1) as reader:

@@ -64,9 +64,10 @@ class SameState(unittest.TestCase):
         draw, killed = random.Random(12), set()
 
         def disturb(hub, place):
-            """Kills an engine, of those that have answered since one of theirs ended: at a line at which three programs
-            end one after another, the line is given up."""
-            alive = [engine for engine in hub.engines if engine._process not in killed | {None} and not engine._failures]
+            """Kills an engine, of those that have answered since one of theirs ended: a line at which three programs
+            end one after another is given up."""
+            gone = killed | {None}
+            alive = [engine for engine in hub.engines if engine._process not in gone and not engine._failures]
             if place % 60 == 30 and alive:
                 process = draw.choice(alive)._process
                 killed.add(process)
