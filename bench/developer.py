@@ -11,7 +11,7 @@ import subprocess
 import sys
 
 TOP = os.path.dirname(os.path.dirname(os.path.abspath(__file__)))
-PROGRAM = os.path.join(TOP, "crates", "wot_cli", "out", "wot_cli")
+PROGRAM = os.environ.get("WOT_PROGRAM", os.path.join(TOP, "crates", "wot_cli", "out", "wot_cli"))
 BENCH = os.path.join(TOP, "crates", "wot_bench", "out", "wot_bench")
 CERTS = 900
 DIRECT = 400
@@ -92,20 +92,27 @@ def developer():
     return [Certificate(draw, index, keys) for index in range(CERTS)]
 
 
-def write_imports(file, certificates):
+def imports(certificates):
     for certificate in certificates:
-        file.write(b"import " + certificate.octets.hex().encode() + b"\n")
+        yield b"import " + certificate.octets.hex().encode() + b"\n"
 
 
-def write_verdicts(file, certificates):
+def verdicts(certificates):
     for certificate in certificates:
         for signature_number, issuer in certificate.verdicts:
-            file.write(f"verdict {signature_number} good {issuer.hex()}\n".encode())
+            yield f"verdict {signature_number} good {issuer.hex()}\n".encode()
+
+
+def write_script(file, certificates):
+    file.writelines(imports(certificates))
+    file.writelines(verdicts(certificates))
 
 
 def build(*crates):
-    """Builds these programs, where they aren't built."""
+    """Builds these programs, where they aren't built and no other is named by WOT_PROGRAM."""
     for crate, words in crates:
+        if crate == "wot_cli" and "WOT_PROGRAM" in os.environ:
+            continue
         folder = os.path.join(TOP, "crates", crate)
         built = subprocess.run(["rt", "run", "--"] + words, cwd=folder, stdin=subprocess.DEVNULL, capture_output=True)
         if not os.path.exists(os.path.join(folder, "out", crate)):

@@ -9,7 +9,7 @@ from pathlib import Path
 from .session import Session
 
 _FIRST_PASSED_SOCKET = 3
-_PATIENCE_AT_THE_END = 10
+_PATIENCE_AT_THE_END = 30
 _PATIENCE_WITH_ENGINES = 120
 
 

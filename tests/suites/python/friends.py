@@ -20,6 +20,9 @@ class Friends:
     def __init__(self):
         self.home = folder() / "gpg"
         self.home.mkdir(mode=0o700)
+        # gpg waits for an agent that it starts itself for five seconds alone.
+        subprocess.run(["gpg-agent", "--homedir", str(self.home), "--daemon"], stdin=subprocess.DEVNULL,
+                       stdout=subprocess.DEVNULL, stderr=subprocess.DEVNULL, timeout=600, check=True)
         self.fpr = {name: self._make(uid) for name, uid in PEOPLE.items()}
         self._introduce("Alice", "Bob", 2, "example.org", "20250201T000000!")
         self._introduce("Alice", "Carol", 1, "", "20250202T000000!")

@@ -48,3 +48,13 @@ def installed(program, package):
         words = ["apt-get", "-o", "DPkg::Lock::Timeout=300", "install", "-y", "--no-install-recommends", package]
         subprocess.run(words, capture_output=True, stdin=subprocess.DEVNULL, check=False)
     return shutil.which(program)
+
+
+@functools.cache
+def verifier_built():
+    """The path of the repository's own verifier, built where that isn't done yet; None where packages are missing."""
+    folder = ROOT / "tools" / "verdicts"
+    done = subprocess.run([folder / "build"], stdin=subprocess.DEVNULL, capture_output=True, text=True, check=False)
+    if done.returncode not in (0, 69):
+        raise AssertionError(f"tools/verdicts/build ended with status {done.returncode}: {done.stderr}")
+    return folder / "out" / "wot-verdicts" if done.returncode == 0 else None

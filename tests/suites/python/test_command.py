@@ -7,7 +7,7 @@ import time
 import unittest
 
 from friends import PEOPLE, friends
-from outside import COMMAND, ROOT, TRUSTING, folder, installed, needs_engine, needs_gpg, run
+from outside import COMMAND, TRUSTING, folder, installed, needs_engine, needs_gpg, run, verifier_built
 from tukyamid import Engine
 from tukyamid.reasons import TargetWord
 from tukyamid.refusals import RefusedAbsent, RefusedView
@@ -277,9 +277,9 @@ class Questions(unittest.TestCase):
 
     def test_with_the_verifier(self):
         """The verifier that stands in the repository says the same as gpg, who made the signatures: all are good."""
-        built = ROOT / "tools" / "verdicts" / "out" / "wot-verdicts"
-        if not os.access(built, os.X_OK):
-            self.skipTest("tools/verdicts isn't built")
+        built = verifier_built()
+        if built is None:
+            self.skipTest("tools/verdicts can't be built: packages are missing")
         said = [run([*words, self.friends.keyring]).stdout.splitlines() for words in ([built], TRUSTING)]
         verdicts = [{line for line in lines if line.startswith(b"verdict ")} for lines in said]
         self.assertEqual(verdicts[0], verdicts[1])

@@ -94,12 +94,13 @@ class Page(unittest.TestCase):
         chromium = installed("chromium", "chromium")
         if chromium is None:
             self.skipTest("chromium isn't there, and couldn't be installed")
-        options = [chromium, "--headless", "--no-sandbox", "--disable-gpu", "--hide-scrollbars",
-                   "--window-size=1250,1400", f"--user-data-dir={folder() / 'chromium'}"]
+        options = [chromium, "--headless", "--no-sandbox", "--disable-gpu", "--disable-dev-shm-usage",
+                   "--hide-scrollbars", "--window-size=1250,1400"]
         page, picture = self.page("Carol"), folder() / "page.png"
-        read = run([*options, "--dump-dom", page.as_uri()])
+        # A profile for each run: one that has just ended may still be locked.
+        read = run([*options, f"--user-data-dir={folder() / 'chromium-reads'}", "--dump-dom", page.as_uri()])
         self.check(Text(read.stdout.decode()))
-        run([*options, f"--screenshot={picture}", page.as_uri()])
+        run([*options, f"--user-data-dir={folder() / 'chromium-draws'}", f"--screenshot={picture}", page.as_uri()])
         octets = picture.read_bytes()
         self.assertEqual(octets[:8], b"\x89PNG\r\n\x1a\n")
         size = int.from_bytes(octets[16:20], "big"), int.from_bytes(octets[20:24], "big")

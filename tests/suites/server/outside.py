@@ -20,7 +20,7 @@ ROOT = Path(os.environ.get("WOT_ROOT") or HERE.parents[2])
 PROGRAM = os.environ.get("WOT_PROGRAM") or str(ROOT / "crates" / "wot_cli" / "out" / "wot_cli")
 SERVER = ROOT / "clients" / "server" / "bin" / "tukyamid-server"
 WORN_ENGINE = HERE / "worn_engine.py"
-PATIENCE = 300  # Of a test that waits for what must come; no machine is so slow.
+PATIENCE = 1200  # Of a test that waits for what must come; no machine is so slow.
 
 needs_engine = unittest.skipUnless(os.access(PROGRAM, os.X_OK), f"the engine isn't built: {PROGRAM}")
 
@@ -103,9 +103,12 @@ class Client:
         line, _, self._rest = self._rest.partition(b"\n")
         return line
 
+    def send_no_more(self):
+        self.socket.shutdown(socket.SHUT_WR)
+
     def end(self):
         """Sends no more, and gives all that still comes."""
-        self.socket.shutdown(socket.SHUT_WR)
+        self.send_no_more()
         return self.rest()
 
     def rest(self):
@@ -128,8 +131,13 @@ class Server:
         self.process = subprocess.Popen(
             [sys.executable, SERVER, "--socket", self.path, "--dump", self.dump, "--order", self._order,
              "--engine", engine, *options],
-            stdin=subprocess.DEVNULL, stderr=self._said, env={**os.environ, **(environment or {})})
-        self.wait_for(self._is_there)
+            stdin=subprocess.DEVNULL, stdout=subprocess.DEVNULL, stderr=self._said,
+            env={**os.environ, **(environment or {})})
+        try:
+            self.wait_for(self._is_there)
+        except BaseException:
+            self.process.kill()
+            raise
 
     def _is_there(self):
         if self.process.poll() is not None:
@@ -170,8 +178,9 @@ class Server:
 
     def engines(self):
         """The process ids of its engines."""
-        children = Path(f"/proc/{self.process.pid}/task").glob("*/children")
-        return [int(pid) for file in children for pid in file.read_text().split()]
+        # The main thread started them all. The others come and go, and with them their files.
+        children = Path(f"/proc/{self.process.pid}/task/{self.process.pid}/children")
+        return [int(pid) for pid in children.read_text().split()]
 
     def order(self):
         """The lines in the order in which they were sent, as (client's number, line); of a server that has ended."""

@@ -9,24 +9,27 @@ import unittest
 from concurrent.futures import ThreadPoolExecutor
 from unittest.mock import Mock
 
-from outside import PATIENCE, WORN_ENGINE, Client, Server, expected, needs_engine, with_reply
+from outside import WORN_ENGINE, Client, Server, expected, needs_engine, with_reply
 from tukyamid_server.session import Session
 from world import Chatter, World
 
 
-def talk(path, name, lines, seed, heard, before_burst):
-    """One client: sends its lines in bursts of some size, and waits a moment now and then."""
+def talk(path, name, lines, seed, before_burst):
+    """One client: sends its lines in bursts of some size, and waits a moment now and then; gives what it heard. It
+    reads all the while, so that no end waits for room in a buffer of the other."""
     draw = random.Random(seed)
     size = draw.choice([1, 2, 7, len(lines)])
-    with Client(path) as client:
+    with Client(path) as client, ThreadPoolExecutor(1) as reader:
         client.send(name)
         head = client.read_line() + b"\n"
+        replies = reader.submit(client.rest)
         for start in range(0, len(lines), size):
             before_burst()
             client.send(*lines[start:start + size])
             if draw.random() < 0.3:
                 time.sleep(draw.random() / 100)
-        heard[name] = head + client.end()
+        client.send_no_more()
+        return head + replies.result()
 
 
 def talk_all(server, count, length, seed=1, before_burst=lambda: None, between=()):
@@ -38,18 +41,17 @@ def talk_all(server, count, length, seed=1, before_burst=lambda: None, between=(
     spoken = {b"keys client-%d" % place: [
         each for line in Chatter(world, seed * 1000 + place).lines(length) for each in (line, *between)]
         for place in range(count)}
-    heard = {}
-    threads = [threading.Thread(target=talk, args=(server.path, name, lines, seed * 1000 + place, heard, before_burst))
-               for place, (name, lines) in enumerate(spoken.items())]
-    for thread in threads:
-        thread.start()
-    for thread in threads:
-        thread.join()
-    return spoken, heard
+    with ThreadPoolExecutor(count) as pool:
+        talks = {name: pool.submit(talk, server.path, name, lines, seed * 1000 + place, before_burst)
+                 for place, (name, lines) in enumerate(spoken.items())}
+    return spoken, {name: one.result() for name, one in talks.items()}
 
 
 class Killer:
-    """Kills one of a server's engines at each fortieth burst of its clients, however fast they talk."""
+    """Kills one of a server's engines at each fortieth burst of its clients, however fast they talk.
+
+    Then all engines answer a change before the next one is killed. Where three programs end one after another at one
+    line, the server gives that line up, and can't know that it wasn't the line's doing."""
 
     def __init__(self, server):
         self.server, self.killed = server, set()
@@ -62,14 +64,11 @@ class Killer:
                 self._kill_one()
 
     def _kill_one(self):
-        end = time.monotonic() + PATIENCE
-        while not (alive := sorted(set(self.server.engines()) - self.killed)):
-            if time.monotonic() > end:
-                raise TimeoutError("no engine took the place of those that were killed")
-            time.sleep(0.001)
-        victim = self._draw.choice(alive)
+        victim = self._draw.choice(sorted(set(self.server.engines()) - self.killed))
         os.kill(victim, signal.SIGKILL)
         self.killed.add(victim)
+        with Client(self.server.path) as client:
+            client.tell(b"verdict %064x bad" % len(self.killed))
 
 
 @needs_engine

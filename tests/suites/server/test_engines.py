@@ -61,13 +61,17 @@ class SameState(unittest.TestCase):
         self.check(lines, replies, dumps)
 
     def test_and_so_where_they_are_killed_and_the_journal_is_renewed(self):
-        draw = random.Random(12)
+        draw, killed = random.Random(12), set()
 
         def disturb(hub, place):
-            if place % 60 == 30:
-                process = draw.choice(hub.engines)._process
-                if process is not None and process.returncode is None:
-                    os.kill(process.pid, signal.SIGKILL)
+            """Kills an engine, of those that have answered since one of theirs ended: a line at which three programs
+            end one after another is given up."""
+            gone = killed | {None}
+            alive = [engine for engine in hub.engines if engine._process not in gone and not engine._failures]
+            if place % 60 == 30 and alive:
+                process = draw.choice(alive)._process
+                killed.add(process)
+                os.kill(process.pid, signal.SIGKILL)
 
         before, journal.LEAST_RENEWAL = journal.LEAST_RENEWAL, 1000
         try:
@@ -76,6 +80,8 @@ class SameState(unittest.TestCase):
         finally:
             journal.LEAST_RENEWAL = before
         self.check(lines, replies, dumps)
+        self.assertTrue(killed)
+        # However fast the engines are: the journal holds no more than its last dump's octets.
         self.assertGreater(hub._journal._first, 100)
 
 

@@ -1,5 +1,6 @@
 """The server's dump, its socket, its words and its documents."""
 
+import fcntl
 import os
 import re
 import shutil
@@ -148,8 +149,11 @@ class Words(unittest.TestCase):
             listening.listen()
             words = ["sh", "-c", 'LISTEN_PID=$$ LISTEN_FDS=1 exec "$@"', "sh", sys.executable, SERVER,
                      "--engine", PROGRAM]
-            passed = os.dup(listening.fileno())
-            server = subprocess.Popen(words, close_fds=False, preexec_fn=lambda: os.dup2(passed, 3))
+            passed = fcntl.fcntl(listening, fcntl.F_DUPFD_CLOEXEC, 10)  # Not 3, which would be closed as it stands.
+            server = subprocess.Popen(words, stdin=subprocess.DEVNULL, stdout=subprocess.DEVNULL, close_fds=False,
+                                      preexec_fn=lambda: os.dup2(passed, 3))
+            self.addCleanup(server.wait)
+            self.addCleanup(server.kill)
             os.close(passed)
         with Client(self.folder / "passed") as client:
             self.assertEqual(client.tell(b"keys"), b"keys 0")

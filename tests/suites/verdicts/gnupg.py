@@ -14,6 +14,15 @@ ALGORITHMS = {"alice": "rsa2048", "bob": "ed25519", "carol": "dsa2048", "dave": 
 PICTURE = bytes.fromhex("ffd8ffe000104a46494600010100000100010000ffd9")
 
 
+def make_home(name):
+    """A folder for gpg, with an agent: for one that it starts itself gpg waits for five seconds alone."""
+    home = FOLDER / name
+    home.mkdir(mode=0o700)
+    subprocess.run(["gpg-agent", "--homedir", str(home), "--daemon"], stdin=subprocess.DEVNULL,
+                   stdout=subprocess.DEVNULL, stderr=subprocess.DEVNULL, check=True)
+    return home
+
+
 def gpg(home, *words, given=None, status=0):
     """Runs gpg at the time of the tests, and gives what it writes."""
     common = ["--batch", "--yes", "--no-tty", "--passphrase", "", "--pinentry-mode", "loopback",
@@ -44,8 +53,7 @@ class Ring:
 
 def made():
     """Makes the keyring."""
-    home = FOLDER / "home"
-    home.mkdir(mode=0o700)
+    home = make_home("home")
     user_ids = {name: f"{name.title()} <{name}@example.org>" for name in ALGORITHMS}
     fingerprints = {}
     for name, algorithm in ALGORITHMS.items():
@@ -65,8 +73,7 @@ def made():
 
 def brainpool():
     """A key of a curve that the library doesn't have."""
-    home = FOLDER / "other"
-    home.mkdir(mode=0o700)
+    home = make_home("other")
     gpg(home, "--quick-generate-key", "Frank <frank@example.org>", "brainpoolP256r1", "cert,sign", "never")
     return gpg(home, "--export")
 
