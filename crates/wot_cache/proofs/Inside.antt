@@ -1,11 +1,11 @@
 -- Views stay within the limits, and networks go on to fit.
-use Rattle.std.proofs.Common.{◌≡◌, inl, inr, ℕ, ◌+◌, ◌<◌, ◌≤◌, Bool, true, false, cond, List, [], ◌∷◌, length, Option, Some, None, Result, Ok, Err, OnOk, OnErr, refl, subst, arith}
+use Rattle.std.proofs.Common.{◌≡◌, inl, inr, ℕ, ◌+◌, ◌<◌, ◌≤◌, Bool, true, false, cond, List, [], ◌∷◌, length, Option, Some, None, Result, Ok, Err, OnOk, OnErr, Bor, refl, sym, subst, arith}
 use Rattle.std.specs.Prelude.{nat_lt, nat_le, ◌==◌}
 use Rattle.std.specs.declared.cmp.Ordering.{Ordering}
 use Rattle.std.specs.declared.cmp.Ordering.TheVariants.{Less, Equal, Greater}
 use Rattle.std.specs.Ordering.{match_ordering}
 use Rattle.std.specs.List.{AllByRecursion, sum_by}
-use Rattle.std.specs.Option.{unwrap_or, option_map, MatchOption, IfSome}
+use Rattle.std.specs.Option.{unwrap_or, option_copied, option_map, MatchOption, IfSome}
 use Rattle.wot_types.specs.declared.memory.Memory.{Memory}
 use Rattle.std.specs.Cmp.{IsTotalOrder}
 use Rattle.std.specs.BTreeMap.{insert_entry, is_at}
@@ -24,6 +24,8 @@ use Rattle.wot_keyring.specs.Keyring.{Keyring}
 use Rattle.wot_keyring.specs.Later.{IsLater}
 use Rattle.wot_network.specs.Net.{Net, Fits}
 use Rattle.wot_cache.specs.declared.view.View.{View}
+use Rattle.wot_cache.specs.declared.answers.KeptAnswer.{KeptAnswer}
+use Rattle.wot_cache.specs.Answers.{AllAnswers, AreAllRight, AreRight, Entries, IsRight}
 use Rattle.wot_cache.specs.Inside.{IsEngine, AllFit, Networks}
 use Rattle.wot_cache.specs.Views.{Views, IsWithin, is_name, view_at, with_amount, amount_fault, root_fault, without_view}
 
@@ -113,7 +115,7 @@ length_replaced cmp total es k v w sorted e =
 
 -- ---- roots
 
-fpr_total : IsTotalOrder fpr_cmp
+pub fpr_total : IsTotalOrder fpr_cmp
 fpr_total = on_total octets_of nat_list_cmp_total
 
 -- the roots stay within the limit
@@ -159,9 +161,31 @@ pub all_fit : FitLater → (networks : Networks) (old new : Keyring) → IsLater
 all_fit law [] old new later all = tt
 all_fit law (e ∷ es) old new later all = (law e.1 old new all.0 later, all_fit law es old new later all.1)
 
+-- by the law that what is later than a later keyring is later
+abbrev pub LaterStill : Type 0
+LaterStill = (old mid new : Keyring) → IsLater old mid → IsLater mid new → IsLater old new
+
+-- what is right from a keyring on is right from each later one on
+right_later : LaterStill → (old new : Keyring) (a : KeptAnswer) → IsLater old new → IsRight old a → IsRight new a
+right_later further old new a later right = record { sum = right.sum; answer = λ last roots is. right.answer last roots (further old new last later is) }
+
+are_right_later : LaterStill → (old new : Keyring) (entries : Entries) → IsLater old new → AreRight old entries → AreRight new entries
+are_right_later further old new [] later all = tt
+are_right_later further old new (e ∷ es) later all = (right_later further old new e.1 later all.0, are_right_later further old new es later all.1)
+
+all_right_later : LaterStill → (old new : Keyring) (answers : AllAnswers) → IsLater old new → AreAllRight old answers → AreAllRight new answers
+all_right_later further old new [] later all = tt
+all_right_later further old new (e ∷ es) later all = (are_right_later further old new e.1 later all.0, all_right_later further old new es later all.1)
+
 -- an engine after a change of its keyring
-pub engine_on : FitLater → (old new : Keyring) (views : Views) (networks : Networks) → new.limits ≡ old.limits → IsLater old new → IsEngine old views networks → IsEngine new views networks
-engine_on law old new views networks limits later e = record { small = rw limits e.small; within = rw limits e.within; fit = all_fit law networks old new later e.fit }
+pub engine_on : FitLater → LaterStill → (old new : Keyring) (views : Views) (networks : Networks) (answers : AllAnswers) → new.limits ≡ old.limits → IsLater old new
+    → IsEngine old views networks answers → IsEngine new views networks answers
+engine_on law further old new views networks answers limits later e = record {
+  small = rw limits e.small;
+  within = rw limits e.within;
+  fit = all_fit law networks old new later e.fit;
+  right = all_right_later further old new answers later e.right;
+}
 
 -- ---- the networks of an engine
 
@@ -221,3 +245,31 @@ set_within l views new name fpr amount (Ok done) are none set same w = by (view_
 pub kept_fit : (k : Keyring) (networks new : Networks) (name : List ℕ) (n : Net) (r : Result (Unit {0}) Memory) → OnOk r (new ≡ insert_entry view_name_cmp networks name n) → OnErr r (new ≡ networks) → AllFit networks k → Fits n k → AllFit new k
 kept_fit k networks new name n (Ok done) put same all f = rw put (fit_put k networks name n all f)
 kept_fit k networks new name n (Err fault) put same all f = rw same all
+
+-- ---- the answers of an engine
+
+abbrev RightOf : Keyring → Entries → Type 0
+RightOf k entries = AreRight k entries
+
+pub all_right_without : (k : Keyring) (answers : AllAnswers) (name : List ℕ) → AreAllRight k answers → AreAllRight k (remove_entry (is_name name) answers)
+all_right_without k answers name all = each_removed (RightOf k) (is_name name) answers all
+
+pub all_right_put : (k : Keyring) (answers : AllAnswers) (name : List ℕ) (entries : Entries) → AreAllRight k answers → AreRight k entries → AreAllRight k (insert_entry view_name_cmp answers name entries)
+all_right_put k answers name entries all right = each_inserted (RightOf k) view_name_cmp answers name entries all right
+
+pub all_right_set : (k : Keyring) (answers : AllAnswers) (name : List ℕ) (entries : Entries) → AreAllRight k answers → AreRight k entries → AreAllRight k (set_value (is_name name) answers entries)
+all_right_set k answers name entries all right = each_set (RightOf k) (is_name name) answers entries all right
+
+pub right_found : (k : Keyring) (answers : AllAnswers) (name : List ℕ) (entries : Entries) → AreAllRight k answers → lookup (is_name name) answers ≡ Some entries → AreRight k entries
+right_found k answers name entries all e = each_found (RightOf k) (is_name name) answers entries all e
+
+-- the answer that is found for a target
+pub found_right : (k : Keyring) (entries : Entries) (target : Fpr) (found : Option (Bor KeptAnswer)) → AreRight k entries
+    → option_copied found ≡ lookup (is_at (fpr_cmp target)) entries → IfSome found (λ a. IsRight k a.now)
+found_right k entries target None all e = tt
+found_right k entries target (Some a) all e = each_found (λ (x : KeptAnswer). IsRight k x) (is_at (fpr_cmp target)) entries a.now all (sym e)
+
+pub all_right_inserted : {A E : Type 0} (k : Keyring) (answers new : AllAnswers) (name : List ℕ) (entries : Entries) (r : Result A E)
+    → OnOk r (new ≡ insert_entry view_name_cmp answers name entries) → OnErr r (new ≡ answers) → AreAllRight k answers → AreRight k entries → AreAllRight k new
+all_right_inserted k answers new name entries (Ok done) put same all right = rw put (all_right_put k answers name entries all right)
+all_right_inserted k answers new name entries (Err fault) put same all right = rw same all

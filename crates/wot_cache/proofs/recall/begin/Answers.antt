@@ -1,0 +1,8 @@
+use Rattle.std.proofs.Common.{[], sym, subst}
+use Rattle.wot_cache.specs.Answers.{AreRight, Entries}
+use Rattle.wot_cache.proofs.recall.begin.Goals as goal
+
+pub returns-in-Ok : goal.returns-in-Ok
+returns-in-Ok c = record {
+  right = λ k all right. c.put.ensures.right k all (c.keep.ensures.right k (subst (λ (es : Entries). AreRight k es) (sym c.new-of_view.ensures.none) tt) right);
+}
