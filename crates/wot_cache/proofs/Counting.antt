@@ -4,20 +4,20 @@ use Rattle.std.specs.List.{sum_by}
 use Rattle.std.specs.List.Sorted.{IsStrictlySortedBy}
 use Rattle.std.specs.Option.{option_map, unwrap_or}
 use Rattle.std.specs.BTreeMap.{insert_entry, is_at}
-use Rattle.std.specs.Map.{keys_of, lookup, values_of}
-use Rattle.std.proofs.lemmas.Map.Entries.{sum_by-insert_entry}
+use Rattle.std.specs.Map.{keys_of, lookup, set_value, values_of}
+use Rattle.std.proofs.lemmas.Map.{length-set_value}
+use Rattle.std.proofs.lemmas.Map.Entries.{sum_by-insert_entry, sum_by-set_value}
 use Rattle.wot_types.specs.declared.fpr.Fpr.{Fpr}
 use Rattle.wot_types.specs.Fpr.{fpr_cmp}
 use Rattle.wot_keyring.specs.Keyring.{Keyring}
 use Rattle.wot_cache.specs.declared.answers.KeptAnswer.{KeptAnswer}
-use Rattle.wot_cache.specs.Answers.{AreFew, AreRight, Entries, IsRight, looked_by, looked_in}
+use Rattle.wot_cache.specs.Answers.{Amounts, AreFew, AreRight, Entries, IsGood, IsRight, IsSameBut, looked_by, looked_in}
 use Rattle.wot_cache.proofs.Inside.{each_inserted, fpr_total, length_inserted}
 
-abbrev IsRightIn : Keyring → KeptAnswer → Type 0
-IsRightIn k a = IsRight k a
-
-pub right_put : (k : Keyring) (entries : Entries) (a : KeptAnswer) → AreRight k entries → IsRight k a → AreRight k (insert_entry fpr_cmp entries a.target a)
-right_put k entries a all right = each_inserted (IsRightIn k) fpr_cmp entries a.target a all right
+pub right_put : (k : Keyring) (roots : Amounts) (turn : ℕ) (entries : Entries) (a : KeptAnswer) → AreRight k roots turn entries → IsRight k a
+    → IsGood k roots turn a → AreRight k roots turn (insert_entry fpr_cmp entries a.target a)
+right_put k roots turn entries a all right good =
+    each_inserted (λ (x : KeptAnswer). IsRight k x × IsGood k roots turn x) fpr_cmp entries a.target a all (right, good)
 
 by_option : (o : Option KeptAnswer) → looked_by o ≡ unwrap_or (option_map looked_in o) 0
 by_option None = refl
@@ -49,4 +49,16 @@ few_put entries a looked earlier sorted few e room fits =
       few = omega (arith, room, more);
       counted = omega (arith, sums, e, few.counted);
       bounded = omega (arith, fits);
+    }
+
+-- one that was found good again counts as before
+pub few_set : (entries : Entries) (target : Fpr) (old new : KeptAnswer) (looked : ℕ) → lookup (is_at (fpr_cmp target)) entries ≡ Some old → IsSameBut old new
+    → AreFew entries looked → AreFew (set_value (is_at (fpr_cmp target)) entries new) looked
+few_set entries target old new looked found same few =
+    let sums = sum_by-set_value looked_in (is_at (fpr_cmp target)) entries old new found in
+    let as_many : looked_in new ≡ looked_in old = ap looked_in same in
+    record {
+      few = rw (length-set_value (is_at (fpr_cmp target)) entries new) few.few;
+      counted = omega (arith, sums, as_many, few.counted);
+      bounded = few.bounded;
     }

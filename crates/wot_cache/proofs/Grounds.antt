@@ -19,7 +19,7 @@ use Rattle.wot_keyring.specs.Later.{IsLater, IsLaterAt, IsUnaltered, SaysSame}
 use Rattle.wot_network.specs.Local.{AgreeAt, IsLocal}
 use Rattle.wot_network.specs.Told.{record_of}
 use Rattle.wot_cache.specs.declared.answers.KeptAnswer.{KeptAnswer}
-use Rattle.wot_cache.specs.Answers.{AreStill, IsOf, IsRight, IsStill, look, question_at}
+use Rattle.wot_cache.specs.Answers.{Amounts, AreRight, AreStill, Entries, IsFound, IsGood, IsOf, IsRight, IsSameBut, IsStill, look, question_at}
 use Rattle.wot_cache.specs.Question.{IsAnswerAround}
 use Rattle.wot_cache.proofs.Inside.{each_found}
 
@@ -117,3 +117,30 @@ right_now itself k roots a target wanted uid t right is still =
     (subst (λ (f : Fpr). IsAnswer (asks (record_of (certificates_in k) k.verdicts t uid) roots f) a.wanted a.answer.paths) is.target
     (subst (λ (u : List ℕ). IsAnswer (asks (record_of (certificates_in k) k.verdicts t u) roots a.target) a.wanted a.answer.paths) is.uid
     (subst (λ (s : ℕ). IsAnswer (asks (record_of (certificates_in k) k.verdicts s a.uid) roots a.target) a.wanted a.answer.paths) is.time here)))
+
+-- ---- when it was found good
+
+-- what is looked at is found as it is
+found_still : (k : Keyring) (roots : Amounts) (set : List Fpr) → AreStill k roots (map (look k roots) set)
+found_still k roots [] = tt
+found_still k roots (x ∷ xs) = (record { stamp = refl; amount = refl }, found_still k roots xs)
+
+pub found_made : (k : Keyring) (roots : Amounts) (a : KeptAnswer) (set : List Fpr) → a.looked.items ≡ map (look k roots) set → a.count ≡ k.changes → IsFound k roots a
+found_made k roots a set looked now = record { count = omega (arith, now); still = subst (AreStill k roots) (sym looked) (found_still k roots set) }
+
+-- one that is found good at this turn of the roots
+pub good_at : (k : Keyring) (roots : Amounts) (turn : ℕ) (a : KeptAnswer) → IsFound k roots a → IsGood k roots turn (record a { turn = turn })
+good_at k roots turn a found = record { count = found.count; turn = omega arith; still = λ e f. found.still }
+
+-- what is right stays so, whenever it was found good
+pub right_again : (k : Keyring) (old new : KeptAnswer) → IsSameBut old new → IsRight k old → IsRight k new
+right_again k old new same right = subst (IsRight k) (sym same) (record { sum = right.sum; answer = λ later roots is still. right.answer later roots is still })
+
+-- at another turn of the roots nothing was found good yet
+pub right_turned : (k : Keyring) (roots others : Amounts) (turn next : ℕ) (entries : Entries) → turn < next → AreRight k roots turn entries
+    → AreRight k others next entries
+right_turned k roots others turn next [] more all = tt
+right_turned k roots others turn next (e ∷ es) more all =
+    let past : e.1.turn ≤ turn = all.0.1.turn in
+    ((all.0.0, record { count = all.0.1.count; turn = omega (arith, past, more); still = λ f g. absurd (omega (arith, past, more, g)) }),
+    right_turned k roots others turn next es more all.1)

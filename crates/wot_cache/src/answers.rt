@@ -1,19 +1,24 @@
 //! The answers that a view keeps, each with its question and with what it rests on.
-ghost use Rattle.std.specs.Prelude.{◌≡◌, ◌≤◌, ◌<◌, ◌+◌, [], true, map, length, IfOk, OnOk, OnErr};
+ghost use Rattle.std.specs.Prelude.{◌≡◌, ◌≤◌, ◌<◌, ◌+◌, ℕ, [], true, map, length, IfOk, IfSome, OnOk, OnErr};
 ghost use Rattle.std.specs.BTreeMap.{insert_entry, is_at};
 ghost use Rattle.std.specs.List.Sorted.{IsStrictlySortedBy};
 ghost use Rattle.std.specs.Map.{keys_of, lookup};
-ghost use Rattle.std.specs.Option.{option_copied};
 ghost use Rattle.wot_types.specs.Fpr.{fpr_cmp};
+ghost use Rattle.wot_edge.specs.Answer.{IsAnswer, amount_of};
 ghost use Rattle.wot_keyring.specs.Keyring.{Keyring as Held};
-ghost use Rattle.wot_cache.specs.Answers.{AreFew, AreRight, AreStill, IsOf, IsRight, look, looked_by, looked_in};
+ghost use Rattle.wot_cache.specs.Answers.{AreFew, AreRight, AreRightIn, AreStill, IsGood, IsOf, IsRight, IsSameBut};
+ghost use Rattle.wot_cache.specs.Answers.{Amounts, IsFound, look, looked_by, looked_in};
+ghost use Rattle.wot_cache.specs.Question.{asked_of};
 
+use crate::parts::Parts;
+use crate::roots::{are_same, listed};
 use std::alloc::Global;
 use std::collections::BTreeMap;
 use std::marker::Model;
 use wot_auth::Answer;
 use wot_edge::Roots;
 use wot_keyring::Keyring;
+use wot_keyring::laws::later_is_order;
 use wot_search::Consulted;
 use wot_types::{Fpr, Memory, UserId};
 
@@ -40,19 +45,73 @@ pub struct KeptAnswer {
     pub time: u32,
     pub looked: Vec<Looked>,
     pub answer: Answer,
+    /// The count of changes at which it was last found good.
+    pub count: u64,
+    /// The turn of the view's roots by which it was.
+    pub turn: u64,
 }
 
 impl KeptAnswer {
     /// Whether this is the question.
-    pub fn is_of(&self, target: &Fpr, wanted: u32, uid: &[u8], time: u32) -> bool
+    fn is_of(&self, target: &Fpr, wanted: u32, uid: &[u8], time: u32) -> bool
         ensures same { result ≡ true → IsOf self.now target.now wanted uid.now time }
     {
         self.time == time && self.wanted == wanted && self.target == *target && self.uid.octets() == uid
     }
+
+    /// Whether the stamps and the root amounts are what they were. Nothing is compared where no change was counted
+    /// and no root became another one since this was last found so.
+    fn is_good(&mut self, keyring: &Keyring, roots: &Roots, turn: u64) -> bool
+        ensures same { IsSameBut self.old self.new }
+        ensures good { IsGood keyring.now roots.now turn self.old → IsGood keyring.now roots.now turn self.new }
+        ensures still { IsGood keyring.now roots.now turn self.old → result ≡ true →
+            AreStill keyring.now roots.now self.old.looked.items }
+    {
+        let count = keyring.changes();
+        if self.count == count && self.turn == turn {
+            return true;
+        }
+        if !are_still(self.looked.as_slice(), keyring, roots) {
+            return false;
+        }
+        self.count = count;
+        self.turn = turn;
+        true
+    }
+
+    /// The answer, where it is one to this question and all that it rests on is as it was. None also where no memory
+    /// is found.
+    fn give(
+        &mut self,
+        parts: &Parts<'_>,
+        turn: u64,
+        target: &Fpr,
+        wanted: u32,
+        uid: &[u8],
+    ) -> Option<Answer>
+        requires right { IsRight parts.now.keyring.now self.old }
+        requires good { IsGood parts.now.keyring.now parts.now.roots.now turn self.old }
+        ensures same { IsSameBut self.old self.new }
+        ensures good { IsGood parts.now.keyring.now parts.now.roots.now turn self.new }
+        ensures answer { IfSome result (λ a. IsAnswer (asked_of parts.now target.now uid.now) wanted a.paths) }
+        ensures sum { IfSome result (λ a. a.sum ≡ amount_of a.paths) }
+    {
+        later_is_order();
+        if !self.is_of(target, wanted, uid, parts.t) {
+            return None;
+        }
+        if !self.is_good(parts.keyring, parts.roots, turn) {
+            return None;
+        }
+        match self.answer.duplicate() {
+            Ok(answer) => Some(answer),
+            Err(Memory) => None,
+        }
+    }
 }
 
 /// Whether the stamps and the root amounts are what they were.
-pub fn are_still(looked: &[Looked], keyring: &Keyring, roots: &Roots) -> bool
+fn are_still(looked: &[Looked], keyring: &Keyring, roots: &Roots) -> bool
     ensures still { result ≡ true → AreStill keyring.now roots.now looked.now }
 {
     let mut rest = looked;
@@ -108,7 +167,8 @@ fn make_room(table: &mut Table, looked: usize, count: usize) -> usize
     ensures few { AreFew table.new.entries result }
     ensures room { length table.new.entries < 1024 }
     ensures fits { result + count ≤ 1048576 }
-    ensures right { (k : Held) → AreRight k table.old.entries → AreRight k table.new.entries }
+    ensures right { (k : Held) (roots : Amounts) (turn : ℕ) → AreRight k roots turn table.old.entries →
+        AreRight k roots turn table.new.entries }
 {
     if table.len() < MOST && looked + count <= MOST_LOOKED {
         return looked;
@@ -123,12 +183,34 @@ fn add(table: &mut Table, looked: usize, answer: KeptAnswer) -> usize
     requires room { length table.old.entries < 1024 }
     requires fits { looked + looked_in answer ≤ 1048576 }
     ensures few { AreFew table.new.entries result }
-    ensures right { (k : Held) → AreRight k table.old.entries → IsRight k answer → AreRight k table.new.entries }
+    ensures right { (k : Held) (roots : Amounts) (turn : ℕ) → AreRight k roots turn table.old.entries → IsRight k answer →
+        IsGood k roots turn answer → AreRight k roots turn table.new.entries }
 {
     let count = answer.looked.len();
     match replace(table, answer) {
         Ok(earlier) => looked + count - earlier,
         Err(Memory) => looked,
+    }
+}
+
+/// The answer that is kept for a question.
+fn give(
+    table: &mut Table,
+    parts: &Parts<'_>,
+    turn: u64,
+    target: &Fpr,
+    wanted: u32,
+    uid: &[u8],
+) -> Option<Answer>
+    requires right { AreRight parts.now.keyring.now parts.now.roots.now turn table.old.entries }
+    ensures right { AreRight parts.now.keyring.now parts.now.roots.now turn table.new.entries }
+    ensures few { (looked : ℕ) → AreFew table.old.entries looked → AreFew table.new.entries looked }
+    ensures answer { IfSome result (λ a. IsAnswer (asked_of parts.now target.now uid.now) wanted a.paths) }
+    ensures sum { IfSome result (λ a. a.sum ≡ amount_of a.paths) }
+{
+    match table.get_mut(target) {
+        Some(kept) => kept.give(parts, turn, target, wanted, uid),
+        None => None,
     }
 }
 
@@ -139,14 +221,17 @@ pub struct Answers {
     table: Table,
     // How many fingerprints they have together.
     looked: usize,
+    // The roots by which answers were found good last, and how often they became others.
+    roots: Vec<(Fpr, u8)>,
+    turn: u64,
 }
 
 impl Model for Answers {
-    ghost use Rattle.wot_cache.specs.Answers.{Entries, AreFew};
+    ghost use Rattle.wot_cache.specs.Answers.{OfView, AreFew};
 
-    ghost Value = { Entries };
+    ghost Value = { OfView };
 
-    ghost view = { λ a. a.table.entries };
+    ghost view = { λ a. record { entries = a.table.entries; roots = a.roots.items; turn = a.turn } };
 
     ghost invariant = { λ a. AreFew a.table.entries a.looked };
 }
@@ -154,30 +239,67 @@ impl Model for Answers {
 impl Answers {
     /// No answers.
     pub fn new(alloc: Global) -> Answers
-        ensures none { result ≡ [] }
+        ensures none { result.entries ≡ [] }
     {
         Answers {
             table: BTreeMap::new(alloc),
             looked: 0,
+            roots: Vec::new(alloc),
+            turn: 0,
         }
     }
 
-    /// The answer that is kept for a target.
-    pub fn get(&self, target: &Fpr) -> Option<&KeptAnswer>
-        ensures found { option_copied result ≡ lookup (is_at (fpr_cmp target.now)) self.now }
+    /// Makes these the roots by which answers are found good. Whether they are; not where no memory is found.
+    fn settle(&mut self, alloc: Global, roots: &Roots) -> bool
+        ensures roots { result ≡ true → self.new.roots ≡ roots.now }
+        ensures right { (k : Held) → AreRightIn k self.old → AreRightIn k self.new }
     {
-        self.table.get(target)
+        if are_same(self.roots.as_slice(), roots) {
+            return true;
+        }
+        let Some(turn) = self.turn.checked_add(1) else {
+            return false;
+        };
+        let Ok(roots) = listed(alloc, roots) else {
+            return false;
+        };
+        self.roots = roots;
+        self.turn = turn;
+        true
     }
 
-    /// Keeps an answer, unless it consulted too much or no memory is found.
-    pub fn keep(&mut self, answer: KeptAnswer)
-        ensures right { (k : Held) → AreRight k self.old → IsRight k answer → AreRight k self.new }
+    /// The answer to a question that was answered before, where all that it rests on is as it was then. None also where
+    /// no memory is found.
+    pub fn give(
+        &mut self,
+        alloc: Global,
+        parts: &Parts<'_>,
+        target: &Fpr,
+        wanted: u32,
+        uid: &[u8],
+    ) -> Option<Answer>
+        requires right { AreRightIn parts.now.keyring.now self.old }
+        ensures right { AreRightIn parts.now.keyring.now self.new }
+        ensures answer { IfSome result (λ a. IsAnswer (asked_of parts.now target.now uid.now) wanted a.paths) }
+        ensures sum { IfSome result (λ a. a.sum ≡ amount_of a.paths) }
+    {
+        if !self.settle(alloc, parts.roots) {
+            return None;
+        }
+        give(&mut self.table, parts, self.turn, target, wanted, uid)
+    }
+
+    /// Keeps an answer that is good by these roots, unless it consulted too much or no memory is found.
+    pub fn keep(&mut self, alloc: Global, roots: &Roots, answer: KeptAnswer)
+        ensures right { (k : Held) → AreRightIn k self.old → IsRight k answer → IsFound k roots.now answer →
+            AreRightIn k self.new }
     {
         let count = answer.looked.len();
-        if MOST_LOOKED < count {
+        if MOST_LOOKED < count || !self.settle(alloc, roots) {
             return;
         }
+        let turn = self.turn;
         self.looked = make_room(&mut self.table, self.looked, count);
-        self.looked = add(&mut self.table, self.looked, answer);
+        self.looked = add(&mut self.table, self.looked, KeptAnswer { turn, ..answer });
     }
 }

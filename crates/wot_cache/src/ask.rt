@@ -74,7 +74,7 @@ fn find(
     ensures memory { OnErr result (result ≡ Err AskFault.Memory) }
     ensures right { AreAllRight parts.now.keyring.now answers.new.entries }
 {
-    match recall(answers, parts, view, target, wanted, uid) {
+    match recall(alloc, answers, parts, view, target, wanted, uid) {
         Some(answer) => Ok(answer),
         None => search(alloc, answers, parts, view, target, wanted, uid),
     }

@@ -9,6 +9,7 @@ mod networks;
 mod parts;
 mod present;
 mod recall;
+mod roots;
 mod view;
 mod views;
 

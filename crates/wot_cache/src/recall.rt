@@ -3,59 +3,41 @@ ghost use Rattle.std.specs.Prelude.{◌≡◌, [], IfOk, IfSome};
 ghost use Rattle.std.specs.Map.{remove_entry};
 ghost use Rattle.wot_edge.specs.Answer.{IsAnswer, amount_of};
 ghost use Rattle.wot_keyring.specs.Keyring.{Keyring as Held};
-ghost use Rattle.wot_cache.specs.Answers.{AreAllRight, AreRight, IsRight};
+ghost use Rattle.wot_cache.specs.Answers.{AreAllRight, AreRightIn, IsFound, IsRight};
 ghost use Rattle.wot_cache.specs.Question.{asked_of, IsAnswerAround};
 ghost use Rattle.wot_cache.specs.Views.{is_name};
 
-use crate::answers::{Answers, KeptAnswer, are_still, look_at};
+use crate::answers::{Answers, KeptAnswer, look_at};
 use crate::parts::Parts;
 use std::alloc::Global;
 use std::collections::BTreeMap;
 use wot_auth::Answer;
-use wot_keyring::laws::later_is_order;
+use wot_edge::Roots;
 use wot_network::laws::records_agree;
 use wot_search::Consulted;
 use wot_types::{Fpr, Memory, UserId, ViewName};
 
 pub type AllAnswers = BTreeMap<ViewName, Answers, Global>;
 
-/// The answer that a view keeps for a target.
-fn find<'a>(answers: &'a AllAnswers, view: &ViewName, target: &Fpr) -> Option<&'a KeptAnswer>
-    ensures right { (k : Held) → AreAllRight k answers.now.entries → IfSome result (λ a. IsRight k a.now) }
-{
-    match answers.get(view) {
-        Some(of_view) => of_view.get(target),
-        None => None,
-    }
-}
-
 /// The answer to a question that was answered before, where all that the answer rests on is as it was then. None also
 /// where no memory is found.
 pub fn recall(
-    answers: &AllAnswers,
+    alloc: Global,
+    answers: &mut AllAnswers,
     parts: &Parts<'_>,
     view: &ViewName,
     target: &Fpr,
     wanted: u32,
     uid: &[u8],
 ) -> Option<Answer>
-    requires right { AreAllRight parts.now.keyring.now answers.now.entries }
+    requires right { AreAllRight parts.now.keyring.now answers.old.entries }
+    ensures right { AreAllRight parts.now.keyring.now answers.new.entries }
     ensures answer { IfSome result (λ a. IsAnswer (asked_of parts.now target.now uid.now) wanted a.paths) }
     ensures sum { IfSome result (λ a. a.sum ≡ amount_of a.paths) }
 {
-    later_is_order();
-    let Some(kept) = find(answers, view, target) else {
-        return None;
-    };
-    if !kept.is_of(target, wanted, uid, parts.t) {
-        return None;
-    }
-    if !are_still(kept.looked.as_slice(), parts.keyring, parts.roots) {
-        return None;
-    }
-    match kept.answer.duplicate() {
-        Ok(answer) => Some(answer),
-        Err(Memory) => None,
+    match answers.get_mut(view) {
+        Some(of_view) => of_view.give(alloc, parts, target, wanted, uid),
+        None => None,
     }
 }
 
@@ -72,6 +54,7 @@ fn with_grounds(
     requires sum { answer.now.sum ≡ amount_of answer.now.paths }
     requires local { IsAnswerAround (asked_of parts.now target.now uid.now) wanted answer.now.paths consulted.now }
     ensures right { IfOk result (λ kept. IsRight parts.now.keyring.now kept) }
+    ensures found { IfOk result (λ kept. IsFound parts.now.keyring.now parts.now.roots.now kept) }
 {
     records_agree();
     // That stamps are counts of changes.
@@ -86,34 +69,50 @@ fn with_grounds(
         time: parts.t,
         looked,
         answer,
+        count: parts.keyring.changes(),
+        turn: 0,
     })
 }
 
 fn put(answers: &mut AllAnswers, view: ViewName, of_view: Answers)
-    ensures right { (k : Held) → AreAllRight k answers.old.entries → AreRight k of_view → AreAllRight k answers.new.entries }
+    ensures right { (k : Held) → AreAllRight k answers.old.entries → AreRightIn k of_view → AreAllRight k answers.new.entries }
 {
     // Without memory nothing is kept.
     let _ = answers.insert(view, of_view);
 }
 
 /// Keeps the first answer of a view.
-fn begin(alloc: Global, answers: &mut AllAnswers, view: &ViewName, kept: KeptAnswer)
-    ensures right { (k : Held) → AreAllRight k answers.old.entries → IsRight k kept → AreAllRight k answers.new.entries }
+fn begin(
+    alloc: Global,
+    answers: &mut AllAnswers,
+    view: &ViewName,
+    roots: &Roots,
+    kept: KeptAnswer,
+)
+    ensures right { (k : Held) → AreAllRight k answers.old.entries → IsRight k kept → IsFound k roots.now kept →
+        AreAllRight k answers.new.entries }
 {
     let mut of_view = Answers::new(alloc);
-    of_view.keep(kept);
+    of_view.keep(alloc, roots, kept);
     match view.duplicate(alloc) {
         Ok(name) => put(answers, name, of_view),
         Err(Memory) => {}
     }
 }
 
-fn keep(alloc: Global, answers: &mut AllAnswers, view: &ViewName, kept: KeptAnswer)
-    ensures right { (k : Held) → AreAllRight k answers.old.entries → IsRight k kept → AreAllRight k answers.new.entries }
+fn keep(
+    alloc: Global,
+    answers: &mut AllAnswers,
+    view: &ViewName,
+    roots: &Roots,
+    kept: KeptAnswer,
+)
+    ensures right { (k : Held) → AreAllRight k answers.old.entries → IsRight k kept → IsFound k roots.now kept →
+        AreAllRight k answers.new.entries }
 {
     match answers.get_mut(view) {
-        Some(of_view) => of_view.keep(kept),
-        None => begin(alloc, answers, view, kept),
+        Some(of_view) => of_view.keep(alloc, roots, kept),
+        None => begin(alloc, answers, view, roots, kept),
     }
 }
 
@@ -135,7 +134,7 @@ pub fn remember(
     ensures right { AreAllRight parts.now.keyring.now answers.new.entries }
 {
     match with_grounds(alloc, parts, target, wanted, uid, consulted, answer) {
-        Ok(kept) => keep(alloc, answers, view, kept),
+        Ok(kept) => keep(alloc, answers, view, parts.roots, kept),
         Err(Memory) => {}
     }
 }
