@@ -23,12 +23,10 @@ use Rattle.wot_cache.specs.Answers.{Amounts, AreRight, AreStill, Entries, IsFoun
 use Rattle.wot_cache.specs.Question.{IsAnswerAround}
 use Rattle.wot_cache.proofs.Inside.{each_found}
 
-
 -- ---- one fingerprint
 
 stripped_at : (k : Keyring) (fpr : Fpr) → lookup (is_fpr fpr) (certificates_in k) ≡ option_map (λ (x : Kept). x.cert) (kept_at k fpr)
 stripped_at k fpr = lookup-map_values (λ (x : Kept). x.cert) (is_fpr fpr) k.certs
-
 
 abbrev StampedBy : ℕ → Kept → Type 0
 StampedBy changes x = (0 < x.stamp) × (x.stamp ≤ changes)
@@ -141,6 +139,7 @@ pub right_turned : (k : Keyring) (roots others : Amounts) (turn next : ℕ) (ent
     → AreRight k others next entries
 right_turned k roots others turn next [] more all = tt
 right_turned k roots others turn next (e ∷ es) more all =
-    let past : e.1.turn ≤ turn = all.0.1.turn in
-    ((all.0.0, record { count = all.0.1.count; turn = omega (arith, past, more); still = λ f g. absurd (omega (arith, past, more, g)) }),
-    right_turned k roots others turn next es more all.1)
+    let past : e.1.turn ≤ turn = all.0.1.turn in (
+      (all.0.0, record { count = all.0.1.count; turn = omega (arith, past, more); still = λ f g. absurd (omega (arith, past, more, g)) }),
+      right_turned k roots others turn next es more all.1,
+    )

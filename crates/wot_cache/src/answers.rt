@@ -56,7 +56,10 @@ impl KeptAnswer {
     fn is_of(&self, target: &Fpr, wanted: u32, uid: &[u8], time: u32) -> bool
         ensures same { result ≡ true → IsOf self.now target.now wanted uid.now time }
     {
-        self.time == time && self.wanted == wanted && self.target == *target && self.uid.octets() == uid
+        self.time == time
+            && self.wanted == wanted
+            && self.target == *target
+            && self.uid.octets() == uid
     }
 
     /// Whether the stamps and the root amounts are what they were. Nothing is compared where no change was counted

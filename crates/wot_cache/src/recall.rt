@@ -82,13 +82,7 @@ fn put(answers: &mut AllAnswers, view: ViewName, of_view: Answers)
 }
 
 /// Keeps the first answer of a view.
-fn begin(
-    alloc: Global,
-    answers: &mut AllAnswers,
-    view: &ViewName,
-    roots: &Roots,
-    kept: KeptAnswer,
-)
+fn begin(alloc: Global, answers: &mut AllAnswers, view: &ViewName, roots: &Roots, kept: KeptAnswer)
     ensures right { (k : Held) → AreAllRight k answers.old.entries → IsRight k kept → IsFound k roots.now kept →
         AreAllRight k answers.new.entries }
 {
@@ -100,13 +94,7 @@ fn begin(
     }
 }
 
-fn keep(
-    alloc: Global,
-    answers: &mut AllAnswers,
-    view: &ViewName,
-    roots: &Roots,
-    kept: KeptAnswer,
-)
+fn keep(alloc: Global, answers: &mut AllAnswers, view: &ViewName, roots: &Roots, kept: KeptAnswer)
     ensures right { (k : Held) → AreAllRight k answers.old.entries → IsRight k kept → IsFound k roots.now kept →
         AreAllRight k answers.new.entries }
 {

@@ -28,31 +28,116 @@ const R_IMPORTED: &[u8] = b"import c60704000003e81b01c210041f1b0800060502000003e
 /// 1500 with the root R 255.
 const TURNS: [Turn; 19] = [
     // A verdict and a certificate on which no answer rests.
-    Turn { lines: &[b"verdict 0000000000000000000000000000000000000000000000000000000000000008 bad"], p: (120, 1), q: (0, 0) },
-    Turn { lines: &[b"import c60704000003e81b02c210041f1b0800060502000003e800000000"], p: (120, 1), q: (0, 0) },
+    Turn {
+        lines: &[b"verdict 0000000000000000000000000000000000000000000000000000000000000008 bad"],
+        p: (120, 1),
+        q: (0, 0),
+    },
+    Turn {
+        lines: &[b"import c60704000003e81b02c210041f1b0800060502000003e800000000"],
+        p: (120, 1),
+        q: (0, 0),
+    },
     // The time of a view.
-    Turn { lines: &[b"view q time 2000"], p: (120, 1), q: (120, 1) },
-    Turn { lines: &[b"view p time 1999"], p: (0, 0), q: (120, 1) },
-    Turn { lines: &[b"view p time 2000"], p: (120, 1), q: (120, 1) },
+    Turn {
+        lines: &[b"view q time 2000"],
+        p: (120, 1),
+        q: (120, 1),
+    },
+    Turn {
+        lines: &[b"view p time 1999"],
+        p: (0, 0),
+        q: (120, 1),
+    },
+    Turn {
+        lines: &[b"view p time 2000"],
+        p: (120, 1),
+        q: (120, 1),
+    },
     // The verdict on the certification, and on the introducer's own signature.
-    Turn { lines: &[b"verdict 7331b37825bdca65502938381c08cd08d9da47de1940c67bdae7bdf1dfab72d5 bad"], p: (0, 0), q: (0, 0) },
-    Turn { lines: &[b"verdict 7331b37825bdca65502938381c08cd08d9da47de1940c67bdae7bdf1dfab72d5 good 7f35c8dbd6b3eb2ffd59cbdd2e41ea291212ac38"], p: (120, 1), q: (120, 1) },
-    Turn { lines: &[b"verdict 68d0eb5f8ca13914fcddf1b23e5f608bf9847603834da284f01a707208051209 none"], p: (0, 0), q: (0, 0) },
-    Turn { lines: &[b"verdict 68d0eb5f8ca13914fcddf1b23e5f608bf9847603834da284f01a707208051209 good 7f35c8dbd6b3eb2ffd59cbdd2e41ea291212ac38"], p: (120, 1), q: (120, 1) },
+    Turn {
+        lines: &[b"verdict 7331b37825bdca65502938381c08cd08d9da47de1940c67bdae7bdf1dfab72d5 bad"],
+        p: (0, 0),
+        q: (0, 0),
+    },
+    Turn {
+        lines: &[
+            b"verdict 7331b37825bdca65502938381c08cd08d9da47de1940c67bdae7bdf1dfab72d5 good 7f35c8dbd6b3eb2ffd59cbdd2e41ea291212ac38",
+        ],
+        p: (120, 1),
+        q: (120, 1),
+    },
+    Turn {
+        lines: &[b"verdict 68d0eb5f8ca13914fcddf1b23e5f608bf9847603834da284f01a707208051209 none"],
+        p: (0, 0),
+        q: (0, 0),
+    },
+    Turn {
+        lines: &[
+            b"verdict 68d0eb5f8ca13914fcddf1b23e5f608bf9847603834da284f01a707208051209 good 7f35c8dbd6b3eb2ffd59cbdd2e41ea291212ac38",
+        ],
+        p: (120, 1),
+        q: (120, 1),
+    },
     // The amounts of roots, each view by its own.
-    Turn { lines: &[b"view p root 7f35c8dbd6b3eb2ffd59cbdd2e41ea291212ac38 50"], p: (50, 1), q: (120, 1) },
-    Turn { lines: &[b"view q root 7f35c8dbd6b3eb2ffd59cbdd2e41ea291212ac38 40"], p: (50, 1), q: (40, 1) },
-    Turn { lines: &[b"view p root 352e5f12059b4605a5b8f88f66d655c9133e1ca2 2"], p: (50, 1), q: (40, 1) },
-    Turn { lines: &[b"view p root 7f35c8dbd6b3eb2ffd59cbdd2e41ea291212ac38 0"], p: (0, 0), q: (40, 1) },
-    Turn { lines: &[b"view p root 7f35c8dbd6b3eb2ffd59cbdd2e41ea291212ac38 120"], p: (120, 1), q: (40, 1) },
+    Turn {
+        lines: &[b"view p root 7f35c8dbd6b3eb2ffd59cbdd2e41ea291212ac38 50"],
+        p: (50, 1),
+        q: (120, 1),
+    },
+    Turn {
+        lines: &[b"view q root 7f35c8dbd6b3eb2ffd59cbdd2e41ea291212ac38 40"],
+        p: (50, 1),
+        q: (40, 1),
+    },
+    Turn {
+        lines: &[b"view p root 352e5f12059b4605a5b8f88f66d655c9133e1ca2 2"],
+        p: (50, 1),
+        q: (40, 1),
+    },
+    Turn {
+        lines: &[b"view p root 7f35c8dbd6b3eb2ffd59cbdd2e41ea291212ac38 0"],
+        p: (0, 0),
+        q: (40, 1),
+    },
+    Turn {
+        lines: &[b"view p root 7f35c8dbd6b3eb2ffd59cbdd2e41ea291212ac38 120"],
+        p: (120, 1),
+        q: (40, 1),
+    },
     // A view that was closed and is opened again.
-    Turn { lines: &[b"view p close", b"view p time 2000"], p: (0, 0), q: (40, 1) },
-    Turn { lines: &[b"view p root 7f35c8dbd6b3eb2ffd59cbdd2e41ea291212ac38 7"], p: (7, 1), q: (40, 1) },
+    Turn {
+        lines: &[b"view p close", b"view p time 2000"],
+        p: (0, 0),
+        q: (40, 1),
+    },
+    Turn {
+        lines: &[b"view p root 7f35c8dbd6b3eb2ffd59cbdd2e41ea291212ac38 7"],
+        p: (7, 1),
+        q: (40, 1),
+    },
     // A certificate that is dropped, and that returns.
-    Turn { lines: &[b"drop 7f35c8dbd6b3eb2ffd59cbdd2e41ea291212ac38"], p: (0, 0), q: (0, 0) },
-    Turn { lines: &[R_IMPORTED], p: (7, 1), q: (40, 1) },
+    Turn {
+        lines: &[b"drop 7f35c8dbd6b3eb2ffd59cbdd2e41ea291212ac38"],
+        p: (0, 0),
+        q: (0, 0),
+    },
+    Turn {
+        lines: &[R_IMPORTED],
+        p: (7, 1),
+        q: (40, 1),
+    },
     // More than one change, after which all is as it was.
-    Turn { lines: &[b"drop 7f35c8dbd6b3eb2ffd59cbdd2e41ea291212ac38", R_IMPORTED, b"view q time 1999", b"view q time 2000"], p: (7, 1), q: (40, 1) },
+    Turn {
+        lines: &[
+            b"drop 7f35c8dbd6b3eb2ffd59cbdd2e41ea291212ac38",
+            R_IMPORTED,
+            b"view q time 1999",
+            b"view q time 2000",
+        ],
+        p: (7, 1),
+        q: (40, 1),
+    },
 ];
 
 /// Whether this is told.
@@ -115,7 +200,9 @@ fn kept_answers_are_those_of_the_present(rt: HostRuntime) -> Result<(), Fail> {
 const DIRECT: &[u8] = &[4, 0x1f, 27, 8, 0, 6, 5, 2, 0, 0, 3, 232, 0, 0, 0, 0];
 
 /// `R>X` of depth 1 and amount 1, and `X>T`, up to the issuer's fingerprint.
-const BY_R: &[u8] = &[4, 0x10, 27, 8, 0, 33, 5, 2, 0, 0, 7, 208, 3, 5, 1, 1, 22, 33, 4];
+const BY_R: &[u8] = &[
+    4, 0x10, 27, 8, 0, 33, 5, 2, 0, 0, 7, 208, 3, 5, 1, 1, 22, 33, 4,
+];
 
 const BY_X: &[u8] = &[4, 0x10, 27, 8, 0, 29, 5, 2, 0, 0, 7, 208, 22, 33, 4];
 
@@ -211,7 +298,8 @@ fn nobody(number: u32) -> Fpr {
 fn has_all(answer: &Answer) -> bool {
     answer.sum == 250
         && answer.paths.as_slice().len() == 250
-        && answer.paths.as_slice().iter().all(|path| path.amount == 1 && path.steps.as_slice().len() == 2)
+        && answer.paths.as_slice().iter().all(|path| path.amount == 1
+            && path.steps.as_slice().len() == 2)
 }
 
 #[test]
@@ -236,7 +324,10 @@ fn many_answers_are_kept(rt: HostRuntime) -> Result<(), Fail> {
     }
     // With as many others as a view keeps, and with one more.
     for number in 0..1026 {
-        assert_eq!(rt; engine.ask(&p, &nobody(number), 1, b"t", &mut steps)?.sum, 0);
+        assert_eq!(rt;
+            engine.ask(&p, &nobody(number), 1, b"t", &mut steps)?.sum,
+            0
+        );
         if number >= 1022 {
             assert!(rt; has_all(&engine.ask(&p, &T, 250, b"t", &mut steps)?));
         }
