@@ -124,11 +124,11 @@ found_still k roots [] = tt
 found_still k roots (x ∷ xs) = (record { stamp = refl; amount = refl }, found_still k roots xs)
 
 pub found_made : (k : Keyring) (roots : Amounts) (a : KeptAnswer) (set : List Fpr) → a.looked.items ≡ map (look k roots) set → a.count ≡ k.changes → IsFound k roots a
-found_made k roots a set looked now = record { count = omega (arith, now); still = subst (AreStill k roots) (sym looked) (found_still k roots set) }
+found_made k roots a set looked now = record { counted = omega (arith, now); still = subst (AreStill k roots) (sym looked) (found_still k roots set) }
 
 -- one that is found good at this turn of the roots
 pub good_at : (k : Keyring) (roots : Amounts) (turn : ℕ) (a : KeptAnswer) → IsFound k roots a → IsGood k roots turn (record a { turn = turn })
-good_at k roots turn a found = record { count = found.count; turn = omega arith; still = λ e f. found.still }
+good_at k roots turn a found = record { counted = found.counted; turned = omega arith; still = λ e f. found.still }
 
 -- what is right stays so, whenever it was found good
 pub right_again : (k : Keyring) (old new : KeptAnswer) → IsSameBut old new → IsRight k old → IsRight k new
@@ -139,7 +139,7 @@ pub right_turned : (k : Keyring) (roots others : Amounts) (turn next : ℕ) (ent
     → AreRight k others next entries
 right_turned k roots others turn next [] more all = tt
 right_turned k roots others turn next (e ∷ es) more all =
-    let past : e.1.turn ≤ turn = all.0.1.turn in (
-      (all.0.0, record { count = all.0.1.count; turn = omega (arith, past, more); still = λ f g. absurd (omega (arith, past, more, g)) }),
+    let past : e.1.turn ≤ turn = all.0.1.turned in (
+      (all.0.0, record { counted = all.0.1.counted; turned = omega (arith, past, more); still = λ f g. absurd (omega (arith, past, more, g)) }),
       right_turned k roots others turn next es more all.1,
     )

@@ -175,8 +175,8 @@ good_later : (old new : Keyring) (roots : Amounts) (turn : ℕ) (a : KeptAnswer)
 good_later old new roots turn a (inl same) good = subst (λ (k : Keyring). IsGood k roots turn a) (sym same) good
 good_later old new roots turn a (inr more) good =
     let counted : new.changes ≡ old.changes + 1 = more.0 in
-    let past = good.count in
-    record { count = omega (arith, counted, past); turn = good.turn; still = λ e f. absurd (omega (arith, counted, past, e)) }
+    let past = good.counted in
+    record { counted = omega (arith, counted, past); turned = good.turned; still = λ e f. absurd (omega (arith, counted, past, e)) }
 
 are_right_later : LaterStill → (old new : Keyring) (roots : Amounts) (turn : ℕ) (entries : Entries) → IsLater old new → IsOneChange old new
     → AreRight old roots turn entries → AreRight new roots turn entries

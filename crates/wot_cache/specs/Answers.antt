@@ -52,13 +52,13 @@ pub record IsRight (k : Keyring) (a : KeptAnswer) : Type 0 where
 
 -- Where it was last found good at the count of changes and by the roots that there are now, what it rests on is as it was.
 pub record IsGood (k : Keyring) (roots : Amounts) (turn : ℕ) (a : KeptAnswer) : Type 0 where
-  pub count : a.count ≤ k.changes
-  pub turn : a.turn ≤ turn
+  pub counted : a.count ≤ k.changes
+  pub turned : a.turn ≤ turn
   pub still : a.count ≡ k.changes → a.turn ≡ turn → AreStill k roots a.looked.items
 
 -- It was found good by these roots, at the present count of changes.
 pub record IsFound (k : Keyring) (roots : Amounts) (a : KeptAnswer) : Type 0 where
-  pub count : a.count ≤ k.changes
+  pub counted : a.count ≤ k.changes
   pub still : AreStill k roots a.looked.items
 
 -- Nothing but when it was last found good is another.

@@ -298,7 +298,10 @@ impl Answers {
             AreRightIn k self.new }
     {
         let count = answer.looked.len();
-        if MOST_LOOKED < count || !self.settle(alloc, roots) {
+        if MOST_LOOKED < count {
+            return;
+        }
+        if !self.settle(alloc, roots) {
             return;
         }
         let turn = self.turn;
