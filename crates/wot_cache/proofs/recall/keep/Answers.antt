@@ -11,4 +11,6 @@ returns-in-Some c = record {
 }
 
 pub returns-in-None : goal.returns-in-None
-returns-in-None c = record { right = λ k all right found. c.begin.ensures.right k all right found }
+returns-in-None c = record {
+  right = λ k all right found. c.begin.ensures.right k (rw c.get_mut.follows.holds-at-none all) right found;
+}

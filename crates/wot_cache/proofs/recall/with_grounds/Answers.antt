@@ -2,6 +2,7 @@ use Rattle.std.proofs.Common.{◌≡◌, ℕ, List, sym, ap, subst, ◌∙◌}
 use Rattle.wot_edge.specs.declared.path.Path.{Path}
 use Rattle.wot_edge.specs.Answer.{amount_of}
 use Rattle.wot_auth.specs.declared.answer.Answer.{Answer}
+use Rattle.wot_cache.specs.declared.answers.KeptAnswer.{KeptAnswer}
 use Rattle.wot_cache.specs.Question.{IsAnswerAround, asked_of}
 use Rattle.wot_cache.proofs.Grounds.{found_made, right_made}
 use Rattle.wot_cache.proofs.recall.with_grounds.Goals as goal
@@ -10,7 +11,7 @@ pub returns : goal.returns
 returns c =
     let p = c.args.parts.now in
     let set = c.args.consulted.now in
-    let kept = record {
+    let kept : KeptAnswer = record {
       target = c.args.target.now;
       wanted = c.args.wanted;
       uid = c.in_ok-uid.uid;
@@ -25,5 +26,5 @@ returns c =
     let sum = subst (λ (a : Answer). a.sum ≡ amount_of a.paths) (sym c.in_ok-answer.ensures.same) c.requires.sum in
     record {
       right = right_made c.records_agree.ensures.local p.keyring.now p.roots.now kept set c.len-count.ensures.stamped c.in_ok-looked.ensures.looked sum around;
-      found = found_made p.keyring.now p.roots.now kept set c.in_ok-looked.ensures.looked c.changes.ensures;
+      found = found_made p.keyring.now p.roots.now kept set c.in_ok-looked.ensures.looked c.changes.ensures.changes;
     }
