@@ -61,7 +61,15 @@ pub returns-clause-pairs : goal.returns-clause-pairs
 returns-clause-pairs c = if_ok c.answer.result _ _ (λ a t. t.pairs) c.answer.ensures.told
 
 pub invariant_of-self : goal.invariant_of-self
-invariant_of-self c =
+invariant_of-self c = record {
+  small = rw c.refresh.ensures.keyring c.self.invariant.small;
+  within = rw c.refresh.ensures.keyring (rw c.refresh.ensures.views c.self.invariant.within);
+  fit = c.refresh.ensures.fit;
+  right = rw c.refresh.ensures.keyring c.self.invariant.right;
+}
+
+pub invariant_of-self-2 : goal.invariant_of-self-2
+invariant_of-self-2 c =
     let name = c.args.view.now in
     let k = c.self.inside.networked.keyring in
     let views = c.self.inside.networked.views.entries in
