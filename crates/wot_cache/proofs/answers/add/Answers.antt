@@ -1,4 +1,4 @@
-use Rattle.std.proofs.Common.{◌≡◌, ◌∙◌, arith}
+use Rattle.std.proofs.Common.{◌≡◌, ◌∙◌}
 use Rattle.wot_cache.specs.Answers.{looked_in}
 use Rattle.wot_cache.proofs.Counting.{few_put, fewer, right_put}
 use Rattle.wot_cache.proofs.answers.add.Goals as goal

@@ -3,7 +3,6 @@ use Rattle.std.specs.declared.cmp.Ordering.{Ordering}
 use Rattle.std.specs.BTreeMap.{is_at}
 use Rattle.std.specs.Map.{lookup, set_value}
 use Rattle.wot_types.specs.declared.fpr.Fpr.{Fpr}
-use Rattle.wot_types.specs.Fpr.{fpr_cmp}
 use Rattle.wot_types.specs.FprLaws.{same_cmp}
 use Rattle.wot_cache.specs.Answers.{AreFew, AreRight}
 use Rattle.wot_cache.proofs.Counting.{few_set}

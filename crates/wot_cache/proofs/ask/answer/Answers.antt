@@ -1,4 +1,4 @@
-use Rattle.std.proofs.Common.{ℕ, List, subst}
+use Rattle.std.proofs.Common.{subst}
 use Rattle.wot_edge.specs.Record.{IsRecord}
 use Rattle.wot_network.specs.Net.{Present, told_of}
 use Rattle.wot_cache.specs.Question.{asked_of}

@@ -1,4 +1,4 @@
-use Rattle.std.proofs.Common.{[], sym, subst}
+use Rattle.std.proofs.Common.{sym, subst}
 use Rattle.wot_cache.specs.Answers.{AreRight, Entries}
 use Rattle.wot_cache.proofs.recall.begin.Goals as goal
 

@@ -1,5 +1,4 @@
-use Rattle.std.proofs.Common.{◌≡◌, ℕ, List, sym, ap, subst, ◌∙◌}
-use Rattle.wot_edge.specs.declared.path.Path.{Path}
+use Rattle.std.proofs.Common.{◌≡◌, ℕ, List, sym, subst}
 use Rattle.wot_edge.specs.Answer.{amount_of}
 use Rattle.wot_auth.specs.declared.answer.Answer.{Answer}
 use Rattle.wot_cache.specs.declared.answers.KeptAnswer.{KeptAnswer}
