@@ -1,17 +1,24 @@
 -- What is asked over the parts that are seen from a view is the view's question.
-use Rattle.std.proofs.Common.{◌≡◌, ℕ, ◌≤◌, List, length, Option, Some, None, Result, Ok, Err, refl, sym, ap, subst, ◌∙◌, arith}
+use Rattle.std.proofs.Common.{◌≡◌, ℕ, ◌≤◌, List, [], length, Option, Some, None, Result, Ok, Err, refl, sym, ap, subst, ◌∙◌, arith}
 use Rattle.std.specs.Prelude.{IfOk, IfSome, IsSomeAnd}
 use Rattle.wot_types.specs.declared.fpr.Fpr.{Fpr}
 use Rattle.wot_types.specs.declared.limits.Limits.{Limits}
-use Rattle.wot_edge.specs.Path.{Question}
+use Rattle.wot_edge.specs.declared.path.Path.{Path}
+use Rattle.wot_edge.specs.Answer.{EachNext, IsAnswer, amount_of}
+use Rattle.wot_edge.specs.Capacity.{AllFit}
+use Rattle.wot_edge.specs.Path.{Question, use_of}
+use Rattle.wot_edge.specs.Record.{IsRecord}
+use Rattle.wot_edge.specs.Roots.{root_amount}
+use Rattle.wot_auth.specs.declared.answer.Answer.{Answer}
 use Rattle.wot_keyring.specs.Keyring.{Keyring}
 use Rattle.wot_network.specs.Net.{IsRight, Net, Present}
 use Rattle.wot_network.specs.Roads.{present_of}
 use Rattle.wot_cache.specs.declared.parts.Parts.{Parts}
 use Rattle.wot_cache.specs.declared.view.View.{View}
+use Rattle.wot_cache.specs.Answers.{AllAnswers, AreAllRight}
 use Rattle.wot_cache.specs.Inside.{IsEngine, IsReady, Networks, network_at}
 use Rattle.wot_cache.specs.Parts.{ArePartsOf}
-use Rattle.wot_cache.specs.Question.{IsLocalTo, asked_over, question_in}
+use Rattle.wot_cache.specs.Question.{IsLocalTo, IsTold, TellsSpent, asked_of, asked_over, present_in, question_in}
 use Rattle.wot_cache.specs.State.{Engine, state_of}
 use Rattle.wot_cache.specs.Views.{IsWithin, Views, view_at}
 use Rattle.wot_cache.proofs.Inside.{few_there}
@@ -61,9 +68,9 @@ few_of limits k views name p within small seen = by (view_at views name) refl se
         omega (arith, few, small, same)
 
 -- there are few roots among them
-pub few_seen : (engine : Engine) (k : Keyring) (views : Views) (networks : Networks) (name : List ℕ) (p : Parts) → record { keyring = k; views = views } ≡ engine
-    → IsEngine k views networks → AreSeen engine name p → length p.roots.now ≤ 64
-few_seen engine k views networks name p same inside seen =
+pub few_seen : (engine : Engine) (k : Keyring) (views : Views) (networks : Networks) (answers : AllAnswers) (name : List ℕ) (p : Parts)
+    → record { keyring = k; views = views } ≡ engine → IsEngine k views networks answers → AreSeen engine name p → length p.roots.now ≤ 64
+few_seen engine k views networks answers name p same inside seen =
     few_of k.limits engine.keyring engine.views name p (subst (λ (e : Engine). IsWithin k.limits e.views) same inside.within) inside.small.roots seen
 
 -- what is local at the time of a view's network is local at the view's
@@ -88,3 +95,73 @@ keyring_seen engine name p = by (view_at engine.views name)
     by : (o : Option View) → IsSomeAnd o (λ (v : View). ArePartsOf engine.keyring v p) → (present_of p.roads).keyring ≡ engine.keyring
     by None are = absurd are
     by (Some v) are = ap (λ (p : Present). p.keyring) are.roads
+
+-- ---- answers
+
+-- the parts are of the keyring and the time that their roads are of
+pub present_seen : (engine : Engine) (name : List ℕ) (p : Parts) → AreSeen engine name p → present_of p.roads ≡ present_in p
+present_seen engine name p = by (view_at engine.views name)
+  where
+    by : (o : Option View) → IsSomeAnd o (λ (v : View). ArePartsOf engine.keyring v p) → present_of p.roads ≡ present_in p
+    by None are = absurd are
+    by (Some v) are =
+        are.roads ∙ sym (ap (λ (k : Keyring). record { keyring = k; time = p.t }) are.keyring ∙ ap (λ (t : ℕ). record { keyring = engine.keyring; time = t }) are.time)
+
+-- the kept answers are right from the keyring of the parts on
+pub right_seen : (engine : Engine) (k : Keyring) (views : Views) (name : List ℕ) (p : Parts) (answers : AllAnswers) → record { keyring = k; views = views } ≡ engine
+    → AreSeen engine name p → AreAllRight k answers → AreAllRight p.keyring.now answers
+right_seen engine k views name p answers same seen right = by (view_at engine.views name) seen
+  where
+    by : (o : Option View) → IsSomeAnd o (λ (v : View). ArePartsOf engine.keyring v p) → AreAllRight p.keyring.now answers
+    by None are = absurd are
+    by (Some v) are = subst (λ (k : Keyring). AreAllRight k answers) (ap (λ (e : Engine). e.keyring) same ∙ sym are.keyring) right
+
+-- and the other way round
+pub right_kept : (engine : Engine) (k new : Keyring) (views : Views) (name : List ℕ) (p : Parts) (answers : AllAnswers) → record { keyring = k; views = views } ≡ engine
+    → new ≡ k → AreSeen engine name p → AreAllRight p.keyring.now answers → AreAllRight new answers
+right_kept engine k new views name p answers same equal seen right = by (view_at engine.views name) seen
+  where
+    by : (o : Option View) → IsSomeAnd o (λ (v : View). ArePartsOf engine.keyring v p) → AreAllRight new answers
+    by None are = absurd are
+    by (Some v) are = subst (λ (k : Keyring). AreAllRight k answers) (are.keyring ∙ sym (ap (λ (e : Engine). e.keyring) same) ∙ sym equal) right
+
+-- All that is said of an answer over the parts is said of the view's question.
+pub told_seen : (engine : Engine) (name : List ℕ) (p : Parts) (target : Fpr) (uid : List ℕ) (wanted : ℕ) (a : Answer) → AreSeen engine name p
+    → IsTold (asked_of p target uid) wanted a → IfSome (view_at engine.views name) (λ (v : View). IsTold (question_in (state_of engine) v target uid) wanted a)
+told_seen engine name p target uid wanted a seen told =
+    as_asked (λ (q : Question). IsTold q wanted a) engine name p target uid seen
+    (subst (λ (present : Present). IsTold (asked_over present p.roots.now target uid) wanted a) (sym (present_seen engine name p seen)) told)
+
+pub if_some : {A : Type 0} (o : Option A) (P Q : A → Type 0) → ((a : A) → P a → Q a) → IfSome o P → IfSome o Q
+if_some None P Q step p = tt
+if_some (Some a) P Q step p = step a p
+
+pub both_ok : {A E : Type 0} (r : Result A E) (P Q R : A → Type 0) → ((a : A) → P a → Q a → R a) → IfOk r P → IfOk r Q → IfOk r R
+both_ok (Ok a) P Q R step p q = step a p q
+both_ok (Err e) P Q R step p q = tt
+
+-- ---- what the laws say of an answer
+
+abbrev pub OneAnswer : Type 0
+OneAnswer = (q : Question) (wanted : ℕ) (a b : List Path) → IsRecord q.told → IsAnswer q wanted a → IsAnswer q wanted b → a ≡ b
+
+abbrev pub ZeroSpent : Type 0
+ZeroSpent = (q : Question) (wanted : ℕ) (paths : List Path) → 1 ≤ wanted → IsAnswer q wanted paths → TellsSpent q (amount_of paths)
+
+abbrev pub PairsFit : Type 0
+PairsFit = (q : Question) (paths : List Path) → EachNext q [] paths → AllFit [] paths
+
+abbrev pub RootsFit : Type 0
+RootsFit = (q : Question) (paths : List Path) (fpr : Fpr) → EachNext q [] paths → (use_of paths).root fpr ≤ root_amount q.roots fpr
+
+pub told_from : OneAnswer → ZeroSpent → PairsFit → RootsFit → (q : Question) (wanted : ℕ) (a : Answer) → 1 ≤ wanted → IsRecord q.told
+    → IsAnswer q wanted a.paths → a.sum ≡ amount_of a.paths → IsTold q wanted a
+told_from one spent pairs roots q wanted a some lawful is sum =
+    let zero = spent q wanted a.paths some is in record {
+      answer = is;
+      one = λ others other. one q wanted others a.paths lawful other is;
+      sum = sum;
+      zero = (λ e. zero.0 (sym sum ∙ e), λ s. sum ∙ zero.1 s);
+      pairs = pairs q a.paths is.each;
+      roots = λ fpr. roots q a.paths fpr is.each;
+    }

@@ -1,11 +1,11 @@
 -- Views stay within the limits, and networks go on to fit.
-use Rattle.std.proofs.Common.{◌≡◌, inl, inr, ℕ, ◌+◌, ◌<◌, ◌≤◌, Bool, true, false, cond, List, [], ◌∷◌, length, Option, Some, None, Result, Ok, Err, OnOk, OnErr, refl, subst, arith}
+use Rattle.std.proofs.Common.{◌≡◌, inl, inr, ℕ, ◌+◌, ◌<◌, ◌≤◌, Bool, true, false, cond, List, [], ◌∷◌, length, Option, Some, None, Result, Ok, Err, OnOk, OnErr, refl, sym, subst, arith}
 use Rattle.std.specs.Prelude.{nat_lt, nat_le, ◌==◌}
 use Rattle.std.specs.declared.cmp.Ordering.{Ordering}
 use Rattle.std.specs.declared.cmp.Ordering.TheVariants.{Less, Equal, Greater}
 use Rattle.std.specs.Ordering.{match_ordering}
 use Rattle.std.specs.List.{AllByRecursion, sum_by}
-use Rattle.std.specs.Option.{unwrap_or, option_map, MatchOption, IfSome}
+use Rattle.std.specs.Option.{unwrap_or, option_copied, option_map, MatchOption, IfSome}
 use Rattle.wot_types.specs.declared.memory.Memory.{Memory}
 use Rattle.std.specs.Cmp.{IsTotalOrder}
 use Rattle.std.specs.BTreeMap.{insert_entry, is_at}
@@ -20,10 +20,13 @@ use Rattle.wot_types.specs.declared.limits.Limits.{Limits}
 use Rattle.wot_types.specs.Fpr.{fpr_cmp, octets_of}
 use Rattle.wot_types.specs.ViewName.{view_name_cmp}
 use Rattle.wot_edge.specs.Roots.{IsRoots, root_amount}
+use Rattle.wot_keyring.specs.Import.{IsOneChange}
 use Rattle.wot_keyring.specs.Keyring.{Keyring}
 use Rattle.wot_keyring.specs.Later.{IsLater}
 use Rattle.wot_network.specs.Net.{Net, Fits}
 use Rattle.wot_cache.specs.declared.view.View.{View}
+use Rattle.wot_cache.specs.declared.answers.KeptAnswer.{KeptAnswer}
+use Rattle.wot_cache.specs.Answers.{AllAnswers, Amounts, AreAllRight, AreRight, AreRightIn, Entries, IsGood, IsRight, OfView}
 use Rattle.wot_cache.specs.Inside.{IsEngine, AllFit, Networks}
 use Rattle.wot_cache.specs.Views.{Views, IsWithin, is_name, view_at, with_amount, amount_fault, root_fault, without_view}
 
@@ -113,7 +116,7 @@ length_replaced cmp total es k v w sorted e =
 
 -- ---- roots
 
-fpr_total : IsTotalOrder fpr_cmp
+pub fpr_total : IsTotalOrder fpr_cmp
 fpr_total = on_total octets_of nat_list_cmp_total
 
 -- the roots stay within the limit
@@ -159,9 +162,42 @@ pub all_fit : FitLater → (networks : Networks) (old new : Keyring) → IsLater
 all_fit law [] old new later all = tt
 all_fit law (e ∷ es) old new later all = (law e.1 old new all.0 later, all_fit law es old new later all.1)
 
+-- by the law that what is later than a later keyring is later
+abbrev pub LaterStill : Type 0
+LaterStill = (old mid new : Keyring) → IsLater old mid → IsLater mid new → IsLater old new
+
+-- what is right from a keyring on is right from each later one on
+right_later : LaterStill → (old new : Keyring) (a : KeptAnswer) → IsLater old new → IsRight old a → IsRight new a
+right_later further old new a later right = record { sum = right.sum; answer = λ last roots is. right.answer last roots (further old new last later is) }
+
+-- a change is counted, so that what was found good before it isn't taken as good after it
+good_later : (old new : Keyring) (roots : Amounts) (turn : ℕ) (a : KeptAnswer) → IsOneChange old new → IsGood old roots turn a → IsGood new roots turn a
+good_later old new roots turn a (inl same) good = subst (λ (k : Keyring). IsGood k roots turn a) (sym same) good
+good_later old new roots turn a (inr more) good =
+    let counted : new.changes ≡ old.changes + 1 = more.0 in
+    let past = good.counted in
+    record { counted = omega (arith, counted, past); turned = good.turned; still = λ e f. absurd (omega (arith, counted, past, e)) }
+
+are_right_later : LaterStill → (old new : Keyring) (roots : Amounts) (turn : ℕ) (entries : Entries) → IsLater old new → IsOneChange old new
+    → AreRight old roots turn entries → AreRight new roots turn entries
+are_right_later further old new roots turn [] later one all = tt
+are_right_later further old new roots turn (e ∷ es) later one all =
+    ((right_later further old new e.1 later all.0.0, good_later old new roots turn e.1 one all.0.1), are_right_later further old new roots turn es later one all.1)
+
+all_right_later : LaterStill → (old new : Keyring) (answers : AllAnswers) → IsLater old new → IsOneChange old new → AreAllRight old answers → AreAllRight new answers
+all_right_later further old new [] later one all = tt
+all_right_later further old new (e ∷ es) later one all =
+    (are_right_later further old new e.1.roots e.1.turn e.1.entries later one all.0, all_right_later further old new es later one all.1)
+
 -- an engine after a change of its keyring
-pub engine_on : FitLater → (old new : Keyring) (views : Views) (networks : Networks) → new.limits ≡ old.limits → IsLater old new → IsEngine old views networks → IsEngine new views networks
-engine_on law old new views networks limits later e = record { small = rw limits e.small; within = rw limits e.within; fit = all_fit law networks old new later e.fit }
+pub engine_on : FitLater → LaterStill → (old new : Keyring) (views : Views) (networks : Networks) (answers : AllAnswers) → new.limits ≡ old.limits → IsLater old new
+    → IsOneChange old new → IsEngine old views networks answers → IsEngine new views networks answers
+engine_on law further old new views networks answers limits later one e = record {
+  small = rw limits e.small;
+  within = rw limits e.within;
+  fit = all_fit law networks old new later e.fit;
+  right = all_right_later further old new answers later one e.right;
+}
 
 -- ---- the networks of an engine
 
@@ -221,3 +257,42 @@ set_within l views new name fpr amount (Ok done) are none set same w = by (view_
 pub kept_fit : (k : Keyring) (networks new : Networks) (name : List ℕ) (n : Net) (r : Result (Unit {0}) Memory) → OnOk r (new ≡ insert_entry view_name_cmp networks name n) → OnErr r (new ≡ networks) → AllFit networks k → Fits n k → AllFit new k
 kept_fit k networks new name n (Ok done) put same all f = rw put (fit_put k networks name n all f)
 kept_fit k networks new name n (Err fault) put same all f = rw same all
+
+-- ---- the answers of an engine
+
+abbrev RightOf : Keyring → OfView → Type 0
+RightOf k of_view = AreRightIn k of_view
+
+pub all_right_without : (k : Keyring) (answers : AllAnswers) (name : List ℕ) → AreAllRight k answers → AreAllRight k (remove_entry (is_name name) answers)
+all_right_without k answers name all = each_removed (RightOf k) (is_name name) answers all
+
+pub all_right_put : (k : Keyring) (answers : AllAnswers) (name : List ℕ) (of_view : OfView) → AreAllRight k answers → AreRightIn k of_view
+    → AreAllRight k (insert_entry view_name_cmp answers name of_view)
+all_right_put k answers name of_view all right = each_inserted (RightOf k) view_name_cmp answers name of_view all right
+
+pub all_right_set : (k : Keyring) (answers : AllAnswers) (name : List ℕ) (of_view : OfView) → AreAllRight k answers → AreRightIn k of_view
+    → AreAllRight k (set_value (is_name name) answers of_view)
+all_right_set k answers name of_view all right = each_set (RightOf k) (is_name name) answers of_view all right
+
+pub right_found : (k : Keyring) (answers : AllAnswers) (name : List ℕ) (of_view : OfView) → AreAllRight k answers → lookup (is_name name) answers ≡ Some of_view
+    → AreRightIn k of_view
+right_found k answers name of_view all e = each_found (RightOf k) (is_name name) answers of_view all e
+
+pub all_right_inserted : {A E : Type 0} (k : Keyring) (answers new : AllAnswers) (name : List ℕ) (of_view : OfView) (r : Result A E)
+    → OnOk r (new ≡ insert_entry view_name_cmp answers name of_view) → OnErr r (new ≡ answers) → AreAllRight k answers → AreRightIn k of_view → AreAllRight k new
+all_right_inserted k answers new name of_view (Ok done) put same all right = rw put (all_right_put k answers name of_view all right)
+all_right_inserted k answers new name of_view (Err fault) put same all right = rw same all
+
+-- ---- the answers of a view
+
+abbrev RightAnd : Keyring → Amounts → ℕ → KeptAnswer → Type 0
+RightAnd k roots turn a = IsRight k a × IsGood k roots turn a
+
+-- the answer that is kept for a target
+pub answer_found : (k : Keyring) (roots : Amounts) (turn : ℕ) (entries : Entries) (target : Fpr) (a : KeptAnswer) → AreRight k roots turn entries
+    → lookup (is_at (fpr_cmp target)) entries ≡ Some a → RightAnd k roots turn a
+answer_found k roots turn entries target a all e = each_found (RightAnd k roots turn) (is_at (fpr_cmp target)) entries a all e
+
+pub answer_set : (k : Keyring) (roots : Amounts) (turn : ℕ) (entries : Entries) (target : Fpr) (a : KeptAnswer) → AreRight k roots turn entries
+    → RightAnd k roots turn a → AreRight k roots turn (set_value (is_at (fpr_cmp target)) entries a)
+answer_set k roots turn entries target a all right = each_set (RightAnd k roots turn) (is_at (fpr_cmp target)) entries a all right

@@ -4,3 +4,5 @@ mod Asking
 pub mod Lines
 pub mod Behind
 pub mod Replay
+pub mod Counting
+pub mod Grounds

@@ -6,6 +6,7 @@ use Rattle.wot_keyring.specs.Keyring.{Keyring}
 use Rattle.wot_keyring.specs.Kept.{AreSmall}
 use Rattle.wot_network.specs.Net.{Net, Fits, IsRight}
 use Rattle.wot_cache.specs.declared.view.View.{View}
+use Rattle.wot_cache.specs.Answers.{AllAnswers, AreAllRight}
 use Rattle.wot_cache.specs.Views.{Views, IsWithin, is_name, view_at}
 
 -- networks by the names of views
@@ -15,10 +16,11 @@ Networks = List (List ℕ × Net)
 abbrev pub AllFit : Networks → Keyring → Type 0
 AllFit networks k = AllByRecursion (λ (e : List ℕ × Net). Fits e.1 k) networks
 
-pub record IsEngine (k : Keyring) (views : Views) (networks : Networks) : Type 0 where
+pub record IsEngine (k : Keyring) (views : Views) (networks : Networks) (answers : AllAnswers) : Type 0 where
   pub small : AreSmall k.limits
   pub within : IsWithin k.limits views
   pub fit : AllFit networks k
+  pub right : AreAllRight k answers
 
 -- the network that is kept for a view
 abbrev pub network_at : Networks → List ℕ → Option Net

@@ -2,13 +2,17 @@
 use Rattle.std.specs.Prelude.{◌≡◌, ◌≤◌, ◌↔◌, ℕ, List, [], IfSome}
 use Rattle.wot_types.specs.declared.fpr.Fpr.{Fpr}
 use Rattle.wot_edge.specs.declared.path.Path.{Path}
-use Rattle.wot_edge.specs.Answer.{IsAnswer}
+use Rattle.wot_edge.specs.Answer.{IsAnswer, amount_of}
 use Rattle.wot_edge.specs.Path.{Question, asks, use_of, IsSpent}
 use Rattle.wot_edge.specs.Roots.{root_amount}
 use Rattle.wot_keyring.specs.Keyring.{Keyring, certificates_in}
 use Rattle.wot_network.specs.Local.{IsLocal}
 use Rattle.wot_network.specs.Net.{Present, told_of}
 use Rattle.wot_network.specs.Told.{record_of}
+use Rattle.wot_auth.specs.declared.answer.Answer.{Answer}
+use Rattle.wot_edge.specs.Agree.{Agree}
+use Rattle.wot_edge.specs.Capacity.{AllFit}
+use Rattle.wot_cache.specs.declared.parts.Parts.{Parts}
 use Rattle.wot_cache.specs.declared.view.View.{View}
 use Rattle.wot_cache.specs.State.{Engine, State, state_of}
 use Rattle.wot_cache.specs.Views.{view_at}
@@ -25,6 +29,14 @@ OfQuestion engine name target uid P = IfSome (view_at engine.views name) (λ (v 
 -- the question over these roads, from these roots
 abbrev pub asked_over : Present → List (Fpr × ℕ) → Fpr → List ℕ → Question
 asked_over p roots target uid = asks (told_of p uid) roots target
+
+-- the keyring and the time of these parts
+abbrev pub present_in : Parts → Present
+present_in p = record { keyring = p.keyring.now; time = p.t }
+
+-- the question over these parts
+abbrev pub asked_of : Parts → Fpr → List ℕ → Question
+asked_of p target uid = asked_over (present_in p) p.roots.now target uid
 
 -- What the roads tell is told by the keyring's certificates and verdicts at a time, each part by a few of them.
 abbrev pub IsLocalTo : Keyring → ℕ → Present → Type 0
@@ -43,3 +55,16 @@ TellsSpent q amount = (amount ≡ 0) ↔ IsSpent q (use_of [])
 -- All paths together take no more of a root than its amount.
 abbrev pub AreWithinRoots : List (Fpr × ℕ) → List Path → Type 0
 AreWithinRoots roots paths = (fpr : Fpr) → (use_of paths).root fpr ≤ root_amount roots fpr
+
+-- All that is said of an answer.
+pub record IsTold (q : Question) (wanted : ℕ) (a : Answer) : Type 0 where
+  pub answer : IsAnswer q wanted a.paths
+  pub one : IsOnlyAnswer q wanted a.paths
+  pub sum : a.sum ≡ amount_of a.paths
+  pub zero : TellsSpent q a.sum
+  pub pairs : AllFit [] a.paths
+  pub roots : AreWithinRoots q.roots a.paths
+
+-- They are the answer to each question that agrees with this one on a set of fingerprints.
+abbrev pub IsAnswerAround : Question → ℕ → List Path → List Fpr → Type 0
+IsAnswerAround q wanted paths set = (other : Question) → Agree q other set → IsAnswer other wanted paths

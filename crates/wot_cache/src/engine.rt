@@ -27,6 +27,7 @@ use crate::ask::answer;
 use crate::dump::put_engine;
 use crate::parts::Parts;
 use crate::present::Networked;
+use crate::recall::{self, AllAnswers};
 use crate::view::{AskFault, NoView, View, ViewFault};
 use crate::{networks, views};
 use std::alloc::Global;
@@ -34,6 +35,7 @@ use std::collections::BTreeMap;
 use std::marker::Model;
 use wot_auth::Answer;
 use wot_edge::Roots;
+use wot_keyring::laws::later_is_order;
 use wot_keyring::{Absent, Imported, Keyring, Refusal};
 use wot_network::NetRoads;
 use wot_network::laws::fits_later;
@@ -46,6 +48,7 @@ use wot_verdict::Verdict;
 pub struct Engine {
     alloc: Global,
     networked: Networked,
+    answers: AllAnswers,
 }
 
 impl Model for Engine {
@@ -56,7 +59,7 @@ impl Model for Engine {
 
     ghost view = { λ a. record { keyring = a.networked.keyring; views = a.networked.views.entries } };
 
-    ghost invariant = { λ a. IsEngine a.networked.keyring a.networked.views.entries a.networked.networks.entries };
+    ghost invariant = { λ a. IsEngine a.networked.keyring a.networked.views.entries a.networked.networks.entries a.answers.entries };
 }
 
 impl Engine {
@@ -75,6 +78,7 @@ impl Engine {
                 views: BTreeMap::new(alloc),
                 networks: BTreeMap::new(alloc),
             },
+            answers: BTreeMap::new(alloc),
         }
     }
 
@@ -107,6 +111,7 @@ impl Engine {
         ensures views { self.new.views ≡ self.old.views }
     {
         fits_later();
+        later_is_order();
         self.networked.keyring.import(self.alloc, bytes, policy)
     }
 
@@ -123,6 +128,7 @@ impl Engine {
         ensures views { self.new.views ≡ self.old.views }
     {
         fits_later();
+        later_is_order();
         self.networked.keyring.remove(fpr)
     }
 
@@ -140,6 +146,7 @@ impl Engine {
         ensures views { self.new.views ≡ self.old.views }
     {
         fits_later();
+        later_is_order();
         self.networked.keyring.set_verdict(number, verdict)
     }
 
@@ -156,6 +163,7 @@ impl Engine {
         ensures views { self.new.views ≡ self.old.views }
     {
         fits_later();
+        later_is_order();
         self.networked.keyring.clear_verdict(number)
     }
 
@@ -245,6 +253,7 @@ impl Engine {
         }
         views::close(&mut self.networked.views, view);
         networks::forget(&mut self.networked.networks, view);
+        recall::forget(&mut self.answers, view);
         Ok(())
     }
 
@@ -298,7 +307,15 @@ impl Engine {
     {
         self.networked.refresh(self.alloc, view, steps)?;
         let parts = self.networked.parts(view);
-        answer(self.alloc, &parts.roads, parts.roots, target, wanted, uid)
+        answer(
+            self.alloc,
+            &mut self.answers,
+            &parts,
+            view,
+            target,
+            wanted,
+            uid,
+        )
     }
 
     /// The roads that a question from an open view is asked over: those of the keyring as it is, at the view's time.

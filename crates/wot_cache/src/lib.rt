@@ -1,12 +1,15 @@
 //! The engine: one keyring, and views over it, each with a time and trust roots.
 #![tactic(auto)]
 
+mod answers;
 mod ask;
 mod dump;
 mod engine;
 mod networks;
 mod parts;
 mod present;
+mod recall;
+mod roots;
 mod view;
 mod views;
 

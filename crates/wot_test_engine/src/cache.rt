@@ -14,7 +14,7 @@ use wot_types::{Fpr, Limit, Limits, Memory, Steps, ViewName};
 use wot_verdict::Verdict;
 
 /// The fingerprints of the keys with the bodies 04000003e81b01, 04000003e81b02 and 04000003e81b04.
-const R: Fpr = Fpr::V4([
+pub const R: Fpr = Fpr::V4([
     127, 53, 200, 219, 214, 179, 235, 47, 253, 89, 203, 221, 46, 65, 234, 41, 18, 18, 172, 56,
 ]);
 
@@ -22,12 +22,12 @@ const A: Fpr = Fpr::V4([
     53, 46, 95, 18, 5, 155, 70, 5, 165, 184, 248, 143, 102, 214, 85, 201, 19, 62, 28, 162,
 ]);
 
-const T: Fpr = Fpr::V4([
+pub const T: Fpr = Fpr::V4([
     60, 152, 184, 24, 14, 15, 202, 202, 16, 50, 73, 144, 130, 165, 222, 143, 165, 217, 130, 50,
 ]);
 
 /// R and T, each with a direct key signature, T with the user ID t, which R certified; the verdicts; and two views.
-const SCRIPT: [&[u8]; 13] = [
+pub const SCRIPT: [&[u8]; 13] = [
     b"import c60704000003e81b01c210041f1b0800060502000003e800000000",
     b"import c60704000003e81b04c210041f1b0800060502000003e800000000cd0174c21004101b0800060502000007d000000000",
     b"verdict 7331b37825bdca65502938381c08cd08d9da47de1940c67bdae7bdf1dfab72d5 good 7f35c8dbd6b3eb2ffd59cbdd2e41ea291212ac38",
@@ -61,13 +61,17 @@ const DUMPED: [&[u8]; 12] = [
 ];
 
 /// Does what a command says to an engine that changed seldom; whether it was done.
-fn run<F: Fn(Ask) -> bool>(engine: &mut Engine, command: &Command, policy: &mut Policy<F>) -> bool
+pub fn run<F: Fn(Ask) -> bool>(
+    engine: &mut Engine,
+    command: &Command,
+    policy: &mut Policy<F>,
+) -> bool
     requires judged { IsJudgedBy (rows_of policy.old) engine.old.keyring }
     requires faithful { IsFaithful F.Fn policy.old }
     ensures judged { IsJudgedBy (rows_of policy.new) engine.new.keyring }
     ensures faithful { IsFaithful F.Fn policy.new }
 {
-    if engine.keyring().changes() >= 1000 {
+    if engine.keyring().changes() >= 10_000 {
         return false;
     }
     match command {
@@ -86,7 +90,7 @@ fn run<F: Fn(Ask) -> bool>(engine: &mut Engine, command: &Command, policy: &mut 
 }
 
 /// Does what these lines say, one after the other; whether each was done.
-fn run_all<F: Fn(Ask) -> bool>(
+pub fn run_all<F: Fn(Ask) -> bool>(
     alloc: Global,
     engine: &mut Engine,
     lines: &[&[u8]],
@@ -120,7 +124,7 @@ fn engine_of(alloc: Global, lines: &[&[u8]]) -> Option<Engine> {
     }
 }
 
-fn view_name(alloc: Global, text: &[u8]) -> Result<ViewName, Fail> {
+pub fn view_name(alloc: Global, text: &[u8]) -> Result<ViewName, Fail> {
     match ViewName::read(alloc, text)? {
         Some(name) => Ok(name),
         None => Err("no name".into()),
@@ -138,11 +142,13 @@ fn text_of(alloc: Global, lines: &[&[u8]]) -> Result<Vec<u8>, Memory> {
 }
 
 /// The amount of an answer about the user ID t of T, and how many paths and edges were made.
-fn amount_of(
+pub fn amount_of(
     engine: &mut Engine,
     view: &ViewName,
     wanted: u32,
-) -> Result<(u32, usize, u64), AskFault> {
+) -> Result<(u32, usize, u64), AskFault>
+    ensures kept { engine.new ≡ engine.old }
+{
     let mut steps = Steps::new();
     if wanted == 0 {
         return Err(AskFault::Memory);

@@ -17,4 +17,4 @@ returns-clause-state c =
 
 pub invariant_of-self : goal.invariant_of-self
 invariant_of-self c =
-    engine_on c.fits_later.ensures.later c.self.inside.networked.keyring c.clear_verdict.new.self c.self.inside.networked.views.entries c.self.inside.networked.networks.entries c.clear_verdict.ensures.limits c.clear_verdict.ensures.later c.self.invariant
+    engine_on c.fits_later.ensures.later c.later_is_order.ensures.further c.self.inside.networked.keyring c.clear_verdict.new.self c.self.inside.networked.views.entries c.self.inside.networked.networks.entries c.self.inside.answers.entries c.clear_verdict.ensures.limits c.clear_verdict.ensures.later c.clear_verdict.ensures.counted c.self.invariant

@@ -11,4 +11,4 @@ returns-clause-state g c =
 
 pub invariant_of-self : goal.invariant_of-self
 invariant_of-self g c =
-    engine_on c.fits_later.ensures.later c.self.inside.networked.keyring c.import.new.self c.self.inside.networked.views.entries c.self.inside.networked.networks.entries c.import.ensures.limits c.import.ensures.later c.self.invariant
+    engine_on c.fits_later.ensures.later c.later_is_order.ensures.further c.self.inside.networked.keyring c.import.new.self c.self.inside.networked.views.entries c.self.inside.networked.networks.entries c.self.inside.answers.entries c.import.ensures.limits c.import.ensures.later c.import.ensures.counted c.self.invariant

@@ -9,4 +9,5 @@ invariant_of-self c = record {
   within = opened_within c.self.inside.networked.keyring.limits c.self.inside.networked.views.entries c.open.new.views.entries c.args.name c.args.t c.open.result
       (subst (λ (e : Engine). length e.views < e.keyring.limits.views) (sym c.self.view_is) c.requires.room) (rw c.new.ensures.none at c.open.ensures.opened) c.open.ensures.kept c.self.invariant.within;
   fit = c.self.invariant.fit;
+  right = c.self.invariant.right;
 }

@@ -22,7 +22,7 @@ returns c =
       record {
         kept = tt;
         parts = seen;
-        few = few_seen c.args.self.now c.self.inside.networked.keyring c.self.inside.networked.views.entries c.self.inside.networked.networks.entries name p
+        few = few_seen c.args.self.now c.self.inside.networked.keyring c.self.inside.networked.views.entries c.self.inside.networked.networks.entries c.self.inside.answers.entries name p
             c.self.view_is c.self.invariant seen;
         entries = c.parts.ensures.entries;
         lawful = c.parts.ensures.lawful;

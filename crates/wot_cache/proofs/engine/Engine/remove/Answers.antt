@@ -20,4 +20,4 @@ returns-clause-absent c = search (rules, found)
 
 pub invariant_of-self : goal.invariant_of-self
 invariant_of-self c =
-    engine_on c.fits_later.ensures.later c.self.inside.networked.keyring c.remove.new.self c.self.inside.networked.views.entries c.self.inside.networked.networks.entries c.remove.ensures.limits c.remove.ensures.later c.self.invariant
+    engine_on c.fits_later.ensures.later c.later_is_order.ensures.further c.self.inside.networked.keyring c.remove.new.self c.self.inside.networked.views.entries c.self.inside.networked.networks.entries c.self.inside.answers.entries c.remove.ensures.limits c.remove.ensures.later c.remove.ensures.counted c.self.invariant

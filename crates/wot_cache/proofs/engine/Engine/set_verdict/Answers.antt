@@ -24,4 +24,4 @@ returns-clause-state c =
 
 pub invariant_of-self : goal.invariant_of-self
 invariant_of-self c =
-    engine_on c.fits_later.ensures.later c.self.inside.networked.keyring c.set_verdict.new.self c.self.inside.networked.views.entries c.self.inside.networked.networks.entries c.set_verdict.ensures.limits c.set_verdict.ensures.later c.self.invariant
+    engine_on c.fits_later.ensures.later c.later_is_order.ensures.further c.self.inside.networked.keyring c.set_verdict.new.self c.self.inside.networked.views.entries c.self.inside.networked.networks.entries c.self.inside.answers.entries c.set_verdict.ensures.limits c.set_verdict.ensures.later c.set_verdict.ensures.counted c.self.invariant

@@ -15,4 +15,5 @@ invariant_of-self c = record {
       (subst (λ (e : Engine). root_fault e.keyring.limits (view_at e.views c.args.view.now) c.args.fpr.now c.args.amount ≡ None) (sym c.self.view_is) (sym c.root_fault.ensures.fault ∙ c.in_default.is))
       c.set_amount.ensures.set c.set_amount.ensures.kept c.self.invariant.within;
   fit = c.self.invariant.fit;
+  right = c.self.invariant.right;
 }

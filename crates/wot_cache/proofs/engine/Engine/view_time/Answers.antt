@@ -6,4 +6,5 @@ invariant_of-self c = record {
   small = c.self.invariant.small;
   within = moved_within c.self.inside.networked.keyring.limits c.self.inside.networked.views.entries c.move_time.new.views.entries c.args.view.now c.args.t c.move_time.result c.move_time.ensures.moved c.self.invariant.within;
   fit = c.self.invariant.fit;
+  right = c.self.invariant.right;
 }

@@ -1,0 +1,144 @@
+-- An answer is right for as long as what it rests on is found as it was.
+use Rattle.std.proofs.Common.{◌≡◌, inl, inr, ℕ, ◌<◌, ◌≤◌, List, [], ◌∷◌, map, Option, Some, None, refl, sym, ap, subst, ◌∙◌, arith}
+use Rattle.std.specs.List.{AllByRecursion}
+use Rattle.std.specs.Map.{lookup}
+use Rattle.std.specs.Option.{option_map, option_map_or}
+use Rattle.std.proofs.lemmas.Map.Made.{lookup-map_values}
+use Rattle.wot_types.specs.declared.fpr.Fpr.{Fpr}
+use Rattle.wot_verdict.specs.Verdicts as verdicts
+use Rattle.wot_cert.specs.Certificate.{Certificate}
+use Rattle.wot_cert.specs.Counts.{all_sigs}
+use Rattle.wot_edge.specs.Answer.{IsAnswer, amount_of}
+use Rattle.wot_edge.specs.Path.{asks}
+use Rattle.wot_edge.specs.Record.{Has}
+use Rattle.wot_keyring.specs.declared.kept.Kept.{Kept}
+use Rattle.wot_keyring.specs.Keyring.{Certificates, Keyring, certificates_in, is_fpr, kept_at, stamp_at}
+use Rattle.wot_keyring.specs.Kept.{AreStamped}
+use Rattle.wot_keyring.specs.Later.{IsLater, IsLaterAt, IsUnaltered, SaysSame}
+use Rattle.wot_network.specs.Local.{AgreeAt, IsLocal}
+use Rattle.wot_network.specs.Told.{record_of}
+use Rattle.wot_cache.specs.declared.answers.KeptAnswer.{KeptAnswer}
+use Rattle.wot_cache.specs.Answers.{Amounts, AreRight, AreStill, Entries, IsFound, IsGood, IsOf, IsRight, IsSameBut, IsStill, look, question_at}
+use Rattle.wot_cache.specs.Question.{IsAnswerAround}
+use Rattle.wot_cache.proofs.Inside.{each_found}
+
+-- ---- one fingerprint
+
+stripped_at : (k : Keyring) (fpr : Fpr) → lookup (is_fpr fpr) (certificates_in k) ≡ option_map (λ (x : Kept). x.cert) (kept_at k fpr)
+stripped_at k fpr = lookup-map_values (λ (x : Kept). x.cert) (is_fpr fpr) k.certs
+
+abbrev StampedBy : ℕ → Kept → Type 0
+StampedBy changes x = (0 < x.stamp) × (x.stamp ≤ changes)
+
+stamped_there : (k : Keyring) (fpr : Fpr) (x : Kept) → AreStamped k.changes k.certs → kept_at k fpr ≡ Some x → StampedBy k.changes x
+stamped_there k fpr x stamped e = each_found (StampedBy k.changes) (is_fpr fpr) k.certs x stamped e
+
+-- a stamp is a count of changes up to now
+stamp_past : (k : Keyring) (fpr : Fpr) → AreStamped k.changes k.certs → stamp_at k fpr ≤ k.changes
+stamp_past k fpr stamped = by (kept_at k fpr) refl
+  where
+    by : (o : Option Kept) → kept_at k fpr ≡ o → option_map_or (λ (x : Kept). x.stamp) o 0 ≤ k.changes
+    by None e = omega arith
+    by (Some x) e = (stamped_there k fpr x stamped e).1
+
+-- what has the stamp 0 isn't kept
+none_kept : (k : Keyring) (fpr : Fpr) → AreStamped k.changes k.certs → stamp_at k fpr ≡ 0 → kept_at k fpr ≡ None
+none_kept k fpr stamped zero = by (kept_at k fpr) refl zero
+  where
+    by : (o : Option Kept) → kept_at k fpr ≡ o → option_map_or (λ (x : Kept). x.stamp) o 0 ≡ 0 → o ≡ None
+    by None e z = refl
+    by (Some x) e z = let some = (stamped_there k fpr x stamped e).0 in absurd (omega (arith, some, z))
+
+unaltered_agrees : (k later : Keyring) (fpr : Fpr) → IsUnaltered k later fpr
+    → AgreeAt (certificates_in k) k.verdicts (certificates_in later) later.verdicts fpr
+unaltered_agrees k later fpr u = record {
+  same = stripped_at k fpr ∙ ap (λ (o : Option Kept). option_map (λ (x : Kept). x.cert) o) (sym u.kept) ∙ sym (stripped_at later fpr);
+  said = λ c e. by c (kept_at k fpr) refl (sym (stripped_at k fpr) ∙ e);
+}
+  where
+    by : (c : Certificate) (o : Option Kept) → kept_at k fpr ≡ o → option_map (λ (x : Kept). x.cert) o ≡ Some c
+        → AllByRecursion (SaysSame k.verdicts later.verdicts) (all_sigs c)
+    by c None e f = absurd cc
+    by c (Some x) e f = let same : x.cert ≡ c = cc in subst (λ (c : Certificate). AllByRecursion (SaysSame k.verdicts later.verdicts) (all_sigs c)) same (u.said x e)
+
+absent_agrees : (k later : Keyring) (fpr : Fpr) → kept_at k fpr ≡ None → kept_at later fpr ≡ None
+    → AgreeAt (certificates_in k) k.verdicts (certificates_in later) later.verdicts fpr
+absent_agrees k later fpr none gone =
+    let before : lookup (is_fpr fpr) (certificates_in k) ≡ None = stripped_at k fpr ∙ ap (λ (o : Option Kept). option_map (λ (x : Kept). x.cert) o) none in
+    let after : lookup (is_fpr fpr) (certificates_in later) ≡ None = stripped_at later fpr ∙ ap (λ (o : Option Kept). option_map (λ (x : Kept). x.cert) o) gone in
+    record { same = before ∙ sym after; said = λ c e. absurd cc }
+
+-- what has the same stamp in a later keyring is as it was
+agrees_there : (k later : Keyring) (fpr : Fpr) → AreStamped k.changes k.certs → IsLaterAt k later fpr → stamp_at later fpr ≡ stamp_at k fpr
+    → AgreeAt (certificates_in k) k.verdicts (certificates_in later) later.verdicts fpr
+agrees_there k later fpr stamped (inl u) same = unaltered_agrees k later fpr u
+agrees_there k later fpr stamped (inr (inl gone)) same =
+    let zero : stamp_at later fpr ≡ 0 = ap (λ (o : Option Kept). option_map_or (λ (x : Kept). x.stamp) o 0) gone in
+    absent_agrees k later fpr (none_kept k fpr stamped (sym same ∙ zero)) gone
+agrees_there k later fpr stamped (inr (inr more)) same =
+    let past = stamp_past k fpr stamped in
+    absurd (omega (arith, more, past, same))
+
+-- ---- a set of fingerprints
+
+-- what was found at each of them is found there
+still_at : (k later : Keyring) (roots amounts : List (Fpr × ℕ)) (set : List Fpr) (fpr : Fpr) → Has set fpr
+    → AreStill later amounts (map (look k roots) set) → IsStill later amounts (look k roots fpr)
+still_at k later roots amounts [] fpr has still = absurd has
+still_at k later roots amounts (x ∷ xs) fpr (inl e) still = subst (λ (y : Fpr). IsStill later amounts (look k roots y)) (sym e) still.0
+still_at k later roots amounts (x ∷ xs) fpr (inr has) still = still_at k later roots amounts xs fpr has still.1
+
+-- by the law that what certificates and verdicts tell of a set rests on those of the set alone
+abbrev pub RecordsAgree : Type 0
+RecordsAgree = (certs : Certificates) (said : verdicts.Entries) (t : ℕ) → IsLocal certs said t (record_of certs said t)
+
+pub right_made : RecordsAgree → (k : Keyring) (roots : List (Fpr × ℕ)) (a : KeptAnswer) (set : List Fpr) → AreStamped k.changes k.certs
+    → a.looked.items ≡ map (look k roots) set → a.answer.sum ≡ amount_of a.answer.paths
+    → IsAnswerAround (question_at k roots a) a.wanted a.answer.paths set → IsRight k a
+right_made law k roots a set stamped looked sum around = record {
+  sum = sum;
+  answer = λ later amounts is still.
+      let found : AreStill later amounts (map (look k roots) set) = subst (AreStill later amounts) looked still in
+      around (question_at later amounts a) (law (certificates_in k) k.verdicts a.time (certificates_in later) later.verdicts a.uid roots amounts a.target set
+      (λ fpr has. agrees_there k later fpr stamped (is.at fpr) (still_at k later roots amounts set fpr has found).stamp)
+      (λ fpr has. sym (still_at k later roots amounts set fpr has found).amount));
+}
+
+-- A right answer is the answer to its question now, where what it rests on is found as it was.
+pub right_now : ((k : Keyring) → IsLater k k) → (k : Keyring) (roots : List (Fpr × ℕ)) (a : KeptAnswer) (target : Fpr) (wanted : ℕ) (uid : List ℕ) (t : ℕ)
+    → IsRight k a → IsOf a target wanted uid t → AreStill k roots a.looked.items
+    → IsAnswer (asks (record_of (certificates_in k) k.verdicts t uid) roots target) wanted a.answer.paths
+right_now itself k roots a target wanted uid t right is still =
+    let here = right.answer k roots (itself k) still in
+    subst (λ (w : ℕ). IsAnswer (asks (record_of (certificates_in k) k.verdicts t uid) roots target) w a.answer.paths) is.wanted
+    (subst (λ (f : Fpr). IsAnswer (asks (record_of (certificates_in k) k.verdicts t uid) roots f) a.wanted a.answer.paths) is.target
+    (subst (λ (u : List ℕ). IsAnswer (asks (record_of (certificates_in k) k.verdicts t u) roots a.target) a.wanted a.answer.paths) is.uid
+    (subst (λ (s : ℕ). IsAnswer (asks (record_of (certificates_in k) k.verdicts s a.uid) roots a.target) a.wanted a.answer.paths) is.time here)))
+
+-- ---- when it was found good
+
+-- what is looked at is found as it is
+found_still : (k : Keyring) (roots : Amounts) (set : List Fpr) → AreStill k roots (map (look k roots) set)
+found_still k roots [] = tt
+found_still k roots (x ∷ xs) = (record { stamp = refl; amount = refl }, found_still k roots xs)
+
+pub found_made : (k : Keyring) (roots : Amounts) (a : KeptAnswer) (set : List Fpr) → a.looked.items ≡ map (look k roots) set → a.count ≡ k.changes → IsFound k roots a
+found_made k roots a set looked now = record { counted = omega (arith, now); still = subst (AreStill k roots) (sym looked) (found_still k roots set) }
+
+-- one that is found good at this turn of the roots
+pub good_at : (k : Keyring) (roots : Amounts) (turn : ℕ) (a : KeptAnswer) → IsFound k roots a → IsGood k roots turn (record a { turn = turn })
+good_at k roots turn a found = record { counted = found.counted; turned = omega arith; still = λ e f. found.still }
+
+-- what is right stays so, whenever it was found good
+pub right_again : (k : Keyring) (old new : KeptAnswer) → IsSameBut old new → IsRight k old → IsRight k new
+right_again k old new same right = subst (IsRight k) (sym same) (record { sum = right.sum; answer = λ later roots is still. right.answer later roots is still })
+
+-- at another turn of the roots nothing was found good yet
+pub right_turned : (k : Keyring) (roots others : Amounts) (turn next : ℕ) (entries : Entries) → turn < next → AreRight k roots turn entries
+    → AreRight k others next entries
+right_turned k roots others turn next [] more all = tt
+right_turned k roots others turn next (e ∷ es) more all =
+    let past : e.1.turn ≤ turn = all.0.1.turned in (
+      (all.0.0, record { counted = all.0.1.counted; turned = omega (arith, past, more); still = λ f g. absurd (omega (arith, past, more, g)) }),
+      right_turned k roots others turn next es more all.1,
+    )

@@ -1,0 +1,311 @@
+//! The answers that a view keeps, each with its question and with what it rests on.
+ghost use Rattle.std.specs.Prelude.{◌≡◌, ◌≤◌, ◌<◌, ◌+◌, ℕ, [], true, map, length, IfOk, IfSome, OnOk, OnErr};
+ghost use Rattle.std.specs.BTreeMap.{insert_entry, is_at};
+ghost use Rattle.std.specs.List.Sorted.{IsStrictlySortedBy};
+ghost use Rattle.std.specs.Map.{keys_of, lookup};
+ghost use Rattle.wot_types.specs.Fpr.{fpr_cmp};
+ghost use Rattle.wot_edge.specs.Answer.{IsAnswer, amount_of};
+ghost use Rattle.wot_keyring.specs.Keyring.{Keyring as Held};
+ghost use Rattle.wot_cache.specs.Answers.{AreFew, AreRight, AreRightIn, AreStill, IsGood, IsOf, IsRight, IsSameBut};
+ghost use Rattle.wot_cache.specs.Answers.{Amounts, IsFound, look, looked_by, looked_in};
+ghost use Rattle.wot_cache.specs.Question.{asked_of};
+
+use crate::parts::Parts;
+use crate::roots::{are_same, listed};
+use std::alloc::Global;
+use std::collections::BTreeMap;
+use std::marker::Model;
+use wot_auth::Answer;
+use wot_edge::Roots;
+use wot_keyring::Keyring;
+use wot_keyring::laws::later_is_order;
+use wot_search::Consulted;
+use wot_types::{Fpr, Memory, UserId};
+
+/// How many answers a view keeps.
+const MOST: usize = 1024;
+
+/// How many consulted fingerprints they have together.
+const MOST_LOOKED: usize = 1_048_576;
+
+/// A consulted fingerprint, with its stamp in the keyring and its amount as a root.
+#[derive(Clone, Copy, Debug)]
+pub struct Looked {
+    pub fpr: Fpr,
+    pub stamp: u64,
+    pub amount: u8,
+}
+
+/// A question from a view at a time, its answer, and the fingerprints that were consulted for it.
+#[derive(Drop)]
+pub struct KeptAnswer {
+    pub target: Fpr,
+    pub wanted: u32,
+    pub uid: UserId,
+    pub time: u32,
+    pub looked: Vec<Looked>,
+    pub answer: Answer,
+    /// The count of changes at which it was last found good.
+    pub count: u64,
+    /// The turn of the view's roots by which it was.
+    pub turn: u64,
+}
+
+impl KeptAnswer {
+    /// Whether this is the question.
+    fn is_of(&self, target: &Fpr, wanted: u32, uid: &[u8], time: u32) -> bool
+        ensures same { result ≡ true → IsOf self.now target.now wanted uid.now time }
+    {
+        self.time == time
+            && self.wanted == wanted
+            && self.target == *target
+            && self.uid.octets() == uid
+    }
+
+    /// Whether the stamps and the root amounts are what they were. Nothing is compared where no change was counted
+    /// and no root became another one since this was last found so.
+    fn is_good(&mut self, keyring: &Keyring, roots: &Roots, turn: u64) -> bool
+        ensures same { IsSameBut self.old self.new }
+        ensures good { IsGood keyring.now roots.now turn self.old → IsGood keyring.now roots.now turn self.new }
+        ensures still { IsGood keyring.now roots.now turn self.old → result ≡ true →
+            AreStill keyring.now roots.now self.old.looked.items }
+    {
+        let count = keyring.changes();
+        if self.count == count && self.turn == turn {
+            return true;
+        }
+        if !are_still(self.looked.as_slice(), keyring, roots) {
+            return false;
+        }
+        self.count = count;
+        self.turn = turn;
+        true
+    }
+
+    /// The answer, where it is one to this question and all that it rests on is as it was. None also where no memory
+    /// is found.
+    fn give(
+        &mut self,
+        parts: &Parts<'_>,
+        turn: u64,
+        target: &Fpr,
+        wanted: u32,
+        uid: &[u8],
+    ) -> Option<Answer>
+        requires right { IsRight parts.now.keyring.now self.old }
+        requires good { IsGood parts.now.keyring.now parts.now.roots.now turn self.old }
+        ensures same { IsSameBut self.old self.new }
+        ensures good { IsGood parts.now.keyring.now parts.now.roots.now turn self.new }
+        ensures answer { IfSome result (λ a. IsAnswer (asked_of parts.now target.now uid.now) wanted a.paths) }
+        ensures sum { IfSome result (λ a. a.sum ≡ amount_of a.paths) }
+    {
+        later_is_order();
+        if !self.is_of(target, wanted, uid, parts.t) {
+            return None;
+        }
+        if !self.is_good(parts.keyring, parts.roots, turn) {
+            return None;
+        }
+        match self.answer.duplicate() {
+            Ok(answer) => Some(answer),
+            Err(Memory) => None,
+        }
+    }
+}
+
+/// Whether the stamps and the root amounts are what they were.
+fn are_still(looked: &[Looked], keyring: &Keyring, roots: &Roots) -> bool
+    ensures still { result ≡ true → AreStill keyring.now roots.now looked.now }
+{
+    let mut rest = looked;
+    'rest: while let Some((first, later)) = rest.split_first() {
+        if keyring.stamp(&first.fpr) != first.stamp || roots.get(&first.fpr) != first.amount {
+            return false;
+        }
+        rest = later;
+    }
+    true
+}
+
+/// The consulted fingerprints, with what is found at each.
+pub fn look_at(
+    alloc: Global,
+    consulted: &Consulted,
+    keyring: &Keyring,
+    roots: &Roots,
+) -> Result<Vec<Looked>, Memory>
+    ensures looked { IfOk result (λ looked. looked.items ≡ map (look keyring.now roots.now) consulted.now) }
+{
+    let mut looked = Vec::new(alloc);
+    'fprs: for fpr in consulted.iter() {
+        let stamp = keyring.stamp(&fpr);
+        let amount = roots.get(&fpr);
+        looked.push(Looked { fpr, stamp, amount })?;
+    }
+    Ok(looked)
+}
+
+type Table = BTreeMap<Fpr, KeptAnswer, Global>;
+
+/// Keeps an answer under its target, in place of an earlier one. Tells how many fingerprints that had.
+fn replace(table: &mut Table, answer: KeptAnswer) -> Result<usize, Memory>
+    ensures entries { OnOk result (table.new.entries ≡ insert_entry fpr_cmp table.old.entries answer.target answer) }
+    ensures earlier { IfOk result (λ count. count ≡ looked_by (lookup (is_at (fpr_cmp answer.target)) table.old.entries)) }
+    ensures order { IsStrictlySortedBy fpr_cmp (keys_of table.old.entries) }
+    ensures kept { OnErr result (table.new.entries ≡ table.old.entries) }
+{
+    let target = answer.target;
+    match table.insert(target, answer) {
+        Ok(Some(earlier)) => Ok(earlier.looked.len()),
+        Ok(None) => Ok(0),
+        Err(_) => Err(Memory),
+    }
+}
+
+/// Makes room for an answer with so many fingerprints: where it is one too many, or they are, all go. Tells how many
+/// fingerprints are left.
+fn make_room(table: &mut Table, looked: usize, count: usize) -> usize
+    requires few { AreFew table.old.entries looked }
+    requires count { count ≤ 1048576 }
+    ensures few { AreFew table.new.entries result }
+    ensures room { length table.new.entries < 1024 }
+    ensures fits { result + count ≤ 1048576 }
+    ensures right { (k : Held) (roots : Amounts) (turn : ℕ) → AreRight k roots turn table.old.entries →
+        AreRight k roots turn table.new.entries }
+{
+    if table.len() < MOST && looked + count <= MOST_LOOKED {
+        return looked;
+    }
+    table.clear();
+    0
+}
+
+/// Adds an answer for which there is room. Tells how many fingerprints there are now.
+fn add(table: &mut Table, looked: usize, answer: KeptAnswer) -> usize
+    requires few { AreFew table.old.entries looked }
+    requires room { length table.old.entries < 1024 }
+    requires fits { looked + looked_in answer ≤ 1048576 }
+    ensures few { AreFew table.new.entries result }
+    ensures right { (k : Held) (roots : Amounts) (turn : ℕ) → AreRight k roots turn table.old.entries → IsRight k answer →
+        IsGood k roots turn answer → AreRight k roots turn table.new.entries }
+{
+    let count = answer.looked.len();
+    match replace(table, answer) {
+        Ok(earlier) => looked + count - earlier,
+        Err(Memory) => looked,
+    }
+}
+
+/// The answer that is kept for a question.
+fn give(
+    table: &mut Table,
+    parts: &Parts<'_>,
+    turn: u64,
+    target: &Fpr,
+    wanted: u32,
+    uid: &[u8],
+) -> Option<Answer>
+    requires right { AreRight parts.now.keyring.now parts.now.roots.now turn table.old.entries }
+    ensures right { AreRight parts.now.keyring.now parts.now.roots.now turn table.new.entries }
+    ensures few { (looked : ℕ) → AreFew table.old.entries looked → AreFew table.new.entries looked }
+    ensures answer { IfSome result (λ a. IsAnswer (asked_of parts.now target.now uid.now) wanted a.paths) }
+    ensures sum { IfSome result (λ a. a.sum ≡ amount_of a.paths) }
+{
+    match table.get_mut(target) {
+        Some(kept) => kept.give(parts, turn, target, wanted, uid),
+        None => None,
+    }
+}
+
+/// The answers of one view: for each target the one that was asked for last. Where one more answer, or its
+/// fingerprints, would be too many, all earlier ones go.
+#[derive(Drop)]
+pub struct Answers {
+    table: Table,
+    // How many fingerprints they have together.
+    looked: usize,
+    // The roots by which answers were found good last, and how often they became others.
+    roots: Vec<(Fpr, u8)>,
+    turn: u64,
+}
+
+impl Model for Answers {
+    ghost use Rattle.wot_cache.specs.Answers.{OfView, AreFew};
+
+    ghost Value = { OfView };
+
+    ghost view = { λ a. record { entries = a.table.entries; roots = a.roots.items; turn = a.turn } };
+
+    ghost invariant = { λ a. AreFew a.table.entries a.looked };
+}
+
+impl Answers {
+    /// No answers.
+    pub fn new(alloc: Global) -> Answers
+        ensures none { result.entries ≡ [] }
+    {
+        Answers {
+            table: BTreeMap::new(alloc),
+            looked: 0,
+            roots: Vec::new(alloc),
+            turn: 0,
+        }
+    }
+
+    /// Makes these the roots by which answers are found good. Whether they are; not where no memory is found.
+    fn settle(&mut self, alloc: Global, roots: &Roots) -> bool
+        ensures roots { result ≡ true → self.new.roots ≡ roots.now }
+        ensures right { (k : Held) → AreRightIn k self.old → AreRightIn k self.new }
+    {
+        if are_same(self.roots.as_slice(), roots) {
+            return true;
+        }
+        let Some(turn) = self.turn.checked_add(1) else {
+            return false;
+        };
+        let Ok(roots) = listed(alloc, roots) else {
+            return false;
+        };
+        self.roots = roots;
+        self.turn = turn;
+        true
+    }
+
+    /// The answer to a question that was answered before, where all that it rests on is as it was then. None also where
+    /// no memory is found.
+    pub fn give(
+        &mut self,
+        alloc: Global,
+        parts: &Parts<'_>,
+        target: &Fpr,
+        wanted: u32,
+        uid: &[u8],
+    ) -> Option<Answer>
+        requires right { AreRightIn parts.now.keyring.now self.old }
+        ensures right { AreRightIn parts.now.keyring.now self.new }
+        ensures answer { IfSome result (λ a. IsAnswer (asked_of parts.now target.now uid.now) wanted a.paths) }
+        ensures sum { IfSome result (λ a. a.sum ≡ amount_of a.paths) }
+    {
+        if !self.settle(alloc, parts.roots) {
+            return None;
+        }
+        give(&mut self.table, parts, self.turn, target, wanted, uid)
+    }
+
+    /// Keeps an answer that is good by these roots, unless it consulted too much or no memory is found.
+    pub fn keep(&mut self, alloc: Global, roots: &Roots, answer: KeptAnswer)
+        ensures right { (k : Held) → AreRightIn k self.old → IsRight k answer → IsFound k roots.now answer →
+            AreRightIn k self.new }
+    {
+        let count = answer.looked.len();
+        if MOST_LOOKED < count {
+            return;
+        }
+        if !self.settle(alloc, roots) {
+            return;
+        }
+        let turn = self.turn;
+        self.looked = make_room(&mut self.table, self.looked, count);
+        self.looked = add(&mut self.table, self.looked, KeptAnswer { turn, ..answer });
+    }
+}

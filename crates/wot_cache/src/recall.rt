@@ -1,0 +1,135 @@
+//! The answers that an engine keeps for its views.
+ghost use Rattle.std.specs.Prelude.{◌≡◌, [], IfOk, IfSome};
+ghost use Rattle.std.specs.Map.{remove_entry};
+ghost use Rattle.wot_edge.specs.Answer.{IsAnswer, amount_of};
+ghost use Rattle.wot_keyring.specs.Keyring.{Keyring as Held};
+ghost use Rattle.wot_cache.specs.Answers.{AreAllRight, AreRightIn, IsFound, IsRight};
+ghost use Rattle.wot_cache.specs.Question.{asked_of, IsAnswerAround};
+ghost use Rattle.wot_cache.specs.Views.{is_name};
+
+use crate::answers::{Answers, KeptAnswer, look_at};
+use crate::parts::Parts;
+use std::alloc::Global;
+use std::collections::BTreeMap;
+use wot_auth::Answer;
+use wot_edge::Roots;
+use wot_network::laws::records_agree;
+use wot_search::Consulted;
+use wot_types::{Fpr, Memory, UserId, ViewName};
+
+pub type AllAnswers = BTreeMap<ViewName, Answers, Global>;
+
+/// The answer to a question that was answered before, where all that the answer rests on is as it was then. None also
+/// where no memory is found.
+pub fn recall(
+    alloc: Global,
+    answers: &mut AllAnswers,
+    parts: &Parts<'_>,
+    view: &ViewName,
+    target: &Fpr,
+    wanted: u32,
+    uid: &[u8],
+) -> Option<Answer>
+    requires right { AreAllRight parts.now.keyring.now answers.old.entries }
+    ensures right { AreAllRight parts.now.keyring.now answers.new.entries }
+    ensures answer { IfSome result (λ a. IsAnswer (asked_of parts.now target.now uid.now) wanted a.paths) }
+    ensures sum { IfSome result (λ a. a.sum ≡ amount_of a.paths) }
+{
+    match answers.get_mut(view) {
+        Some(of_view) => of_view.give(alloc, parts, target, wanted, uid),
+        None => None,
+    }
+}
+
+/// An answer with its question and with what it rests on.
+fn with_grounds(
+    alloc: Global,
+    parts: &Parts<'_>,
+    target: &Fpr,
+    wanted: u32,
+    uid: &[u8],
+    consulted: &Consulted,
+    answer: &Answer,
+) -> Result<KeptAnswer, Memory>
+    requires sum { answer.now.sum ≡ amount_of answer.now.paths }
+    requires local { IsAnswerAround (asked_of parts.now target.now uid.now) wanted answer.now.paths consulted.now }
+    ensures right { IfOk result (λ kept. IsRight parts.now.keyring.now kept) }
+    ensures found { IfOk result (λ kept. IsFound parts.now.keyring.now parts.now.roots.now kept) }
+{
+    records_agree();
+    // That stamps are counts of changes.
+    let _count = parts.keyring.len();
+    let looked = look_at(alloc, consulted, parts.keyring, parts.roots)?;
+    let uid = UserId::new(alloc, uid)?;
+    let answer = answer.duplicate()?;
+    Ok(KeptAnswer {
+        target: *target,
+        wanted,
+        uid,
+        time: parts.t,
+        looked,
+        answer,
+        count: parts.keyring.changes(),
+        turn: 0,
+    })
+}
+
+fn put(answers: &mut AllAnswers, view: ViewName, of_view: Answers)
+    ensures right { (k : Held) → AreAllRight k answers.old.entries → AreRightIn k of_view → AreAllRight k answers.new.entries }
+{
+    // Without memory nothing is kept.
+    let _ = answers.insert(view, of_view);
+}
+
+/// Keeps the first answer of a view.
+fn begin(alloc: Global, answers: &mut AllAnswers, view: &ViewName, roots: &Roots, kept: KeptAnswer)
+    ensures right { (k : Held) → AreAllRight k answers.old.entries → IsRight k kept → IsFound k roots.now kept →
+        AreAllRight k answers.new.entries }
+{
+    let mut of_view = Answers::new(alloc);
+    of_view.keep(alloc, roots, kept);
+    match view.duplicate(alloc) {
+        Ok(name) => put(answers, name, of_view),
+        Err(Memory) => {}
+    }
+}
+
+fn keep(alloc: Global, answers: &mut AllAnswers, view: &ViewName, roots: &Roots, kept: KeptAnswer)
+    ensures right { (k : Held) → AreAllRight k answers.old.entries → IsRight k kept → IsFound k roots.now kept →
+        AreAllRight k answers.new.entries }
+{
+    match answers.get_mut(view) {
+        Some(of_view) => of_view.keep(alloc, roots, kept),
+        None => begin(alloc, answers, view, roots, kept),
+    }
+}
+
+/// Keeps the answer to a question, if memory is found for it.
+pub fn remember(
+    alloc: Global,
+    answers: &mut AllAnswers,
+    parts: &Parts<'_>,
+    view: &ViewName,
+    target: &Fpr,
+    wanted: u32,
+    uid: &[u8],
+    consulted: &Consulted,
+    answer: &Answer,
+)
+    requires sum { answer.now.sum ≡ amount_of answer.now.paths }
+    requires local { IsAnswerAround (asked_of parts.now target.now uid.now) wanted answer.now.paths consulted.now }
+    requires right { AreAllRight parts.now.keyring.now answers.old.entries }
+    ensures right { AreAllRight parts.now.keyring.now answers.new.entries }
+{
+    match with_grounds(alloc, parts, target, wanted, uid, consulted, answer) {
+        Ok(kept) => keep(alloc, answers, view, parts.roots, kept),
+        Err(Memory) => {}
+    }
+}
+
+/// Forgets the answers of a view.
+pub fn forget(answers: &mut AllAnswers, view: &ViewName)
+    ensures forgotten { answers.new.entries ≡ remove_entry (is_name view.now) answers.old.entries }
+{
+    let _ = answers.remove(view);
+}
