@@ -161,7 +161,7 @@ all_fit law (e ∷ es) old new later all = (law e.1 old new all.0 later, all_fit
 
 -- an engine after a change of its keyring
 pub engine_on : FitLater → (old new : Keyring) (views : Views) (networks : Networks) → new.limits ≡ old.limits → IsLater old new → IsEngine old views networks → IsEngine new views networks
-engine_on law old new views networks limits later e = record { small = rw limits e.small; within = rw limits e.within; fit = all_fit law networks old new later e.fit }
+engine_on law old new views networks limits later e = record { small = rw limits e.small; within = rw limits e.within; fit = all_fit law networks old new later e.fit; of_open = e.of_open }
 
 -- ---- the networks of an engine
 

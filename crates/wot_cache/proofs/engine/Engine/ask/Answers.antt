@@ -1,8 +1,11 @@
 use Rattle.std.proofs.Common.{◌≡◌, []}
 use Rattle.std.specs.Prelude.{◌↔◌}
 use Rattle.wot_edge.specs.Path.{Question, use_of, IsSpent}
+use Rattle.wot_cache.specs.Marks.{marks_in}
 use Rattle.wot_cache.specs.Question.{IsOnlyAnswer}
+use Rattle.wot_cache.specs.Views.{view_at}
 use Rattle.wot_cache.proofs.Asking.{as_asked, few_seen, if_ok, seen_after}
+use Rattle.wot_cache.proofs.Marking.{left, made_as}
 use Rattle.wot_cache.proofs.engine.Engine.ask.Goals as goal
 
 pub answer-requires-clause-few : goal.answer-requires-clause-few
@@ -28,3 +31,13 @@ returns-clause-one c =
     c.refresh.new.self.views.entries c.args.view.now p c.self.view_is c.refresh.ensures.keyring c.refresh.ensures.views c.parts-parts.ensures.parts in
     if_ok c.answer.result _ _ (λ a. as_asked (λ (q : Question). IsOnlyAnswer q c.args.wanted a.paths) c.args.self.now c.args.view.now p
     c.args.target.now c.args.uid.now seen) c.answer.ensures.one
+
+pub returns-clause-refreshed : goal.returns-clause-refreshed
+returns-clause-refreshed c =
+    let name = c.args.view.now in
+    let made = made_as (view_at c.self.inside.networked.views.entries name) tt c.answer.result c.self.inside.networked.keyring
+    (marks_in c.self.inside.networked.networks.entries name) (marks_in c.refresh.new.self.networks.entries name) c.args.steps.now.made c.refresh.new.steps.made
+    c.in_ok-refresh.ensures.made in
+    left c.answer.result c.args.self.now c.self.inside.networked.keyring c.refresh.new.self.keyring c.self.inside.networked.views.entries
+    c.refresh.new.self.views.entries c.self.inside.networked.networks.entries c.refresh.new.self.networks.entries name c.args.steps.now.made
+    c.refresh.new.steps.made c.self.view_is c.refresh.ensures.keyring c.refresh.ensures.views made c.refresh.ensures.others c.refresh.ensures.closed

@@ -3,10 +3,12 @@ use Rattle.std.specs.Prelude.{IfSome, is_some}
 use Rattle.wot_network.specs.Net.{signatures_in}
 use Rattle.wot_network.specs.Roads.{present_of}
 use Rattle.wot_cache.specs.declared.view.View.{View}
+use Rattle.wot_cache.specs.Marks.{marks_in}
 use Rattle.wot_cache.specs.Question.{IsLocalTo}
 use Rattle.wot_cache.specs.State.{Engine}
 use Rattle.wot_cache.specs.Views.{view_at}
 use Rattle.wot_cache.proofs.Asking.{keyring_seen, same_engine, seen_after, time_seen}
+use Rattle.wot_cache.proofs.Marking.{left, made_as}
 use Rattle.wot_cache.proofs.engine.Engine.roads.Goals as goal
 
 pub returns : goal.returns
@@ -17,10 +19,15 @@ returns c =
     let p = c.parts.result in
     let same = same_engine c.args.self.now c.self.inside.networked.keyring k c.self.inside.networked.views.entries views c.self.view_is c.refresh.ensures.keyring c.refresh.ensures.views in
     let seen = seen_after c.args.self.now c.self.inside.networked.keyring k c.self.inside.networked.views.entries views name p c.self.view_is
-    c.refresh.ensures.keyring c.refresh.ensures.views c.parts.ensures.parts in (
-      (refl, λ engine. tt, same),
+    c.refresh.ensures.keyring c.refresh.ensures.views c.parts.ensures.parts in
+    let made = made_as (view_at c.self.inside.networked.views.entries name) tt _ c.self.inside.networked.keyring
+    (marks_in c.self.inside.networked.networks.entries name) (marks_in c.refresh.new.self.networks.entries name) c.args.steps.now.made c.refresh.new.steps.made
+    c.in_ok-refresh.ensures.made in (
+      (refl, λ engine. tt, left _ c.args.self.now c.self.inside.networked.keyring k c.self.inside.networked.views.entries views
+      c.self.inside.networked.networks.entries c.refresh.new.self.networks.entries name c.args.steps.now.made c.refresh.new.steps.made c.self.view_is
+      c.refresh.ensures.keyring c.refresh.ensures.views made c.refresh.ensures.others c.refresh.ensures.closed),
       record {
-        kept = tt;
+        refreshed = tt;
         keyring = keyring_seen c.args.self.now name p seen;
         time = time_seen c.args.self.now name p seen;
         entries = c.parts.ensures.entries;
