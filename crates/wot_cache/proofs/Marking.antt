@@ -1,6 +1,6 @@
 -- Marks of views: networks are kept for open views alone, and what is shown of them.
 use Rattle.std.proofs.Common.{◌≡◌, inl, inr, ℕ, ◌≤◌, Bool, true, false, cond, List, [], ◌∷◌, Option, Some, None, Result, Ok, Err, OnOk, OnErr, refl, sym, ap, subst, ◌∙◌, arith}
-use Rattle.std.specs.Prelude.{IfSome}
+use Rattle.std.specs.Prelude.{IfSome, is_ok}
 use Rattle.std.specs.declared.cmp.Ordering.{Ordering}
 use Rattle.std.specs.declared.cmp.Ordering.TheVariants.{Less, Equal, Greater}
 use Rattle.std.specs.BTreeMap.{insert_entry}
@@ -35,34 +35,34 @@ found_by name other es e =
 
 -- ---- what isn't in a map that grew wasn't in it before
 
-module _ {K X : Type 0} (query : K → Bool) where
-  none_behind : (q : Bool) (v w : X) (old new : Option X) → (new ≡ None → old ≡ None) → cond q (Some v) new ≡ None → cond q (Some w) old ≡ None
-  none_behind true v w old new rest none = absurd cc
-  none_behind false v w old new rest none = rest none
+none_behind : {X : Type 0} (q : Bool) (v w : X) (old new : Option X) → (new ≡ None → old ≡ None) → cond q (Some v) new ≡ None → cond q (Some w) old ≡ None
+none_behind true v w old new rest none = absurd cc
+none_behind false v w old new rest none = rest none
 
-  none_set : (test : K → Bool) (es : List (K × X)) (v : X) → lookup query (set_value test es v) ≡ None → lookup query es ≡ None
-  none_set test [] v none = refl
-  none_set test (e ∷ es) v = by (none_set test es v) (test e.0)
-    where
-      by : (lookup query (set_value test es v) ≡ None → lookup query es ≡ None) → (b : Bool)
-          → lookup query (cond b ((e.0, v) ∷ es) (e ∷ set_value test es v)) ≡ None → cond (query e.0) (Some e.1) (lookup query es) ≡ None
-      by rest true = none_behind (query e.0) v e.1 (lookup query es) (lookup query es) (λ none. none)
-      by rest false = none_behind (query e.0) e.1 e.1 (lookup query es) (lookup query (set_value test es v)) rest
+none_left : {X : Type 0} (q : Bool) (v : X) (old : Option X) → cond q (Some v) old ≡ None → old ≡ None
+none_left true v old none = absurd cc
+none_left false v old none = none
 
-  none_left : (q : Bool) (v : X) (old : Option X) → cond q (Some v) old ≡ None → old ≡ None
-  none_left true v old none = absurd cc
-  none_left false v old none = none
+none_set : {K X : Type 0} (query test : K → Bool) (es : List (K × X)) (v : X) → lookup query (set_value test es v) ≡ None → lookup query es ≡ None
+none_set query test [] v none = refl
+none_set query test (e ∷ es) v none = by (none_set query test es v) (test e.0) none
+  where
+    by : (lookup query (set_value test es v) ≡ None → lookup query es ≡ None) → (b : Bool)
+        → lookup query (cond b ((e.0, v) ∷ es) (e ∷ set_value test es v)) ≡ None → cond (query e.0) (Some e.1) (lookup query es) ≡ None
+    by rest true = none_behind (query e.0) v e.1 (lookup query es) (lookup query es) (λ none. none)
+    by rest false = none_behind (query e.0) e.1 e.1 (lookup query es) (lookup query (set_value test es v)) rest
 
-  none_put : (cmp : K → K → Ordering) (es : List (K × X)) (k : K) (v : X) → lookup query (insert_entry cmp es k v) ≡ None → lookup query es ≡ None
-  none_put cmp [] k v none = refl
-  none_put cmp (e ∷ es) k v = by (none_put cmp es k v) (cmp k e.0)
-    where
-      by : (lookup query (insert_entry cmp es k v) ≡ None → lookup query es ≡ None) → (o : Ordering)
-          → lookup query (match_ordering o ((k, v) ∷ e ∷ es) ((e.0, v) ∷ es) (e ∷ insert_entry cmp es k v)) ≡ None
-          → cond (query e.0) (Some e.1) (lookup query es) ≡ None
-      by rest Less = none_left (query k) v (cond (query e.0) (Some e.1) (lookup query es))
-      by rest Equal = none_behind (query e.0) v e.1 (lookup query es) (lookup query es) (λ none. none)
-      by rest Greater = none_behind (query e.0) e.1 e.1 (lookup query es) (lookup query (insert_entry cmp es k v)) rest
+none_put : {K X : Type 0} (query : K → Bool) (cmp : K → K → Ordering) (es : List (K × X)) (k : K) (v : X)
+    → lookup query (insert_entry cmp es k v) ≡ None → lookup query es ≡ None
+none_put query cmp [] k v none = refl
+none_put query cmp (e ∷ es) k v none = by (none_put query cmp es k v) (cmp k e.0) none
+  where
+    by : (lookup query (insert_entry cmp es k v) ≡ None → lookup query es ≡ None) → (o : Ordering)
+        → lookup query (match_ordering o ((k, v) ∷ e ∷ es) ((e.0, v) ∷ es) (e ∷ insert_entry cmp es k v)) ≡ None
+        → cond (query e.0) (Some e.1) (lookup query es) ≡ None
+    by rest Less = none_left (query k) v (cond (query e.0) (Some e.1) (lookup query es))
+    by rest Equal = none_behind (query e.0) v e.1 (lookup query es) (lookup query es) (λ none. none)
+    by rest Greater = none_behind (query e.0) e.1 e.1 (lookup query es) (lookup query (insert_entry cmp es k v)) rest
 
 -- ---- networks stay those of open views
 
@@ -151,12 +151,23 @@ none_shown k views rest name none = shown_at rest name ∙ ap marks_by none
 
 -- ---- questions
 
+on_less : {A B T E : Type 0} (r : Result A B) (s : Result T E) (P : Type 0) → (is_ok s ≡ true → is_ok r ≡ true) → OnOk r P → OnOk s P
+on_less r (Err e) P less p = tt
+on_less (Ok a) (Ok b) P less p = p
+on_less (Err e) (Ok b) P less p = let never : false ≡ true = less refl in absurd cc
+
 -- after a refresh the bounds stand whatever comes of the question
-pub made_as : {A B T E : Type 0} (o : Option View) (a : A) (s : Result T E) (k : Keyring) (old new : Marks) (before after : ℕ)
-    → IfSome o (λ (v : View). IsMadeFor {A} {B} (Ok a) k v.time old new before after) → IfSome o (λ (v : View). IsMadeFor s k v.time old new before after)
-made_as None a s k old new before after m = tt
-made_as (Some v) a (Ok x) k old new before after m = record { marks = m.marks; stay = m.stay; least = m.least; most = m.most; never_less = m.never_less }
-made_as (Some v) a (Err x) k old new before after m = record { marks = tt; stay = m.stay; least = tt; most = m.most; never_less = m.never_less }
+pub made_as : {A B T E : Type 0} (o : Option View) (r : Result A B) (s : Result T E) (k : Keyring) (old new : Marks) (before after : ℕ)
+    → (is_ok s ≡ true → is_ok r ≡ true) → IfSome o (λ (v : View). IsMadeFor r k v.time old new before after)
+    → IfSome o (λ (v : View). IsMadeFor s k v.time old new before after)
+made_as None r s k old new before after less m = tt
+made_as (Some v) r s k old new before after less m = record {
+  marks = on_less r s _ less m.marks;
+  stay = m.stay;
+  least = on_less r s _ less m.least;
+  most = m.most;
+  never_less = m.never_less;
+}
 
 pub left : {T E : Type 0} (s : Result T E) (engine : Engine) (k new : Keyring) (views more : Views) (old rest : Networks) (name : List ℕ) (before after : ℕ)
     → shown k views old ≡ engine → new ≡ k → more ≡ views

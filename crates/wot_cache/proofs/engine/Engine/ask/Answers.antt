@@ -1,4 +1,4 @@
-use Rattle.std.proofs.Common.{◌≡◌, []}
+use Rattle.std.proofs.Common.{◌≡◌, [], Ok, refl}
 use Rattle.std.specs.Prelude.{◌↔◌}
 use Rattle.wot_edge.specs.Path.{Question, use_of, IsSpent}
 use Rattle.wot_cache.specs.Marks.{marks_in}
@@ -35,9 +35,9 @@ returns-clause-one c =
 pub returns-clause-refreshed : goal.returns-clause-refreshed
 returns-clause-refreshed c =
     let name = c.args.view.now in
-    let made = made_as (view_at c.self.inside.networked.views.entries name) tt c.answer.result c.self.inside.networked.keyring
+    let made = made_as (view_at c.self.inside.networked.views.entries name) (Ok tt) c.answer.result c.self.inside.networked.keyring
     (marks_in c.self.inside.networked.networks.entries name) (marks_in c.refresh.new.self.networks.entries name) c.args.steps.now.made c.refresh.new.steps.made
-    c.in_ok-refresh.ensures.made in
+    (λ ok. refl) c.in_ok-refresh.ensures.made in
     left c.answer.result c.args.self.now c.self.inside.networked.keyring c.refresh.new.self.keyring c.self.inside.networked.views.entries
     c.refresh.new.self.views.entries c.self.inside.networked.networks.entries c.refresh.new.self.networks.entries name c.args.steps.now.made
     c.refresh.new.steps.made c.self.view_is c.refresh.ensures.keyring c.refresh.ensures.views made c.refresh.ensures.others c.refresh.ensures.closed

@@ -1,4 +1,4 @@
-use Rattle.std.proofs.Common.{◌≡◌, ◌+◌, ◌≤◌, true, refl, subst}
+use Rattle.std.proofs.Common.{◌≡◌, ◌+◌, ◌≤◌, true, Ok, refl, subst}
 use Rattle.std.specs.Prelude.{IfSome, is_some}
 use Rattle.wot_network.specs.Net.{signatures_in}
 use Rattle.wot_network.specs.Roads.{present_of}
@@ -20,9 +20,9 @@ returns c =
     let same = same_engine c.args.self.now c.self.inside.networked.keyring k c.self.inside.networked.views.entries views c.self.view_is c.refresh.ensures.keyring c.refresh.ensures.views in
     let seen = seen_after c.args.self.now c.self.inside.networked.keyring k c.self.inside.networked.views.entries views name p c.self.view_is
     c.refresh.ensures.keyring c.refresh.ensures.views c.parts.ensures.parts in
-    let made = made_as (view_at c.self.inside.networked.views.entries name) tt _ c.self.inside.networked.keyring
+    let made = made_as (view_at c.self.inside.networked.views.entries name) (Ok tt) _ c.self.inside.networked.keyring
     (marks_in c.self.inside.networked.networks.entries name) (marks_in c.refresh.new.self.networks.entries name) c.args.steps.now.made c.refresh.new.steps.made
-    c.in_ok-refresh.ensures.made in (
+    (λ ok. refl) c.in_ok-refresh.ensures.made in (
       (refl, λ engine. tt, left _ c.args.self.now c.self.inside.networked.keyring k c.self.inside.networked.views.entries views
       c.self.inside.networked.networks.entries c.refresh.new.self.networks.entries name c.args.steps.now.made c.refresh.new.steps.made c.self.view_is
       c.refresh.ensures.keyring c.refresh.ensures.views made c.refresh.ensures.others c.refresh.ensures.closed),
