@@ -125,11 +125,12 @@ shown_at networks name =
     by None = refl
     by (Some n) = refl
 
--- a view that isn't open has no marks
-pub unmarked : (engine : Engine) (k : Keyring) (views : Views) (networks : Networks) (name : List ℕ) → shown k views networks ≡ engine
-    → AreOfOpen views networks → view_at engine.views name ≡ None → marks_at engine name ≡ []
-unmarked engine k views networks name seen all =
-    subst (λ (e : Engine). view_at e.views name ≡ None → marks_at e name ≡ []) seen (λ none. shown_at networks name ∙ ap marks_by (all name none))
+-- a view that isn't open has no marks, and none once it is opened
+pub unmarked : (engine : Engine) (k : Keyring) (views new : Views) (networks : Networks) (name : List ℕ) → shown k views networks ≡ engine
+    → AreOfOpen views networks → view_at engine.views name ≡ None → marks_at (shown k new networks) name ≡ []
+unmarked engine k views new networks name seen all =
+    subst (λ (e : Engine). view_at e.views name ≡ None → marks_at (shown k new networks) name ≡ []) seen
+    (λ none. shown_at networks name ∙ ap marks_by (all name none))
 
 pub others_marked : (engine : Engine) (k new : Keyring) (views more : Views) (old rest : Networks) (name : List ℕ) → shown k views old ≡ engine
     → OthersStay name old rest → OtherMarksStay name engine (shown new more rest)

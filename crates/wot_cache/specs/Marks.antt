@@ -40,9 +40,14 @@ pub record IsMadeFor {T E : Type 0} (result : Result T E) (k : Keyring) (t : ℕ
   pub most : after ≤ before + stale_signatures old t k
   pub never_less : before ≤ after
 
+-- Edges were made for a view, where it is open.
+abbrev pub IsMadeFrom : {T E : Type 0} → Result T E → List ℕ → Engine → Engine → ℕ → ℕ → Type 0
+IsMadeFrom result name old new before after =
+    IfSome (view_at old.views name) (λ (v : View). IsMadeFor result old.keyring v.time (marks_at old name) (marks_at new name) before after)
+
 -- What a question from a view does to an engine, whatever it answers. Where the view isn't open nothing is made.
 pub record IsRefreshed {T E : Type 0} (result : Result T E) (name : List ℕ) (old new : Engine) (before after : ℕ) : Type 0 where
   pub stays : StaysButMarks old new
-  pub made : IfSome (view_at old.views name) (λ (v : View). IsMadeFor result old.keyring v.time (marks_at old name) (marks_at new name) before after)
+  pub made : IsMadeFrom result name old new before after
   pub others : OtherMarksStay name old new
   pub closed : view_at old.views name ≡ None → (marks_at new name ≡ marks_at old name) × (after ≡ before)

@@ -1,6 +1,7 @@
 -- What a line makes, whatever comes of it: the bounds stand as soon as the view was refreshed.
-use Rattle.std.proofs.Common.{◌≡◌, ℕ, List, true, false, Option, Some, None, Result, Ok, Err, OnOk, refl, sym, ap, subst, arith}
-use Rattle.std.specs.Prelude.{IfSome, is_ok}
+use Rattle.std.proofs.Common.{◌≡◌, ℕ, ◌<◌, ◌≤◌, Bool, List, length, true, false, Option, Some, None, Result, Ok, Err, OnOk, refl, sym, ap, subst, ◌∙◌, arith}
+use Rattle.std.specs.Prelude.{IfSome, if◌then◌else◌, is_ok, nat_lt}
+use Rattle.std.proofs.lemmas.Bool.{lt-ltb, le-ltb}
 use Rattle.wot_keyring.specs.Held.{held_of}
 use Rattle.wot_keyring.specs.Keyring.{Keyring}
 use Rattle.wot_network.specs.Net.{Marks}
@@ -10,7 +11,9 @@ use Rattle.wot_cache.specs.declared.view.View.{View}
 use Rattle.wot_cache.specs.Marks.{IsMadeFor, IsRefreshed}
 use Rattle.wot_cache.specs.State.{Engine, StaysButMarks, marks_at, state_of}
 use Rattle.wot_cache.specs.Views.{view_at}
-use Rattle.wot_engine.specs.Made.{LineMakes, Makes}
+use Rattle.wot_script.specs.Grammar.{command_of}
+use Rattle.wot_engine.specs.Lines.{is_silent, longest}
+use Rattle.wot_engine.specs.Made.{LineMakes, Makes, heard}
 
 pub same_state : (old new : Engine) → StaysButMarks old new → state_of new ≡ state_of old
 same_state old new s = λ i. record { held = held_of (s.keyring i); views = s.views i }
@@ -80,6 +83,10 @@ refreshed_unopened r s name old new before after none d = record {
   closed = d.closed;
 }
 
+pub refreshed_fault : {A B T E : Type 0} (r : Result A B) (e : E) (name : List ℕ) (old new : Engine) (before after : ℕ)
+    → IsRefreshed r name old new before after → IsRefreshed {T = T} {E = E} (Err e) name old new before after
+refreshed_fault r e name old new before after d = refreshed_as r (Err e) (λ ok. absurd cc) name old new before after d
+
 -- ---- a line of which nothing was done yet
 
 module _ {T E : Type 0} (s : Result T E) (failed : is_ok s ≡ false) (engine : Engine) (made : ℕ) where
@@ -128,3 +135,29 @@ module _ {T E : Type 0} (s : Result T E) (failed : is_ok s ≡ false) (engine : 
   pub line_makes_not : (command : Option Command) → LineMakes s command engine engine made made
   line_makes_not None = (refl, refl)
   line_makes_not (Some command) = makes_not command
+
+-- ---- which lines are heard
+
+pub heard_long : (line : List ℕ) → longest < length line → heard line ≡ None
+heard_long line long = ap (λ (b : Bool). if b then None else if is_silent line then None else command_of line) (lt-ltb longest (length line) long)
+
+pub heard_silent : (line : List ℕ) → is_silent line ≡ true → heard line ≡ None
+heard_silent line silent = by (nat_lt longest (length line))
+  where
+    by : (b : Bool) → (if b then None else if is_silent line then None else command_of line) ≡ None
+    by true = refl
+    by false = ap (λ (b : Bool). if b then None else command_of line) silent
+
+heard_read : (line : List ℕ) → length line ≤ longest → is_silent line ≡ false → heard line ≡ command_of line
+heard_read line short loud =
+    ap (λ (b : Bool). if b then None else if is_silent line then None else command_of line) (le-ltb longest (length line) short)
+    ∙ ap (λ (b : Bool). if b then None else command_of line) loud
+
+module _ {T E : Type 0} (s : Result T E) (line : List ℕ) where
+  pub makes_unheard : (engine : Engine) (made : ℕ) → heard line ≡ None → LineMakes s (heard line) engine engine made made
+  makes_unheard engine made none = subst (λ (o : Option Command). LineMakes s o engine engine made made) (sym none) (refl, refl)
+
+  pub makes_heard : (old new : Engine) (before after : ℕ) → length line ≤ longest → is_silent line ≡ false → LineMakes s (command_of line) old new before after
+      → LineMakes s (heard line) old new before after
+  makes_heard old new before after short loud m =
+      subst (λ (o : Option Command). LineMakes s o old new before after) (sym (heard_read line short loud)) m

@@ -26,6 +26,8 @@ pub fn list(
 ) -> Result<Reply, Memory>
     requires wanted { 1 ≤ wanted }
     ensures lists { IfOk result (λ reply. Lists (state_of engine.old) (view_at engine.old.views view.now) wanted reply) }
+    ensures keyring { engine.new.keyring ≡ engine.old.keyring }
+    ensures views { engine.new.views ≡ engine.old.views }
     ensures refreshed { IsRefreshed result view.now engine.old engine.new steps.old.made steps.new.made }
 {
     match engine.parts(view, steps) {

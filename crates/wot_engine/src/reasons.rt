@@ -28,6 +28,8 @@ pub fn explain(
 ) -> Result<Reply, Memory>
     ensures explains { IfOk result (λ reply.
         reply ≡ explained_from (state_of engine.old) (view_at engine.old.views view.now) fpr.now uid.now) }
+    ensures keyring { engine.new.keyring ≡ engine.old.keyring }
+    ensures views { engine.new.views ≡ engine.old.views }
     ensures refreshed { IsRefreshed result view.now engine.old engine.new steps.old.made steps.new.made }
 {
     match engine.parts(view, steps) {
