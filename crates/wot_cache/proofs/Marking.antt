@@ -1,6 +1,7 @@
 -- Marks of views: networks are kept for open views alone, and what is shown of them.
 use Rattle.std.proofs.Common.{◌≡◌, inl, inr, ℕ, ◌≤◌, Bool, true, false, cond, List, [], ◌∷◌, Option, Some, None, Result, Ok, Err, OnOk, OnErr, refl, sym, ap, subst, ◌∙◌, arith}
-use Rattle.std.specs.Prelude.{IfSome, is_ok}
+use Rattle.std.specs.Prelude.{IfOk, IfSome, is_ok}
+use Rattle.std.specs.Result.{IsErrAnd}
 use Rattle.std.specs.declared.cmp.Ordering.{Ordering}
 use Rattle.std.specs.declared.cmp.Ordering.TheVariants.{Less, Equal, Greater}
 use Rattle.std.specs.BTreeMap.{insert_entry}
@@ -15,7 +16,7 @@ use Rattle.wot_types.specs.ViewName.{view_name_cmp}
 use Rattle.wot_keyring.specs.Keyring.{Keyring}
 use Rattle.wot_network.specs.Net.{Net, Marks, marks_of}
 use Rattle.wot_cache.specs.declared.view.View.{View}
-use Rattle.wot_cache.specs.Inside.{AreOfOpen, Networks, network_at}
+use Rattle.wot_cache.specs.Inside.{AllFit, AreOfOpen, IsEngine, Networks, network_at}
 use Rattle.wot_cache.specs.Marks.{IsForgotten, IsMadeFor, IsRefreshed, OthersStay, marks_by, marks_in, marks_shown, shown}
 use Rattle.wot_cache.specs.State.{Engine, OtherMarksStay, marks_at}
 use Rattle.wot_cache.specs.Views.{MovesTime, SetsAmount, Views, is_name, view_at, with_amount}
@@ -157,6 +158,15 @@ on_less r (Err e) P less p = tt
 on_less (Ok a) (Ok b) P less p = p
 on_less (Err e) (Ok b) P less p = let never : false ≡ true = less refl in absurd cc
 
+-- what is an error is Ok at most where anything is
+pub err_less : {A B T E : Type 0} {Q : E → Type 0} (r : Result A B) (s : Result T E) → IsErrAnd s Q → is_ok s ≡ true → is_ok r ≡ true
+err_less r (Ok x) no ok = absurd no
+err_less r (Err e) is ok = absurd cc
+
+pub if_err : {T E : Type 0} {Q : E → Type 0} (s : Result T E) (P : T → Type 0) → IsErrAnd s Q → IfOk s P
+if_err (Ok x) P no = absurd no
+if_err (Err e) P is = tt
+
 -- after a refresh the bounds stand whatever comes of the question
 pub made_as : {A B T E : Type 0} (o : Option View) (r : Result A B) (s : Result T E) (k : Keyring) (old new : Marks) (before after : ℕ)
     → (is_ok s ≡ true → is_ok r ≡ true) → IfSome o (λ (v : View). IsMadeFor r k v.time old new before after)
@@ -183,3 +193,14 @@ left s engine k new views more old rest name before after seen same equal made o
       others = others_marked (shown k views old) k new views more old rest name refl others;
       closed = λ none. (shown_at rest name ∙ ap (λ (ns : Networks). marks_in ns name) (closed none).0 ∙ sym (shown_at old name), (closed none).1);
     })
+
+-- an engine after a refresh of the networks
+pub engine_after : (k new : Keyring) (views more : Views) (old rest : Networks) (name : List ℕ) (before after : ℕ) → new ≡ k → more ≡ views → AllFit rest new
+    → OthersStay name old rest → (view_at views name ≡ None → (rest ≡ old) × (after ≡ before)) → IsEngine k views old → IsEngine new more rest
+engine_after k new views more old rest name before after same equal fit others closed e =
+    subst (λ (k : Keyring). IsEngine k more rest) (sym same) (subst (λ (vs : Views). IsEngine k vs rest) (sym equal) (record {
+      small = e.small;
+      within = e.within;
+      fit = subst (λ (x : Keyring). AllFit rest x) same fit;
+      of_open = refreshed_open views old rest name others (λ none. (closed none).0) e.of_open;
+    }))

@@ -5,7 +5,7 @@ use Rattle.wot_cache.specs.Marks.{marks_in}
 use Rattle.wot_cache.specs.Question.{IsOnlyAnswer}
 use Rattle.wot_cache.specs.Views.{view_at}
 use Rattle.wot_cache.proofs.Asking.{as_asked, few_seen, if_ok, seen_after}
-use Rattle.wot_cache.proofs.Marking.{left, made_as}
+use Rattle.wot_cache.proofs.Marking.{engine_after, err_less, left, made_as}
 use Rattle.wot_cache.proofs.engine.Engine.ask.Goals as goal
 
 pub answer-requires-clause-few : goal.answer-requires-clause-few
@@ -41,3 +41,25 @@ returns-clause-refreshed c =
     left c.answer.result c.args.self.now c.self.inside.networked.keyring c.refresh.new.self.keyring c.self.inside.networked.views.entries
     c.refresh.new.self.views.entries c.self.inside.networked.networks.entries c.refresh.new.self.networks.entries name c.args.steps.now.made
     c.refresh.new.steps.made c.self.view_is c.refresh.ensures.keyring c.refresh.ensures.views made c.refresh.ensures.others c.refresh.ensures.closed
+
+pub returns-in_err-refresh-clause-refreshed : goal.returns-in_err-refresh-clause-refreshed
+returns-in_err-refresh-clause-refreshed c =
+    let made = made_as (view_at c.self.inside.networked.views.entries c.args.view.now) c.refresh.result c.from_residual.result
+    c.self.inside.networked.keyring (marks_in c.self.inside.networked.networks.entries c.args.view.now)
+    (marks_in c.refresh.new.self.networks.entries c.args.view.now) c.args.steps.now.made c.refresh.new.steps.made
+    (err_less c.refresh.result c.from_residual.result c.from_residual.ensures.1) c.refresh.ensures.made in
+    left c.from_residual.result c.args.self.now c.self.inside.networked.keyring c.refresh.new.self.keyring c.self.inside.networked.views.entries
+    c.refresh.new.self.views.entries c.self.inside.networked.networks.entries c.refresh.new.self.networks.entries c.args.view.now c.args.steps.now.made
+    c.refresh.new.steps.made c.self.view_is c.refresh.ensures.keyring c.refresh.ensures.views made c.refresh.ensures.others c.refresh.ensures.closed
+
+pub invariant_of-self : goal.invariant_of-self
+invariant_of-self c =
+    engine_after c.self.inside.networked.keyring c.refresh.new.self.keyring c.self.inside.networked.views.entries c.refresh.new.self.views.entries
+    c.self.inside.networked.networks.entries c.refresh.new.self.networks.entries c.args.view.now c.args.steps.now.made c.refresh.new.steps.made
+    c.refresh.ensures.keyring c.refresh.ensures.views c.refresh.ensures.fit c.refresh.ensures.others c.refresh.ensures.closed c.self.invariant
+
+pub invariant_of-self-2 : goal.invariant_of-self-2
+invariant_of-self-2 c =
+    engine_after c.self.inside.networked.keyring c.refresh.new.self.keyring c.self.inside.networked.views.entries c.refresh.new.self.views.entries
+    c.self.inside.networked.networks.entries c.refresh.new.self.networks.entries c.args.view.now c.args.steps.now.made c.refresh.new.steps.made
+    c.refresh.ensures.keyring c.refresh.ensures.views c.refresh.ensures.fit c.refresh.ensures.others c.refresh.ensures.closed c.self.invariant

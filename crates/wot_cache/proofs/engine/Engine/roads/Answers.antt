@@ -1,4 +1,4 @@
-use Rattle.std.proofs.Common.{◌≡◌, ◌+◌, ◌≤◌, true, Ok, refl, subst}
+use Rattle.std.proofs.Common.{rules, ◌≡◌, ◌+◌, ◌≤◌, true, Ok, refl, subst}
 use Rattle.std.specs.Prelude.{IfSome, is_some}
 use Rattle.wot_network.specs.Net.{signatures_in}
 use Rattle.wot_network.specs.Roads.{present_of}
@@ -8,7 +8,7 @@ use Rattle.wot_cache.specs.Question.{IsLocalTo}
 use Rattle.wot_cache.specs.State.{Engine}
 use Rattle.wot_cache.specs.Views.{view_at}
 use Rattle.wot_cache.proofs.Asking.{keyring_seen, same_engine, seen_after, time_seen}
-use Rattle.wot_cache.proofs.Marking.{left, made_as}
+use Rattle.wot_cache.proofs.Marking.{engine_after, err_less, if_err, left, made_as}
 use Rattle.wot_cache.proofs.engine.Engine.roads.Goals as goal
 
 pub returns : goal.returns
@@ -38,3 +38,37 @@ returns c =
         never_less = c.refresh.ensures.never_less;
       },
     )
+
+pub returns-in_err-refresh : goal.returns-in_err-refresh
+returns-in_err-refresh c =
+    let made = made_as (view_at c.self.inside.networked.views.entries c.args.view.now) c.refresh.result c.from_residual.result
+    c.self.inside.networked.keyring (marks_in c.self.inside.networked.networks.entries c.args.view.now)
+    (marks_in c.refresh.new.self.networks.entries c.args.view.now) c.args.steps.now.made c.refresh.new.steps.made
+    (err_less c.refresh.result c.from_residual.result c.from_residual.ensures.1) c.refresh.ensures.made in (
+      (refl, λ engine. tt, left c.from_residual.result c.args.self.now c.self.inside.networked.keyring c.refresh.new.self.keyring c.self.inside.networked.views.entries
+    c.refresh.new.self.views.entries c.self.inside.networked.networks.entries c.refresh.new.self.networks.entries c.args.view.now c.args.steps.now.made
+    c.refresh.new.steps.made c.self.view_is c.refresh.ensures.keyring c.refresh.ensures.views made c.refresh.ensures.others c.refresh.ensures.closed),
+      record {
+        refreshed = tt;
+        keyring = if_err c.from_residual.result _ c.from_residual.ensures.1;
+        time = if_err c.from_residual.result _ c.from_residual.ensures.1;
+        entries = if_err c.from_residual.result _ c.from_residual.ensures.1;
+        lawful = if_err c.from_residual.result _ c.from_residual.ensures.1;
+        local = if_err c.from_residual.result _ c.from_residual.ensures.1;
+        «open» = search rules;
+        made_most = subst (λ (e : Engine). c.refresh.new.steps.made ≤ c.args.steps.now.made + signatures_in e.keyring) c.self.view_is c.refresh.ensures.made_most;
+        never_less = c.refresh.ensures.never_less;
+      },
+    )
+
+pub invariant_of-self : goal.invariant_of-self
+invariant_of-self c =
+    engine_after c.self.inside.networked.keyring c.refresh.new.self.keyring c.self.inside.networked.views.entries c.refresh.new.self.views.entries
+    c.self.inside.networked.networks.entries c.refresh.new.self.networks.entries c.args.view.now c.args.steps.now.made c.refresh.new.steps.made
+    c.refresh.ensures.keyring c.refresh.ensures.views c.refresh.ensures.fit c.refresh.ensures.others c.refresh.ensures.closed c.self.invariant
+
+pub invariant_of-self-2 : goal.invariant_of-self-2
+invariant_of-self-2 c =
+    engine_after c.self.inside.networked.keyring c.refresh.new.self.keyring c.self.inside.networked.views.entries c.refresh.new.self.views.entries
+    c.self.inside.networked.networks.entries c.refresh.new.self.networks.entries c.args.view.now c.args.steps.now.made c.refresh.new.steps.made
+    c.refresh.ensures.keyring c.refresh.ensures.views c.refresh.ensures.fit c.refresh.ensures.others c.refresh.ensures.closed c.self.invariant
