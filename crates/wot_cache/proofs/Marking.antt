@@ -1,7 +1,6 @@
 -- Marks of views: networks are kept for open views alone, and what is shown of them.
 use Rattle.std.proofs.Common.{◌≡◌, inl, inr, ℕ, ◌≤◌, Bool, true, false, cond, List, [], ◌∷◌, Option, Some, None, Result, Ok, Err, OnOk, OnErr, refl, sym, ap, subst, ◌∙◌, arith}
 use Rattle.std.specs.Prelude.{IfOk, IfSome, is_ok}
-use Rattle.std.specs.Result.{IsErrAnd}
 use Rattle.std.specs.declared.cmp.Ordering.{Ordering}
 use Rattle.std.specs.declared.cmp.Ordering.TheVariants.{Less, Equal, Greater}
 use Rattle.std.specs.BTreeMap.{insert_entry}
@@ -159,13 +158,11 @@ on_less (Ok a) (Ok b) P less p = p
 on_less (Err e) (Ok b) P less p = let never : false ≡ true = less refl in absurd cc
 
 -- what is an error is Ok at most where anything is
-pub err_less : {A B T E : Type 0} {Q : E → Type 0} (r : Result A B) (s : Result T E) → IsErrAnd s Q → is_ok s ≡ true → is_ok r ≡ true
-err_less r (Ok x) no ok = absurd no
-err_less r (Err e) is ok = absurd cc
+pub err_less : {A B T E : Type 0} (r : Result A B) (s : Result T E) (e : E) → s ≡ Err e → is_ok s ≡ true → is_ok r ≡ true
+err_less r s e is ok = let never : false ≡ true = sym (ap is_ok is) ∙ ok in absurd cc
 
-pub if_err : {T E : Type 0} {Q : E → Type 0} (s : Result T E) (P : T → Type 0) → IsErrAnd s Q → IfOk s P
-if_err (Ok x) P no = absurd no
-if_err (Err e) P is = tt
+pub if_err : {T E : Type 0} (s : Result T E) (P : T → Type 0) (e : E) → s ≡ Err e → IfOk s P
+if_err {T} {E} s P e is = subst (λ (r : Result T E). IfOk r P) (sym is) tt
 
 -- after a refresh the bounds stand whatever comes of the question
 pub made_as : {A B T E : Type 0} (o : Option View) (r : Result A B) (s : Result T E) (k : Keyring) (old new : Marks) (before after : ℕ)

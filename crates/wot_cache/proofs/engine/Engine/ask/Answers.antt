@@ -1,5 +1,6 @@
 use Rattle.std.proofs.Common.{◌≡◌, [], Ok, refl}
 use Rattle.std.specs.Prelude.{◌↔◌}
+use Rattle.std.proofs.lemmas.Result.{err_from_is_err_and}
 use Rattle.wot_edge.specs.Path.{Question, use_of, IsSpent}
 use Rattle.wot_cache.specs.Marks.{marks_in}
 use Rattle.wot_cache.specs.Question.{IsOnlyAnswer}
@@ -44,10 +45,11 @@ returns-clause-refreshed c =
 
 pub returns-in_err-refresh-clause-refreshed : goal.returns-in_err-refresh-clause-refreshed
 returns-in_err-refresh-clause-refreshed c =
+    let p = err_from_is_err_and c.from_residual.result c.from_residual.ensures.1 in
     let made = made_as (view_at c.self.inside.networked.views.entries c.args.view.now) c.refresh.result c.from_residual.result
     c.self.inside.networked.keyring (marks_in c.self.inside.networked.networks.entries c.args.view.now)
     (marks_in c.refresh.new.self.networks.entries c.args.view.now) c.args.steps.now.made c.refresh.new.steps.made
-    (err_less c.refresh.result c.from_residual.result c.from_residual.ensures.1) c.refresh.ensures.made in
+    (err_less c.refresh.result c.from_residual.result p.0 p.1) c.refresh.ensures.made in
     left c.from_residual.result c.args.self.now c.self.inside.networked.keyring c.refresh.new.self.keyring c.self.inside.networked.views.entries
     c.refresh.new.self.views.entries c.self.inside.networked.networks.entries c.refresh.new.self.networks.entries c.args.view.now c.args.steps.now.made
     c.refresh.new.steps.made c.self.view_is c.refresh.ensures.keyring c.refresh.ensures.views made c.refresh.ensures.others c.refresh.ensures.closed

@@ -1,5 +1,6 @@
 use Rattle.std.proofs.Common.{rules, ◌≡◌, ◌+◌, ◌≤◌, true, Ok, refl, subst}
 use Rattle.std.specs.Prelude.{IfSome, is_some}
+use Rattle.std.proofs.lemmas.Result.{err_from_is_err_and}
 use Rattle.wot_network.specs.Net.{signatures_in}
 use Rattle.wot_network.specs.Roads.{present_of}
 use Rattle.wot_cache.specs.declared.view.View.{View}
@@ -42,20 +43,21 @@ returns c =
 
 pub returns-in_err-refresh : goal.returns-in_err-refresh
 returns-in_err-refresh c =
+    let p = err_from_is_err_and c.from_residual.result c.from_residual.ensures.1 in
     let made = made_as (view_at c.self.inside.networked.views.entries c.args.view.now) c.refresh.result c.from_residual.result
     c.self.inside.networked.keyring (marks_in c.self.inside.networked.networks.entries c.args.view.now)
     (marks_in c.refresh.new.self.networks.entries c.args.view.now) c.args.steps.now.made c.refresh.new.steps.made
-    (err_less c.refresh.result c.from_residual.result c.from_residual.ensures.1) c.refresh.ensures.made in (
+    (err_less c.refresh.result c.from_residual.result p.0 p.1) c.refresh.ensures.made in (
       (refl, λ engine. tt, left c.from_residual.result c.args.self.now c.self.inside.networked.keyring c.refresh.new.self.keyring c.self.inside.networked.views.entries
     c.refresh.new.self.views.entries c.self.inside.networked.networks.entries c.refresh.new.self.networks.entries c.args.view.now c.args.steps.now.made
     c.refresh.new.steps.made c.self.view_is c.refresh.ensures.keyring c.refresh.ensures.views made c.refresh.ensures.others c.refresh.ensures.closed),
       record {
         refreshed = tt;
-        parts = if_err c.from_residual.result _ c.from_residual.ensures.1;
-        few = if_err c.from_residual.result _ c.from_residual.ensures.1;
-        entries = if_err c.from_residual.result _ c.from_residual.ensures.1;
-        lawful = if_err c.from_residual.result _ c.from_residual.ensures.1;
-        local = if_err c.from_residual.result _ c.from_residual.ensures.1;
+        parts = if_err c.from_residual.result _ p.0 p.1;
+        few = if_err c.from_residual.result _ p.0 p.1;
+        entries = if_err c.from_residual.result _ p.0 p.1;
+        lawful = if_err c.from_residual.result _ p.0 p.1;
+        local = if_err c.from_residual.result _ p.0 p.1;
         «open» = search rules;
         made_most = subst (λ (e : Engine). c.refresh.new.steps.made ≤ c.args.steps.now.made + signatures_in e.keyring) c.self.view_is c.refresh.ensures.made_most;
         never_less = c.refresh.ensures.never_less;
