@@ -196,6 +196,7 @@ engine_on law further old new views networks answers limits later one e = record
   small = rw limits e.small;
   within = rw limits e.within;
   fit = all_fit law networks old new later e.fit;
+  of_open = e.of_open;
   right = all_right_later further old new answers later one e.right;
 }
 

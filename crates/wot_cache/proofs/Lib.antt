@@ -1,6 +1,7 @@
 mod Changes
 mod Inside
 mod Asking
+mod Marking
 pub mod Lines
 pub mod Behind
 pub mod Replay

@@ -1,5 +1,5 @@
 -- The commands that make a state anew.
-use Rattle.std.specs.Prelude.{◌≡◌, ℕ, List, ◌∷◌, ◌++◌, map, Option, Some, None, IsSomeAnd}
+use Rattle.std.specs.Prelude.{◌≡◌, ℕ, List, [], ◌∷◌, ◌++◌, map, Option, Some, None, IsSomeAnd}
 use Rattle.std.specs.List.{AllByRecursion, flat_map}
 use Rattle.std.specs.List.Sorted.{IsStrictlySortedBy}
 use Rattle.std.specs.Map.{keys_of}
@@ -47,9 +47,9 @@ pub record CarriesOver (rows : PolicyRows) (old new : State) : Type 0 where
   pub held : new.held ≡ judged_by rows old.held
   pub views : new.views ≡ old.views
 
--- an engine with this keyring and these views
+-- an engine with this keyring and these views, of which nothing was asked
 abbrev pub engine_of : Keyring → Views → Engine
-engine_of keyring views = record { keyring = keyring; views = views }
+engine_of keyring views = record { keyring = keyring; views = views; marks = [] }
 
 -- the commands of an engine with this keyring and these views
 abbrev pub commands_over : Keyring → Views → List Command

@@ -1,5 +1,5 @@
 -- What is true of every engine: of its keyring, its views, and the networks that it keeps for them.
-use Rattle.std.specs.Prelude.{ℕ, List, Option, IsSomeAnd}
+use Rattle.std.specs.Prelude.{◌≡◌, ℕ, List, Option, None, IsSomeAnd}
 use Rattle.std.specs.List.{AllByRecursion}
 use Rattle.std.specs.Map.{lookup}
 use Rattle.wot_keyring.specs.Keyring.{Keyring}
@@ -16,15 +16,20 @@ Networks = List (List ℕ × Net)
 abbrev pub AllFit : Networks → Keyring → Type 0
 AllFit networks k = AllByRecursion (λ (e : List ℕ × Net). Fits e.1 k) networks
 
+-- the network that is kept for a view
+abbrev pub network_at : Networks → List ℕ → Option Net
+network_at networks name = lookup (is_name name) networks
+
+-- Networks are kept for open views alone.
+abbrev pub AreOfOpen : Views → Networks → Type 0
+AreOfOpen views networks = (name : List ℕ) → view_at views name ≡ None → network_at networks name ≡ None
+
 pub record IsEngine (k : Keyring) (views : Views) (networks : Networks) (answers : AllAnswers) : Type 0 where
   pub small : AreSmall k.limits
   pub within : IsWithin k.limits views
   pub fit : AllFit networks k
+  pub of_open : AreOfOpen views networks
   pub right : AreAllRight k answers
-
--- the network that is kept for a view
-abbrev pub network_at : Networks → List ℕ → Option Net
-network_at networks name = lookup (is_name name) networks
 
 -- There is one for an open view: that of the keyring as it is, at the view's time.
 abbrev pub IsReady : Keyring → Views → Networks → List ℕ → Type 0

@@ -1,10 +1,11 @@
 -- What an engine is once the roads that borrow it are gone.
-use Rattle.std.specs.Prelude.{◌≡◌}
+use Rattle.std.specs.Prelude.{ℕ, List, Result}
 use Rattle.std.specs.Borrow.{Fml, MutBor}
 use Rattle.std.specs.Io.BufRead.{Rests}
 use Rattle.wot_cache.specs.State.{Engine}
+use Rattle.wot_cache.specs.Marks.{IsRefreshed}
 use Rattle.wot_cache.specs.contracts.engine.Engine.{the_row}
 
--- It is as it was.
-abbrev pub IsKept : MutBor Engine → Fml
-IsKept engine = Rests the_row engine (λ last. last ≡ engine.now)
+-- It is as a question from this view leaves it.
+abbrev pub RestsRefreshed : {T E : Type 0} → MutBor Engine → Result T E → List ℕ → ℕ → ℕ → Fml
+RestsRefreshed engine result name before after = Rests the_row engine (λ last. IsRefreshed result name engine.now last before after)

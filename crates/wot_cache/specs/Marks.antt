@@ -1,10 +1,13 @@
 -- Marks: for which certificates a view's network has lines, and until when they stand. No answer depends on them.
-use Rattle.std.specs.Prelude.{◌≡◌, ◌≤◌, ◌+◌, ◌-◌, ◌^◌, ℕ, false, min, List, [], Result, Option, OnOk}
+use Rattle.std.specs.Prelude.{◌≡◌, ◌≤◌, ◌+◌, ◌-◌, ◌^◌, ℕ, Bool, false, cond, min, List, [], map, Result, Option, None, IfSome, OnOk}
+use Rattle.std.specs.Map.{lookup}
 use Rattle.std.specs.Option.{option_map_or}
 use Rattle.wot_keyring.specs.Keyring.{Keyring}
 use Rattle.wot_network.specs.Net.{Net, Marks, AreMarksOf, StayCurrent, marks_of, stale_edges, stale_signatures}
+use Rattle.wot_cache.specs.declared.view.View.{View}
 use Rattle.wot_cache.specs.Inside.{Networks, network_at}
-use Rattle.wot_cache.specs.Views.{is_name}
+use Rattle.wot_cache.specs.State.{Engine, StaysButMarks, OtherMarksStay, ViewMarks, marks_at}
+use Rattle.wot_cache.specs.Views.{Views, is_name, view_at}
 
 abbrev pub marks_by : Option Net → Marks
 marks_by found = option_map_or (λ (n : Net). marks_of n.lines) found []
@@ -12,6 +15,18 @@ marks_by found = option_map_or (λ (n : Net). marks_of n.lines) found []
 -- the marks of a view; a view of which nothing was asked yet has none
 abbrev pub marks_in : Networks → List ℕ → Marks
 marks_in networks name = marks_by (network_at networks name)
+
+-- the marks of all networks
+abbrev pub marks_shown : Networks → ViewMarks
+marks_shown networks = map (λ (e : List ℕ × Net). (e.0, marks_of e.1.lines)) networks
+
+-- what an engine that keeps these is seen as
+abbrev pub shown : Keyring → Views → Networks → Engine
+shown k views networks = record { keyring = k; views = views; marks = marks_shown networks }
+
+-- What is kept by that name is gone, and the rest is as it was.
+abbrev pub IsForgotten : {X : Type 0} → List ℕ → List (List ℕ × X) → List (List ℕ × X) → Type 0
+IsForgotten name old new = (other : List ℕ) → lookup (is_name other) new ≡ cond (is_name name other) None (lookup (is_name other) old)
 
 -- The networks of other views are as they were.
 abbrev pub OthersStay : List ℕ → Networks → Networks → Type 0
@@ -24,3 +39,15 @@ pub record IsMadeFor {T E : Type 0} (result : Result T E) (k : Keyring) (t : ℕ
   pub least : OnOk result (min (before + stale_edges old t k) (2 ^ 64 - 1) ≤ after)
   pub most : after ≤ before + stale_signatures old t k
   pub never_less : before ≤ after
+
+-- Edges were made for a view, where it is open.
+abbrev pub IsMadeFrom : {T E : Type 0} → Result T E → List ℕ → Engine → Engine → ℕ → ℕ → Type 0
+IsMadeFrom result name old new before after =
+    IfSome (view_at old.views name) (λ (v : View). IsMadeFor result old.keyring v.time (marks_at old name) (marks_at new name) before after)
+
+-- What a question from a view does to an engine, whatever it answers. Where the view isn't open nothing is made.
+pub record IsRefreshed {T E : Type 0} (result : Result T E) (name : List ℕ) (old new : Engine) (before after : ℕ) : Type 0 where
+  pub stays : StaysButMarks old new
+  pub made : IsMadeFrom result name old new before after
+  pub others : OtherMarksStay name old new
+  pub closed : view_at old.views name ≡ None → (marks_at new name ≡ marks_at old name) × (after ≡ before)

@@ -1,6 +1,8 @@
 -- The state: what is kept between two lines, and what changes it.
-use Rattle.std.specs.Prelude.{◌≡◌, ℕ, List, []}
+use Rattle.std.specs.Prelude.{◌≡◌, ℕ, false, List, []}
 use Rattle.std.specs.List.{AllByRecursion}
+use Rattle.std.specs.Map.{lookup}
+use Rattle.std.specs.Option.{unwrap_or}
 use Rattle.wot_types.specs.declared.fpr.Fpr.{Fpr}
 use Rattle.wot_types.specs.declared.limits.Limits.{Limits}
 use Rattle.wot_key.specs.Key.{fpr_of}
@@ -8,7 +10,8 @@ use Rattle.wot_cert.specs.Certificate.{Certificate}
 use Rattle.wot_keyring.specs.Held.{Held, nothing, held_of}
 use Rattle.wot_keyring.specs.Keyring.{Keyring}
 use Rattle.wot_keyring.specs.Keyring as keyrings
-use Rattle.wot_cache.specs.Views.{Views, with_time, with_root, without_view}
+use Rattle.wot_network.specs.Net.{Marks}
+use Rattle.wot_cache.specs.Views.{Views, is_name, with_time, with_root, without_view}
 
 -- What is held, and the open views by name. Stamps, counts of changes and kept rows are no part of it: no answer depends
 -- on them.
@@ -44,18 +47,37 @@ closing view s = record s { views = without_view s.views view }
 
 -- ---- engines
 
--- what an engine is seen as: its keyring and its views
+-- marks by the names of views
+abbrev pub ViewMarks : Type 0
+ViewMarks = List (List ℕ × Marks)
+
+-- what an engine is seen as: its keyring, its views, and the marks of each view of which something was asked
 pub record Engine : Type 0 where
   pub keyring : Keyring
   pub views : Views
+  pub marks : ViewMarks
 
 -- an engine that holds nothing
 abbrev pub empty : Limits → Engine
-empty limits = record { keyring = keyrings.empty limits; views = [] }
+empty limits = record { keyring = keyrings.empty limits; views = []; marks = [] }
+
+-- the marks of a view
+abbrev pub marks_at : Engine → List ℕ → Marks
+marks_at engine name = unwrap_or (lookup (is_name name) engine.marks) []
 
 -- the state of an engine
 abbrev pub state_of : Engine → State
 state_of engine = record { held = held_of engine.keyring; views = engine.views }
+
+-- All but marks is as it was: the certificates with their marks of admission, the verdicts, stamps and the count of changes,
+-- and the open views with their times and roots.
+pub record StaysButMarks (old new : Engine) : Type 0 where
+  pub keyring : new.keyring ≡ old.keyring
+  pub views : new.views ≡ old.views
+
+-- The marks of other views are as they were.
+abbrev pub OtherMarksStay : List ℕ → Engine → Engine → Type 0
+OtherMarksStay name old new = (other : List ℕ) → is_name name other ≡ false → marks_at new other ≡ marks_at old other
 
 -- What this change makes of what was held is held now; the views stay.
 abbrev pub IsStateAfter : (Held → Held) → Engine → Engine → Type 0

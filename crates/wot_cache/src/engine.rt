@@ -18,9 +18,10 @@ ghost use Rattle.wot_network.specs.Roads.{present_of};
 ghost use Rattle.wot_keyring.specs.Dump.{lines_of, AreLines};
 ghost use Rattle.wot_policy.specs.declared.rows.PolicyRows.{PolicyRows as Rows};
 ghost use Rattle.wot_cache.specs.Dump.{commands_of, IsRestored};
+ghost use Rattle.wot_cache.specs.Marks.{IsRefreshed};
 ghost use Rattle.wot_cache.specs.Parts.{ArePartsOf};
 ghost use Rattle.wot_cache.specs.Question.{AreWithinRoots, IsLocalTo, IsOnlyAnswer, OfQuestion, TellsSpent};
-ghost use Rattle.wot_cache.specs.State.{empty, state_of, IsStateAfter};
+ghost use Rattle.wot_cache.specs.State.{empty, marks_at, state_of, IsStateAfter, OtherMarksStay};
 ghost use Rattle.wot_cache.specs.Views.{view_at, with_time, time_fault, with_root, root_fault, without_view, TellsFault, TellsOpen};
 
 use crate::ask::answer;
@@ -54,17 +55,18 @@ pub struct Engine {
 impl Model for Engine {
     ghost use Rattle.wot_cache.specs.State.{Engine as TheEngine};
     ghost use Rattle.wot_cache.specs.Inside.{IsEngine};
+    ghost use Rattle.wot_cache.specs.Marks.{shown};
 
     ghost Value = { TheEngine };
 
-    ghost view = { λ a. record { keyring = a.networked.keyring; views = a.networked.views.entries } };
+    ghost view = { λ a. shown a.networked.keyring a.networked.views.entries a.networked.networks.entries };
 
     ghost invariant = { λ a. IsEngine a.networked.keyring a.networked.views.entries a.networked.networks.entries a.answers.entries };
 }
 
 impl Engine {
     ghost use Rattle.std.specs.Borrow.{sem};
-    ghost use Rattle.wot_cache.specs.Lent.{IsKept};
+    ghost use Rattle.wot_cache.specs.Lent.{RestsRefreshed};
 
     /// An engine with no certificates, no verdicts and no views. Takes no memory.
     pub fn new(alloc: Global, limits: Limits) -> Engine
@@ -109,6 +111,7 @@ impl Engine {
         ensures counted { IsOneChange self.old.keyring self.new.keyring }
         ensures limits { self.new.keyring.limits ≡ self.old.keyring.limits }
         ensures views { self.new.views ≡ self.old.views }
+        ensures marks { self.new.marks ≡ self.old.marks }
     {
         fits_later();
         later_is_order();
@@ -126,6 +129,7 @@ impl Engine {
         ensures counted { IsOneChange self.old.keyring self.new.keyring }
         ensures limits { self.new.keyring.limits ≡ self.old.keyring.limits }
         ensures views { self.new.views ≡ self.old.views }
+        ensures marks { self.new.marks ≡ self.old.marks }
     {
         fits_later();
         later_is_order();
@@ -144,6 +148,7 @@ impl Engine {
         ensures counted { IsOneChange self.old.keyring self.new.keyring }
         ensures limits { self.new.keyring.limits ≡ self.old.keyring.limits }
         ensures views { self.new.views ≡ self.old.views }
+        ensures marks { self.new.marks ≡ self.old.marks }
     {
         fits_later();
         later_is_order();
@@ -161,6 +166,7 @@ impl Engine {
         ensures counted { IsOneChange self.old.keyring self.new.keyring }
         ensures limits { self.new.keyring.limits ≡ self.old.keyring.limits }
         ensures views { self.new.views ≡ self.old.views }
+        ensures marks { self.new.marks ≡ self.old.marks }
     {
         fits_later();
         later_is_order();
@@ -173,6 +179,9 @@ impl Engine {
         ensures fault { TellsFault result (time_fault self.old.keyring.limits self.old.views view.now) }
         ensures kept { OnErr result (self.new ≡ self.old) }
         ensures keyring { self.new.keyring ≡ self.old.keyring }
+        ensures marks { self.new.marks ≡ self.old.marks }
+        // A view that is opened has none.
+        ensures unmarked { view_at self.old.views view.now ≡ None → marks_at self.new view.now ≡ [] }
     {
         if views::move_time(&mut self.networked.views, view, t) {
             return Ok(());
@@ -193,6 +202,7 @@ impl Engine {
         ensures fault { OnErr result (result ≡ Err ViewFault.Memory) }
         ensures kept { OnErr result (self.new ≡ self.old) }
         ensures keyring { self.new.keyring ≡ self.old.keyring }
+        ensures marks { self.new.marks ≡ self.old.marks }
     {
         let view = View {
             time: t,
@@ -210,6 +220,7 @@ impl Engine {
         ensures fault { TellsFault result (root_fault self.old.keyring.limits (view_at self.old.views view.now) fpr.now amount) }
         ensures kept { OnErr result (self.new ≡ self.old) }
         ensures keyring { self.new.keyring ≡ self.old.keyring }
+        ensures marks { self.new.marks ≡ self.old.marks }
     {
         if let Some(fault) = self.root_fault(view, fpr, amount) {
             return Err(fault);
@@ -247,6 +258,8 @@ impl Engine {
         ensures absent { is_ok result ≡ is_some (view_at self.old.views view.now) }
         ensures kept { OnErr result (self.new ≡ self.old) }
         ensures keyring { self.new.keyring ≡ self.old.keyring }
+        ensures others { OtherMarksStay view.now self.old self.new }
+        ensures forgotten { OnOk result (marks_at self.new view.now ≡ []) }
     {
         if views::find(&self.networked.views, view).is_none() {
             return Err(NoView);
@@ -278,9 +291,9 @@ impl Engine {
     }
 
     /// The answer to the question how far a user ID belongs to a target, seen from an open view: next paths until
-    /// their sum reaches what is wanted, or no valid path of positive amount is left. The view's network is made anew
-    /// where the keyring or the view's time changed since the last question, and each edge made is counted in
-    /// `steps`.
+    /// their sum reaches what is wanted, or no valid path of positive amount is left. Before that the view's network
+    /// is made anew where certificates are stale, and each edge made is counted in `steps`. All but the view's marks
+    /// stays as it was.
     pub fn ask(
         &mut self,
         view: &ViewName,
@@ -301,7 +314,7 @@ impl Engine {
         ensures pairs { IfOk result (λ a. AllFit [] a.paths) }
         ensures roots { IfOk result (λ a. IfSome (view_at self.old.views view.now) (λ v. AreWithinRoots v.roots a.paths)) }
         ensures open { TellsOpen result (view_at self.old.views view.now) }
-        ensures kept { self.new ≡ self.old }
+        ensures refreshed { IsRefreshed result view.now self.old self.new steps.old.made steps.new.made }
         ensures made_most { steps.new.made ≤ steps.old.made + signatures_in self.old.keyring }
         ensures never_less { steps.old.made ≤ steps.new.made }
     {
@@ -319,9 +332,9 @@ impl Engine {
     }
 
     /// The roads that a question from an open view is asked over: those of the keyring as it is, at the view's time.
-    /// The view's network is made anew first, as `ask` makes it. The engine stays as it was.
+    /// The view's network is made anew first, as `ask` makes it. All but the view's marks stays as it was.
     pub fn roads(&mut self, view: &ViewName, steps: &mut Steps) -> Result<NetRoads<'_>, AskFault>
-        ensures* kept { sem 𝓛 (IsKept self.entry) }
+        ensures* refreshed { sem 𝓛 (RestsRefreshed self.entry result view.now steps.old.made steps.new.made) }
         ensures keyring { IfOk result (λ r. (present_of r).keyring ≡ self.old.keyring) }
         ensures time { IfOk result (λ r. IfSome (view_at self.old.views view.now) (λ v. (present_of r).time ≡ v.time)) }
         ensures entries { IfOk result (λ r. (u : List ℕ) → AreEntries (told_of (present_of r) u)) }
@@ -337,9 +350,10 @@ impl Engine {
     }
 
     /// What listing and explaining take, seen from an open view: the keyring, its roads at the view's time, the view's
-    /// roots and its time. The view's network is made anew first, as `ask` makes it. The engine stays as it was.
+    /// roots and its time. The view's network is made anew first, as `ask` makes it. All but the view's marks stays as
+    /// it was.
     pub fn parts(&mut self, view: &ViewName, steps: &mut Steps) -> Result<Parts<'_>, AskFault>
-        ensures* kept { sem 𝓛 (IsKept self.entry) }
+        ensures* refreshed { sem 𝓛 (RestsRefreshed self.entry result view.now steps.old.made steps.new.made) }
         ensures parts { IfOk result (λ p. IsSomeAnd (view_at self.old.views view.now) (λ v. ArePartsOf self.old.keyring v p)) }
         ensures few { IfOk result (λ p. length p.roots.now ≤ 64) }
         ensures entries { IfOk result (λ p. (u : List ℕ) → AreEntries (told_of (present_of p.roads) u)) }

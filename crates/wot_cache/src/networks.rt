@@ -7,7 +7,7 @@ ghost use Rattle.wot_types.specs.ViewName.{view_name_cmp};
 ghost use Rattle.wot_network.specs.Net.{IsRight};
 ghost use Rattle.wot_cache.specs.Views.{is_name};
 ghost use Rattle.wot_cache.specs.Inside.{AllFit};
-ghost use Rattle.wot_cache.specs.Marks.{marks_in, IsMadeFor, OthersStay};
+ghost use Rattle.wot_cache.specs.Marks.{marks_in, IsForgotten, IsMadeFor, OthersStay};
 
 use std::alloc::Global;
 use std::collections::BTreeMap;
@@ -27,6 +27,7 @@ pub fn find<'a>(networks: &'a Networks, view: &ViewName) -> Option<&'a Network>
 /// Forgets the network of a view.
 pub fn forget(networks: &mut Networks, view: &ViewName)
     ensures forgotten { networks.new.entries ≡ remove_entry (is_name view.now) networks.old.entries }
+    ensures gone { IsForgotten view.now networks.old.entries networks.new.entries }
 {
     let _ = networks.remove(view);
 }

@@ -1,5 +1,5 @@
 //! The certification network of the keyring as it is, seen from an open view.
-ghost use Rattle.std.specs.Prelude.{◌≡◌, ◌≤◌, ◌+◌, ℕ, List, IfSome, IsSomeAnd, OnOk};
+ghost use Rattle.std.specs.Prelude.{◌≡◌, ◌≤◌, ◌+◌, ℕ, List, None, IfSome, IsSomeAnd, OnOk};
 ghost use Rattle.wot_edge.specs.Lawful.{AreEntries};
 ghost use Rattle.wot_edge.specs.Record.{IsRecord};
 ghost use Rattle.wot_network.specs.Net.{signatures_in, told_of};
@@ -44,6 +44,8 @@ impl Networked {
         ensures made { IfSome (view_at self.old.views.entries view.now) (λ v. IsMadeFor result self.old.keyring v.time
             (marks_in self.old.networks.entries view.now) (marks_in self.new.networks.entries view.now) steps.old.made steps.new.made) }
         ensures others { OthersStay view.now self.old.networks.entries self.new.networks.entries }
+        ensures closed { view_at self.old.views.entries view.now ≡ None →
+            (self.new.networks.entries ≡ self.old.networks.entries) × (steps.new.made ≡ steps.old.made) }
         ensures made_most { steps.new.made ≤ steps.old.made + signatures_in self.old.keyring }
         ensures never_less { steps.old.made ≤ steps.new.made }
     {

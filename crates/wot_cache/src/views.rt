@@ -3,6 +3,7 @@ ghost use Rattle.std.specs.Prelude.{◌≡◌, OnOk, OnErr, is_some, true};
 ghost use Rattle.std.specs.Option.{option_copied};
 ghost use Rattle.std.specs.BTreeMap.{insert_entry};
 ghost use Rattle.wot_types.specs.ViewName.{view_name_cmp};
+ghost use Rattle.wot_cache.specs.Marks.{IsForgotten};
 ghost use Rattle.wot_cache.specs.Views.{view_at, without_view, MovesTime, SetsAmount};
 
 use crate::view::View;
@@ -57,6 +58,7 @@ pub fn set_amount(views: &mut Views, name: &ViewName, fpr: Fpr, amount: u8) -> R
 /// Closes a view.
 pub fn close(views: &mut Views, name: &ViewName)
     ensures closed { views.new.entries ≡ without_view views.old.entries name.now }
+    ensures gone { IsForgotten name.now views.old.entries views.new.entries }
 {
     let _ = views.remove(name);
 }

@@ -7,6 +7,7 @@ mod Runs
 mod Stepping
 mod Refusing
 mod Keeping
+pub mod Making
 mod Short
 mod Progress
 mod Turns

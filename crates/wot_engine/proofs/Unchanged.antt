@@ -1,8 +1,8 @@
--- What leaves the state leaves the whole engine.
+-- What leaves the state leaves the whole engine but for marks.
 use Rattle.std.proofs.Common.{◌≡◌, inl, inr, ap}
 use Rattle.wot_keyring.specs.Import.{IsOneChange}
-use Rattle.wot_cache.specs.State.{Engine, State, state_of}
+use Rattle.wot_cache.specs.State.{Engine, State, StaysButMarks, state_of}
 
-pub unchanged : (old new : Engine) → IsOneChange old.keyring new.keyring → state_of new ≡ state_of old → new ≡ old
-unchanged old new (inl same) e = λ i. record { keyring = same i; views = (ap (λ (s : State). s.views) e) i }
+pub unchanged : (old new : Engine) → IsOneChange old.keyring new.keyring → state_of new ≡ state_of old → StaysButMarks old new
+unchanged old new (inl same) e = record { keyring = same; views = ap (λ (s : State). s.views) e }
 unchanged old new (inr changed) e = absurd (changed.1 (ap (λ (s : State). s.held) e))

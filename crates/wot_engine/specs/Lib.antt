@@ -9,3 +9,5 @@ pub mod Transcript
 pub mod Turn
 pub mod Fresh
 pub mod Depends
+pub mod Machine
+pub mod Made

@@ -4,6 +4,7 @@ ghost use Rattle.std.specs.List.{flat_map, AllByRecursion};
 ghost use Rattle.wot_edge.specs.declared.path.Path.{Path as ThePath};
 ghost use Rattle.wot_edge.specs.Answer.{amount_of};
 ghost use Rattle.wot_script.specs.declared.reply.AnswerLine.TheVariants as lines_of;
+ghost use Rattle.wot_cache.specs.Marks.{IsRefreshed};
 ghost use Rattle.wot_cache.specs.State.{state_of};
 ghost use Rattle.wot_cache.specs.Views.{view_at};
 ghost use Rattle.wot_engine.specs.Answer.{Asks, uid_at, step_line, path_lines, told as told_of};
@@ -28,7 +29,9 @@ pub fn ask(
 ) -> Result<Reply, Memory>
     requires wanted { 1 ≤ wanted }
     ensures asks { IfOk result (λ reply. Asks (state_of engine.old) (view_at engine.old.views view.now) target.now wanted uid.now reply) }
-    ensures kept { engine.new ≡ engine.old }
+    ensures keyring { engine.new.keyring ≡ engine.old.keyring }
+    ensures views { engine.new.views ≡ engine.old.views }
+    ensures refreshed { IsRefreshed result view.now engine.old engine.new steps.old.made steps.new.made }
 {
     match engine.ask(view, target, wanted, uid, steps) {
         Ok(answer) => told(alloc, engine, &answer),

@@ -1,11 +1,12 @@
 //! What each changing command does to the engine, with its reply.
-ghost use Rattle.std.specs.Prelude.{◌≡◌, ◌≤◌, ◌<◌, ◌+◌, ◌-◌, ◌^◌, length, true, IfOk, OnErr};
+ghost use Rattle.std.specs.Prelude.{◌≡◌, ◌≤◌, ◌<◌, ◌+◌, ◌-◌, ◌^◌, [], length, None, true, IfOk, OnErr};
 ghost use Rattle.wot_types.specs.Limits.{standard_limits};
 ghost use Rattle.wot_policy.specs.Kept.{IsFaithful, rows_of};
 ghost use Rattle.wot_keyring.specs.Kept.{IsJudgedBy, StaysJudged};
 ghost use Rattle.wot_keyring.specs.Import.{IsOneChange};
 ghost use Rattle.wot_script.specs.Replies.{is_short};
-ghost use Rattle.wot_cache.specs.State.{state_of};
+ghost use Rattle.wot_cache.specs.State.{marks_at, state_of, OtherMarksStay};
+ghost use Rattle.wot_cache.specs.Views.{view_at};
 ghost use Rattle.wot_engine.specs.Outcome.{import as import_of, remove as remove_of, set_verdict as set_verdict_of, clear_verdict as clear_verdict_of, time as time_of, root as root_of, close as close_of};
 ghost use Rattle.wot_engine.specs.LineStep.{Gives};
 
@@ -32,6 +33,7 @@ pub fn import<F: Fn(Ask) -> bool>(
         Gives (import_of (rows_of policy.old) (state_of engine.old) octets.now) reply (state_of engine.new)) }
     ensures short { IfOk result (λ reply. is_short reply ≡ true) }
     ensures kept { OnErr result (engine.new ≡ engine.old) }
+    ensures marks { engine.new.marks ≡ engine.old.marks }
     ensures counted { IsOneChange engine.old.keyring engine.new.keyring }
     ensures standard { engine.new.keyring.limits ≡ standard_limits }
     ensures judged { IsJudgedBy (rows_of policy.old) engine.new.keyring }
@@ -56,6 +58,7 @@ pub fn remove(engine: &mut Engine, fpr: &Fpr) -> Reply
     requires countable { engine.old.keyring.changes < 2 ^ 64 - 1 }
     ensures gives { Gives (remove_of (state_of engine.old) fpr.now) result (state_of engine.new) }
     ensures short { is_short result ≡ true }
+    ensures marks { engine.new.marks ≡ engine.old.marks }
     ensures counted { IsOneChange engine.old.keyring engine.new.keyring }
     ensures standard { engine.new.keyring.limits ≡ standard_limits }
     ensures judged { StaysJudged engine.old.keyring engine.new.keyring }
@@ -77,6 +80,7 @@ pub fn set_verdict(
     ensures gives { IfOk result (λ reply. Gives (set_verdict_of (state_of engine.old) number verdict) reply (state_of engine.new)) }
     ensures short { IfOk result (λ reply. is_short reply ≡ true) }
     ensures kept { OnErr result (engine.new ≡ engine.old) }
+    ensures marks { engine.new.marks ≡ engine.old.marks }
     ensures counted { IsOneChange engine.old.keyring engine.new.keyring }
     ensures standard { engine.new.keyring.limits ≡ standard_limits }
     ensures judged { StaysJudged engine.old.keyring engine.new.keyring }
@@ -93,6 +97,7 @@ pub fn clear_verdict(engine: &mut Engine, number: &SigNumber) -> Reply
     requires countable { engine.old.keyring.changes < 2 ^ 64 - 1 }
     ensures gives { Gives (clear_verdict_of (state_of engine.old) number.now) result (state_of engine.new) }
     ensures short { is_short result ≡ true }
+    ensures marks { engine.new.marks ≡ engine.old.marks }
     ensures counted { IsOneChange engine.old.keyring engine.new.keyring }
     ensures standard { engine.new.keyring.limits ≡ standard_limits }
     ensures judged { StaysJudged engine.old.keyring engine.new.keyring }
@@ -109,6 +114,8 @@ pub fn time(engine: &mut Engine, view: &ViewName, t: u32) -> Result<Reply, Memor
     ensures gives { IfOk result (λ reply. Gives (time_of (state_of engine.old) view.now t) reply (state_of engine.new)) }
     ensures short { IfOk result (λ reply. is_short reply ≡ true) }
     ensures kept { OnErr result (engine.new ≡ engine.old) }
+    ensures marks { engine.new.marks ≡ engine.old.marks }
+    ensures unmarked { view_at engine.old.views view.now ≡ None → marks_at engine.new view.now ≡ [] }
     ensures keyring { engine.new.keyring ≡ engine.old.keyring }
 {
     match engine.view_time(view, t) {
@@ -123,6 +130,7 @@ pub fn root(engine: &mut Engine, view: &ViewName, fpr: &Fpr, amount: u8) -> Resu
     ensures gives { IfOk result (λ reply. Gives (root_of (state_of engine.old) view.now fpr.now amount) reply (state_of engine.new)) }
     ensures short { IfOk result (λ reply. is_short reply ≡ true) }
     ensures kept { OnErr result (engine.new ≡ engine.old) }
+    ensures marks { engine.new.marks ≡ engine.old.marks }
     ensures keyring { engine.new.keyring ≡ engine.old.keyring }
 {
     match engine.view_root(view, fpr, amount) {
@@ -135,6 +143,7 @@ pub fn root(engine: &mut Engine, view: &ViewName, fpr: &Fpr, amount: u8) -> Resu
 pub fn close(engine: &mut Engine, view: &ViewName) -> Reply
     ensures gives { Gives (close_of (state_of engine.old) view.now) result (state_of engine.new) }
     ensures short { is_short result ≡ true }
+    ensures others { OtherMarksStay view.now engine.old engine.new }
     ensures keyring { engine.new.keyring ≡ engine.old.keyring }
 {
     match engine.view_close(view) {

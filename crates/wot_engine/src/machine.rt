@@ -8,11 +8,12 @@ ghost use Rattle.wot_script.specs.declared.reply.Reply.{Reply as TheReply};
 ghost use Rattle.wot_script.specs.Grammar.{command_of};
 ghost use Rattle.wot_script.specs.Spelling.{HasSpelling, IsWithin};
 ghost use Rattle.wot_script.specs.Replies.{HasWords, is_short};
-ghost use Rattle.wot_cache.specs.State.{empty, state_of};
+ghost use Rattle.wot_cache.specs.State.{empty, state_of, StaysButMarks};
 ghost use Rattle.wot_engine.specs.Lines.{is_silent};
 ghost use Rattle.wot_engine.specs.LineStep.{LineStep, Answers, Does};
 ghost use Rattle.wot_engine.specs.Transcript.{listed, octets_of};
 ghost use Rattle.wot_engine.specs.Fresh.{IsDump, OnDump, IsMadeAnew};
+ghost use Rattle.wot_engine.specs.Made.{heard, LineMakes, Makes};
 
 use crate::answer::ask;
 use crate::bindings::list;
@@ -45,11 +46,11 @@ pub struct Machine {
 impl Model for Machine {
     ghost use Rattle.std.specs.Prelude.{◌≡◌};
     ghost use Rattle.wot_types.specs.Limits.{standard_limits};
-    ghost use Rattle.wot_cache.specs.State.{Engine as TheEngine};
+    ghost use Rattle.wot_engine.specs.Machine.{Machine as TheMachine};
 
-    ghost Value = { TheEngine };
+    ghost Value = { TheMachine };
 
-    ghost view = { λ a. a.engine };
+    ghost view = { λ a. record { engine = a.engine; made = a.steps.made } };
 
     ghost invariant = { λ a. a.engine.keyring.limits ≡ standard_limits };
 }
@@ -57,7 +58,8 @@ impl Model for Machine {
 impl Machine {
     /// A machine that keeps nothing yet.
     pub fn new(alloc: Global) -> Machine
-        ensures start { result ≡ empty standard_limits }
+        ensures start { result.engine ≡ empty standard_limits }
+        ensures made { result.made ≡ 0 }
     {
         Machine {
             alloc,
@@ -66,8 +68,15 @@ impl Machine {
         }
     }
 
-    /// One line, without its line feed; its reply is appended. After `Memory` the machine and `out` are as before.
-    /// Room for 128 octets is taken in `out` before anything changes.
+    /// How many edges were made for all questions so far. The count stands still at `u64::MAX`.
+    pub fn made(&self) -> u64
+        ensures made { result ≡ self.now.made }
+    {
+        self.steps.made
+    }
+
+    /// One line, without its line feed; its reply is appended. After `Memory` `out` is as before, and so is the machine
+    /// but for marks and the count of edges made. Room for 128 octets is taken in `out` before anything changes.
     #[tactic(auto, using(crate::proofs::Unchanged::unchanged))]
     pub fn line<F: Fn(Ask) -> bool>(
         &mut self,
@@ -75,21 +84,23 @@ impl Machine {
         policy: &mut Policy<F>,
         out: &mut Vec<u8>,
     ) -> Result<(), Memory>
-        requires countable { self.old.keyring.changes < 2 ^ 64 - 1 }
-        requires judged { IsJudgedBy (rows_of policy.old) self.old.keyring }
+        requires countable { self.old.engine.keyring.changes < 2 ^ 64 - 1 }
+        requires judged { IsJudgedBy (rows_of policy.old) self.old.engine.keyring }
         requires faithful { IsFaithful F.Fn policy.old }
         ensures step { OnOk result ((reply : Option TheReply)
-            × LineStep (rows_of policy.old) (state_of self.old) line.now reply (state_of self.new)
+            × LineStep (rows_of policy.old) (state_of self.old.engine) line.now reply (state_of self.new.engine)
             × (out.new.items ≡ out.old.items ++ octets_of (listed reply))) }
         // The lines that the reply to `dump` holds make the state anew in a fresh machine, by whatever rows it judges.
-        ensures anew { OnOk result (IsDump line.now → (rows : PolicyRows) → IsMadeAnew rows (state_of self.old)) }
-        ensures kept { OnErr result ((self.new ≡ self.old) × (out.new.items ≡ out.old.items)) }
+        ensures anew { OnOk result (IsDump line.now → (rows : PolicyRows) → IsMadeAnew rows (state_of self.old.engine)) }
+        ensures kept { OnErr result (StaysButMarks self.old.engine self.new.engine × (out.new.items ≡ out.old.items)) }
         ensures room { OnOk result (is_silent line.now ≡ false → vec_len out.old + 128 ≤ vec_capacity out.new) }
         // A line that leaves the state, as one that is silent or refused, or asks or lists, leaves stamps and counts
         // too.
-        ensures unchanged { state_of self.new ≡ state_of self.old → self.new ≡ self.old }
-        ensures counted { IsOneChange self.old.keyring self.new.keyring }
-        ensures judged { IsJudgedBy (rows_of policy.old) self.new.keyring }
+        ensures unchanged { state_of self.new.engine ≡ state_of self.old.engine → StaysButMarks self.old.engine self.new.engine }
+        // A question makes edges of what is stale for its view, and each other line makes none.
+        ensures makes { LineMakes result (heard line.now) self.old.engine self.new.engine self.old.made self.new.made }
+        ensures counted { IsOneChange self.old.engine.keyring self.new.engine.keyring }
+        ensures judged { IsJudgedBy (rows_of policy.old) self.new.engine.keyring }
         ensures faithful { IsFaithful F.Fn policy.new }
         ensures rows { rows_of policy.new ≡ rows_of policy.old }
     {
@@ -133,8 +144,9 @@ fn answer<F: Fn(Ask) -> bool>(
         Answers (rows_of policy.old) (state_of engine.old) (command_of line.now) reply (state_of engine.new)) }
     ensures words { IfOk result HasWords }
     ensures anew { OnOk result (IsDump line.now → (rows : PolicyRows) → IsMadeAnew rows (state_of engine.old)) }
-    ensures quiet { IfOk result (λ reply. is_short reply ≡ false → engine.new ≡ engine.old) }
-    ensures kept { OnErr result (engine.new ≡ engine.old) }
+    ensures quiet { IfOk result (λ reply. is_short reply ≡ false → StaysButMarks engine.old engine.new) }
+    ensures kept { OnErr result (StaysButMarks engine.old engine.new) }
+    ensures makes { LineMakes result (command_of line.now) engine.old engine.new steps.old.made steps.new.made }
     ensures standard { engine.new.keyring.limits ≡ standard_limits }
     ensures counted { IsOneChange engine.old.keyring engine.new.keyring }
     ensures judged { IsJudgedBy (rows_of policy.old) engine.new.keyring }
@@ -164,8 +176,9 @@ fn run<F: Fn(Ask) -> bool>(
     requires faithful { IsFaithful F.Fn policy.old }
     ensures does { IfOk result (λ reply. Does (rows_of policy.old) (state_of engine.old) command.now reply (state_of engine.new)) }
     ensures anew { OnOk result (OnDump command.now ((rows : PolicyRows) → IsMadeAnew rows (state_of engine.old))) }
-    ensures quiet { IfOk result (λ reply. is_short reply ≡ false → engine.new ≡ engine.old) }
-    ensures kept { OnErr result (engine.new ≡ engine.old) }
+    ensures quiet { IfOk result (λ reply. is_short reply ≡ false → StaysButMarks engine.old engine.new) }
+    ensures kept { OnErr result (StaysButMarks engine.old engine.new) }
+    ensures makes { Makes result command.now engine.old engine.new steps.old.made steps.new.made }
     ensures standard { engine.new.keyring.limits ≡ standard_limits }
     ensures counted { IsOneChange engine.old.keyring engine.new.keyring }
     ensures judged { IsJudgedBy (rows_of policy.old) engine.new.keyring }

@@ -3,6 +3,7 @@ ghost use Rattle.std.specs.Prelude.{◌≡◌, map, IfOk};
 ghost use Rattle.wot_keyring.specs.Keyring.{certificates_in};
 ghost use Rattle.wot_network.specs.Net.{told_of};
 ghost use Rattle.wot_network.specs.Roads.{present_of};
+ghost use Rattle.wot_cache.specs.Marks.{IsRefreshed};
 ghost use Rattle.wot_cache.specs.State.{state_of};
 ghost use Rattle.wot_cache.specs.Views.{view_at};
 ghost use Rattle.wot_explain.specs.Explaining.{explanation};
@@ -27,7 +28,9 @@ pub fn explain(
 ) -> Result<Reply, Memory>
     ensures explains { IfOk result (λ reply.
         reply ≡ explained_from (state_of engine.old) (view_at engine.old.views view.now) fpr.now uid.now) }
-    ensures kept { engine.new ≡ engine.old }
+    ensures keyring { engine.new.keyring ≡ engine.old.keyring }
+    ensures views { engine.new.views ≡ engine.old.views }
+    ensures refreshed { IsRefreshed result view.now engine.old engine.new steps.old.made steps.new.made }
 {
     match engine.parts(view, steps) {
         Ok(parts) => explain_from(alloc, &parts, fpr, uid),

@@ -55,12 +55,12 @@ fn reply_to<F: Fn(Ask) -> bool>(
 ) -> Result<(), Memory>
     requires some { line ≢ Line.End }
     requires empty { out.old.items ≡ [] }
-    requires countable { machine.old.keyring.changes < 2 ^ 64 - 1 }
-    requires judged { IsJudgedBy (rows_of policy.old) machine.old.keyring }
+    requires countable { machine.old.engine.keyring.changes < 2 ^ 64 - 1 }
+    requires judged { IsJudgedBy (rows_of policy.old) machine.old.engine.keyring }
     requires faithful { IsFaithful F.Fn policy.old }
-    ensures replies { OnOk result (Replies (rows_of policy.old) line text.now (state_of machine.old) out.new.items (state_of machine.new)) }
-    ensures counted { machine.new.keyring.changes ≤ machine.old.keyring.changes + 1 }
-    ensures judged { IsJudgedBy (rows_of policy.old) machine.new.keyring }
+    ensures replies { OnOk result (Replies (rows_of policy.old) line text.now (state_of machine.old.engine) out.new.items (state_of machine.new.engine)) }
+    ensures counted { machine.new.engine.keyring.changes ≤ machine.old.engine.keyring.changes + 1 }
+    ensures judged { IsJudgedBy (rows_of policy.old) machine.new.engine.keyring }
     ensures faithful { IsFaithful F.Fn policy.new }
     ensures rows { rows_of policy.new ≡ rows_of policy.old }
 {

@@ -24,5 +24,5 @@ refused (Err x) rows line text old before after is empty e = tt
 
 pub returns-in-Long-clause-replies : goal.returns-in-Long-clause-replies
 returns-in-Long-clause-replies g c =
-    refused c.print_reply.result (rows_of c.args.policy.now) c.args.line c.args.text.now (state_of c.args.machine.now) c.args.out.now.items c.print_reply.new.out.items
+    refused c.print_reply.result (rows_of c.args.policy.now) c.args.line c.args.text.now (state_of c.args.machine.now.engine) c.args.out.now.items c.print_reply.new.out.items
     c.in-Long.is c.requires.empty c.print_reply.ensures.appended

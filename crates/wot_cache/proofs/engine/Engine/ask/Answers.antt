@@ -1,5 +1,9 @@
+use Rattle.std.proofs.Common.{◌≡◌, Ok, refl}
+use Rattle.std.proofs.lemmas.Result.{err_from_is_err_and}
+use Rattle.wot_cache.specs.Marks.{marks_in}
 use Rattle.wot_cache.specs.Views.{view_at}
 use Rattle.wot_cache.proofs.Asking.{few_seen, if_ok, if_some, present_seen, right_kept, right_seen, seen_after, told_seen}
+use Rattle.wot_cache.proofs.Marking.{engine_after, err_less, left, made_as}
 use Rattle.wot_cache.proofs.engine.Engine.ask.Goals as goal
 
 pub answer-requires : goal.answer-requires
@@ -60,13 +64,32 @@ returns-clause-sum c = if_ok c.answer.result _ _ (λ a t. t.sum) c.answer.ensure
 pub returns-clause-pairs : goal.returns-clause-pairs
 returns-clause-pairs c = if_ok c.answer.result _ _ (λ a t. t.pairs) c.answer.ensures.told
 
+pub returns-clause-refreshed : goal.returns-clause-refreshed
+returns-clause-refreshed c =
+    let name = c.args.view.now in
+    let made = made_as (view_at c.self.inside.networked.views.entries name) (Ok tt) c.answer.result c.self.inside.networked.keyring
+    (marks_in c.self.inside.networked.networks.entries name) (marks_in c.refresh.new.self.networks.entries name) c.args.steps.now.made c.refresh.new.steps.made
+    (λ ok. refl) c.in_ok-refresh.ensures.made in
+    left c.answer.result c.args.self.now c.self.inside.networked.keyring c.refresh.new.self.keyring c.self.inside.networked.views.entries
+    c.refresh.new.self.views.entries c.self.inside.networked.networks.entries c.refresh.new.self.networks.entries name c.args.steps.now.made
+    c.refresh.new.steps.made c.self.view_is c.refresh.ensures.keyring c.refresh.ensures.views made c.refresh.ensures.others c.refresh.ensures.closed
+
+pub returns-in_err-refresh-clause-refreshed : goal.returns-in_err-refresh-clause-refreshed
+returns-in_err-refresh-clause-refreshed c =
+    let p = err_from_is_err_and c.from_residual.result c.from_residual.ensures.1 in
+    let made = made_as (view_at c.self.inside.networked.views.entries c.args.view.now) c.refresh.result c.from_residual.result
+    c.self.inside.networked.keyring (marks_in c.self.inside.networked.networks.entries c.args.view.now)
+    (marks_in c.refresh.new.self.networks.entries c.args.view.now) c.args.steps.now.made c.refresh.new.steps.made
+    (err_less c.refresh.result c.from_residual.result p.0 p.1) c.refresh.ensures.made in
+    left c.from_residual.result c.args.self.now c.self.inside.networked.keyring c.refresh.new.self.keyring c.self.inside.networked.views.entries
+    c.refresh.new.self.views.entries c.self.inside.networked.networks.entries c.refresh.new.self.networks.entries c.args.view.now c.args.steps.now.made
+    c.refresh.new.steps.made c.self.view_is c.refresh.ensures.keyring c.refresh.ensures.views made c.refresh.ensures.others c.refresh.ensures.closed
+
 pub invariant_of-self : goal.invariant_of-self
-invariant_of-self c = record {
-  small = rw c.refresh.ensures.keyring c.self.invariant.small;
-  within = rw c.refresh.ensures.keyring (rw c.refresh.ensures.views c.self.invariant.within);
-  fit = c.refresh.ensures.fit;
-  right = rw c.refresh.ensures.keyring c.self.invariant.right;
-}
+invariant_of-self c =
+    engine_after c.self.inside.answers.entries c.self.inside.networked.keyring c.refresh.new.self.keyring c.self.inside.networked.views.entries c.refresh.new.self.views.entries
+    c.self.inside.networked.networks.entries c.refresh.new.self.networks.entries c.args.view.now c.args.steps.now.made c.refresh.new.steps.made
+    c.refresh.ensures.keyring c.refresh.ensures.views c.refresh.ensures.fit c.refresh.ensures.others c.refresh.ensures.closed c.self.invariant
 
 pub invariant_of-self-2 : goal.invariant_of-self-2
 invariant_of-self-2 c =
@@ -76,9 +99,13 @@ invariant_of-self-2 c =
     let p = c.parts-parts.result in
     let seen = seen_after c.args.self.now k c.refresh.new.self.keyring views c.refresh.new.self.views.entries name p c.self.view_is c.refresh.ensures.keyring
     c.refresh.ensures.views c.parts-parts.ensures.parts in
+    let after = engine_after c.self.inside.answers.entries k c.refresh.new.self.keyring views c.refresh.new.self.views.entries
+    c.self.inside.networked.networks.entries c.refresh.new.self.networks.entries name c.args.steps.now.made c.refresh.new.steps.made
+    c.refresh.ensures.keyring c.refresh.ensures.views c.refresh.ensures.fit c.refresh.ensures.others c.refresh.ensures.closed c.self.invariant in
     record {
-      small = rw c.refresh.ensures.keyring c.self.invariant.small;
-      within = rw c.refresh.ensures.keyring (rw c.refresh.ensures.views c.self.invariant.within);
-      fit = c.refresh.ensures.fit;
+      small = after.small;
+      within = after.within;
+      fit = after.fit;
+      of_open = after.of_open;
       right = right_kept c.args.self.now k c.refresh.new.self.keyring views name p c.answer.new.answers.entries c.self.view_is c.refresh.ensures.keyring seen c.answer.ensures.right;
     }

@@ -1,4 +1,5 @@
 use Rattle.wot_cache.proofs.Inside.{all_right_without, within_closed, fit_without}
+use Rattle.wot_cache.proofs.Marking.{closed_open, gone_itself, none_shown, others_left, others_marked}
 use Rattle.wot_cache.proofs.engine.Engine.view_close.Goals as goal
 
 pub invariant_of-self : goal.invariant_of-self
@@ -7,4 +8,17 @@ invariant_of-self c = record {
   within = rw c.close.ensures.closed (within_closed c.self.inside.networked.keyring.limits c.self.inside.networked.views.entries c.args.view.now c.self.invariant.within);
   fit = rw c.forget.ensures.forgotten (fit_without c.self.inside.networked.keyring c.self.inside.networked.networks.entries c.args.view.now c.self.invariant.fit);
   right = rw c.forget-2.ensures.forgotten (all_right_without c.self.inside.networked.keyring c.self.inside.answers.entries c.args.view.now c.self.invariant.right);
+  of_open = closed_open c.self.inside.networked.views.entries c.close.new.views.entries c.self.inside.networked.networks.entries c.forget.new.networks.entries
+      c.args.view.now c.close.ensures.gone c.forget.ensures.gone c.self.invariant.of_open;
 }
+
+pub returns-clause-others : goal.returns-clause-others
+returns-clause-others c =
+    others_marked c.args.self.now c.self.inside.networked.keyring c.self.inside.networked.keyring c.self.inside.networked.views.entries c.close.new.views.entries
+    c.self.inside.networked.networks.entries c.forget.new.networks.entries c.args.view.now c.self.view_is
+    (others_left c.args.view.now c.self.inside.networked.networks.entries c.forget.new.networks.entries c.forget.ensures.gone)
+
+pub returns-clause-forgotten : goal.returns-clause-forgotten
+returns-clause-forgotten c =
+    none_shown c.self.inside.networked.keyring c.close.new.views.entries c.forget.new.networks.entries c.args.view.now
+    (gone_itself c.args.view.now c.self.inside.networked.networks.entries c.forget.new.networks.entries c.forget.ensures.gone)

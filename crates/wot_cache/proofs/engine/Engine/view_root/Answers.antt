@@ -5,6 +5,7 @@ use Rattle.wot_cache.specs.declared.view.View.{View}
 use Rattle.wot_cache.specs.State.{Engine}
 use Rattle.wot_cache.specs.Views.{view_at, root_fault}
 use Rattle.wot_cache.proofs.Inside.{set_within}
+use Rattle.wot_cache.proofs.Marking.{set_open}
 use Rattle.wot_cache.proofs.engine.Engine.view_root.Goals as goal
 
 pub invariant_of-self : goal.invariant_of-self
@@ -16,4 +17,6 @@ invariant_of-self c = record {
       c.set_amount.ensures.set c.set_amount.ensures.kept c.self.invariant.within;
   fit = c.self.invariant.fit;
   right = c.self.invariant.right;
+  of_open = set_open c.self.inside.networked.views.entries c.set_amount.new.views.entries c.self.inside.networked.networks.entries c.args.view.now c.args.fpr.now
+      c.args.amount c.set_amount.result c.set_amount.ensures.set c.set_amount.ensures.kept c.self.invariant.of_open;
 }

@@ -23,18 +23,18 @@ appended (Err e) rows old new line before mid after reply step same f = tt
 
 pub returns-then-long-clause-step : goal.returns-then-long-clause-step
 returns-then-long-clause-step g c =
-    appended c.print_reply.result (rows_of c.args.policy.now) (state_of c.args.self.now) (state_of c.args.self.now) c.args.line.now
+    appended c.print_reply.result (rows_of c.args.policy.now) (state_of c.args.self.now.engine) (state_of c.args.self.now.engine) c.args.line.now
     c.args.out.now.items c.reserve.new.self.items c.print_reply.new.out.items replies.Long
-    (too_long (rows_of c.args.policy.now) (state_of c.args.self.now) c.args.line.now c.if-long.true)
+    (too_long (rows_of c.args.policy.now) (state_of c.args.self.now.engine) c.args.line.now c.if-long.true)
     c.reserve.ensures.items c.print_reply.ensures.appended
 
 pub returns-clause-step : goal.returns-clause-step
 returns-clause-step g c =
-    let answers : Answers (rows_of c.args.policy.now) (state_of c.args.self.now) (command_of c.args.line.now) c.in_ok-reply.reply (state_of c.answer.new.engine) =
+    let answers : Answers (rows_of c.args.policy.now) (state_of c.args.self.now.engine) (command_of c.args.line.now) c.in_ok-reply.reply (state_of c.answer.new.engine) =
     search rules in
     let heard : is_silent c.args.line.now ≡ false = search rules in
-    appended c.print_reply-2.result (rows_of c.args.policy.now) (state_of c.args.self.now) (state_of c.answer.new.engine) c.args.line.now
+    appended c.print_reply-2.result (rows_of c.args.policy.now) (state_of c.args.self.now.engine) (state_of c.answer.new.engine) c.args.line.now
     c.args.out.now.items c.reserve.new.self.items c.print_reply-2.new.out.items c.in_ok-reply.reply
-    (looked_at (rows_of c.args.policy.now) (state_of c.args.self.now) c.args.line.now c.in_ok-reply.reply (state_of c.answer.new.engine)
+    (looked_at (rows_of c.args.policy.now) (state_of c.args.self.now.engine) c.args.line.now c.in_ok-reply.reply (state_of c.answer.new.engine)
     c.if-long.false heard answers)
     c.reserve.ensures.items c.print_reply-2.ensures.appended

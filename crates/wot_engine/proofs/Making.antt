@@ -1,0 +1,163 @@
+-- What a line makes, whatever comes of it: the bounds stand as soon as the view was refreshed.
+use Rattle.std.proofs.Common.{◌≡◌, ℕ, ◌<◌, ◌≤◌, Bool, List, length, true, false, Option, Some, None, Result, Ok, Err, OnOk, refl, sym, ap, subst, ◌∙◌, arith}
+use Rattle.std.specs.Prelude.{IfSome, if◌then◌else◌, is_ok, nat_lt}
+use Rattle.std.proofs.lemmas.Bool.{lt-ltb, le-ltb}
+use Rattle.wot_keyring.specs.Held.{held_of}
+use Rattle.wot_keyring.specs.Keyring.{Keyring}
+use Rattle.wot_network.specs.Net.{Marks}
+use Rattle.wot_script.specs.declared.command.Command.{Command}
+use Rattle.wot_script.specs.declared.command.Command.TheVariants.{Import, Remove, Good, Bad, Unjudge, Time, Root, Close, Ask, Explain, Pending, Keys, Export, Dump}
+use Rattle.wot_cache.specs.declared.view.View.{View}
+use Rattle.wot_cache.specs.Marks.{IsMadeFor, IsRefreshed}
+use Rattle.wot_cache.specs.State.{Engine, StaysButMarks, marks_at, state_of}
+use Rattle.wot_cache.specs.Views.{view_at}
+use Rattle.wot_script.specs.Grammar.{command_of}
+use Rattle.wot_engine.specs.Lines.{is_silent, longest}
+use Rattle.wot_engine.specs.Made.{LineMakes, Makes, heard}
+
+pub same_state : (old new : Engine) → StaysButMarks old new → state_of new ≡ state_of old
+same_state old new s = λ i. record { held = held_of (s.keyring i); views = s.views i }
+
+pub stays : (old new : Engine) → new ≡ old → StaysButMarks old new
+stays old new same = record { keyring = ap (λ (e : Engine). e.keyring) same; views = ap (λ (e : Engine). e.views) same }
+
+-- ---- what was made for one result was made for another, which is Ok at most where that one is
+
+module _ {A B T E : Type 0} (r : Result A B) (s : Result T E) (less : is_ok s ≡ true → is_ok r ≡ true) where
+  on_less : (P : Type 0) → OnOk r P → OnOk s P
+  on_less P = by r s less
+    where
+      by : (r : Result A B) (s : Result T E) → (is_ok s ≡ true → is_ok r ≡ true) → OnOk r P → OnOk s P
+      by r (Err e) less p = tt
+      by (Ok a) (Ok b) less p = p
+      by (Err e) (Ok b) less p = let never : false ≡ true = less refl in absurd cc
+
+  made_as : (o : Option View) (k : Keyring) (old new : Marks) (before after : ℕ) → IfSome o (λ (v : View). IsMadeFor r k v.time old new before after)
+      → IfSome o (λ (v : View). IsMadeFor s k v.time old new before after)
+  made_as None k old new before after m = tt
+  made_as (Some v) k old new before after m = record {
+    marks = on_less _ m.marks;
+    stay = m.stay;
+    least = on_less _ m.least;
+    most = m.most;
+    never_less = m.never_less;
+  }
+
+  pub refreshed_as : (name : List ℕ) (old new : Engine) (before after : ℕ) → IsRefreshed r name old new before after → IsRefreshed s name old new before after
+  refreshed_as name old new before after d = record {
+    stays = d.stays;
+    made = made_as (view_at old.views name) old.keyring (marks_at old name) (marks_at new name) before after d.made;
+    others = d.others;
+    closed = d.closed;
+  }
+
+  makes_as : (command : Command) (old new : Engine) (before after : ℕ) → Makes r command old new before after → Makes s command old new before after
+  makes_as (Ask view target wanted uid) old new before after m = refreshed_as view old new before after m
+  makes_as (Command.List view wanted) old new before after m = refreshed_as view old new before after m
+  makes_as (Explain view fpr uid) old new before after m = refreshed_as view old new before after m
+  makes_as (Import octets) old new before after m = m
+  makes_as (Remove fpr) old new before after m = m
+  makes_as (Good number fpr) old new before after m = m
+  makes_as (Bad number) old new before after m = m
+  makes_as (Unjudge number) old new before after m = m
+  makes_as (Time view t) old new before after m = (m.0, on_less _ m.1)
+  makes_as (Root view fpr amount) old new before after m = m
+  makes_as (Close view) old new before after m = m
+  makes_as Pending old new before after m = m
+  makes_as Keys old new before after m = m
+  makes_as (Export fpr) old new before after m = m
+  makes_as Dump old new before after m = m
+
+  pub line_makes_as : (command : Option Command) (old new : Engine) (before after : ℕ) → LineMakes r command old new before after
+      → LineMakes s command old new before after
+  line_makes_as None old new before after m = m
+  line_makes_as (Some command) old new before after m = makes_as command old new before after m
+
+-- where the view isn't open nothing is made, whatever is answered
+pub refreshed_unopened : {A B T E : Type 0} (r : Result A B) (s : Result T E) (name : List ℕ) (old new : Engine) (before after : ℕ)
+    → view_at old.views name ≡ None → IsRefreshed r name old new before after → IsRefreshed s name old new before after
+refreshed_unopened r s name old new before after none d = record {
+  stays = d.stays;
+  made = subst (λ (o : Option View). IfSome o (λ (v : View). IsMadeFor s old.keyring v.time (marks_at old name) (marks_at new name) before after)) (sym none) tt;
+  others = d.others;
+  closed = d.closed;
+}
+
+pub refreshed_fault : {A B T E : Type 0} (r : Result A B) (e : E) (name : List ℕ) (old new : Engine) (before after : ℕ)
+    → IsRefreshed r name old new before after → IsRefreshed {T = T} {E = E} (Err e) name old new before after
+refreshed_fault r e name old new before after d = refreshed_as r (Err e) (λ ok. absurd cc) name old new before after d
+
+-- ---- a line of which nothing was done yet
+
+module _ {T E : Type 0} (s : Result T E) (failed : is_ok s ≡ false) (engine : Engine) (made : ℕ) where
+  on_failed : (P : Type 0) → OnOk s P
+  on_failed P = by s failed
+    where
+      by : (s : Result T E) → is_ok s ≡ false → OnOk s P
+      by (Ok a) f = absurd cc
+      by (Err e) f = tt
+
+  refreshed_not : (name : List ℕ) → IsRefreshed s name engine engine made made
+  refreshed_not name = record {
+    stays = record { keyring = refl; views = refl };
+    made = by (view_at engine.views name);
+    others = λ other apart. refl;
+    closed = λ none. (refl, refl);
+  }
+    where
+      by : (o : Option View) → IfSome o (λ (v : View). IsMadeFor s engine.keyring v.time (marks_at engine name) (marks_at engine name) made made)
+      by None = tt
+      by (Some v) = record {
+        marks = on_failed _;
+        stay = λ fpr x there current. current;
+        least = on_failed _;
+        most = omega arith;
+        never_less = omega arith;
+      }
+
+  makes_not : (command : Command) → Makes s command engine engine made made
+  makes_not (Ask view target wanted uid) = refreshed_not view
+  makes_not (Command.List view wanted) = refreshed_not view
+  makes_not (Explain view fpr uid) = refreshed_not view
+  makes_not (Import octets) = (refl, refl)
+  makes_not (Remove fpr) = (refl, refl)
+  makes_not (Good number fpr) = (refl, refl)
+  makes_not (Bad number) = (refl, refl)
+  makes_not (Unjudge number) = (refl, refl)
+  makes_not (Time view t) = ((refl, refl), on_failed _)
+  makes_not (Root view fpr amount) = (refl, refl)
+  makes_not (Close view) = (refl, λ other apart. refl)
+  makes_not Pending = (refl, refl)
+  makes_not Keys = (refl, refl)
+  makes_not (Export fpr) = (refl, refl)
+  makes_not Dump = (refl, refl)
+
+  pub line_makes_not : (command : Option Command) → LineMakes s command engine engine made made
+  line_makes_not None = (refl, refl)
+  line_makes_not (Some command) = makes_not command
+
+-- ---- which lines are heard
+
+pub heard_long : (line : List ℕ) → longest < length line → heard line ≡ None
+heard_long line long = ap (λ (b : Bool). if b then None else if is_silent line then None else command_of line) (lt-ltb longest (length line) long)
+
+pub heard_silent : (line : List ℕ) → is_silent line ≡ true → heard line ≡ None
+heard_silent line silent = by (nat_lt longest (length line))
+  where
+    by : (b : Bool) → (if b then None else if is_silent line then None else command_of line) ≡ None
+    by true = refl
+    by false = ap (λ (b : Bool). if b then None else command_of line) silent
+
+heard_read : (line : List ℕ) → length line ≤ longest → is_silent line ≡ false → heard line ≡ command_of line
+heard_read line short loud =
+    ap (λ (b : Bool). if b then None else if is_silent line then None else command_of line) (le-ltb longest (length line) short)
+    ∙ ap (λ (b : Bool). if b then None else command_of line) loud
+
+module _ {T E : Type 0} (s : Result T E) (line : List ℕ) where
+  pub makes_unheard : (engine : Engine) (made : ℕ) → heard line ≡ None → LineMakes s (heard line) engine engine made made
+  makes_unheard engine made none = subst (λ (o : Option Command). LineMakes s o engine engine made made) (sym none) (refl, refl)
+
+  pub makes_heard : (old new : Engine) (before after : ℕ) → length line ≤ longest → is_silent line ≡ false → LineMakes s (command_of line) old new before after
+      → LineMakes s (heard line) old new before after
+  makes_heard old new before after short loud m =
+      subst (λ (o : Option Command). LineMakes s o old new before after) (sym (heard_read line short loud)) m

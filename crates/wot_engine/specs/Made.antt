@@ -1,0 +1,32 @@
+-- How many edges a line makes, and whose marks it leaves. No reply depends on either.
+use Rattle.std.specs.Prelude.{◌≡◌, ℕ, nat_lt, if◌then◌else◌, List, [], length, Option, Some, None, Result, OnOk}
+use Rattle.wot_script.specs.declared.command.Command.{Command}
+use Rattle.wot_script.specs.declared.command.Command.TheVariants.{Ask, Explain, Time, Close}
+use Rattle.wot_script.specs.Grammar.{command_of}
+use Rattle.wot_cache.specs.State.{Engine, OtherMarksStay, marks_at}
+use Rattle.wot_cache.specs.Marks.{IsRefreshed}
+use Rattle.wot_cache.specs.Views.{view_at}
+use Rattle.wot_engine.specs.Lines.{longest, is_silent}
+
+-- No edge is made, and all marks stay.
+abbrev pub MakesNothing : Engine → Engine → ℕ → ℕ → Type 0
+MakesNothing old new before after = (after ≡ before) × (new.marks ≡ old.marks)
+
+-- What a command does to marks and to the count of edges made. A question makes edges of what is stale for its view, and of
+-- nothing where the view isn't open. A view that is opened has no marks.
+abbrev pub Makes : {T E : Type 0} → Result T E → Command → Engine → Engine → ℕ → ℕ → Type 0
+Makes result (Ask view target wanted uid) old new before after = IsRefreshed result view old new before after
+Makes result (Command.List view wanted) old new before after = IsRefreshed result view old new before after
+Makes result (Explain view fpr uid) old new before after = IsRefreshed result view old new before after
+Makes result (Time view t) old new before after = MakesNothing old new before after × OnOk result (view_at old.views view ≡ None → marks_at new view ≡ [])
+Makes result (Close view) old new before after = (after ≡ before) × OtherMarksStay view old new
+Makes result _ old new before after = MakesNothing old new before after
+
+-- the same of a line that is read as a command, or as none
+abbrev pub LineMakes : {T E : Type 0} → Result T E → Option Command → Engine → Engine → ℕ → ℕ → Type 0
+LineMakes result None old new before after = MakesNothing old new before after
+LineMakes result (Some command) old new before after = Makes result command old new before after
+
+-- the command of a line that is neither too long nor silent
+abbrev pub heard : List ℕ → Option Command
+heard line = if nat_lt longest (length line) then None else if is_silent line then None else command_of line
