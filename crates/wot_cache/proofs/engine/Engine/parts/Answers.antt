@@ -24,9 +24,13 @@ returns c =
     let made = made_as (view_at c.self.inside.networked.views.entries name) (Ok tt) _ c.self.inside.networked.keyring
     (marks_in c.self.inside.networked.networks.entries name) (marks_in c.refresh.new.self.networks.entries name) c.args.steps.now.made c.refresh.new.steps.made
     (λ ok. refl) c.in_ok-refresh.ensures.made in (
-      (refl, λ engine. tt, left _ c.args.self.now c.self.inside.networked.keyring k c.self.inside.networked.views.entries views
-      c.self.inside.networked.networks.entries c.refresh.new.self.networks.entries name c.args.steps.now.made c.refresh.new.steps.made c.self.view_is
-      c.refresh.ensures.keyring c.refresh.ensures.views made c.refresh.ensures.others c.refresh.ensures.closed),
+      (
+        refl,
+        λ engine. tt,
+        left _ c.args.self.now c.self.inside.networked.keyring k c.self.inside.networked.views.entries views
+            c.self.inside.networked.networks.entries c.refresh.new.self.networks.entries name c.args.steps.now.made c.refresh.new.steps.made c.self.view_is
+            c.refresh.ensures.keyring c.refresh.ensures.views made c.refresh.ensures.others c.refresh.ensures.closed,
+      ),
       record {
         refreshed = tt;
         parts = seen;
@@ -48,9 +52,13 @@ returns-in_err-refresh c =
     c.self.inside.networked.keyring (marks_in c.self.inside.networked.networks.entries c.args.view.now)
     (marks_in c.refresh.new.self.networks.entries c.args.view.now) c.args.steps.now.made c.refresh.new.steps.made
     (err_less c.refresh.result c.from_residual.result p.0 p.1) c.refresh.ensures.made in (
-      (refl, λ engine. tt, left c.from_residual.result c.args.self.now c.self.inside.networked.keyring c.refresh.new.self.keyring c.self.inside.networked.views.entries
-    c.refresh.new.self.views.entries c.self.inside.networked.networks.entries c.refresh.new.self.networks.entries c.args.view.now c.args.steps.now.made
-    c.refresh.new.steps.made c.self.view_is c.refresh.ensures.keyring c.refresh.ensures.views made c.refresh.ensures.others c.refresh.ensures.closed),
+      (
+        refl,
+        λ engine. tt,
+        left c.from_residual.result c.args.self.now c.self.inside.networked.keyring c.refresh.new.self.keyring c.self.inside.networked.views.entries
+            c.refresh.new.self.views.entries c.self.inside.networked.networks.entries c.refresh.new.self.networks.entries c.args.view.now c.args.steps.now.made
+            c.refresh.new.steps.made c.self.view_is c.refresh.ensures.keyring c.refresh.ensures.views made c.refresh.ensures.others c.refresh.ensures.closed,
+      ),
       record {
         refreshed = tt;
         parts = if_err c.from_residual.result _ p.0 p.1;
