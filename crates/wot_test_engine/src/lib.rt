@@ -11,3 +11,5 @@ mod explain;
 mod keyring;
 #[cfg(test)]
 mod layers;
+#[cfg(test)]
+mod shelf;
