@@ -52,13 +52,13 @@ module _ (rows : PolicyRows) where
     pub octets_are : octets ≡ octets_of (listed reply)
 
   -- the line is known, and what it was given
-  turned_by : (origin : Option World) (world : World) (input before : List ℕ) (old : ReaderState) (left written : Option (List ℕ)) (shelf : Option World) (state : State) (new : ReaderState) (left' : Option (List ℕ)) (shelf' : Option World) (state' : State) (line : List ℕ) (entry : Option Name) (given : Answer) (reply : Option Reply) (octets : List ℕ)
+  turned_by : (origin : Option World) (world : World) (input before : List ℕ) (old : ReaderState) (left written : Option (List ℕ)) (shelf : Option World) (state : State) (new : ReaderState) (left' : Option (List ℕ)) (shelf' : Option World) (state' : State) (line : List ℕ) (entry : Option Name) (what : Answer) (reply : Option Reply) (octets : List ℕ)
       → IsUnread origin input → (s : Stands rows origin world input before old.held old.taken left written shelf state) → GivesOf old.held s.rest old.taken new.held left' new.taken line
-      → entry_in line ≡ entry → WasGiven entry shelf given → IsWorldAfter entry shelf shelf' → LineStep rows state line given reply state' → octets ≡ octets_of (listed reply)
+      → entry_in line ≡ entry → WasGiven entry shelf what → IsWorldAfter entry shelf shelf' → LineStep rows state line what reply state' → octets ≡ octets_of (listed reply)
       → Turned origin world input before new.held new.taken left' written octets shelf' state'
-  turned_by origin world input before old left written shelf state new left' shelf' state' line entry given reply octets unread s g e asked after does same =
+  turned_by origin world input before old left written shelf state new left' shelf' state' line entry what reply octets unread s g e asked after does same =
       let next = comes_next rows origin world input before old.held old.taken left written shelf state new.held new.taken left' line s g in
-      let went = goes rows origin shelf shelf' s.now state state' line entry given reply e (may_read origin input s.done line next.0 next.1 unread) s.is_now asked after does in
+      let went = goes rows origin shelf shelf' s.now state state' line entry what reply e (may_read origin input s.done line next.0 next.1 unread) s.is_now asked after does in
       record {
         held = old.held;
         taken = old.taken;
