@@ -2,7 +2,7 @@ use Rattle.wot_policy.specs.Kept.{rows_of}
 use Rattle.wot_keyring.specs.Import.{importing}
 use Rattle.wot_cache.proofs.Changes.{held_state}
 use Rattle.wot_cache.proofs.Inside.{engine_on}
-use Rattle.wot_cache.proofs.engine.load.Engine.load.Goals as goal
+use Rattle.wot_cache.proofs.engine.Engine.load.Goals as goal
 
 pub returns-clause-state : goal.returns-clause-state
 returns-clause-state g c =
