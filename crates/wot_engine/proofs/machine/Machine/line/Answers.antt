@@ -1,4 +1,4 @@
-use Rattle.std.proofs.Common.{rules, ◌≡◌, ◌++◌, ℕ, List, false, refl, sym, ap}
+use Rattle.std.proofs.Common.{rules, ◌≡◌, false, None, refl}
 use Rattle.wot_policy.specs.Kept.{rows_of}
 use Rattle.wot_script.specs.declared.reply.Reply.TheVariants as replies
 use Rattle.wot_script.specs.Grammar.{command_of}
