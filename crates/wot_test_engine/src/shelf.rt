@@ -5,7 +5,8 @@ use wot_certd::{Given, MemoryShelf, Shelf};
 use wot_types::{Fpr, Name};
 
 /// A certificate from the field, with its one key packet, and its fingerprint.
-const FIELD: &[u8] = b"c6330453f35f0b16092b06010401da470f010107403f098994bdd916ed4053197934e4a87c80733a1280d62f8010992e43ee3b2406";
+const FIELD: &[u8] =
+    b"c6330453f35f0b16092b06010401da470f010107403f098994bdd916ed4053197934e4a87c80733a1280d62f8010992e43ee3b2406";
 
 const FIELD_FPR: &[u8] = b"c959bdbafa32a2f89a153b678cfde12197965a9a";
 
@@ -81,11 +82,19 @@ key c959bdbafa32a2f89a153b678cfde12197965a9a 0 0
 ",
     ),
     // Any one certificate may be the trust root.
-    (&[(b"", R_KEY)], &[], b"load trust-root\nload trust-root \nload Trust-root\nload \nload\n",
-        b"ok taken 1 skipped 0 new 1\nrefused line\nrefused line\nrefused line\nrefused line\n"),
+    (
+        &[(b"", R_KEY)],
+        &[],
+        b"load trust-root\nload trust-root \nload Trust-root\nload \nload\n",
+        b"ok taken 1 skipped 0 new 1\nrefused line\nrefused line\nrefused line\nrefused line\n",
+    ),
     // Faults of packets and of assembly come before `misfiled`, which is two certificates, or a skipped one beside one.
     (
-        &[(b"", b"c60704000003e81b01c60704000003e81b02"), (T_FPR, b"c8"), (FIELD_FPR, b"cd0174")],
+        &[
+            (b"", b"c60704000003e81b01c60704000003e81b02"),
+            (T_FPR, b"c8"),
+            (FIELD_FPR, b"cd0174"),
+        ],
         &[],
         b"load trust-root
 load 3c98b8180e0fcaca1032499082a5de8fa5d98232
@@ -94,7 +103,11 @@ load c959bdbafa32a2f89a153b678cfde12197965a9a
         b"refused misfiled\nrefused packet 2 0\nrefused order 0\n",
     ),
     (
-        &[(b"", b"c60704000003e81b01c60603000003e801"), (T_FPR, b""), (FIELD_FPR, b"c60603000003e801")],
+        &[
+            (b"", b"c60704000003e81b01c60603000003e801"),
+            (T_FPR, b""),
+            (FIELD_FPR, b"c60603000003e801"),
+        ],
         &[],
         b"load trust-root
 load 3c98b8180e0fcaca1032499082a5de8fa5d98232
@@ -115,10 +128,17 @@ fn entries_are_loaded(rt: HostRuntime) -> Result<(), Fail> {
 
     // An entry that is replaced is loaded as it stands then. One of 8,388,609 octets is too long.
     let mut shelf = shelf_of(alloc, &[(b"", R_KEY)], &[])?;
-    assert!(rt; shelf.replace(&Name::TrustRoot, &hex::decode(alloc, A_KEY)?).is_ok());
+    assert!(rt;
+        shelf
+            .replace(&Name::TrustRoot, &hex::decode(alloc, A_KEY)?)
+            .is_ok()
+    );
     let script = b"load trust-root\nexport 7f35c8dbd6b3eb2ffd59cbdd2e41ea291212ac38\n";
     let replies = b"ok taken 1 skipped 0 new 1\nrefused absent\n";
-    assert_eq!(rt; written(alloc, script, &mut shelf)?.as_slice(), replies.as_slice());
+    assert_eq!(rt;
+        written(alloc, script, &mut shelf)?.as_slice(),
+        replies.as_slice()
+    );
     shelf.put(Name::TrustRoot, vec![in alloc; 0xc6; 8_388_609]?)?;
     assert!(rt; matches!(shelf.read(&Name::TrustRoot), Ok(Given::Long)));
     let told = written(alloc, b"load trust-root\n", &mut shelf)?;
