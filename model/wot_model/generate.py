@@ -5,6 +5,7 @@ import random
 from .certificates import ATTRIBUTE, KEY, SIGNATURE, SUBKEY, USER_ID, fingerprint, is_readable_key, number_of, PLACES
 from .packets import shortest_length, write_packet
 from .script import LONGEST_LINE, print_user_id
+from .shelf import LONGEST_ENTRY, TRUST_ROOT
 
 USER_IDS = [
     b"", b"a", b"Ann <ann@example.org>", b"Ben <ben@example.org>", b"Cid <cid@example.org.net>", b"d\\e",
@@ -41,6 +42,7 @@ class Generator:
         self.views = [b"p", b"q", b"-_9z"]
         self.moments = [0, 1, 5000, 6000, FEBRUARY_2013, 4294967295]
         self.lines = []
+        self.entries = {}
 
     def chance(self, share):
         return self.random.random() < share
@@ -220,6 +222,29 @@ class Generator:
             good + good, write_packet(KEY, b"\4\0\0\3\xe8"), self.damage(good), self.damage(good),
         ])
 
+    # The certificate directory.
+
+    def make_entries(self):
+        for key in self.keys:
+            if self.chance(0.7):
+                self.entries[key.name] = self.entry(key)
+        if self.chance(0.5):
+            self.entries[TRUST_ROOT] = self.entry(self.pick(self.keys))
+        if self.chance(0.01):
+            longest = self.certificate(self.keys[0], 1)
+            self.entries[TRUST_ROOT] = longest + bytes(LONGEST_ENTRY + self.pick([0, 1]) - len(longest))
+
+    def entry(self, key):
+        if not self.is_odd():
+            return self.certificate(key, self.pick([0.5, 1]))
+        other = self.pick(self.keys)
+        return self.pick([self.certificate(other, 0.5), self.odd_octets(), self.odd_octets()])
+
+    def load_line(self):
+        if self.chance(0.15):
+            return b"load trust-root"
+        return self.words(b"load", self.digits(self.name()))
+
     # Lines.
 
     def digits(self, octets):
@@ -300,12 +325,12 @@ class Generator:
     def odd_line(self):
         """A line that is silent or malformed, or nearly so."""
         asked = [self.ask_line, self.list_line, self.explain_line]
-        line = self.pick([*asked, self.time_line, self.root_line, self.any_verdict_line, lambda: b"keys"])()
+        line = self.pick([*asked, self.time_line, self.root_line, self.any_verdict_line, self.load_line, lambda: b"keys"])()
         at = self.random.randrange(len(line) + 1)
         return self.pick([
             b"", b"# comment", b"#", b" ", b"\r", b"keys\r", b"#\r", b" #", b"lists", b"pending ", b"list p 01",
             b"list p 0", b"view p time 05", b"view p time +5", b"view p time 4294967296", b"view p time 42949672950",
-            b"import", b"import ", b"import c", b"import 0g", b"dump ", b"export", b"view " + b"a" * 33 + b" time 1",
+            b"import", b"import ", b"import c", b"import 0g", b"load", b"load ", b"load trust-root ", b"load Trust-root", b"dump ", b"export", b"view " + b"a" * 33 + b" time 1",
             b"view  time 1", b"view P time 1",
             b"\xff\0", line + b" ", b" " + line, line + b"\r", line[:at], line[:at] + b" " + line[at:],
             line[:at] + line[at + 1 :], line.replace(b" ", b"  ", 1), line.upper(), line.replace(b" ", b"\t", 1),
@@ -323,6 +348,7 @@ class Generator:
             (6, self.root_line),
             (10, self.any_verdict_line),
             (4, lambda: self.import_line(self.certificate(key, 0.5))),
+            (4, self.load_line),
             (2, lambda: self.words(b"drop", self.digits(self.name()))),
             (2, lambda: self.words(b"export", self.digits(self.name()))),
             (2, lambda: b"keys"),
@@ -337,7 +363,9 @@ class Generator:
         """Views with roots, certificates and verdicts, in any order."""
         lines = []
         for key in self.keys:
-            if self.chance(0.95):
+            if key.name in self.entries and self.chance(0.3):
+                lines.append(self.words(b"load", self.digits(key.name)))
+            elif self.chance(0.95):
                 lines.append(self.import_line(self.certificate(key, 1)))
             else:
                 lines += [self.import_line(self.certificate(key, 0.6)) for _ in range(2)]
@@ -373,6 +401,7 @@ class Generator:
 
     def script(self):
         self.make_world()
+        self.make_entries()
         lines = self.build_up() + [self.event() for _ in range(self.pick([20, 60, 60, 120]))]
         lines += self.at_limits() + [self.event() for _ in range(10)]
         for line in (self.ask_line(), self.ask_line(), b"keys", b"dump"):
@@ -390,5 +419,6 @@ def share(shape, issuer, target, count):
 
 
 def script(seed):
-    """The script of a seed, as octets."""
-    return Generator(seed).script()
+    """The script of a seed, as octets, and the entries of its certificate directory."""
+    generator = Generator(seed)
+    return generator.script(), generator.entries

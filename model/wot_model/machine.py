@@ -6,6 +6,7 @@ from .certificates import CertificateFault, assemble
 from .edges import Network
 from .packets import PacketFault, read_packets
 from .reasons import Certification, certifications, target_word
+from .shelf import LONGEST_ENTRY, TRUST_ROOT, MemoryShelf, ShelfFailed
 from .signatures import key_id_hint, read_signature
 from .standing import BAD
 
@@ -37,14 +38,15 @@ class View:
 
 
 class Machine:
-    """The state. `next_path` is the search that questions use."""
+    """The state. `next_path` is the search that questions use; `shelf` is where `load` reads."""
 
-    def __init__(self, next_path=next_path_by_layers, limits=LIMITS):
+    def __init__(self, next_path=next_path_by_layers, limits=LIMITS, shelf=None):
         self.certificates = {}
         self.verdicts = {}
         self.views = {}
         self.next_path = next_path
         self.limits = limits
+        self.shelf = shelf or MemoryShelf()
 
     def line(self, line):
         """One step: the lines of the reply, as text; none for a silent line."""
@@ -57,6 +59,8 @@ class Machine:
             return COMMANDS[form](self, *values)
         except script.Malformed:
             return ["refused line"]
+        except ShelfFailed:
+            return ["fault shelf"]
         except Refused as refusal:
             return [words("refused", *refusal.words)]
 
@@ -79,13 +83,33 @@ def words(*parts):
     return " ".join(part.hex() if isinstance(part, bytes) else str(part) for part in parts)
 
 
-def import_(machine, octets):
+def read_certificates(octets):
+    """The certificates of these octets, and how many keys were skipped."""
     try:
-        certificates, skipped = assemble(read_packets(octets))
+        return assemble(read_packets(octets))
     except PacketFault as fault:
         raise Refused("packet", fault.why, fault.at) from None
     except CertificateFault as fault:
         raise Refused(*fault.words) from None
+
+
+def import_(machine, octets):
+    return take(machine, *read_certificates(octets))
+
+
+def load(machine, name):
+    octets = machine.shelf.read(name)
+    if octets is None:
+        raise Refused("absent")
+    if len(octets) > LONGEST_ENTRY:
+        raise Refused("long")
+    certificates, skipped = read_certificates(octets)
+    if len(certificates) != 1 or skipped or name not in (TRUST_ROOT, certificates[0].fingerprint):
+        raise Refused("misfiled")
+    return take(machine, certificates, skipped)
+
+
+def take(machine, certificates, skipped):
     united, fresh = unite(machine.certificates, certificates)
     if fresh:
         check_keyring(machine, {**machine.certificates, **united})
@@ -255,6 +279,7 @@ def dump(machine):
 # A command is added here: the form of its line, and what it comes to.
 COMMANDS = {
     "import HEX": import_,
+    "load NAME": load,
     "drop FPR": drop,
     "verdict NUM good FPR": set_verdict,
     "verdict NUM bad": set_bad,

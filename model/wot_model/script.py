@@ -2,6 +2,8 @@
 
 import re
 
+from .shelf import TRUST_ROOT
+
 LONGEST_LINE = 16777216
 GREATEST = 4294967295
 
@@ -39,6 +41,10 @@ def read_hex(text):
 def read_fingerprint(text):
     require(len(text) == 40)
     return read_hex(text)
+
+
+def read_name(text):
+    return TRUST_ROOT if text == TRUST_ROOT.encode() else read_fingerprint(text)
 
 
 def read_number(text):
@@ -91,6 +97,7 @@ def print_octet(octet):
 FIELDS = {
     "HEX": read_hex,
     "FPR": read_fingerprint,
+    "NAME": read_name,
     "NUM": read_number,
     "V": read_view_name,
     "T": read_time,

@@ -18,7 +18,7 @@ use Rattle.wot_types.specs.Fpr.{fpr_cmp, octets_of}
 use Rattle.wot_types.specs.ViewName.{view_name_cmp}
 use Rattle.wot_policy.specs.declared.rows.PolicyRows.{PolicyRows}
 use Rattle.wot_script.specs.declared.command.Command.{Command}
-use Rattle.wot_script.specs.declared.command.Command.TheVariants.{Import, Remove, Good, Bad, Unjudge, Time, Root, Close, Ask, Explain, Pending, Keys, Export, Dump}
+use Rattle.wot_script.specs.declared.command.Command.TheVariants.{Import, Load, Remove, Good, Bad, Unjudge, Time, Root, Close, Ask, Explain, Pending, Keys, Export, Dump}
 use Rattle.wot_keyring.specs.Dump as keyrings
 use Rattle.wot_keyring.specs.Dump.{after_all, judged_by}
 use Rattle.wot_keyring.specs.Held.{Held, held_of, nothing}
@@ -45,6 +45,7 @@ one_over : (rows : PolicyRows) (l : Limits) (views : Views) (command : Command) 
 one_over rows l views (Import octets) held new e = ap (over_some views) e
 one_over rows l views (Good number fpr) held new e = ap (over_some views) e
 one_over rows l views (Bad number) held new e = ap (over_some views) e
+one_over rows l views (Load name) held new e = cc e
 one_over rows l views (Remove fpr) held new e = cc e
 one_over rows l views (Unjudge number) held new e = cc e
 one_over rows l views (Time view t) held new e = cc e

@@ -24,6 +24,8 @@ ghost use Rattle.wot_cache.specs.Question.{AreWithinRoots, IsLocalTo, IsOnlyAnsw
 ghost use Rattle.wot_cache.specs.State.{empty, marks_at, state_of, IsStateAfter, OtherMarksStay};
 ghost use Rattle.wot_cache.specs.Views.{view_at, with_time, time_fault, with_root, root_fault, without_view, TellsFault, TellsOpen};
 
+mod load;
+
 use crate::ask::answer;
 use crate::dump::put_engine;
 use crate::parts::Parts;

@@ -5,7 +5,7 @@ use Rattle.wot_types.specs.declared.fpr.Fpr.{Fpr}
 use Rattle.wot_policy.specs.declared.rows.PolicyRows.{PolicyRows}
 use Rattle.wot_verdict.specs.Verdicts as verdicts
 use Rattle.wot_script.specs.declared.command.Command.{Command}
-use Rattle.wot_script.specs.declared.command.Command.TheVariants.{Import, Remove, Good, Bad, Unjudge, Time, Root, Close, Ask, Explain, Pending, Keys, Export, Dump}
+use Rattle.wot_script.specs.declared.command.Command.TheVariants.{Import, Load, Remove, Good, Bad, Unjudge, Time, Root, Close, Ask, Explain, Pending, Keys, Export, Dump}
 use Rattle.wot_script.specs.declared.reply.Reply.{Reply}
 use Rattle.wot_script.specs.declared.reply.Reply.TheVariants as replies
 use Rattle.wot_script.specs.Grammar.{command_of}
@@ -15,7 +15,8 @@ use Rattle.wot_keyring.specs.Keyring.{Certificates}
 use Rattle.wot_keyring.specs.Dump.{judged_anew, judged_by}
 use Rattle.wot_keyring.specs.Held.{Held}
 use Rattle.wot_cache.specs.declared.view.View.{View}
-use Rattle.wot_cache.specs.State.{State, start}
+use Rattle.wot_certd.specs.World.{Answer, World}
+use Rattle.wot_cache.specs.State.{State}
 use Rattle.wot_cache.specs.Views.{view_at}
 use Rattle.wot_engine.specs.Answer.{Asks}
 use Rattle.wot_engine.specs.Depends.{AsksFrom, bare, IsAsk}
@@ -26,6 +27,7 @@ use Rattle.wot_engine.specs.Listing.{Lists, explained_from}
 use Rattle.wot_engine.specs.LineStep.{LineStep, HasReply, Answers, Does, Gives}
 use Rattle.wot_engine.proofs.Named.{AreNamed, named_all, named_without}
 use Rattle.wot_engine.proofs.Stays.{run_stays}
+use Rattle.wot_engine.specs.Scene.{Scene, opening}
 use Rattle.wot_engine.specs.Transcript.{Run}
 
 -- ---- marks
@@ -63,65 +65,66 @@ alike P one other name c v w asks =
     (subst (λ (certs : Certificates). P (held_alone certs one.held.verdicts) (view_at one.views name)) c asks))
 
 -- The views are no part of what decides a reply but the one that asks.
-does_alike : (rows : PolicyRows) (one other : State) (name : List ℕ) (command : Command) (reply : Reply) (new : State) → one.held.certs ≡ other.held.certs
+does_alike : (rows : PolicyRows) (one other : State) (name : List ℕ) (command : Command) (given told : Answer) (reply : Reply) (new : State) → one.held.certs ≡ other.held.certs
     → one.held.verdicts ≡ other.held.verdicts → view_at one.views name ≡ view_at other.views name → AsksFrom name command
-    → Does rows one command reply new → Does rows other command reply other
-does_alike rows one other name (Ask view target wanted uid) reply new c v w a does =
+    → Does rows one command given reply new → Does rows other command told reply other
+does_alike rows one other name (Ask view target wanted uid) given told reply new c v w a does =
     let W : view_at one.views view ≡ view_at other.views view = subst (λ (n : List ℕ). view_at one.views n ≡ view_at other.views n) (sym a) w in
     (alike (λ s shown. Asks s shown target wanted uid reply) one other view c v W does.0, refl)
-does_alike rows one other name (Command.List view wanted) reply new c v w a does =
+does_alike rows one other name (Command.List view wanted) given told reply new c v w a does =
     let W : view_at one.views view ≡ view_at other.views view = subst (λ (n : List ℕ). view_at one.views n ≡ view_at other.views n) (sym a) w in
     (alike (λ s shown. Lists s shown wanted reply) one other view c v W does.0, refl)
-does_alike rows one other name (Explain view fpr uid) reply new c v w a does =
+does_alike rows one other name (Explain view fpr uid) given told reply new c v w a does =
     let W : view_at one.views view ≡ view_at other.views view = subst (λ (n : List ℕ). view_at one.views n ≡ view_at other.views n) (sym a) w in
     (alike (λ s shown. reply ≡ explained_from s shown fpr uid) one other view c v W does.0, refl)
-does_alike rows one other name (Import octets) reply new c v w a does = absurd a
-does_alike rows one other name (Remove fpr) reply new c v w a does = absurd a
-does_alike rows one other name (Good number fpr) reply new c v w a does = absurd a
-does_alike rows one other name (Bad number) reply new c v w a does = absurd a
-does_alike rows one other name (Unjudge number) reply new c v w a does = absurd a
-does_alike rows one other name (Time view t) reply new c v w a does = absurd a
-does_alike rows one other name (Root view fpr amount) reply new c v w a does = absurd a
-does_alike rows one other name (Close view) reply new c v w a does = absurd a
-does_alike rows one other name Pending reply new c v w a does = absurd a
-does_alike rows one other name Keys reply new c v w a does = absurd a
-does_alike rows one other name (Export fpr) reply new c v w a does = absurd a
-does_alike rows one other name Dump reply new c v w a does = absurd a
+does_alike rows one other name (Import octets) given told reply new c v w a does = absurd a
+does_alike rows one other name (Load entry) given told reply new c v w a does = absurd a
+does_alike rows one other name (Remove fpr) given told reply new c v w a does = absurd a
+does_alike rows one other name (Good number fpr) given told reply new c v w a does = absurd a
+does_alike rows one other name (Bad number) given told reply new c v w a does = absurd a
+does_alike rows one other name (Unjudge number) given told reply new c v w a does = absurd a
+does_alike rows one other name (Time view t) given told reply new c v w a does = absurd a
+does_alike rows one other name (Root view fpr amount) given told reply new c v w a does = absurd a
+does_alike rows one other name (Close view) given told reply new c v w a does = absurd a
+does_alike rows one other name Pending given told reply new c v w a does = absurd a
+does_alike rows one other name Keys given told reply new c v w a does = absurd a
+does_alike rows one other name (Export fpr) given told reply new c v w a does = absurd a
+does_alike rows one other name Dump given told reply new c v w a does = absurd a
 
 -- A step of a question in the one state is one in the other.
-pub step_alike : (rows : PolicyRows) (one other : State) (name line : List ℕ) (reply : Option Reply) (new : State) → one.held.certs ≡ other.held.certs
+pub step_alike : (rows : PolicyRows) (one other : State) (name line : List ℕ) (given told : Answer) (reply : Option Reply) (new : State) → one.held.certs ≡ other.held.certs
     → one.held.verdicts ≡ other.held.verdicts → view_at one.views name ≡ view_at other.views name → IsAsk name line
-    → LineStep rows one line reply new → LineStep rows other line reply other
-step_alike rows one other name line reply new c v w ask step = long (nat_lt longest (length line)) step
+    → LineStep rows one line given reply new → LineStep rows other line told reply other
+step_alike rows one other name line given told reply new c v w ask step = long (nat_lt longest (length line)) step
   where
-    answers : (o : Option Command) → o ≡ Some ask.command → (r : Option Reply) → HasReply (Answers rows one o) r new → HasReply (Answers rows other o) r other
+    answers : (o : Option Command) → o ≡ Some ask.command → (r : Option Reply) → HasReply (Answers rows one o given) r new → HasReply (Answers rows other o told) r other
     answers o e None s = absurd s
     answers o e (Some r) s =
-        let Told : Option Command → Type 0 = λ o. Answers rows other o r other in
-        let s' : Does rows one ask.command r new = subst (λ (o : Option Command). Answers rows one o r new) e s in
-        subst Told (sym e) (does_alike rows one other name ask.command r new c v w ask.asks s')
+        let Told : Option Command → Type 0 = λ o. Answers rows other o told r other in
+        let s' : Does rows one ask.command given r new = subst (λ (o : Option Command). Answers rows one o given r new) e s in
+        subst Told (sym e) (does_alike rows one other name ask.command given told r new c v w ask.asks s')
 
     refused : (r : Option Reply) → HasReply (Gives (only one replies.Long)) r new → HasReply (Gives (only other replies.Long)) r other
     refused None g = absurd g
     refused (Some r) g = (g.0, refl)
 
-    silent : (b : Bool) → MatchBool b ((reply ≡ None) × (new ≡ one)) (HasReply (Answers rows one (command_of line)) reply new)
-        → MatchBool b ((reply ≡ None) × (other ≡ other)) (HasReply (Answers rows other (command_of line)) reply other)
+    silent : (b : Bool) → MatchBool b ((reply ≡ None) × (new ≡ one)) (HasReply (Answers rows one (command_of line) given) reply new)
+        → MatchBool b ((reply ≡ None) × (other ≡ other)) (HasReply (Answers rows other (command_of line) told) reply other)
     silent true g = (g.0, refl)
     silent false g = answers (command_of line) ask.read reply g
 
     long : (b : Bool)
-        → MatchBool b (HasReply (Gives (only one replies.Long)) reply new) (MatchBool (is_silent line) ((reply ≡ None) × (new ≡ one)) (HasReply (Answers rows one (command_of line)) reply new))
-        → MatchBool b (HasReply (Gives (only other replies.Long)) reply other) (MatchBool (is_silent line) ((reply ≡ None) × (other ≡ other)) (HasReply (Answers rows other (command_of line)) reply other))
+        → MatchBool b (HasReply (Gives (only one replies.Long)) reply new) (MatchBool (is_silent line) ((reply ≡ None) × (new ≡ one)) (HasReply (Answers rows one (command_of line) given) reply new))
+        → MatchBool b (HasReply (Gives (only other replies.Long)) reply other) (MatchBool (is_silent line) ((reply ≡ None) × (other ≡ other)) (HasReply (Answers rows other (command_of line) told) reply other))
     long true g = refused reply g
     long false g = silent (is_silent line) g
 
 -- What is reached can be.
-pub reached_can_be : (rows : PolicyRows) (lines : List (List ℕ)) (replies : List Reply) (s : State) → Run rows start lines replies s → AreNamed s.held.certs
-reached_can_be rows lines replies s run = run_stays rows AreNamed (named_all rows) named_without lines start replies s tt run
+pub reached_can_be : (rows : PolicyRows) (world : World) (lines : List (List ℕ)) (replies : List Reply) (s : Scene) → Run rows (opening world) lines replies s → AreNamed s.state.held.certs
+reached_can_be rows world lines replies s run = run_stays rows AreNamed (named_all rows) named_without lines (opening world) replies s tt run
 
 pub replied_alike : (rows : PolicyRows) → OneOutcome rows → (one other : State) (name line : List ℕ) → AreNamed other.held.certs → one.held.certs ≡ other.held.certs
-    → one.held.verdicts ≡ other.held.verdicts → view_at one.views name ≡ view_at other.views name → IsAsk name line
-    → (reply second : Option Reply) (new third : State) → LineStep rows one line reply new → LineStep rows other line second third → reply ≡ second
-replied_alike rows law one other name line can c v w ask reply second new third p q =
-    (law.one other line reply second other third can (step_alike rows one other name line reply new c v w ask p) q).0
+    → one.held.verdicts ≡ other.held.verdicts → view_at one.views name ≡ view_at other.views name → IsAsk name line → (given told : Answer)
+    → (reply second : Option Reply) (new third : State) → LineStep rows one line given reply new → LineStep rows other line told second third → reply ≡ second
+replied_alike rows law one other name line can c v w ask given told reply second new third p q =
+    (law.one other line told reply second other third can (step_alike rows one other name line given told reply new c v w ask p) q).0

@@ -12,7 +12,7 @@ use Rattle.wot_types.specs.Limits.{standard_limits}
 use Rattle.wot_io.specs.Input as inputs
 use Rattle.wot_policy.specs.declared.rows.PolicyRows.{PolicyRows}
 use Rattle.wot_script.specs.declared.command.Command.{Command}
-use Rattle.wot_script.specs.declared.command.Command.TheVariants.{Import, Remove, Good, Bad, Unjudge, Time, Root, Close, Ask, Explain, Pending, Keys, Export, Dump}
+use Rattle.wot_script.specs.declared.command.Command.TheVariants.{Import, Load, Remove, Good, Bad, Unjudge, Time, Root, Close, Ask, Explain, Pending, Keys, Export, Dump}
 use Rattle.wot_script.specs.declared.reply.Reply.{Reply}
 use Rattle.wot_script.specs.declared.reply.Reply.TheVariants as replies
 use Rattle.wot_script.specs.Replies.{is_refusal}
@@ -26,17 +26,21 @@ use Rattle.wot_keyring.specs.Dump.{AreLines, IsLine, after_all, command_line_of,
 use Rattle.wot_keyring.specs.Held.{Held, verdict_set}
 use Rattle.wot_keyring.specs.Import.{answer_to, importing}
 use Rattle.wot_keyring.specs.Verdict.{is_over}
+use Rattle.wot_certd.specs.World.{Answer, World}
 use Rattle.wot_cache.specs.declared.view.ViewFault.{ViewFault}
 use Rattle.wot_cache.specs.Views.{root_fault, time_fault, view_at}
 use Rattle.wot_cache.specs.State.{Engine, State, start, state_of, with_held, rooting, timing}
 use Rattle.wot_cache.specs.Dump.{CarriesOver, IsRestored, after, commands_of, unless_refused}
+use Rattle.wot_engine.specs.Entry.{entry_for, entry_in}
 use Rattle.wot_engine.specs.Lines.{is_silent}
 use Rattle.wot_engine.specs.Outcome.{Outcome, done, imports, set_verdict, only, unless}
-use Rattle.wot_engine.specs.LineStep.{Answers, Does, Gives, LineStep}
+use Rattle.wot_engine.specs.LineStep.{Answers, Does, Gives}
+use Rattle.wot_engine.specs.Scene.{Step}
 use Rattle.wot_engine.specs.Transcript.{Run}
 use Rattle.wot_engine.specs.Fresh.{IsMadeAnew, dumped}
 use Rattle.wot_engine.proofs.CutLines.{lines_of-feed}
-use Rattle.wot_engine.proofs.Stepping.{looked_at}
+use Rattle.wot_engine.proofs.Giving.{over, unread_step}
+use Rattle.wot_engine.proofs.Stepping.{entry_heard, looked_at}
 
 -- a reply that is no refusal
 record Takes (P : Reply → State → Type 0) (new : State) : Type 0 where
@@ -68,12 +72,13 @@ judged_so s number verdict new e =
     chosen (is_over standard_limits s.held.verdicts number) (only s (replies.Full words.Verdicts)) s new (verdict_set number verdict s.held) e
 
 -- a command that isn't refused does what the machine does
-accepted : (rows : PolicyRows) (command : Command) (s new : State) → after rows standard_limits command s ≡ Some new → Takes (Does rows s command) new
+accepted : (rows : PolicyRows) (command : Command) (s new : State) → after rows standard_limits command s ≡ Some new → Takes (Does rows s command Answer.absent) new
 accepted rows (Import octets) s new e = taken rows s octets (answer_to rows standard_limits s.held.certs octets) new e
 accepted rows (Good number fpr) s new e = judged_so s number (said.Good fpr) new e
 accepted rows (Bad number) s new e = judged_so s number said.Bad new e
 accepted rows (Time view t) s new e = allowed s (time_fault standard_limits s.views view) (timing view t s) new e
 accepted rows (Root view fpr amount) s new e = allowed s (root_fault standard_limits (view_at s.views view) fpr amount) (rooting view fpr amount s) new e
+accepted rows (Load name) s new e = absurd (cc e)
 accepted rows (Remove fpr) s new e = absurd (cc e)
 accepted rows (Unjudge number) s new e = absurd (cc e)
 accepted rows (Close view) s new e = absurd (cc e)
@@ -84,6 +89,25 @@ accepted rows Pending s new e = absurd (cc e)
 accepted rows Keys s new e = absurd (cc e)
 accepted rows (Export fpr) s new e = absurd (cc e)
 accepted rows Dump s new e = absurd (cc e)
+
+-- nor does it read an entry
+unread : (rows : PolicyRows) (command : Command) (s new : State) → after rows standard_limits command s ≡ Some new → entry_for (Some command) ≡ None
+unread rows (Load name) s new e = absurd (cc e)
+unread rows (Import octets) s new e = refl
+unread rows (Good number fpr) s new e = refl
+unread rows (Bad number) s new e = refl
+unread rows (Time view t) s new e = refl
+unread rows (Root view fpr amount) s new e = refl
+unread rows (Remove fpr) s new e = refl
+unread rows (Unjudge number) s new e = refl
+unread rows (Close view) s new e = refl
+unread rows (Ask view fpr wanted uid) s new e = refl
+unread rows (Command.List view wanted) s new e = refl
+unread rows (Explain view fpr uid) s new e = refl
+unread rows Pending s new e = refl
+unread rows Keys s new e = refl
+unread rows (Export fpr) s new e = refl
+unread rows Dump s new e = refl
 
 -- ---- lines
 
@@ -98,17 +122,20 @@ cut_lines (c ∷ commands) lines =
     ∙ lines_of-feed (spelling c) (lines_of commands) lines.0.no_feed
     ∙ ap (λ (rest : List (List ℕ)). spelling c ∷ rest) (cut_lines commands lines.1)
 
--- the step of a command's line
-stepped : (rows : PolicyRows) (c : Command) (s new : State) → IsLine c → (t : Takes (Does rows s c) new) → LineStep rows s (spelling c) (Some t.reply) new
-stepped rows c s new line t =
-    let Answered : Option Command → Type 0 = λ o. Answers rows s o t.reply new in
-    looked_at rows s (spelling c) t.reply new line.short (heard (spelling c) line.heard) (subst Answered (sym line.read) t.does)
+-- the step of a command's line, over a shelf of any world
+stepped : (rows : PolicyRows) (c : Command) (s new : State) → IsLine c → entry_for (Some c) ≡ None → (t : Takes (Does rows s c Answer.absent) new) → (world : World)
+    → Step rows (over s world) (spelling c) (Some t.reply) (over new world)
+stepped rows c s new line none t world =
+    let Answered : Option Command → Type 0 = λ o. Answers rows s o Answer.absent t.reply new in
+    let is_heard : is_silent (spelling c) ≡ false = heard (spelling c) line.heard in
+    unread_step rows world s new (spelling c) (Some t.reply) (entry_heard (spelling c) line.short is_heard ∙ ap entry_for line.read ∙ none)
+    (looked_at rows s (spelling c) Answer.absent t.reply new line.short is_heard (subst Answered (sym line.read) t.does))
 
 -- ---- runs
 
 record Runs (rows : PolicyRows) (s : State) (commands : List Command) (new : State) : Type 0 where
   replies_are : List Reply
-  run : Run rows s (map spelling commands) replies_are new
+  run : (world : World) → Run rows (over s world) (map spelling commands) replies_are (over new world)
   each : length replies_are ≡ length (map spelling commands)
   well : AllByRecursion (λ reply. is_refusal reply ≡ false) replies_are
 
@@ -121,11 +148,11 @@ further : (rows : PolicyRows) (c : Command) (commands : List Command) (s new : S
     → (o : Option State) → after rows standard_limits c s ≡ o → after_all (after rows standard_limits) commands o ≡ Some new → Runs rows s (c ∷ commands) new
 further rows c commands s new line rest None was e = let none = refused_stays rows standard_limits commands in absurd (cc (none, e))
 further rows c commands s new line rest (Some mid) was e =
-    let t : Takes (Does rows s c) mid = accepted rows c s mid was in
+    let t : Takes (Does rows s c Answer.absent) mid = accepted rows c s mid was in
     let more : Runs rows mid commands new = rest mid e in
     record {
       replies_are = t.reply ∷ more.replies_are;
-      run = (Some t.reply, mid, more.replies_are, stepped rows c s mid line t, more.run, refl);
+      run = λ world. (Some t.reply, over mid world, more.replies_are, stepped rows c s mid line (unread rows c s mid was) t world, more.run world, refl);
       each = ap suc more.each;
       well = (t.well, more.well);
     }
@@ -134,7 +161,7 @@ runs : (rows : PolicyRows) (commands : List Command) (s new : State) → AreLine
     → after_all (after rows standard_limits) commands (Some s) ≡ Some new → Runs rows s commands new
 runs rows [] s new lines e = record {
   replies_are = [];
-  run = (refl, sym (same_Some s new e));
+  run = λ world. (refl, ap (λ (x : State). over x world) (sym (same_Some s new e)));
   each = refl;
   well = tt;
 }
@@ -157,5 +184,5 @@ made_anew rows engine standard restored lines =
     let there = reached rows standard_limits s (subst From standard restored) in
     let all : Runs rows start (commands_of s) there.0 = runs rows (commands_of s) start there.0 lines there.2 in
     let cut : map spelling (commands_of s) ≡ dumped s = sym (cut_lines (commands_of s) lines) in
-    let Ran : List (List ℕ) → Type 0 = λ lines. Run rows start lines all.replies_are there.0 in
+    let Ran : List (List ℕ) → Type 0 = λ lines. (world : World) → Run rows (over start world) lines all.replies_are (over there.0 world) in
     record { replies = all.replies_are; new = there.0; same = there.1; run = subst Ran cut all.run; each = all.each ∙ ap length cut; well = all.well }

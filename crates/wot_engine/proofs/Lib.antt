@@ -5,7 +5,9 @@ mod Marked
 mod Outcomes
 mod Runs
 mod Stepping
+mod Giving
 mod Refusing
+mod Running
 mod Keeping
 pub mod Making
 mod Short

@@ -15,7 +15,8 @@ use Rattle.wot_keyring.specs.Keyring.{Certificates, is_fpr}
 use Rattle.wot_keyring.specs.Dump.{judged_anew, judged_by}
 use Rattle.wot_keyring.specs.Import.{united_with, with_cert, with_certs}
 use Rattle.wot_script.specs.declared.reply.Reply.{Reply}
-use Rattle.wot_cache.specs.State.{State, start}
+use Rattle.wot_certd.specs.World.{World}
+use Rattle.wot_engine.specs.Scene.{Scene, opening}
 use Rattle.wot_engine.specs.Transcript.{Run}
 use Rattle.wot_engine.proofs.Stays.{all_without, run_stays}
 
@@ -73,7 +74,7 @@ module _
     without : (fpr : Fpr) (certs : Certificates) → AreMarked rows certs → AreMarked rows (remove_entry (is_fpr fpr) certs)
     without fpr certs all = all_without (λ (e : Fpr × Certificate). IsMarked rows e.1) (is_fpr fpr) certs all
 
-    pub reached_marked : (lines : List (List ℕ)) (replies : List Reply) (state : State) → Run rows start lines replies state → judged_by rows state.held ≡ state.held
-    reached_marked lines replies state run =
-        let all : AreMarked rows state.held.certs = run_stays rows (AreMarked rows) with_all without lines start replies state tt run in
-        ap (λ (certs : Certificates). record state.held { certs = certs }) (marked_anew rows state.held.certs all)
+    pub reached_marked : (world : World) (lines : List (List ℕ)) (replies : List Reply) (last : Scene) → Run rows (opening world) lines replies last → judged_by rows last.state.held ≡ last.state.held
+    reached_marked world lines replies last run =
+        let all : AreMarked rows last.state.held.certs = run_stays rows (AreMarked rows) with_all without lines (opening world) replies last tt run in
+        ap (λ (certs : Certificates). record last.state.held { certs = certs }) (marked_anew rows last.state.held.certs all)

@@ -14,7 +14,7 @@ use Rattle.wot_edge.specs.Record.{IsRecord, Record}
 use Rattle.wot_edge.specs.Answer.{IsAnswer}
 use Rattle.wot_keyring.specs.Keyring.{Certificates}
 use Rattle.wot_script.specs.declared.command.Command.{Command}
-use Rattle.wot_script.specs.declared.command.Command.TheVariants.{Import, Remove, Good, Bad, Unjudge, Time, Root, Close, Ask, Explain, Pending, Keys, Export, Dump}
+use Rattle.wot_script.specs.declared.command.Command.TheVariants.{Import, Load, Remove, Good, Bad, Unjudge, Time, Root, Close, Ask, Explain, Pending, Keys, Export, Dump}
 use Rattle.wot_script.specs.declared.reply.Reply.{Reply}
 use Rattle.wot_script.specs.declared.reply.Reply.TheVariants as replies
 use Rattle.wot_script.specs.Grammar.{command_of}
@@ -24,10 +24,11 @@ use Rattle.wot_cache.specs.declared.view.View.{View}
 use Rattle.wot_explain.specs.declared.bind.Bind.{Bind}
 use Rattle.wot_explain.specs.Listing.{IsListed, Pair, pairs_in}
 use Rattle.wot_cache.specs.Question.{question_in}
+use Rattle.wot_certd.specs.World.{Answer}
 use Rattle.wot_cache.specs.State.{State, IsState}
 use Rattle.wot_cache.specs.Views.{view_at}
 use Rattle.wot_engine.specs.Lines.{is_silent, longest}
-use Rattle.wot_engine.specs.Outcome.{Outcome, only, remove, set_verdict, clear_verdict, time, root, close, keys, export, dump, import}
+use Rattle.wot_engine.specs.Outcome.{Outcome, only, load, remove, set_verdict, clear_verdict, time, root, close, keys, export, dump, import}
 use Rattle.wot_engine.specs.Answer.{Asks, told}
 use Rattle.wot_engine.specs.Listing.{Lists, bindings, explain, pending}
 use Rattle.wot_engine.specs.LineStep.{LineStep, HasReply, Answers, Does, Gives}
@@ -69,7 +70,7 @@ MatchBool-some false P Q p q = q
 
 -- ---- states that can be
 
-pub LineStep-stays : (rows : PolicyRows) (old : State) (line : List ℕ) (reply : Option Reply) (new : State) → IsState old → LineStep rows old line reply new → IsState new
+pub LineStep-stays : (rows : PolicyRows) (old : State) (line : List ℕ) (given : Answer) (reply : Option Reply) (new : State) → IsState old → LineStep rows old line given reply new → IsState new
 LineStep-stays rows = step_stays rows AreNamed (named_all rows) named_without
 
 -- ---- questions
@@ -109,63 +110,67 @@ module _
         let binds = list_some (record_of old.held.certs old.held.verdicts view.time) view.roots wanted (pairs_in old.held.certs) h in
         (bindings binds.0, (binds.0, binds.1, refl))
 
-    Does-one : (old : State) (command : Command) → IsState old → IsOne Reply (Does rows old command)
-    Does-one old (Import octets) p = Gives-one (import rows old octets)
-    Does-one old (Remove fpr) p = Gives-one (remove old fpr)
-    Does-one old (Good number fpr) p = Gives-one (set_verdict old number (verdicts.Good fpr))
-    Does-one old (Bad number) p = Gives-one (set_verdict old number verdicts.Bad)
-    Does-one old (Unjudge number) p = Gives-one (clear_verdict old number)
-    Does-one old (Time view t) p = Gives-one (time old view t)
-    Does-one old (Root view fpr amount) p = Gives-one (root old view fpr amount)
-    Does-one old (Close view) p = Gives-one (close old view)
-    Does-one old (Ask view target wanted uid) p = λ r s m n a b. (Asks-one old (view_at old.views view) target wanted uid r s p a.0 b.0, a.1 ∙ sym b.1)
-    Does-one old (Command.List view wanted) p = λ r s m n a b. (Lists-one old (view_at old.views view) wanted r s p a.0 b.0, a.1 ∙ sym b.1)
-    Does-one old (Explain view fpr uid) p = Gives-one (explain old view fpr uid)
-    Does-one old Pending p = Gives-one (pending old)
-    Does-one old Keys p = Gives-one (keys old)
-    Does-one old (Export fpr) p = Gives-one (export old fpr)
-    Does-one old Dump p = Gives-one (dump old)
+    Does-one : (old : State) (command : Command) (given : Answer) → IsState old → IsOne Reply (Does rows old command given)
+    Does-one old (Import octets) given p = Gives-one (import rows old octets)
+    Does-one old (Load name) given p = Gives-one (load rows old name given)
+    Does-one old (Remove fpr) given p = Gives-one (remove old fpr)
+    Does-one old (Good number fpr) given p = Gives-one (set_verdict old number (verdicts.Good fpr))
+    Does-one old (Bad number) given p = Gives-one (set_verdict old number verdicts.Bad)
+    Does-one old (Unjudge number) given p = Gives-one (clear_verdict old number)
+    Does-one old (Time view t) given p = Gives-one (time old view t)
+    Does-one old (Root view fpr amount) given p = Gives-one (root old view fpr amount)
+    Does-one old (Close view) given p = Gives-one (close old view)
+    Does-one old (Ask view target wanted uid) given p = λ r s m n a b. (Asks-one old (view_at old.views view) target wanted uid r s p a.0 b.0, a.1 ∙ sym b.1)
+    Does-one old (Command.List view wanted) given p = λ r s m n a b. (Lists-one old (view_at old.views view) wanted r s p a.0 b.0, a.1 ∙ sym b.1)
+    Does-one old (Explain view fpr uid) given p = Gives-one (explain old view fpr uid)
+    Does-one old Pending given p = Gives-one (pending old)
+    Does-one old Keys given p = Gives-one (keys old)
+    Does-one old (Export fpr) given p = Gives-one (export old fpr)
+    Does-one old Dump given p = Gives-one (dump old)
 
-    Does-some : (old : State) (command : Command) → HasSpelling command → IsSome Reply (Does rows old command)
-    Does-some old (Import octets) h = Gives-some (import rows old octets)
-    Does-some old (Remove fpr) h = Gives-some (remove old fpr)
-    Does-some old (Good number fpr) h = Gives-some (set_verdict old number (verdicts.Good fpr))
-    Does-some old (Bad number) h = Gives-some (set_verdict old number verdicts.Bad)
-    Does-some old (Unjudge number) h = Gives-some (clear_verdict old number)
-    Does-some old (Time view t) h = Gives-some (time old view t)
-    Does-some old (Root view fpr amount) h = Gives-some (root old view fpr amount)
-    Does-some old (Close view) h = Gives-some (close old view)
-    Does-some old (Ask view target wanted uid) h =
+    Does-some : (old : State) (command : Command) (given : Answer) → HasSpelling command → IsSome Reply (Does rows old command given)
+    Does-some old (Import octets) given h = Gives-some (import rows old octets)
+    Does-some old (Load name) given h = Gives-some (load rows old name given)
+    Does-some old (Remove fpr) given h = Gives-some (remove old fpr)
+    Does-some old (Good number fpr) given h = Gives-some (set_verdict old number (verdicts.Good fpr))
+    Does-some old (Bad number) given h = Gives-some (set_verdict old number verdicts.Bad)
+    Does-some old (Unjudge number) given h = Gives-some (clear_verdict old number)
+    Does-some old (Time view t) given h = Gives-some (time old view t)
+    Does-some old (Root view fpr amount) given h = Gives-some (root old view fpr amount)
+    Does-some old (Close view) given h = Gives-some (close old view)
+    Does-some old (Ask view target wanted uid) given h =
         let asks = Asks-some old (view_at old.views view) target wanted uid h in
         (asks.0, old, (asks.1, refl))
-    Does-some old (Command.List view wanted) h =
+    Does-some old (Command.List view wanted) given h =
         let lists = Lists-some old (view_at old.views view) wanted h in
         (lists.0, old, (lists.1, refl))
-    Does-some old (Explain view fpr uid) h = Gives-some (explain old view fpr uid)
-    Does-some old Pending h = Gives-some (pending old)
-    Does-some old Keys h = Gives-some (keys old)
-    Does-some old (Export fpr) h = Gives-some (export old fpr)
-    Does-some old Dump h = Gives-some (dump old)
+    Does-some old (Explain view fpr uid) given h = Gives-some (explain old view fpr uid)
+    Does-some old Pending given h = Gives-some (pending old)
+    Does-some old Keys given h = Gives-some (keys old)
+    Does-some old (Export fpr) given h = Gives-some (export old fpr)
+    Does-some old Dump given h = Gives-some (dump old)
 
-    Answers-one : (old : State) (command : Option Command) → IsState old → IsOne Reply (Answers rows old command)
-    Answers-one old None p = Gives-one (only old replies.Line)
-    Answers-one old (Some command) p = Does-one old command p
+    Answers-one : (old : State) (command : Option Command) (given : Answer) → IsState old → IsOne Reply (Answers rows old command given)
+    Answers-one old None given p = Gives-one (only old replies.Line)
+    Answers-one old (Some command) given p = Does-one old command given p
 
-    Answers-some : (old : State) (line : List ℕ) → IsSome Reply (Answers rows old (command_of line))
-    Answers-some old line = by (command_of line) refl
+    Answers-some : (old : State) (line : List ℕ) (given : Answer) → IsSome Reply (Answers rows old (command_of line) given)
+    Answers-some old line given = by (command_of line) refl
       where
-        by : (command : Option Command) → command_of line ≡ command → IsSome Reply (Answers rows old command)
+        by : (command : Option Command) → command_of line ≡ command → IsSome Reply (Answers rows old command given)
         by None e = Gives-some (only old replies.Line)
-        by (Some command) e = Does-some old command (wants line command e)
+        by (Some command) e = Does-some old command given (wants line command e)
 
-    pub LineStep-one : (old : State) (line : List ℕ) → IsState old → IsOne (Option Reply) (LineStep rows old line)
-    LineStep-one old line p =
-        MatchBool-one (nat_lt longest (length line)) (HasReply (Gives (only old replies.Long))) (λ r m. MatchBool (is_silent line) ((r ≡ None) × (m ≡ old)) (HasReply (Answers rows old (command_of line)) r m))
+    pub LineStep-one : (old : State) (line : List ℕ) (given : Answer) → IsState old → IsOne (Option Reply) (LineStep rows old line given)
+    LineStep-one old line given p =
+        MatchBool-one (nat_lt longest (length line)) (HasReply (Gives (only old replies.Long))) (λ r m. MatchBool (is_silent line) ((r ≡ None) × (m ≡ old)) (HasReply (Answers rows old (command_of line) given) r m))
         (HasReply-one (Gives (only old replies.Long)) (Gives-one (only old replies.Long)))
-        (MatchBool-one (is_silent line) (λ r m. (r ≡ None) × (m ≡ old)) (HasReply (Answers rows old (command_of line))) (silent-one old) (HasReply-one (Answers rows old (command_of line)) (Answers-one old (command_of line) p)))
+        (MatchBool-one (is_silent line) (λ r m. (r ≡ None) × (m ≡ old)) (HasReply (Answers rows old (command_of line) given)) (silent-one old)
+        (HasReply-one (Answers rows old (command_of line) given) (Answers-one old (command_of line) given p)))
 
-    pub LineStep-some : (old : State) (line : List ℕ) → IsSome (Option Reply) (LineStep rows old line)
-    LineStep-some old line =
-        MatchBool-some (nat_lt longest (length line)) (HasReply (Gives (only old replies.Long))) (λ r m. MatchBool (is_silent line) ((r ≡ None) × (m ≡ old)) (HasReply (Answers rows old (command_of line)) r m))
+    pub LineStep-some : (old : State) (line : List ℕ) (given : Answer) → IsSome (Option Reply) (LineStep rows old line given)
+    LineStep-some old line given =
+        MatchBool-some (nat_lt longest (length line)) (HasReply (Gives (only old replies.Long))) (λ r m. MatchBool (is_silent line) ((r ≡ None) × (m ≡ old)) (HasReply (Answers rows old (command_of line) given) r m))
         (HasReply-some (Gives (only old replies.Long)) (Gives-some (only old replies.Long)))
-        (MatchBool-some (is_silent line) (λ r m. (r ≡ None) × (m ≡ old)) (HasReply (Answers rows old (command_of line))) (None, old, (refl, refl)) (HasReply-some (Answers rows old (command_of line)) (Answers-some old line)))
+        (MatchBool-some (is_silent line) (λ r m. (r ≡ None) × (m ≡ old)) (HasReply (Answers rows old (command_of line) given)) (None, old, (refl, refl))
+        (HasReply-some (Answers rows old (command_of line) given) (Answers-some old line given)))

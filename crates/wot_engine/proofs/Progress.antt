@@ -1,5 +1,5 @@
 -- Where a run stands between two lines.
-use Rattle.std.proofs.Common.{◌≡◌, ◌⊎◌, inl, inr, ℕ, ◌+◌, ◌<◌, ◌≤◌, ◌^◌, List, [], ◌∷◌, ◌++◌, length, take, Option, Some, refl, sym, ap, ◌∙◌, append_assoc, arith, length-append}
+use Rattle.std.proofs.Common.{◌≡◌, ◌⊎◌, inl, inr, ℕ, ◌+◌, ◌<◌, ◌≤◌, ◌^◌, List, [], ◌∷◌, ◌++◌, length, take, Option, Some, refl, sym, ap, subst, ◌∙◌, append_assoc, arith, length-append}
 use Rattle.std.proofs.lemmas.List.{append-nil, take_at, take-append-le, append_cancel_left}
 use Rattle.std.proofs.Math.Seq.{take-append-add}
 use Rattle.std.proofs.lemmas.Grind.{flat_map-append}
@@ -7,10 +7,12 @@ use Rattle.wot_io.specs.Input.{lines_of, whole_lines_of, HasNoFeed}
 use Rattle.wot_io.specs.Fill.{GivesOf, StopsOf}
 use Rattle.wot_script.specs.declared.reply.Reply.{Reply}
 use Rattle.wot_script.specs.Replies.{reply_text}
+use Rattle.wot_certd.specs.World.{World}
 use Rattle.wot_cache.specs.State.{State, start}
 use Rattle.wot_engine.specs.Law.{OneOutcome}
-use Rattle.wot_engine.specs.LineStep.{LineStep}
+use Rattle.wot_engine.specs.Scene.{Scene, Step, opening}
 use Rattle.wot_engine.specs.Transcript.{Run, RepliesTo, Answered, Begun, AnsweredWhole, AnsweredMost, listed, octets_of}
+use Rattle.wot_engine.proofs.Giving.{IsNow, over}
 use Rattle.wot_engine.proofs.Runs.{Run-some, Run-append}
 use Rattle.wot_engine.proofs.CutLines.{lines_of-feed, whole_lines_of-feed, whole_lines_of-none, lines_of-last}
 use Rattle.wot_policy.specs.declared.rows.PolicyRows.{PolicyRows}
@@ -19,31 +21,36 @@ joined : (before : List ℕ) (some others : List Reply) → (before ++ octets_of
 joined before some others =
     append_assoc before (octets_of some) (octets_of others) ∙ ap (λ (x : List ℕ). before ++ x) (sym (flat_map-append reply_text some others))
 
-module _ (rows : PolicyRows) where
+module _ (rows : PolicyRows) (origin : Option World) (world : World) where
   -- whatever follows these octets, these are the lines in front
   pub record IsPrefix (gone : List ℕ) (done : List (List ℕ)) : Type 0 where
     pub lines : (x : List ℕ) → lines_of (gone ++ x) ≡ done ++ lines_of x
     pub whole : (x : List ℕ) → whole_lines_of (gone ++ x) ≡ done ++ whole_lines_of x
 
   -- the lines were given, and their replies were written
-  pub record Stands (input before held : List ℕ) (taken : ℕ) (left written : Option (List ℕ)) (state : State) : Type 0 where
+  pub record Stands (input before held : List ℕ) (taken : ℕ) (left written : Option (List ℕ)) (shelf : Option World) (state : State) : Type 0 where
     pub gone : List ℕ
     pub rest : List ℕ
     pub done : List (List ℕ)
     pub replies : List Reply
+    pub now : World
     pub left_is : left ≡ Some rest
     pub count : taken + length rest ≡ length input
     pub parts : input ≡ gone ++ (held ++ rest)
-    pub run : Run rows start done replies state
+    pub is_now : IsNow origin shelf now
+    pub run : Run rows (opening world) done replies (over state now)
     pub written_is : written ≡ Some (before ++ octets_of replies)
     pub lines : IsPrefix gone done ⊎ ((taken < 2 ^ 30) × (held ++ rest ≡ []) × (lines_of input ≡ done))
 
-  pub starts : (input before : List ℕ) (left written : Option (List ℕ)) → left ≡ Some input → written ≡ Some before → Stands input before [] 0 left written start
-  starts input before left written e f = record {
+  pub starts : (input before : List ℕ) (left written : Option (List ℕ)) (shelf : Option World) → left ≡ Some input → written ≡ Some before → IsNow origin shelf world
+      → Stands input before [] 0 left written shelf start
+  starts input before left written shelf e f is = record {
     gone = [];
     rest = input;
     done = [];
     replies = [];
+    now = world;
+    is_now = is;
     left_is = e;
     count = omega arith;
     parts = refl;
@@ -52,10 +59,10 @@ module _ (rows : PolicyRows) where
     lines = inl (record { lines = λ x. refl; whole = λ x. refl });
   }
 
-  Run-push : (lines : List (List ℕ)) (line : List ℕ) (replies : List Reply) (reply : Option Reply) (old mid new : State)
-      → Run rows old lines replies mid → LineStep rows mid line reply new → Run rows old (lines ++ line ∷ []) (replies ++ listed reply) new
+  Run-push : (lines : List (List ℕ)) (line : List ℕ) (replies : List Reply) (reply : Option Reply) (old mid new : Scene)
+      → Run rows old lines replies mid → Step rows mid line reply new → Run rows old (lines ++ line ∷ []) (replies ++ listed reply) new
   Run-push [] line replies reply old mid new r s =
-      let s' : LineStep rows old line reply new = rw r.1 at s in
+      let s' : Step rows old line reply new = subst (λ (x : Scene). Step rows x line reply new) r.1 s in
       (reply, new, [], s', (refl, refl), rw r.0 (sym (append-nil (listed reply))))
   Run-push (first ∷ lines) line replies reply old mid new r s =
       (r.0, r.1, r.2 ++ listed reply, r.3, Run-push lines line r.2 reply r.1 mid new r.4 s, rw r.5 (append_assoc (listed r.0) r.2 (listed reply)))
@@ -77,11 +84,31 @@ module _ (rows : PolicyRows) where
   nil-both [] ys e = (refl, e)
   nil-both (x ∷ xs) ys e = absurd cc
 
+  -- the line that is given is the next of all
+  pub comes_next : (input before held : List ℕ) (taken : ℕ) (left written : Option (List ℕ)) (shelf : Option World) (state : State) (held' : List ℕ) (taken' : ℕ) (left' : Option (List ℕ)) (line : List ℕ)
+      → (s : Stands input before held taken left written shelf state) → GivesOf held s.rest taken held' left' taken' line → (more : List (List ℕ)) × (lines_of input ≡ s.done ++ line ∷ more)
+  comes_next input before held taken left written shelf state held' taken' left' line s g =
+      elim s.lines [
+        | inl prefix ↦ elim g.cuts.parts [
+          | inl feed ↦ (
+            lines_of (held' ++ g.rest),
+            ap lines_of (s.parts ∙ ap (λ (x : List ℕ). s.gone ++ x) feed) ∙ prefix.lines (line ++ 10 ∷ (held' ++ g.rest))
+            ∙ ap (λ (ls : List (List ℕ)). s.done ++ ls) (lines_of-feed line (held' ++ g.rest) g.cuts.no_feed),
+          )
+          | inr last ↦ ([], ap lines_of (s.parts ∙ ap (λ (x : List ℕ). s.gone ++ x) last.1) ∙ prefix.lines line ∙ ap (λ (ls : List (List ℕ)). s.done ++ ls) (lines_of-last line last.3 g.cuts.no_feed))
+        ]
+        | inr ended ↦ elim g.cuts.parts [
+          | inl feed ↦ absurd (nil-feed line (held' ++ g.rest) (sym ended.1 ∙ feed))
+          | inr last ↦ absurd (last.3 (sym last.1 ∙ ended.1))
+        ]
+      ]
+
   -- one line on
-  pub goes_on : (input before held : List ℕ) (taken : ℕ) (left written : Option (List ℕ)) (state : State) (held' : List ℕ) (taken' : ℕ) (left' written' : Option (List ℕ)) (state' : State) (line : List ℕ) (reply : Option Reply)
-      → (s : Stands input before held taken left written state) → GivesOf held s.rest taken held' left' taken' line → LineStep rows state line reply state' → written' ≡ Some ((before ++ octets_of s.replies) ++ octets_of (listed reply))
-      → Stands input before held' taken' left' written' state'
-  goes_on input before held taken left written state held' taken' left' written' state' line reply s g step w =
+  pub goes_on : (input before held : List ℕ) (taken : ℕ) (left written : Option (List ℕ)) (shelf : Option World) (state : State) (held' : List ℕ) (taken' : ℕ) (left' written' : Option (List ℕ)) (shelf' : Option World) (state' : State) (line : List ℕ) (reply : Option Reply)
+      → (s : Stands input before held taken left written shelf state) → GivesOf held s.rest taken held' left' taken' line → (next : World) → IsNow origin shelf' next
+      → Step rows (over state s.now) line reply (over state' next) → written' ≡ Some ((before ++ octets_of s.replies) ++ octets_of (listed reply))
+      → Stands input before held' taken' left' written' shelf' state'
+  goes_on input before held taken left written shelf state held' taken' left' written' shelf' state' line reply s g next is step w =
       elim s.lines [
         | inl prefix ↦ elim g.cuts.parts [
           | inl feed ↦ record {
@@ -89,10 +116,12 @@ module _ (rows : PolicyRows) where
             rest = g.rest;
             done = s.done ++ line ∷ [];
             replies = s.replies ++ listed reply;
+            now = next;
+            is_now = is;
             left_is = g.left_is;
             count = omega (arith, g.count, s.count);
             parts = s.parts ∙ ap (λ (x : List ℕ). s.gone ++ x) feed ∙ regroup s.gone line (held' ++ g.rest);
-            run = Run-push s.done line s.replies reply start state state' s.run step;
+            run = Run-push s.done line s.replies reply (opening world) (over state s.now) (over state' next) s.run step;
             written_is = w ∙ ap (λ (x : List ℕ). Some x) (joined before s.replies (listed reply));
             lines = inl (IsPrefix-push s.gone s.done line g.cuts.no_feed prefix);
           }
@@ -101,10 +130,12 @@ module _ (rows : PolicyRows) where
             rest = g.rest;
             done = s.done ++ line ∷ [];
             replies = s.replies ++ listed reply;
+            now = next;
+            is_now = is;
             left_is = g.left_is;
             count = omega (arith, g.count, s.count);
             parts = s.parts ∙ ap (λ (x : List ℕ). s.gone ++ x) last.1 ∙ sym (ap (λ (x : List ℕ). (s.gone ++ line) ++ x) last.2 ∙ append-nil (s.gone ++ line));
-            run = Run-push s.done line s.replies reply start state state' s.run step;
+            run = Run-push s.done line s.replies reply (opening world) (over state s.now) (over state' next) s.run step;
             written_is = w ∙ ap (λ (x : List ℕ). Some x) (joined before s.replies (listed reply));
             lines = inr (last.0, last.2, ap lines_of (s.parts ∙ ap (λ (x : List ℕ). s.gone ++ x) last.1) ∙ prefix.lines line ∙ ap (λ (ls : List (List ℕ)). s.done ++ ls) (lines_of-last line last.3 g.cuts.no_feed));
           }
@@ -119,8 +150,8 @@ module _ (rows : PolicyRows) where
       regroup gone line x = simp append_assoc
 
   -- the lines given are first ones of all
-  pub begins : (input before held : List ℕ) (taken : ℕ) (left written : Option (List ℕ)) (state : State) → (s : Stands input before held taken left written state) → (more : List (List ℕ)) × (lines_of input ≡ s.done ++ more)
-  begins input before held taken left written state s =
+  pub begins : (input before held : List ℕ) (taken : ℕ) (left written : Option (List ℕ)) (shelf : Option World) (state : State) → (s : Stands input before held taken left written shelf state) → (more : List (List ℕ)) × (lines_of input ≡ s.done ++ more)
+  begins input before held taken left written shelf state s =
       elim s.lines [
         | inl prefix ↦ (lines_of (held ++ s.rest), ap lines_of s.parts ∙ prefix.lines (held ++ s.rest))
         | inr ended ↦ ([], ended.2 ∙ sym (append-nil s.done))
@@ -130,16 +161,16 @@ module _ (rows : PolicyRows) where
   take-prefix lines done more e = ap (take (length done)) e ∙ take_at done more (length done) refl
 
   -- The replies to the lines given, and to all others.
-  told_all : OneOutcome rows → (lines done more : List (List ℕ)) (replies : List Reply) (state : State) → lines ≡ done ++ more → Run rows start done replies state → (others : List Reply) × RepliesTo rows lines (replies ++ others)
-  told_all law lines done more replies state e r =
-      let others = Run-some rows law more state in
-      (others.0, record { last = others.1; run = rw e (Run-append rows done more start state others.1 replies others.0 r others.2) })
+  told_all : OneOutcome rows → (lines done more : List (List ℕ)) (replies : List Reply) (last : Scene) → lines ≡ done ++ more → Run rows (opening world) done replies last → (others : List Reply) × RepliesTo rows world lines (replies ++ others)
+  told_all law lines done more replies last e r =
+      let others = Run-some rows law more last in
+      (others.0, record { last = others.1; run = rw e (Run-append rows done more (opening world) last others.1 replies others.0 r others.2) })
 
   -- all of the replies so far, and nothing else
-  pub so_far : OneOutcome rows → (input before held : List ℕ) (taken : ℕ) (left written : Option (List ℕ)) (state : State) → Stands input before held taken left written state → Begun rows (lines_of input) before written
-  so_far law input before held taken left written state s =
-      let m = begins input before held taken left written state s in
-      let all = told_all law (lines_of input) s.done m.0 s.replies state m.1 s.run in
+  pub so_far : OneOutcome rows → (input before held : List ℕ) (taken : ℕ) (left written : Option (List ℕ)) (shelf : Option World) (state : State) → Stands input before held taken left written shelf state → Begun rows world (lines_of input) before written
+  so_far law input before held taken left written shelf state s =
+      let m = begins input before held taken left written shelf state s in
+      let all = told_all law (lines_of input) s.done m.0 s.replies (over state s.now) m.1 s.run in
       record {
         replies = s.replies ++ all.0;
         told = all.1;
@@ -153,39 +184,39 @@ module _ (rows : PolicyRows) where
           ∙ take_at (octets_of some) (octets_of others) (length (octets_of some)) refl
 
   -- the end
-  pub at_end : (input before held : List ℕ) (taken : ℕ) (left written : Option (List ℕ)) (state : State) → (s : Stands input before held taken left written state) → held ≡ [] → s.rest ≡ [] → Answered rows (lines_of input) before written
-  at_end input before held taken left written state s e f =
+  pub at_end : (input before held : List ℕ) (taken : ℕ) (left written : Option (List ℕ)) (shelf : Option World) (state : State) → (s : Stands input before held taken left written shelf state) → held ≡ [] → s.rest ≡ [] → Answered rows world (lines_of input) before written
+  at_end input before held taken left written shelf state s e f =
       let whole : lines_of input ≡ s.done = elim s.lines [
         | inl prefix ↦ ap lines_of s.parts ∙ prefix.lines (held ++ s.rest) ∙ rw (e, f) (append-nil s.done)
         | inr ended ↦ ended.2
       ] in
-      record { replies = s.replies; told = record { last = state; run = rw whole s.run }; written = s.written_is }
+      record { replies = s.replies; told = record { last = over state s.now; run = rw whole s.run }; written = s.written_is }
 
   -- the octets taken that are in no line given have no line feed
-  pub at_stop : (input before held : List ℕ) (taken : ℕ) (left written : Option (List ℕ)) (state : State) (left' : Option (List ℕ)) (taken' : ℕ) → (s : Stands input before held taken left written state) → StopsOf held s.rest taken left' taken'
-      → AnsweredWhole rows input before left' written
-  at_stop input before held taken left written state left' taken' s t =
+  pub at_stop : (input before held : List ℕ) (taken : ℕ) (left written : Option (List ℕ)) (shelf : Option World) (state : State) (left' : Option (List ℕ)) (taken' : ℕ) → (s : Stands input before held taken left written shelf state) → StopsOf held s.rest taken left' taken'
+      → AnsweredWhole rows world input before left' written
+  at_stop input before held taken left written shelf state left' taken' s t =
       elim s.lines [
         | inl prefix ↦ record {
           octets = s.gone ++ t.passed;
           taken = record { rest = t.rest; input_is = s.parts ∙ ap (λ (x : List ℕ). s.gone ++ x) t.parts ∙ sym (append_assoc s.gone t.passed t.rest); left_is = t.left_is };
-          answered = inl (record { replies = s.replies; told = record { last = state; run = rw (whole s.gone t.passed s.done prefix t.no_feed) s.run }; written = s.written_is });
+          answered = inl (record { replies = s.replies; told = record { last = over state s.now; run = rw (whole s.gone t.passed s.done prefix t.no_feed) s.run }; written = s.written_is });
         }
         | inr ended ↦
             let both = nil-both t.passed t.rest (sym t.parts ∙ ended.1) in
             record {
               octets = input;
               taken = record { rest = t.rest; input_is = sym (ap (λ (x : List ℕ). input ++ x) both.1 ∙ append-nil input); left_is = t.left_is };
-              answered = inr (both.1, record { replies = s.replies; told = record { last = state; run = rw ended.2 s.run }; written = s.written_is });
+              answered = inr (both.1, record { replies = s.replies; told = record { last = over state s.now; run = rw ended.2 s.run }; written = s.written_is });
             }
       ]
     where
       whole : (gone passed : List ℕ) (done : List (List ℕ)) → IsPrefix gone done → HasNoFeed passed → whole_lines_of (gone ++ passed) ≡ done
       whole gone passed done f h = f.whole passed ∙ ap (λ (ls : List (List ℕ)). done ++ ls) (whole_lines_of-none passed h) ∙ append-nil done
 
-  pub at_most : (input before held : List ℕ) (taken : ℕ) (left written : Option (List ℕ)) (state : State) (left' : Option (List ℕ)) (taken' : ℕ) → (s : Stands input before held taken left written state) → StopsOf held s.rest taken left' taken'
-      → taken' ≡ 2 ^ 30 → AnsweredMost rows input before left' written
-  at_most input before held taken left written state left' taken' s t n =
+  pub at_most : (input before held : List ℕ) (taken : ℕ) (left written : Option (List ℕ)) (shelf : Option World) (state : State) (left' : Option (List ℕ)) (taken' : ℕ) → (s : Stands input before held taken left written shelf state) → StopsOf held s.rest taken left' taken'
+      → taken' ≡ 2 ^ 30 → AnsweredMost rows world input before left' written
+  at_most input before held taken left written shelf state left' taken' s t n =
       elim s.lines [
         | inl prefix ↦
             let input_is : input ≡ (s.gone ++ t.passed) ++ t.rest = s.parts ∙ ap (λ (x : List ℕ). s.gone ++ x) t.parts ∙ sym (append_assoc s.gone t.passed t.rest) in
@@ -193,7 +224,7 @@ module _ (rows : PolicyRows) where
               octets = s.gone ++ t.passed;
               taken = record { rest = t.rest; input_is = input_is; left_is = t.left_is };
               size = omega (arith, t.count, s.count, n, ap length input_is, length-append (s.gone ++ t.passed) t.rest);
-              answered = record { replies = s.replies; told = record { last = state; run = rw (whole s.gone t.passed s.done prefix t.no_feed) s.run }; written = s.written_is };
+              answered = record { replies = s.replies; told = record { last = over state s.now; run = rw (whole s.gone t.passed s.done prefix t.no_feed) s.run }; written = s.written_is };
             }
         | inr ended ↦
             let both = nil-both t.passed t.rest (sym t.parts ∙ ended.1) in
@@ -205,11 +236,11 @@ module _ (rows : PolicyRows) where
       whole gone passed done f h = f.whole passed ∙ ap (λ (ls : List (List ℕ)). done ++ ls) (whole_lines_of-none passed h) ∙ append-nil done
 
   -- a part of the last reply
-  pub takes_more : OneOutcome rows → (input before held : List ℕ) (taken : ℕ) (left : Option (List ℕ)) (state : State) (replies reply : List ℕ) (n : ℕ) (written : Option (List ℕ))
-      → (s : Stands input before held taken left (Some ((before ++ replies) ++ reply)) state) → n ≤ length reply → written ≡ Some ((before ++ replies) ++ take n reply) → Begun rows (lines_of input) before written
-  takes_more law input before held taken left state replies reply n written s le w =
-      let m = begins input before held taken left (Some ((before ++ replies) ++ reply)) state s in
-      let all = told_all law (lines_of input) s.done m.0 s.replies state m.1 s.run in
+  pub takes_more : OneOutcome rows → (input before held : List ℕ) (taken : ℕ) (left : Option (List ℕ)) (shelf : Option World) (state : State) (replies reply : List ℕ) (n : ℕ) (written : Option (List ℕ))
+      → (s : Stands input before held taken left (Some ((before ++ replies) ++ reply)) shelf state) → n ≤ length reply → written ≡ Some ((before ++ replies) ++ take n reply) → Begun rows world (lines_of input) before written
+  takes_more law input before held taken left shelf state replies reply n written s le w =
+      let m = begins input before held taken left (Some ((before ++ replies) ++ reply)) shelf state s in
+      let all = told_all law (lines_of input) s.done m.0 s.replies (over state s.now) m.1 s.run in
       let same : before ++ octets_of s.replies ≡ before ++ (replies ++ reply) = some-is (before ++ octets_of s.replies) (before ++ (replies ++ reply)) (sym s.written_is ∙ ap (λ (x : List ℕ). Some x) (append_assoc before replies reply)) in
       let parts : octets_of s.replies ≡ replies ++ reply = append_cancel_left before (octets_of s.replies) (replies ++ reply) same in
       record {

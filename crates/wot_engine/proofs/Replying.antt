@@ -6,17 +6,20 @@ use Rattle.wot_io.specs.declared.lines.Line.TheVariants.{End}
 use Rattle.wot_io.specs.declared.lines.Line.{Line}
 use Rattle.wot_policy.specs.declared.rows.PolicyRows.{PolicyRows}
 use Rattle.wot_keyring.specs.Kept.{IsJudgedBy}
+use Rattle.wot_certd.specs.World.{World}
 use Rattle.wot_cache.specs.State.{State, Engine, empty, state_of}
 use Rattle.wot_engine.specs.Turn.{Replies}
 use Rattle.wot_engine.proofs.Turns.{Stood, Stood-init}
 
-pub answered : (a b : PolicyRows) (line : Line) (text other : List ℕ) (old : State) (reply : List ℕ) (new : State) → a ≡ b → text ≡ other → Replies a line text old reply new → Replies b line other old reply new
-answered a b line text other old reply new e f r =
-    subst (λ (x : List ℕ). Replies b line x old reply new) f (subst (λ (rows : PolicyRows). Replies rows line text old reply new) e r)
+pub answered : (a b : PolicyRows) (line : Line) (text other : List ℕ) (old : State) (before : Option World) (reply : List ℕ) (new : State) (after : Option World) → a ≡ b → text ≡ other
+    → Replies a line text old before reply new after → Replies b line other old before reply new after
+answered a b line text other old before reply new after e f r =
+    subst (λ (x : List ℕ). Replies b line x old before reply new after) f (subst (λ (rows : PolicyRows). Replies rows line text old before reply new after) e r)
 
 -- a line that has a reply isn't the end
-pub not_end : (rows : PolicyRows) (line : Line) (text : List ℕ) (old : State) (reply : List ℕ) (new : State) → Replies rows line text old reply new → line ≢ End
-not_end rows line text old reply new r = λ e. let r' : Replies rows End text old reply new = subst (λ (l : Line). Replies rows l text old reply new) e r in absurd r'.does
+pub not_end : (rows : PolicyRows) (line : Line) (text : List ℕ) (old : State) (before : Option World) (reply : List ℕ) (new : State) (after : Option World) → Replies rows line text old before reply new after → line ≢ End
+not_end rows line text old before reply new after r =
+    λ e. let r' : Replies rows End text old before reply new after = subst (λ (l : Line). Replies rows l text old before reply new after) e r in absurd r'.does
 
 -- ---- a run that begins
 
@@ -24,11 +27,11 @@ not_end rows line text old reply new r = λ e. let r' : Replies rows End text ol
 abbrev pub fresh : ReaderState
 fresh = record { held = []; text = []; taken = 0; fault = None }
 
-pub begins : (rows : PolicyRows) (left written : Option (List ℕ)) (lines : ReaderState) (machine : Engine) → lines ≡ fresh → machine ≡ empty standard_limits
-    → Stood rows left written lines.held lines.taken left written (state_of machine)
-begins rows left written lines machine e m =
-    subst (λ (r : ReaderState). Stood rows left written r.held r.taken left written (state_of machine)) (sym e)
-    (subst (λ (x : Engine). Stood rows left written [] 0 left written (state_of x)) (sym m) (Stood-init rows left written))
+pub begins : (rows : PolicyRows) (left written : Option (List ℕ)) (origin : Option World) (lines : ReaderState) (machine : Engine) → lines ≡ fresh → machine ≡ empty standard_limits
+    → Stood rows left written origin lines.held lines.taken left written origin (state_of machine)
+begins rows left written origin lines machine e m =
+    subst (λ (r : ReaderState). Stood rows left written origin r.held r.taken left written origin (state_of machine)) (sym e)
+    (subst (λ (x : Engine). Stood rows left written origin [] 0 left written origin (state_of x)) (sym m) (Stood-init rows left written origin))
 
 pub no_fault : (lines : ReaderState) → lines ≡ fresh → lines.fault ≡ None
 no_fault lines e = ap (λ (r : ReaderState). r.fault) e

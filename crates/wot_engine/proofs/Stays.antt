@@ -5,6 +5,7 @@ use Rattle.std.specs.List.{AllByRecursion}
 use Rattle.std.specs.Map.{remove_entry}
 use Rattle.wot_types.specs.declared.fpr.Fpr.{Fpr}
 use Rattle.wot_types.specs.declared.limits.Limit.TheVariants as words
+use Rattle.wot_types.specs.declared.name.Name.{Name}
 use Rattle.wot_types.specs.declared.number.SigNumber.{SigNumber}
 use Rattle.wot_types.specs.Limits.{standard_limits}
 use Rattle.wot_policy.specs.declared.rows.PolicyRows.{PolicyRows}
@@ -16,20 +17,23 @@ use Rattle.wot_keyring.specs.declared.import.Imported.{Imported}
 use Rattle.wot_keyring.specs.declared.refusal.Refusal.{Refusal}
 use Rattle.wot_keyring.specs.Keyring.{Certificates, is_fpr}
 use Rattle.wot_keyring.specs.Held.{cert_in, is_said, verdict_set, removing, verdict_cleared}
-use Rattle.wot_keyring.specs.Import.{answer_to, spelled_in, with_certs}
+use Rattle.wot_keyring.specs.Import.{answer_to, answer_under, is_entry, spelled_in, with_certs}
 use Rattle.wot_keyring.specs.Verdict.{is_over}
 use Rattle.wot_script.specs.declared.command.Command.{Command}
-use Rattle.wot_script.specs.declared.command.Command.TheVariants.{Import, Remove, Good, Bad, Unjudge, Time, Root, Close, Ask, Explain, Pending, Keys, Export, Dump}
+use Rattle.wot_script.specs.declared.command.Command.TheVariants.{Import, Load, Remove, Good, Bad, Unjudge, Time, Root, Close, Ask, Explain, Pending, Keys, Export, Dump}
 use Rattle.wot_script.specs.declared.reply.Reply.{Reply}
 use Rattle.wot_script.specs.declared.reply.Reply.TheVariants as replies
 use Rattle.wot_script.specs.Grammar.{command_of}
 use Rattle.wot_cache.specs.declared.view.ViewFault.{ViewFault}
+use Rattle.wot_certd.specs.World.{Answer}
 use Rattle.wot_cache.specs.State.{State, with_held, rooting, timing, closing}
 use Rattle.wot_cache.specs.Views.{view_at, time_fault, root_fault}
 use Rattle.wot_engine.specs.Lines.{is_silent, longest}
-use Rattle.wot_engine.specs.Outcome.{Outcome, only, done, imports, remove, set_verdict, clear_verdict, time, root, close, unless, keys, export, dump, import}
+use Rattle.wot_engine.specs.Outcome.{Outcome, only, done, imports, load, remove, set_verdict, clear_verdict, time, root, close, unless, keys, export, dump, import}
 use Rattle.wot_engine.specs.Listing.{explain, pending}
+use Rattle.wot_engine.specs.Entry.{entry_in, given_by}
 use Rattle.wot_engine.specs.LineStep.{LineStep, HasReply, Answers, Does, Gives}
+use Rattle.wot_engine.specs.Scene.{Scene, Step}
 use Rattle.wot_engine.specs.Transcript.{Run}
 
 -- what is true of all entries is true of those that are left
@@ -64,6 +68,12 @@ module _
     imports_stays s octets (Ok counts) p = imported s.held.certs (spelled_in octets) p
     imports_stays s octets (Err fault) p = p
 
+    load_stays : (s : State) (name : Name) (answer : Answer) → Holds s → Holds (load rows s name answer).state
+    load_stays s name Answer.fault p = p
+    load_stays s name Answer.absent p = p
+    load_stays s name Answer.long p = p
+    load_stays s name (Answer.entry octets) p = imports_stays s octets (answer_under (is_entry name) rows standard_limits s.held.certs octets) p
+
     verdict_set_stays : (s : State) (number : SigNumber) (v : Verdict) → Holds s → Holds (with_held s (verdict_set number v s.held))
     verdict_set_stays s number v p = by (is_said s.held.verdicts number v)
       where
@@ -76,45 +86,47 @@ module _
         given (set_verdict s number v) r m
         (either (is_over standard_limits s.held.verdicts number) (only s (replies.Full words.Verdicts)) (done (with_held s (verdict_set number v s.held))) p (verdict_set_stays s number v p))
 
-    does_stays : (old : State) (command : Command) (r : Reply) (m : State) → Holds old → Does rows old command r m → Holds m
-    does_stays old (Import octets) r m p = given (import rows old octets) r m (imports_stays old octets (answer_to rows standard_limits old.held.certs octets) p)
-    does_stays old (Remove fpr) r m p =
+    does_stays : (old : State) (command : Command) (answer : Answer) (r : Reply) (m : State) → Holds old → Does rows old command answer r m → Holds m
+    does_stays old (Import octets) answer r m p = given (import rows old octets) r m (imports_stays old octets (answer_to rows standard_limits old.held.certs octets) p)
+    does_stays old (Load name) answer r m p = given (load rows old name answer) r m (load_stays old name answer p)
+    does_stays old (Remove fpr) answer r m p =
         given (remove old fpr) r m (either (is_some (cert_in old.held fpr)) (done (with_held old (removing fpr old.held))) (only old replies.Absent) (removed fpr old.held.certs p) p)
-    does_stays old (Good number fpr) r m p = set_verdict_stays old number (verdicts.Good fpr) r m p
-    does_stays old (Bad number) r m p = set_verdict_stays old number verdicts.Bad r m p
-    does_stays old (Unjudge number) r m p =
+    does_stays old (Good number fpr) answer r m p = set_verdict_stays old number (verdicts.Good fpr) r m p
+    does_stays old (Bad number) answer r m p = set_verdict_stays old number verdicts.Bad r m p
+    does_stays old (Unjudge number) answer r m p =
         given (clear_verdict old number) r m (either (is_some (verdict_at old.held.verdicts number)) (done (with_held old (verdict_cleared number old.held))) (only old replies.Absent) p p)
-    does_stays old (Time view t) r m p = given (time old view t) r m (unless_stays old (timing view t old) (time_fault standard_limits old.views view) p p)
-    does_stays old (Root view fpr amount) r m p =
+    does_stays old (Time view t) answer r m p = given (time old view t) r m (unless_stays old (timing view t old) (time_fault standard_limits old.views view) p p)
+    does_stays old (Root view fpr amount) answer r m p =
         given (root old view fpr amount) r m (unless_stays old (rooting view fpr amount old) (root_fault standard_limits (view_at old.views view) fpr amount) p p)
-    does_stays old (Close view) r m p = given (close old view) r m (either (is_some (view_at old.views view)) (done (closing view old)) (only old replies.View) p p)
-    does_stays old (Ask view target wanted uid) r m p = λ g. subst Holds (sym g.1) p
-    does_stays old (Command.List view wanted) r m p = λ g. subst Holds (sym g.1) p
-    does_stays old (Explain view fpr uid) r m p = given (explain old view fpr uid) r m p
-    does_stays old Pending r m p = given (pending old) r m p
-    does_stays old Keys r m p = given (keys old) r m p
-    does_stays old (Export fpr) r m p = given (export old fpr) r m p
-    does_stays old Dump r m p = given (dump old) r m p
+    does_stays old (Close view) answer r m p = given (close old view) r m (either (is_some (view_at old.views view)) (done (closing view old)) (only old replies.View) p p)
+    does_stays old (Ask view target wanted uid) answer r m p = λ g. subst Holds (sym g.1) p
+    does_stays old (Command.List view wanted) answer r m p = λ g. subst Holds (sym g.1) p
+    does_stays old (Explain view fpr uid) answer r m p = given (explain old view fpr uid) r m p
+    does_stays old Pending answer r m p = given (pending old) r m p
+    does_stays old Keys answer r m p = given (keys old) r m p
+    does_stays old (Export fpr) answer r m p = given (export old fpr) r m p
+    does_stays old Dump answer r m p = given (dump old) r m p
 
-    answers_stays : (old : State) (command : Option Command) (r : Reply) (m : State) → Holds old → Answers rows old command r m → Holds m
-    answers_stays old None r m p = given (only old replies.Line) r m p
-    answers_stays old (Some command) r m p = does_stays old command r m p
+    answers_stays : (old : State) (command : Option Command) (answer : Answer) (r : Reply) (m : State) → Holds old → Answers rows old command answer r m → Holds m
+    answers_stays old None answer r m p = given (only old replies.Line) r m p
+    answers_stays old (Some command) answer r m p = does_stays old command answer r m p
 
     replied : (Q : Reply → State → Type 0) (reply : Option Reply) (m : State) → ((r : Reply) → Q r m → Holds m) → HasReply Q reply m → Holds m
     replied Q None m f g = absurd g
     replied Q (Some r) m f g = f r g
 
-    pub step_stays : (old : State) (line : List ℕ) (reply : Option Reply) (new : State) → P old.held.certs → LineStep rows old line reply new → P new.held.certs
-    step_stays old line reply new p = long (nat_lt longest (length line))
+    pub step_stays : (old : State) (line : List ℕ) (answer : Answer) (reply : Option Reply) (new : State) → P old.held.certs → LineStep rows old line answer reply new → P new.held.certs
+    step_stays old line answer reply new p = long (nat_lt longest (length line))
       where
-        silent : (b : Bool) → MatchBool b ((reply ≡ None) × (new ≡ old)) (HasReply (Answers rows old (command_of line)) reply new) → Holds new
+        silent : (b : Bool) → MatchBool b ((reply ≡ None) × (new ≡ old)) (HasReply (Answers rows old (command_of line) answer) reply new) → Holds new
         silent true g = subst Holds (sym g.1) p
-        silent false g = replied (Answers rows old (command_of line)) reply new (λ r. answers_stays old (command_of line) r new p) g
+        silent false g = replied (Answers rows old (command_of line) answer) reply new (λ r. answers_stays old (command_of line) answer r new p) g
 
-        long : (b : Bool) → MatchBool b (HasReply (Gives (only old replies.Long)) reply new) (MatchBool (is_silent line) ((reply ≡ None) × (new ≡ old)) (HasReply (Answers rows old (command_of line)) reply new)) → Holds new
+        long : (b : Bool) → MatchBool b (HasReply (Gives (only old replies.Long)) reply new) (MatchBool (is_silent line) ((reply ≡ None) × (new ≡ old)) (HasReply (Answers rows old (command_of line) answer) reply new)) → Holds new
         long true g = replied (Gives (only old replies.Long)) reply new (λ r. given (only old replies.Long) r new p) g
         long false g = silent (is_silent line) g
 
-    pub run_stays : (lines : List (List ℕ)) (old : State) (replies : List Reply) (new : State) → P old.held.certs → Run rows old lines replies new → P new.held.certs
-    run_stays [] old replies new p r = subst Holds (sym r.1) p
-    run_stays (line ∷ lines) old replies new p r = run_stays lines r.1 r.2 new (step_stays old line r.0 r.1 p r.3) r.4
+    pub run_stays : (lines : List (List ℕ)) (old : Scene) (replies : List Reply) (new : Scene) → P old.state.held.certs → Run rows old lines replies new → P new.state.held.certs
+    run_stays [] old replies new p r = subst (λ (s : Scene). P s.state.held.certs) (sym r.1) p
+    run_stays (line ∷ lines) old replies new p r =
+        run_stays lines r.1 r.2 new (step_stays old.state line (given_by old.world (entry_in line)) r.0 r.1.state p r.3.does) r.4

@@ -6,6 +6,7 @@ use Rattle.std.specs.Map.{lookup}
 use Rattle.std.specs.Option.{option_and_then, option_map}
 use Rattle.wot_types.specs.declared.fpr.Fpr.{Fpr}
 use Rattle.wot_types.specs.declared.limits.Limit.TheVariants as limits
+use Rattle.wot_types.specs.declared.name.Name.{Name}
 use Rattle.wot_types.specs.declared.number.SigNumber.{SigNumber}
 use Rattle.wot_types.specs.Limits.{standard_limits}
 use Rattle.wot_policy.specs.declared.rows.PolicyRows.{PolicyRows}
@@ -20,7 +21,7 @@ use Rattle.wot_keyring.specs.declared.import.Imported.{Imported}
 use Rattle.wot_keyring.specs.declared.refusal.Refusal.{Refusal}
 use Rattle.wot_keyring.specs.declared.refusal.Refusal.TheVariants as refusals
 use Rattle.wot_keyring.specs.Held.{cert_in, removing, verdict_set, verdict_cleared}
-use Rattle.wot_keyring.specs.Import.{answer_to}
+use Rattle.wot_keyring.specs.Import.{answer_to, answer_under, is_entry}
 use Rattle.wot_keyring.specs.Keyring.{Certificates, is_fpr}
 use Rattle.wot_keyring.specs.Verdict.{is_over}
 use Rattle.wot_network.specs.Told.{place_of}
@@ -29,10 +30,11 @@ use Rattle.wot_standing.specs.Kinds.{is_certification}
 use Rattle.wot_standing.specs.Own.{is_own_revoked}
 use Rattle.wot_standing.specs.Standing.{own, standing_of}
 use Rattle.wot_script.specs.declared.command.Command.{Command}
-use Rattle.wot_script.specs.declared.command.Command.TheVariants.{Import, Remove, Good, Bad, Unjudge, Time, Root, Close, Ask, Explain, Pending, Keys, Export, Dump}
+use Rattle.wot_script.specs.declared.command.Command.TheVariants.{Import, Load, Remove, Good, Bad, Unjudge, Time, Root, Close, Ask, Explain, Pending, Keys, Export, Dump}
 use Rattle.wot_script.specs.declared.reply.Reply.{Reply}
 use Rattle.wot_script.specs.declared.reply.Reply.TheVariants as replies
 use Rattle.wot_script.specs.Replies.{HasReason, HasWords}
+use Rattle.wot_certd.specs.World.{Answer}
 use Rattle.wot_cache.specs.declared.view.View.{View}
 use Rattle.wot_cache.specs.declared.view.ViewFault.{ViewFault}
 use Rattle.wot_cache.specs.declared.view.ViewFault.TheVariants as faults
@@ -45,7 +47,7 @@ use Rattle.wot_explain.specs.Words.{Word, first_word}
 use Rattle.wot_engine.specs.Answer.{Asks}
 use Rattle.wot_engine.specs.Listing.{Lists, explain, explained, explained_from, pending, reason_by, reason_line}
 use Rattle.wot_engine.specs.LineStep.{Does, Gives}
-use Rattle.wot_engine.specs.Outcome.{Outcome, cert_refusal, clear_verdict, close, done, dump, export, exported, import, imports, keys, only, refusal, remove, root, set_verdict, time, unless, view_refusal}
+use Rattle.wot_engine.specs.Outcome.{Outcome, cert_refusal, clear_verdict, close, done, dump, export, exported, import, imports, keys, load, only, refusal, remove, root, set_verdict, time, unless, view_refusal}
 
 -- ---- explanations
 
@@ -148,6 +150,12 @@ imports_worded : (rows : PolicyRows) (s : State) (octets : List ℕ) (answer : R
 imports_worded rows s octets (Ok counts) = tt
 imports_worded rows s octets (Err told) = refused_worded told
 
+load_worded : (rows : PolicyRows) (s : State) (name : Name) (answer : Answer) → HasWords (load rows s name answer).reply
+load_worded rows s name Answer.fault = tt
+load_worded rows s name Answer.absent = tt
+load_worded rows s name Answer.long = tt
+load_worded rows s name (Answer.entry octets) = imports_worded rows s octets (answer_under (is_entry name) rows standard_limits s.held.certs octets)
+
 either : (b : Bool) (a c : Outcome) → HasWords a.reply → HasWords c.reply → HasWords (cond b a c).reply
 either true a c p q = p
 either false a c p q = q
@@ -182,26 +190,27 @@ list_worded : (s : State) (view : Option View) (wanted : ℕ) (reply : Reply) �
 list_worded s None wanted reply lists = subst HasWords (sym lists) tt
 list_worded s (Some view) wanted reply lists = subst HasWords (sym lists.2) tt
 
-pub does_worded : (rows : PolicyRows) (old : State) (command : Command) (reply : Reply) (new : State) → Does rows old command reply new → HasWords reply
-does_worded rows old (Import octets) reply new g =
+pub does_worded : (rows : PolicyRows) (old : State) (command : Command) (answer : Answer) (reply : Reply) (new : State) → Does rows old command answer reply new → HasWords reply
+does_worded rows old (Import octets) answer reply new g =
     given (import rows old octets) reply new (imports_worded rows old octets (answer_to rows standard_limits old.held.certs octets)) g
-does_worded rows old (Remove fpr) reply new g =
+does_worded rows old (Load name) answer reply new g = given (load rows old name answer) reply new (load_worded rows old name answer) g
+does_worded rows old (Remove fpr) answer reply new g =
     given (remove old fpr) reply new (either (is_some (cert_in old.held fpr)) (done (with_held old (removing fpr old.held))) (only old replies.Absent) tt tt) g
-does_worded rows old (Good number fpr) reply new g = set_worded old number (verdicts.Good fpr) reply new g
-does_worded rows old (Bad number) reply new g = set_worded old number verdicts.Bad reply new g
-does_worded rows old (Unjudge number) reply new g =
+does_worded rows old (Good number fpr) answer reply new g = set_worded old number (verdicts.Good fpr) reply new g
+does_worded rows old (Bad number) answer reply new g = set_worded old number verdicts.Bad reply new g
+does_worded rows old (Unjudge number) answer reply new g =
     given (clear_verdict old number) reply new
     (either (is_some (verdict_at old.held.verdicts number)) (done (with_held old (verdict_cleared number old.held))) (only old replies.Absent) tt tt) g
-does_worded rows old (Time view t) reply new g =
+does_worded rows old (Time view t) answer reply new g =
     given (time old view t) reply new (unless_worded old (timing view t old) (time_fault standard_limits old.views view)) g
-does_worded rows old (Root view fpr amount) reply new g =
+does_worded rows old (Root view fpr amount) answer reply new g =
     given (root old view fpr amount) reply new (unless_worded old (rooting view fpr amount old) (root_fault standard_limits (view_at old.views view) fpr amount)) g
-does_worded rows old (Close view) reply new g =
+does_worded rows old (Close view) answer reply new g =
     given (close old view) reply new (either (is_some (view_at old.views view)) (done (closing view old)) (only old replies.View) tt tt) g
-does_worded rows old (Ask view target wanted uid) reply new g = ask_worded old (view_at old.views view) target wanted uid reply g.0
-does_worded rows old (Command.List view wanted) reply new g = list_worded old (view_at old.views view) wanted reply g.0
-does_worded rows old (Explain view fpr uid) reply new g = given (explain old view fpr uid) reply new (explain_worded old (view_at old.views view) fpr uid) g
-does_worded rows old Pending reply new g = given (pending old) reply new tt g
-does_worded rows old Keys reply new g = given (keys old) reply new tt g
-does_worded rows old (Export fpr) reply new g = given (export old fpr) reply new (export_worded (cert_in old.held fpr)) g
-does_worded rows old Dump reply new g = given (dump old) reply new tt g
+does_worded rows old (Ask view target wanted uid) answer reply new g = ask_worded old (view_at old.views view) target wanted uid reply g.0
+does_worded rows old (Command.List view wanted) answer reply new g = list_worded old (view_at old.views view) wanted reply g.0
+does_worded rows old (Explain view fpr uid) answer reply new g = given (explain old view fpr uid) reply new (explain_worded old (view_at old.views view) fpr uid) g
+does_worded rows old Pending answer reply new g = given (pending old) reply new tt g
+does_worded rows old Keys answer reply new g = given (keys old) reply new tt g
+does_worded rows old (Export fpr) answer reply new g = given (export old fpr) reply new (export_worded (cert_in old.held fpr)) g
+does_worded rows old Dump answer reply new g = given (dump old) reply new tt g

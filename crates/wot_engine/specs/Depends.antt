@@ -7,17 +7,21 @@ use Rattle.wot_script.specs.declared.command.Command.TheVariants.{Ask, Explain}
 use Rattle.wot_script.specs.declared.reply.Reply.{Reply}
 use Rattle.wot_script.specs.Grammar.{command_of}
 use Rattle.wot_cert.specs.Certificate.{Certificate, unmarked}
+use Rattle.wot_certd.specs.World.{Answer, World}
 use Rattle.wot_keyring.specs.Keyring.{Certificates}
-use Rattle.wot_cache.specs.State.{State, start}
+use Rattle.wot_cache.specs.State.{State}
 use Rattle.wot_cache.specs.Views.{view_at}
 use Rattle.wot_engine.specs.LineStep.{LineStep}
+use Rattle.wot_engine.specs.Scene.{Scene, opening}
 use Rattle.wot_engine.specs.Transcript.{Run}
 
--- A history leads to the state: lines, answered from the start on.
+-- A history leads to the state: lines, answered from the start on, with a shelf of some world.
 pub record IsReached (rows : PolicyRows) (s : State) : Type 0 where
+  pub world : World
+  pub after : World
   pub lines : List (List ℕ)
   pub replies : List Reply
-  pub run : Run rows start lines replies s
+  pub run : Run rows (opening world) lines replies (record { state = s; world = after })
 
 -- the certificates by fingerprint, without their signatures' marks of admission
 abbrev pub bare : Certificates → Certificates
@@ -43,11 +47,11 @@ pub record IsAsk (name line : List ℕ) : Type 0 where
   pub asks : AsksFrom name command
   pub read : command_of line ≡ Some command
 
--- The replies to this line are the same.
+-- The replies to this line are the same, whatever the shelf gives.
 abbrev pub AreRepliesAlike : PolicyRows → State → State → List ℕ → Type 0
 AreRepliesAlike rows one other line =
-    (reply second : Option Reply) (new third : State)
-    → LineStep rows one line reply new → LineStep rows other line second third → reply ≡ second
+    (given told : Answer) (reply second : Option Reply) (new third : State)
+    → LineStep rows one line given reply new → LineStep rows other line told second third → reply ≡ second
 
 -- An answer depends only on the certificates, the verdicts, and the roots and the time of the asking view then present:
 -- whatever histories lead to two states that are alike from a view, each question from it has the same reply in both.

@@ -8,8 +8,10 @@ use Rattle.wot_script.specs.declared.command.Command.TheVariants.{Dump}
 use Rattle.wot_script.specs.declared.reply.Reply.{Reply}
 use Rattle.wot_script.specs.Replies.{is_refusal}
 use Rattle.wot_keyring.specs.Dump.{lines_of}
-use Rattle.wot_cache.specs.State.{State, start}
+use Rattle.wot_certd.specs.World.{World}
+use Rattle.wot_cache.specs.State.{State}
 use Rattle.wot_cache.specs.Dump.{commands_of, CarriesOver}
+use Rattle.wot_engine.specs.Scene.{opening}
 use Rattle.wot_engine.specs.Transcript.{Run}
 
 -- the line of the command `dump`
@@ -26,11 +28,11 @@ abbrev pub dumped : State → List (List ℕ)
 dumped s = inputs.lines_of (lines_of (commands_of s))
 
 -- The lines of a dump of this state, answered from the start on, lead to a state with all that a dump carries over, its
--- signatures judged by the rows. Each line has a reply, and none is a refusal.
+-- signatures judged by the rows. Each line has a reply, and none is a refusal. The shelf may be any, and no line reads it.
 pub record IsMadeAnew (rows : PolicyRows) (s : State) : Type 0 where
   pub replies : List Reply
   pub new : State
   pub same : CarriesOver rows s new
-  pub run : Run rows start (dumped s) replies new
+  pub run : (world : World) → Run rows (opening world) (dumped s) replies (record { state = new; world = world })
   pub each : length replies ≡ length (dumped s)
   pub well : AllByRecursion (λ reply. is_refusal reply ≡ false) replies

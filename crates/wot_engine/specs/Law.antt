@@ -2,14 +2,15 @@
 use Rattle.std.specs.Prelude.{◌≡◌, ℕ, List, Option}
 use Rattle.wot_policy.specs.declared.rows.PolicyRows.{PolicyRows}
 use Rattle.wot_script.specs.declared.reply.Reply.{Reply}
+use Rattle.wot_certd.specs.World.{Answer}
 use Rattle.wot_cache.specs.State.{State, IsState}
 use Rattle.wot_engine.specs.LineStep.{LineStep}
 
--- Each line has a reply or none, and a state after it; in a state that can be, only one of each; and what comes after such
--- a state can be.
+-- Whatever the shelf gives, each line has a reply or none, and a state after it; in a state that can be, only one of each;
+-- and what comes after such a state can be.
 pub record OneOutcome (rows : PolicyRows) : Type 0 where
-  pub some : (old : State) (line : List ℕ) → (reply : Option Reply) × (new : State) × LineStep rows old line reply new
-  pub one : (old : State) (line : List ℕ) (reply other : Option Reply) (new third : State) → IsState old
-      → LineStep rows old line reply new → LineStep rows old line other third → (reply ≡ other) × (new ≡ third)
-  pub stays : (old : State) (line : List ℕ) (reply : Option Reply) (new : State) → IsState old
-      → LineStep rows old line reply new → IsState new
+  pub some : (old : State) (line : List ℕ) (given : Answer) → (reply : Option Reply) × (new : State) × LineStep rows old line given reply new
+  pub one : (old : State) (line : List ℕ) (given : Answer) (reply other : Option Reply) (new third : State) → IsState old
+      → LineStep rows old line given reply new → LineStep rows old line given other third → (reply ≡ other) × (new ≡ third)
+  pub stays : (old : State) (line : List ℕ) (given : Answer) (reply : Option Reply) (new : State) → IsState old
+      → LineStep rows old line given reply new → IsState new

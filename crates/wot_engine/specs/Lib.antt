@@ -4,9 +4,13 @@ pub mod Refused
 pub mod Answer
 pub mod Listing
 pub mod LineStep
+pub mod Entry
+pub mod Scene
 pub mod Law
 pub mod Transcript
 pub mod Turn
+pub mod Ran
+pub mod Stepped
 pub mod Fresh
 pub mod Depends
 pub mod Machine

@@ -3,14 +3,15 @@ use Rattle.std.specs.Prelude.{◌≡◌, ℕ, nat_lt, List, length, Option, Some
 use Rattle.wot_policy.specs.declared.rows.PolicyRows.{PolicyRows}
 use Rattle.wot_verdict.specs.declared.verdict.Verdict.TheVariants as verdicts
 use Rattle.wot_script.specs.declared.command.Command.{Command}
-use Rattle.wot_script.specs.declared.command.Command.TheVariants.{Import, Remove, Good, Bad, Unjudge, Time, Root, Close, Ask, Explain, Pending, Keys, Export, Dump}
+use Rattle.wot_script.specs.declared.command.Command.TheVariants.{Import, Load, Remove, Good, Bad, Unjudge, Time, Root, Close, Ask, Explain, Pending, Keys, Export, Dump}
 use Rattle.wot_script.specs.declared.reply.Reply.{Reply}
 use Rattle.wot_script.specs.declared.reply.Reply.TheVariants as replies
 use Rattle.wot_script.specs.Grammar.{command_of}
+use Rattle.wot_certd.specs.World.{Answer}
 use Rattle.wot_cache.specs.State.{State}
 use Rattle.wot_cache.specs.Views.{view_at}
 use Rattle.wot_engine.specs.Lines.{longest, is_silent}
-use Rattle.wot_engine.specs.Outcome.{Outcome, only, import, remove, set_verdict, clear_verdict, time, root, close, keys, export, dump}
+use Rattle.wot_engine.specs.Outcome.{Outcome, only, import, load, remove, set_verdict, clear_verdict, time, root, close, keys, export, dump}
 use Rattle.wot_engine.specs.Answer.{Asks}
 use Rattle.wot_engine.specs.Listing.{Lists, explain, pending}
 
@@ -18,36 +19,38 @@ use Rattle.wot_engine.specs.Listing.{Lists, explain, pending}
 abbrev pub Gives : Outcome → Reply → State → Type 0
 Gives outcome reply new = (reply ≡ outcome.reply) × (new ≡ outcome.state)
 
--- What a command does: from old to new, with this reply.
-abbrev pub Does : PolicyRows → State → Command → Reply → State → Type 0
-Does rows old (Import octets) reply new = Gives (import rows old octets) reply new
-Does rows old (Remove fpr) reply new = Gives (remove old fpr) reply new
-Does rows old (Good number fpr) reply new = Gives (set_verdict old number (verdicts.Good fpr)) reply new
-Does rows old (Bad number) reply new = Gives (set_verdict old number verdicts.Bad) reply new
-Does rows old (Unjudge number) reply new = Gives (clear_verdict old number) reply new
-Does rows old (Time view t) reply new = Gives (time old view t) reply new
-Does rows old (Root view fpr amount) reply new = Gives (root old view fpr amount) reply new
-Does rows old (Close view) reply new = Gives (close old view) reply new
-Does rows old (Ask view target wanted uid) reply new = Asks old (view_at old.views view) target wanted uid reply × (new ≡ old)
-Does rows old (Command.List view wanted) reply new = Lists old (view_at old.views view) wanted reply × (new ≡ old)
-Does rows old (Explain view fpr uid) reply new = Gives (explain old view fpr uid) reply new
-Does rows old Pending reply new = Gives (pending old) reply new
-Does rows old Keys reply new = Gives (keys old) reply new
-Does rows old (Export fpr) reply new = Gives (export old fpr) reply new
-Does rows old Dump reply new = Gives (dump old) reply new
+-- What a command does: from old to new, with this reply. What the shelf gives in this line matters for `load` alone.
+abbrev pub Does : PolicyRows → State → Command → Answer → Reply → State → Type 0
+Does rows old (Import octets) given reply new = Gives (import rows old octets) reply new
+Does rows old (Load name) given reply new = Gives (load rows old name given) reply new
+Does rows old (Remove fpr) given reply new = Gives (remove old fpr) reply new
+Does rows old (Good number fpr) given reply new = Gives (set_verdict old number (verdicts.Good fpr)) reply new
+Does rows old (Bad number) given reply new = Gives (set_verdict old number verdicts.Bad) reply new
+Does rows old (Unjudge number) given reply new = Gives (clear_verdict old number) reply new
+Does rows old (Time view t) given reply new = Gives (time old view t) reply new
+Does rows old (Root view fpr amount) given reply new = Gives (root old view fpr amount) reply new
+Does rows old (Close view) given reply new = Gives (close old view) reply new
+Does rows old (Ask view target wanted uid) given reply new = Asks old (view_at old.views view) target wanted uid reply × (new ≡ old)
+Does rows old (Command.List view wanted) given reply new = Lists old (view_at old.views view) wanted reply × (new ≡ old)
+Does rows old (Explain view fpr uid) given reply new = Gives (explain old view fpr uid) reply new
+Does rows old Pending given reply new = Gives (pending old) reply new
+Does rows old Keys given reply new = Gives (keys old) reply new
+Does rows old (Export fpr) given reply new = Gives (export old fpr) reply new
+Does rows old Dump given reply new = Gives (dump old) reply new
 
 -- What a line does that is neither too long nor silent.
-abbrev pub Answers : PolicyRows → State → Option Command → Reply → State → Type 0
-Answers rows old None reply new = Gives (only old replies.Line) reply new
-Answers rows old (Some command) reply new = Does rows old command reply new
+abbrev pub Answers : PolicyRows → State → Option Command → Answer → Reply → State → Type 0
+Answers rows old None given reply new = Gives (only old replies.Line) reply new
+Answers rows old (Some command) given reply new = Does rows old command given reply new
 
 -- There is such a reply.
 abbrev pub HasReply : (Reply → State → Type 0) → Option Reply → State → Type 0
 HasReply P None new = ⊥
 HasReply P (Some reply) new = P reply new
 
--- What a line does: from old to new, with this reply; a silent line has none. The rows are those of the policy.
-abbrev pub LineStep : PolicyRows → State → List ℕ → Option Reply → State → Type 0
-LineStep rows old line reply new =
+-- What a line does, in which the shelf gives this: from old to new, with this reply; a silent line has none. The rows are
+-- those of the policy.
+abbrev pub LineStep : PolicyRows → State → List ℕ → Answer → Option Reply → State → Type 0
+LineStep rows old line given reply new =
     MatchBool (nat_lt longest (length line)) (HasReply (Gives (only old replies.Long)) reply new)
-    (MatchBool (is_silent line) ((reply ≡ None) × (new ≡ old)) (HasReply (Answers rows old (command_of line)) reply new))
+    (MatchBool (is_silent line) ((reply ≡ None) × (new ≡ old)) (HasReply (Answers rows old (command_of line) given) reply new))

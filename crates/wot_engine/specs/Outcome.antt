@@ -2,6 +2,7 @@
 use Rattle.std.specs.Prelude.{ℕ, if◌then◌else◌, List, length, map, Option, Some, None, is_some, Result, Ok, Err}
 use Rattle.wot_types.specs.declared.fpr.Fpr.{Fpr}
 use Rattle.wot_types.specs.declared.limits.Limit.TheVariants as words
+use Rattle.wot_types.specs.declared.name.Name.{Name}
 use Rattle.wot_types.specs.declared.number.SigNumber.{SigNumber}
 use Rattle.wot_types.specs.Limits.{standard_limits}
 use Rattle.wot_key.specs.Key.{fpr_of}
@@ -19,8 +20,9 @@ use Rattle.wot_keyring.specs.declared.refusal.Refusal.{Refusal}
 use Rattle.wot_keyring.specs.declared.refusal.Refusal.TheVariants as refusals
 use Rattle.wot_keyring.specs.Dump.{lines_of}
 use Rattle.wot_keyring.specs.Held.{cert_in, removing, verdict_set, verdict_cleared}
-use Rattle.wot_keyring.specs.Import.{answer_to, importing}
+use Rattle.wot_keyring.specs.Import.{answer_to, answer_under, importing, is_entry}
 use Rattle.wot_keyring.specs.Verdict.{is_over}
+use Rattle.wot_certd.specs.World.{Answer}
 use Rattle.wot_script.specs.declared.reply.KeyLine.{KeyLine}
 use Rattle.wot_script.specs.declared.reply.Reply.{Reply}
 use Rattle.wot_script.specs.declared.reply.Reply.TheVariants as replies
@@ -54,11 +56,11 @@ cert_refusal (certs.Order offset) = replies.Order offset
 cert_refusal certs.Empty = replies.Empty
 cert_refusal certs.Memory = replies.Empty
 
--- An import tells no misfiled entry, and want of memory is no reply.
+-- Want of memory is no reply.
 abbrev pub refusal : Refusal → Reply
 refusal (refusals.Packet fault) = replies.Packet (number_of fault.why) fault.at
 refusal (refusals.Cert fault) = cert_refusal fault
-refusal refusals.Misfiled = replies.Clash
+refusal refusals.Misfiled = replies.Misfiled
 refusal refusals.Clash = replies.Clash
 refusal (refusals.Full limit) = replies.Full limit
 refusal refusals.Memory = replies.Clash
@@ -70,6 +72,13 @@ imports rows s octets (Err told) = only s (refusal told)
 -- `import`: the certificates of the octets are taken, all or none
 abbrev pub import : PolicyRows → State → List ℕ → Outcome
 import rows s octets = imports rows s octets (answer_to rows standard_limits s.held.certs octets)
+
+-- `load`: the one certificate of an entry is taken, by what the shelf gave
+abbrev pub load : PolicyRows → State → Name → Answer → Outcome
+load rows s name Answer.fault = only s replies.Shelf
+load rows s name Answer.absent = only s replies.Absent
+load rows s name Answer.long = only s replies.Long
+load rows s name (Answer.entry octets) = imports rows s octets (answer_under (is_entry name) rows standard_limits s.held.certs octets)
 
 -- ---- certificates and verdicts
 

@@ -1,12 +1,13 @@
 -- Whole runs: the lines of an input, their replies, and what is written for them.
-use Rattle.std.specs.Prelude.{◌≡◌, ◌⊎◌, ◌≤◌, ℕ, ◌^◌, List, [], ◌∷◌, ◌++◌, length, take, Option, Some, None, codes}
+use Rattle.std.specs.Prelude.{◌≡◌, ◌≢◌, ◌⊎◌, ◌≤◌, ℕ, ◌^◌, List, [], ◌∷◌, ◌++◌, length, take, Option, Some, None, codes}
 use Rattle.std.specs.List.{flat_map}
 use Rattle.wot_io.specs.Input.{lines_of, whole_lines_of}
 use Rattle.wot_policy.specs.declared.rows.PolicyRows.{PolicyRows}
 use Rattle.wot_script.specs.declared.reply.Reply.{Reply}
 use Rattle.wot_script.specs.Replies.{reply_text}
-use Rattle.wot_cache.specs.State.{State, start}
-use Rattle.wot_engine.specs.LineStep.{LineStep}
+use Rattle.wot_certd.specs.World.{World}
+use Rattle.wot_engine.specs.Entry.{ReadNothing}
+use Rattle.wot_engine.specs.Scene.{Scene, Step, opening}
 
 -- the replies to one line: one, or none
 abbrev pub listed : Option Reply → List Reply
@@ -18,31 +19,31 @@ abbrev pub octets_of : List Reply → List ℕ
 octets_of replies = flat_map reply_text replies
 
 -- The lines, one after another, have these replies, and lead from old to new.
-abbrev pub Run : PolicyRows → State → List (List ℕ) → List Reply → State → Type 0
+abbrev pub Run : PolicyRows → Scene → List (List ℕ) → List Reply → Scene → Type 0
 Run rows old [] replies new = (replies ≡ []) × (new ≡ old)
 Run rows old (line ∷ lines) replies new =
-    (reply : Option Reply) × (mid : State) × (others : List Reply)
-    × LineStep rows old line reply mid × Run rows mid lines others new × (replies ≡ listed reply ++ others)
+    (reply : Option Reply) × (mid : Scene) × (others : List Reply)
+    × Step rows old line reply mid × Run rows mid lines others new × (replies ≡ listed reply ++ others)
 
--- the replies to these lines, from the start on
-pub record RepliesTo (rows : PolicyRows) (lines : List (List ℕ)) (replies : List Reply) : Type 0 where
-  pub last : State
-  pub run : Run rows start lines replies last
+-- the replies to these lines, from the start on, with a shelf of this world
+pub record RepliesTo (rows : PolicyRows) (world : World) (lines : List (List ℕ)) (replies : List Reply) : Type 0 where
+  pub last : Scene
+  pub run : Run rows (opening world) lines replies last
 
 -- the replies to all lines of an input
-abbrev pub Transcript : PolicyRows → List ℕ → List Reply → Type 0
-Transcript rows input replies = RepliesTo rows (lines_of input) replies
+abbrev pub Transcript : PolicyRows → World → List ℕ → List Reply → Type 0
+Transcript rows world input replies = RepliesTo rows world (lines_of input) replies
 
 -- The octets of the replies to these lines were written.
-pub record Answered (rows : PolicyRows) (lines : List (List ℕ)) (before : List ℕ) (after : Option (List ℕ)) : Type 0 where
+pub record Answered (rows : PolicyRows) (world : World) (lines : List (List ℕ)) (before : List ℕ) (after : Option (List ℕ)) : Type 0 where
   pub replies : List Reply
-  pub told : RepliesTo rows lines replies
+  pub told : RepliesTo rows world lines replies
   pub written : after ≡ Some (before ++ octets_of replies)
 
 -- What was written is a prefix of the octets of the replies to these lines.
-pub record Begun (rows : PolicyRows) (lines : List (List ℕ)) (before : List ℕ) (after : Option (List ℕ)) : Type 0 where
+pub record Begun (rows : PolicyRows) (world : World) (lines : List (List ℕ)) (before : List ℕ) (after : Option (List ℕ)) : Type 0 where
   pub replies : List Reply
-  pub told : RepliesTo rows lines replies
+  pub told : RepliesTo rows world lines replies
   pub size : ℕ
   pub written : after ≡ Some (before ++ take size (octets_of replies))
 
@@ -64,17 +65,17 @@ TakesAtMost None left = Unit {0}
 TakesAtMost (Some input) left = IsWithinMost input left
 
 -- All whole lines of the octets taken were answered. Where nothing is left, a last line without a line feed may count as whole.
-pub record AnsweredWhole (rows : PolicyRows) (input before : List ℕ) (left after : Option (List ℕ)) : Type 0 where
+pub record AnsweredWhole (rows : PolicyRows) (world : World) (input before : List ℕ) (left after : Option (List ℕ)) : Type 0 where
   pub octets : List ℕ
   pub taken : IsTaken input octets left
-  pub answered : Answered rows (whole_lines_of octets) before after ⊎ ((taken.rest ≡ []) × Answered rows (lines_of octets) before after)
+  pub answered : Answered rows world (whole_lines_of octets) before after ⊎ ((taken.rest ≡ []) × Answered rows world (lines_of octets) before after)
 
 -- 2 ^ 30 octets were taken, and all whole lines of them were answered.
-pub record AnsweredMost (rows : PolicyRows) (input before : List ℕ) (left after : Option (List ℕ)) : Type 0 where
+pub record AnsweredMost (rows : PolicyRows) (world : World) (input before : List ℕ) (left after : Option (List ℕ)) : Type 0 where
   pub octets : List ℕ
   pub taken : IsTaken input octets left
   pub size : length octets ≡ 2 ^ 30
-  pub answered : Answered rows (whole_lines_of octets) before after
+  pub answered : Answered rows world (whole_lines_of octets) before after
 
 -- A fact on the input and on what had been written, where source and sink tell them.
 abbrev pub Told : Option (List ℕ) → Option (List ℕ) → (List ℕ → List ℕ → Type 0) → Type 0
@@ -82,6 +83,16 @@ Told None written P = Unit {0}
 Told (Some input) None P = Unit {0}
 Told (Some input) (Some before) P = P input before
 
--- the words of a run
+-- The same with the world of the shelf. One that doesn't tell its world may be of any, where no line of the input reads it.
+abbrev pub AllTold : Option (List ℕ) → Option (List ℕ) → Option World → (List ℕ → List ℕ → World → Type 0) → Type 0
+AllTold None written world P = Unit {0}
+AllTold (Some input) None world P = Unit {0}
+AllTold (Some input) (Some before) None P = ReadNothing (lines_of input) → (world : World) → P input before world
+AllTold (Some input) (Some before) (Some world) P = P input before world
+
+-- the words of a run: alone, or with the folder of the certificate directory
 abbrev pub IsForm : List (List ℕ) → Type 0
-IsForm words = words ≡ codes "run" ∷ []
+IsForm [] = ⊥
+IsForm (word ∷ []) = word ≡ codes "run"
+IsForm (word ∷ folder ∷ []) = (word ≡ codes "run") × (folder ≢ [])
+IsForm (word ∷ folder ∷ third ∷ words) = ⊥

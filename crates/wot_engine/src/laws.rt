@@ -3,9 +3,11 @@ ghost use Rattle.std.specs.Prelude.{◌≡◌, ℕ, List, Option};
 ghost use Rattle.wot_policy.specs.declared.rows.PolicyRows.{PolicyRows};
 ghost use Rattle.wot_script.specs.declared.reply.Reply.{Reply};
 ghost use Rattle.wot_keyring.specs.Dump.{judged_by};
-ghost use Rattle.wot_cache.specs.State.{State, IsState, start};
+ghost use Rattle.wot_certd.specs.World.{Answer, World};
+ghost use Rattle.wot_cache.specs.State.{State, IsState};
 ghost use Rattle.wot_engine.specs.Depends.{DependsOnWhatIsPresent};
 ghost use Rattle.wot_engine.specs.LineStep.{LineStep};
+ghost use Rattle.wot_engine.specs.Scene.{Scene, opening};
 ghost use Rattle.wot_engine.specs.Transcript.{Run, Transcript};
 
 use wot_cert::laws::judging;
@@ -14,15 +16,16 @@ use wot_explain::laws::list_is_one;
 use wot_network::laws::record_is_lawful;
 use wot_script::laws::lines_spell_commands;
 
-/// Each line has a reply or none, and a state after it, and in a state that can be only one of each. What comes after a
-/// state that can be, as the one before the first line, can be too.
+/// Whatever the shelf gives, each line has a reply or none, and a state after it, and in a state that can be only one of
+/// each. What comes after a state that can be, as the one before the first line, can be too.
 pub fn each_line_has_one_outcome()
-    ensures some { (rows : PolicyRows) (old : State) (line : List ℕ)
-        → (reply : Option Reply) × (new : State) × LineStep rows old line reply new }
-    ensures one { (rows : PolicyRows) (old : State) (line : List ℕ) (reply other : Option Reply) (new third : State) → IsState old
-        → LineStep rows old line reply new → LineStep rows old line other third → (reply ≡ other) × (new ≡ third) }
-    ensures stays { (rows : PolicyRows) (old : State) (line : List ℕ) (reply : Option Reply) (new : State) → IsState old
-        → LineStep rows old line reply new → IsState new }
+    ensures some { (rows : PolicyRows) (old : State) (line : List ℕ) (given : Answer)
+        → (reply : Option Reply) × (new : State) × LineStep rows old line given reply new }
+    ensures one { (rows : PolicyRows) (old : State) (line : List ℕ) (given : Answer) (reply other : Option Reply) (new third : State)
+        → IsState old → LineStep rows old line given reply new → LineStep rows old line given other third
+        → (reply ≡ other) × (new ≡ third) }
+    ensures stays { (rows : PolicyRows) (old : State) (line : List ℕ) (given : Answer) (reply : Option Reply) (new : State)
+        → IsState old → LineStep rows old line given reply new → IsState new }
 {
     answer_is_one();
     record_is_lawful();
@@ -30,11 +33,11 @@ pub fn each_line_has_one_outcome()
     lines_spell_commands();
 }
 
-/// Each input has exactly one transcript.
+/// Over a shelf of each world, each input has exactly one transcript.
 pub fn each_input_has_one_transcript()
-    ensures some { (rows : PolicyRows) (input : List ℕ) → (replies : List Reply) × Transcript rows input replies }
-    ensures one { (rows : PolicyRows) (input : List ℕ) (replies others : List Reply)
-        → Transcript rows input replies → Transcript rows input others → replies ≡ others }
+    ensures some { (rows : PolicyRows) (world : World) (input : List ℕ) → (replies : List Reply) × Transcript rows world input replies }
+    ensures one { (rows : PolicyRows) (world : World) (input : List ℕ) (replies others : List Reply)
+        → Transcript rows world input replies → Transcript rows world input others → replies ≡ others }
 {
     each_line_has_one_outcome();
 }
@@ -42,8 +45,8 @@ pub fn each_input_has_one_transcript()
 /// In each state that lines lead to from the start on, every signature has the mark that the rows give it, so that
 /// judging them anew changes nothing. So what the lines of a dump make anew there is this very state.
 pub fn reached_states_are_judged()
-    ensures { (rows : PolicyRows) (lines : List (List ℕ)) (replies : List Reply) (state : State)
-        → Run rows start lines replies state → judged_by rows state.held ≡ state.held }
+    ensures { (rows : PolicyRows) (world : World) (lines : List (List ℕ)) (replies : List Reply) (last : Scene)
+        → Run rows (opening world) lines replies last → judged_by rows last.state.held ≡ last.state.held }
 {
     judging();
 }

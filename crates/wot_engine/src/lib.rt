@@ -7,6 +7,7 @@ mod commands;
 mod fresh;
 mod laws;
 mod listing;
+mod load;
 mod machine;
 mod pending;
 mod reasons;

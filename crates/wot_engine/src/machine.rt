@@ -1,17 +1,19 @@
-ghost use Rattle.std.specs.Prelude.{◌≡◌, ◌≤◌, ◌<◌, ◌+◌, ◌-◌, ◌^◌, ◌++◌, Option, length, vec_len, vec_capacity, false, true, IfOk, OnOk, OnErr};
+ghost use Rattle.std.specs.Prelude.{◌≡◌, ◌≤◌, ◌<◌, ◌+◌, ◌-◌, ◌^◌, Some, None, length, vec_len, vec_capacity, false, true, IfOk, OnOk, OnErr};
 ghost use Rattle.wot_types.specs.Limits.{standard_limits};
 ghost use Rattle.wot_policy.specs.declared.rows.PolicyRows.{PolicyRows};
 ghost use Rattle.wot_policy.specs.Kept.{IsFaithful, rows_of};
 ghost use Rattle.wot_keyring.specs.Kept.{IsJudgedBy};
 ghost use Rattle.wot_keyring.specs.Import.{IsOneChange};
-ghost use Rattle.wot_script.specs.declared.reply.Reply.{Reply as TheReply};
 ghost use Rattle.wot_script.specs.Grammar.{command_of};
 ghost use Rattle.wot_script.specs.Spelling.{HasSpelling, IsWithin};
 ghost use Rattle.wot_script.specs.Replies.{HasWords, is_short};
 ghost use Rattle.wot_cache.specs.State.{empty, state_of, StaysButMarks};
 ghost use Rattle.wot_engine.specs.Lines.{is_silent};
-ghost use Rattle.wot_engine.specs.LineStep.{LineStep, Answers, Does};
-ghost use Rattle.wot_engine.specs.Transcript.{listed, octets_of};
+ghost use Rattle.wot_certd.specs.World.{Answer};
+ghost use Rattle.wot_engine.specs.Entry.{entry_for, entry_in};
+ghost use Rattle.wot_engine.specs.LineStep.{Does};
+ghost use Rattle.wot_engine.specs.Ran.{Ran};
+ghost use Rattle.wot_engine.specs.Stepped.{Stepped};
 ghost use Rattle.wot_engine.specs.Fresh.{IsDump, OnDump, IsMadeAnew};
 ghost use Rattle.wot_engine.specs.Made.{heard, LineMakes, Makes};
 
@@ -19,11 +21,13 @@ use crate::answer::ask;
 use crate::bindings::list;
 use crate::commands::{clear_verdict, close, import, remove, root, set_verdict, time};
 use crate::listing::{dump, export, keys};
+use crate::load::load;
 use crate::pending::pending;
 use crate::reasons::explain;
 use std::alloc::Global;
 use std::marker::Model;
 use wot_cache::Engine;
+use wot_certd::Shelf;
 use wot_policy::{Ask, Policy};
 use wot_script::{Command, LineFault, Reply, print_reply, read_line};
 use wot_types::{Limits, Memory, Steps};
@@ -76,20 +80,24 @@ impl Machine {
     }
 
     /// One line, without its line feed; its reply is appended. After `Memory` `out` is as before, and so is the machine
-    /// but for marks and the count of edges made. Room for 128 octets is taken in `out` before anything changes.
+    /// but for marks and the count of edges made. Room for 128 octets is taken in `out` before anything changes. A
+    /// `load` line calls the shelf once; no other does.
     #[tactic(auto, using(crate::proofs::Unchanged::unchanged))]
-    pub fn line<F: Fn(Ask) -> bool>(
+    pub fn line<D: Shelf, F: Fn(Ask) -> bool>(
         &mut self,
         line: &[u8],
+        shelf: &mut D,
         policy: &mut Policy<F>,
         out: &mut Vec<u8>,
     ) -> Result<(), Memory>
         requires countable { self.old.engine.keyring.changes < 2 ^ 64 - 1 }
         requires judged { IsJudgedBy (rows_of policy.old) self.old.engine.keyring }
         requires faithful { IsFaithful F.Fn policy.old }
-        ensures step { OnOk result ((reply : Option TheReply)
-            × LineStep (rows_of policy.old) (state_of self.old.engine) line.now reply (state_of self.new.engine)
-            × (out.new.items ≡ out.old.items ++ octets_of (listed reply))) }
+        ensures step { OnOk result (Stepped (rows_of policy.old) line.now
+            (state_of self.old.engine) (record { world = D.world shelf.old; faults = D.faults shelf.old }) out.old.items
+            (state_of self.new.engine) (record { world = D.world shelf.new; faults = D.faults shelf.new }) out.new.items) }
+        ensures untouched { entry_in line.now ≡ None → shelf.new ≡ shelf.old }
+        ensures later { D.faults shelf.old ≤ D.faults shelf.new }
         // The lines that the reply to `dump` holds make the state anew in a fresh machine, by whatever rows it judges.
         ensures anew { OnOk result (IsDump line.now → (rows : PolicyRows) → IsMadeAnew rows (state_of self.old.engine)) }
         ensures kept { OnErr result (StaysButMarks self.old.engine self.new.engine × (out.new.items ≡ out.old.items)) }
@@ -112,7 +120,14 @@ impl Machine {
         if long {
             return print_reply(&Reply::Long, out);
         }
-        let reply = answer(self.alloc, &mut self.engine, &mut self.steps, line, policy)?;
+        let reply = answer(
+            self.alloc,
+            &mut self.engine,
+            &mut self.steps,
+            line,
+            shelf,
+            policy,
+        )?;
         print_reply(&reply, out)
     }
 }
@@ -128,11 +143,12 @@ fn test_silent(line: &[u8]) -> bool
 }
 
 /// Does what a line asks for. A reply that may be long comes with no change.
-fn answer<F: Fn(Ask) -> bool>(
+fn answer<D: Shelf, F: Fn(Ask) -> bool>(
     alloc: Global,
     engine: &mut Engine,
     steps: &mut Steps,
     line: &[u8],
+    shelf: &mut D,
     policy: &mut Policy<F>,
 ) -> Result<Reply, Memory>
     requires short { length line.now ≤ 16777216 }
@@ -140,8 +156,11 @@ fn answer<F: Fn(Ask) -> bool>(
     requires countable { engine.old.keyring.changes < 2 ^ 64 - 1 }
     requires judged { IsJudgedBy (rows_of policy.old) engine.old.keyring }
     requires faithful { IsFaithful F.Fn policy.old }
-    ensures answers { IfOk result (λ reply.
-        Answers (rows_of policy.old) (state_of engine.old) (command_of line.now) reply (state_of engine.new)) }
+    ensures ran { IfOk result (λ reply. Ran (rows_of policy.old) (command_of line.now)
+        (state_of engine.old) (record { world = D.world shelf.old; faults = D.faults shelf.old }) reply
+        (state_of engine.new) (record { world = D.world shelf.new; faults = D.faults shelf.new })) }
+    ensures untouched { entry_for (command_of line.now) ≡ None → shelf.new ≡ shelf.old }
+    ensures later { D.faults shelf.old ≤ D.faults shelf.new }
     ensures words { IfOk result HasWords }
     ensures anew { OnOk result (IsDump line.now → (rows : PolicyRows) → IsMadeAnew rows (state_of engine.old)) }
     ensures quiet { IfOk result (λ reply. is_short reply ≡ false → StaysButMarks engine.old engine.new) }
@@ -154,18 +173,19 @@ fn answer<F: Fn(Ask) -> bool>(
     ensures rows { rows_of policy.new ≡ rows_of policy.old }
 {
     match read_line(alloc, line) {
-        Ok(command) => run(alloc, engine, steps, &command, policy),
+        Ok(command) => obey(alloc, engine, steps, &command, shelf, policy),
         Err(LineFault::Line) => Ok(Reply::Line),
         Err(LineFault::Memory) => Err(Memory),
     }
 }
 
-/// Runs a command.
-fn run<F: Fn(Ask) -> bool>(
+/// Runs a command, which may read an entry of the shelf.
+fn obey<D: Shelf, F: Fn(Ask) -> bool>(
     alloc: Global,
     engine: &mut Engine,
     steps: &mut Steps,
     command: &Command,
+    shelf: &mut D,
     policy: &mut Policy<F>,
 ) -> Result<Reply, Memory>
     requires within { IsWithin 16777216 command.now }
@@ -174,7 +194,43 @@ fn run<F: Fn(Ask) -> bool>(
     requires countable { engine.old.keyring.changes < 2 ^ 64 - 1 }
     requires judged { IsJudgedBy (rows_of policy.old) engine.old.keyring }
     requires faithful { IsFaithful F.Fn policy.old }
-    ensures does { IfOk result (λ reply. Does (rows_of policy.old) (state_of engine.old) command.now reply (state_of engine.new)) }
+    ensures ran { IfOk result (λ reply. Ran (rows_of policy.old) (Some command.now)
+        (state_of engine.old) (record { world = D.world shelf.old; faults = D.faults shelf.old }) reply
+        (state_of engine.new) (record { world = D.world shelf.new; faults = D.faults shelf.new })) }
+    ensures untouched { entry_for (Some command.now) ≡ None → shelf.new ≡ shelf.old }
+    ensures later { D.faults shelf.old ≤ D.faults shelf.new }
+    ensures anew { OnOk result (OnDump command.now ((rows : PolicyRows) → IsMadeAnew rows (state_of engine.old))) }
+    ensures quiet { IfOk result (λ reply. is_short reply ≡ false → StaysButMarks engine.old engine.new) }
+    ensures kept { OnErr result (StaysButMarks engine.old engine.new) }
+    ensures makes { Makes result command.now engine.old engine.new steps.old.made steps.new.made }
+    ensures standard { engine.new.keyring.limits ≡ standard_limits }
+    ensures counted { IsOneChange engine.old.keyring engine.new.keyring }
+    ensures judged { IsJudgedBy (rows_of policy.old) engine.new.keyring }
+    ensures faithful { IsFaithful F.Fn policy.new }
+    ensures rows { rows_of policy.new ≡ rows_of policy.old }
+{
+    match command {
+        Command::Load(name) => load(engine, name, shelf, policy),
+        _ => run(alloc, engine, steps, command, policy),
+    }
+}
+
+/// Runs a command that reads no entry.
+fn run<F: Fn(Ask) -> bool>(
+    alloc: Global,
+    engine: &mut Engine,
+    steps: &mut Steps,
+    command: &Command,
+    policy: &mut Policy<F>,
+) -> Result<Reply, Memory>
+    requires alone { entry_for (Some command.now) ≡ None }
+    requires within { IsWithin 16777216 command.now }
+    requires spelled { HasSpelling command.now }
+    requires standard { engine.old.keyring.limits ≡ standard_limits }
+    requires countable { engine.old.keyring.changes < 2 ^ 64 - 1 }
+    requires judged { IsJudgedBy (rows_of policy.old) engine.old.keyring }
+    requires faithful { IsFaithful F.Fn policy.old }
+    ensures does { IfOk result (λ reply. Does (rows_of policy.old) (state_of engine.old) command.now Answer.absent reply (state_of engine.new)) }
     ensures anew { OnOk result (OnDump command.now ((rows : PolicyRows) → IsMadeAnew rows (state_of engine.old))) }
     ensures quiet { IfOk result (λ reply. is_short reply ≡ false → StaysButMarks engine.old engine.new) }
     ensures kept { OnErr result (StaysButMarks engine.old engine.new) }
@@ -187,6 +243,7 @@ fn run<F: Fn(Ask) -> bool>(
 {
     match command {
         Command::Import(octets) => import(engine, octets.items(), policy),
+        Command::Load(_) => unreachable!(),
         Command::Remove(fpr) => Ok(remove(engine, fpr)),
         Command::Good(number, fpr) => set_verdict(engine, *number, Verdict::Good(*fpr)),
         Command::Bad(number) => set_verdict(engine, *number, Verdict::Bad),

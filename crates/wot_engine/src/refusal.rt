@@ -44,7 +44,8 @@ pub fn reply_to(refused: Refused) -> Result<Reply, Memory>
     match refused {
         Refused::Keyring(Refusal::Packet(fault)) => Ok(Reply::Packet(fault.why.number(), fault.at)),
         Refused::Keyring(Refusal::Cert(fault)) => Ok(cert_fault(fault)),
-        Refused::Keyring(Refusal::Misfiled | Refusal::Clash) => Ok(Reply::Clash),
+        Refused::Keyring(Refusal::Misfiled) => Ok(Reply::Misfiled),
+        Refused::Keyring(Refusal::Clash) => Ok(Reply::Clash),
         Refused::Keyring(Refusal::Full(limit)) => Ok(Reply::Full(limit)),
         Refused::View(ViewFault::View) => Ok(Reply::View),
         Refused::View(ViewFault::Absent) => Ok(Reply::Absent),

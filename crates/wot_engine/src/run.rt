@@ -4,13 +4,14 @@ ghost use Rattle.wot_keyring.specs.Kept.{IsJudgedBy};
 ghost use Rattle.wot_cache.specs.State.{state_of};
 ghost use Rattle.wot_io.specs.Counts.{Rose};
 ghost use Rattle.wot_io.specs.Input.{lines_of};
-ghost use Rattle.wot_engine.specs.Transcript.{Told, TakesAtMost, Answered, Begun, AnsweredWhole, AnsweredMost};
+ghost use Rattle.wot_engine.specs.Transcript.{AllTold, TakesAtMost, Answered, Begun, AnsweredWhole, AnsweredMost};
 ghost use Rattle.wot_engine.specs.Turn.{Replies};
 ghost use Rattle.wot_engine.specs.declared.run.Stop.TheVariants as stops;
 
 use crate::laws::each_line_has_one_outcome;
 use crate::machine::Machine;
 use std::alloc::Global;
+use wot_certd::Shelf;
 use wot_io::{Failed, Line, Lines, LinesFault, Sink, Source, write_all};
 use wot_policy::{Ask, Policy};
 use wot_script::{Reply, print_reply};
@@ -46,10 +47,11 @@ impl From<Failed> for Stop {
 }
 
 /// The reply to a line that was given.
-fn reply_to<F: Fn(Ask) -> bool>(
+fn reply_to<D: Shelf, F: Fn(Ask) -> bool>(
     machine: &mut Machine,
     line: Line,
     text: &[u8],
+    shelf: &mut D,
     policy: &mut Policy<F>,
     out: &mut Vec<u8>,
 ) -> Result<(), Memory>
@@ -58,14 +60,15 @@ fn reply_to<F: Fn(Ask) -> bool>(
     requires countable { machine.old.engine.keyring.changes < 2 ^ 64 - 1 }
     requires judged { IsJudgedBy (rows_of policy.old) machine.old.engine.keyring }
     requires faithful { IsFaithful F.Fn policy.old }
-    ensures replies { OnOk result (Replies (rows_of policy.old) line text.now (state_of machine.old.engine) out.new.items (state_of machine.new.engine)) }
+    ensures replies { OnOk result (Replies (rows_of policy.old) line text.now
+        (state_of machine.old.engine) (D.world shelf.old) out.new.items (state_of machine.new.engine) (D.world shelf.new)) }
     ensures counted { machine.new.engine.keyring.changes ≤ machine.old.engine.keyring.changes + 1 }
     ensures judged { IsJudgedBy (rows_of policy.old) machine.new.engine.keyring }
     ensures faithful { IsFaithful F.Fn policy.new }
     ensures rows { rows_of policy.new ≡ rows_of policy.old }
 {
     match line {
-        Line::Text => machine.line(text, policy, out),
+        Line::Text => machine.line(text, shelf, policy, out),
         Line::Long => print_reply(&Reply::Long, out),
         Line::End => unreachable!(),
     }
@@ -73,25 +76,26 @@ fn reply_to<F: Fn(Ask) -> bool>(
 
 /// Answers the lines of an input. The reply to each is written before the next one is asked for.
 #[tactic(auto, using(crate::proofs::Rules::turning))]
-pub fn run<S: Source, K: Sink, F: Fn(Ask) -> bool>(
+pub fn run<S: Source, K: Sink, D: Shelf, F: Fn(Ask) -> bool>(
     alloc: Global,
     input: &mut S,
     output: &mut K,
+    shelf: &mut D,
     policy: &mut Policy<F>,
 ) -> Result<(), Stop>
     requires faithful { IsFaithful F.Fn policy.old }
-    ensures whole { Told (S.left input.old) (K.written output.old) (λ octets before.
-        OnOk result (Answered (rows_of policy.old) (lines_of octets) before (K.written output.new) × (S.left input.new ≡ Some []))) }
-    ensures prefix { Told (S.left input.old) (K.written output.old) (λ octets before.
-        Begun (rows_of policy.old) (lines_of octets) before (K.written output.new)) }
+    ensures whole { AllTold (S.left input.old) (K.written output.old) (D.world shelf.old) (λ octets before world.
+        OnOk result (Answered (rows_of policy.old) world (lines_of octets) before (K.written output.new) × (S.left input.new ≡ Some []))) }
+    ensures prefix { AllTold (S.left input.old) (K.written output.old) (D.world shelf.old) (λ octets before world.
+        Begun (rows_of policy.old) world (lines_of octets) before (K.written output.new)) }
     ensures source { IsErrOf result Stop.Read → Rose (S.faults input.old) (S.faults input.new) }
-    ensures taken { Told (S.left input.old) (K.written output.old) (λ octets before.
-        IsErrOf result Stop.Read → AnsweredWhole (rows_of policy.old) octets before (S.left input.new) (K.written output.new)) }
+    ensures taken { AllTold (S.left input.old) (K.written output.old) (D.world shelf.old) (λ octets before world.
+        IsErrOf result Stop.Read → AnsweredWhole (rows_of policy.old) world octets before (S.left input.new) (K.written output.new)) }
     ensures sink { IsErrOf result Stop.Write → Rose (K.faults output.old) (K.faults output.new) }
-    ensures most { Told (S.left input.old) (K.written output.old) (λ octets before.
-        IsErrOf result Stop.TooMuch → AnsweredMost (rows_of policy.old) octets before (S.left input.new) (K.written output.new)) }
-    ensures most_only { Told (S.left input.old) (K.written output.old) (λ octets before.
-        AnsweredMost (rows_of policy.old) octets before (S.left input.new) (K.written output.new) →
+    ensures most { AllTold (S.left input.old) (K.written output.old) (D.world shelf.old) (λ octets before world.
+        IsErrOf result Stop.TooMuch → AnsweredMost (rows_of policy.old) world octets before (S.left input.new) (K.written output.new)) }
+    ensures most_only { AllTold (S.left input.old) (K.written output.old) (D.world shelf.old) (λ octets before world.
+        AnsweredMost (rows_of policy.old) world octets before (S.left input.new) (K.written output.new) →
         IsErrOf result Stop.TooMuch ⊎ IsErrOf result Stop.Memory) }
     ensures at_most { TakesAtMost (S.left input.old) (S.left input.new) }
     ensures faithful { IsFaithful F.Fn policy.new }
@@ -108,7 +112,14 @@ pub fn run<S: Source, K: Sink, F: Fn(Ask) -> bool>(
             Err(LinesFault::ReadFault) => return Err(Stop::Read),
             Err(LinesFault::TooMuch) => return Err(Stop::TooMuch),
         };
-        reply_to(&mut machine, line, lines.text(), policy, &mut out)?;
+        reply_to(
+            &mut machine,
+            line,
+            lines.text(),
+            shelf,
+            policy,
+            &mut out,
+        )?;
         write_all(output, &out)?;
         out.clear();
     }

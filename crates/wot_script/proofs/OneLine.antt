@@ -16,12 +16,13 @@ use Rattle.wot_types.specs.Fpr.{digits_of, fpr_of_digits, octets_of}
 use Rattle.wot_types.specs.declared.fpr.Fpr.{Fpr}
 use Rattle.wot_types.specs.declared.fpr.Fpr.TheVariants.{V4}
 use Rattle.wot_types.specs.SigNumber.{number_digits, number_of_digits}
+use Rattle.wot_types.specs.declared.name.Name.{Name}
 use Rattle.wot_types.specs.declared.number.SigNumber.{SigNumber}
 use Rattle.wot_types.specs.ViewName.{is_name_octet, is_view_name}
 use Rattle.wot_script.specs.Spelling.{IsLineFor, most_octets}
 use Rattle.wot_script.specs.Texts.{joined}
 use Rattle.wot_script.specs.declared.command.Command.{Command}
-use Rattle.wot_script.specs.declared.command.Command.TheVariants.{Import, Remove, Good, Bad, Unjudge, Time, Root, Close, Ask, Explain, Pending, Keys, Export, Dump}
+use Rattle.wot_script.specs.declared.command.Command.TheVariants.{Import, Load, Remove, Good, Bad, Unjudge, Time, Root, Close, Ask, Explain, Pending, Keys, Export, Dump}
 use Rattle.wot_script.specs.Uid.{escape, escaped}
 use Rattle.wot_script.proofs.Spaceless.{Lacks, feedless_digits, lacks_from_test, lacks_decimal, lacks_test, lacks_view_name}
 
@@ -163,6 +164,12 @@ fpr_digits fpr e = record { free = feedless_digits (octets_of fpr); size = lengt
 
 pub number_digits_are : (number : SigNumber) → number_of_digits (number_digits number) ≡ Some number → AreDigits 64 (number_digits number)
 number_digits_are number e = record { free = feedless_digits number.0; size = length-number_digits (number_digits number) number e }
+
+pub load_line : (name : Name) (text : List ℕ) → Lacks 10 text → length text ≤ 40
+    → IsLineFor (Load name) (joined (codes "load " ∷ text ∷ []))
+unfolding lacks_test
+load_line name text free size =
+    one_line (Load name) 108 (codes "oad ") (text ∷ []) refl (λ e. omega arith) (free, tt) (omega (arith, size))
 
 pub remove_line : (fpr : Fpr) (ds : List ℕ) → AreDigits 40 ds → IsLineFor (Remove fpr) (joined (codes "drop " ∷ ds ∷ []))
 unfolding lacks_test

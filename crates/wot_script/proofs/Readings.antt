@@ -6,14 +6,15 @@ use Rattle.wot_types.specs.Fpr.{fpr_of_digits}
 use Rattle.wot_types.specs.SigNumber.{number_of_digits}
 use Rattle.wot_types.specs.ViewName.{is_view_name, view_name_of}
 use Rattle.wot_types.specs.declared.fpr.Fpr.{Fpr}
+use Rattle.wot_types.specs.declared.name.Name.{Name}
 use Rattle.wot_types.specs.declared.number.SigNumber.{SigNumber}
 use Rattle.wot_script.specs.Decimal.{decimal_up_to, positive_up_to}
 use Rattle.wot_script.specs.Fields.{◌>>=◌, cut, octets_of_hex}
-use Rattle.wot_script.specs.Grammar.{about_of, asked_of, command_of, drop_of, explained_of, export_of, import_of, judgement_of, listed_of, root_of, setting_of, single_of, verdict_of, view_of}
+use Rattle.wot_script.specs.Grammar.{about_of, asked_of, command_of, drop_of, entry_of, explained_of, export_of, import_of, judgement_of, listed_of, load_of, root_of, setting_of, single_of, verdict_of, view_of}
 use Rattle.wot_script.specs.Texts.{joined}
 use Rattle.wot_script.specs.Uid.{unescaped}
 use Rattle.wot_script.specs.declared.command.Command.{Command}
-use Rattle.wot_script.specs.declared.command.Command.TheVariants.{Import, Remove, Good, Bad, Unjudge, Time, Root, Close, Ask, Explain, Pending, Keys, Export, Dump}
+use Rattle.wot_script.specs.declared.command.Command.TheVariants.{Import, Load, Remove, Good, Bad, Unjudge, Time, Root, Close, Ask, Explain, Pending, Keys, Export, Dump}
 use Rattle.wot_script.specs.declared.read.About.{About}
 use Rattle.wot_script.specs.declared.read.About.TheVariants.{Setting, Asked, Listed, Explained}
 use Rattle.wot_script.proofs.Spaceless.{Spaceless, cut_spaceless, spaceless_view_name}
@@ -26,6 +27,11 @@ pub import_reads : (digits octets : List ℕ) → octets_of_hex digits ≡ Some 
     → command_of (joined (codes "import " ∷ digits ∷ [])) ≡ Some (Import octets)
 unfolding command_of import_of
 import_reads digits octets e = ap (λ text. option_map Import (octets_of_hex text)) (append-nil digits) ∙ ap (option_map Import) e
+
+pub load_reads : (text : List ℕ) (name : Name) → entry_of text ≡ Some name
+    → command_of (joined (codes "load " ∷ text ∷ [])) ≡ Some (Load name)
+unfolding command_of load_of
+load_reads text name e = ap (λ rest. option_map Load (entry_of rest)) (append-nil text) ∙ ap (option_map Load) e
 
 pub drop_reads : (digits : List ℕ) (fpr : Fpr) → fpr_of_digits digits ≡ Some fpr
     → command_of (joined (codes "drop " ∷ digits ∷ [])) ≡ Some (Remove fpr)

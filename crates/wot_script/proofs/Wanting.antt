@@ -17,13 +17,13 @@ use Rattle.wot_types.specs.ViewName.{view_name_of}
 use Rattle.wot_types.specs.declared.number.SigNumber.{SigNumber}
 use Rattle.wot_script.specs.Decimal.{decimal_up_to, is_decimal, positive_up_to}
 use Rattle.wot_script.specs.Fields.{◌>>=◌, behind, cut}
-use Rattle.wot_script.specs.Grammar.{about_of, asked_of, command_of, drop_of, explained_of, export_of, import_of, judgement_of, listed_of, read_behind, root_of, setting_of, single_of, verdict_of, view_of}
+use Rattle.wot_script.specs.Grammar.{about_of, asked_of, command_of, drop_of, entry_of, explained_of, export_of, import_of, judgement_of, listed_of, load_of, read_behind, root_of, setting_of, single_of, verdict_of, view_of}
 use Rattle.wot_script.specs.Spelling.{HasSpelling, IsWithin}
 use Rattle.wot_script.specs.Uid.{unescaped}
 use Rattle.wot_script.specs.declared.command.Command.{Command}
 use Rattle.wot_script.specs.declared.read.About.{About}
 use Rattle.wot_script.specs.declared.read.About.TheVariants.{Setting, Asked, Listed, Explained}
-use Rattle.wot_script.specs.declared.command.Command.TheVariants.{Import, Remove, Good, Bad, Unjudge, Time, Root, Close, Ask, Explain, Pending, Keys, Export, Dump}
+use Rattle.wot_script.specs.declared.command.Command.TheVariants.{Import, Load, Remove, Good, Bad, Unjudge, Time, Root, Close, Ask, Explain, Pending, Keys, Export, Dump}
 
 behind_short : (prefix text rest : List ℕ) → behind prefix text ≡ Some rest → length rest ≤ length text
 behind_short [] text rest e = let same : text ≡ rest = cc in omega (arith, ap length same)
@@ -81,6 +81,10 @@ module _ (size : ℕ) where
           let twice = (decode_pairs-ok 0 text octets pairs).1 in
           (tt, omega (arith, twice, short))
       decoded (Err fault) e = tt
+
+  load_spelled : (text : List ℕ) → Spelled (load_of text)
+  unfolding load_of
+  load_spelled text = mapped Load (entry_of text) (λ name e. (tt, tt))
 
   drop_spelled : (text : List ℕ) → Spelled (drop_of text)
   unfolding drop_of
@@ -179,7 +183,9 @@ module _ (size : ℕ) where
       let view : Option Command = read_behind (behind (codes "view ") line) (view_of Setting) ask in
       let verdict : Option Command = read_behind (behind (codes "verdict ") line) verdict_of view in
       let remove : Option Command = read_behind (behind (codes "drop ") line) drop_of verdict in
-      first (behind (codes "import ") line) refl remove (
+      let load : Option Command = read_behind (behind (codes "load ") line) load_of remove in
+      first (behind (codes "import ") line) refl load (
+      behind_either (behind (codes "load ") line) load_of remove load_spelled (
       behind_either (behind (codes "drop ") line) drop_of verdict drop_spelled (
       behind_either (behind (codes "verdict ") line) verdict_of view verdict_spelled (
       behind_either (behind (codes "view ") line) (view_of Setting) ask (view_spelled Setting) (
@@ -187,7 +193,7 @@ module _ (size : ℕ) where
       behind_either (behind (codes "list ") line) (view_of Listed) explain (view_spelled Listed) (
       behind_either (behind (codes "explain ") line) (view_of Explained) export (view_spelled Explained) (
       behind_either (behind (codes "export ") line) export_of tail export_spelled (
-      single_spelled line))))))))
+      single_spelled line)))))))))
     where
       first : (o : Option (List ℕ)) → behind (codes "import ") line ≡ o → (other : Option Command) → Spelled other → Spelled (read_behind o import_of other)
       first None e other k = k

@@ -5,6 +5,9 @@ use Rattle.std.specs.Option.{option_map}
 use Rattle.wot_types.specs.Fpr.{fpr_of_digits}
 use Rattle.wot_types.specs.SigNumber.{number_of_digits}
 use Rattle.wot_types.specs.ViewName.{view_name_of}
+use Rattle.wot_types.specs.declared.fpr.Fpr.{Fpr}
+use Rattle.wot_types.specs.declared.name.Name.{Name}
+use Rattle.wot_types.specs.declared.name.Name.TheVariants.{Cert, TrustRoot}
 use Rattle.wot_types.specs.declared.number.SigNumber.{SigNumber}
 use Rattle.wot_script.specs.Decimal.{decimal_up_to, positive_up_to}
 use Rattle.wot_script.specs.Fields.{◌>>=◌, behind, cut, octets_of_hex}
@@ -12,7 +15,7 @@ use Rattle.wot_script.specs.Uid.{unescaped}
 use Rattle.wot_script.specs.declared.command.Command.{Command}
 use Rattle.wot_script.specs.declared.read.About.{About}
 use Rattle.wot_script.specs.declared.read.About.TheVariants.{Setting, Asked, Listed, Explained}
-use Rattle.wot_script.specs.declared.command.Command.TheVariants.{Import, Remove, Good, Bad, Unjudge, Time}
+use Rattle.wot_script.specs.declared.command.Command.TheVariants.{Import, Load, Remove, Good, Bad, Unjudge, Time}
 use Rattle.wot_script.specs.declared.command.Command.TheVariants.{Root, Close, Ask, Explain, Pending, Keys, Export, Dump}
 
 -- A text with this prefix is read so, and another text otherwise.
@@ -23,6 +26,19 @@ read_behind None read other = other
 -- behind `import `: HEX
 unfoldable pub import_of : List ℕ → Option Command
 import_of digits = option_map Import (octets_of_hex digits)
+
+-- where this may be read as a fingerprint
+abbrev pub entry_else : List ℕ → Option Fpr → Option Name
+entry_else text (Some fpr) = Some (Cert fpr)
+entry_else text None = if bytes_eq text (codes "trust-root") then Some TrustRoot else None
+
+-- NAME: FPR or `trust-root`
+abbrev pub entry_of : List ℕ → Option Name
+entry_of text = entry_else text (fpr_of_digits text)
+
+-- behind `load `: NAME
+unfoldable pub load_of : List ℕ → Option Command
+load_of text = option_map Load (entry_of text)
 
 -- behind `drop `: FPR
 unfoldable pub drop_of : List ℕ → Option Command
@@ -110,6 +126,7 @@ single_of line =
 unfoldable pub command_of : List ℕ → Option Command
 command_of line =
     read_behind (behind (codes "import ") line) import_of (
+    read_behind (behind (codes "load ") line) load_of (
     read_behind (behind (codes "drop ") line) drop_of (
     read_behind (behind (codes "verdict ") line) verdict_of (
     read_behind (behind (codes "view ") line) (view_of Setting) (
@@ -117,4 +134,4 @@ command_of line =
     read_behind (behind (codes "list ") line) (view_of Listed) (
     read_behind (behind (codes "explain ") line) (view_of Explained) (
     read_behind (behind (codes "export ") line) export_of (
-    single_of line))))))))
+    single_of line)))))))))

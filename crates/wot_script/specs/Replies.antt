@@ -19,8 +19,8 @@ use Rattle.wot_script.specs.declared.reply.Hint.{Hint}
 use Rattle.wot_script.specs.declared.reply.Hint.TheVariants.{Full as Fingerprint, Short, Nothing}
 use Rattle.wot_script.specs.declared.reply.KeyLine.{KeyLine}
 use Rattle.wot_script.specs.declared.reply.Reply.{Reply}
-use Rattle.wot_script.specs.declared.reply.Reply.TheVariants.{Taken, Done, Amount, Explained, Pending, Keys, Export, Dump, Long, Line, View}
-use Rattle.wot_script.specs.declared.reply.Reply.TheVariants.{Packet, Compressed, Secret, Kind, Order, Empty, Clash, Absent, Full}
+use Rattle.wot_script.specs.declared.reply.Reply.TheVariants.{Taken, Done, Amount, Explained, Pending, Keys, Export, Dump, Long, Line, View, Shelf}
+use Rattle.wot_script.specs.declared.reply.Reply.TheVariants.{Packet, Compressed, Secret, Kind, Order, Empty, Misfiled, Clash, Absent, Full}
 
 -- `path AMOUNT steps L root FPR`, or `step ISSUER TARGET DEPTH AMOUNT UID`
 abbrev pub answer_line : AnswerLine → List ℕ
@@ -78,12 +78,14 @@ reply_text (Dump count lines) = joined_line (codes "dump " ∷ decimal count ∷
 reply_text Long = refused (codes "long" ∷ [])
 reply_text Line = refused (codes "line" ∷ [])
 reply_text View = refused (codes "view" ∷ [])
+reply_text Shelf = joined_line (codes "fault shelf" ∷ [])
 reply_text (Packet why offset) = refused (codes "packet " ∷ decimal why ∷ codes " " ∷ decimal offset ∷ [])
 reply_text Compressed = refused (codes "compressed" ∷ [])
 reply_text Secret = refused (codes "secret" ∷ [])
 reply_text (Kind kind offset) = refused (codes "kind " ∷ decimal kind ∷ codes " " ∷ decimal offset ∷ [])
 reply_text (Order offset) = refused (codes "order " ∷ decimal offset ∷ [])
 reply_text Empty = refused (codes "empty" ∷ [])
+reply_text Misfiled = refused (codes "misfiled" ∷ [])
 reply_text Clash = refused (codes "clash" ∷ [])
 reply_text Absent = refused (codes "absent" ∷ [])
 reply_text (Full limit) = refused (codes "full " ∷ limit_word limit ∷ [])
@@ -129,4 +131,5 @@ is_refusal (Pending count lines) = false
 is_refusal (Keys count lines) = false
 is_refusal (Export octets) = false
 is_refusal (Dump count lines) = false
+is_refusal Shelf = false
 is_refusal _ = true

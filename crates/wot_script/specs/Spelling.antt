@@ -5,10 +5,12 @@ use Rattle.std.specs.Fmt.{decimal}
 use Rattle.hex.specs.Hex.{encode_lower}
 use Rattle.wot_types.specs.Fpr.{digits_of}
 use Rattle.wot_types.specs.SigNumber.{number_digits}
+use Rattle.wot_types.specs.declared.name.Name.{Name}
+use Rattle.wot_types.specs.declared.name.Name.TheVariants.{Cert, TrustRoot}
 use Rattle.wot_script.specs.Texts.{joined}
 use Rattle.wot_script.specs.Uid.{escaped}
 use Rattle.wot_script.specs.declared.command.Command.{Command}
-use Rattle.wot_script.specs.declared.command.Command.TheVariants.{Import, Remove, Good, Bad, Unjudge, Time}
+use Rattle.wot_script.specs.declared.command.Command.TheVariants.{Import, Load, Remove, Good, Bad, Unjudge, Time}
 use Rattle.wot_script.specs.declared.command.Command.TheVariants.{Root, Close, Ask, Explain, Pending, Keys, Export, Dump}
 
 -- A question, and a list, have a spelling where they want at least 1; every other command has one.
@@ -22,9 +24,15 @@ abbrev pub IsWithin : ℕ → Command → Type 0
 IsWithin size (Import octets) = 2 * length octets ≤ size
 IsWithin size _ = Unit {0}
 
+-- the name of an entry of the shelf
+abbrev pub entry_text : Name → List ℕ
+entry_text (Cert fpr) = digits_of fpr
+entry_text TrustRoot = codes "trust-root"
+
 -- the line of a command, without a line feed
 unfoldable pub spelling : Command → List ℕ
 spelling (Import octets) = joined (codes "import " ∷ encode_lower octets ∷ [])
+spelling (Load name) = joined (codes "load " ∷ entry_text name ∷ [])
 spelling (Remove fpr) = joined (codes "drop " ∷ digits_of fpr ∷ [])
 spelling (Good number fpr) = joined (codes "verdict " ∷ number_digits number ∷ codes " good " ∷ digits_of fpr ∷ [])
 spelling (Bad number) = joined (codes "verdict " ∷ number_digits number ∷ codes " bad" ∷ [])

@@ -1,11 +1,13 @@
 use crate::Octets;
-use wot_types::{Fpr, SigNumber, UserId, ViewName};
+use wot_types::{Fpr, Name, SigNumber, UserId, ViewName};
 
 /// What a line asks for.
 #[derive(Debug, Drop, PartialEq, Eq)]
 pub enum Command {
     /// `import HEX`: unites the certificates of these octets with the keyring.
     Import(Octets),
+    /// `load NAME`: unites the one certificate of this entry of the shelf with the keyring.
+    Load(Name),
     /// `drop FPR`: takes the certificate out.
     Remove(Fpr),
     /// `verdict NUM good FPR`: the signature is good by this issuer.

@@ -3,8 +3,8 @@ ghost use Rattle.std.specs.Option.{option_map};
 ghost use Rattle.wot_types.specs.Fpr.{fpr_of_digits};
 ghost use Rattle.wot_script.specs.Fields.{octets_of_hex};
 ghost use Rattle.wot_script.specs.Decimal.{decimal_up_to, positive_up_to};
-ghost use Rattle.wot_script.specs.Grammar.{about_of, asked_of, command_of, drop_of, explained_of, export_of, import_of};
-ghost use Rattle.wot_script.specs.Grammar.{judgement_of, listed_of, root_of, setting_of, single_of, verdict_of, view_of};
+ghost use Rattle.wot_script.specs.Grammar.{about_of, asked_of, command_of, drop_of, entry_of, explained_of, export_of, import_of};
+ghost use Rattle.wot_script.specs.Grammar.{judgement_of, listed_of, load_of, root_of, setting_of, single_of, verdict_of, view_of};
 ghost use Rattle.wot_script.specs.Spelling.{HasSpelling, IsWithin};
 
 use crate::decimal::{read_decimal, read_positive};
@@ -13,7 +13,7 @@ use crate::uid::read_uid;
 use crate::{Command, Octets};
 use hex::FromHexError;
 use std::alloc::Global;
-use wot_types::{Fpr, Memory, SigNumber, ViewName};
+use wot_types::{Fpr, Memory, Name, SigNumber, ViewName};
 
 /// Why a line gave no command.
 #[derive(Clone, Copy, Debug, PartialEq, Eq)]
@@ -42,6 +42,26 @@ fn read_import(alloc: Global, digits: &[u8]) -> Result<Option<Command>, Memory>
         Some(octets) => Ok(Some(Command::Import(octets))),
         None => Ok(None),
     }
+}
+
+fn read_entry(text: &[u8]) -> Option<Name>
+    ensures { result ≡ entry_of text.now }
+{
+    if let Some(fpr) = Fpr::read(text) {
+        return Some(Name::Cert(fpr));
+    }
+    if text == b"trust-root".as_slice() {
+        return Some(Name::TrustRoot);
+    }
+    None
+}
+
+#[tactic(auto, unfolding(crate::specs::Grammar::load_of))]
+fn read_load(text: &[u8]) -> Option<Command>
+    ensures { result ≡ load_of text.now }
+{
+    let name = read_entry(text)?;
+    Some(Command::Load(name))
 }
 
 #[tactic(auto, unfolding(crate::specs::Grammar::drop_of))]
@@ -234,6 +254,9 @@ fn read_command(alloc: Global, line: &[u8]) -> Result<Option<Command>, Memory>
 {
     if let Some(rest) = after_prefix(b"import ", line) {
         return read_import(alloc, rest);
+    }
+    if let Some(rest) = after_prefix(b"load ", line) {
+        return Ok(read_load(rest));
     }
     if let Some(rest) = after_prefix(b"drop ", line) {
         return Ok(read_drop(rest));

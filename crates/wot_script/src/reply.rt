@@ -28,6 +28,8 @@ pub enum Reply {
     Line,
     /// The view isn't open.
     View,
+    /// The shelf failed.
+    Shelf,
     /// The first packet fault: its number and its offset.
     Packet(u8, usize),
     /// A packet of compressed data.
@@ -40,6 +42,8 @@ pub enum Reply {
     Order(usize),
     /// No key.
     Empty,
+    /// The entry of the shelf isn't the one certificate that its name tells.
+    Misfiled,
     /// One fingerprint, two key bodies.
     Clash,
     /// The named thing isn't there.

@@ -1,13 +1,14 @@
 ghost use Rattle.std.specs.Prelude.{◌≡◌, ◌++◌, OnOk, OnErr};
 ghost use Rattle.wot_script.specs.Appends.{Appends};
 ghost use Rattle.wot_script.specs.Grammar.{command_of};
-ghost use Rattle.wot_script.specs.Spelling.{HasSpelling, IsLineFor, spelling};
+ghost use Rattle.wot_script.specs.Pieces.{piece_text};
+ghost use Rattle.wot_script.specs.Spelling.{HasSpelling, IsLineFor, entry_text, spelling};
 
 use crate::Command;
 use crate::piece::Piece::{Decimal, Hex, Key, Signature, Text, Uid};
-use crate::piece::put_pieces;
+use crate::piece::{Piece, put_pieces};
 use crate::spelled::spelling_is_read;
-use wot_types::{Fpr, Memory, UserId, ViewName};
+use wot_types::{Fpr, Memory, Name, UserId, ViewName};
 
 #[tactic(auto, unfolding(crate::specs::Spelling::spelling))]
 fn put_time(view: &ViewName, t: u32, out: &mut Vec<u8>) -> Result<(), Memory>
@@ -99,12 +100,23 @@ fn put_explain<'a>(
     )
 }
 
+/// The piece that spells the name of an entry.
+fn entry_piece(name: &Name) -> Piece<'_>
+    ensures { piece_text result ≡ entry_text name.now }
+{
+    match name {
+        Name::Cert(fpr) => Key(fpr),
+        Name::TrustRoot => Text(b"trust-root"),
+    }
+}
+
 #[tactic(auto, unfolding(crate::specs::Spelling::spelling))]
 fn put_command(command: &Command, out: &mut Vec<u8>) -> Result<(), Memory>
     ensures { Appends (spelling command.now) out.old out.new result }
 {
     match command {
         Command::Import(octets) => put_pieces(&[Text(b"import "), Hex(octets.items())], out),
+        Command::Load(name) => put_pieces(&[Text(b"load "), entry_piece(name)], out),
         Command::Remove(fpr) => put_pieces(&[Text(b"drop "), Key(fpr)], out),
         Command::Good(number, fpr) => {
             let number = Signature(number);

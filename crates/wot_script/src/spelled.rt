@@ -1,13 +1,15 @@
-ghost use Rattle.std.specs.Prelude.{◌≡◌, ◌≤◌, ◌<◌, ◌^◌};
+ghost use Rattle.std.specs.Prelude.{◌≡◌, ◌≢◌, ◌≤◌, ◌<◌, ◌^◌, length};
 ghost use Rattle.std.specs.Fmt.{decimal};
+ghost use Rattle.std.specs.List.{AllByRecursion};
 ghost use Rattle.hex.specs.Hex.{encode_lower};
 ghost use Rattle.wot_script.specs.Decimal.{decimal_up_to, positive_up_to};
 ghost use Rattle.wot_script.specs.Fields.{octets_of_hex};
-ghost use Rattle.wot_script.specs.Grammar.{command_of};
-ghost use Rattle.wot_script.specs.Spelling.{HasSpelling, IsLineFor, spelling};
+ghost use Rattle.wot_script.specs.Grammar.{command_of, entry_of};
+ghost use Rattle.wot_script.specs.Spelling.{HasSpelling, IsLineFor, entry_text, spelling};
 ghost use Rattle.wot_script.specs.Uid.{escaped, unescaped};
 
 use crate::Command;
+use wot_types::Name;
 
 /// A law: the digits of octets spell these octets.
 fn hex_is_read(octets: &[u8])
@@ -37,6 +39,18 @@ fn positive_is_read(most: u32, number: u32)
     ensures small { number < 2 ^ 64 }
 {}
 
+/// A law: the name of an entry that is printed is read as that name, and is short.
+fn entry_is_read(name: &Name)
+    ensures read { entry_of (entry_text name.now) ≡ Some name.now }
+    ensures short { length (entry_text name.now) ≤ 40 }
+    ensures free { AllByRecursion (λ octet. octet ≢ 10) (entry_text name.now) }
+{
+    match name {
+        Name::Cert(fpr) => fpr.printed_is_read(),
+        Name::TrustRoot => {}
+    }
+}
+
 /// A law: the spelling of a command is read as that command, and is one line, which isn't passed over
 /// and is no longer than said.
 pub fn spelling_is_read(command: &Command)
@@ -46,6 +60,7 @@ pub fn spelling_is_read(command: &Command)
 {
     match command {
         Command::Import(octets) => hex_is_read(octets.items()),
+        Command::Load(name) => entry_is_read(name),
         Command::Remove(fpr) => fpr.printed_is_read(),
         Command::Good(number, fpr) => {
             number.printed_is_read();

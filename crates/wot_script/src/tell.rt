@@ -123,6 +123,7 @@ fn put_refusal(reply: &Reply, out: &mut Vec<u8>) -> Result<(), Memory>
             )
         }
         Reply::Empty => put_refused(b"empty", out),
+        Reply::Misfiled => put_refused(b"misfiled", out),
         Reply::Clash => put_refused(b"clash", out),
         Reply::Absent => put_refused(b"absent", out),
         Reply::Full(limit) => {
@@ -176,6 +177,7 @@ fn put_reply(reply: &Reply, out: &mut Vec<u8>) -> Result<(), Memory>
                 out,
             )
         }
+        Reply::Shelf => put_pieces(&[Text(b"fault shelf\n")], out),
         _ => put_refusal(reply, out),
     }
 }

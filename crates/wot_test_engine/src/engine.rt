@@ -4,6 +4,7 @@ use crate::layers;
 use std::alloc::Global;
 use std::cell::Cell;
 use std::test::Fail;
+use wot_certd::{MemoryShelf, Shelf};
 use wot_engine::{Machine, run_words};
 use wot_io::{Failed, MemorySink, MemorySource, Sink, Source};
 use wot_policy::{Policy, admits, standard_rows};
@@ -16,7 +17,7 @@ struct Outcome {
     left: usize,
 }
 
-fn owned(alloc: Global, words: &[&str]) -> Result<Vec<String>, Fail> {
+pub fn owned(alloc: Global, words: &[&str]) -> Result<Vec<String>, Fail> {
     let mut all = Vec::new(alloc);
     for word in words {
         all.push(String::from_str(alloc, word)?)?;
@@ -25,14 +26,14 @@ fn owned(alloc: Global, words: &[&str]) -> Result<Vec<String>, Fail> {
 }
 
 /// A source that gives five octets a read, and fails in the reads with these numbers.
-fn source_of(alloc: Global, script: &[u8], fails: &[u64]) -> Result<MemorySource, Fail> {
+pub fn source_of(alloc: Global, script: &[u8], fails: &[u64]) -> Result<MemorySource, Fail> {
     let script = script.to_vec(alloc)?;
     let fails = fails.to_vec(alloc)?;
     Ok(MemorySource::new(script, 5, fails))
 }
 
 /// A sink that takes three octets a write, and fails in the writes with these numbers.
-fn sink_of(alloc: Global, fails: &[u64]) -> Result<MemorySink, Fail> {
+pub fn sink_of(alloc: Global, fails: &[u64]) -> Result<MemorySink, Fail> {
     let fails = fails.to_vec(alloc)?;
     match MemorySink::new(alloc, 3, 8192, fails) {
         Ok(sink) => Ok(sink),
@@ -41,15 +42,21 @@ fn sink_of(alloc: Global, fails: &[u64]) -> Result<MemorySink, Fail> {
 }
 
 /// The status of a run under the standard policy.
-fn status_of<S: Source, K: Sink>(
+pub fn status_of<S: Source, K: Sink, D: Shelf>(
     alloc: Global,
     words: &[String],
     input: &mut S,
     output: &mut K,
+    shelf: &mut D,
 ) -> u8 {
     let rows = standard_rows();
     let mut policy = Policy::new(rows, |ask| admits(&rows, ask));
-    run_words(alloc, words, input, output, &mut policy)
+    run_words(alloc, words, input, output, shelf, &mut policy)
+}
+
+/// A shelf without entries.
+fn empty_shelf(alloc: Global) -> MemoryShelf {
+    MemoryShelf::new(alloc, Vec::new(alloc), Vec::new(alloc))
 }
 
 fn left_in(input: &mut MemorySource) -> usize {
@@ -68,7 +75,8 @@ fn outcome_of(
     let words = owned(alloc, words)?;
     let mut input = source_of(alloc, script, read_fails)?;
     let mut output = sink_of(alloc, write_fails)?;
-    let status = status_of(alloc, &words, &mut input, &mut output);
+    let mut shelf = empty_shelf(alloc);
+    let status = status_of(alloc, &words, &mut input, &mut output, &mut shelf);
     let written = output.written().to_vec(alloc)?;
     let left = left_in(&mut input);
     Ok(Outcome {
@@ -149,8 +157,9 @@ fn reads_and_writes_that_fail(rt: HostRuntime) -> Result<(), Fail> {
 fn reply_to(alloc: Global, line: &[u8]) -> Result<Vec<u8>, Fail> {
     let rows = standard_rows();
     let mut policy = Policy::new(rows, |ask| admits(&rows, ask));
+    let mut shelf = empty_shelf(alloc);
     let mut out = Vec::new(alloc);
-    match Machine::new(alloc).line(line, &mut policy, &mut out) {
+    match Machine::new(alloc).line(line, &mut shelf, &mut policy, &mut out) {
         Ok(()) => Ok(out),
         Err(_) => Err("memory".into()),
     }
@@ -219,7 +228,9 @@ fn each_reply_is_written_before_more_is_read(rt: HostRuntime) -> Result<(), Fail
         input: source_of(rt.alloc(), b"keys\nkeys\nkeys\n", &[])?,
     };
     let mut output = HeardSink { log: &log };
-    assert_eq!(rt; status_of(rt.alloc(), &words, &mut input, &mut output), 0);
+    let mut shelf = empty_shelf(rt.alloc());
+    let status = status_of(rt.alloc(), &words, &mut input, &mut output, &mut shelf);
+    assert_eq!(rt; status, 0);
     assert_eq!(rt; log.get(), 1_212_121);
     Ok(())
 }

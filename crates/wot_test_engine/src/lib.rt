@@ -13,3 +13,5 @@ mod kept;
 mod keyring;
 #[cfg(test)]
 mod layers;
+#[cfg(test)]
+mod shelf;

@@ -12,7 +12,7 @@ use wot_types::{Fpr, Limit, SigNumber, UserId, ViewName};
 
 /// Lines, and how the command that was read is printed; `None` where a line is no command. `$`
 /// stands for a fingerprint, `%` for a signature number.
-static LINES: [(&[u8], Option<&[u8]>); 88] = [
+static LINES: [(&[u8], Option<&[u8]>); 97] = [
     (b"import ", Some(b"import ")),
     (b"import c6", Some(b"import c6")),
     (b"import C6aB0f", Some(b"import c6ab0f")),
@@ -22,6 +22,18 @@ static LINES: [(&[u8], Option<&[u8]>); 88] = [
     (b"import c", None),
     (b"import cg", None),
     (b"Import c6", None),
+    (b"load $", Some(b"load $")),
+    (
+        b"load C959BDBAFA32A2F89A153B678CFDE12197965A9A",
+        Some(b"load $"),
+    ),
+    (b"load trust-root", Some(b"load trust-root")),
+    (b"load Trust-root", None),
+    (b"load trust-root ", None),
+    (b"load trust_root", None),
+    (b"load %", None),
+    (b"load ", None),
+    (b"load", None),
     (b"drop $", Some(b"drop $")),
     (
         b"drop C959BDBAFA32A2F89A153B678CFDE12197965A9A",
@@ -232,7 +244,7 @@ fn is_printed_without_words(alloc: Global, reply: &Reply, text: &[u8]) -> Result
 }
 
 /// Replies of one line, and how they are printed.
-fn short_replies(export: Octets, dump: Octets) -> [(Reply, &'static [u8]); 18] {
+fn short_replies(export: Octets, dump: Octets) -> [(Reply, &'static [u8]); 20] {
     let most = u64::MAX;
     [
         (Reply::Taken(2, 1, 20), b"ok taken 2 skipped 1 new 20\n"),
@@ -246,12 +258,14 @@ fn short_replies(export: Octets, dump: Octets) -> [(Reply, &'static [u8]); 18] {
         (Reply::Long, b"refused long\n"),
         (Reply::Line, b"refused line\n"),
         (Reply::View, b"refused view\n"),
+        (Reply::Shelf, b"fault shelf\n"),
         (Reply::Packet(3, 0), b"refused packet 3 0\n"),
         (Reply::Compressed, b"refused compressed\n"),
         (Reply::Secret, b"refused secret\n"),
         (Reply::Kind(9, 18), b"refused kind 9 18\n"),
         (Reply::Order(5), b"refused order 5\n"),
         (Reply::Empty, b"refused empty\n"),
+        (Reply::Misfiled, b"refused misfiled\n"),
         (Reply::Clash, b"refused clash\n"),
         (Reply::Absent, b"refused absent\n"),
         (Reply::Full(Limit::Views), b"refused full views\n"),

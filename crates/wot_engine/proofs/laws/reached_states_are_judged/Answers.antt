@@ -2,5 +2,5 @@ use Rattle.wot_engine.proofs.Marked.{reached_marked}
 use Rattle.wot_engine.proofs.laws.reached_states_are_judged.Goals as goal
 
 pub returns : goal.returns
-returns c rows lines replies state run =
-    reached_marked rows (c.judging.ensures.unmarked rows) (c.judging.ensures.forgotten rows) (c.judging.ensures.united rows) lines replies state run
+returns c rows world lines replies last run =
+    reached_marked rows (c.judging.ensures.unmarked rows) (c.judging.ensures.forgotten rows) (c.judging.ensures.united rows) world lines replies last run

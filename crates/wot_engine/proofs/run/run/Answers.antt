@@ -3,28 +3,29 @@ use Rattle.std.proofs.lemmas.Result.{err_from_is_err_and}
 use Rattle.wot_policy.specs.declared.rows.PolicyRows.{PolicyRows}
 use Rattle.wot_policy.specs.Kept.{rows_of}
 use Rattle.wot_keyring.specs.Kept.{IsJudgedBy}
+use Rattle.wot_certd.specs.World.{World}
 use Rattle.wot_cache.specs.State.{state_of}
-use Rattle.wot_engine.specs.Transcript.{Told}
-use Rattle.wot_engine.proofs.Turns.{Answered-end, Answered-stop, Told-weaker, Turns-reply, Stood-write, Begun-cut, Begun-here, Begun-nothing, Most-cut, Most-stop}
+use Rattle.wot_engine.specs.Transcript.{AllTold}
+use Rattle.wot_engine.proofs.Giving.{all_told}
+use Rattle.wot_engine.proofs.Turns.{Answered-end, Answered-stop, AllTold-weaker, Turns-reply, Stood-write, Begun-cut, Begun-here, Begun-nothing, Most-cut, Most-stop}
 use Rattle.wot_engine.proofs.Replying.{answered, not_end, begins, no_fault, within, counted, judged}
 use Rattle.wot_engine.proofs.Taking.{took_nothing, took_both, takes_more}
 use Rattle.wot_engine.proofs.run.run.Goals as goal
 
 -- what holds of all contents holds where they are told
-told_always : (left written : Option (List ℕ)) (P : List ℕ → List ℕ → Type 0) → ((input before : List ℕ) → P input before) → Told left written P
-told_always None written P f = tt
-told_always (Some input) None P f = tt
-told_always (Some input) (Some before) P f = f input before
+told_always : (left written : Option (List ℕ)) (origin : Option World) (P : List ℕ → List ℕ → World → Type 0) → ((input before : List ℕ) (world : World) → P input before world)
+    → AllTold left written origin P
+told_always left written origin P f = all_told left written origin P (λ input before world e f' is. f input before world)
 
 pub returns-in_err-write_all-clause-taken : goal.returns-in_err-write_all-clause-taken
 returns-in_err-write_all-clause-taken g c =
     let p = err_from_is_err_and c.from_residual-in_err-write_all.result c.from_residual-in_err-write_all.ensures.1 in
-    told_always (g.S.Source.left c.args.input.now) (g.K.Sink.written c.args.output.now) _ (λ input before e. absurd (cc (e, p.1, p.2)))
+    told_always (g.S.Source.left c.args.input.now) (g.K.Sink.written c.args.output.now) (g.D.Shelf.world c.args.shelf.now) _ (λ input before world e. absurd (cc (e, p.1, p.2)))
 
 pub returns-in_err-write_all-clause-most : goal.returns-in_err-write_all-clause-most
 returns-in_err-write_all-clause-most g c =
     let p = err_from_is_err_and c.from_residual-in_err-write_all.result c.from_residual-in_err-write_all.ensures.1 in
-    told_always (g.S.Source.left c.args.input.now) (g.K.Sink.written c.args.output.now) _ (λ input before e. absurd (cc (e, p.1, p.2)))
+    told_always (g.S.Source.left c.args.input.now) (g.K.Sink.written c.args.output.now) (g.D.Shelf.world c.args.shelf.now) _ (λ input before world e. absurd (cc (e, p.1, p.2)))
 
 pub returns-in_err-write_all-clause-at_most : goal.returns-in_err-write_all-clause-at_most
 returns-in_err-write_all-clause-at_most g c =
@@ -33,69 +34,69 @@ returns-in_err-write_all-clause-at_most g c =
 
 pub returns-in-Err-ReadFault-clause-taken : goal.returns-in-Err-ReadFault-clause-taken
 returns-in-Err-ReadFault-clause-taken g c =
-    Told-weaker (rows_of c.args.policy.now) (g.S.Source.left c.args.input.now) (g.K.Sink.written c.args.output.now) _ _ (λ input before both e. both.0)
-    (Answered-stop (rows_of c.args.policy.now) (g.S.Source.left c.args.input.now) (g.K.Sink.written c.args.output.now) c.lines.lines.held c.lines.lines.taken (g.S.Source.left c.lines.input) (g.K.Sink.written c.lines.output) (state_of c.lines.machine.engine) (g.S.Source.left c.next.new.from) c.next.new.self.taken c.lines.invariant.stood (c.in-Err-ReadFault.ensures.stops c.lines.invariant.no_fault))
+    AllTold-weaker (rows_of c.args.policy.now) (g.S.Source.left c.args.input.now) (g.K.Sink.written c.args.output.now) (g.D.Shelf.world c.args.shelf.now) _ _ (λ input before world both e. both.0)
+    (Answered-stop (rows_of c.args.policy.now) (g.S.Source.left c.args.input.now) (g.K.Sink.written c.args.output.now) (g.D.Shelf.world c.args.shelf.now) c.lines.lines.held c.lines.lines.taken (g.S.Source.left c.lines.input) (g.K.Sink.written c.lines.output) (g.D.Shelf.world c.lines.shelf) (state_of c.lines.machine.engine) (g.S.Source.left c.next.new.from) c.next.new.self.taken c.lines.invariant.stood (c.in-Err-ReadFault.ensures.stops c.lines.invariant.no_fault))
 
 pub returns-in-Err-TooMuch-clause-most : goal.returns-in-Err-TooMuch-clause-most
 returns-in-Err-TooMuch-clause-most g c =
     let n : c.next.new.self.taken ≡ 2 ^ 30 = (rw c.in-Err-TooMuch.field-0-is at c.in-Err-TooMuch.ensures.too_much) c.lines.invariant.no_fault refl in
-    Told-weaker (rows_of c.args.policy.now) (g.S.Source.left c.args.input.now) (g.K.Sink.written c.args.output.now) _ _ (λ input before both e. both.1 n)
-    (Answered-stop (rows_of c.args.policy.now) (g.S.Source.left c.args.input.now) (g.K.Sink.written c.args.output.now) c.lines.lines.held c.lines.lines.taken (g.S.Source.left c.lines.input) (g.K.Sink.written c.lines.output) (state_of c.lines.machine.engine) (g.S.Source.left c.next.new.from) c.next.new.self.taken c.lines.invariant.stood (c.in-Err-TooMuch.ensures.stops c.lines.invariant.no_fault))
+    AllTold-weaker (rows_of c.args.policy.now) (g.S.Source.left c.args.input.now) (g.K.Sink.written c.args.output.now) (g.D.Shelf.world c.args.shelf.now) _ _ (λ input before world both e. both.1 n)
+    (Answered-stop (rows_of c.args.policy.now) (g.S.Source.left c.args.input.now) (g.K.Sink.written c.args.output.now) (g.D.Shelf.world c.args.shelf.now) c.lines.lines.held c.lines.lines.taken (g.S.Source.left c.lines.input) (g.K.Sink.written c.lines.output) (g.D.Shelf.world c.lines.shelf) (state_of c.lines.machine.engine) (g.S.Source.left c.next.new.from) c.next.new.self.taken c.lines.invariant.stood (c.in-Err-TooMuch.ensures.stops c.lines.invariant.no_fault))
 
 pub returns-in_err-write_all-clause-prefix : goal.returns-in_err-write_all-clause-prefix
 returns-in_err-write_all-clause-prefix g c =
-    let replies = answered (rows_of c.lines.policy) (rows_of c.args.policy.now) c.in-Ok.line c.text.result.now c.next.new.self.text (state_of c.lines.machine.engine) c.reply_to.new.out.items (state_of c.reply_to.new.machine.engine) c.lines.invariant.rows c.text.ensures c.in_ok-reply_to.ensures.replies in
-    let t = Turns-reply (rows_of c.args.policy.now) (g.S.Source.left c.args.input.now) (g.K.Sink.written c.args.output.now) c.lines.lines (g.S.Source.left c.lines.input) (g.K.Sink.written c.lines.output) (state_of c.lines.machine.engine) c.next.new.self (g.S.Source.left c.next.new.from) (state_of c.reply_to.new.machine.engine) c.in-Ok.line c.reply_to.new.out.items c.lines.invariant.stood c.in-Ok.ensures.ok replies in
-    Begun-cut (rows_of c.args.policy.now) c.lines.invariant.law (g.S.Source.left c.args.input.now) (g.K.Sink.written c.args.output.now) c.next.new.self.held c.next.new.self.taken (g.S.Source.left c.next.new.from) (g.K.Sink.written c.lines.output) c.reply_to.new.out.items (state_of c.reply_to.new.machine.engine) (g.K.Sink.written c.write_all.new.to) t (rw c.deref.ensures.value at c.in_err-write_all.ensures.err)
+    let replies = answered (rows_of c.lines.policy) (rows_of c.args.policy.now) c.in-Ok.line c.text.result.now c.next.new.self.text (state_of c.lines.machine.engine) (g.D.Shelf.world c.lines.shelf) c.reply_to.new.out.items (state_of c.reply_to.new.machine.engine) (g.D.Shelf.world c.reply_to.new.shelf) c.lines.invariant.rows c.text.ensures c.in_ok-reply_to.ensures.replies in
+    let t = Turns-reply (rows_of c.args.policy.now) (g.S.Source.left c.args.input.now) (g.K.Sink.written c.args.output.now) (g.D.Shelf.world c.args.shelf.now) c.lines.lines (g.S.Source.left c.lines.input) (g.K.Sink.written c.lines.output) (g.D.Shelf.world c.lines.shelf) (state_of c.lines.machine.engine) c.next.new.self (g.S.Source.left c.next.new.from) (g.D.Shelf.world c.reply_to.new.shelf) (state_of c.reply_to.new.machine.engine) c.in-Ok.line c.reply_to.new.out.items c.lines.invariant.stood c.in-Ok.ensures.ok replies in
+    Begun-cut (rows_of c.args.policy.now) c.lines.invariant.law (g.S.Source.left c.args.input.now) (g.K.Sink.written c.args.output.now) (g.D.Shelf.world c.args.shelf.now) c.next.new.self.held c.next.new.self.taken (g.S.Source.left c.next.new.from) (g.K.Sink.written c.lines.output) c.reply_to.new.out.items (g.D.Shelf.world c.reply_to.new.shelf) (state_of c.reply_to.new.machine.engine) (g.K.Sink.written c.write_all.new.to) t (rw c.deref.ensures.value at c.in_err-write_all.ensures.err)
 
 pub lines-preserved : goal.lines-preserved
 lines-preserved g c =
-    let replies = answered (rows_of c.lines.policy) (rows_of c.args.policy.now) c.in-Ok.line c.text.result.now c.next.new.self.text (state_of c.lines.machine.engine) c.reply_to.new.out.items (state_of c.reply_to.new.machine.engine) c.lines.invariant.rows c.text.ensures c.in_ok-reply_to.ensures.replies in
-    let t = Turns-reply (rows_of c.args.policy.now) (g.S.Source.left c.args.input.now) (g.K.Sink.written c.args.output.now) c.lines.lines (g.S.Source.left c.lines.input) (g.K.Sink.written c.lines.output) (state_of c.lines.machine.engine) c.next.new.self (g.S.Source.left c.next.new.from) (state_of c.reply_to.new.machine.engine) c.in-Ok.line c.reply_to.new.out.items c.lines.invariant.stood c.in-Ok.ensures.ok replies in
+    let replies = answered (rows_of c.lines.policy) (rows_of c.args.policy.now) c.in-Ok.line c.text.result.now c.next.new.self.text (state_of c.lines.machine.engine) (g.D.Shelf.world c.lines.shelf) c.reply_to.new.out.items (state_of c.reply_to.new.machine.engine) (g.D.Shelf.world c.reply_to.new.shelf) c.lines.invariant.rows c.text.ensures c.in_ok-reply_to.ensures.replies in
+    let t = Turns-reply (rows_of c.args.policy.now) (g.S.Source.left c.args.input.now) (g.K.Sink.written c.args.output.now) (g.D.Shelf.world c.args.shelf.now) c.lines.lines (g.S.Source.left c.lines.input) (g.K.Sink.written c.lines.output) (g.D.Shelf.world c.lines.shelf) (state_of c.lines.machine.engine) c.next.new.self (g.S.Source.left c.next.new.from) (g.D.Shelf.world c.reply_to.new.shelf) (state_of c.reply_to.new.machine.engine) c.in-Ok.line c.reply_to.new.out.items c.lines.invariant.stood c.in-Ok.ensures.ok replies in
     record {
       law = c.lines.invariant.law;
-      stood = Stood-write (rows_of c.args.policy.now) (g.S.Source.left c.args.input.now) (g.K.Sink.written c.args.output.now) c.next.new.self.held c.next.new.self.taken (g.S.Source.left c.next.new.from) (g.K.Sink.written c.lines.output) c.reply_to.new.out.items (state_of c.reply_to.new.machine.engine) (g.K.Sink.written c.write_all.new.to) t (rw c.deref.ensures.value at c.in_ok-write_all.ensures.ok);
+      stood = Stood-write (rows_of c.args.policy.now) (g.S.Source.left c.args.input.now) (g.K.Sink.written c.args.output.now) (g.D.Shelf.world c.args.shelf.now) c.next.new.self.held c.next.new.self.taken (g.S.Source.left c.next.new.from) (g.K.Sink.written c.lines.output) c.reply_to.new.out.items (g.D.Shelf.world c.reply_to.new.shelf) (state_of c.reply_to.new.machine.engine) (g.K.Sink.written c.write_all.new.to) t (rw c.deref.ensures.value at c.in_ok-write_all.ensures.ok);
       no_fault = c.in-Ok.ensures.well.1;
       took = took_both (g.S.Source.left c.args.input.now) (g.S.Source.left c.lines.input) (g.S.Source.left c.next.new.from) 0 c.lines.lines.taken c.next.new.self.taken c.lines.invariant.took c.next.ensures.took;
       within = c.next.ensures.within;
       empty = c.clear.ensures.items;
       source = omega (arith, c.next.ensures.later, c.lines.invariant.source);
       sink = omega (arith, c.write_all.ensures.later, c.lines.invariant.sink);
-      changes = omega (arith, c.reply_to.ensures.counted, c.in-Ok.ensures.shorter (not_end (rows_of c.args.policy.now) c.in-Ok.line c.next.new.self.text (state_of c.lines.machine.engine) c.reply_to.new.out.items (state_of c.reply_to.new.machine.engine) replies), c.lines.invariant.changes, c.next.ensures.within, c.lines.invariant.within);
-      judged = subst (λ (r : PolicyRows). IsJudgedBy r c.reply_to.new.machine.engine.keyring) c.lines.invariant.rows c.reply_to.ensures.judged;
+      changes = omega (arith, c.reply_to.ensures.counted, c.in-Ok.ensures.shorter (not_end (rows_of c.args.policy.now) c.in-Ok.line c.next.new.self.text (state_of c.lines.machine.engine) (g.D.Shelf.world c.lines.shelf) c.reply_to.new.out.items (state_of c.reply_to.new.machine.engine) (g.D.Shelf.world c.reply_to.new.shelf) replies), c.lines.invariant.changes, c.next.ensures.within, c.lines.invariant.within);
+      judged = subst (λ (r : PolicyRows). IsJudgedBy r c.reply_to.new.machine.keyring) c.lines.invariant.rows c.reply_to.ensures.judged;
       rows = c.reply_to.ensures.rows ∙ c.lines.invariant.rows;
       faithful = c.reply_to.ensures.faithful;
     }
 
 pub returns-in_err-write_all-clause-most_only : goal.returns-in_err-write_all-clause-most_only
 returns-in_err-write_all-clause-most_only g c =
-    let replies = answered (rows_of c.lines.policy) (rows_of c.args.policy.now) c.in-Ok.line c.text.result.now c.next.new.self.text (state_of c.lines.machine.engine) c.reply_to.new.out.items (state_of c.reply_to.new.machine.engine) c.lines.invariant.rows c.text.ensures c.in_ok-reply_to.ensures.replies in
-    let t = Turns-reply (rows_of c.args.policy.now) (g.S.Source.left c.args.input.now) (g.K.Sink.written c.args.output.now) c.lines.lines (g.S.Source.left c.lines.input) (g.K.Sink.written c.lines.output) (state_of c.lines.machine.engine) c.next.new.self (g.S.Source.left c.next.new.from) (state_of c.reply_to.new.machine.engine) c.in-Ok.line c.reply_to.new.out.items c.lines.invariant.stood c.in-Ok.ensures.ok replies in
-    Told-weaker (rows_of c.args.policy.now) (g.S.Source.left c.args.input.now) (g.K.Sink.written c.args.output.now) _ _ (λ input before no most. absurd (no most))
-    (Most-cut (rows_of c.args.policy.now) c.lines.invariant.law (g.S.Source.left c.args.input.now) (g.K.Sink.written c.args.output.now) c.next.new.self.held c.next.new.self.taken (g.S.Source.left c.next.new.from) (g.K.Sink.written c.lines.output) c.reply_to.new.out.items (state_of c.reply_to.new.machine.engine) (g.K.Sink.written c.write_all.new.to) t (rw c.deref.ensures.value at c.in_err-write_all.ensures.err))
+    let replies = answered (rows_of c.lines.policy) (rows_of c.args.policy.now) c.in-Ok.line c.text.result.now c.next.new.self.text (state_of c.lines.machine.engine) (g.D.Shelf.world c.lines.shelf) c.reply_to.new.out.items (state_of c.reply_to.new.machine.engine) (g.D.Shelf.world c.reply_to.new.shelf) c.lines.invariant.rows c.text.ensures c.in_ok-reply_to.ensures.replies in
+    let t = Turns-reply (rows_of c.args.policy.now) (g.S.Source.left c.args.input.now) (g.K.Sink.written c.args.output.now) (g.D.Shelf.world c.args.shelf.now) c.lines.lines (g.S.Source.left c.lines.input) (g.K.Sink.written c.lines.output) (g.D.Shelf.world c.lines.shelf) (state_of c.lines.machine.engine) c.next.new.self (g.S.Source.left c.next.new.from) (g.D.Shelf.world c.reply_to.new.shelf) (state_of c.reply_to.new.machine.engine) c.in-Ok.line c.reply_to.new.out.items c.lines.invariant.stood c.in-Ok.ensures.ok replies in
+    AllTold-weaker (rows_of c.args.policy.now) (g.S.Source.left c.args.input.now) (g.K.Sink.written c.args.output.now) (g.D.Shelf.world c.args.shelf.now) _ _ (λ input before world no most. absurd (no most))
+    (Most-cut (rows_of c.args.policy.now) c.lines.invariant.law (g.S.Source.left c.args.input.now) (g.K.Sink.written c.args.output.now) (g.D.Shelf.world c.args.shelf.now) c.next.new.self.held c.next.new.self.taken (g.S.Source.left c.next.new.from) (g.K.Sink.written c.lines.output) c.reply_to.new.out.items (g.D.Shelf.world c.reply_to.new.shelf) (state_of c.reply_to.new.machine.engine) (g.K.Sink.written c.write_all.new.to) t (rw c.deref.ensures.value at c.in_err-write_all.ensures.err))
 
 pub returns-in-Err-ReadFault-clause-most_only : goal.returns-in-Err-ReadFault-clause-most_only
 returns-in-Err-ReadFault-clause-most_only g c =
     let lt : c.next.new.self.taken < 2 ^ 30 = (rw c.in-Err-ReadFault.field-0-is at c.in-Err-ReadFault.ensures.open) c.lines.invariant.no_fault refl in
-    Told-weaker (rows_of c.args.policy.now) (g.S.Source.left c.args.input.now) (g.K.Sink.written c.args.output.now) _ _ (λ input before no most. absurd (no most))
-    (Most-stop (rows_of c.args.policy.now) (g.S.Source.left c.args.input.now) (g.K.Sink.written c.args.output.now) c.lines.lines.held c.lines.lines.taken (g.S.Source.left c.lines.input) (g.K.Sink.written c.lines.output) (state_of c.lines.machine.engine) (g.S.Source.left c.next.new.from) c.next.new.self.taken c.lines.invariant.stood (c.in-Err-ReadFault.ensures.stops c.lines.invariant.no_fault) lt)
+    AllTold-weaker (rows_of c.args.policy.now) (g.S.Source.left c.args.input.now) (g.K.Sink.written c.args.output.now) (g.D.Shelf.world c.args.shelf.now) _ _ (λ input before world no most. absurd (no most))
+    (Most-stop (rows_of c.args.policy.now) (g.S.Source.left c.args.input.now) (g.K.Sink.written c.args.output.now) (g.D.Shelf.world c.args.shelf.now) c.lines.lines.held c.lines.lines.taken (g.S.Source.left c.lines.input) (g.K.Sink.written c.lines.output) (g.D.Shelf.world c.lines.shelf) (state_of c.lines.machine.engine) (g.S.Source.left c.next.new.from) c.next.new.self.taken c.lines.invariant.stood (c.in-Err-ReadFault.ensures.stops c.lines.invariant.no_fault) lt)
 
 pub returns-in_err-lines-clause-prefix : goal.returns-in_err-lines-clause-prefix
-returns-in_err-lines-clause-prefix g c = Begun-nothing (rows_of c.args.policy.now) (record { some = c.each_line_has_one_outcome.ensures.some (rows_of c.args.policy.now); one = c.each_line_has_one_outcome.ensures.one (rows_of c.args.policy.now); stays = c.each_line_has_one_outcome.ensures.stays (rows_of c.args.policy.now) }) (g.S.Source.left c.args.input.now) (g.K.Sink.written c.args.output.now)
+returns-in_err-lines-clause-prefix g c = Begun-nothing (rows_of c.args.policy.now) (record { some = c.each_line_has_one_outcome.ensures.some (rows_of c.args.policy.now); one = c.each_line_has_one_outcome.ensures.one (rows_of c.args.policy.now); stays = c.each_line_has_one_outcome.ensures.stays (rows_of c.args.policy.now) }) (g.S.Source.left c.args.input.now) (g.K.Sink.written c.args.output.now) (g.D.Shelf.world c.args.shelf.now)
 
 pub returns-in-Ok-End-clause-whole : goal.returns-in-Ok-End-clause-whole
 returns-in-Ok-End-clause-whole g c =
-    Answered-end (rows_of c.args.policy.now) (g.S.Source.left c.args.input.now) (g.K.Sink.written c.args.output.now) c.lines.lines (g.S.Source.left c.lines.input) (g.K.Sink.written c.lines.output) (state_of c.lines.machine.engine) c.next.new.self (g.S.Source.left c.next.new.from)
+    Answered-end (rows_of c.args.policy.now) (g.S.Source.left c.args.input.now) (g.K.Sink.written c.args.output.now) (g.D.Shelf.world c.args.shelf.now) c.lines.lines (g.S.Source.left c.lines.input) (g.K.Sink.written c.lines.output) (g.D.Shelf.world c.lines.shelf) (state_of c.lines.machine.engine) c.next.new.self (g.S.Source.left c.next.new.from)
     c.lines.invariant.stood (rw c.in-Ok-End.field-0-is at c.in-Ok-End.ensures.ok)
 
 pub returns-in_err-reply_to-clause-prefix : goal.returns-in_err-reply_to-clause-prefix
 returns-in_err-reply_to-clause-prefix g c =
-    Begun-here (rows_of c.args.policy.now) c.lines.invariant.law (g.S.Source.left c.args.input.now) (g.K.Sink.written c.args.output.now) c.lines.lines.held c.lines.lines.taken (g.S.Source.left c.lines.input) (g.K.Sink.written c.lines.output) (state_of c.lines.machine.engine) c.lines.invariant.stood
+    Begun-here (rows_of c.args.policy.now) c.lines.invariant.law (g.S.Source.left c.args.input.now) (g.K.Sink.written c.args.output.now) (g.D.Shelf.world c.args.shelf.now) c.lines.lines.held c.lines.lines.taken (g.S.Source.left c.lines.input) (g.K.Sink.written c.lines.output) (g.D.Shelf.world c.lines.shelf) (state_of c.lines.machine.engine) c.lines.invariant.stood
 
 pub lines-init : goal.lines-init
 lines-init g c = record {
   law = (record { some = c.each_line_has_one_outcome.ensures.some (rows_of c.args.policy.now); one = c.each_line_has_one_outcome.ensures.one (rows_of c.args.policy.now); stays = c.each_line_has_one_outcome.ensures.stays (rows_of c.args.policy.now) });
-  stood = begins (rows_of c.args.policy.now) (g.S.Source.left c.args.input.now) (g.K.Sink.written c.args.output.now) c.in_ok-lines.lines c.new-machine.result.engine c.in_ok-lines.ensures c.new-machine.ensures.start;
+  stood = begins (rows_of c.args.policy.now) (g.S.Source.left c.args.input.now) (g.K.Sink.written c.args.output.now) (g.D.Shelf.world c.args.shelf.now) c.in_ok-lines.lines c.new-machine.result.engine c.in_ok-lines.ensures c.new-machine.ensures.start;
   no_fault = no_fault c.in_ok-lines.lines c.in_ok-lines.ensures;
   took = took_nothing (g.S.Source.left c.args.input.now) c.in_ok-lines.lines c.in_ok-lines.ensures;
   within = within c.in_ok-lines.lines c.in_ok-lines.ensures;

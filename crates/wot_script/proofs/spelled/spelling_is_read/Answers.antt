@@ -3,11 +3,11 @@ use Rattle.wot_types.specs.Fpr.{digits_of, octets_of}
 use Rattle.wot_types.specs.SigNumber.{number_digits}
 use Rattle.std.specs.Fmt.{decimal}
 use Rattle.hex.specs.Hex.{encode_lower}
-use Rattle.wot_script.specs.Spelling.{spelling}
+use Rattle.wot_script.specs.Spelling.{entry_text, spelling}
 use Rattle.wot_script.specs.Uid.{escaped}
 use Rattle.wot_script.proofs.Spaceless.{spaceless_decimal, spaceless_digits}
-use Rattle.wot_script.proofs.Readings.{ask_reads, bad_reads, close_reads, drop_reads, dump_reads, explain_reads, export_reads, good_reads, import_reads, keys_reads, list_reads, none_reads, pending_reads, root_reads, time_reads}
-use Rattle.wot_script.proofs.OneLine.{ask_line, bad_line, close_line, dump_line, explain_line, export_line, fpr_digits, good_line, import_line, keys_line, list_line, name_is, number_digits_are, numeral, pending_line, remove_line, root_line, time_line, unjudge_line}
+use Rattle.wot_script.proofs.Readings.{ask_reads, bad_reads, close_reads, drop_reads, dump_reads, explain_reads, export_reads, good_reads, import_reads, keys_reads, list_reads, load_reads, none_reads, pending_reads, root_reads, time_reads}
+use Rattle.wot_script.proofs.OneLine.{ask_line, bad_line, close_line, dump_line, explain_line, export_line, fpr_digits, good_line, import_line, keys_line, list_line, load_line, name_is, number_digits_are, numeral, pending_line, remove_line, root_line, time_line, unjudge_line}
 use Rattle.wot_script.proofs.spelled.spelling_is_read.Goals as goal
 
 pub returns-in-Import : goal.returns-in-Import
@@ -15,6 +15,13 @@ unfolding spelling
 returns-in-Import c = rw c.in-Import.is (record {
   read = import_reads (encode_lower c.in-Import.octets) c.in-Import.octets (rw c.items.ensures.whole at c.hex_is_read.ensures);
   line = import_line c.in-Import.octets;
+})
+
+pub returns-in-Load : goal.returns-in-Load
+unfolding spelling
+returns-in-Load c = rw c.in-Load.is (record {
+  read = load_reads (entry_text c.in-Load.name) c.in-Load.name c.entry_is_read.ensures.read;
+  line = load_line c.in-Load.name (entry_text c.in-Load.name) c.entry_is_read.ensures.free c.entry_is_read.ensures.short;
 })
 
 pub returns-in-Remove : goal.returns-in-Remove
