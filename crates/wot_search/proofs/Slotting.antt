@@ -1,24 +1,14 @@
 -- What slots tell.
-use Rattle.std.proofs.Common.{◌≡◌, ℕ, ◌≤◌, true, List, [], ◌∷◌, ◌++◌, Option, Some, sym, ap, subst, arith}
-use Rattle.std.specs.Option.{unwrap_or}
-use Rattle.std.specs.Map.{lookup}
-use Rattle.std.specs.BTreeMap.{is_at}
+use Rattle.std.proofs.Common.{◌≡◌, ℕ, true, List, [], ◌∷◌, ◌++◌, sym, subst}
 use Rattle.std.proofs.lemmas.List.Elements.{All-push}
 use Rattle.wot_types.specs.declared.fpr.Fpr.{Fpr}
-use Rattle.wot_types.specs.Fpr.{fpr_cmp}
 use Rattle.wot_edge.specs.Order.{same_fpr}
-use Rattle.wot_search.specs.Reach.{number_at}
 use Rattle.wot_search.specs.declared.slots.Slot.{Slot}
 use Rattle.wot_search.specs.Slots.{AreSlots, Tells}
 use Rattle.wot_search.proofs.Order.{same_fpr-true}
 
 pub tells_same : (numbers : List (Fpr × ℕ)) (a b : Fpr) (n : ℕ) → same_fpr a b ≡ true → Tells numbers a n → Tells numbers b n
 tells_same numbers a b n same tells = subst (λ (fpr : Fpr). Tells numbers fpr n) (same_fpr-true a b same) tells
-
-pub tells_number : (numbers : List (Fpr × ℕ)) (fpr : Fpr) (n : ℕ) → n ≤ 255 → Tells numbers fpr n → n ≡ number_at numbers fpr
-tells_number numbers fpr n few tells =
-    let is : unwrap_or (lookup (is_at (fpr_cmp fpr)) numbers) 255 ≡ n = ap (λ (found : Option ℕ). unwrap_or found 255) tells in
-    omega (arith, is, few)
 
 pub slot_added : (numbers : List (Fpr × ℕ)) (slots more : List Slot) (slot : Slot) → AreSlots numbers slots → Tells numbers slot.fpr slot.number
     → more ≡ slots ++ slot ∷ [] → AreSlots numbers more

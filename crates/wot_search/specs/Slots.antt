@@ -1,15 +1,13 @@
 -- Numbers that stand in a list beside the table that they are of.
 use Rattle.std.specs.Prelude.{◌≡◌, ℕ, List, Option, Some, None}
 use Rattle.std.specs.List.{All}
-use Rattle.std.specs.Map.{lookup}
-use Rattle.std.specs.BTreeMap.{is_at}
 use Rattle.wot_types.specs.declared.fpr.Fpr.{Fpr}
-use Rattle.wot_types.specs.Fpr.{fpr_cmp}
+use Rattle.wot_search.specs.Reach.{number_at}
 use Rattle.wot_search.specs.declared.slots.Slot.{Slot}
 
 -- the table tells this number of the fingerprint
 abbrev pub Tells : List (Fpr × ℕ) → Fpr → ℕ → Type 0
-Tells numbers fpr number = lookup (is_at (fpr_cmp fpr)) numbers ≡ Some number
+Tells numbers fpr number = number ≡ number_at numbers fpr
 
 -- each slot has what the table tells
 abbrev pub AreSlots : List (Fpr × ℕ) → List Slot → Type 0

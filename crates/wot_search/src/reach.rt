@@ -4,7 +4,7 @@ ghost use Rattle.wot_edge.specs.Record.{Has, edges_into};
 ghost use Rattle.wot_edge.specs.Roots.{root_amount};
 ghost use Rattle.wot_search.specs.Reach.{Allows, HasEnough, IsReach, number_at};
 
-use crate::slots::Slots;
+use crate::slots::{Slots, number_in};
 use std::alloc::Global;
 use std::collections::BTreeMap;
 use std::marker::Model;
@@ -43,7 +43,6 @@ impl Reach {
     }
 
     /// How many edges before a target a fingerprint may stand at most.
-    #[tactic(auto, using(crate::proofs::Slotting::tells_number))]
     pub fn get(&self, fpr: &Fpr) -> u8
         ensures number { result ≡ number_at self.now fpr.now }
     {
@@ -71,16 +70,6 @@ impl Reach {
         ensures enough { result ≡ true → IsReach (R.told roads.now) roots.now (number_at self.now) }
     {
         have_enough(roads, roots, self, &self.numbers)
-    }
-}
-
-/// The number of a fingerprint in a table.
-fn number_in(numbers: &BTreeMap<Fpr, u8>, fpr: &Fpr) -> u8
-    ensures number { result ≡ number_at numbers.now.entries fpr.now }
-{
-    match numbers.get(fpr) {
-        Some(number) => *number,
-        None => 255,
     }
 }
 

@@ -1,10 +1,8 @@
 // The numbers of a table once more, in a row: most are found by one look, and not by a walk through a tree.
 ghost use Rattle.std.specs.Prelude.{◌≡◌, ℕ, List, IfOk, OnOk};
-ghost use Rattle.std.specs.BTreeMap.{is_at};
-ghost use Rattle.std.specs.Map.{lookup};
 ghost use Rattle.wot_types.specs.declared.fpr.Fpr.{Fpr as Print};
-ghost use Rattle.wot_types.specs.Fpr.{fpr_cmp};
 ghost use Rattle.wot_edge.specs.Order.{same_fpr};
+ghost use Rattle.wot_search.specs.Reach.{number_at};
 ghost use Rattle.wot_search.specs.Slots.{AreSlots, Tells, TellsIfSome};
 
 use std::alloc::Global;
@@ -39,7 +37,7 @@ impl Slots {
         }
     }
 
-    /// The slots of those of these fingerprints that have a number.
+    /// The slots of these fingerprints.
     pub(crate) fn of(
         alloc: Global,
         fprs: &[Fpr],
@@ -89,24 +87,25 @@ fn begin_parts(starts: &mut Vec<u32>, part: usize, place: usize) -> Result<(), M
     Ok(())
 }
 
-fn number_of(numbers: &BTreeMap<Fpr, u8>, fpr: &Fpr) -> Option<u8>
-    ensures found { result ≡ lookup (is_at (fpr_cmp fpr.now)) numbers.now.entries }
+/// The number of a fingerprint in a table.
+pub(crate) fn number_in(numbers: &BTreeMap<Fpr, u8>, fpr: &Fpr) -> u8
+    ensures number { result ≡ number_at numbers.now.entries fpr.now }
 {
     match numbers.get(fpr) {
-        Some(number) => Some(*number),
-        None => None,
+        Some(number) => *number,
+        None => 255,
     }
 }
 
-/// Appends the slot of a fingerprint that has a number.
+/// Appends the slot of a fingerprint.
 fn put_slot(slots: &mut Vec<Slot>, numbers: &BTreeMap<Fpr, u8>, fpr: &Fpr) -> Result<(), Memory>
     requires slots { AreSlots numbers.now.entries slots.old.items }
     ensures slots { OnOk result (AreSlots numbers.now.entries slots.new.items) }
 {
-    let Some(number) = number_of(numbers, fpr) else {
-        return Ok(())
-    };
-    slots.push(Slot { fpr: *fpr, number })?;
+    slots.push(Slot {
+        fpr: *fpr,
+        number: number_in(numbers, fpr),
+    })?;
     Ok(())
 }
 
