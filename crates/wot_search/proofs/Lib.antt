@@ -17,3 +17,4 @@ pub mod Members
 pub mod Taking
 pub mod Collecting
 pub mod Enough
+pub mod Slotting

@@ -1,3 +1,4 @@
+pub mod Slots
 pub mod Reach
 pub mod Quest
 pub mod Suffix

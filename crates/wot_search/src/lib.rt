@@ -17,6 +17,7 @@ mod quest;
 mod reach;
 mod reached;
 mod reaching;
+mod slots;
 mod turn;
 
 pub use consulted::{Consulted, ConsultedIter};

@@ -4,6 +4,7 @@ ghost use Rattle.wot_edge.specs.Record.{Has, edges_into};
 ghost use Rattle.wot_edge.specs.Roots.{root_amount};
 ghost use Rattle.wot_search.specs.Reach.{Allows, HasEnough, IsReach, number_at};
 
+use crate::slots::{Slots, number_in};
 use std::alloc::Global;
 use std::collections::BTreeMap;
 use std::marker::Model;
@@ -15,15 +16,19 @@ use wot_types::{Fpr, Memory};
 #[derive(Drop)]
 pub struct Reach {
     numbers: BTreeMap<Fpr, u8, Global>,
+    slots: Slots,
 }
 
 impl Model for Reach {
     ghost use Rattle.std.specs.Prelude.{List, ℕ};
     ghost use Rattle.wot_types.specs.declared.fpr.Fpr.{Fpr};
+    ghost use Rattle.wot_search.specs.Slots.{AreSlots};
 
     ghost Value = { List (Fpr × ℕ) };
 
     ghost view = { λ reach. reach.numbers.entries };
+
+    ghost invariant = { λ reach. AreSlots reach.numbers.entries reach.slots.slots.items };
 }
 
 impl Reach {
@@ -33,6 +38,7 @@ impl Reach {
     {
         Reach {
             numbers: BTreeMap::new(alloc),
+            slots: Slots::none(alloc),
         }
     }
 
@@ -40,9 +46,9 @@ impl Reach {
     pub fn get(&self, fpr: &Fpr) -> u8
         ensures number { result ≡ number_at self.now fpr.now }
     {
-        match self.numbers.get(fpr) {
-            Some(number) => *number,
-            None => 255,
+        match self.slots.find(fpr) {
+            Some(number) => number,
+            None => number_in(&self.numbers, fpr),
         }
     }
 
@@ -52,7 +58,11 @@ impl Reach {
         for (fpr, number) in fprs.iter().zip(numbers) {
             table.insert(*fpr, *number)?;
         }
-        Ok(Reach { numbers: table })
+        let slots = Slots::of(alloc, fprs, &table)?;
+        Ok(Reach {
+            numbers: table,
+            slots,
+        })
     }
 
     /// Whether each fingerprint has enough.

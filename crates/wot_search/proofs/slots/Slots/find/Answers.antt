@@ -1,0 +1,8 @@
+use Rattle.std.proofs.Common.{sym, subst}
+use Rattle.wot_search.specs.Slots.{AreSlots}
+use Rattle.wot_search.proofs.slots.Slots.find.Goals as goal
+
+pub returns-in-Some : goal.returns-in-Some
+returns-in-Some c = record {
+  tells = λ numbers are. c.find_from.ensures.tells numbers (subst (AreSlots numbers) (sym c.deref-in-Some.ensures.value) are);
+}

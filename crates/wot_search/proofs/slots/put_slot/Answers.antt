@@ -1,0 +1,12 @@
+use Rattle.wot_search.specs.declared.slots.Slot.{Slot}
+use Rattle.wot_search.proofs.Slotting.{slot_added}
+use Rattle.wot_search.proofs.slots.put_slot.Goals as goal
+
+pub returns : goal.returns
+returns c =
+    let slot : Slot = record { fpr = c.args.fpr.now; number = c.number_in.result } in
+    record {
+      slots =
+          slot_added c.args.numbers.now.entries c.args.slots.now.items c.push.new.self.items slot c.requires.slots
+          c.number_in.ensures.number c.in_ok-push.ensures.items;
+    }

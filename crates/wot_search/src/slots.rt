@@ -1,0 +1,153 @@
+// The numbers of a table once more, in a row: most are found by one look, and not by a walk through a tree.
+ghost use Rattle.std.specs.Prelude.{◌≡◌, ℕ, List, IfOk, OnOk};
+ghost use Rattle.wot_types.specs.declared.fpr.Fpr.{Fpr as Print};
+ghost use Rattle.wot_edge.specs.Order.{same_fpr};
+ghost use Rattle.wot_search.specs.Reach.{number_at};
+ghost use Rattle.wot_search.specs.Slots.{AreSlots, Tells, TellsIfSome};
+
+use std::alloc::Global;
+use std::collections::BTreeMap;
+use wot_types::{Fpr, Memory, compare_fprs};
+
+/// The number of a fingerprint.
+#[derive(Clone, Copy)]
+pub(crate) struct Slot {
+    pub(crate) fpr: Fpr,
+    pub(crate) number: u8,
+}
+
+/// Slots in the order of their fingerprints, in parts of about one, and where each part begins. Fingerprints that crowd
+/// into one part are not all found.
+#[derive(Drop)]
+pub(crate) struct Slots {
+    pub(crate) slots: Vec<Slot, Global>,
+    pub(crate) starts: Vec<u32, Global>,
+}
+
+/// How many slots of a part are looked at.
+const LOOKS: u8 = 8;
+
+impl Slots {
+    pub(crate) fn none(alloc: Global) -> Slots
+        ensures slots { (numbers : List (Print × ℕ)) → AreSlots numbers result.slots.items }
+    {
+        Slots {
+            slots: Vec::new(alloc),
+            starts: Vec::new(alloc),
+        }
+    }
+
+    /// The slots of these fingerprints.
+    pub(crate) fn of(
+        alloc: Global,
+        fprs: &[Fpr],
+        numbers: &BTreeMap<Fpr, u8>,
+    ) -> Result<Slots, Memory>
+        ensures slots { IfOk result (λ made. AreSlots numbers.now.entries made.slots.items) }
+    {
+        let mut slots = Vec::new(alloc);
+        let mut starts = Vec::new(alloc);
+        'fprs: for fpr in fprs {
+            begin_parts(&mut starts, part_of(fpr, fprs.len()), slots.len())?;
+            put_slot(&mut slots, numbers, fpr)?;
+        }
+        Ok(Slots { slots, starts })
+    }
+
+    /// The number of a fingerprint; `None` also where it isn't found.
+    pub(crate) fn find(&self, fpr: &Fpr) -> Option<u8>
+        ensures tells { (numbers : List (Print × ℕ)) → AreSlots numbers self.now.slots.items → TellsIfSome numbers fpr.now result }
+    {
+        match self.starts.get(part_of(fpr, self.slots.len())) {
+            None => None,
+            Some(start) => find_from(&self.slots, *start as usize, fpr),
+        }
+    }
+}
+
+/// In which of so many parts a fingerprint is, by its first two octets.
+fn part_of(fpr: &Fpr, count: usize) -> usize {
+    match fpr {
+        Fpr::V4(octets) => part_of_octets(octets, count),
+    }
+}
+
+fn part_of_octets(octets: &[u8; 20], count: usize) -> usize {
+    let word = ((octets[0] as u64) << 8) | (octets[1] as u64);
+    let parts = count.min(1 << 16) as u64;
+    (word.wrapping_mul(parts) >> 16) as usize
+}
+
+/// Lets this part, and those before it that have no start yet, begin at a place.
+fn begin_parts(starts: &mut Vec<u32>, part: usize, place: usize) -> Result<(), Memory> {
+    let place = u32::try_from(place).unwrap_or(u32::MAX);
+    'parts: for _part in starts.len()..part.saturating_add(1) {
+        starts.push(place)?;
+    }
+    Ok(())
+}
+
+/// The number of a fingerprint in a table.
+pub(crate) fn number_in(numbers: &BTreeMap<Fpr, u8>, fpr: &Fpr) -> u8
+    ensures number { result ≡ number_at numbers.now.entries fpr.now }
+{
+    match numbers.get(fpr) {
+        Some(number) => *number,
+        None => 255,
+    }
+}
+
+/// Appends the slot of a fingerprint.
+fn put_slot(slots: &mut Vec<Slot>, numbers: &BTreeMap<Fpr, u8>, fpr: &Fpr) -> Result<(), Memory>
+    requires slots { AreSlots numbers.now.entries slots.old.items }
+    ensures slots { OnOk result (AreSlots numbers.now.entries slots.new.items) }
+{
+    slots.push(Slot {
+        fpr: *fpr,
+        number: number_in(numbers, fpr),
+    })?;
+    Ok(())
+}
+
+fn is_same(a: &Fpr, b: &Fpr) -> bool
+    ensures { result ≡ same_fpr a.now b.now }
+{
+    compare_fprs(a, b).is_eq()
+}
+
+/// The number of a slot, if it is this fingerprint's.
+#[tactic(auto, using(crate::proofs::Slotting::tells_same))]
+fn number_if(slot: &Slot, fpr: &Fpr) -> Option<u8>
+    ensures tells { (numbers : List (Print × ℕ)) → Tells numbers slot.now.fpr slot.now.number → TellsIfSome numbers fpr.now result }
+{
+    if is_same(&slot.fpr, fpr) {
+        Some(slot.number)
+    } else {
+        None
+    }
+}
+
+/// The number of the slot at a place, if it is this fingerprint's.
+fn number_from(slots: &[Slot], place: usize, fpr: &Fpr) -> Option<u8>
+    ensures tells { (numbers : List (Print × ℕ)) → AreSlots numbers slots.now → TellsIfSome numbers fpr.now result }
+{
+    if place >= slots.len() {
+        return None;
+    }
+    number_if(&slots[place], fpr)
+}
+
+/// The number of a fingerprint, if it is in one of the first slots from here on.
+fn find_from(slots: &[Slot], start: usize, fpr: &Fpr) -> Option<u8>
+    ensures tells { (numbers : List (Print × ℕ)) → AreSlots numbers slots.now → TellsIfSome numbers fpr.now result }
+{
+    let mut place = start;
+    'places: for _look in 0..LOOKS {
+        let number = number_from(slots, place, fpr);
+        if number.is_some() {
+            return number;
+        }
+        place = place.saturating_add(1);
+    }
+    None
+}
