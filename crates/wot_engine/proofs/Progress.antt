@@ -93,7 +93,7 @@ module _ (rows : PolicyRows) (origin : Option World) (world : World) where
           | inl feed ↦ (
             lines_of (held' ++ g.rest),
             ap lines_of (s.parts ∙ ap (λ (x : List ℕ). s.gone ++ x) feed) ∙ prefix.lines (line ++ 10 ∷ (held' ++ g.rest))
-            ∙ ap (λ (ls : List (List ℕ)). s.done ++ ls) (lines_of-feed line (held' ++ g.rest) g.cuts.no_feed),
+                ∙ ap (λ (ls : List (List ℕ)). s.done ++ ls) (lines_of-feed line (held' ++ g.rest) g.cuts.no_feed),
           )
           | inr last ↦ ([], ap lines_of (s.parts ∙ ap (λ (x : List ℕ). s.gone ++ x) last.1) ∙ prefix.lines line ∙ ap (λ (ls : List (List ℕ)). s.done ++ ls) (lines_of-last line last.3 g.cuts.no_feed))
         ]

@@ -139,8 +139,7 @@ module _ (rows : PolicyRows) where
       → AllTold left0 written0 origin (λ input before world. AnsweredWhole rows world input before left' written × (taken' ≡ 2 ^ 30 → AnsweredMost rows world input before left' written))
   Answered-stop left0 written0 origin held taken left written shelf state left' taken' s t =
       all_weaker left0 written0 origin _ _ (λ input before world unread s.
-      let t' = rw s.left_is at t in
-      (
+      let t' = rw s.left_is at t in (
         at_stop rows origin world input before held taken left written shelf state left' taken' s t',
         λ n. at_most rows origin world input before held taken left written shelf state left' taken' s t' n,
       )) s

@@ -35,7 +35,8 @@ pub fn each_line_has_one_outcome()
 
 /// Over a shelf of each world, each input has exactly one transcript.
 pub fn each_input_has_one_transcript()
-    ensures some { (rows : PolicyRows) (world : World) (input : List ℕ) → (replies : List Reply) × Transcript rows world input replies }
+    ensures some { (rows : PolicyRows) (world : World) (input : List ℕ)
+        → (replies : List Reply) × Transcript rows world input replies }
     ensures one { (rows : PolicyRows) (world : World) (input : List ℕ) (replies others : List Reply)
         → Transcript rows world input replies → Transcript rows world input others → replies ≡ others }
 {

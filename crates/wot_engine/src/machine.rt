@@ -230,7 +230,8 @@ fn run<F: Fn(Ask) -> bool>(
     requires countable { engine.old.keyring.changes < 2 ^ 64 - 1 }
     requires judged { IsJudgedBy (rows_of policy.old) engine.old.keyring }
     requires faithful { IsFaithful F.Fn policy.old }
-    ensures does { IfOk result (λ reply. Does (rows_of policy.old) (state_of engine.old) command.now Answer.absent reply (state_of engine.new)) }
+    ensures does { IfOk result (λ reply.
+        Does (rows_of policy.old) (state_of engine.old) command.now Answer.absent reply (state_of engine.new)) }
     ensures anew { OnOk result (OnDump command.now ((rows : PolicyRows) → IsMadeAnew rows (state_of engine.old))) }
     ensures quiet { IfOk result (λ reply. is_short reply ≡ false → StaysButMarks engine.old engine.new) }
     ensures kept { OnErr result (StaysButMarks engine.old engine.new) }

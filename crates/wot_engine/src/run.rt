@@ -112,14 +112,7 @@ pub fn run<S: Source, K: Sink, D: Shelf, F: Fn(Ask) -> bool>(
             Err(LinesFault::ReadFault) => return Err(Stop::Read),
             Err(LinesFault::TooMuch) => return Err(Stop::TooMuch),
         };
-        reply_to(
-            &mut machine,
-            line,
-            lines.text(),
-            shelf,
-            policy,
-            &mut out,
-        )?;
+        reply_to(&mut machine, line, lines.text(), shelf, policy, &mut out)?;
         write_all(output, &out)?;
         out.clear();
     }
