@@ -1,9 +1,9 @@
 -- How many octets of the source a run takes.
-use Rattle.std.proofs.Common.{◌≡◌, ℕ, ◌≤◌, ◌^◌, List, [], ◌++◌, Option, Some, None, refl, sym, ap, subst, ◌∙◌, append_assoc, arith, length-append}
+use Rattle.std.proofs.Common.{◌≡◌, ℕ, ◌≤◌, ◌^◌, List, [], length, ◌++◌, Option, Some, None, refl, sym, ap, subst, ◌∙◌, append_assoc, arith, length-append}
 use Rattle.wot_io.specs.Fill.{Took}
 use Rattle.wot_io.specs.Source.{Loses, LosesOf}
 use Rattle.wot_io.specs.ReaderState.{ReaderState}
-use Rattle.wot_engine.specs.Transcript.{TakesAtMost}
+use Rattle.wot_engine.specs.Transcript.{HasMost, TakesAtMost, Told}
 use Rattle.wot_engine.proofs.Replying.{fresh}
 
 loses_nothing : (left : Option (List ℕ)) → Loses left left []
@@ -51,3 +51,15 @@ takes_more first second third mid high a b le = takes_at_most first third high (
 -- nothing is taken
 pub takes_nothing : (left : Option (List ℕ)) → TakesAtMost left left
 takes_nothing left = takes_at_most left left 0 (record { gone = []; loses = loses_nothing left; count = refl }) (omega arith)
+
+-- where the most was taken, there was as much
+pub has_most : (first last : Option (List ℕ)) (taken : ℕ) → Took first 0 last taken → taken ≡ 2 ^ 30 → HasMost first
+has_most None last taken t most = tt
+has_most (Some input) last taken t most = omega (arith, t.count, most, ap length t.loses.parts, length-append t.gone t.loses.rest)
+
+-- what follows of that, where it is told
+pub told_of_most : (left written : Option (List ℕ)) (P : List ℕ → List ℕ → Type 0) → HasMost left
+    → ((input before : List ℕ) → 2 ^ 30 ≤ length input → P input before) → Told left written P
+told_of_most None written P most f = tt
+told_of_most (Some input) None P most f = tt
+told_of_most (Some input) (Some before) P most f = f input before most

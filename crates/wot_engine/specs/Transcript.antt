@@ -64,6 +64,11 @@ abbrev pub TakesAtMost : Option (List ℕ) → Option (List ℕ) → Type 0
 TakesAtMost None left = Unit {0}
 TakesAtMost (Some input) left = IsWithinMost input left
 
+-- There were 2 ^ 30 octets at least, where the source tells what it has left.
+abbrev pub HasMost : Option (List ℕ) → Type 0
+HasMost None = Unit {0}
+HasMost (Some input) = 2 ^ 30 ≤ length input
+
 -- All whole lines of the octets taken were answered. Where nothing is left, a last line without a line feed may count as whole.
 pub record AnsweredWhole (rows : PolicyRows) (world : World) (input before : List ℕ) (left after : Option (List ℕ)) : Type 0 where
   pub octets : List ℕ

@@ -4,7 +4,7 @@ ghost use Rattle.wot_keyring.specs.Kept.{IsJudgedBy};
 ghost use Rattle.wot_cache.specs.State.{state_of};
 ghost use Rattle.wot_io.specs.Counts.{Rose};
 ghost use Rattle.wot_io.specs.Input.{lines_of};
-ghost use Rattle.wot_engine.specs.Transcript.{AllTold, TakesAtMost, Answered, Begun, AnsweredWhole, AnsweredMost};
+ghost use Rattle.wot_engine.specs.Transcript.{AllTold, TakesAtMost, Answered, Begun, AnsweredWhole, AnsweredMost, HasMost};
 ghost use Rattle.wot_engine.specs.Turn.{Replies};
 ghost use Rattle.wot_engine.specs.declared.run.Stop.TheVariants as stops;
 
@@ -97,6 +97,7 @@ pub fn run<S: Source, K: Sink, D: Shelf, F: Fn(Ask) -> bool>(
     ensures most_only { AllTold (S.left input.old) (K.written output.old) (D.world shelf.old) (λ octets before world.
         AnsweredMost (rows_of policy.old) world octets before (S.left input.new) (K.written output.new) →
         IsErrOf result Stop.TooMuch ⊎ IsErrOf result Stop.Memory) }
+    ensures much { IsErrOf result Stop.TooMuch → HasMost (S.left input.old) }
     ensures at_most { TakesAtMost (S.left input.old) (S.left input.new) }
     ensures faithful { IsFaithful F.Fn policy.new }
     ensures rows { rows_of policy.new ≡ rows_of policy.old }

@@ -1,4 +1,4 @@
-use Rattle.std.proofs.Common.{◌≡◌, ◌^◌, ◌<◌, ℕ, List, Option, Some, None, refl, arith, subst, ◌∙◌}
+use Rattle.std.proofs.Common.{◌≡◌, ◌^◌, ◌<◌, ℕ, List, Option, Some, None, Result, Err, OnOk, refl, sym, arith, subst, ◌∙◌}
 use Rattle.std.proofs.lemmas.Result.{err_from_is_err_and}
 use Rattle.wot_policy.specs.declared.rows.PolicyRows.{PolicyRows}
 use Rattle.wot_policy.specs.Kept.{rows_of}
@@ -9,13 +9,23 @@ use Rattle.wot_engine.specs.Transcript.{AllTold}
 use Rattle.wot_engine.proofs.Giving.{all_told}
 use Rattle.wot_engine.proofs.Turns.{Answered-end, Answered-stop, AllTold-weaker, Turns-reply, Stood-write, Begun-cut, Begun-here, Begun-nothing, Most-cut, Most-stop}
 use Rattle.wot_engine.proofs.Replying.{answered, not_end, begins, no_fault, within, counted, judged}
-use Rattle.wot_engine.proofs.Taking.{took_nothing, took_both, takes_more}
+use Rattle.wot_engine.proofs.Taking.{has_most, took_nothing, took_both, takes_more}
 use Rattle.wot_engine.proofs.run.run.Goals as goal
 
 -- what holds of all contents holds where they are told
 told_always : (left written : Option (List ℕ)) (origin : Option World) (P : List ℕ → List ℕ → World → Type 0) → ((input before : List ℕ) (world : World) → P input before world)
     → AllTold left written origin P
 told_always left written origin P f = all_told left written origin P (λ input before world e f' is. f input before world)
+
+-- nothing is promised of what failed
+on_err : {T E : Type 0} (r : Result T E) (fault : E) (P : Type 0) → r ≡ Err fault → OnOk r P
+on_err r fault P is = subst (λ (r : Result _ _). OnOk r P) (sym is) tt
+
+pub returns-in_err-write_all-clause-whole : goal.returns-in_err-write_all-clause-whole
+returns-in_err-write_all-clause-whole g c =
+    let p = err_from_is_err_and c.from_residual-in_err-write_all.result c.from_residual-in_err-write_all.ensures.1 in
+    told_always (g.S.Source.left c.args.input.now) (g.K.Sink.written c.args.output.now) (g.D.Shelf.world c.args.shelf.now) _
+    (λ input before world. on_err c.from_residual-in_err-write_all.result p.0 _ p.1)
 
 pub returns-in_err-write_all-clause-taken : goal.returns-in_err-write_all-clause-taken
 returns-in_err-write_all-clause-taken g c =
@@ -43,6 +53,13 @@ returns-in-Err-TooMuch-clause-most g c =
     AllTold-weaker (rows_of c.args.policy.now) (g.S.Source.left c.args.input.now) (g.K.Sink.written c.args.output.now) (g.D.Shelf.world c.args.shelf.now) _ _ (λ input before world both e. both.1 n)
     (Answered-stop (rows_of c.args.policy.now) (g.S.Source.left c.args.input.now) (g.K.Sink.written c.args.output.now) (g.D.Shelf.world c.args.shelf.now) c.lines.lines.held c.lines.lines.taken (g.S.Source.left c.lines.input) (g.K.Sink.written c.lines.output) (g.D.Shelf.world c.lines.shelf) (state_of c.lines.machine.engine) (g.S.Source.left c.next.new.from) c.next.new.self.taken c.lines.invariant.stood (c.in-Err-TooMuch.ensures.stops c.lines.invariant.no_fault))
 
+pub returns-in-Err-TooMuch-clause-much : goal.returns-in-Err-TooMuch-clause-much
+returns-in-Err-TooMuch-clause-much g c e =
+    let n : c.next.new.self.taken ≡ 2 ^ 30 = (rw c.in-Err-TooMuch.field-0-is at c.in-Err-TooMuch.ensures.too_much) c.lines.invariant.no_fault refl in
+    has_most (g.S.Source.left c.args.input.now) (g.S.Source.left c.next.new.from) c.next.new.self.taken
+    (took_both (g.S.Source.left c.args.input.now) (g.S.Source.left c.lines.input) (g.S.Source.left c.next.new.from) 0 c.lines.lines.taken
+    c.next.new.self.taken c.lines.invariant.took c.next.ensures.took) n
+
 pub returns-in_err-write_all-clause-prefix : goal.returns-in_err-write_all-clause-prefix
 returns-in_err-write_all-clause-prefix g c =
     let replies = answered (rows_of c.lines.policy) (rows_of c.args.policy.now) c.in-Ok.line c.text.result.now c.next.new.self.text (state_of c.lines.machine.engine) (g.D.Shelf.world c.lines.shelf) c.reply_to.new.out.items (state_of c.reply_to.new.machine.engine) (g.D.Shelf.world c.reply_to.new.shelf) c.lines.invariant.rows c.text.ensures c.in_ok-reply_to.ensures.replies in
@@ -63,7 +80,7 @@ lines-preserved g c =
       source = omega (arith, c.next.ensures.later, c.lines.invariant.source);
       sink = omega (arith, c.write_all.ensures.later, c.lines.invariant.sink);
       changes = omega (arith, c.reply_to.ensures.counted, c.in-Ok.ensures.shorter (not_end (rows_of c.args.policy.now) c.in-Ok.line c.next.new.self.text (state_of c.lines.machine.engine) (g.D.Shelf.world c.lines.shelf) c.reply_to.new.out.items (state_of c.reply_to.new.machine.engine) (g.D.Shelf.world c.reply_to.new.shelf) replies), c.lines.invariant.changes, c.next.ensures.within, c.lines.invariant.within);
-      judged = subst (λ (r : PolicyRows). IsJudgedBy r c.reply_to.new.machine.keyring) c.lines.invariant.rows c.reply_to.ensures.judged;
+      judged = subst (λ (r : PolicyRows). IsJudgedBy r c.reply_to.new.machine.engine.keyring) c.lines.invariant.rows c.reply_to.ensures.judged;
       rows = c.reply_to.ensures.rows ∙ c.lines.invariant.rows;
       faithful = c.reply_to.ensures.faithful;
     }
