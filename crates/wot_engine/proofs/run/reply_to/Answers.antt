@@ -45,7 +45,7 @@ answered (Err x) rows line text old new before after had has is empty s = tt
 
 pub returns-in-Text-clause-replies : goal.returns-in-Text-clause-replies
 returns-in-Text-clause-replies g c =
-    answered c.line.result (rows_of c.args.policy.now) c.args.line c.args.text.now (state_of c.args.machine.now) (state_of c.line.new.self)
+    answered c.line.result (rows_of c.args.policy.now) c.args.line c.args.text.now (state_of c.args.machine.now.engine) (state_of c.line.new.self.engine)
     (record { world = g.D.Shelf.world c.args.shelf.now; faults = g.D.Shelf.faults c.args.shelf.now }) (record { world = g.D.Shelf.world c.line.new.shelf; faults = g.D.Shelf.faults c.line.new.shelf })
     c.args.out.now.items c.line.new.out.items c.in-Text.is c.requires.empty c.line.ensures.step
 

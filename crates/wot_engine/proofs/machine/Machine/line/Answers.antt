@@ -1,4 +1,4 @@
-use Rattle.std.proofs.Common.{rules, ◌≡◌, false, None, refl}
+use Rattle.std.proofs.Common.{rules, ◌≡◌, false, None, Ok, refl, subst}
 use Rattle.wot_policy.specs.Kept.{rows_of}
 use Rattle.wot_script.specs.declared.reply.Reply.TheVariants as replies
 use Rattle.wot_script.specs.Grammar.{command_of}
@@ -6,7 +6,10 @@ use Rattle.wot_certd.specs.World.{Answer}
 use Rattle.wot_cache.specs.State.{state_of}
 use Rattle.wot_engine.specs.Entry.{entry_for}
 use Rattle.wot_engine.specs.Lines.{is_silent}
+use Rattle.wot_engine.specs.Machine.{Machine}
+use Rattle.wot_engine.specs.Made.{LineMakes, heard}
 use Rattle.wot_engine.specs.Ran.{Ran, Seen}
+use Rattle.wot_engine.proofs.Making.{line_makes_as, makes_heard}
 use Rattle.wot_engine.proofs.Running.{stepped}
 use Rattle.wot_engine.proofs.Stepping.{entry_heard, entry_long, looked_at, too_long}
 use Rattle.wot_engine.proofs.machine.Machine.line.Goals as goal
@@ -32,3 +35,12 @@ returns-clause-step g c =
     (looked_at (rows_of c.args.policy.now) (state_of c.args.self.now.engine) c.args.line.now ran.given c.in_ok-reply.reply (state_of c.answer.new.engine)
     c.if-long.false heard ran.answers)
     ran.asked ran.world ran.cause c.reserve.ensures.items c.print_reply-2.ensures.appended
+
+pub returns-clause-makes : goal.returns-clause-makes
+returns-clause-makes g c =
+    let loud : is_silent c.args.line.now ≡ false = search rules in
+    subst (λ (m : Machine). LineMakes c.print_reply-2.result (heard c.args.line.now) m.engine c.answer.new.engine m.made c.answer.new.steps.made) c.self.view_is
+    (makes_heard c.print_reply-2.result c.args.line.now c.self.inside.engine c.answer.new.engine c.self.inside.steps.made c.answer.new.steps.made
+    c.if-long.false loud
+    (line_makes_as (Ok c.in_ok-reply.reply) c.print_reply-2.result (λ ok. refl) (command_of c.args.line.now) c.self.inside.engine c.answer.new.engine
+    c.self.inside.steps.made c.answer.new.steps.made c.in_ok-reply.ensures.makes))
