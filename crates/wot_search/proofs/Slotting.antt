@@ -2,10 +2,10 @@
 use Rattle.std.proofs.Common.{◌≡◌, ℕ, true, List, [], ◌∷◌, ◌++◌, sym, subst}
 use Rattle.std.proofs.lemmas.List.Elements.{All-push}
 use Rattle.wot_types.specs.declared.fpr.Fpr.{Fpr}
-use Rattle.wot_edge.specs.Order.{same_fpr}
+use Rattle.wot_types.specs.Fpr.{same_fpr}
 use Rattle.wot_search.specs.declared.slots.Slot.{Slot}
 use Rattle.wot_search.specs.Slots.{AreSlots, Tells}
-use Rattle.wot_search.proofs.Order.{same_fpr-true}
+use Rattle.wot_types.specs.FprLaws.{same_fpr-true}
 
 pub tells_same : (numbers : List (Fpr × ℕ)) (a b : Fpr) (n : ℕ) → same_fpr a b ≡ true → Tells numbers a n → Tells numbers b n
 tells_same numbers a b n same tells = subst (λ (fpr : Fpr). Tells numbers fpr n) (same_fpr-true a b same) tells

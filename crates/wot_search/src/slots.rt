@@ -1,7 +1,7 @@
 // The numbers of a table once more, in a row: most are found by one look, and not by a walk through a tree.
 ghost use Rattle.std.specs.Prelude.{◌≡◌, ℕ, List, IfOk, OnOk};
 ghost use Rattle.wot_types.specs.declared.fpr.Fpr.{Fpr as Print};
-ghost use Rattle.wot_edge.specs.Order.{same_fpr};
+ghost use Rattle.wot_types.specs.Fpr.{same_fpr};
 ghost use Rattle.wot_search.specs.Reach.{number_at};
 ghost use Rattle.wot_search.specs.Slots.{AreSlots, Tells, TellsIfSome};
 

@@ -19,7 +19,7 @@ returns-in-Ok-clause-whole g c =
 pub returns-in-Ok-clause-most_only : goal.returns-in-Ok-clause-most_only
 returns-in-Ok-clause-most_only g c =
     AllTold-weaker (rows_of c.args.policy.now) (g.S.Source.left c.args.input.now) (g.K.Sink.written c.args.output.now) (g.D.Shelf.world c.args.shelf.now) _ _
-    (λ input before world t most. elim (t most) [ | inl e ↦ absurd (cc e) | inr e ↦ absurd (cc e) ]) c.in-Ok.ensures.most_only
+    (λ input before world t most. elim (t most) [ inl e ↦ absurd (cc e) | inr e ↦ absurd (cc e) ]) c.in-Ok.ensures.most_only
 
 pub returns-in-Err-Read-clause-taken : goal.returns-in-Err-Read-clause-taken
 returns-in-Err-Read-clause-taken g c =
@@ -29,12 +29,12 @@ returns-in-Err-Read-clause-taken g c =
 pub returns-in-Err-Read-clause-most_only : goal.returns-in-Err-Read-clause-most_only
 returns-in-Err-Read-clause-most_only g c =
     AllTold-weaker (rows_of c.args.policy.now) (g.S.Source.left c.args.input.now) (g.K.Sink.written c.args.output.now) (g.D.Shelf.world c.args.shelf.now) _ _
-    (λ input before world t most. elim (t most) [ | inl e ↦ absurd (cc (e, c.in-Err-Read.field-0-is)) | inr e ↦ absurd (cc (e, c.in-Err-Read.field-0-is)) ]) c.in-Err-Read.ensures.most_only
+    (λ input before world t most. elim (t most) [ inl e ↦ absurd (cc (e, c.in-Err-Read.field-0-is)) | inr e ↦ absurd (cc (e, c.in-Err-Read.field-0-is)) ]) c.in-Err-Read.ensures.most_only
 
 pub returns-in-Err-Write-clause-most_only : goal.returns-in-Err-Write-clause-most_only
 returns-in-Err-Write-clause-most_only g c =
     AllTold-weaker (rows_of c.args.policy.now) (g.S.Source.left c.args.input.now) (g.K.Sink.written c.args.output.now) (g.D.Shelf.world c.args.shelf.now) _ _
-    (λ input before world t most. elim (t most) [ | inl e ↦ absurd (cc (e, c.in-Err-Write.field-0-is)) | inr e ↦ absurd (cc (e, c.in-Err-Write.field-0-is)) ]) c.in-Err-Write.ensures.most_only
+    (λ input before world t most. elim (t most) [ inl e ↦ absurd (cc (e, c.in-Err-Write.field-0-is)) | inr e ↦ absurd (cc (e, c.in-Err-Write.field-0-is)) ]) c.in-Err-Write.ensures.most_only
 
 pub returns-in-Err-TooMuch-clause-most : goal.returns-in-Err-TooMuch-clause-most
 returns-in-Err-TooMuch-clause-most g c =
