@@ -51,7 +51,7 @@ class Import(Command):
 
 @dataclass(frozen=True)
 class Load(Command):
-    """Reads one entry of the directory that the engine was started with. The engine may not know it yet."""
+    """Reads one entry of the certificate directory that the engine was started with."""
     name: str
 
     def text(self):

@@ -191,6 +191,11 @@ class OddClients(unittest.TestCase):
         except OSError:
             pass
 
+    def test_a_directory_is_read_by_no_line(self):
+        """Each engine would read it by itself, and might find something else there."""
+        self.assertEqual(self.other.tell(b"load trust-root"), b"refused line")
+        self.assertEqual(self.other.tell(b"keys"), b"keys 12")
+
     def test_names_of_two_clients_never_meet(self):
         first = self.world.fprs[0]
         with Client(self.server.path) as client:
