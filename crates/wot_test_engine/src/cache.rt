@@ -147,7 +147,7 @@ pub fn amount_of(
     view: &ViewName,
     wanted: u32,
 ) -> Result<(u32, usize, u64), AskFault>
-    ensures kept { engine.new ≡ engine.old }
+    ensures keyring { engine.new.keyring ≡ engine.old.keyring }
 {
     let mut steps = Steps::new();
     if wanted == 0 {

@@ -142,7 +142,7 @@ const TURNS: [Turn; 19] = [
 
 /// Whether this is told.
 fn tells(engine: &mut Engine, view: &ViewName, expected: (u32, usize)) -> bool
-    ensures kept { engine.new ≡ engine.old }
+    ensures keyring { engine.new.keyring ≡ engine.old.keyring }
 {
     match amount_of(engine, view, 120) {
         Ok((amount, paths, _)) => (amount, paths) == expected,
@@ -150,15 +150,22 @@ fn tells(engine: &mut Engine, view: &ViewName, expected: (u32, usize)) -> bool
     }
 }
 
+/// Whether this is told from both views.
+fn tells_both(engine: &mut Engine, p: &ViewName, q: &ViewName, turn: &Turn) -> bool
+    ensures keyring { engine.new.keyring ≡ engine.old.keyring }
+{
+    let from_p = tells(engine, p, turn.p);
+    let from_q = tells(engine, q, turn.q);
+    (from_p, from_q) == (true, true)
+}
+
 /// Whether this is told from both views, at first and again.
 fn tells_again(engine: &mut Engine, p: &ViewName, q: &ViewName, turn: &Turn) -> bool
-    ensures kept { engine.new ≡ engine.old }
+    ensures keyring { engine.new.keyring ≡ engine.old.keyring }
 {
-    tells(engine, p, turn.p)
-        && tells(engine, q, turn.q)
-        && tells(engine, p, turn.p)
-        && tells(engine, p, turn.p)
-        && tells(engine, q, turn.q)
+    let first = tells_both(engine, p, q, turn);
+    let again = tells_both(engine, p, q, turn);
+    (first, again) == (true, true)
 }
 
 /// How many turns go by until one is told otherwise.
