@@ -1,7 +1,7 @@
 use Rattle.wot_test_engine.proofs.cache.amount_of.Goals as goal
 
 pub returns-in_err-answer : goal.returns-in_err-answer
-returns-in_err-answer c = c.ask.ensures.refreshed.stays.keyring
+returns-in_err-answer c = record { keyring = c.ask.ensures.refreshed.stays.keyring }
 
 pub returns : goal.returns
-returns c = c.ask.ensures.refreshed.stays.keyring
+returns c = record { keyring = c.ask.ensures.refreshed.stays.keyring }
