@@ -4,7 +4,6 @@
 mod certificates;
 mod digests;
 mod lines;
-mod lists;
 mod live;
 mod packets;
 mod paths;
@@ -44,13 +43,6 @@ fn main(rt: HostRuntime) -> io::Result<()> {
             let length = number(words.next());
             let piece = number(words.next());
             lines::bench(&rt, length, piece)
-        }
-        "list" => {
-            let size = number(words.next()) as u64;
-            let each = number(words.next()) as u64;
-            let depths = number(words.next()) as u64;
-            let roots = number(words.next()) as u64;
-            lists::bench(&rt, size, each, depths, roots, number(words.next()) as u64)
         }
         "packets" => packets::bench(&rt, number(words.next())),
         "packets-copied" => packets::bench_copy(&rt, number(words.next())),
