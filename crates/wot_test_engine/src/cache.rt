@@ -14,7 +14,7 @@ use wot_types::{Fpr, Limit, Limits, Memory, Steps, ViewName};
 use wot_verdict::Verdict;
 
 /// The fingerprints of the keys with the bodies 04000003e81b01, 04000003e81b02 and 04000003e81b04.
-const R: Fpr = Fpr::V4([
+pub const R: Fpr = Fpr::V4([
     127, 53, 200, 219, 214, 179, 235, 47, 253, 89, 203, 221, 46, 65, 234, 41, 18, 18, 172, 56,
 ]);
 
@@ -22,7 +22,7 @@ const A: Fpr = Fpr::V4([
     53, 46, 95, 18, 5, 155, 70, 5, 165, 184, 248, 143, 102, 214, 85, 201, 19, 62, 28, 162,
 ]);
 
-const T: Fpr = Fpr::V4([
+pub const T: Fpr = Fpr::V4([
     60, 152, 184, 24, 14, 15, 202, 202, 16, 50, 73, 144, 130, 165, 222, 143, 165, 217, 130, 50,
 ]);
 
@@ -61,7 +61,7 @@ const DUMPED: [&[u8]; 12] = [
 ];
 
 /// Does what a command says to an engine that changed seldom; whether it was done.
-fn run<F: Fn(Ask) -> bool>(engine: &mut Engine, command: &Command, policy: &mut Policy<F>) -> bool
+pub fn run<F: Fn(Ask) -> bool>(engine: &mut Engine, command: &Command, policy: &mut Policy<F>) -> bool
     requires judged { IsJudgedBy (rows_of policy.old) engine.old.keyring }
     requires faithful { IsFaithful F.Fn policy.old }
     ensures judged { IsJudgedBy (rows_of policy.new) engine.new.keyring }

@@ -14,4 +14,8 @@ mod keyring;
 #[cfg(test)]
 mod layers;
 #[cfg(test)]
+mod many;
+#[cfg(test)]
+mod rows;
+#[cfg(test)]
 mod shelf;
