@@ -8,6 +8,8 @@ mod engine;
 #[cfg(test)]
 mod explain;
 #[cfg(test)]
+mod failing;
+#[cfg(test)]
 mod kept;
 #[cfg(test)]
 mod keyring;
@@ -17,5 +19,6 @@ mod layers;
 mod many;
 #[cfg(test)]
 mod rows;
+mod policy;
 #[cfg(test)]
 mod shelf;
