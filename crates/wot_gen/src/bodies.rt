@@ -76,8 +76,6 @@ pub fn signature_body(
     ensures body { IfOk result (λ body. body.items ≡ signature_of kind made issuer.now extra.now) }
     ensures size { IfOk result (λ body. vec_len body ≤ 43) }
 {
-    let area = match issuer {
-        Fpr::V4(octets) => area(alloc, made, octets, extra)?,
-    };
+    let area = area(alloc, made, issuer.octets(), extra)?;
     over(alloc, kind, &area)
 }
