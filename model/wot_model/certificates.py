@@ -24,11 +24,17 @@ class CertificateFault(Exception):
 
 
 def is_readable_key(body):
-    return 6 <= len(body) <= 65535 and body[0] == 4
+    """Of version 4, or of version 6 with as much material as it says (RFC 9580, section 5.5.2)."""
+    if body[:1] == b"\4":
+        return 6 <= len(body) <= 65535
+    return body[:1] == b"\6" and 10 <= len(body) < 2**32 and int.from_bytes(body[6:10], "big") == len(body) - 10
 
 
 @lru_cache(maxsize=None)
 def fingerprint(body):
+    """20 octets of a version 4 key, 32 of a version 6 key (RFC 9580, section 5.5.4)."""
+    if body[0] == 6:
+        return hashlib.sha256(b"\x9b" + len(body).to_bytes(4, "big") + body).digest()
     return hashlib.sha1(b"\x99" + len(body).to_bytes(2, "big") + body).digest()
 
 

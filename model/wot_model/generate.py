@@ -40,6 +40,7 @@ class Generator:
         self.random = random.Random(seed)
         self.keys = []
         self.odd = self.pick([0.003, 0.01, 0.02, 0.05, 0.1, 0.3])
+        self.modern = self.pick([0, 0, 0.2, 0.5, 1])
         self.views = [b"p", b"q", b"-_9z"]
         self.moments = [0, 1, 5000, 6000, FEBRUARY_2013, 1500000000, 4294967295]
         self.lines = []
@@ -73,7 +74,12 @@ class Generator:
 
     def make_key(self):
         created = self.pick([0, 1500, 2000, 2001, 5001]) if self.is_odd() else 1000
-        key = Key(b"\4" + created.to_bytes(4, "big") + b"\x1b" + self.random.randbytes(self.pick([0, 1, 2, 40, 260])))
+        material = self.random.randbytes(self.pick([0, 1, 2, 40, 260]))
+        front = created.to_bytes(4, "big") + b"\x1b"
+        if self.chance(self.modern):
+            key = Key(b"\6" + front + len(material).to_bytes(4, "big") + material)
+        else:
+            key = Key(b"\4" + front + material)
         key.user_ids = self.random.sample(USER_IDS, self.pick([1, 1, 1, 2, 3]))
         self.moments.append(created)
         return key
@@ -125,7 +131,7 @@ class Generator:
         hashed = self.make_facts(kind, made)
         if self.chance(0.4):
             named = self.pick(self.keys) if self.is_odd() else issuer
-            hashed.append((33, b"\4" + named.name))
+            hashed.append((33, named.body[:1] + named.name))
         if self.is_odd() and self.chance(0.3):
             kinds = [2, 3, 5, 7, 9, 16, 20, 25, 29, 33, 34, 127, 4]
             hashed += [(self.pick(kinds), self.random.randbytes(self.pick([0, 1, 4])))]
@@ -134,9 +140,18 @@ class Generator:
         unhashed = [(16, self.random.randbytes(8))] if self.chance(0.2) else []
         if self.chance(0.05):
             unhashed.append((5, bytes([255, 255])))
+        if self.is_odd():
+            hashed += [(33, self.pick([b"\4", b"\6", b"\5"]) + self.random.randbytes(self.pick([20, 32, 31])))]
         hash_number = self.pick(OLD_HASHES) if old else self.pick(ODD_HASHES) if self.is_odd() else 8
-        body = bytes([4, kind, 27, hash_number]) + self.area(hashed) + self.area(unhashed)
-        body += b"\0\0" + self.random.randbytes(self.pick([0, 2, 2, 2, 2]))
+        version = 6 if self.chance(self.modern) else 4
+        if version == 6 and self.chance(0.005):
+            self.pick([hashed, unhashed]).append((26, bytes(self.pick([65530, 65536, 70000]))))
+        body = bytes([version, kind, 27, hash_number]) + self.area(version, hashed) + self.area(version, unhashed)
+        body += b"\0\0"
+        if version == 6:
+            salt = self.random.randbytes(self.pick([0, 16, 32, 255]))
+            body += bytes([len(salt)]) + salt
+        body += self.random.randbytes(self.pick([0, 2, 2, 2, 2]))
         return self.damage(body) if self.is_odd() and self.chance(0.1) else body
 
     def make_facts(self, kind, made):
@@ -163,9 +178,9 @@ class Generator:
             facts.append((29, self.pick([b"\0", b"\1", b"\2", b"\3", b"\3", b"\1why", b"\x20", b""])))
         return facts
 
-    def area(self, subpackets):
+    def area(self, version, subpackets):
         octets = b"".join(map(self.subpacket, subpackets))
-        return len(octets).to_bytes(2, "big") + octets
+        return len(octets).to_bytes(2 if version == 4 else 4, "big") + octets
 
     def subpacket(self, subpacket):
         kind, content = subpacket
@@ -224,6 +239,7 @@ class Generator:
             b"\xca\3PGP", b"\xe8\0\xc2\0", b"\xcd\1t", other, good + other, other + good, old, old + good, good + old,
             good + b"\xc8\0", b"\xc2\0" + good, good + b"\xe8\1x\xca\3PGP\xc2\0\xc2\1y\xcd\1n\xc2\1y",
             good + good, write_packet(KEY, b"\4\0\0\3\xe8"), self.damage(good), self.damage(good),
+            write_packet(KEY, b"\6\0\0\3\xe8\x1b\0\0\0\2\1"), write_packet(KEY, b"\6\0\0\3\xe8\x1b\0\0\0"),
         ])
 
     # The certificate directory.
@@ -262,7 +278,7 @@ class Generator:
         return b" ".join(str(part).encode() if isinstance(part, int) else part for part in parts)
 
     def name(self):
-        return self.pick(self.keys).name if self.chance(0.95) else self.random.randbytes(20)
+        return self.pick(self.keys).name if self.chance(0.95) else self.random.randbytes(self.pick([20, 32]))
 
     def written_user_id(self, user_id):
         if self.chance(0.4) and b"\n" not in user_id and b"\\" not in user_id:
@@ -389,7 +405,7 @@ class Generator:
             lines += [self.words(b"view", b"v%d" % number, b"time", 5) for number in range(self.pick([13, 14, 20]))]
         if self.chance(0.1):
             lines += [
-                self.words(b"view", b"p", b"root", self.digits(self.random.randbytes(20)), self.pick([1, 120]))
+                self.words(b"view", b"p", b"root", self.digits(self.random.randbytes(self.pick([20, 32]))), self.pick([1, 120]))
                 for _ in range(self.pick([60, 66]))
             ]
         if self.chance(0.02):

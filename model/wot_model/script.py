@@ -39,7 +39,7 @@ def read_hex(text):
 
 
 def read_fingerprint(text):
-    require(len(text) == 40)
+    require(len(text) in (40, 64))
     return read_hex(text)
 
 

@@ -1,4 +1,4 @@
-"""What a version 4 signature says (RFC 9580, section 5.2.3), and the policy on hash algorithms."""
+"""What a signature of version 4 or 6 says (RFC 9580, section 5.2.3), and the policy on hash algorithms."""
 
 from dataclasses import dataclass
 from functools import lru_cache
@@ -8,7 +8,13 @@ ISSUER_KEY_ID, PRIMARY, REASON, ISSUER = 16, 25, 29, 33
 OTHER_KNOWN = {4, 11, 12, 21, 22, 23, 24, 26, 27, 28, 30, 31, 32, 35, 39}
 
 # How many octets follow the type of a subpacket that is known.
-SIZES = {CREATED: 4, EXPIRATION: 4, TRUST: 2, REVOCABLE: 1, KEY_EXPIRATION: 4, ISSUER_KEY_ID: 8, PRIMARY: 1, ISSUER: 21}
+SIZES = {CREATED: 4, EXPIRATION: 4, TRUST: 2, REVOCABLE: 1, KEY_EXPIRATION: 4, ISSUER_KEY_ID: 8, PRIMARY: 1}
+
+# Before an issuer fingerprint stands the version of its key; so many octets are both together.
+ISSUER_SIZES = {4: 21, 6: 33}
+
+# By the version of a signature: how many octets have the length of an area.
+LENGTH_SIZES = {4: 2, 6: 4}
 
 CERTIFICATIONS = range(0x10, 0x14)
 DIRECT_KEY, KEY_REVOCATION, SUBKEY_REVOCATION, CERTIFICATION_REVOCATION = 0x1F, 0x20, 0x28, 0x30
@@ -62,7 +68,7 @@ class Facts:
 @lru_cache(maxsize=None)
 def read_signature(body):
     """The facts of a signature body; None where it isn't readable."""
-    if len(body) < 6 or body[0] != 4:
+    if len(body) < 6 or body[0] not in LENGTH_SIZES:
         return None
     areas = cut_areas(body)
     if areas is None:
@@ -76,16 +82,22 @@ def read_signature(body):
 
 def cut_areas(body):
     """The hashed and the unhashed area; None where a part of the signature is missing."""
+    size = LENGTH_SIZES[body[0]]
     areas = []
     at = 4
     for _ in range(2):
-        length = body[at : at + 2]
-        begin = at + 2
+        length = body[at : at + size]
+        begin = at + size
         at = begin + int.from_bytes(length, "big")
-        if len(length) < 2 or at > len(body):
+        if len(length) < size or at > len(body):
             return None
         areas.append(body[begin:at])
-    return areas if at + 2 <= len(body) else None
+    return areas if at + 2 <= len(body) and has_salt(body[0], body[at + 2 :]) else None
+
+
+def has_salt(version, octets):
+    """Whether behind the two octets of the hash stands what else has to: in version 6 a salt behind its length."""
+    return version == 4 or len(octets) > 0 and len(octets) > octets[0]
 
 
 def read_area(octets):
@@ -119,8 +131,8 @@ def is_known(kind, content):
         return True
     if kind == REASON:
         return len(content) >= 1
-    if kind == ISSUER and content[:1] != b"\x04":
-        return False
+    if kind == ISSUER:
+        return len(content) > 0 and ISSUER_SIZES.get(content[0]) == len(content)
     return SIZES.get(kind) == len(content)
 
 

@@ -10,7 +10,10 @@ from dataclasses import dataclass, field
 KEY, USER_ID, ATTRIBUTE, SUBKEY, SIGNATURE = 6, 13, 17, 14, 2
 CERTIFICATIONS = range(0x10, 0x14)
 # Octets behind the type, for each subpacket type that has an effect; None is any number of them.
-_SIZES = {2: 4, 3: 4, 5: 2, 6: None, 7: 1, 9: 4, 16: 8, 25: 1, 29: None, 33: 21}
+_SIZES = {2: 4, 3: 4, 5: 2, 6: None, 7: 1, 9: 4, 16: 8, 25: 1, 29: None, 33: None}
+# By the version before an issuer fingerprint: how many octets both have. By that of a signature: the octets of a length.
+_ISSUER_SIZES = {4: 21, 6: 33}
+_LENGTH_SIZES = {4: 2, 6: 4}
 _WITHOUT_EFFECT = {4, 11, 12, *range(21, 25), *range(26, 29), *range(30, 33), 35, 39}
 
 
@@ -65,7 +68,7 @@ def _subpackets(area):
 
 @dataclass
 class Signature:
-    """What a version 4 signature says in its hashed area, of what people are shown. `kind` is None where it isn't
+    """What a signature of version 4 or 6 says in its hashed area, of what people are shown. `kind` is None where it isn't
     readable. `place` is the key's body, the number of the kind of place, and the user ID."""
     place: tuple
     body: bytes
@@ -91,7 +94,7 @@ class Signature:
 
     def may_be_by(self, fpr):
         """Whether it names this key as its issuer, or nobody."""
-        return (self.issuer or fpr) == fpr and (self.key_id or fpr[-16:]) == fpr[-16:]
+        return (self.issuer or fpr) == fpr and (self.key_id or key_id(fpr)) == key_id(fpr)
 
     def newness(self):
         return self.made, self.number, self.body
@@ -100,7 +103,7 @@ class Signature:
 def read_signature(place, body):
     signature = Signature(place, body)
     try:
-        if body[0] != 4 or len(body) < 10:
+        if body[0] not in _LENGTH_SIZES or len(body) < 10:
             return signature
         hashed, unhashed = _areas(body)
         found = list(_subpackets(hashed))
@@ -125,11 +128,16 @@ def read_signature(place, body):
 
 
 def _areas(body):
-    hashed_end = 6 + int.from_bytes(body[4:6], "big")
-    unhashed_end = hashed_end + 2 + int.from_bytes(body[hashed_end:hashed_end + 2], "big")
-    if unhashed_end + 2 > len(body):
+    size = _LENGTH_SIZES[body[0]]
+    hashed = 4 + size
+    hashed_end = hashed + int.from_bytes(body[4:hashed], "big")
+    unhashed = hashed_end + size
+    unhashed_end = unhashed + int.from_bytes(body[hashed_end:unhashed], "big")
+    # Two octets of the hash; in version 6 also a salt, behind its length.
+    end = unhashed_end + 2 if body[0] == 4 else unhashed_end + 3 + body[unhashed_end + 2]
+    if end > len(body):
         raise ValueError("a part of the signature is missing")
-    return body[6:hashed_end], body[hashed_end + 2:unhashed_end]
+    return body[hashed:hashed_end], body[unhashed:unhashed_end]
 
 
 def _is_known(kind, content):
@@ -137,7 +145,9 @@ def _is_known(kind, content):
         return True
     if kind not in _SIZES or _SIZES[kind] not in (None, len(content)):
         return False
-    return not (kind == 29 and not content) and not (kind == 33 and content[0] != 4)
+    if kind == 33:
+        return len(content) > 0 and _ISSUER_SIZES.get(content[0]) == len(content)
+    return not (kind == 29 and not content)
 
 
 def _take(signature, kind, content):
@@ -167,7 +177,14 @@ class Certificate:
 
 
 def key_fingerprint(body):
+    if body[:1] == b"\6":
+        return hashlib.sha256(b"\x9b" + len(body).to_bytes(4, "big") + body).hexdigest()
     return hashlib.sha1(b"\x99" + len(body).to_bytes(2, "big") + body).hexdigest()
+
+
+def key_id(fpr):
+    """The last eight octets of a version 4 fingerprint, the first eight of a version 6 one."""
+    return fpr[:16] if len(fpr) == 64 else fpr[-16:]
 
 
 def signature_number(key, place, component, body):

@@ -2,7 +2,7 @@
 
 import re
 
-_FINGERPRINT = re.compile(r"[0-9a-f]{40}")
+_FINGERPRINT = re.compile(r"[0-9a-f]{40}|[0-9a-f]{64}")
 _NUMBER = re.compile(r"[0-9a-f]{64}")
 _VIEW = re.compile(r"[a-z0-9_-]{1,32}")
 _ESCAPE = re.compile(rb"\\(\\|x[0-9a-fA-F]{2})|\\")

@@ -12,7 +12,8 @@ use Rattle.wot_types.specs.Fpr.{fpr_cmp}
 use Rattle.wot_keyring.specs.Keyring.{Keyring}
 use Rattle.wot_cache.specs.declared.answers.KeptAnswer.{KeptAnswer}
 use Rattle.wot_cache.specs.Answers.{Amounts, AreFew, AreRight, Entries, IsGood, IsRight, IsSameBut, looked_by, looked_in}
-use Rattle.wot_cache.proofs.Inside.{each_inserted, fpr_total, length_inserted}
+use Rattle.wot_types.specs.FprLaws.{fpr_total}
+use Rattle.wot_cache.proofs.Inside.{each_inserted, length_inserted}
 
 pub right_put : (k : Keyring) (roots : Amounts) (turn : ℕ) (entries : Entries) (a : KeptAnswer) → AreRight k roots turn entries → IsRight k a
     → IsGood k roots turn a → AreRight k roots turn (insert_entry fpr_cmp entries a.target a)

@@ -11,13 +11,13 @@ use Rattle.std.specs.Cmp.{IsTotalOrder}
 use Rattle.std.specs.BTreeMap.{insert_entry, is_at}
 use Rattle.std.specs.Map.{lookup, remove_entry, set_value, values_of, keys_of}
 use Rattle.std.proofs.lemmas.Bool.{leb-false}
-use Rattle.std.proofs.lemmas.Cmp.{nat_list_cmp_total, on_total}
 use Rattle.std.proofs.lemmas.List.Sums.{sum_by-cons}
 use Rattle.std.proofs.lemmas.Map.{length-set_value}
 use Rattle.std.proofs.lemmas.Map.Entries.{sum_by-insert_entry}
 use Rattle.wot_types.specs.declared.fpr.Fpr.{Fpr}
 use Rattle.wot_types.specs.declared.limits.Limits.{Limits}
-use Rattle.wot_types.specs.Fpr.{fpr_cmp, octets_of}
+use Rattle.wot_types.specs.Fpr.{fpr_cmp}
+use Rattle.wot_types.specs.FprLaws.{fpr_total}
 use Rattle.wot_types.specs.ViewName.{view_name_cmp}
 use Rattle.wot_edge.specs.Roots.{IsRoots, root_amount}
 use Rattle.wot_keyring.specs.Import.{IsOneChange}
@@ -115,9 +115,6 @@ length_replaced cmp total es k v w sorted e =
     omega (arith, sums, there, sum_ones es, sum_ones (insert_entry cmp es k v))
 
 -- ---- roots
-
-pub fpr_total : IsTotalOrder fpr_cmp
-fpr_total = on_total octets_of nat_list_cmp_total
 
 -- the roots stay within the limit
 pub few_amounts : (l : Limits) (roots : List (Fpr × ℕ)) (fpr : Fpr) (amount : ℕ) → IsRoots roots → length roots ≤ l.roots → amount_fault l roots fpr amount ≡ None → length (with_amount roots fpr amount) ≤ l.roots

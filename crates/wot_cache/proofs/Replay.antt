@@ -3,7 +3,6 @@ use Rattle.std.proofs.Common.{◌≡◌, ℕ, ◌<◌, ◌≤◌, ◌==◌, Bool
 use Rattle.std.specs.Prelude.{◌&&◌, nat_lt, nat_le, is_none, if◌then◌else◌, IsSomeAnd}
 use Rattle.std.specs.Option.{unwrap_or, option_map}
 use Rattle.std.specs.Cmp.{IsTotalOrder}
-use Rattle.std.specs.Cmp.Lexicographic.{on_texts}
 use Rattle.std.specs.BTreeMap.{insert_entry, is_at}
 use Rattle.std.specs.Map.{keys_of, remove_entry, set_value}
 use Rattle.std.specs.List.{AllByRecursion, flat_map}
@@ -14,7 +13,8 @@ use Rattle.std.proofs.lemmas.Cmp.{nat_list_cmp_total, tied_itself}
 use Rattle.wot_types.specs.declared.fpr.Fpr.{Fpr}
 use Rattle.wot_types.specs.declared.limits.Limits.{Limits}
 use Rattle.wot_types.specs.declared.limits.Limit.TheVariants as words
-use Rattle.wot_types.specs.Fpr.{fpr_cmp, octets_of}
+use Rattle.wot_types.specs.Fpr.{fpr_cmp}
+use Rattle.wot_types.specs.FprLaws.{fpr_total}
 use Rattle.wot_types.specs.ViewName.{view_name_cmp}
 use Rattle.wot_policy.specs.declared.rows.PolicyRows.{PolicyRows}
 use Rattle.wot_script.specs.declared.command.Command.{Command}
@@ -83,7 +83,7 @@ names_total : IsTotalOrder view_name_cmp
 names_total = nat_list_cmp_total
 
 fprs_total : IsTotalOrder fpr_cmp
-fprs_total = on_texts octets_of
+fprs_total = fpr_total
 
 -- the state with these views
 abbrev with_views : State → Views → State

@@ -6,7 +6,7 @@ use Rattle.hex.specs.Hex.{IsBytes}
 use Rattle.wot_types.specs.declared.name.Name.{Name}
 use Rattle.wot_types.specs.declared.name.Name.TheVariants.{Cert, TrustRoot}
 use Rattle.wot_types.specs.declared.fpr.Fpr.{Fpr}
-use Rattle.wot_types.specs.declared.fpr.Fpr.TheVariants.{V4}
+use Rattle.wot_types.specs.declared.fpr.Fpr.TheVariants.{V4, V6}
 use Rattle.wot_types.specs.Fpr.{digits_of, fpr_cmp}
 
 -- Certificates come in the order of their fingerprints, and the trust root last.
@@ -25,9 +25,10 @@ abbrev pub place_of : Name → List ℕ
 place_of (Cert fpr) = split_digits (digits_of fpr)
 place_of TrustRoot = codes "trust-root"
 
--- A fingerprint has 20 octets.
+-- A fingerprint has 20 octets, or 32.
 abbrev pub IsFpr : Fpr → Type 0
 IsFpr (V4 octets) = (length octets ≡ 20) × IsBytes octets
+IsFpr (V6 octets) = (length octets ≡ 32) × IsBytes octets
 
 abbrev pub IsName : Name → Type 0
 IsName (Cert fpr) = IsFpr fpr

@@ -1,4 +1,4 @@
-ghost use Rattle.std.specs.Prelude.{◌≡◌, ◌↔◌, ◌+◌, ◌++◌, Some, take, drop, slice_index, codes, length, string_bytes, IsTrue, IfOk, IfSome};
+ghost use Rattle.std.specs.Prelude.{◌≡◌, ◌↔◌, ◌⊎◌, ◌+◌, ◌≤◌, ◌++◌, Some, take, drop, slice_index, codes, length, string_bytes, IsTrue, IfOk, IfSome};
 ghost use Rattle.hex.specs.Hex.{encode_lower};
 ghost use Rattle.wot_types.specs.declared.fpr.Fpr.{Fpr as FprOf};
 ghost use Rattle.wot_types.specs.declared.name.Name.{Name as NameOf};
@@ -15,17 +15,17 @@ pub fn name_of(alloc: Global, name: &Name) -> Result<String, Memory>
     ensures place { IfOk result (λ text. string_bytes text ≡ place_of name.now) }
 {
     match name {
-        Name::Cert(Fpr::V4(octets)) => split_text(alloc, octets),
+        Name::Cert(fpr) => split_text(alloc, fpr),
         Name::TrustRoot => Ok(String::from_str(alloc, "trust-root")?),
     }
 }
 
-/// The digits of octets, with a slash behind those of the first one.
-#[tactic(auto, using(crate::proofs::Places::split_text))]
-fn split_text(alloc: Global, octets: &[u8; 20]) -> Result<String, Memory>
-    ensures { IfOk result (λ text. string_bytes text ≡ split_digits (encode_lower octets.now)) }
+/// The digits of a fingerprint, with a slash behind those of the first octet.
+#[tactic(auto, using(crate::proofs::Places::split_text, crate::proofs::Places::some_octets))]
+fn split_text(alloc: Global, fpr: &Fpr) -> Result<String, Memory>
+    ensures { IfOk result (λ text. string_bytes text ≡ split_digits (digits_of fpr.now)) }
 {
-    let (first, others) = octets.as_slice().split_at(1);
+    let (first, others) = fpr.octets().split_at(1);
     joined_text(alloc, first, others)
 }
 
@@ -69,35 +69,40 @@ fn certificate_at(place: &[u8]) -> Option<Name>
     }
 }
 
-/// The fingerprint of the certificate that stands at this place.
+/// The fingerprint of the certificate that stands at this place: its 40 or 64 digits, and a slash between.
 fn fpr_at(place: &[u8]) -> Option<Fpr>
     ensures found { IfSome result (λ fpr. place.now ≡ split_digits (digits_of fpr)) }
     ensures again { (fpr : FprOf) → IsFpr fpr → place.now ≡ split_digits (digits_of fpr) → result ≡ Some fpr }
 {
-    if is_split(place) {
-        fpr_of_split(place)
+    if !is_split(place) {
+        return None;
+    }
+    if place.len() == 41 {
+        fpr_of_split::<40>(place)
     } else {
-        None
+        fpr_of_split::<64>(place)
     }
 }
 
-/// Whether a slash stands behind the first two of 41 octets.
+/// Whether a slash stands behind the first two of 41 or 65 octets.
 fn is_split(place: &[u8]) -> bool
-    ensures long { IsTrue result → length place.now ≡ 41 }
+    ensures long { IsTrue result → (length place.now ≡ 41) ⊎ (length place.now ≡ 65) }
     ensures slash { IsTrue result → slice_index place.now 2 ≡ 47 }
-    ensures only { length place.now ≡ 41 → slice_index place.now 2 ≡ 47 → IsTrue result }
+    ensures only { (length place.now ≡ 41) ⊎ (length place.now ≡ 65) → slice_index place.now 2 ≡ 47 → IsTrue result }
 {
-    place.len() == 41 && place[2] == b'/'
+    (place.len() == 41 || place.len() == 65) && place[2] == b'/'
 }
 
+/// The fingerprint whose digits, so many, stand at this place.
 #[tactic(auto, using(crate::proofs::Places::placing))]
-fn fpr_of_split(place: &[u8]) -> Option<Fpr>
-    requires long { length place.now ≡ 41 }
+fn fpr_of_split<const DIGITS: usize>(place: &[u8]) -> Option<Fpr>
+    requires long { length place.now ≡ DIGITS + 1 }
+    requires some { 2 ≤ DIGITS }
     requires slash { slice_index place.now 2 ≡ 47 }
     ensures found { IfSome result (λ fpr. place.now ≡ split_digits (digits_of fpr)) }
     ensures again { (fpr : FprOf) → IsFpr fpr → place.now ≡ split_digits (digits_of fpr) → result ≡ Some fpr }
 {
-    let digits = digits_at(place);
+    let digits: [u8; DIGITS] = digits_at(place);
     match Fpr::read(&digits) {
         Some(fpr) => as_printed(fpr, &digits),
         None => None,
@@ -105,11 +110,11 @@ fn fpr_of_split(place: &[u8]) -> Option<Fpr>
 }
 
 /// A fingerprint, where it is printed by these digits.
-fn as_printed(fpr: Fpr, digits: &[u8; 40]) -> Option<Fpr>
+fn as_printed(fpr: Fpr, digits: &[u8]) -> Option<Fpr>
     ensures same { IfSome result (λ found. (found ≡ fpr) × (digits.now ≡ digits_of fpr)) }
     ensures again { digits.now ≡ digits_of fpr → result ≡ Some fpr }
 {
-    if is_same(&printed(&fpr), digits) {
+    if are_printed(&fpr, digits) {
         Some(fpr)
     } else {
         None
@@ -117,13 +122,14 @@ fn as_printed(fpr: Fpr, digits: &[u8; 40]) -> Option<Fpr>
 }
 
 /// The digits of a place.
-fn digits_at(place: &[u8]) -> [u8; 40]
-    requires { length place.now ≡ 41 }
+fn digits_at<const DIGITS: usize>(place: &[u8]) -> [u8; DIGITS]
+    requires long { length place.now ≡ DIGITS + 1 }
+    requires some { 2 ≤ DIGITS }
     ensures { result ≡ take 2 place.now ++ drop 3 place.now }
 {
     let (folder, _) = place.split_at(2);
     let (_, file) = place.split_at(3);
-    let mut digits = [0u8; 40];
+    let mut digits = [0u8; DIGITS];
     put_both(&mut digits, folder, file);
     digits
 }
@@ -137,19 +143,28 @@ fn put_both(to: &mut [u8], front: &[u8], back: &[u8])
     second.copy_from_slice(back);
 }
 
-/// The digits of a fingerprint, as it is printed.
-fn printed(fpr: &Fpr) -> [u8; 40]
-    ensures { result ≡ digits_of fpr.now }
+/// Whether a fingerprint is printed by these digits.
+fn are_printed(fpr: &Fpr, digits: &[u8]) -> bool
+    ensures { IsTrue result ↔ (digits_of fpr.now ≡ digits.now) }
 {
     match fpr {
-        Fpr::V4(octets) => printed_twenty(octets),
+        Fpr::V4(octets) => is_same(&printed_v4(octets), digits),
+        Fpr::V6(octets) => is_same(&printed_v6(octets), digits),
     }
 }
 
-fn printed_twenty(octets: &[u8; 20]) -> [u8; 40]
+fn printed_v4(octets: &[u8; 20]) -> [u8; 40]
     ensures { result ≡ encode_lower octets.now }
 {
     let mut digits = [0u8; 40];
+    let _ = hex::encode_to_slice(octets.as_slice(), &mut digits);
+    digits
+}
+
+fn printed_v6(octets: &[u8; 32]) -> [u8; 64]
+    ensures { result ≡ encode_lower octets.now }
+{
+    let mut digits = [0u8; 64];
     let _ = hex::encode_to_slice(octets.as_slice(), &mut digits);
     digits
 }

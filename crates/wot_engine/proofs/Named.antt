@@ -6,10 +6,9 @@ use Rattle.std.specs.Ordering.{is_eq, match_ordering}
 use Rattle.std.specs.List.{AllByRecursion}
 use Rattle.std.specs.BTreeMap.{insert_entry}
 use Rattle.std.specs.Map.{lookup, remove_entry}
-use Rattle.std.proofs.lemmas.Map.Lookups.{exact_bytes}
 use Rattle.wot_types.specs.declared.fpr.Fpr.{Fpr}
-use Rattle.wot_types.specs.declared.fpr.Fpr.TheVariants.{V4}
 use Rattle.wot_types.specs.Fpr.{fpr_cmp}
+use Rattle.wot_types.specs.FprLaws.{fpr_exact}
 use Rattle.wot_key.specs.Key.{fpr_of}
 use Rattle.wot_policy.specs.declared.rows.PolicyRows.{PolicyRows}
 use Rattle.wot_cert.specs.Certificate.{Certificate}
@@ -20,9 +19,6 @@ use Rattle.wot_engine.proofs.Stays.{all_without}
 
 abbrev pub AreNamed : Certificates → Type 0
 AreNamed certs = AllByRecursion (λ (e : Fpr × Certificate). e.0 ≡ fpr_of e.1.key) certs
-
-exact : (a b : Fpr) → fpr_cmp a b ≡ Equal → a ≡ b
-exact (V4 xs) (V4 ys) e = ap V4 (exact_bytes xs ys e)
 
 is-equal : (o : Ordering) → is_eq o ≡ true → o ≡ Equal
 is-equal Less e = absurd cc
@@ -38,7 +34,7 @@ named_with (x ∷ xs) fpr c e all = by (named_with xs fpr c e all.1) (fpr_cmp fp
   where
     by : AreNamed (insert_entry fpr_cmp xs fpr c) → (o : Ordering) → fpr_cmp fpr x.0 ≡ o → AreNamed (match_ordering o ((fpr, c) ∷ x ∷ xs) ((x.0, c) ∷ xs) (x ∷ insert_entry fpr_cmp xs fpr c))
     by rest Less f = (e, all)
-    by rest Equal f = (sym (exact fpr x.0 f) ∙ e, all.1)
+    by rest Equal f = (sym (fpr_exact fpr x.0 f) ∙ e, all.1)
     by rest Greater f = (all.0, rest)
 
 -- what is kept under a fingerprint has that fingerprint
@@ -49,7 +45,7 @@ found_named (x ∷ xs) fpr kept all e = by (found_named xs fpr kept all.1) (is_f
     by : (lookup (is_fpr fpr) xs ≡ Some kept → fpr ≡ fpr_of kept.key) → (b : Bool) → is_fpr fpr x.0 ≡ b → cond b (Some x.1) (lookup (is_fpr fpr) xs) ≡ Some kept → fpr ≡ fpr_of kept.key
     by rest true f g =
         let same : x.1 ≡ kept = cc in
-        exact fpr x.0 (is-equal (fpr_cmp fpr x.0) f) ∙ all.0 ∙ ap (λ (c : Certificate). fpr_of c.key) same
+        fpr_exact fpr x.0 (is-equal (fpr_cmp fpr x.0) f) ∙ all.0 ∙ ap (λ (c : Certificate). fpr_of c.key) same
     by rest false f g = rest g
 
 united_named : (certs : Certificates) (fpr : Fpr) (o : Option Certificate) (c : Certificate) → AreNamed certs → lookup (is_fpr fpr) certs ≡ o → fpr ≡ fpr_of c.key → fpr ≡ fpr_of (united_with o c).key

@@ -5,12 +5,12 @@ use Rattle.std.specs.declared.cmp.Ordering.TheVariants.{Less, Equal, Greater}
 use Rattle.std.specs.Ordering.{is_gt, is_le, nat_cmp, ordering_reverse, ordering_then}
 use Rattle.std.specs.Cmp.Lexicographic.{slice_cmp}
 use Rattle.std.specs.List.{AllByRecursion}
-use Rattle.std.proofs.lemmas.Cmp.{nat_list_cmp_total, on_total}
 use Rattle.std.proofs.lemmas.List.{length-append, length-take, take-append-le, take_all}
 use Rattle.std.proofs.lemmas.List.Elements.{filter-append}
 use Rattle.wot_types.specs.declared.fpr.Fpr.{Fpr}
 use Rattle.wot_types.specs.declared.place.Place.{Place}
-use Rattle.wot_types.specs.Fpr.{fpr_cmp, octets_of}
+use Rattle.wot_types.specs.Fpr.{fpr_cmp}
+use Rattle.wot_types.specs.FprLaws.{fpr_total}
 use Rattle.wot_cert.specs.Certificate.{Component, Certificate}
 use Rattle.wot_edge.specs.Answer.{amount_of}
 use Rattle.wot_edge.specs.Record.{Record}
@@ -116,7 +116,7 @@ module _ (told : List ℕ → Record) (roots : List (Fpr × ℕ)) (wanted : ℕ)
 
   before_place : (from : Option Place) (fpr : Fpr) (uid : List ℕ) → is_from (fpr_at from) fpr ≡ false → comes_after from (fpr, uid) ≡ false
   before_place None fpr uid e = absurd cc
-  before_place (Some place) fpr uid e = by (fpr_cmp place.fpr fpr) (fpr_cmp fpr place.fpr) ((on_total octets_of nat_list_cmp_total).antisymm fpr place.fpr) e
+  before_place (Some place) fpr uid e = by (fpr_cmp place.fpr fpr) (fpr_cmp fpr place.fpr) (fpr_total.antisymm fpr place.fpr) e
     where
       by : (o p : Ordering) → p ≡ ordering_reverse o → is_le o ≡ false → is_gt (ordering_then p (slice_cmp nat_cmp uid place.uid)) ≡ false
       by Less p f g = absurd cc

@@ -36,16 +36,16 @@ sha1_length : (message : List ℕ) → length (sha1 message) ≡ 20
 unfolding sha1
 sha1_length message = digest_length _ 5
 
-fpr_length : (body : List ℕ) → length (octets_of (fpr_of body)) ≡ 20
-unfolding v4_digest
-fpr_length body = sha1_length _
+fpr_length : (made a b c d : ℕ) → length (octets_of (fpr_of (key_body made a b c d))) ≡ 20
+unfolding fpr_of v4_digest key_body
+fpr_length made a b c d = sha1_length _
 
 signature_length : (kind made : ℕ) (issuer : Fpr) (extra : List ℕ) → length (octets_of issuer) ≡ 20
     → length (signature_body kind made issuer extra) ≡ 39 + length extra
 unfolding hashed_area signature_over
 signature_length kind made issuer extra e =
     let area = length-append (octets_of issuer) extra in
-    let body = length-append (hashed_area made (octets_of issuer) extra) (0 ∷ 0 ∷ 0 ∷ 0 ∷ []) in
+    let body = length-append (hashed_area made issuer extra) (0 ∷ 0 ∷ 0 ∷ 0 ∷ []) in
     omega (arith, e, area, body)
 
 written_length : (kind : ℕ) (body : List ℕ) → length body < 192 → length (written kind body) ≡ 2 + length body
@@ -54,7 +54,7 @@ written_length kind body short =
     rw e (omega arith)
 
 direct_length : (start index : ℕ) → length (direct_at start index) ≡ 39
-direct_length start index = signature_length 31 (created index) (fpr_at start index) [] (fpr_length (body_at start index))
+direct_length start index = signature_length 31 (created index) (fpr_at start index) [] (fpr_length _ _ _ _ _)
 
 three_lengths : (a b c : List ℕ) → length a ≤ 40 → length b ≤ 41 → length c ≤ 43 → length (a ++ (b ++ (c ++ []))) ≤ 124
 three_lengths a b c x y z =
@@ -116,7 +116,7 @@ certification_fits : (start drawn index turn : ℕ) → IsSmall (certification_b
 certification_fits start drawn index turn =
     let issuer = issuer_by start drawn index in
     let body : length (certification_body start drawn index turn) ≡ 43 =
-    signature_length 16 (1100000000 + turn) (fpr_at start issuer) (trust_by start drawn) (fpr_length (body_at start issuer)) in
+    signature_length 16 (1100000000 + turn) (fpr_at start issuer) (trust_by start drawn) (fpr_length _ _ _ _ _) in
     let packet = written_length 2 (certification_body start drawn index turn) (omega (arith, body)) in
     omega (arith, body, packet)
 

@@ -2,7 +2,7 @@
 use Rattle.std.specs.Prelude.{ℕ, ◌+◌, List, [], ◌∷◌, ◌++◌, length, codes}
 use Rattle.std.specs.Int.{w16, w32, w64, to_be_bytes}
 use Rattle.std.specs.Fmt.{decimal}
-use Rattle.wot_types.specs.Fpr.{octets_of}
+use Rattle.wot_types.specs.Fpr.{octets_in, octets_of, version_of}
 use Rattle.wot_types.specs.declared.fpr.Fpr.{Fpr}
 
 -- when the key of an index was made
@@ -19,8 +19,9 @@ unfoldable pub user_id : ℕ → List ℕ
 user_id index = codes "user " ++ decimal index ++ codes " <u" ++ decimal index ++ codes "@example.org>"
 
 -- when a signature was made and by whom, and then these subpackets
-unfoldable pub hashed_area : ℕ → List ℕ → List ℕ → List ℕ
-hashed_area made issuer extra = 5 ∷ 2 ∷ to_be_bytes w32 made ++ 22 ∷ 33 ∷ 4 ∷ issuer ++ extra
+unfoldable pub hashed_area : ℕ → Fpr → List ℕ → List ℕ
+hashed_area made issuer extra =
+    5 ∷ 2 ∷ to_be_bytes w32 made ++ (octets_in issuer + 2) ∷ 33 ∷ version_of issuer ∷ octets_of issuer ++ extra
 
 -- a version 4 signature of this kind with a hashed area, and nothing else: algorithms 27 and 8, no unhashed area, two
 -- octets of the hash, no material
@@ -28,7 +29,7 @@ unfoldable pub signature_over : ℕ → List ℕ → List ℕ
 signature_over kind area = 4 ∷ kind ∷ 27 ∷ 8 ∷ to_be_bytes w16 (length area) ++ area ++ 0 ∷ 0 ∷ 0 ∷ 0 ∷ []
 
 abbrev pub signature_body : ℕ → ℕ → Fpr → List ℕ → List ℕ
-signature_body kind made issuer extra = signature_over kind (hashed_area made (octets_of issuer) extra)
+signature_body kind made issuer extra = signature_over kind (hashed_area made issuer extra)
 
 -- the trust subpacket: depth and amount (RFC 9580, section 5.2.3.21)
 abbrev pub trust : ℕ → ℕ → List ℕ

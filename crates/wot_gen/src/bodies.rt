@@ -1,7 +1,7 @@
-ghost use Rattle.std.specs.Prelude.{◌≡◌, ◌+◌, ◌<◌, ◌≤◌, ◌++◌, ◌^◌, true, length, vec_len, slice_index, IfOk, OnOk};
+ghost use Rattle.std.specs.Prelude.{◌≡◌, ◌+◌, ◌<◌, ◌≤◌, ◌++◌, ◌^◌, true, [], ◌∷◌, length, vec_len, slice_index, IfOk, OnOk};
 ghost use Rattle.wot_gen.specs.Bodies.{hashed_area, key_body as key_body_of, signature_over, signature_body as signature_of, user_id as user_id_of};
 ghost use Rattle.wot_key.specs.Key.{is_readable};
-ghost use Rattle.wot_types.specs.Fpr.{octets_of};
+ghost use Rattle.wot_types.specs.Fpr.{octets_in, version_of};
 
 use std::alloc::Global;
 use wot_types::{Fpr, Memory, UserId};
@@ -35,26 +35,37 @@ pub fn user_id(alloc: Global, index: u32) -> Result<UserId, Memory>
     UserId::new(alloc, text.as_bytes())
 }
 
+/// The length, the type and the version before an issuer fingerprint.
+fn before_issuer(issuer: &Fpr) -> [u8; 3]
+    ensures head { result ≡ (octets_in issuer.now + 2) ∷ 33 ∷ version_of issuer.now ∷ [] }
+    ensures most { octets_in issuer.now ≤ 32 }
+{
+    match issuer {
+        Fpr::V4(_) => [22, 33, 4],
+        Fpr::V6(_) => [34, 33, 6],
+    }
+}
+
 #[tactic(auto, unfolding(crate::specs::Bodies::hashed_area))]
-fn area(alloc: Global, made: u32, issuer: &[u8; 20], extra: &[u8]) -> Result<Vec<u8>, Memory>
+fn area(alloc: Global, made: u32, issuer: &Fpr, extra: &[u8]) -> Result<Vec<u8>, Memory>
     requires { length extra.now ≤ 4 }
     ensures area { IfOk result (λ area. area.items ≡ hashed_area made issuer.now extra.now) }
-    ensures size { IfOk result (λ area. vec_len area ≤ 33) }
+    ensures size { IfOk result (λ area. vec_len area ≤ 45) }
 {
     let mut area = Vec::new(alloc);
     area.extend_from_slice(&[5, 2])?;
     area.extend_from_slice(&made.to_be_bytes())?;
-    area.extend_from_slice(&[22, 33, 4])?;
-    area.extend_from_slice(issuer)?;
+    area.extend_from_slice(&before_issuer(issuer))?;
+    area.extend_from_slice(issuer.octets())?;
     area.extend_from_slice(extra)?;
     Ok(area)
 }
 
 #[tactic(auto, unfolding(crate::specs::Bodies::signature_over))]
 fn over(alloc: Global, kind: u8, area: &[u8]) -> Result<Vec<u8>, Memory>
-    requires { length area.now ≤ 33 }
+    requires { length area.now ≤ 45 }
     ensures body { IfOk result (λ body. body.items ≡ signature_over kind area.now) }
-    ensures size { IfOk result (λ body. vec_len body ≤ 43) }
+    ensures size { IfOk result (λ body. vec_len body ≤ 55) }
 {
     let mut body = Vec::new(alloc);
     body.extend_from_slice(&[4, kind, 27, 8])?;
@@ -74,10 +85,8 @@ pub fn signature_body(
 ) -> Result<Vec<u8>, Memory>
     requires { length extra.now ≤ 4 }
     ensures body { IfOk result (λ body. body.items ≡ signature_of kind made issuer.now extra.now) }
-    ensures size { IfOk result (λ body. vec_len body ≤ 43) }
+    ensures size { IfOk result (λ body. vec_len body ≤ 55) }
 {
-    let area = match issuer {
-        Fpr::V4(octets) => area(alloc, made, octets, extra)?,
-    };
+    let area = area(alloc, made, issuer, extra)?;
     over(alloc, kind, &area)
 }

@@ -1,4 +1,4 @@
-//! Version 4 public keys and their fingerprints.
+//! Public keys of version 4 and 6 and their fingerprints.
 #![tactic(auto)]
 
 mod digest;

@@ -7,14 +7,14 @@ use Rattle.std.specs.Ordering.{is_eq, match_ordering, ordering_reverse}
 use Rattle.std.specs.declared.cmp.Ordering.TheVariants.{Less, Equal, Greater}
 use Rattle.std.specs.List.{AllByRecursion}
 use Rattle.std.specs.Map.{lookup, keys_of, remove_entry}
-use Rattle.std.proofs.lemmas.Cmp.{eq_by_cmp_equiv, nat_list_cmp_total, on_total, tied_itself}
+use Rattle.std.proofs.lemmas.Cmp.{eq_by_cmp_equiv, tied_itself}
 use Rattle.std.proofs.lemmas.Map.{lookup-remove_entry}
 use Rattle.std.proofs.lemmas.Map.Keys.{IsDistinct-from_sorted, sorted_head, sorted_tail}
-use Rattle.std.proofs.lemmas.Map.Lookups.{CmpEqualImpliesEq, exact_bytes}
+use Rattle.std.proofs.lemmas.Map.Lookups.{CmpEqualImpliesEq}
 use Rattle.std.proofs.lemmas.Map.Views.{tells_apart}
 use Rattle.wot_types.specs.declared.fpr.Fpr.{Fpr}
-use Rattle.wot_types.specs.declared.fpr.Fpr.TheVariants.{V4}
-use Rattle.wot_types.specs.Fpr.{octets_of, fpr_cmp}
+use Rattle.wot_types.specs.Fpr.{fpr_cmp}
+use Rattle.wot_types.specs.FprLaws.{fpr_total, fpr_exact}
 use Rattle.wot_key.specs.Key.{fpr_of}
 use Rattle.wot_cert.specs.Certificate.{Certificate}
 use Rattle.wot_keyring.specs.declared.kept.Kept.{Kept}
@@ -23,10 +23,10 @@ use Rattle.wot_keyring.specs.Kept.{AreNamed, AreSortedByFpr}
 use Rattle.wot_keyring.specs.Log.{is_named_in}
 
 pub fprs_total : IsTotalOrder fpr_cmp
-fprs_total = on_total octets_of nat_list_cmp_total
+fprs_total = fpr_total
 
 pub exact : CmpEqualImpliesEq fpr_cmp
-exact (V4 x) (V4 y) e = ap V4 (exact_bytes x y e)
+exact a b e = fpr_exact a b e
 
 pub same_fpr : (a b : Fpr) → is_fpr a b ≡ true → a ≡ b
 same_fpr a b h = tells_apart exact a b h

@@ -68,9 +68,7 @@ fn put_subpacket(area: &mut Vec<u8>, said: &Says) -> Option<()> {
 }
 
 fn put_issuer(area: &mut Vec<u8>, fpr: &Fpr) -> Option<()> {
-    match fpr {
-        Fpr::V4(octets) => put(area, 33, &[4], octets.as_slice()),
-    }
+    put(area, 33, &[fpr.version()], fpr.octets())
 }
 
 fn put_number(area: &mut Vec<u8>, kind: u8, number: u32) -> Option<()> {

@@ -1,7 +1,7 @@
 -- The lines of commands have no line feed, and aren't too long.
 use Rattle.std.proofs.Common.{◌≡◌, ℕ, ◌+◌, ◌*◌, ◌/◌, ◌%◌, ◌≤◌, ◌<◌, ◌==◌, Bool, true, false, cond, ◌&&◌, List, [], ◌∷◌, ◌++◌, length, Option, Some, None, Result, Err, refl, arith, length-append}
 use Rattle.std.specs.Prelude.{◌^◌, codes, nat_lt, nat_le}
-use Rattle.std.specs.Option.{option_map}
+use Rattle.std.specs.Option.{option_map, option_or}
 use Rattle.std.specs.Result.{result_ok}
 use Rattle.std.specs.Fmt.{decimal}
 use Rattle.std.specs.List.{AllByRecursion, flat_map, list_all}
@@ -14,7 +14,7 @@ use Rattle.hex.proofs.HexLemmas.{length-encode_with}
 use Rattle.wot_types.specs.Digits.{array_of_digits}
 use Rattle.wot_types.specs.Fpr.{digits_of, fpr_of_digits, octets_of}
 use Rattle.wot_types.specs.declared.fpr.Fpr.{Fpr}
-use Rattle.wot_types.specs.declared.fpr.Fpr.TheVariants.{V4}
+use Rattle.wot_types.specs.declared.fpr.Fpr.TheVariants.{V4, V6}
 use Rattle.wot_types.specs.SigNumber.{number_digits, number_of_digits}
 use Rattle.wot_types.specs.declared.name.Name.{Name}
 use Rattle.wot_types.specs.declared.number.SigNumber.{SigNumber}
@@ -79,8 +79,12 @@ mapped_from : {A B : Type 0} (f : A → B) (o : Option A) (b : B) (P : Type 0) �
 mapped_from f None b P e h = cc e
 mapped_from f (Some a) b P e h = h a refl
 
-pub length-fpr_digits : (digits : List ℕ) (fpr : Fpr) → fpr_of_digits digits ≡ Some fpr → length digits ≡ 40
-length-fpr_digits digits fpr e = mapped_from V4 (array_of_digits 20 digits) fpr (length digits ≡ 40) e (sized 20 digits)
+pub length-fpr_digits : (digits : List ℕ) (fpr : Fpr) → fpr_of_digits digits ≡ Some fpr → length digits ≤ 64
+length-fpr_digits digits fpr e = by (array_of_digits 20 digits) refl e
+  where
+    by : (o : Option (List ℕ)) → array_of_digits 20 digits ≡ o → option_or (option_map V4 o) (option_map V6 (array_of_digits 32 digits)) ≡ Some fpr → length digits ≤ 64
+    by (Some octets) f g = let size = sized 20 digits octets f in omega (arith, size)
+    by None f g = mapped_from V6 (array_of_digits 32 digits) fpr (length digits ≤ 64) g (λ octets h. let size = sized 32 digits octets h in omega (arith, size))
 
 pub length-number_digits : (digits : List ℕ) (number : SigNumber) → number_of_digits digits ≡ Some number → length digits ≡ 64
 length-number_digits digits number e = mapped_from (λ octets. record { 0 = octets }) (array_of_digits 32 digits) number (length digits ≡ 64) e (sized 32 digits)
@@ -154,47 +158,47 @@ import_line octets =
     one_line (Import octets) 105 (codes "mport ") (encode_lower octets ∷ []) refl (λ e. omega arith)
     (feedless_digits octets, tt) (omega (arith, length-digits octets))
 
--- digits of this length
-pub record AreDigits (n : ℕ) (digits : List ℕ) : Type 0 where
+-- digits of a fingerprint or of a number
+pub record AreDigits (digits : List ℕ) : Type 0 where
   pub free : Lacks 10 digits
-  pub size : length digits ≡ n
+  pub size : length digits ≤ 64
 
-pub fpr_digits : (fpr : Fpr) → fpr_of_digits (digits_of fpr) ≡ Some fpr → AreDigits 40 (digits_of fpr)
+pub fpr_digits : (fpr : Fpr) → fpr_of_digits (digits_of fpr) ≡ Some fpr → AreDigits (digits_of fpr)
 fpr_digits fpr e = record { free = feedless_digits (octets_of fpr); size = length-fpr_digits (digits_of fpr) fpr e }
 
-pub number_digits_are : (number : SigNumber) → number_of_digits (number_digits number) ≡ Some number → AreDigits 64 (number_digits number)
-number_digits_are number e = record { free = feedless_digits number.0; size = length-number_digits (number_digits number) number e }
+pub number_digits_are : (number : SigNumber) → number_of_digits (number_digits number) ≡ Some number → AreDigits (number_digits number)
+number_digits_are number e = record { free = feedless_digits number.0; size = omega (arith, length-number_digits (number_digits number) number e) }
 
-pub load_line : (name : Name) (text : List ℕ) → Lacks 10 text → length text ≤ 40
+pub load_line : (name : Name) (text : List ℕ) → Lacks 10 text → length text ≤ 64
     → IsLineFor (Load name) (joined (codes "load " ∷ text ∷ []))
 unfolding lacks_test
 load_line name text free size =
     one_line (Load name) 108 (codes "oad ") (text ∷ []) refl (λ e. omega arith) (free, tt) (omega (arith, size))
 
-pub remove_line : (fpr : Fpr) (ds : List ℕ) → AreDigits 40 ds → IsLineFor (Remove fpr) (joined (codes "drop " ∷ ds ∷ []))
+pub remove_line : (fpr : Fpr) (ds : List ℕ) → AreDigits ds → IsLineFor (Remove fpr) (joined (codes "drop " ∷ ds ∷ []))
 unfolding lacks_test
 remove_line fpr ds digits =
     one_line (Remove fpr) 100 (codes "rop ") (ds ∷ []) refl (λ e. omega arith) (digits.free, tt) (omega (arith, digits.size))
 
-pub export_line : (fpr : Fpr) (ds : List ℕ) → AreDigits 40 ds → IsLineFor (Export fpr) (joined (codes "export " ∷ ds ∷ []))
+pub export_line : (fpr : Fpr) (ds : List ℕ) → AreDigits ds → IsLineFor (Export fpr) (joined (codes "export " ∷ ds ∷ []))
 unfolding lacks_test
 export_line fpr ds digits =
     one_line (Export fpr) 101 (codes "xport ") (ds ∷ []) refl (λ e. omega arith) (digits.free, tt) (omega (arith, digits.size))
 
-pub good_line : (number : SigNumber) (fpr : Fpr) (ns ds : List ℕ) → AreDigits 64 ns → AreDigits 40 ds
+pub good_line : (number : SigNumber) (fpr : Fpr) (ns ds : List ℕ) → AreDigits ns → AreDigits ds
     → IsLineFor (Good number fpr) (joined (codes "verdict " ∷ ns ∷ codes " good " ∷ ds ∷ []))
 unfolding lacks_test
 good_line number fpr ns ds numbers digits =
     one_line (Good number fpr) 118 (codes "erdict ") (ns ∷ codes " good " ∷ ds ∷ []) refl (λ e. omega arith)
     (numbers.free, (word (codes " good ") refl, (digits.free, tt))) (omega (arith, numbers.size, digits.size))
 
-pub bad_line : (number : SigNumber) (ns : List ℕ) → AreDigits 64 ns → IsLineFor (Bad number) (joined (codes "verdict " ∷ ns ∷ codes " bad" ∷ []))
+pub bad_line : (number : SigNumber) (ns : List ℕ) → AreDigits ns → IsLineFor (Bad number) (joined (codes "verdict " ∷ ns ∷ codes " bad" ∷ []))
 unfolding lacks_test
 bad_line number ns numbers =
     one_line (Bad number) 118 (codes "erdict ") (ns ∷ codes " bad" ∷ []) refl (λ e. omega arith)
     (numbers.free, (word (codes " bad") refl, tt)) (omega (arith, numbers.size))
 
-pub unjudge_line : (number : SigNumber) (ns : List ℕ) → AreDigits 64 ns → IsLineFor (Unjudge number) (joined (codes "verdict " ∷ ns ∷ codes " none" ∷ []))
+pub unjudge_line : (number : SigNumber) (ns : List ℕ) → AreDigits ns → IsLineFor (Unjudge number) (joined (codes "verdict " ∷ ns ∷ codes " none" ∷ []))
 unfolding lacks_test
 unjudge_line number ns numbers =
     one_line (Unjudge number) 118 (codes "erdict ") (ns ∷ codes " none" ∷ []) refl (λ e. omega arith)
@@ -223,7 +227,7 @@ time_line view t ts name digits =
     one_line (Time view t) 118 (codes "iew ") (view ∷ codes " time " ∷ ts ∷ []) refl (λ e. omega arith)
     (name.free, (word (codes " time ") refl, (digits.free, tt))) (omega (arith, name.size, digits.size))
 
-pub root_line : (view : List ℕ) (fpr : Fpr) (amount : ℕ) (ds ns : List ℕ) → IsName view → AreDigits 40 ds → IsNumeral ns
+pub root_line : (view : List ℕ) (fpr : Fpr) (amount : ℕ) (ds ns : List ℕ) → IsName view → AreDigits ds → IsNumeral ns
     → IsLineFor (Root view fpr amount) (joined (codes "view " ∷ view ∷ codes " root " ∷ ds ∷ codes " " ∷ ns ∷ []))
 unfolding lacks_test
 root_line view fpr amount ds ns name digits number =
@@ -237,7 +241,7 @@ close_line view name =
     one_line (Close view) 118 (codes "iew ") (view ∷ codes " close" ∷ []) refl (λ e. omega arith)
     (name.free, (word (codes " close") refl, tt)) (omega (arith, name.size))
 
-pub ask_line : (view : List ℕ) (fpr : Fpr) (wanted : ℕ) (uid ds ws : List ℕ) → IsName view → AreDigits 40 ds → IsNumeral ws
+pub ask_line : (view : List ℕ) (fpr : Fpr) (wanted : ℕ) (uid ds ws : List ℕ) → IsName view → AreDigits ds → IsNumeral ws
     → IsLineFor (Ask view fpr wanted uid) (joined (codes "ask " ∷ view ∷ codes " " ∷ ds ∷ codes " " ∷ ws ∷ codes " " ∷ escaped uid ∷ []))
 unfolding lacks_test
 ask_line view fpr wanted uid ds ws name digits number =
@@ -252,7 +256,7 @@ list_line view wanted ws name number =
     one_line (Command.List view wanted) 108 (codes "ist ") (view ∷ codes " " ∷ ws ∷ []) refl (λ e. omega arith)
     (name.free, (word (codes " ") refl, (number.free, tt))) (omega (arith, name.size, number.size))
 
-pub explain_line : (view : List ℕ) (fpr : Fpr) (uid ds : List ℕ) → IsName view → AreDigits 40 ds
+pub explain_line : (view : List ℕ) (fpr : Fpr) (uid ds : List ℕ) → IsName view → AreDigits ds
     → IsLineFor (Explain view fpr uid) (joined (codes "explain " ∷ view ∷ codes " " ∷ ds ∷ codes " " ∷ escaped uid ∷ []))
 unfolding lacks_test
 explain_line view fpr uid ds name digits =

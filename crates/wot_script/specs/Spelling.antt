@@ -56,6 +56,7 @@ spelling Dump = codes "dump"
 -- how long the line of a command is at most
 abbrev pub most_octets : Command → ℕ
 most_octets (Import octets) = 7 + 2 * length octets
+most_octets (Good number fpr) = 142
 most_octets (Ask view fpr wanted uid) = 128 + 4 * length uid
 most_octets (Explain view fpr uid) = 128 + 4 * length uid
 most_octets _ = 128

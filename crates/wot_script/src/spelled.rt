@@ -42,7 +42,7 @@ fn positive_is_read(most: u32, number: u32)
 /// A law: the name of an entry that is printed is read as that name, and is short.
 fn entry_is_read(name: &Name)
     ensures read { entry_of (entry_text name.now) ≡ Some name.now }
-    ensures short { length (entry_text name.now) ≤ 40 }
+    ensures short { length (entry_text name.now) ≤ 64 }
     ensures free { AllByRecursion (λ octet. octet ≢ 10) (entry_text name.now) }
 {
     match name {

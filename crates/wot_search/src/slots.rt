@@ -67,13 +67,11 @@ impl Slots {
 
 /// In which of so many parts a fingerprint is, by its first two octets.
 fn part_of(fpr: &Fpr, count: usize) -> usize {
-    match fpr {
-        Fpr::V4(octets) => part_of_octets(octets, count),
-    }
-}
-
-fn part_of_octets(octets: &[u8; 20], count: usize) -> usize {
-    let word = ((octets[0] as u64) << 8) | (octets[1] as u64);
+    let (first, second) = match fpr {
+        Fpr::V4(octets) => (octets[0], octets[1]),
+        Fpr::V6(octets) => (octets[0], octets[1]),
+    };
+    let word = (u64::from(first) << 8) | u64::from(second);
     let parts = count.min(1 << 16) as u64;
     (word.wrapping_mul(parts) >> 16) as usize
 }

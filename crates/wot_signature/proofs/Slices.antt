@@ -60,3 +60,10 @@ texts-slices whole (s ∷ ss) h = texts-cons (is_known_of 6 s) whole s (filter (
 pub texts-slices_if_any : (whole : List ℕ) (o : Option (List Subpacket)) → IfSome o (HaveSlicesOf whole) → AreSlicesOf whole (option_map_or texts_in o [])
 texts-slices_if_any whole None h = tt
 texts-slices_if_any whole (Some ss) h = texts-slices whole ss h
+
+-- what is a slice of the octets behind the first four is one of all
+pub within_whole : {A : Type 0} (read : A → List ℕ) (o : Option A) (whole : List ℕ)
+    → IfSome o (λ x. IsSliceOf (read x) (take (length whole - 4) (drop 4 whole))) → IfSome o (λ x. IsSliceOf (read x) whole)
+within_whole read None whole h = tt
+within_whole read (Some x) whole h =
+    slice_of_slice (read x) (take (length whole - 4) (drop 4 whole)) whole h (slice_of_middle 4 (length whole - 4) whole)

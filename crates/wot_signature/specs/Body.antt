@@ -1,6 +1,6 @@
 -- The parts of a signature body (RFC 9580, section 5.2.3).
-use Rattle.std.specs.Prelude.{ℕ, nat_lt, ◌==◌, if◌then◌else◌, List, [], ◌∷◌, length, take, drop, Option, Some, None}
-use Rattle.std.specs.Int.{w16, from_be_bytes}
+use Rattle.std.specs.Prelude.{ℕ, Bool, false, nat_lt, nat_le, ◌==◌, if◌then◌else◌, List, [], ◌∷◌, length, take, drop, Option, Some, None}
+use Rattle.std.specs.Int.{w16, w32, from_be_bytes}
 
 -- the kind, the number of the hash algorithm, and the two areas
 pub record Parts : Type 0 where
@@ -14,21 +14,46 @@ abbrev pub octets_at : ℕ → List ℕ → Option (List ℕ × List ℕ)
 octets_at size octets = if nat_lt (length octets) size then None else Some (take size octets, drop size octets)
 
 -- the octets behind two octets that say how many they are, and what is behind those
-abbrev pub field_at : List ℕ → Option (List ℕ × List ℕ)
-field_at (high ∷ low ∷ rest) = octets_at (from_be_bytes w16 (high ∷ low ∷ [])) rest
-field_at _ = None
+abbrev pub short_field_at : List ℕ → Option (List ℕ × List ℕ)
+short_field_at (high ∷ low ∷ rest) = octets_at (from_be_bytes w16 (high ∷ low ∷ [])) rest
+short_field_at _ = None
 
-abbrev pub with_unhashed : ℕ → ℕ → List ℕ → Option (List ℕ × List ℕ) → Option Parts
-with_unhashed kind hash hashed None = None
-with_unhashed kind hash hashed (Some unhashed) =
-    if nat_lt (length unhashed.1) 2 then None else Some (record { kind = kind; hash = hash; hashed = hashed; unhashed = unhashed.0 })
+-- the octets behind four octets that say how many they are, and what is behind those
+abbrev pub long_field_at : List ℕ → Option (List ℕ × List ℕ)
+long_field_at (a ∷ b ∷ c ∷ d ∷ rest) = octets_at (from_be_bytes w32 (a ∷ b ∷ c ∷ d ∷ [])) rest
+long_field_at _ = None
 
-abbrev pub with_hashed : ℕ → ℕ → Option (List ℕ × List ℕ) → Option Parts
-with_hashed kind hash None = None
-with_hashed kind hash (Some hashed) = with_unhashed kind hash hashed.0 (field_at hashed.1)
+-- Behind the areas of version 4 stand two octets of the hash, and the material, if any.
+abbrev pub ends_v4 : List ℕ → Bool
+ends_v4 rest = nat_le 2 (length rest)
 
--- The parts of a version 4 body: 4, the kind, the key algorithm, the hash algorithm, the hashed and the unhashed area, two octets of the hash,
--- and the material, if any. None where a part is missing.
+-- Behind the areas of version 6 stand two octets of the hash, an octet that says how many octets the salt has, the salt, and the material, if any.
+abbrev pub ends_v6 : List ℕ → Bool
+ends_v6 (high ∷ low ∷ size ∷ rest) = nat_le size (length rest)
+ends_v6 _ = false
+
+abbrev pub with_unhashed : (List ℕ → Bool) → ℕ → ℕ → List ℕ → Option (List ℕ × List ℕ) → Option Parts
+with_unhashed ends kind hash hashed None = None
+with_unhashed ends kind hash hashed (Some unhashed) =
+    if ends unhashed.1 then Some (record { kind = kind; hash = hash; hashed = hashed; unhashed = unhashed.0 }) else None
+
+abbrev pub with_hashed : (List ℕ → Option (List ℕ × List ℕ)) → (List ℕ → Bool) → ℕ → ℕ → Option (List ℕ × List ℕ) → Option Parts
+with_hashed field_at ends kind hash None = None
+with_hashed field_at ends kind hash (Some hashed) = with_unhashed ends kind hash hashed.0 (field_at hashed.1)
+
+-- The hashed and the unhashed area, of version 4, with what has to stand behind them.
+abbrev pub areas_v4 : ℕ → ℕ → List ℕ → Option Parts
+areas_v4 kind hash rest = with_hashed short_field_at ends_v4 kind hash (short_field_at rest)
+
+-- the same of version 6
+abbrev pub areas_v6 : ℕ → ℕ → List ℕ → Option Parts
+areas_v6 kind hash rest = with_hashed long_field_at ends_v6 kind hash (long_field_at rest)
+
+-- The parts of a body: the version, the kind, the key algorithm, the hash algorithm, and the areas of its version. None where a part is
+-- missing, and for a version other than 4 and 6. The salt's length isn't compared with the hash.
 abbrev pub parts_of : List ℕ → Option Parts
-parts_of (version ∷ kind ∷ algorithm ∷ hash ∷ rest) = if version == 4 then with_hashed kind hash (field_at rest) else None
+parts_of (version ∷ kind ∷ algorithm ∷ hash ∷ rest) =
+    if version == 4 then areas_v4 kind hash rest
+    else if version == 6 then areas_v6 kind hash rest
+    else None
 parts_of _ = None

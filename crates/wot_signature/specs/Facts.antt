@@ -1,10 +1,10 @@
 -- What the hashed subpackets of a signature say (RFC 9580, section 5.2.3).
-use Rattle.std.specs.Prelude.{ℕ, Bool, true, false, not, ◌&&◌, ◌==◌, List, drop, slice_index, Some, None, is_some}
+use Rattle.std.specs.Prelude.{ℕ, Bool, true, false, not, ◌&&◌, ◌==◌, List, drop, slice_index, Some, None, is_some, if◌then◌else◌}
 use Rattle.std.specs.List.{list_any}
 use Rattle.std.specs.Option.{option_map_or}
 use Rattle.std.specs.Int.{w32, from_be_bytes}
 use Rattle.wot_types.specs.declared.fpr.Fpr.{Fpr}
-use Rattle.wot_types.specs.declared.fpr.Fpr.TheVariants.{V4}
+use Rattle.wot_types.specs.declared.fpr.Fpr.TheVariants.{V4, V6}
 use Rattle.wot_subpacket.specs.Subpacket.{Subpacket}
 use Rattle.wot_signature.specs.declared.facts.SigFacts.{SigFacts}
 use Rattle.wot_signature.specs.Known.{is_known, last_body_of}
@@ -19,7 +19,7 @@ is_set octet = not (octet == 0)
 
 -- the version, and the fingerprint behind it
 abbrev pub issuer_in : List ℕ → Fpr
-issuer_in body = V4 (drop 1 body)
+issuer_in body = if slice_index body 0 == 6 then V6 (drop 1 body) else V4 (drop 1 body)
 
 -- what the last known one of a type says, or what holds where there is none
 abbrev pub says : {A : Type 0} → ℕ → (List ℕ → A) → A → List Subpacket → A

@@ -9,7 +9,11 @@ use Rattle.wot_subpacket.specs.Subpacket.{Subpacket}
 abbrev pub effectless : List ℕ
 effectless = 4 ∷ 11 ∷ 12 ∷ 21 ∷ 22 ∷ 23 ∷ 24 ∷ 26 ∷ 27 ∷ 28 ∷ 30 ∷ 31 ∷ 32 ∷ 35 ∷ 39 ∷ []
 
--- The type is known, and has this body: as many octets as it says, and the octet 4 before an issuer fingerprint of version 4.
+-- an issuer fingerprint: the octet 4 and 20 octets, or the octet 6 and 32 octets
+abbrev pub is_issuer : List ℕ → Bool
+is_issuer body = ((length body == 21) && (slice_index body 0 == 4)) || ((length body == 33) && (slice_index body 0 == 6))
+
+-- The type is known, and has this body: as many octets as it says, and the version before an issuer fingerprint.
 abbrev pub fits : ℕ → List ℕ → Bool
 fits kind body =
     if (kind == 2 || kind == 3) || kind == 9 then length body == 4
@@ -17,7 +21,7 @@ fits kind body =
     else if kind == 7 || kind == 25 then length body == 1
     else if kind == 16 then length body == 8
     else if kind == 29 then nat_le 1 (length body)
-    else if kind == 33 then (length body == 21) && (slice_index body 0 == 4)
+    else if kind == 33 then is_issuer body
     else kind == 6 || list_any (λ other. kind == other) effectless
 
 abbrev pub is_known : Subpacket → Bool

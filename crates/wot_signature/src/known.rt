@@ -1,7 +1,7 @@
 ghost use Rattle.std.specs.Prelude.{◌≡◌, ◌==◌};
 ghost use Rattle.std.specs.List.{list_any};
 ghost use Rattle.wot_subpacket.specs.Seen.{seen};
-ghost use Rattle.wot_signature.specs.Known.{effectless, is_known as is_known_spec, fits as fits_spec};
+ghost use Rattle.wot_signature.specs.Known.{effectless, is_known as is_known_spec, fits as fits_spec, is_issuer as is_issuer_spec};
 
 use wot_subpacket::Sub;
 
@@ -42,9 +42,16 @@ fn fits(kind: u8, body: &[u8]) -> bool
         REVOCABLE | PRIMARY_USER_ID => body.len() == 1,
         ISSUER_KEY_ID => body.len() == 8,
         REASON => !body.is_empty(),
-        ISSUER_FINGERPRINT => body.len() == 21 && body[0] == 4,
+        ISSUER_FINGERPRINT => is_issuer(body),
         _ => kind == PATTERN || is_effectless(kind),
     }
+}
+
+/// The octet 4 and 20 octets, or the octet 6 and 32 octets.
+fn is_issuer(body: &[u8]) -> bool
+    ensures { result ≡ is_issuer_spec body.now }
+{
+    (body.len() == 21 && body[0] == 4) || (body.len() == 33 && body[0] == 6)
 }
 
 fn is_effectless(kind: u8) -> bool

@@ -1,4 +1,4 @@
-//! What a version 4 signature says (RFC 9580, section 5.2), read from its body where it lies: no octet is copied.
+//! What a signature of version 4 or 6 says (RFC 9580, section 5.2), read from its body where it lies: no octet is copied.
 #![tactic(auto)]
 
 mod facts;

@@ -1,6 +1,7 @@
-ghost use Rattle.std.specs.Prelude.{◌≡◌, drop, length, []};
+ghost use Rattle.std.specs.Prelude.{◌≡◌, drop, length, [], true};
 ghost use Rattle.wot_subpacket.specs.Seen.{seen};
-ghost use Rattle.wot_signature.specs.Facts.{number_in as number_in_spec};
+ghost use Rattle.wot_signature.specs.Facts.{number_in as number_in_spec, issuer_in as issuer_in_spec};
+ghost use Rattle.wot_signature.specs.Known.{is_issuer};
 ghost use Rattle.wot_signature.specs.Notes.{notes_in, note_more, facts_from};
 
 use crate::SigFacts;
@@ -87,9 +88,7 @@ impl Notes {
             known::REVOCABLE => self.facts.revocable = sub.body[0] != 0,
             known::PRIMARY_USER_ID => self.facts.primary = sub.body[0] != 0,
             known::REASON => self.facts.reason = Some(sub.body[0]),
-            known::ISSUER_FINGERPRINT => self.facts.issuer = Some(Fpr::V4(fingerprint_in(
-                sub.body,
-            ))),
+            known::ISSUER_FINGERPRINT => self.facts.issuer = Some(issuer_in(sub.body)),
             _ => {}
         }
     }
@@ -102,11 +101,32 @@ fn number_in(body: &[u8]) -> u32
     u32::from_be_bytes([body[0], body[1], body[2], body[3]])
 }
 
-fn fingerprint_in(body: &[u8]) -> [u8; 20]
+/// The fingerprint behind the octet of its version.
+fn issuer_in(body: &[u8]) -> Fpr
+    requires { is_issuer body.now ≡ true }
+    ensures { result ≡ issuer_in_spec body.now }
+{
+    if body[0] == 6 {
+        Fpr::V6(fingerprint_v6(body))
+    } else {
+        Fpr::V4(fingerprint_v4(body))
+    }
+}
+
+fn fingerprint_v4(body: &[u8]) -> [u8; 20]
     requires { length body.now ≡ 21 }
     ensures { result ≡ drop 1 body.now }
 {
     let mut octets = [0u8; 20];
+    octets.copy_from_slice(&body[1..]);
+    octets
+}
+
+fn fingerprint_v6(body: &[u8]) -> [u8; 32]
+    requires { length body.now ≡ 33 }
+    ensures { result ≡ drop 1 body.now }
+{
+    let mut octets = [0u8; 32];
     octets.copy_from_slice(&body[1..]);
     octets
 }

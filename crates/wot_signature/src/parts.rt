@@ -1,6 +1,8 @@
 ghost use Rattle.std.specs.Prelude.{◌≡◌, IfSome, MatchOption, None, Some};
 ghost use Rattle.wot_subpacket.specs.Slice.{IsSliceOf};
-ghost use Rattle.wot_signature.specs.Body.{field_at, octets_at, parts_of as parts_of_spec};
+ghost use Rattle.wot_signature.specs.Body.{
+    areas_v4 as areas_v4_spec, areas_v6 as areas_v6_spec, long_field_at, short_field_at, parts_of as parts_of_spec
+};
 ghost use Rattle.wot_signature.specs.Lent.{lent_parts};
 
 /// The parts of a signature body that say something.
@@ -12,31 +14,63 @@ pub(crate) struct Parts<'a> {
     pub(crate) unhashed: &'a [u8],
 }
 
-/// The parts of a version 4 body; `None` for another version, and where a part is missing.
+/// The parts of a body; `None` where a part is missing, and for a version other than 4 and 6.
 pub(crate) fn parts_of(body: &[u8]) -> Option<Parts<'_>>
     ensures parts { MatchOption result (parts_of_spec body.now ≡ None) (λ parts. parts_of_spec body.now ≡ Some (lent_parts parts)) }
     ensures slice { IfSome result (λ parts. IsSliceOf parts.hashed.now body.now) }
 {
-    if body.len() < 4 || body[0] != 4 {
+    if body.len() < 4 {
         return None;
     }
-    let (hashed, rest) = field(&body[4..])?;
-    let (unhashed, rest) = field(rest)?;
-    // Two octets of the hash, before the material.
+    match body[0] {
+        4 => areas_v4(body[1], body[3], &body[4..]),
+        6 => areas_v6(body[1], body[3], &body[4..]),
+        _ => None,
+    }
+}
+
+/// The areas of version 4, before two octets of the hash and the material.
+fn areas_v4(kind: u8, hash: u8, octets: &[u8]) -> Option<Parts<'_>>
+    ensures parts { MatchOption result (areas_v4_spec kind hash octets.now ≡ None)
+        (λ parts. areas_v4_spec kind hash octets.now ≡ Some (lent_parts parts)) }
+    ensures slice { IfSome result (λ parts. IsSliceOf parts.hashed.now octets.now) }
+{
+    let (hashed, rest) = short_field(octets)?;
+    let (unhashed, rest) = short_field(rest)?;
     if rest.len() < 2 {
         return None;
     }
     Some(Parts {
-        kind: body[1],
-        hash: body[3],
+        kind,
+        hash,
+        hashed,
+        unhashed,
+    })
+}
+
+/// The areas of version 6, before two octets of the hash, an octet with the salt's length, the salt and the material.
+fn areas_v6(kind: u8, hash: u8, octets: &[u8]) -> Option<Parts<'_>>
+    ensures parts { MatchOption result (areas_v6_spec kind hash octets.now ≡ None)
+        (λ parts. areas_v6_spec kind hash octets.now ≡ Some (lent_parts parts)) }
+    ensures slice { IfSome result (λ parts. IsSliceOf parts.hashed.now octets.now) }
+{
+    let (hashed, rest) = long_field(octets)?;
+    let (unhashed, rest) = long_field(rest)?;
+    if rest.len() < 3 || rest.len() - 3 < usize::from(rest[2]) {
+        return None;
+    }
+    Some(Parts {
+        kind,
+        hash,
         hashed,
         unhashed,
     })
 }
 
 /// The octets behind two octets that say how many they are, and what is behind those.
-fn field(octets: &[u8]) -> Option<(&[u8], &[u8])>
-    ensures found { MatchOption result (field_at octets.now ≡ None) (λ found. field_at octets.now ≡ Some (found.0.now, found.1.now)) }
+fn short_field(octets: &[u8]) -> Option<(&[u8], &[u8])>
+    ensures found { MatchOption result (short_field_at octets.now ≡ None)
+        (λ found. short_field_at octets.now ≡ Some (found.0.now, found.1.now)) }
     ensures slice { IfSome result (λ found. IsSliceOf found.0.now octets.now) }
 {
     if octets.len() < 2 {
@@ -44,6 +78,23 @@ fn field(octets: &[u8]) -> Option<(&[u8], &[u8])>
     }
     let size = usize::from(u16::from_be_bytes([octets[0], octets[1]]));
     let rest = &octets[2..];
+    if rest.len() < size {
+        return None;
+    }
+    Some((&rest[..size], &rest[size..]))
+}
+
+/// The octets behind four octets that say how many they are, and what is behind those.
+fn long_field(octets: &[u8]) -> Option<(&[u8], &[u8])>
+    ensures found { MatchOption result (long_field_at octets.now ≡ None)
+        (λ found. long_field_at octets.now ≡ Some (found.0.now, found.1.now)) }
+    ensures slice { IfSome result (λ found. IsSliceOf found.0.now octets.now) }
+{
+    if octets.len() < 4 {
+        return None;
+    }
+    let size = u32::from_be_bytes([octets[0], octets[1], octets[2], octets[3]]) as usize;
+    let rest = &octets[4..];
     if rest.len() < size {
         return None;
     }

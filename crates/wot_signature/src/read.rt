@@ -6,7 +6,7 @@ use crate::notes::notes_of;
 use crate::read_body::read_body_of;
 
 /// The facts of a signature body, of which the hashed area alone is asked; `None` where the body isn't readable:
-/// it isn't of version 4, a part is missing, or the hashed area is no list of subpackets.
+/// it is of another version than 4 and 6, a part is missing, or the hashed area is no list of subpackets.
 #[tactic(auto, unfolding(crate::specs::Signature::facts_of, crate::specs::Signature::is_readable))]
 pub fn read_signature(body: &[u8]) -> Option<SigFacts>
     ensures facts { result ≡ facts_of body.now }

@@ -18,7 +18,8 @@ mod layers;
 #[cfg(test)]
 mod many;
 #[cfg(test)]
-mod rows;
 mod policy;
+#[cfg(test)]
+mod rows;
 #[cfg(test)]
 mod shelf;

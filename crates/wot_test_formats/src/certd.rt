@@ -41,6 +41,27 @@ fn names_are_their_places(rt: HostRuntime) -> Result<(), Fail> {
     Ok(())
 }
 
+#[test]
+fn places_of_version_6(rt: HostRuntime) -> Result<(), Fail> {
+    let digits = b"cb186c4f0609a697e4d52dfa6c722b0c1f1e27c18a56708f6525ec27bad9acc9";
+    let place = "cb/186c4f0609a697e4d52dfa6c722b0c1f1e27c18a56708f6525ec27bad9acc9";
+    let cert = Name::Cert(Fpr::read(digits).ok_or("digits")?);
+    assert_eq!(rt; name_of(rt.alloc(), &cert)?.as_str(), place);
+    assert!(rt; fpr_of(place) == Some(cert));
+    let others = [
+        "cb186c4f0609a697e4d52dfa6c722b0c1f1e27c18a56708f6525ec27bad9acc9",
+        "cb1/86c4f0609a697e4d52dfa6c722b0c1f1e27c18a56708f6525ec27bad9acc9",
+        "CB/186C4F0609A697E4D52DFA6C722B0C1F1E27C18A56708F6525EC27BAD9ACC9",
+        "cb/186c4f0609a697e4d52dfa6c722b0c1f1e27c18a56708f6525ec27bad9acc",
+        "cb/186c4f0609a697e4d52dfa6c722b0c1f1e27c18a56708f6525ec27bad9acc90",
+        "cb/186c4f0609a697e4d52dfa6c722b0c1f1e27c18a56708f6525ec27bad9acC9",
+    ];
+    for text in others {
+        assert!(rt; fpr_of(text).is_none(), "{text}");
+    }
+    Ok(())
+}
+
 /// What a read answered, as text.
 fn told(alloc: Global, answer: Result<Given, ShelfFault>) -> Result<String, Fail> {
     match answer {

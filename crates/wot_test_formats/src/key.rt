@@ -22,6 +22,52 @@ fn sample_key(rt: HostRuntime) -> Result<(), Fail> {
     Ok(())
 }
 
+/// The version 6 key of RFC 9580, appendix A.3, made at 1669824483, of the public key algorithm 27.
+const SAMPLE_6: &[u8; 42] =
+    b"\x06\x63\x87\x7f\xe3\x1b\x00\x00\x00\x20\xf9\x4d\xa7\xbb\x48\xd6\x0a\x61\xe5\x67\x70\x6a\x65\x87\xd0\x33\x19\x99\xbb\x9d\x89\x1a\x08\x24\x2e\xad\x84\x54\x3d\xf8\x95\xa3";
+
+#[test]
+fn sample_key_of_version_6(rt: HostRuntime) -> Result<(), Fail> {
+    let key = read_key(SAMPLE_6).ok_or("readable")?;
+    assert_eq!(rt; key.version, 6);
+    assert_eq!(rt; key.created, 1669824483);
+    assert_eq!(rt; key.algorithm, 27);
+    let fpr = fingerprint(SAMPLE_6).ok_or("readable")?;
+    let wanted = Fpr::read(b"CB186C4F0609A697E4D52DFA6C722B0C1F1E27C18A56708F6525EC27BAD9ACC9");
+    assert!(rt; Some(fpr) == wanted);
+    assert_eq!(rt;
+        key_id(&fpr).as_slice(),
+        b"\xcb\x18\x6c\x4f\x06\x09\xa6\x97".as_slice()
+    );
+    Ok(())
+}
+
+/// Version 6 bodies by how many octets of material they say, and how many they have.
+#[test]
+fn material_is_as_long_as_it_says(rt: HostRuntime) -> Result<(), Fail> {
+    let rows: [(u32, usize, bool); 8] = [
+        (0, 0, true),
+        (0, 1, false),
+        (1, 0, false),
+        (1, 1, true),
+        (1, 2, false),
+        (65535, 65535, true),
+        (70000, 70000, true),
+        (u32::MAX, 1, false),
+    ];
+    for (said, had, readable) in rows {
+        let mut body = b"\x06\x00\x00\x03\xe8\x1b".to_vec(rt.alloc())?;
+        body.extend_from_slice(&said.to_be_bytes())?;
+        let front = body.len();
+        for _ in 0..had {
+            body.push(1)?;
+        }
+        assert!(rt; read_key(&body).is_some() == readable && fingerprint(&body).is_some() == readable);
+        assert!(rt; read_key(&body[..front - 1]).is_none());
+    }
+    Ok(())
+}
+
 #[test]
 fn unreadable_bodies(rt: HostRuntime) -> Result<(), Fail> {
     let alloc = rt.alloc();

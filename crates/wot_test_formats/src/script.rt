@@ -12,7 +12,7 @@ use wot_types::{Fpr, Limit, SigNumber, UserId, ViewName};
 
 /// Lines, and how the command that was read is printed; `None` where a line is no command. `$`
 /// stands for a fingerprint, `%` for a signature number.
-static LINES: [(&[u8], Option<&[u8]>); 97] = [
+static LINES: [(&[u8], Option<&[u8]>); 101] = [
     (b"import ", Some(b"import ")),
     (b"import c6", Some(b"import c6")),
     (b"import C6aB0f", Some(b"import c6ab0f")),
@@ -31,7 +31,8 @@ static LINES: [(&[u8], Option<&[u8]>); 97] = [
     (b"load Trust-root", None),
     (b"load trust-root ", None),
     (b"load trust_root", None),
-    (b"load %", None),
+    (b"load %", Some(b"load %")),
+    (b"load %1", None),
     (b"load ", None),
     (b"load", None),
     (b"drop $", Some(b"drop $")),
@@ -39,12 +40,18 @@ static LINES: [(&[u8], Option<&[u8]>); 97] = [
         b"drop C959BDBAFA32A2F89A153B678CFDE12197965A9A",
         Some(b"drop $"),
     ),
+    (b"drop %", Some(b"drop %")),
+    (
+        b"drop cb186c4f0609a697e4d52dfa6c722b0c1f1e27c18a56708f6525ec27bad9acc",
+        None,
+    ),
     (b"drop xyz", None),
     (b"drop ", None),
     (b"drop $1", None),
     (b"drop $ ", None),
     (b"drop $\r", None),
     (b"verdict % good $", Some(b"verdict % good $")),
+    (b"verdict % good %", Some(b"verdict % good %")),
     (b"verdict % bad", Some(b"verdict % bad")),
     (b"verdict % none", Some(b"verdict % none")),
     (b"verdict % bad ", None),

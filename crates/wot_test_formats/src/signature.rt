@@ -3,3 +3,4 @@ mod facts;
 mod hints;
 mod patterns;
 mod table;
+mod version_6;

@@ -25,6 +25,46 @@ fn fingerprints_are_read_and_printed(rt: HostRuntime) -> Result<(), Fail> {
     Ok(())
 }
 
+/// The fingerprint of RFC 9580, appendix A.3, in digits.
+const SIX: &[u8] = b"CB186C4F0609A697E4D52DFA6C722B0C1F1E27C18A56708F6525EC27BAD9ACC9";
+
+#[test]
+fn version_6_fingerprints_are_read_and_printed(rt: HostRuntime) -> Result<(), Fail> {
+    let fpr = Fpr::read(SIX).ok_or("upper-case digits")?;
+    assert!(rt; fpr.version() == 6 && fpr.octets().len() == 32);
+    let mut out = Vec::new(rt.alloc());
+    fpr.print(&mut out)?;
+    assert!(rt; out.as_slice() == b"cb186c4f0609a697e4d52dfa6c722b0c1f1e27c18a56708f6525ec27bad9acc9");
+    assert!(rt; Fpr::read(&out) == Some(fpr));
+    fpr.printed_is_read();
+    for size in [0, 1, 38, 39, 41, 42, 62, 63] {
+        assert!(rt; Fpr::read(&out[..size]).is_none());
+    }
+    out.push(b'0')?;
+    assert!(rt; Fpr::read(&out).is_none());
+    Ok(())
+}
+
+/// By their octets, of whichever version; of two where one begins the other the shorter comes first.
+#[test]
+fn fingerprints_of_both_versions_are_ordered(rt: HostRuntime) {
+    let rows = [
+        (Fpr::V4([7; 20]), Fpr::V6([7; 32]), Ordering::Less),
+        (Fpr::V6([7; 32]), Fpr::V4([7; 20]), Ordering::Greater),
+        (Fpr::V6([6; 32]), Fpr::V4([7; 20]), Ordering::Less),
+        (Fpr::V4([8; 20]), Fpr::V6([7; 32]), Ordering::Greater),
+        (Fpr::V6([7; 32]), Fpr::V6([7; 32]), Ordering::Equal),
+    ];
+    for (left, right, order) in rows {
+        assert!(rt; compare_fprs(&left, &right) == order && left.cmp(&right) == order);
+        assert!(rt; (left == right) == order.is_eq());
+        assert!(rt; left.partial_cmp(&right) == Some(order));
+    }
+    let mut last = [7; 32];
+    last[31] = 8;
+    assert!(rt; Fpr::V6([7; 32]) != Fpr::V6(last));
+}
+
 #[test]
 fn numbers_are_read_and_printed(rt: HostRuntime) -> Result<(), Fail> {
     let number = SigNumber([0x0a; 32]);

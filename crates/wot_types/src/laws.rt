@@ -1,11 +1,19 @@
 //! Laws of the definitions. Each function does nothing: its contract is the law.
-ghost use Rattle.std.specs.Prelude.{◌≡◌, ◌↔◌, IsTrue};
+ghost use Rattle.std.specs.Prelude.{◌≡◌, ◌↔◌, ℕ, List, Some, IsTrue};
 ghost use Rattle.std.specs.Cmp.{IsTotalOrder};
-ghost use Rattle.wot_types.specs.Fpr.{fpr_cmp, same_fpr};
+ghost use Rattle.hex.specs.Hex.{encode_lower};
+ghost use Rattle.wot_types.specs.Digits.{array_of_digits};
+ghost use Rattle.wot_types.specs.Fpr.{digits_of, fpr_cmp, fpr_of_digits, same_fpr};
 ghost use Rattle.wot_types.specs.declared.fpr.Fpr.{Fpr};
 
 /// Fingerprints are in a total order, and two that tie in it are one.
 pub fn fingerprints_tie_where_equal()
     ensures total { IsTotalOrder fpr_cmp }
     ensures tied { (a b : Fpr) → IsTrue (same_fpr a b) ↔ a ≡ b }
+{}
+
+/// Version 4 fingerprints are read and printed as they were when there was no other version.
+pub fn forty_digits_are_of_version_4()
+    ensures read { (digits octets : List ℕ) → array_of_digits 20 digits ≡ Some octets → fpr_of_digits digits ≡ Some (Fpr.V4 octets) }
+    ensures printed { (octets : List ℕ) → digits_of (Fpr.V4 octets) ≡ encode_lower octets }
 {}

@@ -3,7 +3,7 @@ use Rattle.std.proofs.lemmas.Grind.{common_steps}
 use Rattle.wot_certd.proofs.Places.{length_there, slash_there}
 use Rattle.wot_certd.proofs.name.fpr_at.Goals as goal
 
-pub returns-else-is_split-clause-again : goal.returns-else-is_split-clause-again
-returns-else-is_split-clause-again c = λ fpr f e.
+pub returns-then-not-is_split-clause-again : goal.returns-then-not-is_split-clause-again
+returns-then-not-is_split-clause-again c = λ fpr f e.
     let yes = c.is_split.ensures.only (length_there c.args.place.now fpr f e) (slash_there c.args.place.now fpr f e) in
     grind (arith, common_steps, yes)

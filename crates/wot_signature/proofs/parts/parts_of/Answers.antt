@@ -1,8 +1,10 @@
 use Rattle.std.proofs.Common.{take, drop, length, ◌-◌}
-use Rattle.wot_signature.proofs.Slices.{slice_of_slice, slice_of_middle}
+use Rattle.wot_signature.specs.Lent.{lent_parts}
+use Rattle.wot_signature.proofs.Slices.{within_whole}
 use Rattle.wot_signature.proofs.parts.parts_of.Goals as goal
 
-pub returns-clause-slice : goal.returns-clause-slice
-returns-clause-slice c =
-    slice_of_slice c.in_ok-hashed.hashed.now (take (length c.args.body.now - 4) (drop 4 c.args.body.now)) c.args.body.now
-    c.in_ok-hashed.ensures.slice (slice_of_middle 4 (length c.args.body.now - 4) c.args.body.now)
+pub returns-in-4-clause-slice : goal.returns-in-4-clause-slice
+returns-in-4-clause-slice c = within_whole (λ parts. (lent_parts parts).hashed) c.areas_v4.result c.args.body.now c.areas_v4.ensures.slice
+
+pub returns-in-6-clause-slice : goal.returns-in-6-clause-slice
+returns-in-6-clause-slice c = within_whole (λ parts. (lent_parts parts).hashed) c.areas_v6.result c.args.body.now c.areas_v6.ensures.slice

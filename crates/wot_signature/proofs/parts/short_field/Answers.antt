@@ -1,6 +1,6 @@
 use Rattle.std.proofs.Common.{take, drop, length, ◌-◌}
 use Rattle.wot_signature.proofs.Slices.{slice_of_slice, slice_of_take, slice_of_middle}
-use Rattle.wot_signature.proofs.parts.field.Goals as goal
+use Rattle.wot_signature.proofs.parts.short_field.Goals as goal
 
 pub returns-clause-slice : goal.returns-clause-slice
 returns-clause-slice c =
