@@ -18,7 +18,7 @@ use Rattle.wot_types.specs.FprLaws.{fpr_total}
 use Rattle.wot_types.specs.ViewName.{view_name_cmp}
 use Rattle.wot_policy.specs.declared.rows.PolicyRows.{PolicyRows}
 use Rattle.wot_script.specs.declared.command.Command.{Command}
-use Rattle.wot_script.specs.declared.command.Command.TheVariants.{Import, Load, Remove, Good, Bad, Unjudge, Time, Root, Close, Ask, Explain, Pending, Keys, Export, Dump}
+use Rattle.wot_script.specs.declared.command.Command.TheVariants.{Import, Load, Remove, Good, Bad, Unjudge, Time, Root, Close, Ask, Explain, Pending, Keys, Export, Dump, Absence, Check}
 use Rattle.wot_keyring.specs.Dump as keyrings
 use Rattle.wot_keyring.specs.Dump.{after_all, judged_by}
 use Rattle.wot_keyring.specs.Held.{Held, held_of, nothing}
@@ -54,6 +54,8 @@ one_over rows l views (Close view) held new e = cc e
 one_over rows l views (Ask view fpr wanted uid) held new e = cc e
 one_over rows l views (Command.List view wanted) held new e = cc e
 one_over rows l views (Explain view fpr uid) held new e = cc e
+one_over rows l views (Absence view fpr wanted uid) held new e = cc e
+one_over rows l views (Check view fpr claims labels uid) held new e = cc e
 one_over rows l views Pending held new e = cc e
 one_over rows l views Keys held new e = cc e
 one_over rows l views (Export fpr) held new e = cc e

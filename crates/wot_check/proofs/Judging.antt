@@ -54,3 +54,9 @@ module _ (q : Question) (claims : List Claim) (used : Sums) (table : Labels) (u 
 
   pub rejected : is_in_order q ≡ true → (Excludes q (use_in used) table → ⊥) → Rejects q claims table
   rejected ok n = (u.0, u.1, λ a. elim a [ inl f ↦ cc | inr x ↦ n (subst (λ (w : Use). Excludes q w table) (sym u.2) x) ])
+
+-- each check comes to one thing
+pub check_one : (q : Question) (claims : List Claim) (table : Labels) (a b : Checked) → IsRecord q.told → IsChecked q claims table a → IsChecked q claims table b → a ≡ b
+check_one q claims table Yes b good m n = sym ((checked_yes q good claims table b n).1 m)
+check_one q claims table BadPaths b good m n = sym ((checked_bad_paths q good claims table b n).1 m)
+check_one q claims table BadTable b good m n = sym ((checked_bad_table q good claims table b n).1 m)

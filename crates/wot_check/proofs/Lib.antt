@@ -7,6 +7,10 @@ pub mod Lefts
 pub mod Sums
 pub mod Showing
 pub mod Testing
+pub mod Finite
+pub mod Deciding
+pub mod Least
+pub mod Few
 pub mod Growing
 pub mod Layering
 pub mod Judging

@@ -33,7 +33,7 @@ module _ (q : Question) (used : Use) where
   shows_trail claim path s = let e = s.amount in let p = s.positive in chain_trail q used (root_left q used (start q.target path.steps)) path.steps s.valid.chain (omega (arith, e, p))
 
   -- the steps of a path that is shown are those that are claimed
-  shows_traces : (claim : Claim) (path : Path) → Shows q used claim path → Traces q used claim.steps path.steps
+  pub shows_traces : (claim : Claim) (path : Path) → Shows q used claim path → Traces q used claim.steps path.steps
   shows_traces claim path s = subst (λ (c : Claim). Traces q used c.steps path.steps) (sym s.same) (trail_traces q used path.steps (shows_trail claim path s))
 
   pub shows_one : IsRecord q.told → (claim : Claim) (a b : Path) → Shows q used claim a → Shows q used claim b → a ≡ b

@@ -32,10 +32,10 @@ true-has_name item edge n =
 
 -- ---- one step
 
-named_edge : (item : ClaimedStep) (row : Row) → item ≡ claimed_step (step_of row.edge) → IsNamed item row.edge
+pub named_edge : (item : ClaimedStep) (row : Row) → item ≡ claimed_step (step_of row.edge) → IsNamed item row.edge
 named_edge item row e = (ap (λ (x : ClaimedStep). x.issuer) (sym e), ap (λ (x : ClaimedStep). x.place) (sym e))
 
-edge_named : (item : ClaimedStep) (edge : EdgeFacts) → IsNamed item edge → item ≡ claimed_step (step_of edge)
+pub edge_named : (item : ClaimedStep) (edge : EdgeFacts) → IsNamed item edge → item ≡ claimed_step (step_of edge)
 edge_named item edge n = λ i. record { issuer = sym n.0 i; place = sym n.1 i }
 
 -- these steps were found, and the items are still to be gone through

@@ -76,6 +76,8 @@ pub fn check<R: Roads>(
     uid: &[u8],
 ) -> Result<Checked, Memory>
     requires few { length paths.now < 2 ^ 24 }
+    ensures checked { IfOk result (λ checked.
+        IsChecked (asks (R.told roads.now uid.now) roots.now target.now) paths.now table.now checked) }
     ensures yes { IfOk result (λ checked. (checked ≡ answers.Yes)
         ↔ Accepts (asks (R.told roads.now uid.now) roots.now target.now) paths.now table.now) }
     ensures bad_paths { IfOk result (λ checked. (checked ≡ answers.BadPaths)

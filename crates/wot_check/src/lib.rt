@@ -8,6 +8,7 @@ mod claimed;
 mod demand;
 mod extend;
 mod growth;
+pub mod laws;
 mod left;
 mod making;
 mod points;

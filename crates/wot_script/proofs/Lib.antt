@@ -1,4 +1,6 @@
 pub mod Pieced
+pub mod Items
+pub mod ClaimTexts
 pub mod Cutting
 pub mod Numerals
 pub mod Escapes

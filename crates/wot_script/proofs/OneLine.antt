@@ -19,10 +19,13 @@ use Rattle.wot_types.specs.SigNumber.{number_digits, number_of_digits}
 use Rattle.wot_types.specs.declared.name.Name.{Name}
 use Rattle.wot_types.specs.declared.number.SigNumber.{SigNumber}
 use Rattle.wot_types.specs.ViewName.{is_name_octet, is_view_name}
+use Rattle.wot_script.specs.Claims.{most_paths}
+use Rattle.wot_script.specs.declared.reply.ClaimLine.{ClaimLine}
+use Rattle.wot_script.specs.declared.reply.LabelLine.{LabelLine}
 use Rattle.wot_script.specs.Spelling.{IsLineFor, most_octets}
 use Rattle.wot_script.specs.Texts.{joined}
 use Rattle.wot_script.specs.declared.command.Command.{Command}
-use Rattle.wot_script.specs.declared.command.Command.TheVariants.{Import, Load, Remove, Good, Bad, Unjudge, Time, Root, Close, Ask, Explain, Pending, Keys, Export, Dump}
+use Rattle.wot_script.specs.declared.command.Command.TheVariants.{Import, Load, Remove, Good, Bad, Unjudge, Time, Root, Close, Ask, Explain, Pending, Keys, Export, Dump, Absence, Check}
 use Rattle.wot_script.specs.Uid.{escape, escaped}
 use Rattle.wot_script.proofs.Spaceless.{Lacks, feedless_digits, lacks_from_test, lacks_decimal, lacks_test, lacks_view_name}
 
@@ -241,13 +244,30 @@ close_line view name =
     one_line (Close view) 118 (codes "iew ") (view ∷ codes " close" ∷ []) refl (λ e. omega arith)
     (name.free, (word (codes " close") refl, tt)) (omega (arith, name.size))
 
+-- a question from a view, behind a short word
+asking_line : (command : Command) (first : ℕ) (prefix view uid ds ws : List ℕ) → lacks_test 10 (first ∷ prefix) ≡ true
+    → (first ≡ 35 → ⊥) → length prefix ≤ 7 → 128 + 4 * length uid ≤ most_octets command
+    → IsName view → AreDigits ds → IsNumeral ws
+    → IsLineFor command (joined ((first ∷ prefix) ∷ view ∷ codes " " ∷ ds ∷ codes " " ∷ ws ∷ codes " " ∷ escaped uid ∷ []))
+unfolding lacks_test
+asking_line command first prefix view uid ds ws fine apart short most name digits number =
+    one_line command first prefix (view ∷ codes " " ∷ ds ∷ codes " " ∷ ws ∷ codes " " ∷ escaped uid ∷ []) fine apart
+    (name.free, (word (codes " ") refl, (digits.free, (word (codes " ") refl, (number.free, (word (codes " ") refl, (feedless_escaped uid, tt)))))))
+    (omega (arith, short, most, name.size, digits.size, number.size, length-escaped uid))
+
 pub ask_line : (view : List ℕ) (fpr : Fpr) (wanted : ℕ) (uid ds ws : List ℕ) → IsName view → AreDigits ds → IsNumeral ws
     → IsLineFor (Ask view fpr wanted uid) (joined (codes "ask " ∷ view ∷ codes " " ∷ ds ∷ codes " " ∷ ws ∷ codes " " ∷ escaped uid ∷ []))
 unfolding lacks_test
 ask_line view fpr wanted uid ds ws name digits number =
-    one_line (Ask view fpr wanted uid) 97 (codes "sk ") (view ∷ codes " " ∷ ds ∷ codes " " ∷ ws ∷ codes " " ∷ escaped uid ∷ []) refl (λ e. omega arith)
-    (name.free, (word (codes " ") refl, (digits.free, (word (codes " ") refl, (number.free, (word (codes " ") refl, (feedless_escaped uid, tt)))))))
-    (omega (arith, name.size, digits.size, number.size, length-escaped uid))
+    asking_line (Ask view fpr wanted uid) 97 (codes "sk ") view uid ds ws refl (λ e. omega arith) (omega arith) (omega arith) name digits number
+
+pub absence_line : (view : List ℕ) (fpr : Fpr) (wanted : ℕ) (uid ds ws : List ℕ) → IsName view → AreDigits ds → IsNumeral ws
+    → IsLineFor (Absence view fpr wanted uid)
+    (joined (codes "absence " ∷ view ∷ codes " " ∷ ds ∷ codes " " ∷ ws ∷ codes " " ∷ escaped uid ∷ []))
+unfolding lacks_test
+absence_line view fpr wanted uid ds ws name digits number =
+    asking_line (Absence view fpr wanted uid) 97 (codes "bsence ") view uid ds ws refl (λ e. omega arith) (omega arith) (omega arith)
+    name digits number
 
 pub list_line : (view : List ℕ) (wanted : ℕ) (ws : List ℕ) → IsName view → IsNumeral ws
     → IsLineFor (Command.List view wanted) (joined (codes "list " ∷ view ∷ codes " " ∷ ws ∷ []))
@@ -263,3 +283,34 @@ explain_line view fpr uid ds name digits =
     one_line (Explain view fpr uid) 101 (codes "xplain ") (view ∷ codes " " ∷ ds ∷ codes " " ∷ escaped uid ∷ []) refl (λ e. omega arith)
     (name.free, (word (codes " ") refl, (digits.free, (word (codes " ") refl, (feedless_escaped uid, tt)))))
     (omega (arith, name.size, digits.size, length-escaped uid))
+
+pub check_line : (view : List ℕ) (fpr : Fpr) (claims : List ClaimLine) (labels : List LabelLine) (uid ds cs ls : List ℕ) → IsName view
+    → AreDigits ds → Lacks 10 cs → length cs ≤ 1 + most_paths claims → Lacks 10 ls → length ls ≤ 1 + 128 * length labels
+    → IsLineFor (Check view fpr claims labels uid)
+    (joined (codes "check " ∷ view ∷ codes " " ∷ ds ∷ codes " " ∷ cs ∷ codes " " ∷ ls ∷ codes " " ∷ escaped uid ∷ []))
+unfolding lacks_test
+check_line view fpr claims labels uid ds cs ls name digits cf c lf l =
+    one_line (Check view fpr claims labels uid) 99 (codes "heck ")
+    (view ∷ codes " " ∷ ds ∷ codes " " ∷ cs ∷ codes " " ∷ ls ∷ codes " " ∷ escaped uid ∷ []) refl (λ e. omega arith) (
+      name.free,
+      (
+        word (codes " ") refl,
+        (
+          digits.free,
+          (
+            word (codes " ") refl,
+            (
+              cf,
+              (
+                word (codes " ") refl,
+                (
+                  lf,
+                  (word (codes " ") refl, (feedless_escaped uid, tt)),
+                ),
+              ),
+            ),
+          ),
+        ),
+      ),
+    )
+    (omega (arith, name.size, digits.size, c, l, length-escaped uid))

@@ -8,19 +8,23 @@ use Rattle.wot_types.specs.ViewName.{is_view_name, view_name_of}
 use Rattle.wot_types.specs.declared.fpr.Fpr.{Fpr}
 use Rattle.wot_types.specs.declared.name.Name.{Name}
 use Rattle.wot_types.specs.declared.number.SigNumber.{SigNumber}
+use Rattle.wot_script.specs.Claims.{claims_of, labels_of}
+use Rattle.wot_script.specs.declared.reply.ClaimLine.{ClaimLine}
+use Rattle.wot_script.specs.declared.reply.LabelLine.{LabelLine}
 use Rattle.wot_script.specs.Decimal.{decimal_up_to, positive_up_to}
 use Rattle.wot_script.specs.Fields.{◌>>=◌, cut, octets_of_hex}
-use Rattle.wot_script.specs.Grammar.{about_of, asked_of, command_of, drop_of, entry_of, explained_of, export_of, import_of, judgement_of, listed_of, load_of, root_of, setting_of, single_of, verdict_of, view_of}
+use Rattle.wot_script.specs.Grammar.{about_of, checked_of, command_of, drop_of, entry_of, explained_of, export_of, import_of, judgement_of, listed_of, load_of, question_of, root_of, setting_of, single_of, verdict_of, view_of}
 use Rattle.wot_script.specs.Texts.{joined}
 use Rattle.wot_script.specs.Uid.{unescaped}
 use Rattle.wot_script.specs.declared.command.Command.{Command}
-use Rattle.wot_script.specs.declared.command.Command.TheVariants.{Import, Load, Remove, Good, Bad, Unjudge, Time, Root, Close, Ask, Explain, Pending, Keys, Export, Dump}
+use Rattle.wot_script.specs.declared.command.Command.TheVariants.{Import, Load, Remove, Good, Bad, Unjudge, Time, Root, Close, Ask, Explain, Pending, Keys, Export, Dump, Absence, Check}
 use Rattle.wot_script.specs.declared.read.About.{About}
-use Rattle.wot_script.specs.declared.read.About.TheVariants.{Setting, Asked, Listed, Explained}
+use Rattle.wot_script.specs.declared.read.About.TheVariants.{Setting, Asked, Listed, Explained, Missed, Checked}
+use Rattle.wot_script.specs.declared.read.Question.{Question}
 use Rattle.wot_script.proofs.Spaceless.{Spaceless, cut_spaceless, spaceless_view_name}
 
 -- a second reading behind a first one that gave a
-bound : {A B : Type 0} (o : Option A) (a : A) (f : A → Option B) → o ≡ Some a → (o >>= f) ≡ f a
+pub bound : {A B : Type 0} (o : Option A) (a : A) (f : A → Option B) → o ≡ Some a → (o >>= f) ≡ f a
 bound o a f e = rw e refl
 
 pub import_reads : (digits octets : List ℕ) → octets_of_hex digits ≡ Some octets
@@ -149,32 +153,49 @@ pub close_reads : (name : List ℕ) → is_view_name name ≡ true
     → command_of (joined (codes "view " ∷ name ∷ codes " close" ∷ [])) ≡ Some (Close name)
 close_reads name h = setting_reads name (codes "close") (Close name) h (close_set name)
 
-asked_reads : (name ds ws us uid : List ℕ) (fpr : Fpr) (wanted : ℕ) → Spaceless ds → fpr_of_digits ds ≡ Some fpr
+abbrev pub question : Fpr → ℕ → List ℕ → Question
+question fpr wanted uid = record { fpr = fpr; wanted = wanted; uid = uid }
+
+-- FPR N UID, joined of its fields
+abbrev asking : List ℕ → List ℕ → List ℕ → List ℕ
+asking ds ws us = ds ++ 32 ∷ (ws ++ 32 ∷ us)
+
+question_reads_as : (ds ws us uid : List ℕ) (fpr : Fpr) (wanted : ℕ) → Spaceless ds → fpr_of_digits ds ≡ Some fpr
     → Spaceless ws → positive_up_to 4294967295 ws ≡ Some wanted → unescaped us ≡ Some uid
-    → asked_of name (ds ++ 32 ∷ (ws ++ 32 ∷ us)) ≡ Some (Ask name fpr wanted uid)
-unfolding asked_of
-asked_reads name ds ws us uid fpr wanted free fpr_is free_too wanted_is uid_is =
-    bound (cut (ds ++ 32 ∷ (ws ++ 32 ∷ us))) (ds, ws ++ 32 ∷ us)
+    → question_of (asking ds ws us) ≡ Some (question fpr wanted uid)
+unfolding question_of
+question_reads_as ds ws us uid fpr wanted free fpr_is free_too wanted_is uid_is =
+    bound (cut (asking ds ws us)) (ds, ws ++ 32 ∷ us)
     (λ second. fpr_of_digits second.0 >>= (λ f. cut second.1 >>= (λ third. positive_up_to 4294967295 third.0
-    >>= (λ w. unescaped third.1 >>= (λ u. Some (Ask name f w u))))))
+    >>= (λ w. unescaped third.1 >>= (λ u. Some (question f w u))))))
     (cut_spaceless ds (ws ++ 32 ∷ us) free)
     ∙ bound (fpr_of_digits ds) fpr
     (λ f. cut (ws ++ 32 ∷ us) >>= (λ third. positive_up_to 4294967295 third.0
-    >>= (λ w. unescaped third.1 >>= (λ u. Some (Ask name f w u))))) fpr_is
+    >>= (λ w. unescaped third.1 >>= (λ u. Some (question f w u))))) fpr_is
     ∙ bound (cut (ws ++ 32 ∷ us)) (ws, us)
-    (λ third. positive_up_to 4294967295 third.0 >>= (λ w. unescaped third.1 >>= (λ u. Some (Ask name fpr w u))))
+    (λ third. positive_up_to 4294967295 third.0 >>= (λ w. unescaped third.1 >>= (λ u. Some (question fpr w u))))
     (cut_spaceless ws us free_too)
-    ∙ bound (positive_up_to 4294967295 ws) wanted (λ w. unescaped us >>= (λ u. Some (Ask name fpr w u))) wanted_is
-    ∙ bound (unescaped us) uid (λ u. Some (Ask name fpr wanted u)) uid_is
+    ∙ bound (positive_up_to 4294967295 ws) wanted (λ w. unescaped us >>= (λ u. Some (question fpr w u))) wanted_is
+    ∙ bound (unescaped us) uid (λ u. Some (question fpr wanted u)) uid_is
 
-pub ask_reads : (name ds ws us uid : List ℕ) (fpr : Fpr) (wanted : ℕ) → is_view_name name ≡ true → Spaceless ds
-    → fpr_of_digits ds ≡ Some fpr → Spaceless ws → positive_up_to 4294967295 ws ≡ Some wanted → unescaped us ≡ Some uid
-    → command_of (joined (codes "ask " ∷ name ∷ codes " " ∷ ds ∷ codes " " ∷ ws ∷ codes " " ∷ us ∷ []))
-    ≡ Some (Ask name fpr wanted uid)
+pub question_reads : (ds ws us uid : List ℕ) (fpr : Fpr) (wanted : ℕ) → Spaceless ds → fpr_of_digits ds ≡ Some fpr
+    → Spaceless ws → positive_up_to 4294967295 ws ≡ Some wanted → unescaped us ≡ Some uid
+    → question_of (joined (ds ∷ codes " " ∷ ws ∷ codes " " ∷ us ∷ [])) ≡ Some (question fpr wanted uid)
+question_reads ds ws us uid fpr wanted free fpr_is free_too wanted_is uid_is =
+    question_reads_as ds ws (us ++ []) uid fpr wanted free fpr_is free_too wanted_is (ap unescaped (append-nil us) ∙ uid_is)
+
+pub ask_reads : (name text : List ℕ) (q : Question) → is_view_name name ≡ true → question_of text ≡ Some q
+    → command_of (codes "ask " ++ (name ++ 32 ∷ text)) ≡ Some (Ask name q.fpr q.wanted q.uid)
 unfolding command_of
-ask_reads name ds ws us uid fpr wanted h free fpr_is free_too wanted_is uid_is =
-    view_reads Asked name (ds ++ 32 ∷ (ws ++ 32 ∷ (us ++ []))) (Ask name fpr wanted uid) h
-    (asked_reads name ds ws (us ++ []) uid fpr wanted free fpr_is free_too wanted_is (ap unescaped (append-nil us) ∙ uid_is))
+ask_reads name text q h e =
+    view_reads Asked name text (Ask name q.fpr q.wanted q.uid) h (ap (option_map (λ (o : Question). Ask name o.fpr o.wanted o.uid)) e)
+
+pub absence_reads : (name text : List ℕ) (q : Question) → is_view_name name ≡ true → question_of text ≡ Some q
+    → command_of (codes "absence " ++ (name ++ 32 ∷ text)) ≡ Some (Absence name q.fpr q.wanted q.uid)
+unfolding command_of
+absence_reads name text q h e =
+    view_reads Missed name text (Absence name q.fpr q.wanted q.uid) h
+    (ap (option_map (λ (o : Question). Absence name o.fpr o.wanted o.uid)) e)
 
 pub list_reads : (name ws : List ℕ) (wanted : ℕ) → is_view_name name ≡ true → positive_up_to 4294967295 ws ≡ Some wanted
     → command_of (joined (codes "list " ∷ name ∷ codes " " ∷ ws ∷ [])) ≡ Some (Command.List name wanted)
@@ -201,3 +222,21 @@ unfolding command_of
 explain_reads name ds us uid fpr h free fpr_is uid_is =
     view_reads Explained name (ds ++ 32 ∷ (us ++ [])) (Explain name fpr uid) h
     (explained_reads name ds (us ++ []) uid fpr free fpr_is (ap unescaped (append-nil us) ∙ uid_is))
+
+checked_reads : (name ds cs ls us uid : List ℕ) (fpr : Fpr) (claims : List ClaimLine) (labels : List LabelLine)
+    → Spaceless ds → fpr_of_digits ds ≡ Some fpr → Spaceless cs → claims_of cs ≡ Some claims → Spaceless ls
+    → labels_of ls ≡ Some labels → unescaped us ≡ Some uid
+    → checked_of name (ds ++ 32 ∷ (cs ++ 32 ∷ (ls ++ 32 ∷ us))) ≡ Some (Check name fpr claims labels uid)
+unfolding checked_of
+checked_reads name ds cs ls us uid fpr claims labels df d cf c lf l u =
+    rw (cut_spaceless ds (cs ++ 32 ∷ (ls ++ 32 ∷ us)) df, d, cut_spaceless cs (ls ++ 32 ∷ us) cf, c, cut_spaceless ls us lf, l, u) refl
+
+pub check_reads : (name ds cs ls us uid : List ℕ) (fpr : Fpr) (claims : List ClaimLine) (labels : List LabelLine)
+    → is_view_name name ≡ true → Spaceless ds → fpr_of_digits ds ≡ Some fpr → Spaceless cs → claims_of cs ≡ Some claims
+    → Spaceless ls → labels_of ls ≡ Some labels → unescaped us ≡ Some uid
+    → command_of (joined (codes "check " ∷ name ∷ codes " " ∷ ds ∷ codes " " ∷ cs ∷ codes " " ∷ ls ∷ codes " " ∷ us ∷ []))
+    ≡ Some (Check name fpr claims labels uid)
+unfolding command_of
+check_reads name ds cs ls us uid fpr claims labels h df d cf c lf l u =
+    view_reads Checked name (ds ++ 32 ∷ (cs ++ 32 ∷ (ls ++ 32 ∷ (us ++ [])))) (Check name fpr claims labels uid) h
+    (checked_reads name ds cs ls (us ++ []) uid fpr claims labels df d cf c lf l (ap unescaped (append-nil us) ∙ u))

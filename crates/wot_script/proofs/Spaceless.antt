@@ -9,8 +9,8 @@ use Rattle.std.specs.Fmt.{decimal}
 use Rattle.std.proofs.lemmas.Bool.{and_parts, both_ways, eq-eqb, not-true}
 use Rattle.hex.specs.Hex.{encode_lower, encode_with, lower_digits}
 use Rattle.wot_types.specs.ViewName.{is_name_octet, is_view_name}
-use Rattle.wot_script.specs.Fields.{cut}
-use Rattle.wot_script.proofs.Cutting.{cut-cons}
+use Rattle.wot_script.specs.Fields.{cut, cut_at}
+use Rattle.wot_script.proofs.Cutting.{cut_at-cons}
 use Rattle.wot_script.proofs.Numerals.{digits-decimal}
 
 -- no octet is this one
@@ -21,11 +21,15 @@ Lacks x octets = AllByRecursion (λ octet. octet ≢ x) octets
 abbrev pub Spaceless : List ℕ → Type 0
 Spaceless octets = Lacks 32 octets
 
+pub cut_lacking : (separator : ℕ) (field rest : List ℕ) → Lacks separator field
+    → cut_at separator (field ++ separator ∷ rest) ≡ Some (field, rest)
+cut_lacking separator [] rest none = rw (eq-eqb separator separator refl) refl
+cut_lacking separator (octet ∷ octets) rest none =
+    cut_at-cons separator octet (octets ++ separator ∷ rest) none.0
+    ∙ ap (option_map (λ parts. (octet ∷ parts.0, parts.1))) (cut_lacking separator octets rest none.1)
+
 pub cut_spaceless : (field rest : List ℕ) → Spaceless field → cut (field ++ 32 ∷ rest) ≡ Some (field, rest)
-cut_spaceless [] rest none = refl
-cut_spaceless (octet ∷ octets) rest none =
-    cut-cons octet (octets ++ 32 ∷ rest) none.0
-    ∙ ap (option_map (λ parts. (octet ∷ parts.0, parts.1))) (cut_spaceless octets rest none.1)
+cut_spaceless field rest none = cut_lacking 32 field rest none
 
 -- each place of a table
 lacks_place : (x : ℕ) (table : List ℕ) (k : ℕ) → 0 < x → Lacks x table → slice_index table k ≡ x → ⊥
@@ -61,6 +65,9 @@ spaceless_lower = refl
 feedless_lower : lacks_test 10 lower_digits ≡ true
 unfolding lacks_test
 feedless_lower = refl
+
+pub lacks_digits : (x : ℕ) (octets : List ℕ) → 0 < x → lacks_test x lower_digits ≡ true → Lacks x (encode_lower octets)
+lacks_digits x octets some h = lacks_encoded x lower_digits octets some (lacks_from_test x lower_digits h)
 
 pub spaceless_digits : (octets : List ℕ) → Spaceless (encode_lower octets)
 spaceless_digits octets = lacks_encoded 32 lower_digits octets (omega arith) (lacks_from_test 32 lower_digits spaceless_lower)

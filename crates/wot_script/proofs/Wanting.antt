@@ -1,5 +1,5 @@
 -- A question that was read wants at least 1, and an import that was read is short.
-use Rattle.std.proofs.Common.{◌≡◌, ℕ, ◌≤◌, ◌%◌, ◌==◌, Bool, true, false, ◌&&◌, List, [], ◌∷◌, length, Option, Some, None, Result, Ok, Err, refl, ap, arith}
+use Rattle.std.proofs.Common.{◌≡◌, ℕ, ◌+◌, ◌≤◌, ◌%◌, ◌==◌, Bool, true, false, ◌&&◌, List, [], ◌∷◌, length, Option, Some, None, Result, Ok, Err, refl, ap, arith}
 use Rattle.std.specs.Prelude.{codes, nat_lt, nat_le, IfSome, if◌then◌else◌}
 use Rattle.std.specs.Option.{option_map}
 use Rattle.std.specs.Result.{result_ok}
@@ -7,23 +7,30 @@ use Rattle.hex.specs.Hex.{decode_of, decode_pairs}
 use Rattle.hex.specs.declared.error.FromHexError.{FromHexError}
 use Rattle.hex.specs.declared.error.FromHexError.TheVariants.{OddLength}
 use Rattle.hex.proofs.HexLemmas.{decode_pairs-ok}
+use Rattle.std.specs.List.{AllByRecursion, onto_first}
 use Rattle.std.specs.Str.{bytes_eq}
 use Rattle.std.specs.Str.Parse.{digits_value}
-use Rattle.std.proofs.lemmas.Bool.{and_parts, ltb-true}
+use Rattle.std.proofs.lemmas.Bool.{and_parts, leb-true, ltb-true}
 use Rattle.std.proofs.lemmas.Option.{cond_some}
 use Rattle.wot_types.specs.Fpr.{fpr_of_digits}
 use Rattle.wot_types.specs.SigNumber.{number_of_digits}
 use Rattle.wot_types.specs.ViewName.{view_name_of}
 use Rattle.wot_types.specs.declared.number.SigNumber.{SigNumber}
+use Rattle.wot_script.specs.Claims.{all_of, claim_of, claim_with, claims_of, field_of, IsLabelSpelled, IsPathSpelled, is_rising, items_of, label_of, labels_of, rising, step_of}
+use Rattle.wot_script.specs.declared.reply.ClaimStepLine.{ClaimStepLine}
+use Rattle.wot_script.specs.declared.reply.LabelLine.{LabelLine}
 use Rattle.wot_script.specs.Decimal.{decimal_up_to, is_decimal, positive_up_to}
-use Rattle.wot_script.specs.Fields.{◌>>=◌, behind, cut}
-use Rattle.wot_script.specs.Grammar.{about_of, asked_of, command_of, drop_of, entry_of, explained_of, export_of, import_of, judgement_of, listed_of, load_of, read_behind, root_of, setting_of, single_of, verdict_of, view_of}
+use Rattle.wot_script.specs.Fields.{◌>>=◌, behind, cut, cut_at}
+use Rattle.wot_script.proofs.Cutting.{cut_short}
+use Rattle.wot_script.proofs.Items.{parts_of}
+use Rattle.wot_script.specs.Grammar.{about_of, asked_of, checked_of, command_of, drop_of, entry_of, explained_of, export_of, import_of, judgement_of, listed_of, load_of, missed_of, question_of, read_behind, root_of, setting_of, single_of, verdict_of, view_of}
 use Rattle.wot_script.specs.Spelling.{HasSpelling, IsWithin}
 use Rattle.wot_script.specs.Uid.{unescaped}
 use Rattle.wot_script.specs.declared.command.Command.{Command}
 use Rattle.wot_script.specs.declared.read.About.{About}
-use Rattle.wot_script.specs.declared.read.About.TheVariants.{Setting, Asked, Listed, Explained}
-use Rattle.wot_script.specs.declared.command.Command.TheVariants.{Import, Load, Remove, Good, Bad, Unjudge, Time, Root, Close, Ask, Explain, Pending, Keys, Export, Dump}
+use Rattle.wot_script.specs.declared.read.About.TheVariants.{Setting, Asked, Listed, Explained, Missed, Checked}
+use Rattle.wot_script.specs.declared.read.Question.{Question}
+use Rattle.wot_script.specs.declared.command.Command.TheVariants.{Import, Load, Remove, Good, Bad, Unjudge, Time, Root, Close, Ask, Explain, Pending, Keys, Export, Dump, Absence}
 
 behind_short : (prefix text rest : List ℕ) → behind prefix text ≡ Some rest → length rest ≤ length text
 behind_short [] text rest e = let same : text ≡ rest = cc in omega (arith, ap length same)
@@ -35,6 +42,51 @@ behind_short (x ∷ prefix) (y ∷ text) rest e =
     cond_some_of : (b : Bool) → (if b then behind prefix text else None) ≡ Some rest → behind prefix text ≡ Some rest
     cond_some_of true e = e
     cond_some_of false e = absurd cc
+
+-- there are no more parts than octets and one
+length-onto_first : (octet : ℕ) (parts : List (List ℕ)) → length (onto_first octet parts) ≤ 1 + length parts
+length-onto_first octet [] = omega arith
+length-onto_first octet (part ∷ parts) = omega arith
+
+length-parts_of : (separator : ℕ) (text : List ℕ) → length (parts_of separator text) ≤ 1 + length text
+length-parts_of separator [] = omega arith
+length-parts_of separator (octet ∷ octets) = by (octet == separator) refl (length-parts_of separator octets)
+  where
+    by : (b : Bool) → (octet == separator) ≡ b → length (parts_of separator octets) ≤ 1 + length octets
+        → length (parts_of separator (octet ∷ octets)) ≤ 1 + length (octet ∷ octets)
+    by true same later = rw same (omega (arith, later))
+    by false apart later = rw apart (omega (arith, later, length-onto_first octet (parts_of separator octets)))
+
+-- ---- what was read of each part
+
+bound_keeps : {A B : Type 0} (P : B → Type 0) (o : Option A) (f : A → Option B) → ((a : A) → o ≡ Some a → IfSome (f a) P) → IfSome (o >>= f) P
+bound_keeps P None f h = tt
+bound_keeps P (Some a) f h = h a refl
+
+all_of_keeps : {A : Type 0} (P : A → Type 0) (read : List ℕ → Option A) → ((text : List ℕ) → IfSome (read text) P) → (texts : List (List ℕ))
+    → IfSome (all_of read texts) (λ items. AllByRecursion P items × (length items ≡ length texts))
+all_of_keeps {A = A} P read h [] = (tt, refl)
+all_of_keeps {A = A} P read h (text ∷ texts) = by (read text) (h text) (all_of read texts) (all_of_keeps P read h texts)
+  where
+    by : (o : Option A) → IfSome o P → (os : Option (List A)) → IfSome os (λ items. AllByRecursion P items × (length items ≡ length texts))
+        → IfSome (o >>= (λ item. option_map (λ items. item ∷ items) os)) (λ items. AllByRecursion P items × (length items ≡ length (text ∷ texts)))
+    by None one os all = tt
+    by (Some item) one None all = tt
+    by (Some item) one (Some items) all = ((one, all.0), omega (arith, all.1))
+
+field_keeps : {A : Type 0} (P : A → Type 0) (read : List ℕ → Option A) → ((text : List ℕ) → IfSome (read text) P) → (text : List ℕ)
+    → IfSome (field_of read text) (λ items. AllByRecursion P items × (length items ≤ 1 + length text))
+field_keeps {A = A} P read h text = by (bytes_eq text (codes "-")) (items_of 44 read text) (all_of_keeps P read h (parts_of 44 text))
+  where
+    by : (b : Bool) (o : Option (List A)) → IfSome o (λ items. AllByRecursion P items × (length items ≡ length (parts_of 44 text)))
+        → IfSome (if b then Some [] else o) (λ items. AllByRecursion P items × (length items ≤ 1 + length text))
+    by true o h = (tt, omega arith)
+    by false None h = tt
+    by false (Some items) h = (h.0, omega (arith, h.1, length-parts_of 44 text))
+
+-- the facts of what was read
+so : {A : Type 0} (P : A → Type 0) (o : Option A) (a : A) → o ≡ Some a → IfSome o P → P a
+so P o a e h = rw e at h
 
 module _ (size : ℕ) where
   abbrev pub Spelled : Option Command → Type 0
@@ -66,6 +118,34 @@ module _ (size : ℕ) where
       let both = and_parts (is_decimal text && nat_lt 0 (digits_value 10 text)) (nat_le (digits_value 10 text) most) got.0 in
       let some = and_parts (is_decimal text) (nat_lt 0 (digits_value 10 text)) both.0 in
       omega (arith, ltb-true 0 (digits_value 10 text) some.1, got.1)
+
+  positive_most : (most : ℕ) (text : List ℕ) (n : ℕ) → positive_up_to most text ≡ Some n → n ≤ most
+  unfolding positive_up_to
+  positive_most most text n e =
+      let got = cond_some (is_decimal text && nat_lt 0 (digits_value 10 text) && nat_le (digits_value 10 text) most) (digits_value 10 text) n e in
+      let both = and_parts (is_decimal text && nat_lt 0 (digits_value 10 text)) (nat_le (digits_value 10 text) most) got.0 in
+      omega (arith, leb-true (digits_value 10 text) most both.1, got.1)
+
+  -- a question wants at least 1
+  bound_wants : {A : Type 0} (o : Option A) (f : A → Option Question) → ((a : A) → IfSome (f a) (λ q. 1 ≤ q.wanted))
+      → IfSome (o >>= f) (λ q. 1 ≤ q.wanted)
+  bound_wants None f h = tt
+  bound_wants (Some a) f h = h a
+
+  numbered_wants : (digits : List ℕ) (f : ℕ → Option Question) → ((n : ℕ) → 1 ≤ n → IfSome (f n) (λ q. 1 ≤ q.wanted))
+      → (o : Option ℕ) → positive_up_to 4294967295 digits ≡ o → IfSome (o >>= f) (λ q. 1 ≤ q.wanted)
+  numbered_wants digits f h None e = tt
+  numbered_wants digits f h (Some n) e = h n (positive_wanted 4294967295 digits n e)
+
+  all_want : (text : List ℕ) → IfSome (question_of text) (λ q. 1 ≤ q.wanted)
+  unfolding question_of
+  all_want text =
+      bound_wants (cut text) _ (λ first. bound_wants (fpr_of_digits first.0) _ (λ fpr. bound_wants (cut first.1) _
+      (λ second. numbered_wants second.0 _ (λ n some. bound_wants (unescaped second.1) _ (λ uid. some))
+      (positive_up_to 4294967295 second.0) refl)))
+
+  question_wants : (text : List ℕ) (q : Question) → question_of text ≡ Some q → 1 ≤ q.wanted
+  question_wants text q e = so (λ (q : Question). 1 ≤ q.wanted) (question_of text) q e (all_want text)
 
   import_spelled : (text : List ℕ) → length text ≤ size → Spelled (import_of text)
   unfolding import_of
@@ -135,17 +215,77 @@ module _ (size : ℕ) where
       (root_spelled view) (chosen (bytes_eq text (codes "close")) (Close view) None (tt, tt) tt))
 
   asked_spelled : (view text : List ℕ) → Spelled (asked_of view text)
-  unfolding asked_of
   asked_spelled view text =
-      bound (cut text) (λ second. fpr_of_digits second.0 >>= (λ fpr. cut second.1 >>= (λ third. positive_up_to 4294967295 third.0
-      >>= (λ wanted. unescaped third.1 >>= (λ uid. Some (Ask view fpr wanted uid))))))
-      (λ second e. bound (fpr_of_digits second.0) (λ fpr. cut second.1 >>= (λ third. positive_up_to 4294967295 third.0
-      >>= (λ wanted. unescaped third.1 >>= (λ uid. Some (Ask view fpr wanted uid)))))
-      (λ fpr f. bound (cut second.1) (λ third. positive_up_to 4294967295 third.0
-      >>= (λ wanted. unescaped third.1 >>= (λ uid. Some (Ask view fpr wanted uid))))
-      (λ third d. bound (positive_up_to 4294967295 third.0) (λ wanted. unescaped third.1 >>= (λ uid. Some (Ask view fpr wanted uid)))
-      (λ wanted w. bound (unescaped third.1) (λ uid. Some (Ask view fpr wanted uid))
-      (λ uid u. (positive_wanted 4294967295 third.0 wanted w, tt))))))
+      mapped (λ (q : Question). Ask view q.fpr q.wanted q.uid) (question_of text) (λ q e. (question_wants text q e, tt))
+
+  missed_spelled : (view text : List ℕ) → Spelled (missed_of view text)
+  missed_spelled view text =
+      mapped (λ (q : Question). Absence view q.fpr q.wanted q.uid) (question_of text) (λ q e. (question_wants text q e, tt))
+
+  label_positive : (text : List ℕ) → IfSome (label_of text) IsLabelSpelled
+  unfolding label_of
+  label_positive text =
+      bound_keeps IsLabelSpelled (cut_at 61 text) _ (λ parts c.
+      bound_keeps IsLabelSpelled (fpr_of_digits parts.0) _ (λ fpr f.
+      bound_keeps IsLabelSpelled (positive_up_to 255 parts.1) _ (λ n e. (positive_wanted 255 parts.1 n e, positive_most 255 parts.1 n e))))
+
+  any_step : (text : List ℕ) → IfSome (step_of text) (λ step. Unit {0})
+  any_step text = by (step_of text)
+    where
+      by : (o : Option ClaimStepLine) → IfSome o (λ step. Unit {0})
+      by None = tt
+      by (Some step) = tt
+
+  some_parts : (text : List ℕ) → 1 ≤ length (parts_of 47 text)
+  some_parts [] = omega arith
+  some_parts (octet ∷ octets) = by (octet == 47) (parts_of 47 octets)
+    where
+      by : (b : Bool) (parts : List (List ℕ)) → 1 ≤ length (if b then [] ∷ parts else onto_first octet parts)
+      by true parts = omega arith
+      by false [] = omega arith
+      by false (part ∷ parts) = omega arith
+
+  claim_spelled : (text : List ℕ) → IfSome (claim_of text) IsPathSpelled
+  unfolding claim_of
+  claim_spelled text =
+      bound_keeps IsPathSpelled (cut_at 47 text) _ (λ parts c.
+      bound_keeps IsPathSpelled (positive_up_to 255 parts.0) _ (λ n e.
+      bound_keeps IsPathSpelled (items_of 47 step_of parts.1) _ (λ steps i.
+      few n steps (positive_wanted 255 parts.0 n e)
+      (omega (arith, some_parts parts.1, (so _ (items_of 47 step_of parts.1) steps i (all_of_keeps _ step_of any_step (parts_of 47 parts.1))).1)))))
+    where
+      few : (n : ℕ) (steps : List ClaimStepLine) → 1 ≤ n → 1 ≤ length steps → IfSome (claim_with n steps) IsPathSpelled
+      few n steps some many = by (nat_le (length steps) 255) refl
+        where
+          by : (b : Bool) → nat_le (length steps) 255 ≡ b → IfSome (if b then Some (record { 0 = n; 1 = steps }) else None) IsPathSpelled
+          by true e = (some, many, leb-true (length steps) 255 e)
+          by false e = tt
+
+  labels_rise : (text : List ℕ) → IfSome (labels_of text) (λ labels. AllByRecursion IsLabelSpelled labels × (is_rising labels ≡ true))
+  labels_rise text = by (field_of label_of text) (field_keeps _ label_of label_positive text)
+    where
+      by : (o : Option (List LabelLine)) → IfSome o (λ labels. AllByRecursion IsLabelSpelled labels × (length labels ≤ 1 + length text))
+          → IfSome (o >>= rising) (λ labels. AllByRecursion IsLabelSpelled labels × (is_rising labels ≡ true))
+      by None h = tt
+      by (Some labels) h = up (is_rising labels) refl
+        where
+          up : (b : Bool) → is_rising labels ≡ b
+              → IfSome (if b then Some labels else None) (λ labels. AllByRecursion IsLabelSpelled labels × (is_rising labels ≡ true))
+          up true e = (h.0, e)
+          up false e = tt
+
+  checked_spelled : (view text : List ℕ) → length text ≤ size → Spelled (checked_of view text)
+  unfolding checked_of
+  checked_spelled view text short =
+      bound (cut text) _ (λ first f. bound (fpr_of_digits first.0) _ (λ fpr d.
+      bound (cut first.1) _ (λ second s. bound (claims_of second.0) _ (λ claims c.
+      bound (cut second.1) _ (λ third t. bound (labels_of third.0) _ (λ labels l.
+      bound (unescaped third.1) _ (λ uid u.
+      let paths = so _ (claims_of second.0) claims c (field_keeps IsPathSpelled claim_of claim_spelled second.0) in
+      let table = so _ (labels_of third.0) labels l (labels_rise third.0) in (
+        record { paths = paths.0; numbers = table.0; rise = table.1 },
+        omega (arith, short, paths.1, cut_short 32 text first f, cut_short 32 first.1 second s),
+      ))))))))
 
   listed_spelled : (view digits : List ℕ) → Spelled (listed_of view digits)
   unfolding listed_of
@@ -160,16 +300,28 @@ module _ (size : ℕ) where
       (λ second e. bound (fpr_of_digits second.0) (λ fpr. unescaped second.1 >>= (λ uid. Some (Explain view fpr uid)))
       (λ fpr f. bound (unescaped second.1) (λ uid. Some (Explain view fpr uid)) (λ uid u. (tt, tt))))
 
-  about_spelled : (about : About) (view text : List ℕ) → Spelled (about_of about view text)
-  about_spelled Setting view text = setting_spelled view text
-  about_spelled Asked view text = asked_spelled view text
-  about_spelled Listed view text = listed_spelled view text
-  about_spelled Explained view text = explained_spelled view text
+  about_spelled : (about : About) (view text : List ℕ) → length text ≤ size → Spelled (about_of about view text)
+  about_spelled Setting view text short = setting_spelled view text
+  about_spelled Asked view text short = asked_spelled view text
+  about_spelled Listed view text short = listed_spelled view text
+  about_spelled Explained view text short = explained_spelled view text
+  about_spelled Missed view text short = missed_spelled view text
+  about_spelled Checked view text short = checked_spelled view text short
 
-  view_spelled : (about : About) (text : List ℕ) → Spelled (view_of about text)
-  view_spelled about text =
+  view_spelled : (about : About) (text : List ℕ) → length text ≤ size → Spelled (view_of about text)
+  view_spelled about text short =
       bound (cut text) (λ first. view_name_of first.0 >>= (λ view. about_of about view first.1))
-      (λ first e. bound (view_name_of first.0) (λ view. about_of about view first.1) (λ view d. about_spelled about view first.1))
+      (λ first e. bound (view_name_of first.0) (λ view. about_of about view first.1) (λ view d.
+      about_spelled about view first.1 (omega (arith, short, cut_short 32 text first e))))
+
+  -- what stands behind a word is no longer than the line
+  behind_word : (word line : List ℕ) (read : List ℕ → Option Command) (other : Option Command) → length line ≤ size
+      → ((text : List ℕ) → length text ≤ size → Spelled (read text)) → Spelled other → Spelled (read_behind (behind word line) read other)
+  behind_word word line read other short h k = at (behind word line) refl
+    where
+      at : (o : Option (List ℕ)) → behind word line ≡ o → Spelled (read_behind o read other)
+      at None e = k
+      at (Some text) e = let shorter = behind_short word line text e in h text (omega (arith, shorter, short))
 
   -- a command that was read has a spelling, and an import's octets are no more than half of the line's
   pub spelled_of : (line : List ℕ) → length line ≤ size → Spelled (command_of line)
@@ -177,29 +329,27 @@ module _ (size : ℕ) where
   spelled_of line short =
       let tail : Option Command = single_of line in
       let export : Option Command = read_behind (behind (codes "export ") line) export_of tail in
-      let explain : Option Command = read_behind (behind (codes "explain ") line) (view_of Explained) export in
+      let check : Option Command = read_behind (behind (codes "check ") line) (view_of Checked) export in
+      let absence : Option Command = read_behind (behind (codes "absence ") line) (view_of Missed) check in
+      let explain : Option Command = read_behind (behind (codes "explain ") line) (view_of Explained) absence in
       let list : Option Command = read_behind (behind (codes "list ") line) (view_of Listed) explain in
       let ask : Option Command = read_behind (behind (codes "ask ") line) (view_of Asked) list in
       let view : Option Command = read_behind (behind (codes "view ") line) (view_of Setting) ask in
       let verdict : Option Command = read_behind (behind (codes "verdict ") line) verdict_of view in
       let remove : Option Command = read_behind (behind (codes "drop ") line) drop_of verdict in
       let load : Option Command = read_behind (behind (codes "load ") line) load_of remove in
-      first (behind (codes "import ") line) refl load (
+      behind_word (codes "import ") line import_of load short import_spelled (
       behind_either (behind (codes "load ") line) load_of remove load_spelled (
       behind_either (behind (codes "drop ") line) drop_of verdict drop_spelled (
       behind_either (behind (codes "verdict ") line) verdict_of view verdict_spelled (
-      behind_either (behind (codes "view ") line) (view_of Setting) ask (view_spelled Setting) (
-      behind_either (behind (codes "ask ") line) (view_of Asked) list (view_spelled Asked) (
-      behind_either (behind (codes "list ") line) (view_of Listed) explain (view_spelled Listed) (
-      behind_either (behind (codes "explain ") line) (view_of Explained) export (view_spelled Explained) (
+      behind_word (codes "view ") line (view_of Setting) ask short (view_spelled Setting) (
+      behind_word (codes "ask ") line (view_of Asked) list short (view_spelled Asked) (
+      behind_word (codes "list ") line (view_of Listed) explain short (view_spelled Listed) (
+      behind_word (codes "explain ") line (view_of Explained) absence short (view_spelled Explained) (
+      behind_word (codes "absence ") line (view_of Missed) check short (view_spelled Missed) (
+      behind_word (codes "check ") line (view_of Checked) export short (view_spelled Checked) (
       behind_either (behind (codes "export ") line) export_of tail export_spelled (
-      single_spelled line)))))))))
-    where
-      first : (o : Option (List ℕ)) → behind (codes "import ") line ≡ o → (other : Option Command) → Spelled other → Spelled (read_behind o import_of other)
-      first None e other k = k
-      first (Some text) e other k =
-          let shorter = behind_short (codes "import ") line text e in
-          import_spelled text (omega (arith, shorter, short))
+      single_spelled line)))))))))))
 
 -- the same where the reading is known
 pub spelled_at : (line : List ℕ) (command : Command) → command_of line ≡ Some command → HasSpelling command × IsWithin (length line) command

@@ -16,11 +16,16 @@ behind [] text = Some text
 behind (x ∷ prefix) [] = None
 behind (x ∷ prefix) (y ∷ text) = if x == y then behind prefix text else None
 
--- the field before the first space, and what stands behind that space
+-- the field before the first such octet, and what stands behind that octet
+abbrev pub cut_at : ℕ → List ℕ → Option (List ℕ × List ℕ)
+cut_at separator [] = None
+cut_at separator (octet ∷ octets) =
+    if octet == separator then Some ([], octets)
+    else option_map (λ parts. (octet ∷ parts.0, parts.1)) (cut_at separator octets)
+
+-- the same at the first space
 abbrev pub cut : List ℕ → Option (List ℕ × List ℕ)
-cut [] = None
-cut (octet ∷ octets) =
-    if octet == 32 then Some ([], octets) else option_map (λ parts. (octet ∷ parts.0, parts.1)) (cut octets)
+cut text = cut_at 32 text
 
 -- the octets that pairs of hexadecimal digits, of either case, spell
 abbrev pub octets_of_hex : List ℕ → Option (List ℕ)

@@ -9,14 +9,16 @@ use Rattle.wot_types.specs.declared.fpr.Fpr.{Fpr}
 use Rattle.wot_types.specs.declared.name.Name.{Name}
 use Rattle.wot_types.specs.declared.name.Name.TheVariants.{Cert, TrustRoot}
 use Rattle.wot_types.specs.declared.number.SigNumber.{SigNumber}
+use Rattle.wot_script.specs.Claims.{claims_of, labels_of}
 use Rattle.wot_script.specs.Decimal.{decimal_up_to, positive_up_to}
 use Rattle.wot_script.specs.Fields.{◌>>=◌, behind, cut, octets_of_hex}
 use Rattle.wot_script.specs.Uid.{unescaped}
 use Rattle.wot_script.specs.declared.command.Command.{Command}
 use Rattle.wot_script.specs.declared.read.About.{About}
-use Rattle.wot_script.specs.declared.read.About.TheVariants.{Setting, Asked, Listed, Explained}
+use Rattle.wot_script.specs.declared.read.About.TheVariants.{Setting, Asked, Listed, Explained, Missed, Checked}
+use Rattle.wot_script.specs.declared.read.Question.{Question}
 use Rattle.wot_script.specs.declared.command.Command.TheVariants.{Import, Load, Remove, Good, Bad, Unjudge, Time}
-use Rattle.wot_script.specs.declared.command.Command.TheVariants.{Root, Close, Ask, Explain, Pending, Keys, Export, Dump}
+use Rattle.wot_script.specs.declared.command.Command.TheVariants.{Root, Close, Ask, Explain, Pending, Keys, Export, Dump, Absence, Check}
 
 -- A text with this prefix is read so, and another text otherwise.
 abbrev pub read_behind : Option (List ℕ) → (List ℕ → Option Command) → Option Command → Option Command
@@ -74,15 +76,23 @@ setting_of view text =
     read_behind (behind (codes "root ") text) (root_of view) (
     if bytes_eq text (codes "close") then Some (Close view) else None))
 
--- behind `ask V `: FPR N UID, where UID is the rest of the line
-unfoldable pub asked_of : List ℕ → List ℕ → Option Command
-asked_of view text = do
-  second ← cut text
-  fpr ← fpr_of_digits second.0
-  third ← cut second.1
-  wanted ← positive_up_to 4294967295 third.0
-  uid ← unescaped third.1
-  Some (Ask view fpr wanted uid)
+-- FPR N UID, where UID is the rest of the line
+unfoldable pub question_of : List ℕ → Option Question
+question_of text = do
+  first ← cut text
+  fpr ← fpr_of_digits first.0
+  second ← cut first.1
+  wanted ← positive_up_to 4294967295 second.0
+  uid ← unescaped second.1
+  Some (record { fpr = fpr; wanted = wanted; uid = uid })
+
+-- behind `ask V `: a question
+abbrev pub asked_of : List ℕ → List ℕ → Option Command
+asked_of view text = option_map (λ question. Ask view question.fpr question.wanted question.uid) (question_of text)
+
+-- behind `absence V `: a question
+abbrev pub missed_of : List ℕ → List ℕ → Option Command
+missed_of view text = option_map (λ question. Absence view question.fpr question.wanted question.uid) (question_of text)
 
 -- behind `list V `: N
 unfoldable pub listed_of : List ℕ → List ℕ → Option Command
@@ -96,12 +106,26 @@ explained_of view text = do
   uid ← unescaped second.1
   Some (Explain view fpr uid)
 
+-- behind `check V `: FPR PATHS TABLE UID, where UID is the rest of the line
+unfoldable pub checked_of : List ℕ → List ℕ → Option Command
+checked_of view text = do
+  first ← cut text
+  fpr ← fpr_of_digits first.0
+  second ← cut first.1
+  claims ← claims_of second.0
+  third ← cut second.1
+  labels ← labels_of third.0
+  uid ← unescaped third.1
+  Some (Check view fpr claims labels uid)
+
 -- what is read behind the name of a view, by what the line is about
 abbrev pub about_of : About → List ℕ → List ℕ → Option Command
 about_of Setting view text = setting_of view text
 about_of Asked view text = asked_of view text
 about_of Listed view text = listed_of view text
 about_of Explained view text = explained_of view text
+about_of Missed view text = missed_of view text
+about_of Checked view text = checked_of view text
 
 -- V, and what is read behind its space
 abbrev pub view_of : About → List ℕ → Option Command
@@ -133,5 +157,7 @@ command_of line =
     read_behind (behind (codes "ask ") line) (view_of Asked) (
     read_behind (behind (codes "list ") line) (view_of Listed) (
     read_behind (behind (codes "explain ") line) (view_of Explained) (
+    read_behind (behind (codes "absence ") line) (view_of Missed) (
+    read_behind (behind (codes "check ") line) (view_of Checked) (
     read_behind (behind (codes "export ") line) export_of (
-    single_of line)))))))))
+    single_of line)))))))))))

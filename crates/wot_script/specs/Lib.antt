@@ -1,3 +1,5 @@
+pub mod ClaimLaws
+pub mod Claims
 pub mod Decimal
 pub mod Fields
 pub mod Grammar

@@ -6,6 +6,7 @@ use Rattle.hex.specs.Hex.{encode_lower}
 use Rattle.wot_types.specs.Fpr.{digits_of}
 use Rattle.wot_types.specs.Limits.{limit_word}
 use Rattle.wot_types.specs.SigNumber.{number_digits}
+use Rattle.wot_script.specs.Claims.{claim_text, field_text, label_text}
 use Rattle.wot_script.specs.Texts.{joined_line}
 use Rattle.wot_script.specs.Uid.{escaped}
 use Rattle.wot_script.specs.Words.{IsWordOf, reason_words, target_words, word_at}
@@ -21,6 +22,7 @@ use Rattle.wot_script.specs.declared.reply.KeyLine.{KeyLine}
 use Rattle.wot_script.specs.declared.reply.Reply.{Reply}
 use Rattle.wot_script.specs.declared.reply.Reply.TheVariants.{Taken, Done, Amount, Explained, Pending, Keys, Export, Dump, Long, Line, View, Shelf}
 use Rattle.wot_script.specs.declared.reply.Reply.TheVariants.{Packet, Compressed, Secret, Kind, Order, Empty, Misfiled, Clash, Absent, Full}
+use Rattle.wot_script.specs.declared.reply.Reply.TheVariants.{Reached, Missed, CheckedYes, CheckedNoPaths, CheckedNoTable}
 
 -- `path AMOUNT steps L root FPR`, or `step ISSUER TARGET DEPTH AMOUNT UID`
 abbrev pub answer_line : AnswerLine → List ℕ
@@ -75,6 +77,13 @@ reply_text (Pending count lines) = joined_line (codes "pending " ∷ decimal cou
 reply_text (Keys count lines) = joined_line (codes "keys " ∷ decimal count ∷ []) ++ flat_map key_line lines
 reply_text (Export octets) = joined_line (codes "export " ∷ encode_lower octets ∷ [])
 reply_text (Dump count lines) = joined_line (codes "dump " ∷ decimal count ∷ []) ++ lines
+reply_text (Reached sum) = joined_line (codes "absence reached " ∷ decimal sum ∷ [])
+reply_text (Missed sum claims labels) =
+    joined_line (codes "absence missed " ∷ decimal sum ∷ [])
+    ++ joined_line (codes "claim " ∷ field_text claim_text claims ∷ codes " " ∷ field_text label_text labels ∷ [])
+reply_text (CheckedYes sum) = joined_line (codes "checked yes " ∷ decimal sum ∷ [])
+reply_text CheckedNoPaths = joined_line (codes "checked no paths" ∷ [])
+reply_text CheckedNoTable = joined_line (codes "checked no table" ∷ [])
 reply_text Long = refused (codes "long" ∷ [])
 reply_text Line = refused (codes "line" ∷ [])
 reply_text View = refused (codes "view" ∷ [])
@@ -118,6 +127,7 @@ is_short (Pending count lines) = is_empty lines
 is_short (Keys count lines) = is_empty lines
 is_short (Export octets) = false
 is_short (Dump count lines) = is_empty lines
+is_short (Missed sum claims labels) = false
 is_short _ = true
 
 -- a line that begins with `refused`
@@ -131,5 +141,10 @@ is_refusal (Pending count lines) = false
 is_refusal (Keys count lines) = false
 is_refusal (Export octets) = false
 is_refusal (Dump count lines) = false
+is_refusal (Reached sum) = false
+is_refusal (Missed sum claims labels) = false
+is_refusal (CheckedYes sum) = false
+is_refusal CheckedNoPaths = false
+is_refusal CheckedNoTable = false
 is_refusal Shelf = false
 is_refusal _ = true

@@ -1,33 +1,47 @@
 -- How a command is printed.
-use Rattle.std.specs.Prelude.{ℕ, ◌≢◌, ◌≤◌, ◌+◌, ◌*◌, List, [], ◌∷◌, length, codes}
+use Rattle.std.specs.Prelude.{ℕ, ◌≢◌, ◌<◌, ◌≤◌, ◌+◌, ◌*◌, List, [], ◌∷◌, length, codes}
 use Rattle.std.specs.List.{AllByRecursion}
 use Rattle.std.specs.Fmt.{decimal}
 use Rattle.hex.specs.Hex.{encode_lower}
 use Rattle.wot_types.specs.Fpr.{digits_of}
 use Rattle.wot_types.specs.SigNumber.{number_digits}
+use Rattle.wot_types.specs.declared.fpr.Fpr.{Fpr}
 use Rattle.wot_types.specs.declared.name.Name.{Name}
 use Rattle.wot_types.specs.declared.name.Name.TheVariants.{Cert, TrustRoot}
+use Rattle.wot_script.specs.Claims.{IsClaimSpelled, claim_text, field_text, label_text, most_paths}
 use Rattle.wot_script.specs.Texts.{joined}
 use Rattle.wot_script.specs.Uid.{escaped}
 use Rattle.wot_script.specs.declared.command.Command.{Command}
 use Rattle.wot_script.specs.declared.command.Command.TheVariants.{Import, Load, Remove, Good, Bad, Unjudge, Time}
-use Rattle.wot_script.specs.declared.command.Command.TheVariants.{Root, Close, Ask, Explain, Pending, Keys, Export, Dump}
+use Rattle.wot_script.specs.declared.command.Command.TheVariants.{Root, Close, Ask, Explain, Pending, Keys, Export, Dump, Absence, Check}
 
--- A question, and a list, have a spelling where they want at least 1; every other command has one.
+-- What wants a number has a spelling where it wants at least 1, and a claim where its paths and its table have one; every
+-- other command has one.
 abbrev pub HasSpelling : Command → Type 0
 HasSpelling (Ask view fpr wanted uid) = 1 ≤ wanted
 HasSpelling (Command.List view wanted) = 1 ≤ wanted
+HasSpelling (Absence view fpr wanted uid) = 1 ≤ wanted
+HasSpelling (Check view fpr claims labels uid) = IsClaimSpelled claims labels
 HasSpelling _ = Unit {0}
 
--- The octets of an import are no more than half as many as the size of its line.
+-- The octets of an import are no more than half as many as the size of its line, and the paths of a claim are fewer.
 abbrev pub IsWithin : ℕ → Command → Type 0
 IsWithin size (Import octets) = 2 * length octets ≤ size
+IsWithin size (Check view fpr claims labels uid) = length claims < size
 IsWithin size _ = Unit {0}
 
 -- the name of an entry of the shelf
 abbrev pub entry_text : Name → List ℕ
 entry_text (Cert fpr) = digits_of fpr
 entry_text TrustRoot = codes "trust-root"
+
+-- FPR N UID
+abbrev pub question_parts : Fpr → ℕ → List ℕ → List (List ℕ)
+question_parts fpr wanted uid = digits_of fpr ∷ codes " " ∷ decimal wanted ∷ codes " " ∷ escaped uid ∷ []
+
+-- a question from a view, behind a word
+abbrev pub asking : List ℕ → List ℕ → Fpr → ℕ → List ℕ → List ℕ
+asking word view fpr wanted uid = joined (word ∷ view ∷ codes " " ∷ question_parts fpr wanted uid)
 
 -- the line of a command, without a line feed
 unfoldable pub spelling : Command → List ℕ
@@ -41,11 +55,14 @@ spelling (Time view t) = joined (codes "view " ∷ view ∷ codes " time " ∷ d
 spelling (Root view fpr amount) =
     joined (codes "view " ∷ view ∷ codes " root " ∷ digits_of fpr ∷ codes " " ∷ decimal amount ∷ [])
 spelling (Close view) = joined (codes "view " ∷ view ∷ codes " close" ∷ [])
-spelling (Ask view fpr wanted uid) =
-    joined (codes "ask " ∷ view ∷ codes " " ∷ digits_of fpr ∷ codes " " ∷ decimal wanted ∷ codes " " ∷ escaped uid ∷ [])
+spelling (Ask view fpr wanted uid) = asking (codes "ask ") view fpr wanted uid
 spelling (Command.List view wanted) = joined (codes "list " ∷ view ∷ codes " " ∷ decimal wanted ∷ [])
 spelling (Explain view fpr uid) =
     joined (codes "explain " ∷ view ∷ codes " " ∷ digits_of fpr ∷ codes " " ∷ escaped uid ∷ [])
+spelling (Absence view fpr wanted uid) = asking (codes "absence ") view fpr wanted uid
+spelling (Check view fpr claims labels uid) =
+    joined (codes "check " ∷ view ∷ codes " " ∷ digits_of fpr ∷ codes " " ∷ field_text claim_text claims ∷ codes " "
+    ∷ field_text label_text labels ∷ codes " " ∷ escaped uid ∷ [])
 spelling Pending = codes "pending"
 spelling Keys = codes "keys"
 spelling (Export fpr) = joined (codes "export " ∷ digits_of fpr ∷ [])
@@ -59,6 +76,8 @@ most_octets (Import octets) = 7 + 2 * length octets
 most_octets (Good number fpr) = 142
 most_octets (Ask view fpr wanted uid) = 128 + 4 * length uid
 most_octets (Explain view fpr uid) = 128 + 4 * length uid
+most_octets (Absence view fpr wanted uid) = 128 + 4 * length uid
+most_octets (Check view fpr claims labels uid) = 128 + 4 * length uid + most_paths claims + 128 * length labels
 most_octets _ = 128
 
 -- It isn't empty and no comment.

@@ -1,4 +1,4 @@
-use crate::Octets;
+use crate::{ClaimLines, LabelLines, Octets};
 use wot_types::{Fpr, Name, SigNumber, UserId, ViewName};
 
 /// What a line asks for.
@@ -28,6 +28,10 @@ pub enum Command {
     List(ViewName, u32),
     /// `explain V FPR UID`: why certifications on this binding count, or don't.
     Explain(ViewName, Fpr, UserId),
+    /// `absence V FPR N UID`: why the answer to wanted N, at least 1, doesn't reach it.
+    Absence(ViewName, Fpr, u32, UserId),
+    /// `check V FPR PATHS TABLE UID`: whether these paths and this table show that no more is there.
+    Check(ViewName, Fpr, ClaimLines, LabelLines, UserId),
     /// `pending`: the signatures that have no verdict.
     Pending,
     /// `keys`: the certificates.

@@ -43,6 +43,7 @@ pub fn read_decimal(most: u32, text: &[u8]) -> Option<u32>
 #[tactic(auto, unfolding(crate::specs::Decimal::decimal_up_to, crate::specs::Decimal::positive_up_to))]
 pub fn read_positive(most: u32, text: &[u8]) -> Option<u32>
     ensures read { result ≡ positive_up_to most text.now }
+    ensures small { IfSome result (λ number. number ≤ most) }
 {
     match read_decimal(most, text) {
         Some(0) | None => None,

@@ -1,6 +1,8 @@
 //! The script: how lines are read as commands, and how commands and replies are printed.
 #![tactic(auto)]
 
+mod claimed;
+mod claims;
 mod command;
 mod decimal;
 mod fields;
@@ -19,9 +21,15 @@ mod uid;
 mod words;
 
 pub use command::Command;
-pub use lists::{AnswerLines, BindLines, KeyLines, Lines, PendingLines, ReasonLines};
+pub use lists::{
+    AnswerLines, BindLines, ClaimLines, ClaimStepLines, KeyLines, LabelLines, Lines, PendingLines,
+    ReasonLines,
+};
 pub use octets::Octets;
 pub use read::{LineFault, read_line};
-pub use reply::{AnswerLine, BindLine, Hint, KeyLine, PendingLine, ReasonLine, Reply};
+pub use reply::{
+    AnswerLine, BindLine, ClaimLine, ClaimStepLine, Hint, KeyLine, LabelLine, PendingLine,
+    ReasonLine, Reply,
+};
 pub use spell::print_command;
 pub use tell::print_reply;

@@ -1,6 +1,8 @@
 ghost use Rattle.std.specs.Prelude.{◌≡◌, [], ◌∷◌, ◌++◌, OnOk, OnErr};
 
-use crate::{AnswerLine, BindLine, KeyLine, PendingLine, ReasonLine};
+use crate::{
+    AnswerLine, BindLine, ClaimLine, ClaimStepLine, KeyLine, LabelLine, PendingLine, ReasonLine,
+};
 use std::alloc::Global;
 use std::marker::Model;
 use wot_types::Memory;
@@ -25,6 +27,15 @@ pub type PendingLines = Lines<PendingLine>;
 
 /// The lines of a list of certificates.
 pub type KeyLines = Lines<KeyLine>;
+
+/// Paths that are claimed.
+pub type ClaimLines = Lines<ClaimLine>;
+
+/// The steps of one.
+pub type ClaimStepLines = Lines<ClaimStepLine>;
+
+/// A table of labels.
+pub type LabelLines = Lines<LabelLine>;
 
 impl<T> Model for Lines<T> {
     ghost use Rattle.std.specs.Prelude.{List};
@@ -76,4 +87,22 @@ impl<T: Drop> Lines<T> {
         self.lines.push(line)?;
         Ok(())
     }
+}
+
+impl<T: PartialEq> PartialEq for Lines<T> {
+    ghost use Rattle.std.specs.Cmp.Lexicographic.{lists_per, pointwise};
+
+    ghost eq = { pointwise T.eq };
+
+    ghost laws = { lists_per T.laws };
+
+    fn eq(&self, other: &Lines<T>) -> bool {
+        self.items() == other.items()
+    }
+}
+
+impl<T: Eq> Eq for Lines<T> {
+    ghost use Rattle.std.specs.Cmp.Lexicographic.{lists_equiv};
+
+    ghost laws = { lists_equiv T.Eq.laws };
 }

@@ -3,17 +3,19 @@ ghost use Rattle.std.specs.Option.{option_map};
 ghost use Rattle.wot_types.specs.Fpr.{fpr_of_digits};
 ghost use Rattle.wot_script.specs.Fields.{octets_of_hex};
 ghost use Rattle.wot_script.specs.Decimal.{decimal_up_to, positive_up_to};
-ghost use Rattle.wot_script.specs.Grammar.{about_of, asked_of, command_of, drop_of, entry_of, explained_of, export_of, import_of};
-ghost use Rattle.wot_script.specs.Grammar.{judgement_of, listed_of, load_of, root_of, setting_of, single_of, verdict_of, view_of};
+ghost use Rattle.wot_script.specs.Grammar.{about_of, asked_of, checked_of, command_of, drop_of, entry_of, explained_of, export_of};
+ghost use Rattle.wot_script.specs.Grammar.{import_of, judgement_of, listed_of, load_of, missed_of, question_of, root_of, setting_of};
+ghost use Rattle.wot_script.specs.Grammar.{single_of, verdict_of, view_of};
 ghost use Rattle.wot_script.specs.Spelling.{HasSpelling, IsWithin};
 
+use crate::claims::{read_claims, read_labels};
 use crate::decimal::{read_decimal, read_positive};
 use crate::fields::{after_prefix, cut_field};
 use crate::uid::read_uid;
 use crate::{Command, Octets};
 use hex::FromHexError;
 use std::alloc::Global;
-use wot_types::{Fpr, Memory, Name, SigNumber, ViewName};
+use wot_types::{Fpr, Memory, Name, SigNumber, UserId, ViewName};
 
 /// Why a line gave no command.
 #[derive(Clone, Copy, Debug, PartialEq, Eq)]
@@ -145,26 +147,82 @@ fn read_setting(view: ViewName, text: &[u8]) -> Option<Command>
     None
 }
 
-#[tactic(auto, unfolding(crate::specs::Grammar::asked_of))]
+/// What is asked from a view.
+#[derive(Drop)]
+pub struct Question {
+    pub fpr: Fpr,
+    pub wanted: u32,
+    pub uid: UserId,
+}
+
+#[tactic(auto, unfolding(crate::specs::Grammar::question_of))]
+fn read_question(alloc: Global, text: &[u8]) -> Result<Option<Question>, Memory>
+    ensures { IfOk result (λ question. question ≡ question_of text.now) }
+{
+    let Some(first) = cut_field(text) else {
+        return Ok(None);
+    };
+    let Some(fpr) = Fpr::read(first.field) else {
+        return Ok(None);
+    };
+    let Some(second) = cut_field(first.rest) else {
+        return Ok(None);
+    };
+    let Some(wanted) = read_positive(u32::MAX, second.field) else {
+        return Ok(None);
+    };
+    let Some(uid) = read_uid(alloc, second.rest)? else {
+        return Ok(None);
+    };
+    Ok(Some(Question { fpr, wanted, uid }))
+}
+
 fn read_asked(alloc: Global, view: ViewName, text: &[u8]) -> Result<Option<Command>, Memory>
     ensures { IfOk result (λ command. command ≡ asked_of view text.now) }
 {
-    let Some(second) = cut_field(text) else {
+    let Some(question) = read_question(alloc, text)? else {
         return Ok(None);
     };
-    let Some(fpr) = Fpr::read(second.field) else {
+    let Question { fpr, wanted, uid } = question;
+    Ok(Some(Command::Ask(view, fpr, wanted, uid)))
+}
+
+fn read_missed(alloc: Global, view: ViewName, text: &[u8]) -> Result<Option<Command>, Memory>
+    ensures { IfOk result (λ command. command ≡ missed_of view text.now) }
+{
+    let Some(question) = read_question(alloc, text)? else {
+        return Ok(None);
+    };
+    let Question { fpr, wanted, uid } = question;
+    Ok(Some(Command::Absence(view, fpr, wanted, uid)))
+}
+
+#[tactic(auto, unfolding(crate::specs::Grammar::checked_of))]
+fn read_checked(alloc: Global, view: ViewName, text: &[u8]) -> Result<Option<Command>, Memory>
+    ensures { IfOk result (λ command. command ≡ checked_of view text.now) }
+{
+    let Some(first) = cut_field(text) else {
+        return Ok(None);
+    };
+    let Some(fpr) = Fpr::read(first.field) else {
+        return Ok(None);
+    };
+    let Some(second) = cut_field(first.rest) else {
+        return Ok(None);
+    };
+    let Some(claims) = read_claims(alloc, second.field)? else {
         return Ok(None);
     };
     let Some(third) = cut_field(second.rest) else {
         return Ok(None);
     };
-    let Some(wanted) = read_positive(u32::MAX, third.field) else {
+    let Some(labels) = read_labels(alloc, third.field)? else {
         return Ok(None);
     };
     let Some(uid) = read_uid(alloc, third.rest)? else {
         return Ok(None);
     };
-    Ok(Some(Command::Ask(view, fpr, wanted, uid)))
+    Ok(Some(Command::Check(view, fpr, claims, labels, uid)))
 }
 
 #[tactic(auto, unfolding(crate::specs::Grammar::listed_of))]
@@ -202,6 +260,10 @@ pub enum About {
     Listed,
     /// It asks for reasons.
     Explained,
+    /// It asks why an amount is missed.
+    Missed,
+    /// It claims why an amount is missed.
+    Checked,
 }
 
 fn read_about(
@@ -217,6 +279,8 @@ fn read_about(
         About::Asked => read_asked(alloc, view, text),
         About::Listed => Ok(read_listed(view, text)),
         About::Explained => read_explained(alloc, view, text),
+        About::Missed => read_missed(alloc, view, text),
+        About::Checked => read_checked(alloc, view, text),
     }
 }
 
@@ -276,6 +340,12 @@ fn read_command(alloc: Global, line: &[u8]) -> Result<Option<Command>, Memory>
     if let Some(rest) = after_prefix(b"explain ", line) {
         return read_view(alloc, About::Explained, rest);
     }
+    if let Some(rest) = after_prefix(b"absence ", line) {
+        return read_view(alloc, About::Missed, rest);
+    }
+    if let Some(rest) = after_prefix(b"check ", line) {
+        return read_view(alloc, About::Checked, rest);
+    }
     if let Some(rest) = after_prefix(b"export ", line) {
         return Ok(read_export(rest));
     }
@@ -289,7 +359,7 @@ pub fn read_line(alloc: Global, line: &[u8]) -> Result<Command, LineFault>
     ensures line { IsErrOf result LineFault.Line → command_of line.now ≡ None }
     // A question that was read wants at least 1.
     ensures spelled { IfOk result HasSpelling }
-    // An import's octets are two digits each.
+    // An import's octets are two digits each, and each path of a claim has some octet of its own.
     ensures within { IfOk result (IsWithin (length line.now)) }
 {
     match read_command(alloc, line) {

@@ -1,4 +1,7 @@
-use crate::{AnswerLines, BindLines, KeyLines, Octets, PendingLines, ReasonLines};
+use crate::{
+    AnswerLines, BindLines, ClaimLines, ClaimStepLines, KeyLines, LabelLines, Octets, PendingLines,
+    ReasonLines,
+};
 use wot_types::{Fpr, Limit, SigNumber, UserId};
 
 /// What is answered to a line.
@@ -22,6 +25,16 @@ pub enum Reply {
     Export(Octets),
     /// To `dump`: the number of commands, and their lines with line feeds.
     Dump(u64, Octets),
+    /// To `absence`, where the answer reaches what is wanted: its sum.
+    Reached(u32),
+    /// To `absence`, where it doesn't: its sum, its paths, and the least table of absence after them.
+    Missed(u32, ClaimLines, LabelLines),
+    /// To `check`: the sum of the paths, and no more is there.
+    CheckedYes(u32),
+    /// To `check`: some path isn't valid, or has another amount.
+    CheckedNoPaths,
+    /// To `check`: the paths are good, and the table doesn't show that no more is there.
+    CheckedNoTable,
     /// The line is too long.
     Long,
     /// The line is no command.
@@ -92,3 +105,16 @@ pub enum Hint {
 /// A certificate: its fingerprint, the number of its user IDs, the number of its signatures.
 #[derive(Clone, Copy, Debug, PartialEq, Eq)]
 pub struct KeyLine(pub Fpr, pub u64, pub u64);
+
+/// A path that is claimed: its amount, 1 to 255, and its steps from the root on, 1 to 255 of them.
+#[derive(Debug, Drop, PartialEq, Eq)]
+pub struct ClaimLine(pub u8, pub ClaimStepLines);
+
+/// A step that is claimed: its issuer, and the place of the user ID that it certifies among the target's, in the
+/// order of their octets. The target is the issuer of the next step, and of the last one the target of the claim.
+#[derive(Clone, Copy, Debug, PartialEq, Eq)]
+pub struct ClaimStepLine(pub Fpr, pub u32);
+
+/// A label of a table of absence: a fingerprint, and its number, 1 to 255.
+#[derive(Clone, Copy, Debug, PartialEq, Eq)]
+pub struct LabelLine(pub Fpr, pub u8);

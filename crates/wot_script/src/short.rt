@@ -46,6 +46,7 @@ pub fn short_replies_fit(reply: &Reply)
             decimals_fit(*offset as u64);
         }
         Reply::Order(offset) => decimals_fit(*offset as u64),
+        Reply::Reached(sum) | Reply::CheckedYes(sum) => decimals_fit(u64::from(*sum)),
         _ => {}
     }
 }

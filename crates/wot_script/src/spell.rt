@@ -2,12 +2,13 @@ ghost use Rattle.std.specs.Prelude.{◌≡◌, ◌++◌, OnOk, OnErr};
 ghost use Rattle.wot_script.specs.Appends.{Appends};
 ghost use Rattle.wot_script.specs.Grammar.{command_of};
 ghost use Rattle.wot_script.specs.Pieces.{piece_text};
-ghost use Rattle.wot_script.specs.Spelling.{HasSpelling, IsLineFor, entry_text, spelling};
+ghost use Rattle.wot_script.specs.Spelling.{HasSpelling, IsLineFor, asking, entry_text, spelling};
 
-use crate::Command;
+use crate::claims::put_claimed;
 use crate::piece::Piece::{Decimal, Hex, Key, Signature, Text, Uid};
 use crate::piece::{Piece, put_pieces};
 use crate::spelled::spelling_is_read;
+use crate::{ClaimLines, Command, LabelLines};
 use wot_types::{Fpr, Memory, Name, UserId, ViewName};
 
 #[tactic(auto, unfolding(crate::specs::Spelling::spelling))]
@@ -44,15 +45,16 @@ fn put_root<'a>(
     )
 }
 
-#[tactic(auto, unfolding(crate::specs::Spelling::spelling))]
-fn put_ask<'a>(
+/// Appends a question from a view, behind a word.
+fn put_question<'a>(
+    word: &'a [u8],
     view: &'a ViewName,
     fpr: &'a Fpr,
     wanted: u32,
     uid: &'a UserId,
     out: &mut Vec<u8>,
 ) -> Result<(), Memory>
-    ensures { Appends (spelling (Command.Ask view.now fpr.now wanted uid.now)) out.old out.new result }
+    ensures { Appends (asking word.now view.now fpr.now wanted uid.now) out.old out.new result }
 {
     let view = Text(view.octets());
     let fpr = Key(fpr);
@@ -60,7 +62,7 @@ fn put_ask<'a>(
     let uid = Uid(uid.octets());
     put_pieces(
         &[
-            Text(b"ask "),
+            Text(word),
             view,
             Text(b" "),
             fpr,
@@ -100,6 +102,24 @@ fn put_explain<'a>(
     )
 }
 
+#[tactic(auto, unfolding(crate::specs::Spelling::spelling))]
+fn put_check<'a>(
+    view: &'a ViewName,
+    fpr: &'a Fpr,
+    claims: &ClaimLines,
+    labels: &LabelLines,
+    uid: &'a UserId,
+    out: &mut Vec<u8>,
+) -> Result<(), Memory>
+    ensures { Appends (spelling (Command.Check view.now fpr.now claims.now labels.now uid.now)) out.old out.new result }
+{
+    let view = Text(view.octets());
+    let fpr = Key(fpr);
+    let uid = Uid(uid.octets());
+    let head = [Text(b"check "), view, Text(b" "), fpr, Text(b" ")];
+    put_claimed(&head, claims, labels, &[Text(b" "), uid], out)
+}
+
 /// The piece that spells the name of an entry.
 fn entry_piece(name: &Name) -> Piece<'_>
     ensures { piece_text result ≡ entry_text name.now }
@@ -133,9 +153,15 @@ fn put_command(command: &Command, out: &mut Vec<u8>) -> Result<(), Memory>
         Command::Close(view) => {
             put_pieces(&[Text(b"view "), Text(view.octets()), Text(b" close")], out)
         }
-        Command::Ask(view, fpr, wanted, uid) => put_ask(view, fpr, *wanted, uid, out),
+        Command::Ask(view, fpr, wanted, uid) => put_question(b"ask ", view, fpr, *wanted, uid, out),
         Command::List(view, wanted) => put_list(view, *wanted, out),
         Command::Explain(view, fpr, uid) => put_explain(view, fpr, uid, out),
+        Command::Absence(view, fpr, wanted, uid) => {
+            put_question(b"absence ", view, fpr, *wanted, uid, out)
+        }
+        Command::Check(view, fpr, claims, labels, uid) => {
+            put_check(view, fpr, claims, labels, uid, out)
+        }
         Command::Pending => put_pieces(&[Text(b"pending")], out),
         Command::Keys => put_pieces(&[Text(b"keys")], out),
         Command::Export(fpr) => put_pieces(&[Text(b"export "), Key(fpr)], out),

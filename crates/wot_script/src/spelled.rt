@@ -2,14 +2,17 @@ ghost use Rattle.std.specs.Prelude.{◌≡◌, ◌≢◌, ◌≤◌, ◌<◌, �
 ghost use Rattle.std.specs.Fmt.{decimal};
 ghost use Rattle.std.specs.List.{AllByRecursion};
 ghost use Rattle.hex.specs.Hex.{encode_lower};
+ghost use Rattle.wot_types.specs.Fpr.{digits_of, fpr_of_digits};
 ghost use Rattle.wot_script.specs.Decimal.{decimal_up_to, positive_up_to};
 ghost use Rattle.wot_script.specs.Fields.{octets_of_hex};
-ghost use Rattle.wot_script.specs.Grammar.{command_of, entry_of};
-ghost use Rattle.wot_script.specs.Spelling.{HasSpelling, IsLineFor, entry_text, spelling};
+ghost use Rattle.wot_script.specs.Grammar.{command_of, entry_of, question_of};
+ghost use Rattle.wot_script.specs.Spelling.{HasSpelling, IsLineFor, entry_text, question_parts, spelling};
+ghost use Rattle.wot_script.specs.Texts.{joined};
 ghost use Rattle.wot_script.specs.Uid.{escaped, unescaped};
 
 use crate::Command;
-use wot_types::Name;
+use crate::claimed::{claims_are_read, labels_are_read};
+use wot_types::{Fpr, Name, UserId};
 
 /// A law: the digits of octets spell these octets.
 fn hex_is_read(octets: &[u8])
@@ -26,13 +29,13 @@ fn uid_is_read(octets: &[u8])
 }
 
 /// A law: a number that is printed is read as that number.
-fn decimal_is_read(most: u32, number: u32)
+pub fn decimal_is_read(most: u32, number: u32)
     requires { number ≤ most }
     ensures { decimal_up_to most (decimal number) ≡ Some number }
 {}
 
 /// The same of a number that isn't 0.
-fn positive_is_read(most: u32, number: u32)
+pub fn positive_is_read(most: u32, number: u32)
     requires some { 1 ≤ number }
     requires within { number ≤ most }
     ensures read { positive_up_to most (decimal number) ≡ Some number }
@@ -49,6 +52,18 @@ fn entry_is_read(name: &Name)
         Name::Cert(fpr) => fpr.printed_is_read(),
         Name::TrustRoot => {}
     }
+}
+
+/// A law: a question that is printed is read as that question.
+fn question_is_read(fpr: &Fpr, wanted: u32, uid: &UserId)
+    requires { 1 ≤ wanted }
+    ensures read { question_of (joined (question_parts fpr.now wanted uid.now))
+        ≡ Some (record { fpr = fpr.now; wanted = wanted; uid = uid.now }) }
+    ensures digits { fpr_of_digits (digits_of fpr.now) ≡ Some fpr.now }
+{
+    fpr.printed_is_read();
+    positive_is_read(u32::MAX, wanted);
+    uid_is_read(uid.octets());
 }
 
 /// A law: the spelling of a command is read as that command, and is one line, which isn't passed over
@@ -82,9 +97,7 @@ pub fn spelling_is_read(command: &Command)
         }
         Command::Ask(view, fpr, wanted, uid) => {
             let _name = view.octets();
-            fpr.printed_is_read();
-            positive_is_read(u32::MAX, *wanted);
-            uid_is_read(uid.octets());
+            question_is_read(fpr, *wanted, uid);
         }
         Command::List(view, wanted) => {
             let _name = view.octets();
@@ -93,6 +106,17 @@ pub fn spelling_is_read(command: &Command)
         Command::Explain(view, fpr, uid) => {
             let _name = view.octets();
             fpr.printed_is_read();
+            uid_is_read(uid.octets());
+        }
+        Command::Absence(view, fpr, wanted, uid) => {
+            let _name = view.octets();
+            question_is_read(fpr, *wanted, uid);
+        }
+        Command::Check(view, fpr, claims, labels, uid) => {
+            let _name = view.octets();
+            fpr.printed_is_read();
+            claims_are_read(claims.items());
+            labels_are_read(labels.items());
             uid_is_read(uid.octets());
         }
         Command::Pending => {}

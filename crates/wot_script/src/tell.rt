@@ -3,11 +3,14 @@ ghost use Rattle.std.specs.Fmt.{decimal};
 ghost use Rattle.wot_script.specs.Appends.{Appends};
 ghost use Rattle.wot_script.specs.Replies.{HasWords, is_refusal, is_short, refused, reply_text};
 
+use crate::claims::put_claimed;
 use crate::lines::put_headed;
 use crate::piece::{Piece, put_pieces};
 use crate::short::short_replies_fit;
 use crate::words::target_word;
-use crate::{AnswerLines, BindLines, KeyLines, PendingLines, ReasonLines, Reply};
+use crate::{
+    AnswerLines, BindLines, ClaimLines, KeyLines, LabelLines, PendingLines, ReasonLines, Reply,
+};
 use wot_types::Memory;
 
 #[tactic(auto, unfolding(crate::specs::Replies::reply_text))]
@@ -64,6 +67,21 @@ fn put_keys(count: u64, lines: &KeyLines, out: &mut Vec<u8>) -> Result<(), Memor
 {
     use Piece::{Decimal, Text};
     put_headed(&[Text(b"keys "), Decimal(count), Text(b"\n")], lines, out)
+}
+
+#[tactic(auto, unfolding(crate::specs::Replies::reply_text))]
+fn put_missed(
+    sum: u32,
+    claims: &ClaimLines,
+    labels: &LabelLines,
+    out: &mut Vec<u8>,
+) -> Result<(), Memory>
+    ensures { Appends (reply_text (Reply.Missed sum claims.now labels.now)) out.old out.new result }
+{
+    use Piece::{Decimal, Text};
+    let sum = Decimal(u64::from(sum));
+    let head = [Text(b"absence missed "), sum, Text(b"\n"), Text(b"claim ")];
+    put_claimed(&head, claims, labels, &[Text(b"\n")], out)
 }
 
 fn put_refused(word: &[u8], out: &mut Vec<u8>) -> Result<(), Memory>
@@ -177,6 +195,17 @@ fn put_reply(reply: &Reply, out: &mut Vec<u8>) -> Result<(), Memory>
                 out,
             )
         }
+        Reply::Reached(sum) => {
+            let sum = Decimal(u64::from(*sum));
+            put_pieces(&[Text(b"absence reached "), sum, Text(b"\n")], out)
+        }
+        Reply::Missed(sum, claims, labels) => put_missed(*sum, claims, labels, out),
+        Reply::CheckedYes(sum) => {
+            let sum = Decimal(u64::from(*sum));
+            put_pieces(&[Text(b"checked yes "), sum, Text(b"\n")], out)
+        }
+        Reply::CheckedNoPaths => put_pieces(&[Text(b"checked no paths\n")], out),
+        Reply::CheckedNoTable => put_pieces(&[Text(b"checked no table\n")], out),
         Reply::Shelf => put_pieces(&[Text(b"fault shelf\n")], out),
         _ => put_refusal(reply, out),
     }

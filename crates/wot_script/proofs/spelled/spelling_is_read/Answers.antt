@@ -3,11 +3,15 @@ use Rattle.wot_types.specs.Fpr.{digits_of, octets_of}
 use Rattle.wot_types.specs.SigNumber.{number_digits}
 use Rattle.std.specs.Fmt.{decimal}
 use Rattle.hex.specs.Hex.{encode_lower}
-use Rattle.wot_script.specs.Spelling.{entry_text, spelling}
+use Rattle.wot_script.specs.Claims.{IsClaimSpelled, claim_text, field_text, label_text}
+use Rattle.wot_script.proofs.ClaimTexts.{claims_field, labels_field}
+use Rattle.wot_script.specs.Spelling.{entry_text, question_parts, spelling}
+use Rattle.wot_script.specs.Texts.{joined}
+use Rattle.wot_script.specs.declared.read.Question.{Question}
 use Rattle.wot_script.specs.Uid.{escaped}
-use Rattle.wot_script.proofs.Spaceless.{spaceless_decimal, spaceless_digits}
-use Rattle.wot_script.proofs.Readings.{ask_reads, bad_reads, close_reads, drop_reads, dump_reads, explain_reads, export_reads, good_reads, import_reads, keys_reads, list_reads, load_reads, none_reads, pending_reads, root_reads, time_reads}
-use Rattle.wot_script.proofs.OneLine.{ask_line, bad_line, close_line, dump_line, explain_line, export_line, fpr_digits, good_line, import_line, keys_line, list_line, load_line, name_is, number_digits_are, numeral, pending_line, remove_line, root_line, time_line, unjudge_line}
+use Rattle.wot_script.proofs.Spaceless.{spaceless_digits}
+use Rattle.wot_script.proofs.Readings.{absence_reads, ask_reads, bad_reads, check_reads, close_reads, drop_reads, dump_reads, explain_reads, export_reads, good_reads, import_reads, keys_reads, list_reads, load_reads, none_reads, pending_reads, question, root_reads, time_reads}
+use Rattle.wot_script.proofs.OneLine.{absence_line, ask_line, bad_line, check_line, close_line, dump_line, explain_line, export_line, fpr_digits, good_line, import_line, keys_line, list_line, load_line, name_is, number_digits_are, numeral, pending_line, remove_line, root_line, time_line, unjudge_line}
 use Rattle.wot_script.proofs.spelled.spelling_is_read.Goals as goal
 
 pub returns-in-Import : goal.returns-in-Import
@@ -75,22 +79,24 @@ returns-in-Close c = rw c.in-Close.is (record {
 
 pub returns-in-Ask : goal.returns-in-Ask
 unfolding spelling
-returns-in-Ask c = rw c.in-Ask.is (record {
-  read = ask_reads c.in-Ask.view (digits_of c.in-Ask.fpr) (decimal c.in-Ask.wanted) (escaped c.in-Ask.uid) c.in-Ask.uid c.in-Ask.fpr c.in-Ask.wanted c.octets-name-in-Ask.ensures.name (spaceless_digits (octets_of c.in-Ask.fpr)) c.printed_is_read-in-Ask.ensures.read_back (spaceless_decimal c.in-Ask.wanted c.positive_is_read.ensures.small) c.positive_is_read.ensures.read (rw c.octets.ensures.whole at c.uid_is_read.ensures);
-  line = ask_line c.in-Ask.view c.in-Ask.fpr c.in-Ask.wanted c.in-Ask.uid (digits_of c.in-Ask.fpr) (decimal c.in-Ask.wanted) (name_is c.in-Ask.view c.octets-name-in-Ask.ensures.name) (fpr_digits c.in-Ask.fpr c.printed_is_read-in-Ask.ensures.read_back) (numeral c.in-Ask.wanted (omega arith));
-})
+returns-in-Ask c =
+    let q : Question = question c.in-Ask.fpr c.in-Ask.wanted c.in-Ask.uid in
+    rw c.in-Ask.is (record {
+      read = ask_reads c.in-Ask.view (joined (question_parts c.in-Ask.fpr c.in-Ask.wanted c.in-Ask.uid)) q c.octets-name-in-Ask.ensures.name c.question_is_read.ensures.read;
+      line = ask_line c.in-Ask.view c.in-Ask.fpr c.in-Ask.wanted c.in-Ask.uid (digits_of c.in-Ask.fpr) (decimal c.in-Ask.wanted) (name_is c.in-Ask.view c.octets-name-in-Ask.ensures.name) (fpr_digits c.in-Ask.fpr c.question_is_read.ensures.digits) (numeral c.in-Ask.wanted (omega arith));
+    })
 
 pub returns-in-List : goal.returns-in-List
 unfolding spelling
 returns-in-List c = rw c.in-List.is (record {
-  read = list_reads c.in-List.view (decimal c.in-List.wanted) c.in-List.wanted c.octets-name-in-List.ensures.name c.positive_is_read-in-List.ensures.read;
+  read = list_reads c.in-List.view (decimal c.in-List.wanted) c.in-List.wanted c.octets-name-in-List.ensures.name c.positive_is_read.ensures.read;
   line = list_line c.in-List.view c.in-List.wanted (decimal c.in-List.wanted) (name_is c.in-List.view c.octets-name-in-List.ensures.name) (numeral c.in-List.wanted (omega arith));
 })
 
 pub returns-in-Explain : goal.returns-in-Explain
 unfolding spelling
 returns-in-Explain c = rw c.in-Explain.is (record {
-  read = explain_reads c.in-Explain.view (digits_of c.in-Explain.fpr) (escaped c.in-Explain.uid) c.in-Explain.uid c.in-Explain.fpr c.octets-name-in-Explain.ensures.name (spaceless_digits (octets_of c.in-Explain.fpr)) c.printed_is_read-in-Explain.ensures.read_back (rw c.octets-in-Explain.ensures.whole at c.uid_is_read-in-Explain.ensures);
+  read = explain_reads c.in-Explain.view (digits_of c.in-Explain.fpr) (escaped c.in-Explain.uid) c.in-Explain.uid c.in-Explain.fpr c.octets-name-in-Explain.ensures.name (spaceless_digits (octets_of c.in-Explain.fpr)) c.printed_is_read-in-Explain.ensures.read_back (rw c.octets.ensures.whole at c.uid_is_read.ensures);
   line = explain_line c.in-Explain.view c.in-Explain.fpr c.in-Explain.uid (digits_of c.in-Explain.fpr) (name_is c.in-Explain.view c.octets-name-in-Explain.ensures.name) (fpr_digits c.in-Explain.fpr c.printed_is_read-in-Explain.ensures.read_back);
 })
 
@@ -121,3 +127,23 @@ returns-in-Dump c = rw c.in-Dump.is (record {
   read = dump_reads;
   line = dump_line;
 })
+
+pub returns-in-Absence : goal.returns-in-Absence
+unfolding spelling
+returns-in-Absence c =
+    let q : Question = question c.in-Absence.fpr c.in-Absence.wanted c.in-Absence.uid in
+    rw c.in-Absence.is (record {
+      read = absence_reads c.in-Absence.view (joined (question_parts c.in-Absence.fpr c.in-Absence.wanted c.in-Absence.uid)) q c.octets-name-in-Absence.ensures.name c.question_is_read-in-Absence.ensures.read;
+      line = absence_line c.in-Absence.view c.in-Absence.fpr c.in-Absence.wanted c.in-Absence.uid (digits_of c.in-Absence.fpr) (decimal c.in-Absence.wanted) (name_is c.in-Absence.view c.octets-name-in-Absence.ensures.name) (fpr_digits c.in-Absence.fpr c.question_is_read-in-Absence.ensures.digits) (numeral c.in-Absence.wanted (omega arith));
+    })
+
+pub returns-in-Check : goal.returns-in-Check
+unfolding spelling
+returns-in-Check c =
+    let spelled : IsClaimSpelled c.in-Check.claims c.in-Check.labels = rw c.in-Check.is at c.requires in
+    let claims = claims_field c.in-Check.claims (rw c.items-in-Check.ensures.whole at c.claims_are_read.ensures) in
+    let labels = labels_field c.in-Check.labels (rw c.items-in-Check-2.ensures.whole at c.labels_are_read.ensures) spelled.rise in
+    rw c.in-Check.is (record {
+      read = check_reads c.in-Check.view (digits_of c.in-Check.fpr) (field_text claim_text c.in-Check.claims) (field_text label_text c.in-Check.labels) (escaped c.in-Check.uid) c.in-Check.uid c.in-Check.fpr c.in-Check.claims c.in-Check.labels c.octets-name-in-Check.ensures.name (spaceless_digits (octets_of c.in-Check.fpr)) c.printed_is_read-in-Check.ensures.read_back claims.free claims.back labels.free labels.back (rw c.octets-in-Check.ensures.whole at c.uid_is_read-in-Check.ensures);
+      line = check_line c.in-Check.view c.in-Check.fpr c.in-Check.claims c.in-Check.labels c.in-Check.uid (digits_of c.in-Check.fpr) (field_text claim_text c.in-Check.claims) (field_text label_text c.in-Check.labels) (name_is c.in-Check.view c.octets-name-in-Check.ensures.name) (fpr_digits c.in-Check.fpr c.printed_is_read-in-Check.ensures.read_back) claims.line claims.size labels.line labels.size;
+    })

@@ -1,0 +1,43 @@
+//! Laws of the definitions. Each function does nothing: its contract is the law.
+ghost use Rattle.std.specs.Prelude.{◌≡◌, ◌≤◌, ◌<◌, ◌^◌, List, [], length};
+ghost use Rattle.wot_edge.specs.declared.path.Path.{Path};
+ghost use Rattle.wot_edge.specs.Answer.{EachNext};
+ghost use Rattle.wot_edge.specs.Path.{Question, Use};
+ghost use Rattle.wot_edge.specs.Record.{IsRecord};
+ghost use Rattle.wot_edge.specs.Roots.{IsRoots};
+ghost use Rattle.wot_check.specs.declared.checking.Checked.{Checked};
+ghost use Rattle.wot_check.specs.Absence.{Accepts, AreSpent, IsChecked, IsLeastTable};
+ghost use Rattle.wot_check.specs.Claim.{Claim};
+ghost use Rattle.wot_check.specs.Table.{IsTable, Labels};
+
+use wot_edge::laws::paths_fit;
+
+/// After whatever is used there is a least table, and only one.
+pub fn least_table_is_one()
+    ensures some { (q : Question) (used : Use) → (table : Labels) × IsTable table × IsLeastTable q used table }
+    ensures one { (q : Question) (used : Use) (a b : Labels) → IsTable a → IsTable b
+        → IsLeastTable q used a → IsLeastTable q used b → a ≡ b }
+{}
+
+/// Each check of claims and a table comes to something, and only to one thing.
+pub fn check_is_one()
+    ensures some { (q : Question) (claims : List Claim) (table : Labels) → IsTable table
+        → (checked : Checked) × IsChecked q claims table checked }
+    ensures one { (q : Question) (claims : List Claim) (table : Labels) (a b : Checked) → IsRecord q.told
+        → IsChecked q claims table a → IsChecked q claims table b → a ≡ b }
+{}
+
+/// The paths of an answer are fewer than `absence` and `check` take: each has an amount, and together they have no more
+/// than 64 roots of 255.
+pub fn answers_are_few()
+    ensures few { (q : Question) (paths : List Path) → EachNext q [] paths → IsRoots q.roots → length q.roots ≤ 64
+        → length paths < 2 ^ 24 }
+{
+    paths_fit();
+}
+
+/// After paths that are accepted with a table no valid path of positive amount is left.
+pub fn accepted_paths_leave_nothing()
+    ensures spent { (q : Question) (claims : List Claim) (table : Labels) → IsRecord q.told → Accepts q claims table
+        → AreSpent q claims }
+{}
