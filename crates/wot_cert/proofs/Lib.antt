@@ -29,3 +29,5 @@ pub mod Alike
 pub mod Uniting
 pub mod Unchanged
 pub mod Assemblies
+pub mod Follows
+pub mod NewTotals

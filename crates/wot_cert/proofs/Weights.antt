@@ -100,13 +100,13 @@ module _ {A : Type 0} (R : A → A → Ordering) (both : A → A → A) (only : 
       ]
 
 module _ (sig : Signature → ℕ) (own : Component → ℕ) (rows : PolicyRows) (sig_as : (s : Signature) → sig (judged_sig rows s) ≡ sig s) (own_as : (old : List Signature) (p : Component) → own (judged_part rows old p) ≡ own p) where
-  sigs_weight : (ys old : List Signature) → sum_of sig (judged_sigs rows ys old) ≡ sum_of sig ys
+  pub sigs_weight : (ys old : List Signature) → sum_of sig (judged_sigs rows ys old) ≡ sum_of sig ys
   sigs_weight = marked_sum sig_cmp stays (judged_sig rows) sig (λ x y. refl) sig_as
 
   part_as : (old : List Signature) (p : Component) → part_weight sig own (judged_part rows old p) ≡ part_weight sig own p
   part_as old p = λ i. own_as old p i + sigs_weight p.sigs old i
 
-  parts_weight : (ys old : List Component) → sum_of (part_weight sig own) (judged_parts rows ys old) ≡ sum_of (part_weight sig own) ys
+  pub parts_weight : (ys old : List Component) → sum_of (part_weight sig own) (judged_parts rows ys old) ≡ sum_of (part_weight sig own) ys
   parts_weight = marked_sum part_cmp (λ (old : Component) (new : Component). judged_part rows old.sigs new) (judged_part rows []) (part_weight sig own) (λ x y. part_as x.sigs y) (part_as [])
 
   pub beside_weight : (old c : Certificate) → weight_of sig own (judged_beside rows old c) ≡ weight_of sig own c

@@ -22,3 +22,4 @@ pub mod Fitting
 pub mod Sizes
 pub mod Drafting
 pub mod ReadBack
+pub mod Totals

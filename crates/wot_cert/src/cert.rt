@@ -8,6 +8,7 @@ ghost use Rattle.wot_cert.specs.Certificate.{unite, unmarked, with_each, on_key,
 ghost use Rattle.wot_cert.specs.Copied.{copied};
 ghost use Rattle.wot_cert.specs.Counts.{items_of, signatures_of};
 ghost use Rattle.wot_cert.specs.Judged.{judged, IsJudged, sound_of};
+ghost use Rattle.wot_cert.specs.Parts.{IsCertOf, of_places};
 ghost use Rattle.wot_cert.specs.New.{judged_beside, sound_beside};
 ghost use Rattle.wot_cert.specs.ReadBack.{ReadBack};
 ghost use Rattle.wot_cert.specs.Text.{size_of, text_of};
@@ -17,13 +18,13 @@ ghost use Rattle.std.specs.Prelude.{false, []};
 
 use crate::adds::added;
 use crate::complete::{ON_ATTRIBUTE, ON_KEY, ON_SUBKEY, ON_USER_ID, parts_with, sigs_with};
-use crate::count::{items, signatures};
 use crate::draft::Draft;
 use crate::export::{append_cert, reads_back};
 use crate::judge::{judge_new, judge_new_parts};
+use crate::measure::totals_of;
 use crate::part::{copy_parts, union_parts};
+use crate::places::Places;
 use crate::sig::{Marks, copy_sigs, union_sigs};
-use crate::sizes::cert_octets;
 use crate::{Adds, MergeFault, Part, Sig};
 use std::alloc::Global;
 use std::marker::Model;
@@ -38,22 +39,20 @@ pub struct Cert {
     body: Vec<u8>,
     key: Key,
     fpr: Fpr,
-    direct: Vec<Sig>,
-    user_ids: Vec<Part>,
-    attributes: Vec<Part>,
-    subkeys: Vec<Part>,
+    places: Places,
+    totals: Adds,
 }
 
 impl Model for Cert {
     ghost use Rattle.wot_cert.specs.Certificate.{Certificate};
-    ghost use Rattle.wot_cert.specs.Parts.{IsCertOf, of_parts};
+    ghost use Rattle.wot_cert.specs.Parts.{IsCertOf, of_places};
+    ghost use Rattle.wot_cert.specs.Totals.{AreTotals};
 
     ghost Value = { Certificate };
 
-    ghost view = { λ a. of_parts a.body.items a.direct.items a.user_ids.items a.attributes.items a.subkeys.items };
+    ghost view = { λ a. of_places a.body.items a.places };
 
-    ghost invariant = { λ a. IsCertOf a.key a.fpr
-        (of_parts a.body.items a.direct.items a.user_ids.items a.attributes.items a.subkeys.items) };
+    ghost invariant = { λ a. IsCertOf a.key a.fpr (of_places a.body.items a.places) × AreTotals a.totals (of_places a.body.items a.places) };
 }
 
 impl Cert {
@@ -69,15 +68,13 @@ impl Cert {
             return Ok(None);
         };
         let body = Vec::from_slice(alloc, body)?;
-        Ok(Some(Cert {
-            body,
-            key,
-            fpr,
+        let places = Places {
             direct: Vec::new(alloc),
             user_ids: Vec::new(alloc),
             attributes: Vec::new(alloc),
             subkeys: Vec::new(alloc),
-        }))
+        };
+        Ok(Some(Cert::whole(body, key, fpr, places)))
     }
 
     /// The certificate with this key and what the packets behind it drafted; `None` exactly where the key isn't
@@ -98,15 +95,34 @@ impl Cert {
         let attributes = parts_with(alloc, body, ON_ATTRIBUTE, &draft.attributes)?;
         let subkeys = parts_with(alloc, body, ON_SUBKEY, &draft.subkeys)?;
         let body = Vec::from_slice(alloc, body)?;
-        Ok(Some(Cert {
-            body,
-            key,
-            fpr,
+        let places = Places {
             direct,
             user_ids,
             attributes,
             subkeys,
-        }))
+        };
+        Ok(Some(Cert::whole(body, key, fpr, places)))
+    }
+
+    /// The certificate of these parts, its totals counted.
+    fn whole(body: Vec<u8>, key: Key, fpr: Fpr, places: Places) -> Cert
+        requires { IsCertOf key fpr (of_places body.items places) }
+        ensures { result ≡ of_places body.items places }
+    {
+        let totals = totals_of(
+            &body,
+            &places.direct,
+            &places.user_ids,
+            &places.attributes,
+            &places.subkeys,
+        );
+        Cert {
+            body,
+            key,
+            fpr,
+            places,
+            totals,
+        }
     }
 
     /// The fingerprint of its key.
@@ -136,7 +152,14 @@ impl Cert {
     pub fn size(&self) -> u64
         ensures size { result ≡ min (size_of self.now) (2 ^ 64 - 1) }
     {
-        cert_octets(self)
+        self.totals.octets
+    }
+
+    /// How many keys, components and signatures it has, or `u64::MAX` where it has more.
+    pub(crate) fn items(&self) -> u64
+        ensures items { result ≡ min (items_of self.now) (2 ^ 64 - 1) }
+    {
+        self.totals.items
     }
 
     /// How many signatures it has.
@@ -144,7 +167,7 @@ impl Cert {
         requires { size_of self.now < 2 ^ 63 }
         ensures signatures { result ≡ signatures_of self.now }
     {
-        signatures(self)
+        self.totals.signatures
     }
 
     /// The signatures on the key itself.
@@ -152,7 +175,7 @@ impl Cert {
         ensures direct { result.now ≡ self.now.direct }
         ensures set { AreSigsAt self.now.key on_key [] self.now.direct }
     {
-        &self.direct
+        &self.places.direct
     }
 
     /// The user IDs.
@@ -160,7 +183,7 @@ impl Cert {
         ensures user_ids { result.now ≡ self.now.user_ids }
         ensures set { ArePartsOf self.now.key on_user_id self.now.user_ids }
     {
-        &self.user_ids
+        &self.places.user_ids
     }
 
     /// The user attributes.
@@ -168,7 +191,7 @@ impl Cert {
         ensures attributes { result.now ≡ self.now.attributes }
         ensures set { ArePartsOf self.now.key on_attribute self.now.attributes }
     {
-        &self.attributes
+        &self.places.attributes
     }
 
     /// The subkeys.
@@ -176,7 +199,7 @@ impl Cert {
         ensures subkeys { result.now ≡ self.now.subkeys }
         ensures set { ArePartsOf self.now.key on_subkey self.now.subkeys }
     {
-        &self.subkeys
+        &self.places.subkeys
     }
 
     /// An equal certificate, its marks included.
@@ -190,19 +213,17 @@ impl Cert {
         ensures { IfOk result (λ c. c ≡ with_each (copied marks) self.now) }
     {
         let body = Vec::from_slice(alloc, &self.body)?;
-        let direct = copy_sigs(alloc, &self.direct, marks)?;
-        let user_ids = copy_parts(alloc, &self.user_ids, marks)?;
-        let attributes = copy_parts(alloc, &self.attributes, marks)?;
-        let subkeys = copy_parts(alloc, &self.subkeys, marks)?;
-        Ok(Cert {
-            body,
-            key: self.key,
-            fpr: self.fpr,
+        let direct = copy_sigs(alloc, &self.places.direct, marks)?;
+        let user_ids = copy_parts(alloc, &self.places.user_ids, marks)?;
+        let attributes = copy_parts(alloc, &self.places.attributes, marks)?;
+        let subkeys = copy_parts(alloc, &self.places.subkeys, marks)?;
+        let places = Places {
             direct,
             user_ids,
             attributes,
             subkeys,
-        })
+        };
+        Ok(Cert::whole(body, self.key, self.fpr, places))
     }
 
     /// The union with a certificate of the same key, as a new one.
@@ -211,19 +232,17 @@ impl Cert {
         ensures { IfOk result (λ c. c ≡ unite self.now other.now) }
     {
         let body = Vec::from_slice(alloc, &self.body)?;
-        let direct = union_sigs(alloc, &self.direct, &other.direct)?;
-        let user_ids = union_parts(alloc, &self.user_ids, &other.user_ids)?;
-        let attributes = union_parts(alloc, &self.attributes, &other.attributes)?;
-        let subkeys = union_parts(alloc, &self.subkeys, &other.subkeys)?;
-        Ok(Cert {
-            body,
-            key: self.key,
-            fpr: self.fpr,
+        let direct = union_sigs(alloc, &self.places.direct, &other.places.direct)?;
+        let user_ids = union_parts(alloc, &self.places.user_ids, &other.places.user_ids)?;
+        let attributes = union_parts(alloc, &self.places.attributes, &other.places.attributes)?;
+        let subkeys = union_parts(alloc, &self.places.subkeys, &other.places.subkeys)?;
+        let places = Places {
             direct,
             user_ids,
             attributes,
             subkeys,
-        })
+        };
+        Ok(Cert::whole(body, self.key, self.fpr, places))
     }
 
     /// Judges those of its signatures that the old certificate doesn't have.
@@ -233,10 +252,10 @@ impl Cert {
         ensures asked { (k : ℕ) × (policy.new ≡ asked_more k policy.old) × (k ≡ sound_beside old.now self.old) }
         ensures faithful { IsFaithful F.Fn policy.new }
     {
-        judge_new(&mut self.direct, &old.direct, policy);
-        judge_new_parts(&mut self.user_ids, &old.user_ids, policy);
-        judge_new_parts(&mut self.attributes, &old.attributes, policy);
-        judge_new_parts(&mut self.subkeys, &old.subkeys, policy);
+        judge_new(&mut self.places.direct, &old.places.direct, policy);
+        judge_new_parts(&mut self.places.user_ids, &old.places.user_ids, policy);
+        judge_new_parts(&mut self.places.attributes, &old.places.attributes, policy);
+        judge_new_parts(&mut self.places.subkeys, &old.places.subkeys, policy);
     }
 
     /// The union with a certificate of the same key, judged, as a new one.
@@ -321,7 +340,7 @@ impl Cert {
         }
         match self.merged(alloc, other, policy) {
             Ok(union) => {
-                let added = items(&union) - items(self);
+                let added = union.items() - self.items();
                 *self = union;
                 Ok(added)
             }

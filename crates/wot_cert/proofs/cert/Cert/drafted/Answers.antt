@@ -2,8 +2,8 @@ use Rattle.wot_cert.specs.Drafting.{seen}
 use Rattle.wot_cert.proofs.Completing.{made-whole}
 use Rattle.wot_cert.proofs.cert.Cert.drafted.Goals as goal
 
-pub invariant_of-result : goal.invariant_of-result
-invariant_of-result c =
+pub whole-requires : goal.whole-requires
+whole-requires c =
     made-whole c.in-Some.key c.in-Some-fingerprint.fpr c.args.body.now (seen c.args.draft.now) c.in_ok-body.body.items c.in_ok-direct.direct.items c.in_ok-user_ids.user_ids.items c.in_ok-attributes.attributes.items c.in_ok-subkeys.subkeys.items
     (record {
       key_is = c.in-Some.ensures.read;

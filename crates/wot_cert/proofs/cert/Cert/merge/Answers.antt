@@ -1,6 +1,6 @@
 use Rattle.std.proofs.Common.{◌+◌, ◌<◌, ◌^◌, refl, sym, ap, ◌∙◌, subst, arith}
 use Rattle.wot_policy.specs.Kept.{rows_of}
-use Rattle.wot_cert.specs.Certificate.{Certificate, unite}
+use Rattle.wot_cert.specs.Certificate.{unite}
 use Rattle.wot_cert.specs.Counts.{items_of}
 use Rattle.wot_cert.specs.Judged.{IsJudged, sound_of, if_sound}
 use Rattle.wot_cert.proofs.Merging.{merged, merged_sound, merged_judged}
@@ -8,22 +8,13 @@ use Rattle.wot_cert.proofs.TextSize.{union_items, first_items, more_items}
 use Rattle.wot_cert.proofs.Weights.{beside_weight}
 use Rattle.wot_cert.proofs.cert.Cert.merge.Goals as goal
 
-few : Certificate → Type 0
-few c = items_of c < 2 ^ 63
-
-pub items-requires : goal.items-requires
-unfolding few
-items-requires g c =
-    subst few (sym c.in-Ok.ensures.union) (union_items (rows_of c.args.policy.now) c.args.self.now c.args.other.now c.requires.sizes)
-
-pub items-requires-in-Ok : goal.items-requires-in-Ok
-items-requires-in-Ok g c = first_items c.args.self.now c.args.other.now c.requires.sizes
-
 pub overflow_sub-added : goal.overflow_sub-added
 overflow_sub-added g c =
     let e = ap items_of c.in-Ok.ensures.union in
     let m = more_items (rows_of c.args.policy.now) c.args.self.now c.args.other.now in
-    omega (arith, e, m, c.items.ensures, c.items-in-Ok.ensures)
+    let u = union_items (rows_of c.args.policy.now) c.args.self.now c.args.other.now c.requires.sizes in
+    let f = first_items c.args.self.now c.args.other.now c.requires.sizes in
+    omega (arith, e, m, u, f, c.items.ensures.items, c.items-in-Ok.ensures.items)
 
 pub returns-in-Ok-clause-union : goal.returns-in-Ok-clause-union
 returns-in-Ok-clause-union g c =
@@ -38,7 +29,9 @@ pub returns-in-Ok-clause-items : goal.returns-in-Ok-clause-items
 returns-in-Ok-clause-items g c =
     let e = ap items_of c.in-Ok.ensures.union in
     let m = more_items (rows_of c.args.policy.now) c.args.self.now c.args.other.now in
-    omega (arith, e, m, c.items.ensures, c.items-in-Ok.ensures)
+    let u = union_items (rows_of c.args.policy.now) c.args.self.now c.args.other.now c.requires.sizes in
+    let f = first_items c.args.self.now c.args.other.now c.requires.sizes in
+    omega (arith, e, m, u, f, c.items.ensures.items, c.items-in-Ok.ensures.items)
 
 pub returns-in-Ok-clause-asked : goal.returns-in-Ok-clause-asked
 returns-in-Ok-clause-asked g c =

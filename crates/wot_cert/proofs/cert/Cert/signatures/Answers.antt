@@ -1,5 +1,12 @@
+use Rattle.std.proofs.Common.{ap, ◌∙◌}
+use Rattle.wot_cert.specs.Certificate.{Certificate}
+use Rattle.wot_cert.specs.Counts.{signatures_of}
+use Rattle.wot_cert.specs.Totals.{cap}
+use Rattle.wot_cert.proofs.Follows.{uncapped}
 use Rattle.wot_cert.proofs.Totals.{few_signatures}
 use Rattle.wot_cert.proofs.cert.Cert.signatures.Goals as goal
 
-pub signatures-requires : goal.signatures-requires
-signatures-requires c = few_signatures c.args.self.now c.requires
+pub returns : goal.returns
+returns c = record {
+  signatures = c.self.invariant.1.signatures ∙ ap (λ (x : Certificate). cap (signatures_of x)) c.self.view_is ∙ uncapped _ (few_signatures c.args.self.now c.requires);
+}

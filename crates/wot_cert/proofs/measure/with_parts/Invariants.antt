@@ -1,15 +1,14 @@
 use Rattle.std.proofs.Common.{length}
 use Rattle.std.specs.List.{AllByRecursion}
-use Rattle.wot_cert.specs.Counts.{sum_of}
 use Rattle.wot_cert.specs.Fitting.{PartFits}
-use Rattle.wot_cert.specs.Sizes.{part_size}
-use Rattle.wot_cert.proofs.Capped.{Counted}
-use Rattle.wot_cert.proofs.sizes.parts_capped.Given as goal
+use Rattle.wot_cert.specs.Sizes.{part_items, part_signatures, part_size}
+use Rattle.wot_cert.proofs.Follows.{Before}
+use Rattle.wot_cert.proofs.measure.with_parts.Given as goal
 
 abbrev pub invariant-rest : goal.invariant-rest
 invariant-rest l = record {
   fit : AllByRecursion PartFits l.rest;
-  counted : Counted l.octets (sum_of part_size l.rest) (sum_of part_size l.parts);
+  before : Before part_items part_signatures part_size l.initial.sum l.sum l.parts l.rest;
 }
 
 abbrev pub decreases-rest : goal.decreases-rest
