@@ -11,9 +11,9 @@ use wot_policy::{Policy, admits, standard_rows};
 
 /// What came of a run: the status, what was written, and how much of the input is left (up to 64 octets).
 #[derive(Drop)]
-struct Outcome {
-    status: u8,
-    written: Vec<u8>,
+pub(crate) struct Outcome {
+    pub(crate) status: u8,
+    pub(crate) written: Vec<u8>,
     left: usize,
 }
 
@@ -65,7 +65,7 @@ fn left_in(input: &mut MemorySource) -> usize {
 }
 
 /// Runs a script over memory, with reads and writes that fail in the calls with these numbers.
-fn outcome_of(
+pub(crate) fn outcome_of(
     alloc: Global,
     words: &[&str],
     script: &[u8],

@@ -15,3 +15,5 @@ mod keyring;
 mod layers;
 #[cfg(test)]
 mod shelf;
+#[cfg(test)]
+mod version_6;
