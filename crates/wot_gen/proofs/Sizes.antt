@@ -143,7 +143,7 @@ packets_fit (one ∷ made) all =
     ∙ length-append one.packet (flat_map (λ (one : Certification). one.packet) made) in
     omega (arith, others, first, both)
 
-verdicts_fit : (made : List Certification) → room (map (λ (one : Certification). Good one.number one.issuer) made) ≡ 129 * length made
+verdicts_fit : (made : List Certification) → room (map (λ (one : Certification). Good one.number one.issuer) made) ≡ 143 * length made
 verdicts_fit [] = omega arith
 verdicts_fit (one ∷ made) =
     let before = verdicts_fit made in

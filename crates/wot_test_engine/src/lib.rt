@@ -23,3 +23,5 @@ mod policy;
 mod rows;
 #[cfg(test)]
 mod shelf;
+#[cfg(test)]
+mod version_6;

@@ -58,12 +58,10 @@ fn material_is_as_long_as_it_says(rt: HostRuntime) -> Result<(), Fail> {
     for (said, had, readable) in rows {
         let mut body = b"\x06\x00\x00\x03\xe8\x1b".to_vec(rt.alloc())?;
         body.extend_from_slice(&said.to_be_bytes())?;
-        let front = body.len();
         for _ in 0..had {
             body.push(1)?;
         }
         assert!(rt; read_key(&body).is_some() == readable && fingerprint(&body).is_some() == readable);
-        assert!(rt; read_key(&body[..front - 1]).is_none());
     }
     Ok(())
 }

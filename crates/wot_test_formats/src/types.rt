@@ -37,11 +37,16 @@ fn version_6_fingerprints_are_read_and_printed(rt: HostRuntime) -> Result<(), Fa
     assert!(rt; out.as_slice() == b"cb186c4f0609a697e4d52dfa6c722b0c1f1e27c18a56708f6525ec27bad9acc9");
     assert!(rt; Fpr::read(&out) == Some(fpr));
     fpr.printed_is_read();
-    for size in [0, 1, 38, 39, 41, 42, 62, 63] {
-        assert!(rt; Fpr::read(&out[..size]).is_none());
+    let others: [&[u8]; 5] = [
+        b"",
+        b"cb186c4f0609a697e4d52dfa6c722b0c1f1e27c18",
+        b"cb186c4f0609a697e4d52dfa6c722b0c1f1e27c18a56708f6525ec27bad9acc",
+        b"cb186c4f0609a697e4d52dfa6c722b0c1f1e27c18a56708f6525ec27bad9accg",
+        b"cb186c4f0609a697e4d52dfa6c722b0c1f1e27c18a56708f6525ec27bad9acc90",
+    ];
+    for text in others {
+        assert!(rt; Fpr::read(text).is_none());
     }
-    out.push(b'0')?;
-    assert!(rt; Fpr::read(&out).is_none());
     Ok(())
 }
 

@@ -1,8 +1,11 @@
-use crate::signature::bodies::{PLAIN, assert_facts};
+use crate::signature::bodies::{PLAIN, assert_facts, certification};
 use std::alloc::{AllocError, Global};
 use std::test::Fail;
-use wot_signature::{SigFacts, hint, read_signature, scopes};
+use wot_signature::{SigFacts, hint, read_signature};
 use wot_types::Fpr;
+
+/// The subpacket of a creation time, 1000.
+const MADE_1000: &[u8; 6] = b"\x05\x02\x00\x00\x03\xe8";
 
 /// A direct key signature made at 1000, without issuer, salt and material.
 const DIRECT: &[u8; 23] = b"\x06\x1f\x1b\x08\x00\x00\x00\x06\x05\x02\x00\x00\x03\xe8\x00\x00\x00\x00\x00\x00\x02\xaa\xbb";
@@ -23,7 +26,8 @@ fn body_of(
 ) -> Result<Vec<u8>, AllocError> {
     let mut body = b"\x06\x1f\x1b\x08".to_vec(alloc)?;
     for area in [hashed, unhashed] {
-        body.extend_from_slice(&(area.len() as u32).to_be_bytes())?;
+        let size = u32::try_from(area.len()).unwrap_or(0);
+        body.extend_from_slice(&size.to_be_bytes())?;
         body.extend_from_slice(area)?;
     }
     body.extend_from_slice(&[0, 0])?;
@@ -31,36 +35,44 @@ fn body_of(
     Ok(body)
 }
 
+/// These octets, and so many others behind them.
+fn padded(alloc: Global, octets: &[u8], count: u32) -> Result<Vec<u8>, AllocError> {
+    let mut all = octets.to_vec(alloc)?;
+    for _ in 0..count {
+        all.push(7)?;
+    }
+    Ok(all)
+}
+
 #[test]
 fn a_body_has_all_its_parts(rt: HostRuntime) {
     assert_facts(&rt, DIRECT, Some(SAID));
-    for size in 0..DIRECT.len() {
+    for size in 0..23 {
         assert_facts(&rt, &DIRECT[..size], None);
     }
 }
 
-/// The salt is as long as it says, of whatever length, and the material behind it is any.
+/// The salt is as long as it says, of whatever length; what is behind it is material.
 #[test]
 fn the_salt_has_its_length(rt: HostRuntime) -> Result<(), Fail> {
     let alloc = rt.alloc();
-    let made = &DIRECT[8..14];
-    let mut salted = Vec::new(alloc);
-    salted.push(255)?;
-    for octet in 0..255u8 {
-        salted.push(octet)?;
-    }
-    for (rest, readable) in [
-        (&[0u8] as &[u8], true),
-        (&[], false),
-        (&[1], false),
-        (&[1, 9], true),
-        (&[0, 7, 7, 7], true),
-        (&salted, true),
-        (&salted[..255], false),
-    ] {
-        let body = body_of(alloc, made, &[], rest)?;
+    let rows = [
+        (0, 0, true),
+        (0, 3, true),
+        (1, 0, false),
+        (1, 1, true),
+        (32, 31, false),
+        (255, 254, false),
+        (255, 255, true),
+        (255, 256, true),
+    ];
+    for (said, had, readable) in rows {
+        let rest = padded(alloc, &[said], had)?;
+        let body = body_of(alloc, MADE_1000, &[], &rest)?;
         assert_facts(&rt, &body, if readable { Some(SAID) } else { None });
     }
+    let body = body_of(alloc, MADE_1000, &[], &[])?;
+    assert_facts(&rt, &body, None);
     Ok(())
 }
 
@@ -68,21 +80,29 @@ fn the_salt_has_its_length(rt: HostRuntime) -> Result<(), Fail> {
 #[test]
 fn areas_longer_than_a_version_4_area_can_be(rt: HostRuntime) -> Result<(), Fail> {
     let alloc = rt.alloc();
-    for size in [65_530u32, 65_536, 200_000] {
-        let mut area = b"\x05\x02\x00\x00\x03\xe8\xff".to_vec(alloc)?;
-        area.extend_from_slice(&(size + 1).to_be_bytes())?;
-        area.push(26)?;
-        for _ in 0..size {
-            area.push(b'x')?;
-        }
+    // A policy URI, whose length is spelled by four octets.
+    let rows: [(&[u8], u32); 3] = [
+        (b"\xff\x00\x00\xff\xff\x1a", 65_534),
+        (b"\xff\x00\x01\x00\x00\x1a", 65_535),
+        (b"\xff\x00\x03\x0d\x40\x1a", 199_999),
+    ];
+    for (front, count) in rows {
+        let mut area = padded(alloc, front, count)?;
+        area.extend_from_slice(MADE_1000)?;
         area.extend_from_slice(b"\x02\x06s\x09\x1001234567")?;
         let hashed = body_of(alloc, &area, &[], &[0])?;
-        assert_facts(&rt, &hashed, Some(SigFacts { scoped: true, ..SAID }));
-        assert!(rt; scopes(&hashed).count() == 1 && hint(&hashed) == Some(*b"01234567"));
-        let unhashed = body_of(alloc, &DIRECT[8..14], &area, &[0])?;
+        assert_facts(
+            &rt,
+            &hashed,
+            Some(SigFacts {
+                scoped: true,
+                ..SAID
+            }),
+        );
+        assert!(rt; hint(&hashed) == Some(*b"01234567"));
+        let unhashed = body_of(alloc, MADE_1000, &area, &[0])?;
         assert_facts(&rt, &unhashed, Some(SAID));
         assert!(rt; hint(&unhashed) == Some(*b"01234567"));
-        assert!(rt; read_signature(&hashed[..hashed.len() - 4]).is_none());
     }
     Ok(())
 }
@@ -91,25 +111,29 @@ fn areas_longer_than_a_version_4_area_can_be(rt: HostRuntime) -> Result<(), Fail
 #[test]
 fn an_issuer_of_version_6(rt: HostRuntime) -> Result<(), Fail> {
     let alloc = rt.alloc();
-    let rows: [(u8, usize, Option<Fpr>); 6] = [
-        (6, 32, Some(Fpr::V6([7; 32]))),
-        (4, 20, Some(Fpr::V4([7; 20]))),
-        (6, 31, None),
-        (6, 33, None),
-        (4, 32, None),
-        (5, 32, None),
+    let rows: [(&[u8; 3], u32, Option<Fpr>); 6] = [
+        (&[34, 33, 6], 32, Some(Fpr::V6([7; 32]))),
+        (&[22, 33, 4], 20, Some(Fpr::V4([7; 20]))),
+        (&[33, 33, 6], 31, None),
+        (&[35, 33, 6], 33, None),
+        (&[34, 33, 4], 32, None),
+        (&[34, 33, 5], 32, None),
     ];
-    for (version, size, issuer) in rows {
-        let mut area = DIRECT[8..14].to_vec(alloc)?;
-        area.extend_from_slice(&[size as u8 + 2, 33, version])?;
-        area.extend_from_slice(&[7u8; 33][..size])?;
+    for (front, count, issuer) in rows {
+        let mut area = padded(alloc, front, count)?;
+        area.extend_from_slice(MADE_1000)?;
         let body = body_of(alloc, &area, &[], &[0])?;
         assert_facts(&rt, &body, Some(SigFacts { issuer, ..SAID }));
-        let mut older = b"\x04\x1f\x1b\x08\x00".to_vec(alloc)?;
-        older.push(area.len() as u8)?;
-        older.extend_from_slice(&area)?;
-        older.extend_from_slice(&[0, 0, 0, 0])?;
-        assert_facts(&rt, &older, Some(SigFacts { issuer, ..SAID }));
+        let older = certification(alloc, &area, &[])?;
+        assert_facts(
+            &rt,
+            &older,
+            Some(SigFacts {
+                made: 1000,
+                issuer,
+                ..PLAIN
+            }),
+        );
     }
     Ok(())
 }
@@ -120,9 +144,9 @@ const SAMPLE: &[u8; 81] =
 
 #[test]
 fn the_sample_of_the_standard(rt: HostRuntime) -> Result<(), Fail> {
-    let mut body = SAMPLE.to_vec(rt.alloc())?;
-    assert!(rt; read_signature(&body).is_none());
-    body.extend_from_slice(&[1; 96])?;
+    assert!(rt; read_signature(SAMPLE).is_none());
+    // The salt, and the material.
+    let body = padded(rt.alloc(), SAMPLE, 96)?;
     let said = read_signature(&body).ok_or("readable")?;
     assert!(rt; said.sound && said.made == 1669824483 && said.kind == 0x1f && said.hash == 10);
     let issuer = Fpr::read(b"CB186C4F0609A697E4D52DFA6C722B0C1F1E27C18A56708F6525EC27BAD9ACC9");
