@@ -322,14 +322,30 @@ class Generator:
         name = self.keys[0].name if self.chance(0.4) else self.name()
         return self.words(b"view", view or self.pick(self.views), b"root", self.digits(name), amount)
 
-    def ask_line(self):
+    def ask_line(self, word=b"ask"):
         target = self.pick(self.keys)
         certified = [component for place, component, _, _ in target.signatures if place == USER_ID]
         user_ids = USER_IDS if self.chance(0.05) else certified if certified and self.chance(0.7) else target.user_ids
         wanted = self.pick([120, 120, 120, 1, 60, 240, 1000, 4294967295])
         name = target.name if self.chance(0.97) else self.name()
         view = b"p" if self.chance(0.6) else self.pick(self.views)
-        return self.words(b"ask", view, self.digits(name), wanted, self.written_user_id(self.pick(user_ids)))
+        return self.words(word, view, self.digits(name), wanted, self.written_user_id(self.pick(user_ids)))
+
+    def absence_line(self):
+        return self.ask_line(b"absence")
+
+    def check_line(self):
+        target = self.pick(self.keys)
+        view = b"p" if self.chance(0.8) else self.pick(self.views)
+        paths = b",".join(self.claimed_path() for _ in range(self.random.randrange(3))) or b"-"
+        labels = {self.name(): self.random.randrange(1, 4) for _ in range(self.random.randrange(4))}
+        table = b",".join(b"%s=%d" % (name.hex().encode(), label) for name, label in sorted(labels.items())) or b"-"
+        user_id = self.written_user_id(self.pick(target.user_ids))
+        return self.words(b"check", view, self.digits(target.name), paths, table, user_id)
+
+    def claimed_path(self):
+        steps = [b"%s.%d" % (self.digits(self.name()), self.random.randrange(2)) for _ in range(1 + self.random.randrange(3))]
+        return b"/".join([b"%d" % self.pick([120, 120, 60, 40, 1]), *steps])
 
     def list_line(self):
         view = b"p" if self.chance(0.6) else self.pick(self.views)
@@ -344,7 +360,7 @@ class Generator:
 
     def odd_line(self):
         """A line that is silent or malformed, or nearly so."""
-        asked = [self.ask_line, self.list_line, self.explain_line]
+        asked = [self.ask_line, self.list_line, self.explain_line, self.absence_line, self.check_line]
         line = self.pick([*asked, self.time_line, self.root_line, self.any_verdict_line, self.load_line, lambda: b"keys"])()
         at = self.random.randrange(len(line) + 1)
         return self.pick([
@@ -363,6 +379,8 @@ class Generator:
             (46, self.ask_line),
             (3, self.list_line),
             (12, self.explain_line),
+            (6, self.absence_line),
+            (4, self.check_line),
             (2, lambda: b"pending"),
             (14, self.time_line),
             (6, self.root_line),

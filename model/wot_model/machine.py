@@ -1,6 +1,6 @@
 """The plain machine: a state of certificates, verdicts and views, and what each command comes to."""
 
-from . import script
+from . import absence, script
 from .answers import Question, answer, next_path_by_layers
 from .certificates import CertificateFault, assemble
 from .edges import Network
@@ -205,6 +205,31 @@ def step_line(edge):
     return words("step", edge.issuer, edge.target, edge.depth, edge.amount, script.print_user_id(edge.user_id))
 
 
+def absence_(machine, name, fingerprint, wanted, user_id):
+    view = machine.view(name)
+    network = Network(machine.certificates, machine.verdicts, view.time)
+    question = Question(network, view.roots, fingerprint, user_id)
+    paths = answer(question, wanted, machine.next_path)
+    amount = sum(path.amount for path in paths)
+    if amount >= wanted:
+        return [words("absence reached", amount)]
+    claims = [absence.claim_of(network, path) for path in paths]
+    claim = words("claim", script.print_claims(claims), script.print_table(absence.least_table(question, paths)))
+    return [words("absence missed", amount), claim]
+
+
+def check(machine, name, fingerprint, claims, table, user_id):
+    view = machine.view(name)
+    network = Network(machine.certificates, machine.verdicts, view.time)
+    question = Question(network, view.roots, fingerprint, user_id)
+    paths = absence.claimed_paths(question, claims)
+    if paths is None:
+        return ["checked no paths"]
+    if not absence.shows_absence(question, paths, table):
+        return ["checked no table"]
+    return [words("checked yes", sum(path.amount for path in paths))]
+
+
 def list_(machine, name, wanted):
     view = machine.view(name)
     network = Network(machine.certificates, machine.verdicts, view.time)
@@ -290,6 +315,8 @@ COMMANDS = {
     "ask V FPR N UID": ask,
     "list V N": list_,
     "explain V FPR UID": explain,
+    "absence V FPR N UID": absence_,
+    "check V FPR PATHS TABLE UID": check,
     "pending": pending,
     "keys": keys,
     "export FPR": export,

@@ -93,6 +93,46 @@ def print_octet(octet):
     return chr(octet) if 0x20 <= octet <= 0x7E else f"\\x{octet:02x}"
 
 
+def read_claims(text):
+    return [] if text == b"-" else [read_claim(part) for part in text.split(b",")]
+
+
+def read_claim(text):
+    amount, *steps = text.split(b"/")
+    require(1 <= len(steps) <= 255)
+    return read_decimal(amount, 1, 255), [read_step(step) for step in steps]
+
+
+def read_step(text):
+    issuer, point, place = text.partition(b".")
+    require(point)
+    return read_fingerprint(issuer), read_decimal(place, 0, GREATEST)
+
+
+def read_table(text):
+    labels = [] if text == b"-" else [read_label(part) for part in text.split(b",")]
+    require(all(one < next_one for (one, _), (next_one, _) in zip(labels, labels[1:])))
+    return dict(labels)
+
+
+def read_label(text):
+    fingerprint, equals, label = text.partition(b"=")
+    require(equals)
+    return read_fingerprint(fingerprint), read_decimal(label, 1, 255)
+
+
+def print_claims(claims):
+    return ",".join(print_claim(*claim) for claim in claims) or "-"
+
+
+def print_claim(amount, steps):
+    return "/".join([str(amount), *(f"{issuer.hex()}.{place}" for issuer, place in steps)])
+
+
+def print_table(table):
+    return ",".join(f"{fingerprint.hex()}={label}" for fingerprint, label in sorted(table.items())) or "-"
+
+
 # The forms of lines: words that stand as they are, and the fields between them. A user ID is the rest of its line.
 FIELDS = {
     "HEX": read_hex,
@@ -103,6 +143,8 @@ FIELDS = {
     "T": read_time,
     "A": read_amount,
     "N": read_wanted,
+    "PATHS": read_claims,
+    "TABLE": read_table,
     "UID": read_user_id,
 }
 

@@ -4,17 +4,19 @@
 `refusals` one for each refusal. `Keyring` feeds an engine from keyring files, and keeps what was verified.
 """
 
+from .claims import Claim, ClaimedStep, Label
 from .commands import read_command
 from .engine import Engine, Listing
 from .keyring import Keyring, VerifierFailed
 from .refusals import EngineEnded, ProtocolError, Refused, TukyamidError
-from .replies import (Answer, Binding, Done, Explanation, Exported, Key, Path, PendingSignature, Reason, Reply, Step,
-                      Taken)
+from .replies import (Accepted, Answer, Binding, Done, Explanation, Exported, Key, Missed, Path, PendingSignature,
+                      Reached, Reason, Rejected, Reply, Step, Taken)
 from .spelling import address, for_people, read_user_id, write_user_id
 from .store import Store
 
 __all__ = [
-    "Answer", "Binding", "Done", "Engine", "EngineEnded", "Explanation", "Exported", "Key", "Keyring", "Listing",
-    "Path", "PendingSignature", "ProtocolError", "Reason", "Refused", "Reply", "Step", "Store", "Taken",
-    "TukyamidError", "VerifierFailed", "address", "for_people", "read_command", "read_user_id", "write_user_id",
+    "Accepted", "Answer", "Binding", "Claim", "ClaimedStep", "Done", "Engine", "EngineEnded", "Explanation", "Exported",
+    "Key", "Keyring", "Label", "Listing", "Missed", "Path", "PendingSignature", "ProtocolError", "Reached", "Reason",
+    "Refused", "Rejected", "Reply", "Step", "Store", "Taken", "TukyamidError", "VerifierFailed", "address", "for_people",
+    "read_command", "read_user_id", "write_user_id",
 ]

@@ -8,7 +8,7 @@ Root(view='me', fpr='fac804259d6b2997afe074fcd2112d7c6c04741c', amount=120)
 
 from dataclasses import dataclass
 
-from . import spelling
+from . import claims, spelling
 
 MOST_TIME = 2**32 - 1
 MOST_WANTED = 2**32 - 1
@@ -23,6 +23,8 @@ _CHECKS = {
     "wanted": lambda value: spelling.decimal(value, 1, MOST_WANTED, "wanted amount"),
     "user_id": spelling.user_id,
     "octets": bytes,
+    "paths": claims.paths,
+    "table": claims.table,
     "name": lambda value: value if value == TRUST_ROOT else spelling.fingerprint(value),
 }
 
@@ -149,6 +151,32 @@ class Explain(Command):
 
 
 @dataclass(frozen=True)
+class Absence(Command):
+    """Asks why the answer to a wanted amount doesn't reach it."""
+    view: str
+    fpr: str
+    wanted: int
+    user_id: bytes
+
+    def text(self):
+        return f"absence {self.view} {self.fpr} {self.wanted} {spelling.write_user_id(self.user_id)}"
+
+
+@dataclass(frozen=True)
+class Check(Command):
+    """Asks whether these paths and this table show that no more is there."""
+    view: str
+    fpr: str
+    paths: tuple
+    table: tuple
+    user_id: bytes
+
+    def text(self):
+        claim = f"{claims.write_paths(self.paths)} {claims.write_table(self.table)}"
+        return f"check {self.view} {self.fpr} {claim} {spelling.write_user_id(self.user_id)}"
+
+
+@dataclass(frozen=True)
 class Pending(Command):
     def text(self):
         return "pending"
@@ -174,6 +202,14 @@ class Dump(Command):
         return "dump"
 
 
+def _uid(text):
+    return spelling.read_user_id(text.encode("latin-1"))
+
+
+def _check(view, fpr, paths, table, uid):
+    return Check(view, fpr, claims.read_paths(paths), claims.read_table(table), _uid(uid))
+
+
 def _verdict(number, word, *rest):
     if word == "good":
         return Good(number, *rest)
@@ -194,15 +230,17 @@ _READ = {
     "drop": Drop,
     "verdict": _verdict,
     "view": _view,
-    "ask": lambda view, fpr, wanted, uid: Ask(view, fpr, int(wanted), spelling.read_user_id(uid.encode("latin-1"))),
+    "ask": lambda view, fpr, wanted, uid: Ask(view, fpr, int(wanted), _uid(uid)),
     "list": lambda view, wanted: List(view, int(wanted)),
-    "explain": lambda view, fpr, uid: Explain(view, fpr, spelling.read_user_id(uid.encode("latin-1"))),
+    "explain": lambda view, fpr, uid: Explain(view, fpr, _uid(uid)),
+    "absence": lambda view, fpr, wanted, uid: Absence(view, fpr, int(wanted), _uid(uid)),
+    "check": _check,
     "pending": Pending,
     "keys": Keys,
     "export": Export,
     "dump": Dump,
 }
-_FIELDS = {"ask": 4, "explain": 3}  # The last of them is the rest of the line.
+_FIELDS = {"ask": 4, "explain": 3, "absence": 4, "check": 5}  # The last of them is the rest of the line.
 
 
 def read_command(line):

@@ -227,6 +227,14 @@ class Engine:
         where the key isn't held, or has no such user ID."""
         return self.do(commands.Explain(view, fpr, user_id))
 
+    def absence(self, view, fpr, wanted, user_id):
+        """Why the answer doesn't reach the wanted amount: `Missed` with a claim, or `Reached`."""
+        return self.do(commands.Absence(view, fpr, wanted, user_id))
+
+    def check(self, view, fpr, paths, table, user_id):
+        """Whether these paths and this table show that no more is there: `Accepted`, or `Rejected` with a word."""
+        return self.do(commands.Check(view, fpr, paths, table, user_id))
+
     def pending(self):
         """The sound signatures that nobody has judged yet: a `Listing` of `PendingSignature`."""
         return self.do(commands.Pending())

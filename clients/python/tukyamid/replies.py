@@ -7,13 +7,14 @@ A reply is one line, or a first line that says how many lines follow. The first 
 | `amount SUM paths K` | K times a line `path AMOUNT steps L root FPR` and its L lines `step ..` |
 | `list K`, `pending K`, `keys K`, `dump K` | K lines |
 | `explain WORD K` | K lines `cert ..` |
+| `absence missed SUM` | a line `claim PATHS TABLE` |
 | any other | nothing |
 """
 
 import re
 from dataclasses import dataclass
 
-from . import spelling
+from . import claims, spelling
 from .reasons import ReasonWord, TargetWord
 from .refusals import ProtocolError, read_refusal
 
@@ -85,6 +86,33 @@ class Explanation(Reply):
 
 
 @dataclass(frozen=True)
+class Reached(Reply):
+    """The answer reaches what was wanted: nothing is missed."""
+    amount: int
+
+
+@dataclass(frozen=True)
+class Missed(Reply):
+    """The answer doesn't reach what was wanted. `paths` are its paths, as a `Claim` each, and `table` is the least table
+    of absence after them, a `Label` each: together a claim that anyone may check."""
+    amount: int
+    paths: tuple
+    table: tuple
+
+
+@dataclass(frozen=True)
+class Accepted(Reply):
+    """A claim holds: its paths are valid, and no more than this sum of theirs is there."""
+    amount: int
+
+
+@dataclass(frozen=True)
+class Rejected(Reply):
+    """A claim doesn't hold, by what `word` says: its `paths`, or else its `table`."""
+    word: str
+
+
+@dataclass(frozen=True)
 class PendingSignature:
     """A sound signature without a verdict. `hint` is a fingerprint, a key ID of 16 digits, or None."""
     number: str
@@ -124,6 +152,11 @@ _EDGE = _form("cert", _NUM, "edge", _FPR, _NUMBER, _NUMBER)
 _BIND = _form("bind", _NUMBER, _FPR, "(.*)")
 _SIG = _form("sig", _NUM, _FPR, "([0-9a-f]{16}|[0-9a-f]{40}|[0-9a-f]{64}|-)")
 _KEY = _form("key", _FPR, _NUMBER, _NUMBER)
+_REACHED = _form("absence reached", _NUMBER)
+_MISSED = _form("absence missed", _NUMBER)
+_CLAIM = _form("claim", "([^ ]+)", "([^ ]+)")
+_ACCEPTED = _form("checked yes", _NUMBER)
+_REJECTED = _form("checked no", "(paths|table)")
 _EXPORT = _form("export", "([0-9a-f]*)")
 _LISTING = _form("(list|pending|keys|dump)", _NUMBER)
 
@@ -185,6 +218,23 @@ def _read_reason(line):
     return Reason(number, reason)
 
 
+def _read_absence(first, next_line):
+    if _REACHED.fullmatch(first):
+        return Reached(int(_match(_REACHED, first)[0]))
+    amount, = _match(_MISSED, first)
+    paths, table = _match(_CLAIM, next_line())
+    try:
+        return Missed(int(amount), claims.read_paths(paths), claims.read_table(table))
+    except ValueError as fault:
+        raise ProtocolError(f"no claim: {fault}") from None
+
+
+def _read_checked(first):
+    if _ACCEPTED.fullmatch(first):
+        return Accepted(int(_match(_ACCEPTED, first)[0]))
+    return Rejected(*_match(_REJECTED, first))
+
+
 def _read_word(words, text):
     try:
         return words(text)
@@ -214,6 +264,10 @@ def read_reply(next_line):
     if word == "amount":
         amount, paths = _match(_AMOUNT, first)
         return Answer(int(amount), tuple(_read_path(next_line) for _ in range(int(paths))))
+    if word == "absence":
+        return _read_absence(first, next_line)
+    if word == "checked":
+        return _read_checked(first)
     if word == "export":
         return Exported(_read_octets(_match(_EXPORT, first)[0]))
     if word == "explain":

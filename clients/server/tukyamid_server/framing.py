@@ -63,4 +63,6 @@ def following(first):
         return int(words[1]), 0
     if words[0] == b"explain":
         return int(words[2]), 0
+    if words[:2] == [b"absence", b"missed"]:
+        return 1, 0
     return 0, 0

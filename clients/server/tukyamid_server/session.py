@@ -12,9 +12,9 @@ from .views import Views, is_name, opens, with_views
 # A command is added here. One that the server doesn't know is refused, as by an engine that doesn't: so none is passed
 # on that changes an engine, or names what is another client's, behind the server's back.
 CHANGES = {b"import", b"drop", b"verdict"}
-OF_A_VIEW = {b"view", b"ask", b"list", b"explain"}
+OF_A_VIEW = {b"view", b"ask", b"list", b"explain", b"absence", b"check"}
 OF_THE_KEYRING = {b"keys", b"pending", b"export", b"dump"}
-LONG_REPLIES = OF_THE_KEYRING | {b"list", b"explain"}
+LONG_REPLIES = OF_THE_KEYRING | {b"list", b"explain", b"absence"}
 
 REFUSED_LINE = b"refused line\n"
 REFUSED_LONG = b"refused long\n"

@@ -5,7 +5,7 @@ use Rattle.wot_types.specs.declared.fpr.Fpr.{Fpr}
 use Rattle.wot_policy.specs.declared.rows.PolicyRows.{PolicyRows}
 use Rattle.wot_verdict.specs.Verdicts as verdicts
 use Rattle.wot_script.specs.declared.command.Command.{Command}
-use Rattle.wot_script.specs.declared.command.Command.TheVariants.{Import, Load, Remove, Good, Bad, Unjudge, Time, Root, Close, Ask, Explain, Pending, Keys, Export, Dump}
+use Rattle.wot_script.specs.declared.command.Command.TheVariants.{Import, Load, Remove, Good, Bad, Unjudge, Time, Root, Close, Ask, Explain, Pending, Keys, Export, Dump, Absence, Check}
 use Rattle.wot_script.specs.declared.reply.Reply.{Reply}
 use Rattle.wot_script.specs.declared.reply.Reply.TheVariants as replies
 use Rattle.wot_script.specs.Grammar.{command_of}
@@ -18,6 +18,7 @@ use Rattle.wot_cache.specs.declared.view.View.{View}
 use Rattle.wot_certd.specs.World.{Answer, World}
 use Rattle.wot_cache.specs.State.{State}
 use Rattle.wot_cache.specs.Views.{view_at}
+use Rattle.wot_engine.specs.Absent.{Checks, Misses}
 use Rattle.wot_engine.specs.Answer.{Asks}
 use Rattle.wot_engine.specs.Depends.{AsksFrom, bare, IsAsk}
 use Rattle.wot_engine.specs.Law.{OneOutcome}
@@ -77,6 +78,12 @@ does_alike rows one other name (Command.List view wanted) given told reply new c
 does_alike rows one other name (Explain view fpr uid) given told reply new c v w a does =
     let W : view_at one.views view ≡ view_at other.views view = subst (λ (n : List ℕ). view_at one.views n ≡ view_at other.views n) (sym a) w in
     (alike (λ s shown. reply ≡ explained_from s shown fpr uid) one other view c v W does.0, refl)
+does_alike rows one other name (Absence view target wanted uid) given told reply new c v w a does =
+    let W : view_at one.views view ≡ view_at other.views view = subst (λ (n : List ℕ). view_at one.views n ≡ view_at other.views n) (sym a) w in
+    (alike (λ s shown. Misses s shown target wanted uid reply) one other view c v W does.0, refl)
+does_alike rows one other name (Check view target claims labels uid) given told reply new c v w a does =
+    let W : view_at one.views view ≡ view_at other.views view = subst (λ (n : List ℕ). view_at one.views n ≡ view_at other.views n) (sym a) w in
+    (alike (λ s shown. Checks s shown target claims labels uid reply) one other view c v W does.0, refl)
 does_alike rows one other name (Import octets) given told reply new c v w a does = absurd a
 does_alike rows one other name (Load entry) given told reply new c v w a does = absurd a
 does_alike rows one other name (Remove fpr) given told reply new c v w a does = absurd a

@@ -12,7 +12,7 @@ use Rattle.wot_types.specs.Limits.{standard_limits}
 use Rattle.wot_io.specs.Input as inputs
 use Rattle.wot_policy.specs.declared.rows.PolicyRows.{PolicyRows}
 use Rattle.wot_script.specs.declared.command.Command.{Command}
-use Rattle.wot_script.specs.declared.command.Command.TheVariants.{Import, Load, Remove, Good, Bad, Unjudge, Time, Root, Close, Ask, Explain, Pending, Keys, Export, Dump}
+use Rattle.wot_script.specs.declared.command.Command.TheVariants.{Import, Load, Remove, Good, Bad, Unjudge, Time, Root, Close, Ask, Explain, Pending, Keys, Export, Dump, Absence, Check}
 use Rattle.wot_script.specs.declared.reply.Reply.{Reply}
 use Rattle.wot_script.specs.declared.reply.Reply.TheVariants as replies
 use Rattle.wot_script.specs.Replies.{is_refusal}
@@ -85,6 +85,8 @@ accepted rows (Close view) s new e = absurd (cc e)
 accepted rows (Ask view fpr wanted uid) s new e = absurd (cc e)
 accepted rows (Command.List view wanted) s new e = absurd (cc e)
 accepted rows (Explain view fpr uid) s new e = absurd (cc e)
+accepted rows (Absence view fpr wanted uid) s new e = absurd (cc e)
+accepted rows (Check view fpr claims labels uid) s new e = absurd (cc e)
 accepted rows Pending s new e = absurd (cc e)
 accepted rows Keys s new e = absurd (cc e)
 accepted rows (Export fpr) s new e = absurd (cc e)
@@ -104,6 +106,8 @@ unread rows (Close view) s new e = refl
 unread rows (Ask view fpr wanted uid) s new e = refl
 unread rows (Command.List view wanted) s new e = refl
 unread rows (Explain view fpr uid) s new e = refl
+unread rows (Absence view fpr wanted uid) s new e = refl
+unread rows (Check view fpr claims labels uid) s new e = refl
 unread rows Pending s new e = refl
 unread rows Keys s new e = refl
 unread rows (Export fpr) s new e = refl

@@ -2,6 +2,7 @@ mod CutLines
 mod Stays
 mod Named
 mod Marked
+mod Absences
 mod Outcomes
 mod Runs
 mod Stepping

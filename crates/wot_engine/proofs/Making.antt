@@ -6,7 +6,7 @@ use Rattle.wot_keyring.specs.Held.{held_of}
 use Rattle.wot_keyring.specs.Keyring.{Keyring}
 use Rattle.wot_network.specs.Net.{Marks}
 use Rattle.wot_script.specs.declared.command.Command.{Command}
-use Rattle.wot_script.specs.declared.command.Command.TheVariants.{Import, Load, Remove, Good, Bad, Unjudge, Time, Root, Close, Ask, Explain, Pending, Keys, Export, Dump}
+use Rattle.wot_script.specs.declared.command.Command.TheVariants.{Import, Load, Remove, Good, Bad, Unjudge, Time, Root, Close, Ask, Explain, Pending, Keys, Export, Dump, Absence, Check}
 use Rattle.wot_cache.specs.declared.view.View.{View}
 use Rattle.wot_cache.specs.Marks.{IsMadeFor, IsRefreshed}
 use Rattle.wot_cache.specs.State.{Engine, StaysButMarks, marks_at, state_of}
@@ -55,6 +55,8 @@ module _ {A B T E : Type 0} (r : Result A B) (s : Result T E) (less : is_ok s â‰
   makes_as (Ask view target wanted uid) old new before after m = refreshed_as view old new before after m
   makes_as (Command.List view wanted) old new before after m = refreshed_as view old new before after m
   makes_as (Explain view fpr uid) old new before after m = refreshed_as view old new before after m
+  makes_as (Absence view target wanted uid) old new before after m = refreshed_as view old new before after m
+  makes_as (Check view target claims labels uid) old new before after m = refreshed_as view old new before after m
   makes_as (Import octets) old new before after m = m
   makes_as (Load name) old new before after m = m
   makes_as (Remove fpr) old new before after m = m
@@ -120,6 +122,8 @@ module _ {T E : Type 0} (s : Result T E) (failed : is_ok s â‰¡ false) (engine : 
   makes_not (Ask view target wanted uid) = refreshed_not view
   makes_not (Command.List view wanted) = refreshed_not view
   makes_not (Explain view fpr uid) = refreshed_not view
+  makes_not (Absence view target wanted uid) = refreshed_not view
+  makes_not (Check view target claims labels uid) = refreshed_not view
   makes_not (Import octets) = (refl, refl)
   makes_not (Load name) = (refl, refl)
   makes_not (Remove fpr) = (refl, refl)

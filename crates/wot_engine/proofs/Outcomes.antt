@@ -1,6 +1,6 @@
 -- Each line has exactly one outcome.
 use Rattle.std.proofs.Common.{◌≡◌, ℕ, ◌≤◌, Bool, true, false, List, length, Option, Some, None, refl, sym, ap, ◌∙◌}
-use Rattle.std.specs.Prelude.{MatchBool, nat_lt}
+use Rattle.std.specs.Prelude.{MatchBool, map, nat_le, nat_lt}
 use Rattle.std.specs.List.{AllByRecursion}
 use Rattle.wot_types.specs.declared.fpr.Fpr.{Fpr}
 use Rattle.wot_policy.specs.declared.rows.PolicyRows.{PolicyRows}
@@ -9,12 +9,19 @@ use Rattle.wot_verdict.specs.declared.verdict.Verdict.TheVariants as verdicts
 use Rattle.wot_key.specs.Key.{fpr_of}
 use Rattle.wot_cert.specs.Certificate.{Certificate}
 use Rattle.wot_edge.specs.declared.path.Path.{Path}
-use Rattle.wot_edge.specs.Path.{Question}
+use Rattle.wot_edge.specs.Path.{Question, Use}
 use Rattle.wot_edge.specs.Record.{IsRecord, Record}
-use Rattle.wot_edge.specs.Answer.{IsAnswer}
+use Rattle.wot_edge.specs.Answer.{IsAnswer, amount_of}
+use Rattle.wot_check.specs.declared.checking.Checked.{Checked}
+use Rattle.wot_check.specs.Absence.{IsChecked, IsLeastTable}
+use Rattle.wot_check.specs.Claim.{Claim}
+use Rattle.wot_check.specs.Table.{IsTable, Labels}
 use Rattle.wot_keyring.specs.Keyring.{Certificates}
 use Rattle.wot_script.specs.declared.command.Command.{Command}
-use Rattle.wot_script.specs.declared.command.Command.TheVariants.{Import, Load, Remove, Good, Bad, Unjudge, Time, Root, Close, Ask, Explain, Pending, Keys, Export, Dump}
+use Rattle.wot_script.specs.declared.command.Command.TheVariants.{Import, Load, Remove, Good, Bad, Unjudge, Time, Root, Close, Ask, Explain, Pending, Keys, Export, Dump, Absence, Check}
+use Rattle.wot_script.specs.Claims.{IsClaimSpelled}
+use Rattle.wot_script.specs.declared.reply.ClaimLine.{ClaimLine}
+use Rattle.wot_script.specs.declared.reply.LabelLine.{LabelLine}
 use Rattle.wot_script.specs.declared.reply.Reply.{Reply}
 use Rattle.wot_script.specs.declared.reply.Reply.TheVariants as replies
 use Rattle.wot_script.specs.Grammar.{command_of}
@@ -29,9 +36,11 @@ use Rattle.wot_cache.specs.State.{State, IsState}
 use Rattle.wot_cache.specs.Views.{view_at}
 use Rattle.wot_engine.specs.Lines.{is_silent, longest}
 use Rattle.wot_engine.specs.Outcome.{Outcome, only, load, remove, set_verdict, clear_verdict, time, root, close, keys, export, dump, import}
+use Rattle.wot_engine.specs.Absent.{Checks, Misses, TellsAbsence, claim_in, table_in, verdict_on}
 use Rattle.wot_engine.specs.Answer.{Asks, told}
 use Rattle.wot_engine.specs.Listing.{Lists, bindings, explain, pending}
 use Rattle.wot_engine.specs.LineStep.{LineStep, HasReply, Answers, Does, Gives}
+use Rattle.wot_engine.proofs.Absences.{spelled_table, tells_one, tells_some}
 use Rattle.wot_engine.proofs.Named.{AreNamed, named_all, named_without}
 use Rattle.wot_engine.proofs.Stays.{step_stays}
 
@@ -82,6 +91,10 @@ module _
     (list_some : (told : List ℕ → Record) (roots : List (Fpr × ℕ)) (wanted : ℕ) (pairs : List Pair) → 1 ≤ wanted → (binds : List Bind) × IsListed told roots wanted pairs binds)
     (list_one : (told : List ℕ → Record) (roots : List (Fpr × ℕ)) (wanted : ℕ) (pairs : List Pair) (a b : List Bind) → ((u : List ℕ) → IsRecord (told u))
     → IsListed told roots wanted pairs a → IsListed told roots wanted pairs b → a ≡ b)
+    (least_some : (q : Question) (used : Use) → (table : Labels) × IsTable table × IsLeastTable q used table)
+    (least_one : (q : Question) (used : Use) (a b : Labels) → IsTable a → IsTable b → IsLeastTable q used a → IsLeastTable q used b → a ≡ b)
+    (check_some : (q : Question) (claims : List Claim) (table : Labels) → IsTable table → (checked : Checked) × IsChecked q claims table checked)
+    (check_one : (q : Question) (claims : List Claim) (table : Labels) (a b : Checked) → IsRecord q.told → IsChecked q claims table a → IsChecked q claims table b → a ≡ b)
     (wants : (line : List ℕ) (command : Command) → command_of line ≡ Some command → HasSpelling command)
     (rows : PolicyRows)
   where
@@ -110,6 +123,39 @@ module _
         let binds = list_some (record_of old.held.certs old.held.verdicts view.time) view.roots wanted (pairs_in old.held.certs) h in
         (bindings binds.0, (binds.0, binds.1, refl))
 
+    Misses-one : (old : State) (view : Option View) (target : Fpr) (wanted : ℕ) (uid : List ℕ) (r s : Reply) → IsState old → Misses old view target wanted uid r → Misses old view target wanted uid s → r ≡ s
+    Misses-one old None target wanted uid r s p a b = a ∙ sym b
+    Misses-one old (Some view) target wanted uid r s p a b =
+        let q : Question = question_in old view target uid in
+        let same : a.0 ≡ b.0 = answer_one q wanted a.0 b.0 (lawful old.held.certs old.held.verdicts view.time uid p) a.1 b.1 in
+        tells_one least_one (nat_le wanted (amount_of b.0)) q b.0 r s (subst (λ (paths : List Path). TellsAbsence (nat_le wanted (amount_of paths)) q paths r) same a.2) b.2
+
+    Misses-some : (old : State) (view : Option View) (target : Fpr) (wanted : ℕ) (uid : List ℕ) → 1 ≤ wanted → (r : Reply) × Misses old view target wanted uid r
+    Misses-some old None target wanted uid h = (replies.View, refl)
+    Misses-some old (Some view) target wanted uid h = by (answer_some (question_in old view target uid) wanted h)
+      where
+        by : (paths : List Path) × IsAnswer (question_in old view target uid) wanted paths → (r : Reply) × Misses old (Some view) target wanted uid r
+        by paths =
+            let tells = tells_some least_some (nat_le wanted (amount_of paths.0)) (question_in old view target uid) paths.0 in
+            (tells.0, (paths.0, paths.1, tells.1))
+
+    Checks-one : (old : State) (view : Option View) (target : Fpr) (claims : List ClaimLine) (labels : List LabelLine) (uid : List ℕ) (r s : Reply) → IsState old
+        → Checks old view target claims labels uid r → Checks old view target claims labels uid s → r ≡ s
+    Checks-one old None target claims labels uid r s p a b = a ∙ sym b
+    Checks-one old (Some view) target claims labels uid r s p a b =
+        let same : a.0 ≡ b.0 = check_one (question_in old view target uid) (map claim_in claims) (table_in labels) a.0 b.0 (lawful old.held.certs old.held.verdicts view.time uid p) a.1 b.1 in
+        a.2 ∙ ap (verdict_on claims) same ∙ sym b.2
+
+    Checks-some : (old : State) (view : Option View) (target : Fpr) (claims : List ClaimLine) (labels : List LabelLine) (uid : List ℕ) → IsClaimSpelled claims labels
+        → (r : Reply) × Checks old view target claims labels uid r
+    Checks-some old None target claims labels uid h = (replies.View, refl)
+    Checks-some old (Some view) target claims labels uid h =
+        by (check_some (question_in old view target uid) (map claim_in claims) (table_in labels) (spelled_table claims labels h))
+      where
+        by : (checked : Checked) × IsChecked (question_in old view target uid) (map claim_in claims) (table_in labels) checked
+            → (r : Reply) × Checks old (Some view) target claims labels uid r
+        by checked = (verdict_on claims checked.0, (checked.0, checked.1, refl))
+
     Does-one : (old : State) (command : Command) (given : Answer) → IsState old → IsOne Reply (Does rows old command given)
     Does-one old (Import octets) given p = Gives-one (import rows old octets)
     Does-one old (Load name) given p = Gives-one (load rows old name given)
@@ -123,6 +169,8 @@ module _
     Does-one old (Ask view target wanted uid) given p = λ r s m n a b. (Asks-one old (view_at old.views view) target wanted uid r s p a.0 b.0, a.1 ∙ sym b.1)
     Does-one old (Command.List view wanted) given p = λ r s m n a b. (Lists-one old (view_at old.views view) wanted r s p a.0 b.0, a.1 ∙ sym b.1)
     Does-one old (Explain view fpr uid) given p = Gives-one (explain old view fpr uid)
+    Does-one old (Absence view target wanted uid) given p = λ r s m n a b. (Misses-one old (view_at old.views view) target wanted uid r s p a.0 b.0, a.1 ∙ sym b.1)
+    Does-one old (Check view target claims labels uid) given p = λ r s m n a b. (Checks-one old (view_at old.views view) target claims labels uid r s p a.0 b.0, a.1 ∙ sym b.1)
     Does-one old Pending given p = Gives-one (pending old)
     Does-one old Keys given p = Gives-one (keys old)
     Does-one old (Export fpr) given p = Gives-one (export old fpr)
@@ -145,6 +193,12 @@ module _
         let lists = Lists-some old (view_at old.views view) wanted h in
         (lists.0, old, (lists.1, refl))
     Does-some old (Explain view fpr uid) given h = Gives-some (explain old view fpr uid)
+    Does-some old (Absence view target wanted uid) given h =
+        let misses = Misses-some old (view_at old.views view) target wanted uid h in
+        (misses.0, old, (misses.1, refl))
+    Does-some old (Check view target claims labels uid) given h =
+        let checks = Checks-some old (view_at old.views view) target claims labels uid h in
+        (checks.0, old, (checks.1, refl))
     Does-some old Pending given h = Gives-some (pending old)
     Does-some old Keys given h = Gives-some (keys old)
     Does-some old (Export fpr) given h = Gives-some (export old fpr)

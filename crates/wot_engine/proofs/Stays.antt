@@ -20,7 +20,7 @@ use Rattle.wot_keyring.specs.Held.{cert_in, is_said, verdict_set, removing, verd
 use Rattle.wot_keyring.specs.Import.{answer_to, answer_under, is_entry, spelled_in, with_certs}
 use Rattle.wot_keyring.specs.Verdict.{is_over}
 use Rattle.wot_script.specs.declared.command.Command.{Command}
-use Rattle.wot_script.specs.declared.command.Command.TheVariants.{Import, Load, Remove, Good, Bad, Unjudge, Time, Root, Close, Ask, Explain, Pending, Keys, Export, Dump}
+use Rattle.wot_script.specs.declared.command.Command.TheVariants.{Import, Load, Remove, Good, Bad, Unjudge, Time, Root, Close, Ask, Explain, Pending, Keys, Export, Dump, Absence, Check}
 use Rattle.wot_script.specs.declared.reply.Reply.{Reply}
 use Rattle.wot_script.specs.declared.reply.Reply.TheVariants as replies
 use Rattle.wot_script.specs.Grammar.{command_of}
@@ -101,6 +101,8 @@ module _
     does_stays old (Close view) answer r m p = given (close old view) r m (either (is_some (view_at old.views view)) (done (closing view old)) (only old replies.View) p p)
     does_stays old (Ask view target wanted uid) answer r m p = λ g. subst Holds (sym g.1) p
     does_stays old (Command.List view wanted) answer r m p = λ g. subst Holds (sym g.1) p
+    does_stays old (Absence view target wanted uid) answer r m p = λ g. subst Holds (sym g.1) p
+    does_stays old (Check view target claims labels uid) answer r m p = λ g. subst Holds (sym g.1) p
     does_stays old (Explain view fpr uid) answer r m p = given (explain old view fpr uid) r m p
     does_stays old Pending answer r m p = given (pending old) r m p
     does_stays old Keys answer r m p = given (keys old) r m p

@@ -1,6 +1,6 @@
 -- Each word of an explanation is in its table.
 use Rattle.std.proofs.Common.{ℕ, ◌<◌, Bool, true, false, cond, List, [], ◌∷◌, map, Option, Some, None, Result, Ok, Err, sym, subst, arith}
-use Rattle.std.specs.Prelude.{filter, is_some}
+use Rattle.std.specs.Prelude.{filter, is_some, nat_le}
 use Rattle.std.specs.List.{AllByRecursion, slice_get}
 use Rattle.std.specs.Map.{lookup}
 use Rattle.std.specs.Option.{option_and_then, option_map}
@@ -17,6 +17,7 @@ use Rattle.wot_cert.specs.declared.fault.CertFault.{CertFault}
 use Rattle.wot_cert.specs.declared.fault.CertFault.TheVariants as certs
 use Rattle.wot_cert.specs.Certificate.{Component, Certificate, Signature}
 use Rattle.wot_edge.specs.declared.path.Step.{Step}
+use Rattle.wot_edge.specs.Answer.{amount_of}
 use Rattle.wot_keyring.specs.declared.import.Imported.{Imported}
 use Rattle.wot_keyring.specs.declared.refusal.Refusal.{Refusal}
 use Rattle.wot_keyring.specs.declared.refusal.Refusal.TheVariants as refusals
@@ -30,7 +31,9 @@ use Rattle.wot_standing.specs.Kinds.{is_certification}
 use Rattle.wot_standing.specs.Own.{is_own_revoked}
 use Rattle.wot_standing.specs.Standing.{own, standing_of}
 use Rattle.wot_script.specs.declared.command.Command.{Command}
-use Rattle.wot_script.specs.declared.command.Command.TheVariants.{Import, Load, Remove, Good, Bad, Unjudge, Time, Root, Close, Ask, Explain, Pending, Keys, Export, Dump}
+use Rattle.wot_script.specs.declared.command.Command.TheVariants.{Import, Load, Remove, Good, Bad, Unjudge, Time, Root, Close, Ask, Explain, Pending, Keys, Export, Dump, Absence, Check}
+use Rattle.wot_script.specs.declared.reply.ClaimLine.{ClaimLine}
+use Rattle.wot_script.specs.declared.reply.LabelLine.{LabelLine}
 use Rattle.wot_script.specs.declared.reply.Reply.{Reply}
 use Rattle.wot_script.specs.declared.reply.Reply.TheVariants as replies
 use Rattle.wot_script.specs.Replies.{HasReason, HasWords}
@@ -38,16 +41,19 @@ use Rattle.wot_certd.specs.World.{Answer}
 use Rattle.wot_cache.specs.declared.view.View.{View}
 use Rattle.wot_cache.specs.declared.view.ViewFault.{ViewFault}
 use Rattle.wot_cache.specs.declared.view.ViewFault.TheVariants as faults
+use Rattle.wot_cache.specs.Question.{question_in}
 use Rattle.wot_cache.specs.State.{State, with_held, closing, rooting, timing}
 use Rattle.wot_cache.specs.Views.{root_fault, time_fault, view_at}
 use Rattle.wot_explain.specs.Explaining.{explained_at, explained_on}
 use Rattle.wot_explain.specs.Reasons.{Reason, issuer_standing, reason_of, reason_words}
 use Rattle.wot_explain.specs.Target.{target_word, target_words}
 use Rattle.wot_explain.specs.Words.{Word, first_word}
+use Rattle.wot_engine.specs.Absent.{Checks, Misses}
 use Rattle.wot_engine.specs.Answer.{Asks}
 use Rattle.wot_engine.specs.Listing.{Lists, explain, explained, explained_from, pending, reason_by, reason_line}
 use Rattle.wot_engine.specs.LineStep.{Does, Gives}
 use Rattle.wot_engine.specs.Outcome.{Outcome, cert_refusal, clear_verdict, close, done, dump, export, exported, import, imports, keys, load, only, refusal, remove, root, set_verdict, time, unless, view_refusal}
+use Rattle.wot_engine.proofs.Absences.{tells_worded, verdicts_worded}
 
 -- ---- explanations
 
@@ -190,6 +196,16 @@ list_worded : (s : State) (view : Option View) (wanted : ℕ) (reply : Reply) �
 list_worded s None wanted reply lists = subst HasWords (sym lists) tt
 list_worded s (Some view) wanted reply lists = subst HasWords (sym lists.2) tt
 
+absence_worded : (s : State) (view : Option View) (target : Fpr) (wanted : ℕ) (uid : List ℕ) (reply : Reply) → Misses s view target wanted uid reply → HasWords reply
+absence_worded s None target wanted uid reply misses = subst HasWords (sym misses) tt
+absence_worded s (Some view) target wanted uid reply misses =
+    tells_worded (nat_le wanted (amount_of misses.0)) (question_in s view target uid) misses.0 reply misses.2
+
+check_worded : (s : State) (view : Option View) (target : Fpr) (claims : List ClaimLine) (labels : List LabelLine) (uid : List ℕ) (reply : Reply)
+    → Checks s view target claims labels uid reply → HasWords reply
+check_worded s None target claims labels uid reply checks = subst HasWords (sym checks) tt
+check_worded s (Some view) target claims labels uid reply checks = subst HasWords (sym checks.2) (verdicts_worded claims checks.0)
+
 pub does_worded : (rows : PolicyRows) (old : State) (command : Command) (answer : Answer) (reply : Reply) (new : State) → Does rows old command answer reply new → HasWords reply
 does_worded rows old (Import octets) answer reply new g =
     given (import rows old octets) reply new (imports_worded rows old octets (answer_to rows standard_limits old.held.certs octets)) g
@@ -210,6 +226,8 @@ does_worded rows old (Close view) answer reply new g =
 does_worded rows old (Ask view target wanted uid) answer reply new g = ask_worded old (view_at old.views view) target wanted uid reply g.0
 does_worded rows old (Command.List view wanted) answer reply new g = list_worded old (view_at old.views view) wanted reply g.0
 does_worded rows old (Explain view fpr uid) answer reply new g = given (explain old view fpr uid) reply new (explain_worded old (view_at old.views view) fpr uid) g
+does_worded rows old (Absence view target wanted uid) answer reply new g = absence_worded old (view_at old.views view) target wanted uid reply g.0
+does_worded rows old (Check view target claims labels uid) answer reply new g = check_worded old (view_at old.views view) target claims labels uid reply g.0
 does_worded rows old Pending answer reply new g = given (pending old) reply new tt g
 does_worded rows old Keys answer reply new g = given (keys old) reply new tt g
 does_worded rows old (Export fpr) answer reply new g = given (export old fpr) reply new (export_worded (cert_in old.held fpr)) g

@@ -3,7 +3,7 @@ use Rattle.std.specs.Prelude.{◌≡◌, ℕ, List, map, Option, Some}
 use Rattle.wot_types.specs.declared.fpr.Fpr.{Fpr}
 use Rattle.wot_policy.specs.declared.rows.PolicyRows.{PolicyRows}
 use Rattle.wot_script.specs.declared.command.Command.{Command}
-use Rattle.wot_script.specs.declared.command.Command.TheVariants.{Ask, Explain}
+use Rattle.wot_script.specs.declared.command.Command.TheVariants.{Ask, Explain, Absence, Check}
 use Rattle.wot_script.specs.declared.reply.Reply.{Reply}
 use Rattle.wot_script.specs.Grammar.{command_of}
 use Rattle.wot_cert.specs.Certificate.{Certificate, unmarked}
@@ -34,11 +34,13 @@ pub record AreAlike (name : List ℕ) (one other : State) : Type 0 where
   pub verdicts : one.held.verdicts ≡ other.held.verdicts
   pub view : view_at one.views name ≡ view_at other.views name
 
--- a command that asks from the view of that name: for an answer, for a list, or for reasons
+-- a command that asks from the view of that name: for an answer, a list, reasons, or why an amount is missed and whether that is so
 abbrev pub AsksFrom : List ℕ → Command → Type 0
 AsksFrom name (Ask view target wanted uid) = view ≡ name
 AsksFrom name (Command.List view wanted) = view ≡ name
 AsksFrom name (Explain view fpr uid) = view ≡ name
+AsksFrom name (Absence view target wanted uid) = view ≡ name
+AsksFrom name (Check view target claims labels uid) = view ≡ name
 AsksFrom name _ = ⊥
 
 -- a line that asks from the view of that name

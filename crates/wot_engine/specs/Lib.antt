@@ -3,6 +3,7 @@ pub mod Outcome
 pub mod Refused
 pub mod Answer
 pub mod Listing
+pub mod Absent
 pub mod LineStep
 pub mod Entry
 pub mod Scene

@@ -3,7 +3,7 @@ use Rattle.std.specs.Prelude.{◌≡◌, ℕ, nat_lt, List, length, Option, Some
 use Rattle.wot_policy.specs.declared.rows.PolicyRows.{PolicyRows}
 use Rattle.wot_verdict.specs.declared.verdict.Verdict.TheVariants as verdicts
 use Rattle.wot_script.specs.declared.command.Command.{Command}
-use Rattle.wot_script.specs.declared.command.Command.TheVariants.{Import, Load, Remove, Good, Bad, Unjudge, Time, Root, Close, Ask, Explain, Pending, Keys, Export, Dump}
+use Rattle.wot_script.specs.declared.command.Command.TheVariants.{Import, Load, Remove, Good, Bad, Unjudge, Time, Root, Close, Ask, Explain, Pending, Keys, Export, Dump, Absence, Check}
 use Rattle.wot_script.specs.declared.reply.Reply.{Reply}
 use Rattle.wot_script.specs.declared.reply.Reply.TheVariants as replies
 use Rattle.wot_script.specs.Grammar.{command_of}
@@ -13,6 +13,7 @@ use Rattle.wot_cache.specs.Views.{view_at}
 use Rattle.wot_engine.specs.Lines.{longest, is_silent}
 use Rattle.wot_engine.specs.Outcome.{Outcome, only, import, load, remove, set_verdict, clear_verdict, time, root, close, keys, export, dump}
 use Rattle.wot_engine.specs.Answer.{Asks}
+use Rattle.wot_engine.specs.Absent.{Checks, Misses}
 use Rattle.wot_engine.specs.Listing.{Lists, explain, pending}
 
 -- This is the reply, and this is the state.
@@ -33,6 +34,8 @@ Does rows old (Close view) given reply new = Gives (close old view) reply new
 Does rows old (Ask view target wanted uid) given reply new = Asks old (view_at old.views view) target wanted uid reply × (new ≡ old)
 Does rows old (Command.List view wanted) given reply new = Lists old (view_at old.views view) wanted reply × (new ≡ old)
 Does rows old (Explain view fpr uid) given reply new = Gives (explain old view fpr uid) reply new
+Does rows old (Absence view target wanted uid) given reply new = Misses old (view_at old.views view) target wanted uid reply × (new ≡ old)
+Does rows old (Check view target claims labels uid) given reply new = Checks old (view_at old.views view) target claims labels uid reply × (new ≡ old)
 Does rows old Pending given reply new = Gives (pending old) reply new
 Does rows old Keys given reply new = Gives (keys old) reply new
 Does rows old (Export fpr) given reply new = Gives (export old fpr) reply new

@@ -1,7 +1,7 @@
 -- How many edges a line makes, and whose marks it leaves. No reply depends on either.
 use Rattle.std.specs.Prelude.{◌≡◌, ℕ, nat_lt, if◌then◌else◌, List, [], length, Option, Some, None, Result, OnOk}
 use Rattle.wot_script.specs.declared.command.Command.{Command}
-use Rattle.wot_script.specs.declared.command.Command.TheVariants.{Ask, Explain, Time, Close}
+use Rattle.wot_script.specs.declared.command.Command.TheVariants.{Ask, Explain, Absence, Check, Time, Close}
 use Rattle.wot_script.specs.Grammar.{command_of}
 use Rattle.wot_cache.specs.State.{Engine, OtherMarksStay, marks_at}
 use Rattle.wot_cache.specs.Marks.{IsRefreshed}
@@ -18,6 +18,8 @@ abbrev pub Makes : {T E : Type 0} → Result T E → Command → Engine → Engi
 Makes result (Ask view target wanted uid) old new before after = IsRefreshed result view old new before after
 Makes result (Command.List view wanted) old new before after = IsRefreshed result view old new before after
 Makes result (Explain view fpr uid) old new before after = IsRefreshed result view old new before after
+Makes result (Absence view target wanted uid) old new before after = IsRefreshed result view old new before after
+Makes result (Check view target claims labels uid) old new before after = IsRefreshed result view old new before after
 Makes result (Time view t) old new before after = MakesNothing old new before after × OnOk result (view_at old.views view ≡ None → marks_at new view ≡ [])
 Makes result (Close view) old new before after = (after ≡ before) × OtherMarksStay view old new
 Makes result _ old new before after = MakesNothing old new before after

@@ -12,6 +12,7 @@ ghost use Rattle.wot_engine.specs.Scene.{Scene, opening};
 ghost use Rattle.wot_engine.specs.Transcript.{Run, Transcript};
 
 use wot_cert::laws::judging;
+use wot_check::laws::{check_is_one, least_table_is_one};
 use wot_edge::laws::answer_is_one;
 use wot_explain::laws::list_is_one;
 use wot_network::laws::record_is_lawful;
@@ -31,6 +32,8 @@ pub fn each_line_has_one_outcome()
     answer_is_one();
     record_is_lawful();
     list_is_one();
+    least_table_is_one();
+    check_is_one();
     lines_spell_commands();
 }
 

@@ -1,8 +1,10 @@
 //! The machine that answers lines, and the program's top call.
 #![tactic(auto)]
 
+mod absence;
 mod answer;
 mod bindings;
+mod checking;
 mod commands;
 mod fresh;
 mod laws;

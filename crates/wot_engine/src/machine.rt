@@ -17,8 +17,10 @@ ghost use Rattle.wot_engine.specs.Stepped.{Stepped};
 ghost use Rattle.wot_engine.specs.Fresh.{IsDump, OnDump, IsMadeAnew};
 ghost use Rattle.wot_engine.specs.Made.{heard, LineMakes, Makes};
 
+use crate::absence::absence;
 use crate::answer::ask;
 use crate::bindings::list;
+use crate::checking::check;
 use crate::commands::{clear_verdict, close, import, remove, root, set_verdict, time};
 use crate::listing::{dump, export, keys};
 use crate::load::load;
@@ -259,6 +261,19 @@ fn run<F: Fn(Ask) -> bool>(
         Command::Explain(view, fpr, uid) => {
             explain(alloc, engine, steps, view, fpr, uid.octets())
         }
+        Command::Absence(view, target, wanted, uid) => {
+            absence(alloc, engine, steps, view, target, *wanted, uid.octets())
+        }
+        Command::Check(view, target, claims, labels, uid) => check(
+            alloc,
+            engine,
+            steps,
+            view,
+            target,
+            claims,
+            labels,
+            uid.octets(),
+        ),
         Command::Pending => pending(alloc, engine),
         Command::Keys => keys(alloc, engine),
         Command::Export(fpr) => export(alloc, engine, fpr),

@@ -7,8 +7,9 @@ import threading
 import unittest
 
 from outside import FAKE_ENGINE
-from tukyamid import (Answer, Binding, Done, Engine, EngineEnded, Explanation, Key, Path, PendingSignature,
-                      ProtocolError, Reason, Step, Taken, commands, refusals)
+from tukyamid import (Accepted, Answer, Binding, Claim, ClaimedStep, Done, Engine, EngineEnded, Explanation, Key, Label,
+                      Missed, Path, PendingSignature, ProtocolError, Reached, Reason, Rejected, Step, Taken, commands,
+                      refusals)
 from tukyamid.reasons import ReasonWord, TargetWord
 from tukyamid.replies import Exported
 
@@ -41,6 +42,19 @@ class Framing(unittest.TestCase):
             Path(80, B, (Step(B, B, 1, 80, b""), Step(B, A, 0, 120, b"Alice and more"))))))
         self.assertEqual(list(engine.dump()), [b"import ", b"verdict " + N.encode() + b" bad"])
         self.assertEqual(engine.do(commands.Export(A)), Exported(b"\xaa" * 20))
+
+    def test_claims_of_absence(self):
+        engine = self.engine
+        paths, table = (Claim(40, (ClaimedStep(B, 0), ClaimedStep(A, 1))),), (Label(A, 2), Label(B, 1))
+        self.assertEqual(engine.absence("v", A, 120, "Alice"), Missed(40, paths, table))
+        self.assertEqual(engine.absence("v", A, 120, ""), Missed(0, (), ()))
+        self.assertEqual(engine.absence("v", A, 40, "Alice"), Reached(40))
+        self.assertEqual(engine.check("v", A, paths, table, "Alice"), Accepted(40))
+        self.assertEqual(engine.check("v", A, (), table[1:], "Alice"), Rejected("table"))
+        self.assertEqual(engine.check("v", A, [Claim(255, (ClaimedStep(B, 2**32 - 1),))], (), "Alice"), Rejected("paths"))
+        for wrong in ((), (table[1], table[0])), ((Claim(0, paths[0].steps),), ()), ((Claim(1, ()),), ()):
+            self.assertRaises(ValueError, engine.check, "v", A, *wrong, "Alice")
+        self.assertRaises(ProtocolError, engine.absence, "v", A, 120, "no claim")
 
     def test_each_refusal_is_its_exception(self):
         engine = self.engine

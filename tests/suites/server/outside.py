@@ -88,6 +88,8 @@ class Client:
         if words[0] in (b"keys", b"dump", b"list", b"pending", b"explain"):
             for _ in range(int(words[-1])):
                 self.read_line()
+        if words[:2] == [b"absence", b"missed"]:
+            self.read_line()
         if words[0] == b"amount":
             for _ in range(int(words[3])):
                 for _ in range(int(self.read_line().split(b" ")[3])):

@@ -98,10 +98,14 @@ class Chatter:
         name, draw = self._pick(NAMES[:2]), self._random.random()
         if draw < 0.4:
             return b"list %s %s" % (name, self._pick([b"1", b"40", b"120", b"500"]))
-        if draw < 0.8:
-            place = self._random.randrange(len(self._world.keys))
-            user_id = self._world.user_ids[place if self._random.random() < 0.9 else 0]
+        place = self._random.randrange(len(self._world.keys))
+        user_id = self._world.user_ids[place if self._random.random() < 0.9 else 0]
+        if draw < 0.7:
             return b"explain %s %s %s" % (name, self._world.fprs[place], user_id)
+        if draw < 0.85:
+            return b"absence %s %s %s %s" % (name, self._world.fprs[place], self._pick([b"40", b"500"]), user_id)
+        if draw < 0.95:
+            return b"check %s %s - - %s" % (name, self._world.fprs[place], user_id)
         return b"pending"
 
     def _change(self):

@@ -1,0 +1,81 @@
+-- Tables of absence: why an amount is missed, and whether a claim of that holds.
+use Rattle.std.specs.Prelude.{◌≡◌, ℕ, Bool, true, false, nat_le, List, map, sum_by, Option, Some, None}
+use Rattle.wot_types.specs.declared.fpr.Fpr.{Fpr}
+use Rattle.wot_edge.specs.declared.path.Path.{Path}
+use Rattle.wot_edge.specs.declared.path.Step.{Step}
+use Rattle.wot_edge.specs.Answer.{IsAnswer, amount_of}
+use Rattle.wot_edge.specs.Path.{Question, use_of}
+use Rattle.wot_script.specs.declared.reply.ClaimLine.{ClaimLine}
+use Rattle.wot_script.specs.declared.reply.ClaimStepLine.{ClaimStepLine}
+use Rattle.wot_script.specs.declared.reply.LabelLine.{LabelLine}
+use Rattle.wot_script.specs.declared.reply.Reply.{Reply}
+use Rattle.wot_script.specs.declared.reply.Reply.TheVariants as replies
+use Rattle.wot_check.specs.declared.checking.Checked.{Checked}
+use Rattle.wot_check.specs.declared.checking.Checked.TheVariants as answers
+use Rattle.wot_check.specs.declared.claimed.ClaimedStep.{ClaimedStep}
+use Rattle.wot_check.specs.Absence.{IsChecked, IsLeastTable}
+use Rattle.wot_check.specs.Claim.{Claim}
+use Rattle.wot_check.specs.Table.{IsTable, Labels}
+use Rattle.wot_cache.specs.declared.view.View.{View}
+use Rattle.wot_cache.specs.Question.{question_in}
+use Rattle.wot_cache.specs.State.{State}
+
+-- ---- `absence`
+
+-- a step of a claim: its issuer, and the place of the user ID that it certifies
+abbrev pub claim_step : Step → ClaimStepLine
+claim_step step = record { 0 = step.issuer; 1 = step.uid }
+
+-- what is claimed of a path: its amount and its steps
+abbrev pub claim_line : Path → ClaimLine
+claim_line path = record { 0 = path.amount; 1 = map claim_step path.steps }
+
+-- a label of a table
+abbrev pub label_line : Fpr × ℕ → LabelLine
+label_line label = record { 0 = label.0; 1 = label.1 }
+
+-- the sum of the paths, the paths, and a table
+abbrev pub missed : List Path → Labels → Reply
+missed paths table = replies.Missed (amount_of paths) (map claim_line paths) (map label_line table)
+
+-- These paths reach what is wanted, and their sum is told; or they don't, and they are told with the least table after them.
+abbrev pub TellsAbsence : Bool → Question → List Path → Reply → Type 0
+TellsAbsence true q paths reply = reply ≡ replies.Reached (amount_of paths)
+TellsAbsence false q paths reply = (table : Labels) × IsTable table × IsLeastTable q (use_of paths) table × (reply ≡ missed paths table)
+
+-- `absence`: from an open view, by the paths that are the answer in this state
+abbrev pub Misses : State → Option View → Fpr → ℕ → List ℕ → Reply → Type 0
+Misses s None target wanted uid reply = reply ≡ replies.View
+Misses s (Some view) target wanted uid reply =
+    (paths : List Path) × IsAnswer (question_in s view target uid) wanted paths
+    × TellsAbsence (nat_le wanted (amount_of paths)) (question_in s view target uid) paths reply
+
+-- ---- `check`
+
+abbrev pub claimed_step : ClaimStepLine → ClaimedStep
+claimed_step step = record { issuer = step.0; place = step.1 }
+
+-- the path that a line claims
+abbrev pub claim_in : ClaimLine → Claim
+claim_in claim = record { amount = claim.0; steps = map claimed_step claim.1 }
+
+-- the table that a line claims
+abbrev pub table_in : List LabelLine → Labels
+table_in labels = map (λ (label : LabelLine). (label.0, label.1)) labels
+
+-- the sum of the amounts that are claimed
+abbrev pub sum_in : List ClaimLine → ℕ
+sum_in claims = sum_by (λ (claim : ClaimLine). claim.0) claims
+
+-- what is answered to a claim, by what its check comes to
+abbrev pub verdict_on : List ClaimLine → Checked → Reply
+verdict_on claims answers.Yes = replies.CheckedYes (sum_in claims)
+verdict_on claims answers.BadPaths = replies.CheckedNoPaths
+verdict_on claims answers.BadTable = replies.CheckedNoTable
+
+-- `check`: from an open view, by what the check comes to in this state
+abbrev pub Checks : State → Option View → Fpr → List ClaimLine → List LabelLine → List ℕ → Reply → Type 0
+Checks s None target claims labels uid reply = reply ≡ replies.View
+Checks s (Some view) target claims labels uid reply =
+    (checked : Checked) × IsChecked (question_in s view target uid) (map claim_in claims) (table_in labels) checked
+    × (reply ≡ verdict_on claims checked)
