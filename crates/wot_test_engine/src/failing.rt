@@ -188,10 +188,9 @@ impl Source for Endless {
         let n = to.len().min(usize::try_from(rest).unwrap_or(0));
         let (piece, _) = to.split_at_mut(n);
         let _ = piece.fill(b'#');
-        if n as u64 == rest {
-            if let Some(last) = piece.last_mut() {
-                *last = b'\n';
-            }
+        let last = n.wrapping_sub(1);
+        if n as u64 == rest && last < piece.len() {
+            piece[last] = b'\n';
         }
         self.given = self.given.wrapping_add(n as u64);
         Ok(n)
