@@ -1,4 +1,3 @@
-use std::test::Fail;
 use wot_sample::Packet::{self, Other, Signature, SignatureByHash, UserId};
 use wot_sample::Says::{Final, KeyLasts, Lasts, Made, Primary, Reason, Scope};
 use wot_sample::{
@@ -10,7 +9,7 @@ const CERTIFIED: &[u8] =
     b"\xc6\x07\x04\x00\x00\x03\xe8\x1b\x04\xc2\x10\x04\x1f\x1b\x08\x00\x06\x05\x02\x00\x00\x03\xe8\x00\x00\x00\x00\xcd\x01\x74\xc2\x2b\x04\x10\x1b\x08\x00\x21\x05\x02\x00\x00\x07\xd0\x03\x05\x00\x3c\x16\x21\x04\x7f\x35\xc8\xdb\xd6\xb3\xeb\x2f\xfd\x59\xcb\xdd\x2e\x41\xea\x29\x12\x12\xac\x38\x00\x00\x00\x00\xc2\x31\x04\x10\x1b\x08\x00\x27\x05\x02\x00\x00\x0b\xb8\x05\x03\x00\x00\x00\x64\x03\x05\x00\x78\x16\x21\x04\x7f\x35\xc8\xdb\xd6\xb3\xeb\x2f\xfd\x59\xcb\xdd\x2e\x41\xea\x29\x12\x12\xac\x38\x00\x00\x00\x00";
 
 /// Packets, and their octets.
-const ROWS: [(&[Packet], &[u8]); 7] = [
+static ROWS: [(&[Packet], &[u8]); 7] = [
     (&[], b""),
     (SPANS, CERTIFIED),
     (&[KEY_R], b"\xc6\x07\x04\x00\x00\x03\xe8\x1b\x01"),
@@ -36,10 +35,9 @@ const ROWS: [(&[Packet], &[u8]); 7] = [
 ];
 
 #[test]
-fn what_is_named_is_written(rt: HostRuntime) -> Result<(), Fail> {
-    for (packets, octets) in ROWS {
-        let found = text(rt.alloc(), packets).ok_or("octets")?;
-        assert_eq!(rt; found.as_slice(), octets);
+fn what_is_named_is_written(rt: HostRuntime) {
+    for (packets, octets) in &ROWS {
+        let found = text(rt.alloc(), packets).expect(&rt, "octets");
+        assert!(rt; found.as_slice() == *octets);
     }
-    Ok(())
 }
