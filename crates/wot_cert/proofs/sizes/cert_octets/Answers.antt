@@ -3,8 +3,18 @@ use Rattle.wot_packet.specs.Writing.{written}
 use Rattle.wot_cert.specs.Counts.{sum_of}
 use Rattle.wot_cert.specs.Sizes.{sig_size, part_size}
 use Rattle.wot_cert.proofs.Capped.{cap, exact, five}
+use Rattle.wot_cert.proofs.Fits.{parts_fit}
 use Rattle.wot_cert.proofs.TextSize.{size_is}
 use Rattle.wot_cert.proofs.sizes.cert_octets.Goals as goal
+
+pub parts_capped-requires : goal.parts_capped-requires
+parts_capped-requires c = rw c.user_ids.ensures.user_ids (parts_fit _ _ _ c.user_ids.ensures.set.1)
+
+pub parts_capped-requires-2 : goal.parts_capped-requires-2
+parts_capped-requires-2 c = rw c.attributes.ensures.attributes (parts_fit _ _ _ c.attributes.ensures.set.1)
+
+pub parts_capped-requires-3 : goal.parts_capped-requires-3
+parts_capped-requires-3 c = rw c.subkeys.ensures.subkeys (parts_fit _ _ _ c.subkeys.ensures.set.1)
 
 pub returns : goal.returns
 returns c =
