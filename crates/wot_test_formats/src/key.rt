@@ -61,7 +61,9 @@ fn material_is_as_long_as_it_says(rt: HostRuntime) -> Result<(), Fail> {
         for _ in 0..had {
             body.push(1)?;
         }
-        assert!(rt; read_key(&body).is_some() == readable && fingerprint(&body).is_some() == readable);
+        assert!(rt;
+            read_key(&body).is_some() == readable && fingerprint(&body).is_some() == readable
+        );
     }
     Ok(())
 }

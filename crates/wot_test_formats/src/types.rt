@@ -34,7 +34,9 @@ fn version_6_fingerprints_are_read_and_printed(rt: HostRuntime) -> Result<(), Fa
     assert!(rt; fpr.version() == 6 && fpr.octets().len() == 32);
     let mut out = Vec::new(rt.alloc());
     fpr.print(&mut out)?;
-    assert!(rt; out.as_slice() == b"cb186c4f0609a697e4d52dfa6c722b0c1f1e27c18a56708f6525ec27bad9acc9");
+    assert!(rt;
+        out.as_slice() == b"cb186c4f0609a697e4d52dfa6c722b0c1f1e27c18a56708f6525ec27bad9acc9"
+    );
     assert!(rt; Fpr::read(&out) == Some(fpr));
     fpr.printed_is_read();
     let others: [&[u8]; 5] = [
