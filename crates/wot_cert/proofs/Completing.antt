@@ -4,11 +4,10 @@ use Rattle.std.specs.Prelude.{◌==◌}
 use Rattle.std.specs.List.{AllByRecursion}
 use Rattle.std.specs.declared.cmp.Ordering.{Ordering}
 use Rattle.std.specs.declared.cmp.Ordering.TheVariants.{Less, Equal, Greater}
-use Rattle.std.specs.Int.{w32, from_be_bytes}
-use Rattle.std.specs.Prelude.{Some, None, take, drop, slice_index}
+use Rattle.std.specs.Prelude.{Some, None, slice_index}
 use Rattle.wot_types.specs.declared.fpr.Fpr.{Fpr}
 use Rattle.wot_key.specs.declared.key.Key.{Key}
-use Rattle.wot_key.specs.Key.{is_readable, key_of, fpr_of, fingerprint_of}
+use Rattle.wot_key.specs.Key.{created_in, is_readable, key_of, fpr_of, fingerprint_of, version_in}
 use Rattle.wot_packet.specs.Spelling.{AreShort, Spelled}
 use Rattle.wot_cert.specs.Packets.{is_signature, begins_component}
 use Rattle.wot_cert.specs.Ranked.{put, placed, united, IsBelow, IsRising}
@@ -211,7 +210,7 @@ pub record IsMade (key : Key) (fpr : Fpr) (body : List ℕ) (s : Sketch) (octets
   pub subkeys_are : subkeys ≡ map (part_drafted body on_subkey) s.subkeys
 
 pub made-readable : (key : Key) (body : List ℕ) → Some key ≡ key_of body → is_readable body ≡ true
-made-readable key body e = (chosen (is_readable body) (record { version = 4; created = from_be_bytes w32 (take 4 (drop 1 body)); algorithm = slice_index body 5 }) key e).0
+made-readable key body e = (chosen (is_readable body) (record { version = version_in body; created = created_in body; algorithm = slice_index body 5 }) key e).0
 
 made-is : (body : List ℕ) (s : Sketch) (octets : List ℕ) (direct : List Signature) (user_ids attributes subkeys : List Component)
     → octets ≡ body → direct ≡ map (fresh body on_key []) s.sigs → user_ids ≡ map (part_drafted body on_user_id) s.user_ids → attributes ≡ map (part_drafted body on_attribute) s.attributes → subkeys ≡ map (part_drafted body on_subkey) s.subkeys

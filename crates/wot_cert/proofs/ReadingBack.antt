@@ -1,13 +1,13 @@
 -- The text of a certificate is read back as that certificate.
 use Rattle.std.proofs.Common.{◌≡◌, ℕ, ◌+◌, ◌<◌, ◌≤◌, ◌^◌, Bool, true, false, cond, List, [], ◌∷◌, ◌++◌, map, length, None, refl, sym, ap, ◌∙◌, arith, append_assoc}
-use Rattle.std.specs.Prelude.{◌&&◌, count_by, filter, nat_le, not}
+use Rattle.std.specs.Prelude.{◌&&◌, ◌||◌, ◌==◌, count_by, filter, nat_le, nat_lt, not}
 use Rattle.std.specs.List.{All, AllByRecursion}
 use Rattle.std.specs.Cmp.Lexicographic.{on_texts}
 use Rattle.std.specs.Cmp.{IsTotalOrder}
-use Rattle.std.proofs.lemmas.Bool.{and_parts, leb-true}
+use Rattle.std.proofs.lemmas.Bool.{and_parts, leb-true, ltb-true}
 use Rattle.std.proofs.lemmas.Cmp.{nat_list_cmp_total}
 use Rattle.std.proofs.lemmas.List.Elements.{All-from_recursion}
-use Rattle.wot_key.specs.Key.{is_readable}
+use Rattle.wot_key.specs.Key.{is_readable, is_v4, is_v6, material_in, version_in}
 use Rattle.wot_packet.specs.Spelling.{AreShort, Spelled}
 use Rattle.wot_packet.specs.Writing.{CanBeWritten, placed, written, written_all}
 use Rattle.wot_cert.specs.Assembly.{Section, cut_at, certificate_of, certificates_of, has_readable_key, skipped_in, keys_of}
@@ -109,9 +109,23 @@ all-behind c h =
 -- ---- they can be written
 
 key-short : (key : List ℕ) → is_readable key ≡ true → length key < 2 ^ 32
-key-short key e =
-    let most : length key ≤ 65535 = leb-true (length key) 65535 (and_parts (nat_le 6 (length key)) (nat_le (length key) 65535) (and_parts (nat_le 6 (length key) && nat_le (length key) 65535) _ e).0).1 in
-    omega (arith, most)
+key-short key e = by (is_v4 key) refl e
+  where
+    of_v4 : is_v4 key ≡ true → length key < 2 ^ 32
+    of_v4 f =
+        let front = and_parts (nat_le 6 (length key) && nat_le (length key) 65535) (version_in key == 4) f in
+        let most : length key ≤ 65535 = leb-true (length key) 65535 (and_parts (nat_le 6 (length key)) (nat_le (length key) 65535) front.0).1 in
+        omega (arith, most)
+
+    of_v6 : is_v6 key ≡ true → length key < 2 ^ 32
+    of_v6 f =
+        let three = and_parts (nat_le 10 (length key) && nat_lt (length key) (2 ^ 32) && (version_in key == 6)) (material_in key + 10 == length key) f in
+        let two = and_parts (nat_le 10 (length key) && nat_lt (length key) (2 ^ 32)) (version_in key == 6) three.0 in
+        ltb-true (length key) (2 ^ 32) (and_parts (nat_le 10 (length key)) (nat_lt (length key) (2 ^ 32)) two.0).1
+
+    by : (b : Bool) → is_v4 key ≡ b → (b || is_v6 key) ≡ true → length key < 2 ^ 32
+    by true f g = of_v4 f
+    by false f g = of_v6 g
 
 abbrev Writable : Plain → Type 0
 Writable x = CanBeWritten x.0 x.1

@@ -1,7 +1,11 @@
 ghost use Rattle.std.specs.Prelude.{◌≡◌, IfSome, MatchOption, None, Some};
 ghost use Rattle.wot_subpacket.specs.Slice.{IsSliceOf};
 ghost use Rattle.wot_signature.specs.Body.{
-    areas_v4 as areas_v4_spec, areas_v6 as areas_v6_spec, long_field_at, short_field_at, parts_of as parts_of_spec
+  areas_v4 as areas_v4_spec,
+  areas_v6 as areas_v6_spec,
+  long_field_at,
+  short_field_at,
+  parts_of as parts_of_spec,
 };
 ghost use Rattle.wot_signature.specs.Lent.{lent_parts};
 
