@@ -12,13 +12,19 @@ use Rattle.std.proofs.lemmas.Cmp.{tied_itself}
 use Rattle.wot_types.specs.declared.fpr.Fpr.{Fpr}
 use Rattle.wot_types.specs.Fpr.{fpr_cmp, same_fpr}
 use Rattle.wot_types.specs.FprLaws.{fpr_exact, fpr_total, same_fpr-refl, same_fpr-true}
+use Rattle.wot_edge.specs.declared.path.Path.{Path}
 use Rattle.wot_edge.specs.declared.path.Step.{Step}
+use Rattle.wot_edge.specs.Answer.{IsAnswer, amount_of}
 use Rattle.wot_edge.specs.Record.{blank, Has, Record, Row, rows_into}
-use Rattle.wot_edge.specs.Path.{Question, Use, Stands, start, step_left, step_of}
-use Rattle.wot_check.specs.Absence.{IsLeast, IsLeastTable, LeastBy, is_in_order}
+use Rattle.wot_edge.specs.Path.{IsSpent, Question, Use, Stands, root_left, start, step_left, step_of, use_of}
+use Rattle.wot_check.specs.declared.demand.Demand.{Demand}
+use Rattle.wot_check.specs.Absence.{Accepts, IsAbsence, IsLeast, IsLeastTable, LeastBy, RootsSpent, is_in_order}
+use Rattle.wot_check.specs.Claim.{claim_of}
+use Rattle.wot_check.specs.Growth.{IsLabel, IsSettled, Labelled}
+use Rattle.wot_check.proofs.Layering.{each_next_shows, rooted_left}
 use Rattle.wot_check.specs.Demand.{Covers, demand_of, may_stand}
 use Rattle.wot_check.specs.Table.{IsTable, IsWithin, Labels, label_at}
-use Rattle.wot_check.proofs.Demands.{covers_at, covers_last, reaches_stands, stands_reaches, within_covered}
+use Rattle.wot_check.proofs.Demands.{before_whole, covers_at, covers_last, demand_some, reaches_stands, stands_reaches, within_covered, within_some}
 use Rattle.wot_check.proofs.Entries.{all_has, has_lookup, labels_insert, label_small, lookup_has}
 use Rattle.wot_check.proofs.Finite.{Both, Dec, Found, both, decided, find, is_so}
 use Rattle.wot_check.proofs.Trails.{Trail, trail_within}
@@ -255,13 +261,17 @@ module _ (q : Question) (used : Use) where
       (λ at. both (led_so size at) (find (Leads size fpr at) (λ row. both (is_so (may_stand q.target used (demand_of q size) row)) (is_so (same_fpr row.edge.issuer fpr))) (rows_into q.told at)))
       (keys_of q.told))
 
-  -- the shortest one, of at most so many steps
+  -- a shortest trail from there has so many steps
+  record Shortest (size : ℕ) (fpr : Fpr) : Type 0 where
+    led : Led size fpr
+    least : (other : ℕ) → 1 ≤ other → Led other fpr → size ≤ other
+
+  -- it has at most so many
   record Nearest (most : ℕ) (fpr : Fpr) : Type 0 where
     size : ℕ
     some : 1 ≤ size
     few : size ≤ most
-    led : Led size fpr
-    least : (other : ℕ) → 1 ≤ other → Led other fpr → size ≤ other
+    short : Shortest size fpr
 
   abbrev NoneNear : ℕ → Fpr → Type 0
   NoneNear most fpr = (other : ℕ) → 1 ≤ other → other ≤ most → Led other fpr → ⊥
@@ -271,13 +281,15 @@ module _ (q : Question) (used : Use) where
   nearest (suc most) fpr = by (nearest most fpr) (led_so (suc most) fpr)
     where
       by : Nearest most fpr ⊎ NoneNear most fpr → Dec (Led (suc most) fpr) → Nearest (suc most) fpr ⊎ NoneNear (suc most) fpr
-      by (inl n) d = let few = n.few in inl (record { size = n.size; some = n.some; few = omega (arith, few); led = n.led; least = n.least })
+      by (inl n) d = let few = n.few in inl (record { size = n.size; some = n.some; few = omega (arith, few); short = n.short })
       by (inr never) (inl l) = inl (record {
         size = suc most;
         some = omega arith;
         few = omega arith;
-        led = l;
-        least = λ other some o. elim (cases_lt other (suc most)) [ inl lt ↦ absurd (never other some (omega (arith, lt)) o) | inr le ↦ le ];
+        short = record {
+          led = l;
+          least = λ other some o. elim (cases_lt other (suc most)) [ inl lt ↦ absurd (never other some (omega (arith, lt)) o) | inr le ↦ le ];
+        };
       })
       by (inr never) (inr m) = inr (λ other some few o. elim (cases_lt other (suc most)) [
         | inl lt ↦ never other some (omega (arith, lt)) o
@@ -290,7 +302,7 @@ module _ (q : Question) (used : Use) where
   record Built (of : List Fpr) : Type 0 where
     table : Labels
     good : IsTable table
-    only : (fpr : Fpr) (label : ℕ) → label_at table fpr ≡ Some label → Led label fpr
+    only : (fpr : Fpr) (label : ℕ) → label_at table fpr ≡ Some label → Shortest label fpr
     each : (fpr : Fpr) (size : ℕ) → Has of fpr → 1 ≤ size → size ≤ 255 → Led size fpr → IsWithin size (label_at table fpr)
 
   built_more : (fpr : Fpr) (of : List Fpr) → Nearest 255 fpr → Built of → Built (fpr ∷ of)
@@ -302,15 +314,15 @@ module _ (q : Question) (used : Use) where
         subst (IsWithin size) (sym (label_insert b.table fpr n.size other)) (each other size (same_fpr other fpr) refl h some few l);
   }
     where
-      only : (other : Fpr) (label : ℕ) (s : Bool) → same_fpr other fpr ≡ s → cond s (Some n.size) (label_at b.table other) ≡ Some label → Led label other
+      only : (other : Fpr) (label : ℕ) (s : Bool) → same_fpr other fpr ≡ s → cond s (Some n.size) (label_at b.table other) ≡ Some label → Shortest label other
       only other label true same e =
           let size : n.size ≡ label = cc in
-          subst (Led label) (sym (same_fpr-true other fpr same)) (subst (λ (m : ℕ). Led m fpr) size n.led)
+          subst (Shortest label) (sym (same_fpr-true other fpr same)) (subst (λ (m : ℕ). Shortest m fpr) size n.short)
       only other label false apart e = b.only other label e
 
       each : (other : Fpr) (size : ℕ) (s : Bool) → same_fpr other fpr ≡ s → Has (fpr ∷ of) other → 1 ≤ size → size ≤ 255 → Led size other
           → IsWithin size (cond s (Some n.size) (label_at b.table other))
-      each other size true same h some few l = n.least size some (subst (Led size) (same_fpr-true other fpr same) l)
+      each other size true same h some few l = n.short.least size some (subst (Led size) (same_fpr-true other fpr same) l)
       each other size false apart (inl e) some few l =
           let same : same_fpr other fpr ≡ true = subst (λ (f : Fpr). same_fpr other f ≡ true) e (same_fpr-refl other) in
           absurd cc
@@ -372,15 +384,103 @@ module _ (q : Question) (used : Use) where
         last = covers_last q used b.table (λ fpr label e. (some_label fpr label e).0)
             (covers_led 0 q.target (omega arith) (record { steps = []; trail = tt; long = refl; there = refl }));
         others = λ at label row e lt m.
-            covers_at q used b.table at label (some_label at label e).0 (covers_led label at lt (b.only at label e)) row m;
+            covers_at q used b.table at label (some_label at label e).0 (covers_led label at lt (b.only at label e).led) row m;
       };
       least = λ other good c fpr label e.
-          let l = b.only fpr label e in
+          let l = (b.only fpr label e).led in
           let small = some_label fpr label e in
           let long = l.long in
           let w = trail_within q used other c l.steps l.trail (omega (arith, long, small.0)) (omega (arith, long, small.1)) in
           subst (λ (n : ℕ). IsWithin n (label_at other fpr)) long (subst (λ (f : Fpr). IsWithin (length l.steps) (label_at other f)) l.there w);
     }
+
+    -- ---- its trails
+
+    -- a step may stand before fewer
+    stands_before : (other : ℕ) (step : Step) (rest : List Step) (s : Stands q step rest) → 0 < step_left used step → 1 ≤ other → other < length rest
+        → may_stand q.target used (demand_of q other) s.row ≡ true
+    stands_before zero step rest s left some lt = absurd (omega (arith, some))
+    stands_before (suc n) step [] s left some lt = absurd (omega (arith, lt))
+    stands_before (suc n) step (next ∷ rest) s left some lt =
+        let r = s.reaches in
+        let depth = r.0 in
+        let positive = subst (λ (y : Step). 0 < step_left used y) (sym s.shown) left in
+        subst (λ (d : Demand). may_stand q.target used d s.row ≡ true) (sym (demand_some q n))
+        (before_whole q.target used s.row (suc n) (omega (arith, depth, lt)) r.1 r.2 (record { usable = s.usable; left = positive }))
+
+    -- each issuer of a shortest trail has the number of steps from there as its label
+    labelled : (steps : List Step) → Trail q used steps → length steps ≤ 255
+        → ((other : ℕ) → 1 ≤ other → Led other (start q.target steps) → length steps ≤ other) → Labelled q used b.table steps
+    labelled [] t few least = tt
+    labelled (x ∷ rest) t few least = (label_is, t.0, t.1, labelled rest t.2 (omega (arith, few)) shorter)
+      where
+        issuer : t.0.row.edge.issuer ≡ x.issuer
+        issuer = ap (λ (y : Step). y.issuer) t.0.shown
+
+        among : Has all_issuers x.issuer
+        among = subst (Has all_issuers) issuer (issuer_among (keys_of q.told) (start q.target rest) t.0.row (row_key q.told (start q.target rest) t.0.row t.0.into) t.0.into)
+
+        label_is : label_at b.table x.issuer ≡ Some (length (x ∷ rest))
+        label_is =
+            let led : Led (suc (length rest)) x.issuer = record { steps = x ∷ rest; trail = t; long = refl; there = refl } in
+            let w = within_some (suc (length rest)) (label_at b.table x.issuer) (b.each x.issuer (suc (length rest)) among (omega arith) (omega (arith, few)) led) in
+            let le = least w.0 (some_label x.issuer w.0 w.1).0 (b.only x.issuer w.0 w.1).led in
+            let most = w.2 in
+            w.1 ∙ ap Some (omega (arith, most, le))
+
+        shorter : (other : ℕ) → 1 ≤ other → Led other (start q.target rest) → length rest ≤ other
+        shorter other some l = elim (cases_lt other (length rest)) [
+          | inl lt ↦
+              let on = led_on other (start q.target rest) t.0.row t.0.into l (stands_before other x rest t.0 t.1 some lt) in
+              let le = least (suc other) (omega arith) (subst (Led (suc other)) issuer on) in
+              omega (arith, lt, le)
+          | inr le ↦ le
+        ]
+
+    settled : IsSettled q used b.table
+    settled = record { closes = built_least.closes; labels = is_label }
+      where
+        is_label : (fpr : Fpr) (label : ℕ) → label_at b.table fpr ≡ Some label → IsLabel q used 255 b.table fpr label
+        is_label fpr label e =
+            let s = b.only fpr label e in
+            let small = some_label fpr label e in
+            let long = s.led.long in
+            let least : (other : ℕ) → 1 ≤ other → Led other (start q.target s.led.steps) → length s.led.steps ≤ other =
+            λ other some l. (let le = s.least other some (subst (Led other) s.led.there l) in omega (arith, le, long)) in
+            record {
+              leads = record {
+                steps = s.led.steps;
+                labelled = labelled s.led.steps s.led.trail (omega (arith, long, small.1)) least;
+                long = s.led.long;
+                there = s.led.there;
+              };
+              some = small.0;
+              few = small.1;
+            }
+
+    -- where nothing is left, nothing is left of a labelled root
+    roots_spent : is_in_order q ≡ true → IsSpent q used → RootsSpent q used b.table
+    roots_spent ok spent fpr label e = elim (cases_lt 0 (root_left q used fpr)) [
+      | inl left ↦
+          let path = rooted_left q used b.table ok settled (record { fpr = fpr; label = label; labelled = e; left = left }) in
+          absurd (spent path.0 path.1)
+      | inr le ↦ omega (arith, le)
+    ]
+
+  -- THE LEAST TABLE SHOWS THAT NOTHING IS LEFT, where nothing is.
+  pub least_shows : (table : Labels) → IsTable table → IsLeastTable q used table → IsSpent q used → IsAbsence q used table
+  least_shows table good least spent = by (is_in_order q) refl
+    where
+      shows : is_in_order q ≡ true → (b : Built all_issuers) → IsLeast q used table → IsAbsence q used table
+      shows ok b l =
+          let other = built_least b in
+          let same : b.table ≡ table =
+          tables_same b.table table b.good good (λ fpr. same_labels (label_at b.table fpr) (label_at table fpr) (other.least table good l.closes fpr) (l.least b.table b.good other.closes fpr)) in
+          inr (record { closes = l.closes; roots = subst (RootsSpent q used) same (roots_spent b ok spent) })
+
+      by : (o : Bool) → is_in_order q ≡ o → IsAbsence q used table
+      by false e = inl e
+      by true e = shows e (built all_issuers) (subst (λ (o : Bool). LeastBy o q used table) e least)
 
   -- there is a least table
   pub least_some : (table : Labels) × IsTable table × IsLeastTable q used table
@@ -392,3 +492,12 @@ module _ (q : Question) (used : Use) where
       by : (o : Bool) → (table : Labels) × IsTable table × LeastBy o q used table
       by false = ([], empty_table, refl)
       by true = of_built (built all_issuers)
+
+-- What is told of an answer that missed is accepted.
+pub least_accepted : (q : Question) (wanted : ℕ) (paths : List Path) (table : Labels) → IsTable table → IsAnswer q wanted paths → amount_of paths < wanted
+    → IsLeastTable q (use_of paths) table → Accepts q (map claim_of paths) table
+least_accepted q wanted paths table good answer lt least =
+    (paths, each_next_shows q [] paths answer.each, least_shows q (use_of paths) table good least spent)
+  where
+    spent : IsSpent q (use_of paths)
+    spent = elim answer.ends [ inl le ↦ absurd (omega (arith, le, lt)) | inr none ↦ none ]

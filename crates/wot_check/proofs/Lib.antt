@@ -9,8 +9,8 @@ pub mod Showing
 pub mod Testing
 pub mod Finite
 pub mod Deciding
-pub mod Least
 pub mod Few
 pub mod Growing
 pub mod Layering
+pub mod Least
 pub mod Judging
