@@ -1,6 +1,5 @@
 use std::alloc::Global;
-use std::test::Fail;
-use wot_cursor::{Age, BeginFault, Cursors, Stamps, age};
+use wot_cursor::{Age, BeginFault, Cursor, Cursors, Stamps, age};
 use wot_types::{Fpr, Place, UserId, ViewName};
 
 const BEGUN: Stamps = Stamps {
@@ -8,69 +7,84 @@ const BEGUN: Stamps = Stamps {
     view: 3,
 };
 
-fn name(alloc: Global, text: &[u8]) -> Result<ViewName, Fail> {
-    Ok(ViewName::read(alloc, text)?.ok_or("a name")?)
-}
+/// Stamps, and what they tell of a cursor that was begun at `BEGUN`.
+static AGES: [(u64, u64, Age); 3] = [
+    (7, 3, Age::Same),
+    (8, 4, Age::Keyring(7, 8)),
+    (7, 4, Age::View(3, 4)),
+];
 
 #[test]
-fn the_first_number_that_differs_is_told(rt: HostRuntime) -> Result<(), Fail> {
-    assert!(rt; age(BEGUN, BEGUN) == Age::Same);
-    let changed = Stamps {
-        keyring: 8,
-        view: 4,
-    };
-    assert!(rt; age(BEGUN, changed) == Age::Keyring(7, 8));
-    let turned = Stamps {
-        keyring: 7,
-        view: 4,
-    };
-    assert!(rt; age(BEGUN, turned) == Age::View(3, 4));
-    Ok(())
-}
-
-#[test]
-fn a_cursor_keeps_its_place(rt: HostRuntime) -> Result<(), Fail> {
-    let alloc = rt.alloc();
-    let mut cursors = Cursors::new(alloc);
-    assert!(rt;
-        cursors
-            .begin(name(alloc, b"k")?, name(alloc, b"p")?, 120, BEGUN)
-            .is_ok()
-    );
-    let place = Place {
-        fpr: Fpr::V4([1; 20]),
-        uid: UserId::new(alloc, b"t")?,
-    };
-    assert!(rt; cursors.advance(&name(alloc, b"k")?, place));
-    let cursor = cursors.get(&name(alloc, b"k")?).ok_or("the cursor")?;
-    assert!(rt; cursor.view().octets() == b"p".as_slice());
-    assert!(rt; cursor.wanted() == 120);
-    assert!(rt; cursor.stamps() == BEGUN);
-    let place = cursor.place().ok_or("a place")?;
-    assert!(rt; place.uid.octets() == b"t".as_slice());
-    assert!(rt; cursors.end(&name(alloc, b"k")?));
-    assert!(rt; cursors.get(&name(alloc, b"k")?).is_none());
-    Ok(())
-}
-
-#[test]
-fn there_are_at_most_sixteen(rt: HostRuntime) -> Result<(), Fail> {
-    let alloc = rt.alloc();
-    let mut cursors = Cursors::new(alloc);
-    for octet in b'a'..b'q' {
-        assert!(rt;
-            cursors
-                .begin(name(alloc, &[octet])?, name(alloc, b"p")?, 1, BEGUN)
-                .is_ok()
-        );
+fn the_first_number_that_differs_is_told(rt: HostRuntime) {
+    for (keyring, view, expected) in &AGES {
+        let now = Stamps {
+            keyring: *keyring,
+            view: *view,
+        };
+        assert!(rt; age(BEGUN, now) == *expected);
     }
-    assert!(rt;
-        cursors.begin(name(alloc, b"q")?, name(alloc, b"p")?, 1, BEGUN) == Err(BeginFault::Full)
-    );
-    assert!(rt;
-        cursors
-            .begin(name(alloc, b"a")?, name(alloc, b"p")?, 2, BEGUN)
-            .is_ok()
-    );
-    Ok(())
+}
+
+fn name(alloc: Global, text: &[u8]) -> Option<ViewName> {
+    ViewName::read(alloc, text).ok()?
+}
+
+/// Begins a cursor over the view p; `Some(false)` where there are too many.
+fn begins(alloc: Global, cursors: &mut Cursors, text: &[u8]) -> Option<bool> {
+    match cursors.begin(name(alloc, text)?, name(alloc, b"p")?, 120, BEGUN) {
+        Ok(()) => Some(true),
+        Err(BeginFault::Full) => Some(false),
+        Err(_) => None,
+    }
+}
+
+/// The place of the user ID t of a key.
+fn place(alloc: Global) -> Option<Place> {
+    let uid = UserId::new(alloc, b"t").ok()?;
+    Some(Place {
+        fpr: Fpr::V4([1; 20]),
+        uid,
+    })
+}
+
+fn is_at(cursor: &Cursor, uid: &[u8]) -> bool {
+    match cursor.place() {
+        Some(place) => place.uid.octets() == uid && place.fpr == Fpr::V4([1; 20]),
+        None => false,
+    }
+}
+
+fn keeps(cursor: Option<&Cursor>) -> bool {
+    match cursor {
+        Some(cursor) => {
+            cursor.view().octets() == b"p".as_slice()
+                && cursor.wanted() == 120
+                && cursor.stamps() == BEGUN
+                && is_at(cursor, b"t")
+        }
+        None => false,
+    }
+}
+
+fn is_kept(alloc: Global) -> Option<bool> {
+    let mut cursors = Cursors::new(alloc);
+    let k = name(alloc, b"k")?;
+    let begun = begins(alloc, &mut cursors, b"k")? && cursors.advance(&k, place(alloc)?);
+    let kept = begun && keeps(cursors.get(&k));
+    Some(kept && cursors.end(&k) && cursors.get(&k).is_none())
+}
+
+#[test]
+fn a_cursor_keeps_its_place(rt: HostRuntime) {
+    assert!(rt; is_kept(rt.alloc()) == Some(true));
+}
+
+#[test]
+fn there_are_at_most_sixteen(rt: HostRuntime) {
+    let mut cursors = Cursors::new(rt.alloc());
+    for octet in b'a'..b'q' {
+        assert!(rt; begins(rt.alloc(), &mut cursors, &[octet]) == Some(true));
+    }
+    assert!(rt; begins(rt.alloc(), &mut cursors, b"q") == Some(false));
+    assert!(rt; begins(rt.alloc(), &mut cursors, b"a") == Some(true));
 }

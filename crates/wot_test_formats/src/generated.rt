@@ -1,6 +1,5 @@
 use sha2::{Digest, Sha256};
 use std::alloc::Global;
-use std::test::Fail;
 use wot_gen::script;
 use wot_script::{print_command, read_line};
 
@@ -42,40 +41,46 @@ static SCRIPTS: [(u64, u32, u64, &str); 3] = [
     ),
 ];
 
-/// The commands of these lines, printed again.
-fn printed_again(alloc: Global, text: &[u8]) -> Result<Vec<u8>, Fail> {
+/// Whether these lines are commands that are printed so again.
+fn are_printed_again(alloc: Global, text: &[u8]) -> Option<bool> {
     let mut again = Vec::new(alloc);
-    for line in str::from_utf8(text)?.lines() {
-        let Ok(command) = read_line(alloc, line.as_bytes()) else {
-            return Err("a line is no command".into());
-        };
-        print_command(&command, &mut again)?;
-        again.push(b'\n')?;
+    for line in str::from_utf8(text).ok()?.lines() {
+        let command = read_line(alloc, line.as_bytes()).ok()?;
+        print_command(&command, &mut again).ok()?;
+        again.push(b'\n').ok()?;
     }
-    Ok(again)
+    Some(again.as_slice() == text)
+}
+
+/// The script of one key stands behind what stood there.
+fn is_appended(alloc: Global) -> Option<bool> {
+    let mut out = Vec::from_slice(alloc, b"# before\n").ok()?;
+    let lines = script(alloc, 7, 1, &mut out).ok()?;
+    let mut wanted = Vec::from_slice(alloc, b"# before\n").ok()?;
+    for piece in &SINGLE {
+        wanted.extend_from_slice(piece.as_bytes()).ok()?;
+    }
+    Some(lines == 9 && out == wanted)
 }
 
 #[test]
-fn one_key_behind_other_text(rt: HostRuntime) -> Result<(), Fail> {
-    let mut wanted = Vec::from_slice(rt.alloc(), b"# before\n")?;
-    let mut out = Vec::from_slice(rt.alloc(), b"# before\n")?;
-    for piece in SINGLE {
-        wanted.extend_from_slice(piece.as_bytes())?;
-    }
-    assert_eq!(rt; script(rt.alloc(), 7, 1, &mut out)?, 9);
-    assert!(rt; out == wanted);
-    Ok(())
+fn one_key_behind_other_text(rt: HostRuntime) {
+    assert!(rt; is_appended(rt.alloc()) == Some(true));
+}
+
+/// Whether this is the SHA-256 of the octets, in digits.
+fn has_digest(octets: &[u8], digest: &str) -> bool {
+    let mut digits = [0u8; 64];
+    let _ = hex::encode_to_slice(Sha256::digest(octets).as_slice(), &mut digits);
+    digits.as_slice() == digest.as_bytes()
 }
 
 #[test]
-fn scripts_of_a_start_and_a_count(rt: HostRuntime) -> Result<(), Fail> {
-    for (start, count, lines, digest) in SCRIPTS {
+fn scripts_of_a_start_and_a_count(rt: HostRuntime) {
+    for (start, count, lines, digest) in &SCRIPTS {
         let mut out = Vec::new(rt.alloc());
-        assert_eq!(rt; script(rt.alloc(), start, count, &mut out)?, lines);
-        let mut digits = [0u8; 64];
-        let _ = hex::encode_to_slice(Sha256::digest(&out).as_slice(), &mut digits);
-        assert!(rt; digits.as_slice() == digest.as_bytes());
-        assert!(rt; printed_again(rt.alloc(), &out)? == out);
+        assert!(rt; script(rt.alloc(), *start, *count, &mut out) == Ok(*lines));
+        assert!(rt; has_digest(&out, digest));
+        assert!(rt; are_printed_again(rt.alloc(), &out) == Some(true));
     }
-    Ok(())
 }

@@ -4,7 +4,6 @@ ghost use Rattle.wot_io.specs.Input.{lines_of, whole_lines_of};
 ghost use Rattle.wot_io.specs.Memory.{room_left};
 
 use std::alloc::Global;
-use std::test::Fail;
 use wot_io::{
     Failed, Line, Lines, LinesFault, MemorySink, MemorySource, Sink, Source, StdSink, StdSource,
     write_all,
@@ -13,8 +12,8 @@ use wot_io::{
 /// What `next` answers up to the end, or up to the second fault, as text: a line is `t..|`, or
 /// `T` and its length where it is long; `l` is `Long`, `.` the end, `r` and `m` are the faults.
 /// A `!` follows where `text` gives something after another answer than `Text`.
-fn answers<S: Source>(alloc: Global, source: &mut S) -> Result<String, Fail> {
-    let mut lines = Lines::new(alloc).ok().ok_or("memory")?;
+fn answers<S: Source>(alloc: Global, source: &mut S) -> Option<String> {
+    let mut lines = Lines::new(alloc).ok()?;
     let mut seen = String::new(alloc);
     let mut faults = 0u8;
     for _ in 0..1000 {
@@ -27,34 +26,42 @@ fn answers<S: Source>(alloc: Global, source: &mut S) -> Result<String, Fail> {
             break;
         }
     }
-    Ok(seen)
+    Some(seen)
 }
 
-fn tell(answer: Result<Line, LinesFault>, text: &[u8], seen: &mut String) -> Result<(), Fail> {
-    match answer {
+/// Whether that is what `next` answers.
+fn is_answered<S: Source>(alloc: Global, source: &mut S, want: &str) -> bool {
+    match answers(alloc, source) {
+        Some(seen) => seen.as_str() == want,
+        None => false,
+    }
+}
+
+fn tell(answer: Result<Line, LinesFault>, text: &[u8], seen: &mut String) -> Option<()> {
+    let word = match answer {
         Ok(Line::Text) => return tell_text(text, seen),
-        Ok(Line::Long) => seen.push_str("l")?,
-        Ok(Line::End) => seen.push_str(".")?,
-        Err(LinesFault::ReadFault) => seen.push_str("r")?,
-        Err(LinesFault::TooMuch) => seen.push_str("m")?,
-    }
+        Ok(Line::Long) => "l",
+        Ok(Line::End) => ".",
+        Err(LinesFault::ReadFault) => "r",
+        Err(LinesFault::TooMuch) => "m",
+    };
+    seen.push_str(word).ok()?;
     if !text.is_empty() {
-        seen.push_str("!")?;
+        seen.push_str("!").ok()?;
     }
-    Ok(())
+    Some(())
 }
 
-fn tell_text(text: &[u8], seen: &mut String) -> Result<(), Fail> {
+fn tell_text(text: &[u8], seen: &mut String) -> Option<()> {
     if text.len() < 100 {
-        seen.push_str("t")?;
+        seen.push_str("t").ok()?;
         for octet in text {
-            seen.push(char::from(*octet))?;
+            seen.push(char::from(*octet)).ok()?;
         }
     } else {
-        write!(seen, "T{}", text.len())?;
+        write!(seen, "T{}", text.len()).ok()?;
     }
-    seen.push_str("|")?;
-    Ok(())
+    seen.push_str("|").ok()
 }
 
 /// The definitions of lines, worked out on "a", a carriage return alone, nothing, and "b".
@@ -66,51 +73,58 @@ fn rows()
     ensures feed_at_the_end { lines_of (codes "keys" ++ 10 ∷ []) ≡ codes "keys" ∷ [] }
 {}
 
-#[test]
-fn lines_are_the_parts_between_line_feeds(rt: HostRuntime) -> Result<(), Fail> {
-    rows();
-    let alloc = rt.alloc();
-    let rows: [(&[u8], &str); 9] = [
-        (b"", "."),
-        (b"\n", "t|."),
-        (b"keys", "tkeys|."),
-        (b"keys\n", "tkeys|."),
-        (b"\n\nab\n\n", "t|t|tab|t|."),
-        (b"a\r\n\rb\r", "ta\r|t\rb\r|."),
-        (
-            b"# a comment\nimport 00\nkeys",
-            "t# a comment|timport 00|tkeys|.",
-        ),
-        (b"12345\n1234\n123456\n", "t12345|t1234|t123456|."),
-        (b"\0\xff\n\x0b\n", "t\0\u{ff}|t\x0b|."),
-    ];
-    for (input, want) in rows {
-        for piece in [1, 5, 65536] {
-            let mut source = MemorySource::new(input.to_vec(alloc)?, piece, Vec::new(alloc));
-            let seen = answers(alloc, &mut source)?;
-            assert_eq!(rt; seen.as_str(), want, "in pieces of {piece}");
-        }
-    }
-    Ok(())
+static PARTS: [(&[u8], &str); 9] = [
+    (b"", "."),
+    (b"\n", "t|."),
+    (b"keys", "tkeys|."),
+    (b"keys\n", "tkeys|."),
+    (b"\n\nab\n\n", "t|t|tab|t|."),
+    (b"a\r\n\rb\r", "ta\r|t\rb\r|."),
+    (
+        b"# a comment\nimport 00\nkeys",
+        "t# a comment|timport 00|tkeys|.",
+    ),
+    (b"12345\n1234\n123456\n", "t12345|t1234|t123456|."),
+    (b"\0\xff\n\x0b\n", "t\0\u{ff}|t\x0b|."),
+];
+
+/// Whether the lines of these octets, in pieces of so many, are told so, where the read of this number fails.
+fn is_told(alloc: Global, input: &[u8], piece: usize, failing: u64, want: &str) -> Option<bool> {
+    let fails = [failing].to_vec(alloc).ok()?;
+    let mut source = MemorySource::new(input.to_vec(alloc).ok()?, piece.max(1), fails);
+    Some(is_answered(alloc, &mut source, want))
 }
 
 #[test]
-fn a_read_fault_is_answered_again(rt: HostRuntime) -> Result<(), Fail> {
-    let alloc = rt.alloc();
-    let rows: [(&[u8], u64, &str); 5] = [
-        (b"ab\ncd\nef\n", 1, "rr"),
-        (b"ab\ncd\nef\n", 2, "tab|rr"),
-        (b"ab\ncd\nef\n", 3, "tab|tcd|tef|rr"),
-        (b"ab\ncd\nef", 3, "tab|tcd|rr"),
-        (b"ab\ncd\nef", 5, "tab|tcd|tef|."),
-    ];
-    for (input, failing, want) in rows {
-        let fails = [failing].to_vec(alloc)?;
-        let mut source = MemorySource::new(input.to_vec(alloc)?, 5, fails);
-        let seen = answers(alloc, &mut source)?;
-        assert_eq!(rt; seen.as_str(), want, "where read {failing} fails");
+fn lines_are_the_parts_between_line_feeds(rt: HostRuntime) {
+    rows();
+    for (input, want) in &PARTS {
+        for piece in [1, 5, 65536] {
+            assert!(rt;
+                is_told(rt.alloc(), input, piece, 0, want) == Some(true),
+                "{want} in {piece}"
+            );
+        }
     }
-    Ok(())
+}
+
+/// Octets, the read that fails, and what is answered.
+static FAULTS: [(&[u8], u64, &str); 5] = [
+    (b"ab\ncd\nef\n", 1, "rr"),
+    (b"ab\ncd\nef\n", 2, "tab|rr"),
+    (b"ab\ncd\nef\n", 3, "tab|tcd|tef|rr"),
+    (b"ab\ncd\nef", 3, "tab|tcd|rr"),
+    (b"ab\ncd\nef", 5, "tab|tcd|tef|."),
+];
+
+#[test]
+fn a_read_fault_is_answered_again(rt: HostRuntime) {
+    for (input, failing, want) in &FAULTS {
+        assert!(rt;
+            is_told(rt.alloc(), input, 5, *failing, want) == Some(true),
+            "{failing}"
+        );
+    }
 }
 
 /// So many octets, with line feeds at these places, in pieces of so many. It keeps how much room
@@ -153,57 +167,48 @@ impl Source for Long<'_> {
 
 const MOST: u64 = 1_073_741_824;
 
-#[test]
-fn long_lines_and_many_octets(rt: HostRuntime) -> Result<(), Fail> {
-    let alloc = rt.alloc();
-    let rows: [(u64, &[u64], usize, &str); 8] = [
-        (
-            16_777_220,
-            &[16_777_216, 16_777_218],
-            65536,
-            "T16777216|tx|tx|.",
-        ),
-        (16_777_220, &[16_777_217, 16_777_219], 65536, "ltx|."),
-        (16_777_216, &[], 65535, "T16777216|."),
-        (16_777_217, &[], 65535, "l."),
-        (MOST - 1, &[MOST - 3], 65535, "ltx|."),
-        (MOST, &[MOST - 3], 65535, "lmm"),
-        (MOST, &[MOST - 3, MOST - 1], 65536, "ltx|mm"),
-        (MOST + 1, &[], 65536, "mm"),
-    ];
-    for (size, feeds, piece, want) in rows {
-        let mut source = Long {
-            size,
-            feeds,
-            piece,
-            at: 0,
-            offered: 65536,
-            whole: true,
-        };
-        let seen = answers(alloc, &mut source)?;
-        assert_eq!(rt; seen.as_str(), want);
-        assert!(rt; source.at <= MOST);
-    }
-    Ok(())
-}
+/// A size, the places of line feeds, the size of pieces, and what is answered.
+static LONG_INPUTS: [(u64, &[u64], usize, &str); 8] = [
+    (
+        16_777_220,
+        &[16_777_216, 16_777_218],
+        65536,
+        "T16777216|tx|tx|.",
+    ),
+    (16_777_220, &[16_777_217, 16_777_219], 65536, "ltx|."),
+    (16_777_216, &[], 65535, "T16777216|."),
+    (16_777_217, &[], 65535, "l."),
+    (MOST - 1, &[MOST - 3], 65535, "ltx|."),
+    (MOST, &[MOST - 3], 65535, "lmm"),
+    (MOST, &[MOST - 3, MOST - 1], 65536, "ltx|mm"),
+    (MOST + 1, &[], 65536, "mm"),
+];
 
-#[test]
-fn each_read_offers_a_whole_piece_or_what_remains(rt: HostRuntime) -> Result<(), Fail> {
-    let alloc = rt.alloc();
-    let mut source = Long {
-        size: MOST,
-        feeds: &[],
-        piece: 65535,
+fn long_source<'a>(size: u64, feeds: &'a [u64], piece: usize) -> Long<'a> {
+    Long {
+        size,
+        feeds,
+        piece,
         at: 0,
         offered: 65536,
         whole: true,
-    };
-    let seen = answers(alloc, &mut source)?;
-    assert_eq!(rt; seen.as_str(), "mm");
-    assert_eq!(rt; source.at, MOST);
-    assert!(rt; source.whole);
-    assert_eq!(rt; source.offered, 16384);
-    Ok(())
+    }
+}
+
+#[test]
+fn long_lines_and_many_octets(rt: HostRuntime) {
+    for (size, feeds, piece, want) in &LONG_INPUTS {
+        let mut source = long_source(*size, feeds, *piece);
+        assert!(rt; is_answered(rt.alloc(), &mut source, want), "{size}");
+        assert!(rt; source.at <= MOST);
+    }
+}
+
+#[test]
+fn each_read_offers_a_whole_piece_or_what_remains(rt: HostRuntime) {
+    let mut source = long_source(MOST, &[], 65535);
+    assert!(rt; is_answered(rt.alloc(), &mut source, "mm"));
+    assert!(rt; source.at == MOST && source.whole && source.offered == 16384);
 }
 
 /// Takes so many octets of each piece, and keeps how many it was offered.
@@ -228,44 +233,54 @@ impl Sink for Recorder {
     }
 }
 
-#[test]
-fn each_write_offers_all_that_remain(rt: HostRuntime) -> Result<(), Fail> {
-    let alloc = rt.alloc();
-    let rows: [(usize, &[u8], bool, &[usize]); 4] = [
-        (2, b"abcde", true, &[5, 3, 1]),
-        (9, b"abcde", true, &[5]),
-        (2, b"", true, &[]),
-        (0, b"abcde", false, &[5]),
-    ];
-    for (piece, octets, want, offers) in rows {
-        let mut sink = Recorder {
-            piece,
-            offered: Vec::new(alloc),
-            faults: 0,
-        };
-        assert_eq!(rt; write_all(&mut sink, octets).is_ok(), want);
-        assert_eq!(rt; sink.offered.as_slice(), offers);
-    }
-    Ok(())
+/// The size of pieces, octets, whether all are written, and how many each write was offered.
+static OFFERS: [(usize, &[u8], bool, &[usize]); 4] = [
+    (2, b"abcde", true, &[5, 3, 1]),
+    (9, b"abcde", true, &[5]),
+    (2, b"", true, &[]),
+    (0, b"abcde", false, &[5]),
+];
+
+fn is_offered(alloc: Global, piece: usize, octets: &[u8], want: bool, offers: &[usize]) -> bool {
+    let mut sink = Recorder {
+        piece,
+        offered: Vec::new(alloc),
+        faults: 0,
+    };
+    write_all(&mut sink, octets).is_ok() == want && sink.offered.as_slice() == offers
 }
 
 #[test]
-fn a_write_fault_leaves_a_prefix(rt: HostRuntime) -> Result<(), Fail> {
-    let alloc = rt.alloc();
-    let rows: [(usize, u64, bool, &[u8]); 5] = [
-        (100, 9, true, b"abcdefgh"),
-        (100, 1, false, b""),
-        (100, 3, false, b"abcdef"),
-        (7, 9, false, b"abcdefg"),
-        (0, 9, false, b""),
-    ];
-    for (room, failing, want, written) in rows {
-        let fails = [failing].to_vec(alloc)?;
-        let mut sink = MemorySink::new(alloc, 3, room, fails).ok().ok_or("memory")?;
-        assert_eq!(rt; write_all(&mut sink, b"abcdefgh").is_ok(), want);
-        assert_eq!(rt; sink.written(), written);
+fn each_write_offers_all_that_remain(rt: HostRuntime) {
+    for (piece, octets, want, offers) in &OFFERS {
+        assert!(rt; is_offered(rt.alloc(), *piece, octets, *want, offers));
     }
-    Ok(())
+}
+
+/// The room of a sink, the write that fails, whether all is written, and what is.
+static PREFIXES: [(usize, u64, bool, &[u8]); 5] = [
+    (100, 9, true, b"abcdefgh"),
+    (100, 1, false, b""),
+    (100, 3, false, b"abcdef"),
+    (7, 9, false, b"abcdefg"),
+    (0, 9, false, b""),
+];
+
+/// Whether a sink with this room takes all of eight octets, and which, where the write of this number fails.
+fn takes(alloc: Global, room: usize, failing: u64, want: bool, written: &[u8]) -> Option<bool> {
+    let fails = [failing].to_vec(alloc).ok()?;
+    let mut sink = MemorySink::new(alloc, 3, room, fails).ok()?;
+    Some(write_all(&mut sink, b"abcdefgh").is_ok() == want && sink.written() == written)
+}
+
+#[test]
+fn a_write_fault_leaves_a_prefix(rt: HostRuntime) {
+    for (room, failing, want, written) in &PREFIXES {
+        assert!(rt;
+            takes(rt.alloc(), *room, *failing, *want, written) == Some(true),
+            "{room}"
+        );
+    }
 }
 
 /// The second read fails where its number alone stands among the failing ones.
@@ -287,11 +302,10 @@ fn write_to_full(sink: &mut MemorySink, piece: &[u8]) -> Result<usize, Failed>
 }
 
 #[test]
-fn standard_forms(rt: HostRuntime) -> Result<(), Fail> {
+fn standard_forms(rt: HostRuntime) {
     let mut source = StdSource::new(rt.stdin());
-    assert_eq!(rt; source.read(&mut []), Ok(0));
+    assert!(rt; source.read(&mut []) == Ok(0));
     let mut sink = StdSink::new(rt.stdout());
-    assert_eq!(rt; sink.write(b""), Ok(0));
-    assert_eq!(rt; sink.write(b"\n"), Ok(1));
-    Ok(())
+    assert!(rt; sink.write(b"") == Ok(0));
+    assert!(rt; sink.write(b"\n") == Ok(1));
 }

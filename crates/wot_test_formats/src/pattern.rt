@@ -1,9 +1,8 @@
 use std::alloc::Global;
-use std::test::Fail;
 use wot_pattern::{Matcher, PatternFault, one_reading, parse};
 use wot_types::Memory;
 
-#[derive(Clone, Copy, Debug, PartialEq, Eq)]
+#[derive(Clone, Copy, PartialEq, Eq)]
 enum Answer {
     Matches,
     Differs,
@@ -195,62 +194,67 @@ static ROWS: [(&str, &str, Answer); 139] = [
 
 #[test]
 fn answers_as_another_program(rt: HostRuntime) {
-    for (pattern, text, expected) in ROWS.iter() {
-        assert_eq!(rt;
-            answer_to(rt.alloc(), pattern, text),
-            *expected,
+    for (pattern, text, expected) in &ROWS {
+        assert!(rt;
+            answer_to(rt.alloc(), pattern, text) == *expected,
             "{pattern:?} on {text:?}"
         );
     }
 }
 
 /// The text of so many times the one part and then so many times the other.
-fn repeated(alloc: Global, count: u32, first: &str, second: &str) -> Result<String, Fail> {
+fn repeated(alloc: Global, count: u32, first: &str, second: &str) -> Option<String> {
     let mut text = String::new(alloc);
     for _ in 0..count {
-        text.push_str(first)?;
+        text.push_str(first).ok()?;
     }
     for _ in 0..count {
-        text.push_str(second)?;
+        text.push_str(second).ok()?;
     }
-    Ok(text)
+    Some(text)
 }
 
+/// Patterns at their bounds, in so many times two parts, and what they answer of `x`.
+static BOUNDS: [(u32, &str, &str, Answer); 7] = [
+    (64, "(", ")", Matches),
+    (65, "(", ")", Unreadable),
+    (64, "(x|", ")*", Matches),
+    (1024, "a", "", Differs),
+    (1025, "a", "", Unreadable),
+    (512, "é?", "", Matches),
+    (513, "é?", "", Unreadable),
+];
+
 #[test]
-fn bounds_are_exact(rt: HostRuntime) -> Result<(), Fail> {
-    for (count, first, second, expected) in [
-        (64, "(", ")", Matches),
-        (65, "(", ")", Unreadable),
-        (64, "(x|", ")*", Matches),
-        (1024, "a", "", Differs),
-        (1025, "a", "", Unreadable),
-        (512, "é?", "", Matches),
-        (513, "é?", "", Unreadable),
-    ] {
-        let pattern = repeated(rt.alloc(), count, first, second)?;
-        assert_eq!(rt;
-            answer_to(rt.alloc(), pattern.as_str(), "x"),
-            expected,
-            "{count} of {first:?} and {second:?}"
+fn bounds_are_exact(rt: HostRuntime) {
+    for (count, first, second, expected) in &BOUNDS {
+        let pattern = repeated(rt.alloc(), *count, first, second).expect(&rt, "memory");
+        assert!(rt;
+            answer_to(rt.alloc(), &pattern, "x") == *expected,
+            "{count} of {first:?}"
         );
     }
-    Ok(())
+}
+
+/// Texts that one matcher is asked of in turn, and whether `^(a|bc)+$` matches.
+static AGAIN: [(&str, bool); 6] = [
+    ("abc", true),
+    ("abb", false),
+    ("", false),
+    ("bca", true),
+    ("abcb", false),
+    ("a", true),
+];
+
+fn matcher_of(alloc: Global, pattern: &str) -> Option<Matcher> {
+    Matcher::new(alloc, parse(alloc, pattern).ok()?).ok()
 }
 
 #[test]
-fn matches_again(rt: HostRuntime) -> Result<(), Fail> {
+fn matches_again(rt: HostRuntime) {
     one_reading();
-    let pattern = parse(rt.alloc(), "^(a|bc)+$").ok().ok_or("no pattern")?;
-    let mut matcher = Matcher::new(rt.alloc(), pattern).ok().ok_or("no matcher")?;
-    for (text, expected) in [
-        ("abc", true),
-        ("abb", false),
-        ("", false),
-        ("bca", true),
-        ("abcb", false),
-        ("a", true),
-    ] {
-        assert_eq!(rt; matcher.matches(text), expected, "{text:?}");
+    let mut matcher = matcher_of(rt.alloc(), "^(a|bc)+$").expect(&rt, "a matcher");
+    for (text, expected) in &AGAIN {
+        assert!(rt; matcher.matches(text) == *expected, "{text:?}");
     }
-    Ok(())
 }

@@ -1,5 +1,5 @@
+use crate::signature::bodies::{MADE_2000, certification};
 use std::alloc::{AllocError, Global};
-use std::test::Fail;
 use wot_scope::in_scope;
 
 /// Appends the subpacket of a pattern, with a zero octet behind it (RFC 9580, section 5.2.3.22).
@@ -18,82 +18,66 @@ fn push_pattern(area: &mut Vec<u8>, pattern: &[u8]) -> Result<(), AllocError> {
     Ok(())
 }
 
-/// A certification that was made at 1, with these patterns, or with fewer.
-fn certification(
-    alloc: Global,
-    first: Option<&[u8]>,
-    second: Option<&[u8]>,
-) -> Result<Vec<u8>, AllocError> {
-    let mut area = Vec::new(alloc);
-    area.extend_from_slice(&[0x05, 0x02, 0, 0, 0, 1])?;
-    if let Some(pattern) = first {
+/// A certification with these patterns.
+fn scoped(alloc: Global, patterns: &[&[u8]]) -> Result<Vec<u8>, AllocError> {
+    let mut area = MADE_2000.to_vec(alloc)?;
+    for pattern in patterns {
         push_pattern(&mut area, pattern)?;
     }
-    if let Some(pattern) = second {
-        push_pattern(&mut area, pattern)?;
-    }
-    let mut body = Vec::new(alloc);
-    body.extend_from_slice(&[0x04, 0x10, 0x1b, 0x08])?;
-    body.extend_from_slice(&u16::try_from(area.len()).unwrap_or(0).to_be_bytes())?;
-    body.extend_from_slice(&area)?;
-    body.extend_from_slice(&[0, 0, 0, 0])?;
-    Ok(body)
+    certification(alloc, &area, &[])
 }
 
-/// Up to two patterns, a user ID, and whether it is in scope.
-static ROWS: [(Option<&[u8]>, Option<&[u8]>, &[u8], bool); 17] = [
+/// Patterns, a user ID, and whether it is in scope.
+static ROWS: [(&[&[u8]], &[u8], bool); 17] = [
     (
-        Some(b"<[^>]+[@.]example\\.org>$"),
-        None,
+        &[b"<[^>]+[@.]example\\.org>$"],
         b"Ann <ann@example.org>",
         true,
     ),
     (
-        Some(b"<[^>]+[@.]example\\.org>$"),
-        None,
+        &[b"<[^>]+[@.]example\\.org>$"],
         b"Ann <ann@example.org.net>",
         false,
     ),
-    (None, None, b"Ann <ann@example.org.net>", true),
-    (None, None, b"Ann\xff", true),
-    (None, None, b"", true),
-    (Some(b""), None, b"Ann", true),
-    (Some(b""), None, b"", true),
-    (Some(b""), None, b"Ann\xff", false),
-    (Some(b"Ann"), None, b"Ann\xff", false),
-    (Some(b"Bob"), Some(b"Ann"), b"Ann", true),
-    (Some(b"Ann"), Some(b"Bob"), b"Ann", true),
-    (Some(b"Bob"), Some(b"^ann"), b"Ann", false),
-    (Some(b"a**"), None, b"Ann", false),
-    (Some(b"a**"), Some(b"[c-a]"), b"Ann", false),
-    (Some(b"a**"), Some(b"Ann"), b"Ann", true),
-    (Some(b"\xff"), None, b"Ann", false),
-    (Some(b"\xff"), Some(b"Ann"), b"Ann", true),
+    (&[], b"Ann <ann@example.org.net>", true),
+    (&[], b"Ann\xff", true),
+    (&[], b"", true),
+    (&[b""], b"Ann", true),
+    (&[b""], b"", true),
+    (&[b""], b"Ann\xff", false),
+    (&[b"Ann"], b"Ann\xff", false),
+    (&[b"Bob", b"Ann"], b"Ann", true),
+    (&[b"Ann", b"Bob"], b"Ann", true),
+    (&[b"Bob", b"^ann"], b"Ann", false),
+    (&[b"a**"], b"Ann", false),
+    (&[b"a**", b"[c-a]"], b"Ann", false),
+    (&[b"a**", b"Ann"], b"Ann", true),
+    (&[b"\xff"], b"Ann", false),
+    (&[b"\xff", b"Ann"], b"Ann", true),
 ];
 
-#[test]
-fn scope_of_patterns(rt: HostRuntime) -> Result<(), Fail> {
-    for (first, second, uid, expected) in ROWS.iter() {
-        let body = certification(rt.alloc(), *first, *second)?;
-        let held = in_scope(rt.alloc(), &body, uid).ok().ok_or("no memory")?;
-        assert_eq!(rt; held, *expected, "{first:?}, {second:?} on {uid:?}");
-    }
-    let held = in_scope(rt.alloc(), b"no body", b"Ann")
-        .ok()
-        .ok_or("no memory")?;
-    assert!(rt; held, "a body that isn't readable has no pattern");
-    Ok(())
+/// Whether a user ID is in the scope of a certification with these patterns.
+fn holds(alloc: Global, patterns: &[&[u8]], uid: &[u8]) -> Option<bool> {
+    let body = scoped(alloc, patterns).ok()?;
+    in_scope(alloc, &body, uid).ok()
 }
 
 #[test]
-fn longest_pattern(rt: HostRuntime) -> Result<(), Fail> {
-    for (count, expected) in [(1024, true), (1025, false)] {
-        let pattern = vec![in rt.alloc(); b'a'; count]?;
-        let body = certification(rt.alloc(), Some(&pattern), None)?;
-        let held = in_scope(rt.alloc(), &body, &pattern)
-            .ok()
-            .ok_or("no memory")?;
-        assert_eq!(rt; held, expected, "{count} characters");
+fn scope_of_patterns(rt: HostRuntime) {
+    for (patterns, uid, expected) in &ROWS {
+        assert!(rt;
+            holds(rt.alloc(), patterns, uid) == Some(*expected),
+            "{patterns:?} on {uid:?}"
+        );
     }
-    Ok(())
+    // A body that isn't readable has no pattern.
+    assert!(rt; in_scope(rt.alloc(), b"no body", b"Ann") == Ok(true));
+}
+
+#[test]
+fn longest_pattern(rt: HostRuntime) {
+    for (count, expected) in [(1024, true), (1025, false)] {
+        let pattern = vec![in rt.alloc(); b'a'; count].expect(&rt, "memory");
+        assert!(rt; holds(rt.alloc(), &[pattern.as_slice()], &pattern) == Some(expected));
+    }
 }

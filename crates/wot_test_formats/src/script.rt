@@ -2,7 +2,6 @@ ghost use Rattle.std.specs.Prelude.{◌<◌};
 ghost use Rattle.wot_script.specs.Replies.{HasWords};
 
 use std::alloc::Global;
-use std::test::Fail;
 use wot_script::{
     AnswerLine, AnswerLines, BindLine, BindLines, Command, Hint, KeyLine, KeyLines, LineFault,
     Octets, PendingLine, PendingLines, ReasonLine, ReasonLines, Reply, print_command, print_reply,
@@ -138,51 +137,48 @@ const FPR: &[u8] = b"c959bdbafa32a2f89a153b678cfde12197965a9a";
 const NUMBER: &[u8] = b"0a0b0c0d0e0f101112131415161718191a1b1c1d1e1f20212223242526272829";
 
 /// The line that a row stands for.
-fn whole(alloc: Global, case: &[u8]) -> Result<Vec<u8>, Fail> {
+fn whole(alloc: Global, case: &[u8]) -> Option<Vec<u8>> {
     let mut line = Vec::new(alloc);
     for octet in case {
         match octet {
-            b'$' => line.extend_from_slice(FPR)?,
-            b'%' => line.extend_from_slice(NUMBER)?,
-            other => line.push(*other)?,
+            b'$' => line.extend_from_slice(FPR).ok()?,
+            b'%' => line.extend_from_slice(NUMBER).ok()?,
+            other => line.push(*other).ok()?,
         }
     }
-    Ok(line)
+    Some(line)
 }
 
-/// How the command of a line is printed; `None` where the line is no command.
-fn printed(alloc: Global, line: &[u8]) -> Result<Option<Vec<u8>>, Fail> {
+/// How the command of a line is printed; `Some(None)` where the line is no command.
+fn printed(alloc: Global, line: &[u8]) -> Option<Option<Vec<u8>>> {
     match read_line(alloc, line) {
         Ok(command) => {
             let mut out = Vec::new(alloc);
-            print_command(&command, &mut out)?;
-            Ok(Some(out))
+            print_command(&command, &mut out).ok()?;
+            Some(Some(out))
         }
-        Err(LineFault::Line) => Ok(None),
-        Err(fault) => Err(fault)?,
+        Err(LineFault::Line) => Some(None),
+        Err(_) => None,
     }
 }
 
 /// Whether a row's line is read and printed as the row says.
-fn is_read(alloc: Global, case: &[u8], wanted: Option<&[u8]>) -> Result<bool, Fail> {
+fn is_read(alloc: Global, case: &[u8], wanted: Option<&[u8]>) -> Option<bool> {
     let line = whole(alloc, case)?;
-    let found = printed(alloc, &line)?;
-    match (found, wanted) {
-        (Some(found), Some(wanted)) => Ok(found == whole(alloc, wanted)?),
-        (found, wanted) => Ok(found.is_none() && wanted.is_none()),
+    match (printed(alloc, &line)?, wanted) {
+        (Some(found), Some(wanted)) => Some(found == whole(alloc, wanted)?),
+        (found, wanted) => Some(found.is_none() && wanted.is_none()),
     }
 }
 
 #[test]
-fn lines_are_read_and_printed(rt: HostRuntime) -> Result<(), Fail> {
+fn lines_are_read_and_printed(rt: HostRuntime) {
     for (case, wanted) in &LINES {
-        assert!(rt; is_read(rt.alloc(), case, *wanted)?);
+        assert!(rt;
+            is_read(rt.alloc(), case, *wanted) == Some(true),
+            "{case:?}"
+        );
     }
-    Ok(())
-}
-
-fn read_name(alloc: Global, text: &[u8]) -> Result<ViewName, Fail> {
-    Ok(ViewName::read(alloc, text)?.ok_or("a name")?)
 }
 
 const ISSUER: Fpr = Fpr::V4([0x12; 20]);
@@ -197,159 +193,161 @@ const EXPLAIN: &[u8] = b"explain v 1212121212121212121212121212121212121212 \\\\
 
 const ROOT: &[u8] = b"view v root 1212121212121212121212121212121212121212 9";
 
-#[test]
-fn fields_stand_in_their_order(rt: HostRuntime) -> Result<(), Fail> {
-    let alloc = rt.alloc();
-    let view = read_name(alloc, b"v")?;
-    let ask = read_line(alloc, ASK)?;
-    let uid = UserId::new(alloc, b"\\x")?;
-    assert!(rt; ask == Command::Ask(view.duplicate(alloc)?, ISSUER, 7, uid));
-    let list = read_line(alloc, LIST)?;
-    assert!(rt; list == Command::List(view.duplicate(alloc)?, 7));
-    let explain = read_line(alloc, EXPLAIN)?;
-    let uid = UserId::new(alloc, b"\\x")?;
-    assert!(rt; explain == Command::Explain(view.duplicate(alloc)?, ISSUER, uid));
-    let root = read_line(alloc, ROOT)?;
-    assert!(rt; root == Command::Root(view, ISSUER, 9));
-    Ok(())
+fn view(alloc: Global) -> Option<ViewName> {
+    ViewName::read(alloc, b"v").ok()?
+}
+
+fn reads_as(alloc: Global, line: &[u8], wanted: Command) -> bool {
+    read_line(alloc, line) == Ok(wanted)
+}
+
+fn questions_are_read(alloc: Global) -> Option<bool> {
+    let uid = UserId::new(alloc, b"\\x").ok()?;
+    let again = UserId::new(alloc, b"\\x").ok()?;
+    let ask = Command::Ask(view(alloc)?, ISSUER, 7, uid);
+    let explain = Command::Explain(view(alloc)?, ISSUER, again);
+    Some(reads_as(alloc, ASK, ask) && reads_as(alloc, EXPLAIN, explain))
+}
+
+fn numbers_are_read(alloc: Global) -> Option<bool> {
+    let list = Command::List(view(alloc)?, 7);
+    let root = Command::Root(view(alloc)?, ISSUER, 9);
+    Some(reads_as(alloc, LIST, list) && reads_as(alloc, ROOT, root))
+}
+
+fn import_gives_its_octets(alloc: Global) -> Option<bool> {
+    let mut octets = Octets::new(alloc);
+    octets.push(0xc6).ok()?;
+    octets.push(0x07).ok()?;
+    Some(reads_as(alloc, b"import c607", Command::Import(octets)))
 }
 
 #[test]
-fn import_gives_its_octets(rt: HostRuntime) -> Result<(), Fail> {
-    let mut octets = Octets::new(rt.alloc());
-    octets.push(0xc6)?;
-    octets.push(0x07)?;
-    let import = read_line(rt.alloc(), b"import c607")?;
-    assert!(rt; import == Command::Import(octets));
-    Ok(())
+fn fields_stand_in_their_order(rt: HostRuntime) {
+    assert!(rt; questions_are_read(rt.alloc()) == Some(true));
+    assert!(rt; numbers_are_read(rt.alloc()) == Some(true));
+    assert!(rt; import_gives_its_octets(rt.alloc()) == Some(true));
 }
 
 /// Whether a reply is printed as this text, behind what stood there.
-fn is_printed(alloc: Global, reply: &Reply, text: &[u8]) -> Result<bool, Fail>
+fn is_printed(alloc: Global, reply: &Reply, text: &[u8]) -> Option<bool>
     requires { HasWords reply.now }
 {
-    let mut out = Vec::from_slice(alloc, b"> ")?;
-    print_reply(reply, &mut out)?;
-    let mut wanted = Vec::from_slice(alloc, b"> ")?;
-    wanted.extend_from_slice(text)?;
-    Ok(out == wanted)
+    let mut out = Vec::from_slice(alloc, b"> ").ok()?;
+    print_reply(reply, &mut out).ok()?;
+    let mut wanted = Vec::from_slice(alloc, b"> ").ok()?;
+    wanted.extend_from_slice(text).ok()?;
+    Some(out == wanted)
 }
 
 /// The same of a reply other than that of `explain`.
-fn is_printed_without_words(alloc: Global, reply: &Reply, text: &[u8]) -> Result<bool, Fail> {
+fn is_printed_without_words(alloc: Global, reply: &Reply, text: &[u8]) -> bool {
     match reply {
-        Reply::Explained(_, _, _) => Ok(false),
-        _ => is_printed(alloc, reply, text),
+        Reply::Explained(_, _, _) => false,
+        _ => is_printed(alloc, reply, text) == Some(true),
     }
 }
 
 /// Replies of one line, and how they are printed.
-fn short_replies(export: Octets, dump: Octets) -> [(Reply, &'static [u8]); 20] {
-    let most = u64::MAX;
-    [
-        (Reply::Taken(2, 1, 20), b"ok taken 2 skipped 1 new 20\n"),
-        (
-            Reply::Taken(most, 0, most),
-            b"ok taken 18446744073709551615 skipped 0 new 18446744073709551615\n",
-        ),
-        (Reply::Done, b"ok\n"),
-        (Reply::Export(export), b"export c60f\n"),
-        (Reply::Dump(0, dump), b"dump 0\n"),
-        (Reply::Long, b"refused long\n"),
-        (Reply::Line, b"refused line\n"),
-        (Reply::View, b"refused view\n"),
-        (Reply::Shelf, b"fault shelf\n"),
-        (Reply::Packet(3, 0), b"refused packet 3 0\n"),
-        (Reply::Compressed, b"refused compressed\n"),
-        (Reply::Secret, b"refused secret\n"),
-        (Reply::Kind(9, 18), b"refused kind 9 18\n"),
-        (Reply::Order(5), b"refused order 5\n"),
-        (Reply::Empty, b"refused empty\n"),
-        (Reply::Misfiled, b"refused misfiled\n"),
-        (Reply::Clash, b"refused clash\n"),
-        (Reply::Absent, b"refused absent\n"),
-        (Reply::Full(Limit::Views), b"refused full views\n"),
-        (
-            Reply::Full(Limit::Certificates),
-            b"refused full certificates\n",
-        ),
-    ]
-}
+const SHORT: [(Reply, &[u8]); 18] = [
+    (Reply::Taken(2, 1, 20), b"ok taken 2 skipped 1 new 20\n"),
+    (
+        Reply::Taken(u64::MAX, 0, u64::MAX),
+        b"ok taken 18446744073709551615 skipped 0 new 18446744073709551615\n",
+    ),
+    (Reply::Done, b"ok\n"),
+    (Reply::Long, b"refused long\n"),
+    (Reply::Line, b"refused line\n"),
+    (Reply::View, b"refused view\n"),
+    (Reply::Shelf, b"fault shelf\n"),
+    (Reply::Packet(3, 0), b"refused packet 3 0\n"),
+    (Reply::Compressed, b"refused compressed\n"),
+    (Reply::Secret, b"refused secret\n"),
+    (Reply::Kind(9, 18), b"refused kind 9 18\n"),
+    (Reply::Order(5), b"refused order 5\n"),
+    (Reply::Empty, b"refused empty\n"),
+    (Reply::Misfiled, b"refused misfiled\n"),
+    (Reply::Clash, b"refused clash\n"),
+    (Reply::Absent, b"refused absent\n"),
+    (Reply::Full(Limit::Views), b"refused full views\n"),
+    (
+        Reply::Full(Limit::Certificates),
+        b"refused full certificates\n",
+    ),
+];
 
 #[test]
-fn replies_of_one_line_are_printed(rt: HostRuntime) -> Result<(), Fail> {
-    let alloc = rt.alloc();
-    let octets = Octets::from_vec(Vec::from_slice(alloc, b"\xc6\x0f")?);
-    for (reply, text) in &short_replies(octets, Octets::new(alloc)) {
-        assert!(rt; is_printed_without_words(alloc, reply, text)?);
+fn replies_of_one_line_are_printed(rt: HostRuntime) {
+    for (reply, text) in &SHORT {
+        assert!(rt;
+            is_printed_without_words(rt.alloc(), reply, text),
+            "{text:?}"
+        );
     }
-    Ok(())
 }
 
-fn answer_lines(alloc: Global) -> Result<AnswerLines, Fail> {
-    let mut lines = AnswerLines::new(alloc);
-    lines.push(AnswerLine::Path(60, 1, ISSUER))?;
-    let uid = UserId::new(alloc, b"\xc3\xa9 \\")?;
-    lines.push(AnswerLine::Step(ISSUER, TARGET, 255, 120, uid))?;
-    Ok(AnswerLines::from_vec(lines.into_vec()))
+fn octets(alloc: Global, octets: &[u8]) -> Option<Octets> {
+    let taken = Octets::from_vec(Vec::from_slice(alloc, octets).ok()?);
+    Some(Octets::from_vec(taken.into_vec()))
 }
 
-fn answer_text() -> &'static [u8] {
-    b"amount 60 paths 1\n\
+fn export_and_dump_are_printed(alloc: Global) -> Option<bool> {
+    let export = Reply::Export(octets(alloc, b"\xc6\x0f")?);
+    let dump = Reply::Dump(2, octets(alloc, b"keys\ndump\n")?);
+    let none = Reply::Dump(0, Octets::new(alloc));
+    Some(
+        is_printed_without_words(alloc, &export, b"export c60f\n")
+            && is_printed_without_words(alloc, &dump, b"dump 2\nkeys\ndump\n")
+            && is_printed_without_words(alloc, &none, b"dump 0\n"),
+    )
+}
+
+const ANSWER: &[u8] = b"amount 60 paths 1\n\
       path 60 steps 1 root 1212121212121212121212121212121212121212\n\
-      step 1212121212121212121212121212121212121212 efefefefefefefefefefefefefefefefefefefef 255 120 \\xc3\\xa9 \\\\\n"
+      step 1212121212121212121212121212121212121212 efefefefefefefefefefefefefefefefefefefef 255 120 \\xc3\\xa9 \\\\\n";
+
+fn answers_are_printed(alloc: Global) -> Option<bool> {
+    let mut lines = AnswerLines::new(alloc);
+    lines.push(AnswerLine::Path(60, 1, ISSUER)).ok()?;
+    let uid = UserId::new(alloc, b"\xc3\xa9 \\").ok()?;
+    lines
+        .push(AnswerLine::Step(ISSUER, TARGET, 255, 120, uid))
+        .ok()?;
+    let some = Reply::Amount(60, 1, AnswerLines::from_vec(lines.into_vec()));
+    let none = Reply::Amount(0, 0, AnswerLines::new(alloc));
+    Some(
+        is_printed_without_words(alloc, &some, ANSWER)
+            && is_printed_without_words(alloc, &none, b"amount 0 paths 0\n"),
+    )
 }
 
-#[test]
-fn an_answer_is_printed(rt: HostRuntime) -> Result<(), Fail> {
-    let reply = Reply::Amount(60, 1, answer_lines(rt.alloc())?);
-    assert!(rt; is_printed(rt.alloc(), &reply, answer_text())?);
-    let none = Reply::Amount(0, 0, AnswerLines::new(rt.alloc()));
-    assert!(rt; is_printed(rt.alloc(), &none, b"amount 0 paths 0\n")?);
-    Ok(())
-}
+const KEYS: &[u8] = b"keys 2\n\
+    key efefefefefefefefefefefefefefefefefefefef 0 1\n\
+    key 1212121212121212121212121212121212121212 10 0\n";
 
-fn key_lines(alloc: Global) -> Result<KeyLines, Fail> {
+fn keys_are_printed(alloc: Global) -> Option<bool> {
     let mut lines = KeyLines::new(alloc);
-    lines.push(KeyLine(TARGET, 0, 1))?;
-    lines.push(KeyLine(ISSUER, 10, 0))?;
-    Ok(KeyLines::from_vec(lines.into_vec()))
-}
-
-fn keys_text() -> &'static [u8] {
-    b"keys 2\nkey efefefefefefefefefefefefefefefefefefefef 0 1\nkey 1212121212121212121212121212121212121212 10 0\n"
-}
-
-#[test]
-fn keys_and_dump_are_printed(rt: HostRuntime) -> Result<(), Fail> {
-    let keys = Reply::Keys(2, key_lines(rt.alloc())?);
-    assert!(rt; is_printed(rt.alloc(), &keys, keys_text())?);
-    let lines = Octets::from_vec(Vec::from_slice(rt.alloc(), b"keys\ndump\n")?);
-    let dump = Reply::Dump(2, Octets::from_vec(lines.into_vec()));
-    assert!(rt; is_printed(rt.alloc(), &dump, b"dump 2\nkeys\ndump\n")?);
-    Ok(())
-}
-
-fn bind_lines(alloc: Global) -> Result<BindLines, Fail> {
-    let mut lines = BindLines::new(alloc);
-    lines.push(BindLine(120, ISSUER, UserId::new(alloc, b"\\ \x7f")?))?;
-    lines.push(BindLine(u32::MAX, TARGET, UserId::new(alloc, b"")?))?;
-    Ok(BindLines::from_vec(lines.into_vec()))
+    lines.push(KeyLine(TARGET, 0, 1)).ok()?;
+    lines.push(KeyLine(ISSUER, 10, 0)).ok()?;
+    let keys = Reply::Keys(2, KeyLines::from_vec(lines.into_vec()));
+    Some(is_printed_without_words(alloc, &keys, KEYS))
 }
 
 const LISTED: &[u8] = b"list 2\n\
     bind 120 1212121212121212121212121212121212121212 \\\\ \\x7f\n\
     bind 4294967295 efefefefefefefefefefefefefefefefefefefef \n";
 
-const SIGNATURE: SigNumber = SigNumber([0x0a; 32]);
-
-fn pending_lines(alloc: Global) -> Result<PendingLines, Fail> {
-    let mut lines = PendingLines::new(alloc);
-    lines.push(PendingLine(SIGNATURE, TARGET, Hint::Full(ISSUER)))?;
-    lines.push(PendingLine(SIGNATURE, TARGET, Hint::Short([0, 1, 0xab, 3, 4, 5, 6, 7])))?;
-    lines.push(PendingLine(SIGNATURE, TARGET, Hint::Nothing))?;
-    Ok(PendingLines::from_vec(lines.into_vec()))
+fn bindings_are_printed(alloc: Global) -> Option<bool> {
+    let mut lines = BindLines::new(alloc);
+    let uid = UserId::new(alloc, b"\\ \x7f").ok()?;
+    lines.push(BindLine(120, ISSUER, uid)).ok()?;
+    let uid = UserId::new(alloc, b"").ok()?;
+    lines.push(BindLine(u32::MAX, TARGET, uid)).ok()?;
+    let list = Reply::List(2, BindLines::from_vec(lines.into_vec()));
+    Some(is_printed_without_words(alloc, &list, LISTED))
 }
+
+const SIGNATURE: SigNumber = SigNumber([0x0a; 32]);
 
 const WAITING: &[u8] = b"pending 3\n\
     sig 0a0a0a0a0a0a0a0a0a0a0a0a0a0a0a0a0a0a0a0a0a0a0a0a0a0a0a0a0a0a0a0a \
@@ -359,15 +357,31 @@ const WAITING: &[u8] = b"pending 3\n\
     sig 0a0a0a0a0a0a0a0a0a0a0a0a0a0a0a0a0a0a0a0a0a0a0a0a0a0a0a0a0a0a0a0a \
     efefefefefefefefefefefefefefefefefefefef -\n";
 
-#[test]
-fn listed_and_pending_are_printed(rt: HostRuntime) -> Result<(), Fail> {
-    let list = Reply::List(2, bind_lines(rt.alloc())?);
-    assert!(rt; is_printed(rt.alloc(), &list, LISTED)?);
-    let pending = Reply::Pending(3, pending_lines(rt.alloc())?);
-    assert!(rt; is_printed(rt.alloc(), &pending, WAITING)?);
-    Ok(())
+const SHORT_ID: Hint = Hint::Short([0, 1, 0xab, 3, 4, 5, 6, 7]);
+
+fn waiting_are_printed(alloc: Global) -> Option<bool> {
+    let mut lines = PendingLines::new(alloc);
+    lines
+        .push(PendingLine(SIGNATURE, TARGET, Hint::Full(ISSUER)))
+        .ok()?;
+    lines.push(PendingLine(SIGNATURE, TARGET, SHORT_ID)).ok()?;
+    lines
+        .push(PendingLine(SIGNATURE, TARGET, Hint::Nothing))
+        .ok()?;
+    let pending = Reply::Pending(3, PendingLines::from_vec(lines.into_vec()));
+    Some(is_printed_without_words(alloc, &pending, WAITING))
 }
 
+#[test]
+fn replies_of_many_lines_are_printed(rt: HostRuntime) {
+    assert!(rt; export_and_dump_are_printed(rt.alloc()) == Some(true));
+    assert!(rt; answers_are_printed(rt.alloc()) == Some(true));
+    assert!(rt; keys_are_printed(rt.alloc()) == Some(true));
+    assert!(rt; bindings_are_printed(rt.alloc()) == Some(true));
+    assert!(rt; waiting_are_printed(rt.alloc()) == Some(true));
+}
+
+/// Words of the target, and the replies with them.
 static TARGET_WORDS: [&[u8]; 7] = [
     b"explain ok 0\n",
     b"explain standing 0\n",
@@ -378,6 +392,7 @@ static TARGET_WORDS: [&[u8]; 7] = [
     b"explain uid 0\n",
 ];
 
+/// Words of a certification.
 static REASON_WORDS: [&[u8]; 16] = [
     b"edge",
     b"unsound",
@@ -397,43 +412,49 @@ static REASON_WORDS: [&[u8]; 16] = [
     b"issuer-soft",
 ];
 
+/// Whether the target's line tells this word.
+fn is_target_word(alloc: Global, word: u8, text: &[u8]) -> bool {
+    let reply = Reply::Explained(word, 0, ReasonLines::new(alloc));
+    word < 7 && is_printed(alloc, &reply, text) == Some(true)
+}
+
+const CERTIFICATION: &[u8] = b"explain ok 1\n\
+    cert 0a0a0a0a0a0a0a0a0a0a0a0a0a0a0a0a0a0a0a0a0a0a0a0a0a0a0a0a0a0a0a0a ";
+
 /// Whether the certification's line tells this word.
-fn is_told(alloc: Global, word: u8, text: &[u8]) -> Result<bool, Fail>
+fn is_told(alloc: Global, word: u8, text: &[u8]) -> Option<bool>
     requires { word < 16 }
 {
     let mut lines = ReasonLines::new(alloc);
-    lines.push(ReasonLine::Word(SIGNATURE, word))?;
-    let mut wanted = Vec::from_slice(
-        alloc,
-        b"explain ok 1\n\
-        cert 0a0a0a0a0a0a0a0a0a0a0a0a0a0a0a0a0a0a0a0a0a0a0a0a0a0a0a0a0a0a0a0a ",
-    )?;
-    wanted.extend_from_slice(text)?;
-    wanted.push(b'\n')?;
+    lines.push(ReasonLine::Word(SIGNATURE, word)).ok()?;
+    let mut wanted = Vec::from_slice(alloc, CERTIFICATION).ok()?;
+    wanted.extend_from_slice(text).ok()?;
+    wanted.push(b'\n').ok()?;
     is_printed(alloc, &Reply::Explained(0, 1, lines), &wanted)
 }
 
 #[test]
-fn words_are_told(rt: HostRuntime) -> Result<(), Fail> {
+fn words_are_told(rt: HostRuntime) {
     for word in 0..7u8 {
-        let reply = Reply::Explained(word, 0, ReasonLines::new(rt.alloc()));
-        assert!(rt; is_printed(rt.alloc(), &reply, TARGET_WORDS[word as usize])?);
+        assert!(rt; is_target_word(rt.alloc(), word, TARGET_WORDS[word as usize]));
     }
     for word in 0..16u8 {
-        assert!(rt; is_told(rt.alloc(), word, REASON_WORDS[word as usize])?);
+        assert!(rt; is_told(rt.alloc(), word, REASON_WORDS[word as usize]) == Some(true));
     }
-    Ok(())
 }
 
 const EXPLAINED: &[u8] = b"explain soft 1\n\
     cert 0a0a0a0a0a0a0a0a0a0a0a0a0a0a0a0a0a0a0a0a0a0a0a0a0a0a0a0a0a0a0a0a edge \
     1212121212121212121212121212121212121212 7 60\n";
 
-#[test]
-fn an_edge_is_told(rt: HostRuntime) -> Result<(), Fail> {
-    let mut lines = ReasonLines::new(rt.alloc());
-    lines.push(ReasonLine::Edge(SIGNATURE, ISSUER, 7, 60))?;
+fn edge_is_told(alloc: Global) -> Option<bool> {
+    let mut lines = ReasonLines::new(alloc);
+    lines.push(ReasonLine::Edge(SIGNATURE, ISSUER, 7, 60)).ok()?;
     let lines = ReasonLines::from_vec(lines.into_vec());
-    assert!(rt; is_printed(rt.alloc(), &Reply::Explained(5, 1, lines), EXPLAINED)?);
-    Ok(())
+    is_printed(alloc, &Reply::Explained(5, 1, lines), EXPLAINED)
+}
+
+#[test]
+fn an_edge_is_told(rt: HostRuntime) {
+    assert!(rt; edge_is_told(rt.alloc()) == Some(true));
 }

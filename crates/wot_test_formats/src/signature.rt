@@ -1,4 +1,4 @@
-mod bodies;
+pub(crate) mod bodies;
 mod facts;
 mod hints;
 mod patterns;

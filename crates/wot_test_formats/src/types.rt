@@ -1,5 +1,5 @@
+use std::alloc::Global;
 use std::cmp::Ordering;
-use std::test::Fail;
 use wot_types::{
     Fpr, Limit, Limits, Name, SigNumber, Steps, UserId, ViewName, compare_fprs, compare_numbers,
     compare_view_names,
@@ -9,95 +9,121 @@ const LOWER: &[u8] = b"c959bdbafa32a2f89a153b678cfde12197965a9a";
 
 const UPPER: &[u8] = b"C959BDBAFA32A2F89A153B678CFDE12197965A9A";
 
-#[test]
-fn fingerprints_are_read_and_printed(rt: HostRuntime) -> Result<(), Fail> {
-    let fpr = Fpr::read(UPPER).ok_or("upper-case digits")?;
-    assert!(rt; Fpr::read(LOWER) == Some(fpr));
-    let mut out = Vec::new(rt.alloc());
-    fpr.print(&mut out)?;
-    assert!(rt; out.as_slice() == LOWER);
-    fpr.printed_is_read();
-    assert!(rt; Fpr::read(b"c959bdbafa32a2f89a153b678cfde12197965a9").is_none());
-    assert!(rt; Fpr::read(b"c959bdbafa32a2f89a153b678cfde12197965a9g").is_none());
-    let other = Fpr::V4([0xca; 20]);
-    assert!(rt; compare_fprs(&fpr, &other) == Ordering::Less);
-    assert!(rt; Name::Cert(other) < Name::TrustRoot);
-    Ok(())
+const DIGITS: &[u8] = b"0a0a0a0a0a0a0a0a0a0a0a0a0a0a0a0a0a0a0a0a0a0a0a0a0a0a0a0a0a0a0a0a";
+
+/// Texts that are neither a fingerprint nor a signature number.
+static MALFORMED: [&[u8]; 3] = [
+    b"c959bdbafa32a2f89a153b678cfde12197965a9",
+    b"c959bdbafa32a2f89a153b678cfde12197965a9g",
+    b"0a0a0a0a0a0a0a0a0a0a0a0a0a0a0a0a0a0a0a0a0a0a0a0a0a0a0a0a0a0a0a0",
+];
+
+/// Whether the fingerprint is read from both spellings, and printed as the lower one.
+fn is_spelled_so() -> bool {
+    Fpr::read(UPPER).is_some() && Fpr::read(UPPER) == Fpr::read(LOWER)
 }
 
-#[test]
-fn numbers_are_read_and_printed(rt: HostRuntime) -> Result<(), Fail> {
+fn are_printed(alloc: Global) -> Option<bool> {
+    let fpr = Fpr::read(UPPER)?;
     let number = SigNumber([0x0a; 32]);
-    let mut out = Vec::new(rt.alloc());
-    number.print(&mut out)?;
-    assert!(rt; out.len() == 64);
-    assert!(rt; SigNumber::read(&out) == Some(number));
+    let mut fprs = Vec::new(alloc);
+    fpr.print(&mut fprs).ok()?;
+    let mut numbers = Vec::new(alloc);
+    number.print(&mut numbers).ok()?;
+    fpr.printed_is_read();
     number.printed_is_read();
+    Some(fprs.as_slice() == LOWER && numbers.as_slice() == DIGITS)
+}
+
+#[test]
+fn fingerprints_and_numbers_are_read_and_printed(rt: HostRuntime) {
+    assert!(rt; is_spelled_so() && are_printed(rt.alloc()) == Some(true));
+    assert!(rt; SigNumber::read(DIGITS) == Some(SigNumber([0x0a; 32])));
     assert!(rt; SigNumber::read(LOWER).is_none());
-    assert!(rt; compare_numbers(&number, &SigNumber([0x09; 32])) == Ordering::Greater);
+    for text in &MALFORMED {
+        assert!(rt; Fpr::read(text).is_none() && SigNumber::read(text).is_none());
+    }
+}
+
+#[test]
+fn orders_are_those_of_octets(rt: HostRuntime) {
+    let fpr = Fpr::V4([0xca; 20]);
+    assert!(rt; compare_fprs(&Fpr::V4([0xc9; 20]), &fpr) == Ordering::Less);
+    assert!(rt; Name::Cert(fpr) < Name::TrustRoot);
+    assert!(rt; compare_numbers(&SigNumber([10; 32]), &SigNumber([9; 32])) == Ordering::Greater);
     assert!(rt; Steps::new() == Steps { made: 0 });
-    Ok(())
+}
+
+static NAMES: [&[u8]; 4] = [b"p", b"a-z_0-9", b"-", b"abcdefghijklmnopqrstuvwxyz012345"];
+
+/// Texts that are no name of a view.
+static OTHERS: [&[u8]; 8] = [
+    b"",
+    b"abcdefghijklmnopqrstuvwxyz0123456",
+    b"A",
+    b"a b",
+    b"a/",
+    b"`",
+    b"{",
+    b"\xc3\xa9",
+];
+
+fn name(alloc: Global, text: &[u8]) -> Option<ViewName> {
+    ViewName::read(alloc, text).ok()?
+}
+
+/// Whether a name keeps its octets, and its duplicate too.
+fn is_kept(alloc: Global, text: &[u8]) -> Option<bool> {
+    let name = name(alloc, text)?;
+    Some(name.octets() == text && name.duplicate(alloc).ok()? == name)
 }
 
 #[test]
-fn view_names_have_1_to_32_octets_of_their_alphabet(rt: HostRuntime) -> Result<(), Fail> {
-    let alloc = rt.alloc();
-    let names: [&[u8]; 4] = [b"p", b"a-z_0-9", b"-", b"abcdefghijklmnopqrstuvwxyz012345"];
-    for text in names {
-        let name = ViewName::read(alloc, text)?.ok_or("a name")?;
-        assert!(rt; name.octets() == text);
-        assert!(rt; name.duplicate(alloc)? == name);
+fn view_names_have_1_to_32_octets_of_their_alphabet(rt: HostRuntime) {
+    for text in &NAMES {
+        assert!(rt; is_kept(rt.alloc(), text) == Some(true));
     }
-    let others: [&[u8]; 8] = [
-        b"",
-        b"abcdefghijklmnopqrstuvwxyz0123456",
-        b"A",
-        b"a b",
-        b"a/",
-        b"`",
-        b"{",
-        b"\xc3\xa9",
-    ];
-    for text in others {
-        assert!(rt; ViewName::read(alloc, text)?.is_none());
+    for text in &OTHERS {
+        assert!(rt; ViewName::read(rt.alloc(), text) == Ok(None), "{text:?}");
     }
-    Ok(())
+}
+
+fn are_ordered(alloc: Global) -> Option<bool> {
+    let (a, ab, b) = (name(alloc, b"a")?, name(alloc, b"ab")?, name(alloc, b"b")?);
+    let less = compare_view_names(&a, &ab) == Ordering::Less;
+    let greater = compare_view_names(&b, &ab) == Ordering::Greater;
+    Some(less && greater && a < ab && a != ab && a == a)
 }
 
 #[test]
-fn view_names_are_ordered_by_octets(rt: HostRuntime) -> Result<(), Fail> {
-    let alloc = rt.alloc();
-    let a = ViewName::read(alloc, b"a")?.ok_or("a name")?;
-    let ab = ViewName::read(alloc, b"ab")?.ok_or("a name")?;
-    let b = ViewName::read(alloc, b"b")?.ok_or("a name")?;
-    assert!(rt; compare_view_names(&a, &ab) == Ordering::Less);
-    assert!(rt; compare_view_names(&b, &ab) == Ordering::Greater);
-    assert!(rt; a < ab && a != ab && a == a);
-    Ok(())
+fn view_names_are_ordered_by_octets(rt: HostRuntime) {
+    assert!(rt; are_ordered(rt.alloc()) == Some(true));
+}
+
+fn keeps_its_octets(alloc: Global, octets: &[u8]) -> Option<bool> {
+    let uid = UserId::new(alloc, octets).ok()?;
+    Some(uid.octets() == octets && uid != UserId::new(alloc, b"").ok()?)
 }
 
 #[test]
-fn user_ids_keep_their_octets(rt: HostRuntime) -> Result<(), Fail> {
-    let alloc = rt.alloc();
-    let uid = UserId::new(alloc, b"\xc3\xa9 \\\x00")?;
-    assert!(rt; uid.octets() == b"\xc3\xa9 \\\x00".as_slice());
-    assert!(rt; uid != UserId::new(alloc, b"")?);
-    Ok(())
+fn user_ids_keep_their_octets(rt: HostRuntime) {
+    assert!(rt; keeps_its_octets(rt.alloc(), b"\xc3\xa9 \\\x00") == Some(true));
 }
+
+static WORDS: [(Limit, &[u8]); 7] = [
+    (Limit::Certificate, b"certificate"),
+    (Limit::Certificates, b"certificates"),
+    (Limit::Octets, b"octets"),
+    (Limit::Signatures, b"signatures"),
+    (Limit::Verdicts, b"verdicts"),
+    (Limit::Views, b"views"),
+    (Limit::Roots, b"roots"),
+];
 
 #[test]
 fn limits_are_told_by_their_words(rt: HostRuntime) {
-    let words: [(Limit, &[u8]); 7] = [
-        (Limit::Certificate, b"certificate"),
-        (Limit::Certificates, b"certificates"),
-        (Limit::Octets, b"octets"),
-        (Limit::Signatures, b"signatures"),
-        (Limit::Verdicts, b"verdicts"),
-        (Limit::Views, b"views"),
-        (Limit::Roots, b"roots"),
-    ];
-    for (limit, word) in words {
-        assert!(rt; limit.word() == word);
+    for (limit, word) in &WORDS {
+        assert!(rt; limit.word() == *word);
     }
     assert!(rt; Limits::standard().octets == 268_435_456);
 }

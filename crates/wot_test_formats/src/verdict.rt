@@ -1,4 +1,3 @@
-use std::test::Fail;
 use wot_types::{Fpr, SigNumber};
 use wot_verdict::{Verdict, Verdicts, number_of};
 
@@ -10,76 +9,81 @@ const DIRECT: &[u8] = b"\x04\x1f\x1b\x08\x00\x06\x05\x02\x00\x00\x03\xe8\x00\x00
 const CERTIFICATION: &[u8] = b"\x04\x10\x1b\x08\x00\x06\x05\x02\x00\x00\x07\xd0\x00\x00\x00\x00";
 
 /// A place and a signature body there, and its number as Python's hashlib gives it.
-const NUMBERED: [(u8, &[u8], &[u8], &str); 6] = [
+static NUMBERED: [(u8, &[u8], &[u8], &[u8]); 6] = [
     (
         0,
         b"",
         DIRECT,
-        "68d0eb5f8ca13914fcddf1b23e5f608bf9847603834da284f01a707208051209",
+        b"68d0eb5f8ca13914fcddf1b23e5f608bf9847603834da284f01a707208051209",
     ),
     (
         1,
         b"t",
         CERTIFICATION,
-        "d9dd447fe8c293fc41431da4440b0a20fa46eb9de02df8050b8d7483bdc48992",
+        b"d9dd447fe8c293fc41431da4440b0a20fa46eb9de02df8050b8d7483bdc48992",
     ),
     (
         2,
         b"t",
         CERTIFICATION,
-        "a61e4c7714e9ba3028401e45732d454c2f4c81690393f8eb22fa945e74e5913e",
+        b"a61e4c7714e9ba3028401e45732d454c2f4c81690393f8eb22fa945e74e5913e",
     ),
     (
         3,
         b"t",
         CERTIFICATION,
-        "e916cc1d11aeb9fd07f6af6834b41d818b2d535102f4e07375394bf2842da78d",
+        b"e916cc1d11aeb9fd07f6af6834b41d818b2d535102f4e07375394bf2842da78d",
     ),
     (
         1,
         b"",
         CERTIFICATION,
-        "0b9d5e7ce0a877719cfca2c4e67eceae392c4411777160f01c1e00a18bb23536",
+        b"0b9d5e7ce0a877719cfca2c4e67eceae392c4411777160f01c1e00a18bb23536",
     ),
     (
         0,
         b"",
         b"",
-        "b803e9872199ecc85bb3c8fba50e3aa983a245248655b7e2a85b446eb6818bbd",
+        b"b803e9872199ecc85bb3c8fba50e3aa983a245248655b7e2a85b446eb6818bbd",
     ),
 ];
 
 #[test]
-fn numbers_as_another_program_gives_them(rt: HostRuntime) -> Result<(), Fail> {
-    for (kind, component, signature, digits) in NUMBERED {
-        let number = number_of(KEY, kind, component, signature);
-        assert_eq!(rt;
-            Some(number),
-            SigNumber::read(digits.as_bytes()),
-            "kind {kind}"
-        );
+fn numbers_as_another_program_gives_them(rt: HostRuntime) {
+    for (kind, component, signature, digits) in &NUMBERED {
+        let number = number_of(KEY, *kind, component, signature);
+        assert!(rt; SigNumber::read(digits) == Some(number), "kind {kind}");
     }
-    Ok(())
+}
+
+const FIRST: SigNumber = SigNumber([1; 32]);
+
+const SECOND: SigNumber = SigNumber([2; 32]);
+
+const GOOD: Verdict = Verdict::Good(Fpr::V4([7; 20]));
+
+fn are_these(verdicts: &Verdicts, first: Option<Verdict>, count: usize) -> bool {
+    let mut entries = verdicts.iter();
+    let begin = match first {
+        Some(verdict) => entries.next() == Some((FIRST, verdict)),
+        None => true,
+    };
+    begin
+        && entries.next() == Some((SECOND, GOOD))
+        && entries.next().is_none()
+        && verdicts.get(&FIRST) == first
+        && verdicts.len() == count
 }
 
 #[test]
-fn verdicts_are_a_map_in_order(rt: HostRuntime) -> Result<(), Fail> {
-    let first = SigNumber([1; 32]);
-    let second = SigNumber([2; 32]);
-    let good = Verdict::Good(Fpr::V4([7; 20]));
+fn verdicts_are_a_map_in_order(rt: HostRuntime) {
     let mut verdicts = Verdicts::new(rt.alloc());
-    assert!(rt; verdicts.set(second, good)?);
-    assert!(rt; verdicts.set(first, Verdict::Bad)?);
-    assert!(rt; !verdicts.set(first, Verdict::Bad)?);
-    assert_eq!(rt; verdicts.len(), 2);
-    let mut entries = verdicts.iter();
-    assert_eq!(rt; entries.next(), Some((first, Verdict::Bad)));
-    assert_eq!(rt; entries.next(), Some((second, good)));
-    assert_eq!(rt; entries.next(), None);
-    assert!(rt; verdicts.set(first, good)?);
-    assert_eq!(rt; verdicts.get(&first), Some(good));
-    assert!(rt; verdicts.clear(&first));
-    assert!(rt; !verdicts.clear(&first));
-    assert_eq!(rt; (verdicts.get(&first), verdicts.len()), (None, 1));
-    Ok(())
+    assert!(rt;
+        verdicts.set(SECOND, GOOD) == Ok(true) && verdicts.set(FIRST, Verdict::Bad) == Ok(true)
+    );
+    assert!(rt; verdicts.set(FIRST, Verdict::Bad) == Ok(false));
+    assert!(rt; are_these(&verdicts, Some(Verdict::Bad), 2));
+    assert!(rt; verdicts.set(FIRST, GOOD) == Ok(true) && are_these(&verdicts, Some(GOOD), 2));
+    assert!(rt; verdicts.clear(&FIRST) && !verdicts.clear(&FIRST));
+    assert!(rt; are_these(&verdicts, None, 1));
 }

@@ -1,55 +1,69 @@
 use std::alloc::Global;
-use std::test::Fail;
 use wot_types::{Fpr, UserId, ViewName};
 use wot_watch::{PutFault, Watch, Watches};
 
-fn name(alloc: Global, text: &[u8]) -> Result<ViewName, Fail> {
-    Ok(ViewName::read(alloc, text)?.ok_or("a name")?)
+fn name(alloc: Global, text: &[u8]) -> Option<ViewName> {
+    ViewName::read(alloc, text).ok()?
 }
 
-fn watch(alloc: Global, told: u32) -> Result<Watch, Fail> {
+fn watch(alloc: Global, told: u32) -> Option<Watch> {
     let target = Fpr::V4([1; 20]);
-    Ok(Watch::new(
-        name(alloc, b"p")?,
-        target,
-        120,
-        UserId::new(alloc, b"t")?,
-        told,
-    ))
+    let uid = UserId::new(alloc, b"t").ok()?;
+    Some(Watch::new(name(alloc, b"p")?, target, 120, uid, told))
+}
+
+/// Puts a watch under a name; `Some(false)` where there are too many.
+fn puts(alloc: Global, watches: &mut Watches, text: &[u8], told: u32) -> Option<bool> {
+    match watches.put(name(alloc, text)?, watch(alloc, told)?) {
+        Ok(()) => Some(true),
+        Err(PutFault::Full) => Some(false),
+        Err(PutFault::Memory) => None,
+    }
+}
+
+fn is_whole(kept: Option<&Watch>, told: u32) -> bool {
+    match kept {
+        Some(kept) => {
+            kept.told() == told
+                && kept.wanted() == 120
+                && kept.target() == Fpr::V4([1; 20])
+                && kept.view().octets() == b"p".as_slice()
+                && kept.uid() == b"t".as_slice()
+        }
+        None => false,
+    }
+}
+
+/// Whether the first watch has this name.
+fn begin_with(watches: &Watches, text: &[u8]) -> bool {
+    match watches.iter().next() {
+        Some((first, _)) => first.octets() == text,
+        None => false,
+    }
+}
+
+fn are_kept(alloc: Global) -> Option<bool> {
+    let mut watches = Watches::new(alloc);
+    let (v, w) = (name(alloc, b"v")?, name(alloc, b"w")?);
+    let put = puts(alloc, &mut watches, b"w", 120)? && puts(alloc, &mut watches, b"v", 60)?;
+    let told = put && watches.tell(&w, 0) && is_whole(watches.get(&w), 0);
+    let kept = told && is_whole(watches.get(&v), 60) && begin_with(&watches, b"v");
+    Some(kept && watches.take(&v) && watches.get(&v).is_none() && begin_with(&watches, b"w"))
 }
 
 #[test]
-fn a_watch_keeps_what_was_told(rt: HostRuntime) -> Result<(), Fail> {
-    let alloc = rt.alloc();
-    let mut watches = Watches::new(alloc);
-    assert!(rt; watches.put(name(alloc, b"w")?, watch(alloc, 120)?).is_ok());
-    assert!(rt; watches.put(name(alloc, b"v")?, watch(alloc, 60)?).is_ok());
-    assert!(rt; watches.tell(&name(alloc, b"w")?, 0));
-    let kept = watches.get(&name(alloc, b"w")?).ok_or("the watch")?;
-    assert!(rt; kept.told() == 0 && kept.wanted() == 120 && kept.target() == Fpr::V4([1; 20]));
-    assert!(rt; kept.view().octets() == b"p".as_slice() && kept.uid() == b"t".as_slice());
-    let mut all = watches.iter();
-    let (first, _) = all.next().ok_or("the first")?;
-    assert!(rt; first.octets() == b"v".as_slice());
-    assert!(rt; watches.take(&name(alloc, b"v")?));
-    assert!(rt; watches.get(&name(alloc, b"v")?).is_none());
-    Ok(())
+fn a_watch_keeps_what_was_told(rt: HostRuntime) {
+    assert!(rt; are_kept(rt.alloc()) == Some(true));
 }
 
 #[test]
-fn there_are_at_most_64(rt: HostRuntime) -> Result<(), Fail> {
-    let alloc = rt.alloc();
-    let mut watches = Watches::new(alloc);
+fn there_are_at_most_64(rt: HostRuntime) {
+    let mut watches = Watches::new(rt.alloc());
     for octet in b'0'..b'8' {
         for other in b'0'..b'8' {
-            assert!(rt;
-                watches
-                    .put(name(alloc, &[octet, other])?, watch(alloc, 1)?)
-                    .is_ok()
-            );
+            assert!(rt; puts(rt.alloc(), &mut watches, &[octet, other], 1) == Some(true));
         }
     }
-    assert!(rt; watches.put(name(alloc, b"w")?, watch(alloc, 1)?) == Err(PutFault::Full));
-    assert!(rt; watches.put(name(alloc, b"00")?, watch(alloc, 2)?).is_ok());
-    Ok(())
+    assert!(rt; puts(rt.alloc(), &mut watches, b"w", 1) == Some(false));
+    assert!(rt; puts(rt.alloc(), &mut watches, b"00", 2) == Some(true));
 }

@@ -1,41 +1,55 @@
 use crate::signature::bodies::certification;
-use std::test::Fail;
+use std::alloc::Global;
 use wot_signature::hint;
 
+const ONE: &[u8] = &[0x09, 0x10, 1, 2, 3, 4, 5, 6, 7, 8];
+
+const TWO: &[u8] = &[
+    0x09, 0x10, 1, 1, 1, 1, 1, 1, 1, 1, 0x09, 0x90, 1, 2, 3, 4, 5, 6, 7, 9,
+];
+
+/// A later one of seven octets is unknown.
+const SHORT: &[u8] = &[
+    0x09, 0x10, 1, 2, 3, 4, 5, 6, 7, 8, 0x08, 0x10, 9, 9, 9, 9, 9, 9, 9,
+];
+
+/// Behind the key ID the octets are no list of subpackets.
+const BROKEN: &[u8] = &[0x09, 0x10, 1, 2, 3, 4, 5, 6, 7, 8, 0x00];
+
+const ID: Option<[u8; 8]> = Some([1, 2, 3, 4, 5, 6, 7, 8]);
+
+const LATER_ID: Option<[u8; 8]> = Some([1, 2, 3, 4, 5, 6, 7, 9]);
+
+/// A hashed and an unhashed area, and the hint of a certification with them.
+static ROWS: [(&[u8], &[u8], Option<[u8; 8]>); 11] = [
+    (&[], &[], None),
+    (ONE, &[], ID),
+    (&[], ONE, ID),
+    (TWO, ONE, LATER_ID),
+    (ONE, TWO, ID),
+    (&[], TWO, LATER_ID),
+    (SHORT, &[], ID),
+    (&[], BROKEN, None),
+    (ONE, BROKEN, ID),
+    (BROKEN, ONE, None),
+    (&[0x08, 0x10, 9, 9, 9, 9, 9, 9, 9], ONE, ID),
+];
+
+/// Whether a certification with these areas has this hint.
+fn has_hint(alloc: Global, hashed: &[u8], unhashed: &[u8], expected: Option<[u8; 8]>) -> bool {
+    match certification(alloc, hashed, unhashed) {
+        Ok(body) => hint(&body) == expected,
+        Err(_) => false,
+    }
+}
+
 #[test]
-fn hints_are_the_last_key_ids(rt: HostRuntime) -> Result<(), Fail> {
-    let one = &[0x09, 0x10, 1, 2, 3, 4, 5, 6, 7, 8];
-    let two = &[
-        0x09, 0x10, 1, 1, 1, 1, 1, 1, 1, 1, 0x09, 0x90, 1, 2, 3, 4, 5, 6, 7, 9,
-    ];
-    // A later one of seven octets is unknown.
-    let short = &[
-        0x09, 0x10, 1, 2, 3, 4, 5, 6, 7, 8, 0x08, 0x10, 9, 9, 9, 9, 9, 9, 9,
-    ];
-    // Behind the key ID the octets are no list of subpackets.
-    let broken = &[0x09, 0x10, 1, 2, 3, 4, 5, 6, 7, 8, 0x00];
-    let id = Some([1, 2, 3, 4, 5, 6, 7, 8]);
-    let rows: [(&[u8], &[u8], Option<[u8; 8]>); 11] = [
-        (&[], &[], None),
-        (one, &[], id),
-        (&[], one, id),
-        (two, one, Some([1, 2, 3, 4, 5, 6, 7, 9])),
-        (one, two, id),
-        (&[], two, Some([1, 2, 3, 4, 5, 6, 7, 9])),
-        (short, &[], id),
-        (&[], broken, None),
-        (one, broken, id),
-        (broken, one, None),
-        (&[0x08, 0x10, 9, 9, 9, 9, 9, 9, 9], one, id),
-    ];
-    for (hashed, unhashed, expected) in rows {
-        let body = certification(rt.alloc(), hashed, unhashed)?;
-        assert_eq!(rt;
-            hint(body.as_slice()),
-            expected,
-            "of {hashed:?} and {unhashed:?}"
+fn hints_are_the_last_key_ids(rt: HostRuntime) {
+    for (hashed, unhashed, expected) in &ROWS {
+        assert!(rt;
+            has_hint(rt.alloc(), hashed, unhashed, *expected),
+            "{hashed:?}, {unhashed:?}"
         );
     }
-    assert_eq!(rt; hint(&[]), None);
-    Ok(())
+    assert!(rt; hint(&[]).is_none());
 }

@@ -1,12 +1,10 @@
-use crate::signature::bodies::{MADE_2000, PLAIN, assert_said};
-use std::alloc::AllocError;
-use std::process::Abort;
-use std::test::Fail;
+use crate::signature::bodies::{MADE_2000, PLAIN, says};
+use std::alloc::Global;
 use wot_signature::SigFacts;
 use wot_types::Fpr;
 
 /// The octets behind the type, of which a row takes the first ones.
-const BODY: [u8; 34] = [
+static BODY: [u8; 34] = [
     4, 1, 2, 3, 4, 5, 6, 7, 8, 9, 10, 11, 12, 13, 14, 15, 16, 17, 18, 19, 20, 21, 22, 23, 24, 25,
     26, 27, 28, 29, 30, 31, 32, 33,
 ];
@@ -15,155 +13,138 @@ const ISSUER: Fpr = Fpr::V4([
     1, 2, 3, 4, 5, 6, 7, 8, 9, 10, 11, 12, 13, 14, 15, 16, 17, 18, 19, 20,
 ]);
 
-/// Asserts what a certification made at 2000 with one hashed subpacket more says.
-fn assert_more(
-    rt: &(impl Abort + AllocGlobal),
-    kind: u8,
-    critical: bool,
-    size: u8,
-    expected: SigFacts,
-) -> Result<(), AllocError> {
-    let mut hashed = MADE_2000.to_vec(rt.alloc())?;
-    hashed.push(size.saturating_add(1))?;
-    hashed.push(if critical { kind | 0x80 } else { kind })?;
+/// Whether a certification made at 2000 with one hashed subpacket more says this.
+fn says_more(alloc: Global, kind: u8, size: u8, expected: SigFacts) -> Option<bool> {
+    let mut hashed = MADE_2000.to_vec(alloc).ok()?;
+    hashed
+        .extend_from_slice(&[size.saturating_add(1), kind])
+        .ok()?;
     for octet in BODY.iter().take(usize::from(size)) {
-        hashed.push(*octet)?;
+        hashed.push(*octet).ok()?;
     }
-    assert_said(rt, hashed.as_slice(), &[], Some(expected))
+    Some(says(alloc, &hashed, &[], Some(expected)))
 }
 
-fn assert_unknown(
-    rt: &(impl Abort + AllocGlobal),
-    kind: u8,
-    critical: bool,
-    size: u8,
-) -> Result<(), AllocError> {
-    let sound = !critical;
-    assert_more(rt, kind, critical, size, SigFacts { sound, ..PLAIN })
+/// The same of one that isn't critical and of one that is; `None` where it is unknown.
+fn is_type(alloc: Global, kind: u8, size: u8, known: Option<SigFacts>) -> bool {
+    let unsound = SigFacts {
+        sound: false,
+        ..PLAIN
+    };
+    says_more(alloc, kind, size, known.unwrap_or(PLAIN)) == Some(true)
+        && says_more(alloc, kind | 0x80, size, known.unwrap_or(unsound)) == Some(true)
 }
 
 /// What each type says with its number of octets; with one less or one more it is unknown.
-#[test]
-fn types_have_their_number_of_octets(rt: HostRuntime) -> Result<(), Fail> {
-    let rows = [
-        (
-            2,
-            4,
-            SigFacts {
-                made: 0x04010203,
-                ..PLAIN
-            },
-        ),
-        (
-            3,
-            4,
-            SigFacts {
-                lasts: 0x04010203,
-                ..PLAIN
-            },
-        ),
-        (
-            5,
-            2,
-            SigFacts {
-                depth: 4,
-                amount: 1,
-                ..PLAIN
-            },
-        ),
-        (7, 1, PLAIN),
-        (
-            9,
-            4,
-            SigFacts {
-                key_lasts: 0x04010203,
-                ..PLAIN
-            },
-        ),
-        (16, 8, PLAIN),
-        (
-            25,
-            1,
-            SigFacts {
-                primary: true,
-                ..PLAIN
-            },
-        ),
-        (
-            33,
-            21,
-            SigFacts {
-                issuer: Some(ISSUER),
-                ..PLAIN
-            },
-        ),
-    ];
-    for (kind, size, expected) in rows {
-        for critical in [false, true] {
-            assert_more(&rt, kind, critical, size, expected)?;
-            assert_unknown(&rt, kind, critical, size.saturating_sub(1))?;
-            assert_unknown(&rt, kind, critical, size.saturating_add(1))?;
-        }
-    }
-    Ok(())
-}
+static TYPES: [(u8, u8, SigFacts); 8] = [
+    (
+        2,
+        4,
+        SigFacts {
+            made: 0x04010203,
+            ..PLAIN
+        },
+    ),
+    (
+        3,
+        4,
+        SigFacts {
+            lasts: 0x04010203,
+            ..PLAIN
+        },
+    ),
+    (
+        5,
+        2,
+        SigFacts {
+            depth: 4,
+            amount: 1,
+            ..PLAIN
+        },
+    ),
+    (7, 1, PLAIN),
+    (
+        9,
+        4,
+        SigFacts {
+            key_lasts: 0x04010203,
+            ..PLAIN
+        },
+    ),
+    (16, 8, PLAIN),
+    (
+        25,
+        1,
+        SigFacts {
+            primary: true,
+            ..PLAIN
+        },
+    ),
+    (
+        33,
+        21,
+        SigFacts {
+            issuer: Some(ISSUER),
+            ..PLAIN
+        },
+    ),
+];
 
-/// Of these types any number of octets is known; a reason has one at least. All other types are unknown.
-#[test]
-fn other_types_are_known_or_unknown(rt: HostRuntime) -> Result<(), Fail> {
-    for critical in [false, true] {
-        for size in [0, 1, 4, 8, 21, 33] {
-            for kind in [4, 11, 12, 21, 22, 23, 24, 26, 27, 28, 30, 31, 32, 35, 39] {
-                assert_more(&rt, kind, critical, size, PLAIN)?;
-            }
-            for kind in [
-                0, 1, 8, 10, 13, 14, 15, 17, 18, 19, 20, 34, 36, 37, 38, 40, 41, 60, 64, 100, 101,
-                110, 127,
-            ] {
-                assert_unknown(&rt, kind, critical, size)?;
-            }
-            assert_more(
-                &rt,
-                6,
-                critical,
-                size,
-                SigFacts {
-                    scoped: true,
-                    ..PLAIN
-                },
-            )?;
-        }
-        assert_unknown(&rt, 29, critical, 0)?;
-        assert_more(
-            &rt,
-            29,
-            critical,
-            1,
-            SigFacts {
-                reason: Some(4),
-                ..PLAIN
-            },
-        )?;
-        assert_more(
-            &rt,
-            29,
-            critical,
-            33,
-            SigFacts {
-                reason: Some(4),
-                ..PLAIN
-            },
-        )?;
-        assert_unknown(&rt, 33, critical, 33)?;
-    }
-    Ok(())
-}
+/// A reason has one octet at least.
+const REASON: Option<SigFacts> = Some(SigFacts {
+    reason: Some(4),
+    ..PLAIN
+});
+
+static LONG_TYPES: [(u8, u8, Option<SigFacts>); 4] = [
+    (29, 0, None),
+    (29, 1, REASON),
+    (29, 33, REASON),
+    (33, 33, None),
+];
 
 #[test]
-fn an_issuer_of_another_version_is_unknown(rt: HostRuntime) -> Result<(), Fail> {
-    let mut hashed = MADE_2000.to_vec(rt.alloc())?;
-    hashed.extend_from_slice(&[22, 0x21, 6])?;
-    hashed.extend_from_slice(&[7; 20])?;
-    assert_said(&rt, hashed.as_slice(), &[], Some(PLAIN))?;
-    Ok(())
+fn types_have_their_number_of_octets(rt: HostRuntime) {
+    for (kind, size, expected) in &TYPES {
+        assert!(rt;
+            is_type(rt.alloc(), *kind, *size, Some(*expected)),
+            "{kind}"
+        );
+        assert!(rt;
+            is_type(rt.alloc(), *kind, size.saturating_sub(1), None),
+            "{kind}"
+        );
+        assert!(rt;
+            is_type(rt.alloc(), *kind, size.saturating_add(1), None),
+            "{kind}"
+        );
+    }
+    for (kind, size, expected) in &LONG_TYPES {
+        assert!(rt; is_type(rt.alloc(), *kind, *size, *expected), "{kind}");
+    }
+}
+
+/// Types of which any number of octets is known, and what they say.
+static KNOWN: [u8; 15] = [4, 11, 12, 21, 22, 23, 24, 26, 27, 28, 30, 31, 32, 35, 39];
+
+static UNKNOWN: [u8; 23] = [
+    0, 1, 8, 10, 13, 14, 15, 17, 18, 19, 20, 34, 36, 37, 38, 40, 41, 60, 64, 100, 101, 110, 127,
+];
+
+const SCOPED: SigFacts = SigFacts {
+    scoped: true,
+    ..PLAIN
+};
+
+#[test]
+fn other_types_are_known_or_unknown(rt: HostRuntime) {
+    for size in [0, 1, 4, 8, 21, 33] {
+        for kind in &KNOWN {
+            assert!(rt; is_type(rt.alloc(), *kind, size, Some(PLAIN)), "{kind}");
+        }
+        for kind in &UNKNOWN {
+            assert!(rt; is_type(rt.alloc(), *kind, size, None), "{kind}");
+        }
+        assert!(rt; is_type(rt.alloc(), 6, size, Some(SCOPED)));
+    }
 }
