@@ -1,16 +1,9 @@
+use crate::roads::{Row, T as ON_T, U as ON_U, key, network, roots_of};
 use std::alloc::Global;
-use std::process::Abort;
-use std::test::Fail;
 use wot_auth::{Answer, authenticate};
-use wot_edge::plain::PlainRoads;
-use wot_edge::{Edge, EdgeFacts, Path, Roots};
+use wot_edge::Path;
 use wot_search::Consulted;
-use wot_types::{Fpr, Memory, Steps};
-
-// Each certificate has the user ID t, and some have u. Their places are these octets.
-const ON_T: u32 = 116;
-
-const ON_U: u32 = 117;
+use wot_types::Memory;
 
 const R: u8 = 1;
 
@@ -22,19 +15,13 @@ const C: u8 = 4;
 
 const T: u8 = 5;
 
-fn key(octet: u8) -> Fpr {
-    Fpr::V4([octet; 20])
-}
-
-/// A certification of a user ID, with its depth and amount.
-#[derive(Clone, Copy)]
-struct Row(u8, u8, u32, u8, u8);
-
-/// What a question is asked over, and what its answer is: each path's amount and issuers.
+/// What a question is asked over, and what its answer is: each path's amount and issuers. The edges of `scoped` have a
+/// scope in which the user ID `t` is alone.
 #[derive(Clone, Copy)]
 struct Case<'a> {
     roots: &'a [(u8, u8)],
     rows: &'a [Row],
+    scoped: u8,
     target: u8,
     uid: &'a [u8],
     wanted: u32,
@@ -42,108 +29,307 @@ struct Case<'a> {
     paths: &'a [(u8, &'a [u8])],
 }
 
-fn facts(row: &Row, scoped: bool) -> EdgeFacts {
-    EdgeFacts {
-        issuer: key(row.0),
-        target: key(row.1),
-        uid: row.2,
-        sig: 0,
-        made: 2000,
-        depth: row.3,
-        amount: row.4,
-        scoped,
-    }
-}
+/// A question about T's user ID t, with R as the one root, of complete trust, to which there is no path.
+const ASKED: Case<'static> = Case {
+    roots: &[(R, 120)],
+    rows: &[],
+    scoped: 0,
+    target: T,
+    uid: b"t",
+    wanted: 120,
+    sum: 0,
+    paths: &[],
+};
 
-/// The rows into a certificate; those from `limited` have a limited scope.
-fn rows_into(alloc: Global, rows: &[Row], target: u8, limited: u8) -> Result<Vec<Edge>, Memory> {
-    let mut steps = Steps::new();
-    let mut edges = Vec::new(alloc);
-    for row in rows {
-        if row.1 == target {
-            edges.push(Edge::make(facts(row, row.0 == limited), &mut steps))?;
+const DIRECT: Case<'static> = Case {
+    rows: &[Row(R, T, ON_T, 0, 120)],
+    ..ASKED
+};
+
+/// Two ways of one amount.
+const EVEN: Case<'static> = Case {
+    rows: &[
+        Row(R, B, ON_T, 1, 50),
+        Row(R, C, ON_T, 1, 50),
+        Row(B, T, ON_T, 0, 120),
+        Row(C, T, ON_T, 0, 120),
+    ],
+    wanted: 100,
+    sum: 100,
+    paths: &[(50, &[R, B]), (50, &[R, C])],
+    ..ASKED
+};
+
+/// An introducer who certifies two user IDs.
+const TWO_USER_IDS: Case<'static> = Case {
+    rows: &[
+        Row(R, A, ON_T, 1, 120),
+        Row(A, T, ON_T, 0, 120),
+        Row(A, T, ON_U, 0, 120),
+    ],
+    ..ASKED
+};
+
+static CASES: [Case<'static>; 25] = [
+    // a root that is the target gives no more than its amount as a root
+    Case {
+        roots: &[(R, 100)],
+        rows: &[Row(R, R, ON_T, 0, 120)],
+        target: R,
+        wanted: 200,
+        sum: 100,
+        paths: &[(100, &[R])],
+        ..ASKED
+    },
+    Case {
+        sum: 120,
+        paths: &[(120, &[R])],
+        ..DIRECT
+    },
+    // another user ID, a certificate that isn't there, and no root
+    Case {
+        uid: b"u",
+        ..DIRECT
+    },
+    Case {
+        target: 200,
+        ..DIRECT
+    },
+    Case {
+        roots: &[],
+        ..DIRECT
+    },
+    Case {
+        rows: &[Row(R, A, ON_T, 1, 120), Row(A, T, ON_T, 0, 120)],
+        sum: 120,
+        paths: &[(120, &[R, A])],
+        ..ASKED
+    },
+    Case {
+        rows: &[Row(R, A, ON_T, 0, 120), Row(A, T, ON_T, 0, 120)],
+        ..ASKED
+    },
+    // depths
+    Case {
+        rows: &[
+            Row(R, A, ON_T, 255, 120),
+            Row(A, B, ON_T, 1, 120),
+            Row(B, T, ON_T, 0, 120),
+        ],
+        sum: 120,
+        paths: &[(120, &[R, A, B])],
+        ..ASKED
+    },
+    Case {
+        rows: &[
+            Row(R, A, ON_T, 1, 120),
+            Row(A, B, ON_T, 255, 120),
+            Row(B, T, ON_T, 0, 120),
+        ],
+        ..ASKED
+    },
+    // the first suffix that is found lacks depth
+    Case {
+        rows: &[
+            Row(R, A, ON_T, 1, 120),
+            Row(A, B, ON_T, 2, 120),
+            Row(B, T, ON_T, 0, 120),
+        ],
+        ..ASKED
+    },
+    Case {
+        rows: &[
+            Row(R, A, ON_T, 1, 120),
+            Row(R, B, ON_T, 1, 70),
+            Row(A, B, ON_T, 2, 120),
+            Row(B, T, ON_T, 0, 120),
+        ],
+        sum: 70,
+        paths: &[(70, &[R, B])],
+        ..ASKED
+    },
+    // into the target and on to its own certification
+    Case {
+        rows: &[Row(R, T, ON_U, 1, 60), Row(T, T, ON_T, 0, 120)],
+        sum: 60,
+        paths: &[(60, &[R, T])],
+        ..ASKED
+    },
+    Case {
+        rows: &[Row(R, T, ON_U, 0, 60), Row(T, T, ON_T, 0, 120)],
+        ..ASKED
+    },
+    // the shortest before the widest
+    Case {
+        rows: &[
+            Row(R, T, ON_T, 0, 1),
+            Row(R, A, ON_T, 1, 119),
+            Row(A, T, ON_T, 0, 120),
+        ],
+        sum: 120,
+        paths: &[(1, &[R]), (119, &[R, A])],
+        ..ASKED
+    },
+    // an edge that two paths share; the least list
+    Case {
+        rows: &[
+            Row(R, A, ON_T, 2, 60),
+            Row(A, B, ON_T, 1, 120),
+            Row(A, C, ON_T, 1, 120),
+            Row(B, T, ON_T, 0, 120),
+            Row(C, T, ON_T, 0, 120),
+        ],
+        sum: 60,
+        paths: &[(60, &[R, A, B])],
+        ..ASKED
+    },
+    // the greatest amount, then the least list
+    Case {
+        rows: &[
+            Row(R, B, ON_T, 1, 30),
+            Row(R, C, ON_T, 1, 90),
+            Row(B, T, ON_T, 0, 120),
+            Row(C, T, ON_T, 0, 120),
+        ],
+        sum: 120,
+        paths: &[(90, &[R, C]), (30, &[R, B])],
+        ..ASKED
+    },
+    EVEN,
+    // no path is taken after what is wanted is reached, and the last isn't cut
+    Case {
+        wanted: 50,
+        sum: 50,
+        paths: &[(50, &[R, B])],
+        ..EVEN
+    },
+    Case { wanted: 51, ..EVEN },
+    // the root's amount is used up
+    Case {
+        roots: &[(R, 70)],
+        sum: 70,
+        paths: &[(50, &[R, B]), (20, &[R, C])],
+        ..EVEN
+    },
+    // two user IDs of an introducer, certified by one issuer
+    Case {
+        rows: &[
+            Row(R, A, ON_T, 1, 60),
+            Row(R, A, ON_U, 1, 100),
+            Row(A, T, ON_T, 0, 120),
+        ],
+        sum: 100,
+        paths: &[(100, &[R, A])],
+        ..ASKED
+    },
+    // no issuer twice
+    Case {
+        rows: &[
+            Row(R, A, ON_T, 9, 60),
+            Row(A, B, ON_T, 9, 60),
+            Row(B, A, ON_T, 9, 60),
+            Row(A, T, ON_T, 0, 120),
+        ],
+        sum: 60,
+        paths: &[(60, &[R, A])],
+        ..ASKED
+    },
+    // R's edge has a scope that holds for t alone
+    Case {
+        scoped: R,
+        sum: 120,
+        paths: &[(120, &[R, A])],
+        ..TWO_USER_IDS
+    },
+    Case {
+        scoped: R,
+        uid: b"u",
+        ..TWO_USER_IDS
+    },
+    // of the last edge no scope is asked
+    Case {
+        scoped: A,
+        uid: b"u",
+        sum: 120,
+        paths: &[(120, &[R, A])],
+        ..TWO_USER_IDS
+    },
+];
+
+fn is_path(path: &Path, amount: u8, issuers: &[u8]) -> bool {
+    let steps = path.steps.as_slice();
+    if path.amount != amount || steps.len() != issuers.len() {
+        return false;
+    }
+    for (step, issuer) in steps.iter().zip(issuers) {
+        if step.issuer != key(*issuer) {
+            return false;
         }
     }
-    Ok(edges)
+    match issuers.first() {
+        Some(issuer) => path.root == key(*issuer),
+        None => false,
+    }
 }
 
-/// The network of these rows, which stand in the order of issuers.
-fn network(alloc: Global, rows: &[Row], limited: u8) -> Result<PlainRoads, Memory> {
-    let mut roads = PlainRoads::new(alloc, b't');
-    for target in 1..=80u8 {
-        let edges = rows_into(alloc, rows, target, limited)?;
-        if !edges.is_empty() {
-            let _ = roads.put(key(target), true, edges)?;
+fn is_answer(answer: &Answer, sum: u32, paths: &[(u8, &[u8])]) -> bool {
+    if answer.sum != sum || answer.paths.as_slice().len() != paths.len() {
+        return false;
+    }
+    for (path, (amount, issuers)) in answer.paths.as_slice().iter().zip(paths) {
+        if !is_path(path, *amount, issuers) {
+            return false;
         }
     }
-    Ok(roads)
+    true
 }
 
-fn roots_of(alloc: Global, amounts: &[(u8, u8)]) -> Result<Roots, Memory> {
-    let mut roots = Roots::new(alloc);
-    for (octet, amount) in amounts {
-        roots.set(key(*octet), *amount)?;
+/// The answer to a question, and what was looked at.
+fn answer_of(alloc: Global, case: &Case<'_>, consulted: &mut Consulted) -> Result<Answer, Memory> {
+    let roads = network(alloc, case.rows, case.scoped, 0)?;
+    let roots = roots_of(alloc, case.roots)?;
+    if case.wanted == 0 || roots.len() > 64 {
+        return Err(Memory);
     }
-    Ok(roots)
-}
-
-fn expect_path<H: Abort>(rt: &H, path: &Path, amount: u8, issuers: &[u8]) {
-    assert_eq!(rt; path.amount, amount);
-    assert_eq!(rt; path.steps.as_slice().len(), issuers.len());
-    for (step, issuer) in path.steps.as_slice().iter().zip(issuers) {
-        assert_eq!(rt; step.issuer, key(*issuer));
-    }
-    match path.steps.as_slice().first() {
-        Some(step) => assert_eq!(rt; path.root, step.issuer),
-        None => assert!(rt; false),
-    }
-}
-
-fn expect_answer<H: Abort>(rt: &H, answer: &Answer, case: &Case<'_>) {
-    assert_eq!(rt; answer.sum, case.sum);
-    assert_eq!(rt; answer.paths.as_slice().len(), case.paths.len());
-    for (path, (amount, issuers)) in answer.paths.as_slice().iter().zip(case.paths) {
-        expect_path(rt, path, *amount, issuers);
-    }
-}
-
-fn answer_of<H: Abort + AllocGlobal>(
-    rt: &H,
-    case: &Case<'_>,
-    limited: u8,
-    consulted: &mut Consulted,
-) -> Result<Answer, Fail> {
-    let roads = network(rt.alloc(), case.rows, limited)?;
-    let roots = roots_of(rt.alloc(), case.roots)?;
-    assert!(rt; case.wanted >= 1);
-    assert!(rt; roots.len() <= 64);
     let target = key(case.target);
-    let answer = authenticate(
-        rt.alloc(),
+    authenticate(
+        alloc,
         &roads,
         &roots,
         &target,
         case.uid,
         case.wanted,
         consulted,
-    )?;
-    Ok(answer)
+    )
 }
 
-fn check<H: Abort + AllocGlobal>(rt: &H, case: &Case<'_>, limited: u8) -> Result<(), Fail> {
-    let mut consulted = Consulted::new(rt.alloc());
-    let answer = answer_of(rt, case, limited, &mut consulted)?;
-    expect_answer(rt, &answer, case);
-    expect_answer(rt, &answer.duplicate()?, case);
-    assert!(rt; consulted.has(&key(case.target)));
-    Ok(())
+/// Whether the question is answered so, and its target is looked at.
+fn is_answered(alloc: Global, case: &Case<'_>) -> Result<bool, Memory> {
+    let mut consulted = Consulted::new(alloc);
+    let answer = answer_of(alloc, case, &mut consulted)?;
+    let again = answer.duplicate()?;
+    Ok(
+        is_answer(&answer, case.sum, case.paths)
+            && is_answer(&again, case.sum, case.paths)
+            && consulted.has(&key(case.target)),
+    )
 }
 
-/// A question about T's user ID t, with R as the one root, of complete trust.
+#[test]
+fn answers_to_questions(rt: HostRuntime) {
+    let mut number = 0u32;
+    for case in &CASES {
+        assert!(rt; is_answered(rt.alloc(), case) == Ok(true), "case {number}");
+        number = number.wrapping_add(1);
+    }
+}
+
+/// A question about T's user ID t over rows that are made.
 fn asked<'a>(rows: &'a [Row], sum: u32, paths: &'a [(u8, &'a [u8])]) -> Case<'a> {
     Case {
         roots: &[(R, 120)],
         rows,
+        scoped: 0,
         target: T,
         uid: b"t",
         wanted: 120,
@@ -152,203 +338,10 @@ fn asked<'a>(rows: &'a [Row], sum: u32, paths: &'a [(u8, &'a [u8])]) -> Case<'a>
     }
 }
 
-fn check_all<H: Abort + AllocGlobal>(rt: &H, cases: &[Case<'_>]) -> Result<(), Fail> {
-    for case in cases {
-        check(rt, case, 0)?;
-    }
-    Ok(())
-}
-
-#[test]
-fn short_paths(rt: HostRuntime) -> Result<(), Fail> {
-    let own = [Row(R, R, ON_T, 0, 120)];
-    let one = [Row(R, T, ON_T, 0, 120)];
-    let cases = [
-        // a root that is the target gives no more than its amount as a root
-        Case {
-            roots: &[(R, 100)],
-            target: R,
-            wanted: 200,
-            ..asked(&own, 100, &[(100, &[R])])
-        },
-        asked(&one, 120, &[(120, &[R])]),
-        // another user ID, a certificate that isn't there, and no root
-        Case {
-            uid: b"u",
-            ..asked(&one, 0, &[])
-        },
-        Case {
-            target: 9,
-            ..asked(&one, 0, &[])
-        },
-        Case {
-            roots: &[],
-            ..asked(&one, 0, &[])
-        },
-        asked(
-            &[Row(R, A, ON_T, 1, 120), Row(A, T, ON_T, 0, 120)],
-            120,
-            &[(120, &[R, A])],
-        ),
-        asked(&[Row(R, A, ON_T, 0, 120), Row(A, T, ON_T, 0, 120)], 0, &[]),
-    ];
-    check_all(&rt, &cases)
-}
-
-#[test]
-fn depths(rt: HostRuntime) -> Result<(), Fail> {
-    let lacking = [
-        Row(R, A, ON_T, 1, 120),
-        Row(A, B, ON_T, 2, 120),
-        Row(B, T, ON_T, 0, 120),
-    ];
-    let with_more = [
-        Row(R, A, ON_T, 1, 120),
-        Row(R, B, ON_T, 1, 70),
-        Row(A, B, ON_T, 2, 120),
-        Row(B, T, ON_T, 0, 120),
-    ];
-    let cases = [
-        asked(
-            &[
-                Row(R, A, ON_T, 255, 120),
-                Row(A, B, ON_T, 1, 120),
-                Row(B, T, ON_T, 0, 120),
-            ],
-            120,
-            &[(120, &[R, A, B])],
-        ),
-        asked(
-            &[
-                Row(R, A, ON_T, 1, 120),
-                Row(A, B, ON_T, 255, 120),
-                Row(B, T, ON_T, 0, 120),
-            ],
-            0,
-            &[],
-        ),
-        // the first suffix that is found lacks depth
-        asked(&lacking, 0, &[]),
-        asked(&with_more, 70, &[(70, &[R, B])]),
-        // into the target and on to its own certification
-        asked(
-            &[Row(R, T, ON_U, 1, 60), Row(T, T, ON_T, 0, 120)],
-            60,
-            &[(60, &[R, T])],
-        ),
-        asked(&[Row(R, T, ON_U, 0, 60), Row(T, T, ON_T, 0, 120)], 0, &[]),
-    ];
-    check_all(&rt, &cases)
-}
-
-#[test]
-fn order_and_use(rt: HostRuntime) -> Result<(), Fail> {
-    let fork = [
-        Row(R, A, ON_T, 2, 60),
-        Row(A, B, ON_T, 1, 120),
-        Row(A, C, ON_T, 1, 120),
-        Row(B, T, ON_T, 0, 120),
-        Row(C, T, ON_T, 0, 120),
-    ];
-    let wider = [
-        Row(R, B, ON_T, 1, 30),
-        Row(R, C, ON_T, 1, 90),
-        Row(B, T, ON_T, 0, 120),
-        Row(C, T, ON_T, 0, 120),
-    ];
-    let even = [
-        Row(R, B, ON_T, 1, 50),
-        Row(R, C, ON_T, 1, 50),
-        Row(B, T, ON_T, 0, 120),
-        Row(C, T, ON_T, 0, 120),
-    ];
-    let cases = [
-        // the shortest before the widest
-        asked(
-            &[
-                Row(R, T, ON_T, 0, 1),
-                Row(R, A, ON_T, 1, 119),
-                Row(A, T, ON_T, 0, 120),
-            ],
-            120,
-            &[(1, &[R]), (119, &[R, A])],
-        ),
-        // an edge that two paths share; the least list
-        asked(&fork, 60, &[(60, &[R, A, B])]),
-        // the greatest amount, then the least list
-        asked(&wider, 120, &[(90, &[R, C]), (30, &[R, B])]),
-        asked(&even, 100, &[(50, &[R, B]), (50, &[R, C])]),
-        // no path is taken after what is wanted is reached, and the last isn't cut
-        Case {
-            wanted: 50,
-            ..asked(&even, 50, &[(50, &[R, B])])
-        },
-        Case {
-            wanted: 51,
-            ..asked(&even, 100, &[(50, &[R, B]), (50, &[R, C])])
-        },
-        // the root's amount is used up
-        Case {
-            roots: &[(R, 70)],
-            ..asked(&even, 70, &[(50, &[R, B]), (20, &[R, C])])
-        },
-        // two user IDs of an introducer, certified by one issuer
-        asked(
-            &[
-                Row(R, A, ON_T, 1, 60),
-                Row(R, A, ON_U, 1, 100),
-                Row(A, T, ON_T, 0, 120),
-            ],
-            100,
-            &[(100, &[R, A])],
-        ),
-        // no issuer twice
-        asked(
-            &[
-                Row(R, A, ON_T, 9, 60),
-                Row(A, B, ON_T, 9, 60),
-                Row(B, A, ON_T, 9, 60),
-                Row(A, T, ON_T, 0, 120),
-            ],
-            60,
-            &[(60, &[R, A])],
-        ),
-    ];
-    check_all(&rt, &cases)
-}
-
-#[test]
-fn scopes_are_tried_on_the_targets_user_id(rt: HostRuntime) -> Result<(), Fail> {
-    let rows = [
-        Row(R, A, ON_T, 1, 120),
-        Row(A, T, ON_T, 0, 120),
-        Row(A, T, ON_U, 0, 120),
-    ];
-    // R's edge has a scope that holds for t alone
-    check(&rt, &asked(&rows, 120, &[(120, &[R, A])]), R)?;
-    check(
-        &rt,
-        &Case {
-            uid: b"u",
-            ..asked(&rows, 0, &[])
-        },
-        R,
-    )?;
-    // of the last edge no scope is asked
-    check(
-        &rt,
-        &Case {
-            uid: b"u",
-            ..asked(&rows, 120, &[(120, &[R, A])])
-        },
-        A,
-    )
-}
-
-#[test]
-fn as_many_roots_as_there_may_be(rt: HostRuntime) -> Result<(), Fail> {
-    let mut roots = Vec::new(rt.alloc());
-    let mut rows = Vec::new(rt.alloc());
+/// As many roots as there may be, each of which certifies T.
+fn many_roots(alloc: Global) -> Result<Answer, Memory> {
+    let mut roots = Vec::new(alloc);
+    let mut rows = Vec::new(alloc);
     for octet in 10..74u8 {
         roots.push((octet, 255))?;
         rows.push(Row(octet, T, ON_T, 0, 255))?;
@@ -358,59 +351,68 @@ fn as_many_roots_as_there_may_be(rt: HostRuntime) -> Result<(), Fail> {
         wanted: u32::MAX,
         ..asked(&rows, 16320, &[])
     };
-    let mut consulted = Consulted::new(rt.alloc());
-    let answer = answer_of(&rt, &case, 0, &mut consulted)?;
-    assert_eq!(rt; answer.sum, 16320);
-    assert_eq!(rt; answer.paths.as_slice().len(), 64);
+    answer_of(alloc, &case, &mut Consulted::new(alloc))
+}
+
+#[test]
+fn as_many_roots_as_there_may_be(rt: HostRuntime) {
+    let answer = many_roots(rt.alloc()).expect(&rt, "memory");
+    assert!(rt; answer.sum == 16320 && answer.paths.as_slice().len() == 64);
     for (path, octet) in answer.paths.as_slice().iter().zip(10..74u8) {
-        expect_path(&rt, path, 255, &[octet]);
+        assert!(rt; is_path(path, 255, &[octet]));
     }
-    Ok(())
 }
 
 /// Thirty layers of two certificates each: 2^30 paths from the root to the target.
 fn layers(alloc: Global) -> Result<Vec<Row>, Memory> {
     let mut rows = Vec::new(alloc);
-    for first in [10, 11] {
-        rows.push(Row(R, first, ON_T, 255, 120))?;
-    }
+    rows.push(Row(R, 10, ON_T, 255, 120))?;
+    rows.push(Row(R, 11, ON_T, 255, 120))?;
     for layer in 0..29u8 {
-        for issuer in [10 + 2 * layer, 11 + 2 * layer] {
-            for target in [12 + 2 * layer, 13 + 2 * layer] {
-                rows.push(Row(issuer, target, ON_T, 255, 120))?;
-            }
+        let next = 12 + 2 * layer;
+        for issuer in [next - 2, next - 1] {
+            rows.push(Row(issuer, next, ON_T, 255, 120))?;
+            rows.push(Row(issuer, next + 1, ON_T, 255, 120))?;
         }
     }
-    for last in [68, 69] {
-        rows.push(Row(last, T, ON_T, 0, 120))?;
-    }
+    rows.push(Row(68, T, ON_T, 0, 120))?;
+    rows.push(Row(69, T, ON_T, 0, 120))?;
     Ok(rows)
 }
 
-#[test]
-fn thirty_layers(rt: HostRuntime) -> Result<(), Fail> {
-    let rows = layers(rt.alloc())?;
-    let mut issuers = Vec::new(rt.alloc());
+fn layers_are_answered(alloc: Global) -> Result<bool, Memory> {
+    let rows = layers(alloc)?;
+    let mut issuers = Vec::new(alloc);
     issuers.push(R)?;
     for layer in 0..30u8 {
         issuers.push(10 + 2 * layer)?;
     }
-    check(&rt, &asked(&rows, 120, &[(120, &issuers)]), 0)
+    is_answered(alloc, &asked(&rows, 120, &[(120, &issuers)]))
 }
 
 #[test]
-fn what_is_consulted(rt: HostRuntime) -> Result<(), Fail> {
-    // 9 is certified by A, and 8 by nobody; neither leads to T
-    let rows = [
+fn thirty_layers(rt: HostRuntime) {
+    assert!(rt; layers_are_answered(rt.alloc()) == Ok(true));
+}
+
+/// 9 is certified by A and by 8, and 8 by nobody; neither leads to T.
+const ASIDE: Case<'static> = Case {
+    rows: &[
         Row(R, A, ON_T, 1, 120),
         Row(A, T, ON_T, 0, 120),
         Row(A, 9, ON_T, 0, 120),
         Row(8, 9, ON_T, 0, 120),
-    ];
+    ],
+    ..ASKED
+};
+
+static LOOKED_AT: [(u8, bool); 5] = [(T, true), (A, true), (R, true), (9, false), (8, false)];
+
+#[test]
+fn what_is_consulted(rt: HostRuntime) {
     let mut consulted = Consulted::new(rt.alloc());
-    let _answer = answer_of(&rt, &asked(&rows, 120, &[]), 0, &mut consulted)?;
-    for (octet, looked_at) in [(T, true), (A, true), (R, true), (9, false), (8, false)] {
-        assert_eq!(rt; consulted.has(&key(octet)), looked_at);
+    assert!(rt; answer_of(rt.alloc(), &ASIDE, &mut consulted).is_ok());
+    for (octet, looked_at) in &LOOKED_AT {
+        assert!(rt; consulted.has(&key(*octet)) == *looked_at);
     }
-    Ok(())
 }

@@ -1,22 +1,8 @@
+use crate::roads::{A, B, C, Row, T, key, network, roots_of};
 use std::alloc::Global;
-use std::process::Abort;
-use std::test::Fail;
 use wot_check::{Checked, Claimed, Table, absence, check};
-use wot_edge::plain::PlainRoads;
-use wot_edge::{Edge, EdgeFacts, Path, Roots, Step, StepList};
-use wot_types::{Fpr, Memory, Steps};
-
-const A: u8 = b'a';
-
-const B: u8 = b'b';
-
-const C: u8 = b'c';
-
-const T: u8 = b't';
-
-/// An edge: issuer, target, user ID, depth, amount. The keys R, A, B, T, C are 1 to 5.
-#[derive(Clone, Copy)]
-struct Row(u8, u8, u8, u8, u8);
+use wot_edge::{Path, Step, StepList};
+use wot_types::Memory;
 
 /// A path: its amount, and the issuers and user IDs of its steps.
 #[derive(Clone, Copy)]
@@ -229,47 +215,6 @@ static CASES: [Case; 26] = [
     },
 ];
 
-fn key(octet: u8) -> Fpr {
-    Fpr::V4([octet; 20])
-}
-
-fn edge(row: Row) -> Edge {
-    let facts = EdgeFacts {
-        issuer: key(row.0),
-        target: key(row.1),
-        uid: row.2 as u32,
-        sig: 0,
-        made: if row.0 == 7 { 0 } else { 2000 },
-        depth: row.3,
-        amount: row.4,
-        scoped: row.0 == 6,
-    };
-    Edge::make(facts, &mut Steps::new())
-}
-
-/// The network of these edges, which are in the order of their issuers.
-fn network(alloc: Global, rows: &[Row]) -> Result<PlainRoads, Memory> {
-    let mut roads = PlainRoads::new(alloc, T);
-    for target in 1..8u8 {
-        let mut edges = Vec::new(alloc);
-        for row in rows {
-            if row.1 == target {
-                edges.push(edge(*row))?;
-            }
-        }
-        let _put = roads.put(key(target), true, edges)?;
-    }
-    Ok(roads)
-}
-
-fn roots_of(alloc: Global, amounts: &[(u8, u8)]) -> Result<Roots, Memory> {
-    let mut roots = Roots::new(alloc);
-    for (octet, amount) in amounts {
-        roots.set(key(*octet), *amount)?;
-    }
-    Ok(roots)
-}
-
 fn table_of(alloc: Global, labels: &[(u8, u8)]) -> Result<Table, Memory> {
     let mut table = Table::new(alloc);
     for (octet, label) in labels {
@@ -320,7 +265,7 @@ fn path(alloc: Global, taken: &Taken, target: u8) -> Result<Path, Memory> {
 }
 
 fn checked(alloc: Global, case: &Case) -> Result<Checked, Memory> {
-    let roads = network(alloc, case.rows)?;
+    let roads = network(alloc, case.rows, 6, 7)?;
     let roots = roots_of(alloc, case.roots)?;
     let table = table_of(alloc, case.table)?;
     let mut claims = Vec::new(alloc);
@@ -342,7 +287,7 @@ fn checked(alloc: Global, case: &Case) -> Result<Checked, Memory> {
 }
 
 fn made(alloc: Global, case: &Case) -> Result<Option<Table>, Memory> {
-    let roads = network(alloc, case.rows)?;
+    let roads = network(alloc, case.rows, 6, 7)?;
     let roots = roots_of(alloc, case.roots)?;
     let mut paths = Vec::new(alloc);
     for taken in case.paths {
@@ -354,36 +299,49 @@ fn made(alloc: Global, case: &Case) -> Result<Option<Table>, Memory> {
     absence(alloc, &roads, &roots, &paths, &key(case.target), case.uid)
 }
 
-fn expect_labels(rt: &impl Abort, table: &Table, labels: &[(u8, u8)]) {
+/// Whether a table has these labels alone.
+fn has_labels(table: &Table, labels: &[(u8, u8)]) -> bool {
     let mut all = table.iter();
     for (octet, label) in labels {
-        assert_eq!(rt; all.next(), Some((key(*octet), *label)));
-        assert_eq!(rt; table.get(&key(*octet)), Some(*label));
-    }
-    assert_eq!(rt; all.next(), None);
-    assert_eq!(rt; table.get(&key(77)), None);
-}
-
-#[test]
-fn tables_of_absence(rt: HostRuntime) -> Result<(), Fail> {
-    for case in &CASES {
-        assert_eq!(rt; checked(rt.alloc(), case)?, case.checked);
-        match (made(rt.alloc(), case)?, case.made) {
-            (Some(table), Some(labels)) => expect_labels(&rt, &table, labels),
-            (None, None) => {}
-            _ => assert!(rt; false),
+        if all.next() != Some((key(*octet), *label)) || table.get(&key(*octet)) != Some(*label) {
+            return false;
         }
     }
-    Ok(())
+    all.next().is_none() && table.get(&key(77)).is_none()
+}
+
+/// Whether this table was made, or none.
+fn is_made(table: &Option<Table>, labels: Option<&[(u8, u8)]>) -> bool {
+    match (table, labels) {
+        (Some(table), Some(labels)) => has_labels(table, labels),
+        (table, labels) => table.is_none() && labels.is_none(),
+    }
+}
+
+/// Whether the check of a case comes to what it should, and its table is made.
+fn is_so(alloc: Global, case: &Case) -> Result<bool, Memory> {
+    let checked = checked(alloc, case)?;
+    let made = made(alloc, case)?;
+    Ok(checked == case.checked && is_made(&made, case.made))
 }
 
 #[test]
-fn what_is_claimed_of_a_path(rt: HostRuntime) -> Result<(), Fail> {
+fn tables_of_absence(rt: HostRuntime) {
+    let mut number = 0u32;
+    for case in &CASES {
+        assert!(rt; is_so(rt.alloc(), case) == Ok(true), "case {number}");
+        number = number.wrapping_add(1);
+    }
+}
+
+fn is_claimed(alloc: Global) -> Result<bool, Memory> {
     let taken = Taken(60, &[(1, A), (2, T)]);
-    let of = Claimed::of(rt.alloc(), &path(rt.alloc(), &taken, 4)?)?;
-    let made = claim(rt.alloc(), &taken)?;
-    assert_eq!(rt; of.amount(), 60);
-    assert_eq!(rt; made.amount(), 60);
-    assert_eq!(rt; of.steps(), made.steps());
-    Ok(())
+    let of = Claimed::of(alloc, &path(alloc, &taken, 4)?)?;
+    let made = claim(alloc, &taken)?;
+    Ok(of.amount() == 60 && made.amount() == 60 && of.steps() == made.steps())
+}
+
+#[test]
+fn what_is_claimed_of_a_path(rt: HostRuntime) {
+    assert!(rt; is_claimed(rt.alloc()) == Ok(true));
 }

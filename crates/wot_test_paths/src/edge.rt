@@ -1,12 +1,8 @@
+use crate::roads::{key, roots_of};
 use std::alloc::Global;
-use std::test::Fail;
 use wot_edge::plain::PlainRoads;
 use wot_edge::{Edge, EdgeFacts, Path, PathList, Roads, Roots, Step, StepList, Used};
-use wot_types::{Fpr, Memory, Steps};
-
-fn key(octet: u8) -> Fpr {
-    Fpr::V4([octet; 20])
-}
+use wot_types::{Memory, Steps};
 
 fn step(issuer: u8, target: u8, amount: u8) -> Step {
     Step {
@@ -45,68 +41,79 @@ fn facts(issuer: u8, target: u8, made: u32, scoped: bool) -> EdgeFacts {
 fn edges_are_counted(rt: HostRuntime) {
     let mut steps = Steps::new();
     let edge = Edge::make(facts(1, 2, 2000, false), &mut steps);
-    assert_eq!(rt; steps.made, 1);
-    assert_eq!(rt; edge.facts(), facts(1, 2, 2000, false));
+    assert!(rt; steps.made == 1 && edge.facts() == facts(1, 2, 2000, false));
     steps.made = u64::MAX;
     let _last = Edge::make(facts(2, 3, 2000, false), &mut steps);
-    assert_eq!(rt; steps.made, u64::MAX);
+    assert!(rt; steps.made == u64::MAX);
 }
 
-#[test]
-fn roots_are_a_map_in_order(rt: HostRuntime) -> Result<(), Fail> {
-    let mut roots = Roots::new(rt.alloc());
-    for (octet, amount) in [(7, 60), (1, 120), (9, 1), (7, 90), (9, 0), (3, 0)] {
-        roots.set(key(octet), amount)?;
-    }
-    assert_eq!(rt; roots.len(), 2);
-    for (octet, amount) in [(1, 120), (7, 90), (9, 0), (3, 0)] {
-        assert_eq!(rt; roots.get(&key(octet)), amount);
-    }
+/// Amounts that are set one after the other, and what comes of them.
+static SET: [(u8, u8); 6] = [(7, 60), (1, 120), (9, 1), (7, 90), (9, 0), (3, 0)];
+
+static AMOUNTS: [(u8, u8); 4] = [(1, 120), (7, 90), (9, 0), (3, 0)];
+
+fn are_two(roots: &Roots, first: (u8, u8), second: (u8, u8)) -> bool {
     let mut all = roots.iter();
-    assert_eq!(rt; all.next(), Some((key(1), 120)));
-    assert_eq!(rt; all.next(), Some((key(7), 90)));
-    assert_eq!(rt; all.next(), None);
-    Ok(())
+    roots.len() == 2
+        && all.next() == Some((key(first.0), first.1))
+        && all.next() == Some((key(second.0), second.1))
+        && all.next().is_none()
 }
 
 #[test]
-fn a_pair_is_used_once_by_a_path(rt: HostRuntime) -> Result<(), Fail> {
-    let mut used = Used::new(rt.alloc());
-    // No valid path has a pair twice, but what is added is any path.
-    let twice = path(
-        rt.alloc(),
-        30,
-        &[step(1, 2, 120), step(2, 1, 50), step(1, 2, 120)],
-    )?;
+fn roots_are_a_map_in_order(rt: HostRuntime) {
+    let roots = roots_of(rt.alloc(), &SET).expect(&rt, "memory");
+    for (octet, amount) in &AMOUNTS {
+        assert!(rt; roots.get(&key(*octet)) == *amount);
+    }
+    assert!(rt; are_two(&roots, (1, 120), (7, 90)));
+}
+
+static SUMS: [(u8, u8, u32); 4] = [(1, 2, 30), (2, 1, 30), (2, 3, 0), (1, 1, 0)];
+
+/// What a path uses that has a pair twice. No valid path has, but what is added is any path.
+fn used_twice(alloc: Global) -> Result<Used, Memory> {
+    let steps = [step(1, 2, 120), step(2, 1, 50), step(1, 2, 120)];
+    let twice = path(alloc, 30, &steps)?;
+    let mut used = Used::new(alloc);
     used.add(&twice)?;
-    for (issuer, target, sum) in [(1, 2, 30), (2, 1, 30), (2, 3, 0), (1, 1, 0)] {
-        assert_eq!(rt; used.pair(&key(issuer), &key(target)), sum);
-    }
-    assert_eq!(rt; used.root(&key(1)), 30);
-    assert_eq!(rt; used.root(&key(2)), 0);
-    Ok(())
+    Ok(used)
 }
 
 #[test]
-fn lists_are_duplicated(rt: HostRuntime) -> Result<(), Fail> {
-    let mut paths = Vec::new(rt.alloc());
-    paths.push(path(rt.alloc(), 60, &[step(1, 2, 120), step(2, 3, 60)])?)?;
-    paths.push(path(rt.alloc(), 7, &[step(1, 3, 7)])?)?;
-    let list = PathList::new(paths).duplicate()?;
-    assert_eq!(rt; list.as_slice().len(), 2);
-    let mut lengths = Vec::new(rt.alloc());
-    for path in list.into_vec() {
-        lengths.push((
-            path.amount,
-            path.root,
-            path.steps.duplicate()?.into_vec().len(),
-        ))?;
+fn a_pair_is_used_once_by_a_path(rt: HostRuntime) {
+    let used = used_twice(rt.alloc()).expect(&rt, "memory");
+    for (issuer, target, sum) in &SUMS {
+        assert!(rt; used.pair(&key(*issuer), &key(*target)) == *sum);
     }
-    assert_eq!(rt;
-        lengths.as_slice(),
-        [(60, key(1), 2), (7, key(1), 1)].as_slice()
-    );
-    Ok(())
+    assert!(rt; used.root(&key(1)) == 30 && used.root(&key(2)) == 0);
+}
+
+fn two_paths(alloc: Global) -> Result<PathList, Memory> {
+    let mut paths = Vec::new(alloc);
+    paths.push(path(alloc, 60, &[step(1, 2, 120), step(2, 3, 60)])?)?;
+    paths.push(path(alloc, 7, &[step(1, 3, 7)])?)?;
+    PathList::new(paths).duplicate()
+}
+
+/// Whether a path has this amount and so many steps, and its list of steps is duplicated.
+fn is_like(path: &Path, amount: u8, length: usize) -> bool {
+    match path.steps.duplicate() {
+        Ok(steps) => {
+            path.amount == amount && path.root == key(1) && steps.into_vec().len() == length
+        }
+        Err(_) => false,
+    }
+}
+
+#[test]
+fn lists_are_duplicated(rt: HostRuntime) {
+    let list = two_paths(rt.alloc()).expect(&rt, "memory");
+    assert!(rt; list.as_slice().len() == 2);
+    match list.into_vec().as_slice() {
+        [first, second] => assert!(rt; is_like(first, 60, 2) && is_like(second, 7, 1)),
+        _ => assert!(rt; false),
+    }
 }
 
 fn line(alloc: Global, edges: &[EdgeFacts]) -> Result<Vec<Edge>, Memory> {
@@ -118,22 +125,25 @@ fn line(alloc: Global, edges: &[EdgeFacts]) -> Result<Vec<Edge>, Memory> {
     Ok(made)
 }
 
-#[test]
-fn roads_in_memory(rt: HostRuntime) -> Result<(), Fail> {
-    let mut roads = PlainRoads::new(rt.alloc(), b't');
+/// Roads into 4 and 5. Edges out of order, and edges into another certificate, are not put.
+fn roads_of_two(alloc: Global) -> Result<(PlainRoads, bool), Memory> {
+    let mut roads = PlainRoads::new(alloc, b't');
     let rows = [facts(1, 4, 2000, true), facts(2, 4, 0, false)];
-    assert!(rt; roads.put(key(4), true, line(rt.alloc(), &rows)?)?);
-    assert!(rt; roads.put(key(5), false, Vec::new(rt.alloc()))?);
-    // edges out of order, and an edge into another certificate
+    let put = roads.put(key(4), true, line(alloc, &rows)?)?;
+    let empty = roads.put(key(5), false, Vec::new(alloc))?;
     let turned = [facts(2, 6, 2000, false), facts(1, 6, 2000, false)];
-    assert!(rt; !roads.put(key(6), true, line(rt.alloc(), &turned)?)?);
-    assert!(rt; !roads.put(key(6), true, line(rt.alloc(), &rows)?)?);
-    assert_eq!(rt; roads.rows(&key(4)).len(), 2);
-    assert_eq!(rt; roads.rows(&key(6)).len(), 0);
+    let out_of_order = roads.put(key(6), true, line(alloc, &turned)?)?;
+    let elsewhere = roads.put(key(6), true, line(alloc, &rows)?)?;
+    Ok((roads, put && empty && !out_of_order && !elsewhere))
+}
+
+#[test]
+fn roads_in_memory(rt: HostRuntime) {
+    let (roads, put_so) = roads_of_two(rt.alloc()).expect(&rt, "memory");
+    assert!(rt; put_so);
+    assert!(rt; roads.rows(&key(4)).len() == 2 && roads.rows(&key(6)).is_empty());
     assert!(rt; roads.in_order(&key(4), b"t") && !roads.in_order(&key(5), b"t"));
     assert!(rt; !roads.in_order(&key(4), b"") && !roads.in_order(&key(6), b"t"));
-    assert_eq!(rt; roads.place(&key(4), b"t"), Some(116));
-    assert_eq!(rt; roads.place(&key(4), b"tt"), None);
-    assert_eq!(rt; roads.place(&key(6), b"t"), None);
-    Ok(())
+    assert!(rt; roads.place(&key(4), b"t") == Some(116) && roads.place(&key(4), b"tt").is_none());
+    assert!(rt; roads.place(&key(6), b"t").is_none());
 }

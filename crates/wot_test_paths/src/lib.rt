@@ -8,4 +8,6 @@ mod check;
 #[cfg(test)]
 mod edge;
 #[cfg(test)]
+mod roads;
+#[cfg(test)]
 mod search;

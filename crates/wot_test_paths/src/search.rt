@@ -2,29 +2,12 @@ ghost use Rattle.std.specs.Prelude.{IfOk};
 ghost use Rattle.wot_edge.specs.Plain.{told_of};
 ghost use Rattle.wot_search.specs.Reach.{IsReach, number_at};
 
+use crate::roads::{A, B, C, Row, S, T, U, key, network, roots_of};
 use std::alloc::Global;
-use std::process::Abort;
-use std::test::Fail;
 use wot_edge::plain::PlainRoads;
-use wot_edge::{Edge, EdgeFacts, Path, Roads, Roots, Used};
+use wot_edge::{Path, Roads, Roots, Used};
 use wot_search::{Consulted, Reach, Unnoted, make_reach, next_path, next_path_within};
-use wot_types::{Fpr, Memory, Steps};
-
-const A: u8 = b'a';
-
-const B: u8 = b'b';
-
-const C: u8 = b'c';
-
-const S: u8 = b's';
-
-const T: u8 = b't';
-
-const U: u8 = b'u';
-
-/// An edge: issuer, target, user ID, depth, amount.
-#[derive(Clone, Copy)]
-struct Row(u8, u8, u8, u8, u8);
+use wot_types::Memory;
 
 /// A question about a user ID of the key 4, and its first two paths: the amount, 0 for none, and the
 /// issuers and user IDs of the steps. The edges of `scoped` have a scope in which the user ID `t` is
@@ -268,47 +251,6 @@ static CASES: [Case; 25] = [
     },
 ];
 
-fn key(octet: u8) -> Fpr {
-    Fpr::V4([octet; 20])
-}
-
-fn edge(row: Row, scoped: bool, usable: bool) -> Edge {
-    let facts = EdgeFacts {
-        issuer: key(row.0),
-        target: key(row.1),
-        uid: row.2 as u32,
-        sig: 0,
-        made: if usable { 2000 } else { 0 },
-        depth: row.3,
-        amount: row.4,
-        scoped,
-    };
-    Edge::make(facts, &mut Steps::new())
-}
-
-/// The network of these edges, which are in the order of their issuers.
-fn network(alloc: Global, rows: &[Row], scoped: u8, gone: u8) -> Result<PlainRoads, Memory> {
-    let mut roads = PlainRoads::new(alloc, T);
-    for target in 1..100u8 {
-        let mut edges = Vec::new(alloc);
-        for row in rows {
-            if row.1 == target {
-                edges.push(edge(*row, row.0 == scoped, row.0 != gone))?;
-            }
-        }
-        let _put = roads.put(key(target), true, edges)?;
-    }
-    Ok(roads)
-}
-
-fn roots_of(alloc: Global, amounts: &[(u8, u8)]) -> Result<Roots, Memory> {
-    let mut roots = Roots::new(alloc);
-    for (octet, amount) in amounts {
-        roots.set(key(*octet), *amount)?;
-    }
-    Ok(roots)
-}
-
 /// The next path to a user ID of the key 4.
 fn next_to(
     alloc: Global,
@@ -367,47 +309,59 @@ fn used_by(alloc: Global, path: &Option<Path>) -> Result<Used, Memory> {
     Ok(used)
 }
 
-fn expect_steps(rt: &impl Abort, path: &Path, steps: &[(u8, u8)]) {
-    assert_eq!(rt; path.steps.as_slice().len(), steps.len());
-    for (step, (issuer, uid)) in path.steps.as_slice().iter().zip(steps) {
-        assert_eq!(rt; step.issuer, key(*issuer));
-        assert_eq!(rt; step.uid, *uid as u32);
+fn has_steps(path: &Path, steps: &[(u8, u8)]) -> bool {
+    if path.steps.as_slice().len() != steps.len() {
+        return false;
     }
-}
-
-fn expect_path(rt: &impl Abort, found: &Option<Path>, amount: u8, steps: &[(u8, u8)]) {
-    match found {
-        None => assert_eq!(rt; amount, 0),
-        Some(path) => {
-            assert_eq!(rt; path.amount, amount);
-            expect_steps(rt, path, steps);
+    for (step, (issuer, uid)) in path.steps.as_slice().iter().zip(steps) {
+        if step.issuer != key(*issuer) || step.uid != *uid as u32 {
+            return false;
         }
     }
+    true
 }
 
-fn expect_case(rt: &impl Abort, alloc: Global, case: &Case) -> Result<(), Memory> {
+/// Whether this path was found; one of amount 0 is none.
+fn is_found(found: &Option<Path>, amount: u8, steps: &[(u8, u8)]) -> bool {
+    match found {
+        None => amount == 0,
+        Some(path) => path.amount == amount && has_steps(path, steps),
+    }
+}
+
+/// Whether a search and one within reach find this path.
+fn both_find(
+    alloc: Global,
+    roads: &PlainRoads,
+    roots: &Roots,
+    used: &Used,
+    uid: u8,
+    wanted: (u8, &[(u8, u8)]),
+) -> Result<bool, Memory> {
+    let reach = reach_of(alloc, roads, roots)?;
+    let found = next_to(alloc, roads, roots, used, uid)?;
+    let within = next_within(alloc, roads, roots, &reach, used, uid)?;
+    Ok(is_found(&found, wanted.0, wanted.1) && is_found(&within, wanted.0, wanted.1))
+}
+
+/// Whether the first two paths are found.
+fn are_found(alloc: Global, case: &Case) -> Result<bool, Memory> {
     let roads = network(alloc, case.rows, case.scoped, case.gone)?;
     let roots = roots_of(alloc, case.roots)?;
-    let reach = reach_of(alloc, &roads, &roots)?;
-    let none = used_by(alloc, &None)?;
+    let none = Used::new(alloc);
     let first = next_to(alloc, &roads, &roots, &none, case.uid)?;
-    expect_path(rt, &first, case.first.0, case.first.1);
-    let within = next_within(alloc, &roads, &roots, &reach, &none, case.uid)?;
-    expect_path(rt, &within, case.first.0, case.first.1);
     let used = used_by(alloc, &first)?;
-    let second = next_to(alloc, &roads, &roots, &used, case.uid)?;
-    expect_path(rt, &second, case.second.0, case.second.1);
-    let within = next_within(alloc, &roads, &roots, &reach, &used, case.uid)?;
-    expect_path(rt, &within, case.second.0, case.second.1);
-    Ok(())
+    let found = both_find(alloc, &roads, &roots, &none, case.uid, case.first)?;
+    Ok(found && both_find(alloc, &roads, &roots, &used, case.uid, case.second)?)
 }
 
 #[test]
-fn first_two_paths(rt: HostRuntime) -> Result<(), Fail> {
-    for case in CASES.iter() {
-        expect_case(&rt, rt.alloc(), case)?;
+fn first_two_paths(rt: HostRuntime) {
+    let mut number = 0u32;
+    for case in &CASES {
+        assert!(rt; are_found(rt.alloc(), case) == Ok(true), "case {number}");
+        number = number.wrapping_add(1);
     }
-    Ok(())
 }
 
 /// Thirty layers of two keys, from the key 1 to the key 4; each certifies both of the next layer.
@@ -438,19 +392,19 @@ fn lesser_keys(alloc: Global) -> Result<Vec<(u8, u8)>, Memory> {
     Ok(steps)
 }
 
+fn layers_are_searched(alloc: Global) -> Result<bool, Memory> {
+    let roads = network(alloc, &thirty_layers(alloc)?, 0, 0)?;
+    let roots = roots_of(alloc, &[(1, 120)])?;
+    let first = next_to(alloc, &roads, &roots, &Used::new(alloc), T)?;
+    let used = used_by(alloc, &first)?;
+    let second = next_to(alloc, &roads, &roots, &used, T)?;
+    Ok(is_found(&first, 120, &lesser_keys(alloc)?) && second.is_none())
+}
+
 // There are 2^30 simple paths.
 #[test]
-fn thirty_layers_of_two(rt: HostRuntime) -> Result<(), Fail> {
-    let rows = thirty_layers(rt.alloc())?;
-    let roads = network(rt.alloc(), &rows, 0, 0)?;
-    let roots = roots_of(rt.alloc(), &[(1, 120)])?;
-    let none = used_by(rt.alloc(), &None)?;
-    let first = next_to(rt.alloc(), &roads, &roots, &none, T)?;
-    expect_path(&rt, &first, 120, &lesser_keys(rt.alloc())?);
-    let used = used_by(rt.alloc(), &first)?;
-    let second = next_to(rt.alloc(), &roads, &roots, &used, T)?;
-    assert!(rt; second.is_none());
-    Ok(())
+fn thirty_layers_of_two(rt: HostRuntime) {
+    assert!(rt; layers_are_searched(rt.alloc()) == Ok(true));
 }
 
 /// What a search for the user ID `t` of the key 4 looks at.
@@ -463,62 +417,76 @@ fn looked_at(alloc: Global, rows: &[Row]) -> Result<Consulted, Memory> {
     Ok(consulted)
 }
 
-#[test]
-fn what_is_consulted(rt: HostRuntime) -> Result<(), Fail> {
-    // B has no depth for A's edge, so A isn't looked at.
-    let rows = [
-        Row(1, 3, B, 1, 120),
-        Row(2, 3, B, 0, 120),
-        Row(3, 4, T, 0, 120),
-        Row(6, 5, C, 1, 120),
-    ];
-    let consulted = looked_at(rt.alloc(), &rows)?;
-    for (octet, had) in [
-        (1, true),
-        (2, false),
-        (3, true),
-        (4, true),
-        (5, false),
-        (6, false),
-    ] {
-        assert_eq!(rt; consulted.has(&key(octet)), had);
-    }
+/// B has no depth for A's edge, so A isn't looked at.
+static SEEN: [(u8, bool); 6] = [
+    (1, true),
+    (2, false),
+    (3, true),
+    (4, true),
+    (5, false),
+    (6, false),
+];
+
+static LOOKED_AT: [Row; 4] = [
+    Row(1, 3, B, 1, 120),
+    Row(2, 3, B, 0, 120),
+    Row(3, 4, T, 0, 120),
+    Row(6, 5, C, 1, 120),
+];
+
+fn are_these(consulted: &Consulted, octets: &[u8]) -> bool {
     let mut all = consulted.iter();
-    assert_eq!(rt; all.next(), Some(key(1)));
-    assert_eq!(rt; all.next(), Some(key(3)));
-    assert_eq!(rt; all.next(), Some(key(4)));
-    assert_eq!(rt; all.next(), None);
-    Ok(())
+    for octet in octets {
+        if all.next() != Some(key(*octet)) {
+            return false;
+        }
+    }
+    all.next().is_none()
 }
 
 #[test]
-fn how_far_keys_reach(rt: HostRuntime) -> Result<(), Fail> {
-    // The edge of 5 isn't usable, that into 7 has no amount, and 9 is no root and nobody's target. 100 isn't told of.
-    let rows = [
-        Row(1, 2, A, 7, 120),
-        Row(1, 3, A, 2, 120),
-        Row(2, 3, A, 3, 1),
-        Row(3, 4, A, 255, 120),
-        Row(5, 6, A, 255, 120),
-        Row(1, 7, A, 255, 0),
-        Row(9, 8, A, 255, 120),
-    ];
-    let roads = network(rt.alloc(), &rows, 0, 5)?;
-    let roots = roots_of(rt.alloc(), &[(1, 120), (5, 120)])?;
-    let reach = reach_of(rt.alloc(), &roads, &roots)?;
-    for (octet, number) in [
-        (1, 255),
-        (2, 7),
-        (3, 3),
-        (4, 2),
-        (5, 255),
-        (6, 0),
-        (7, 0),
-        (8, 0),
-        (9, 0),
-        (100, 255),
-    ] {
-        assert_eq!(rt; reach.get(&key(octet)), number);
+fn what_is_consulted(rt: HostRuntime) {
+    let consulted = looked_at(rt.alloc(), &LOOKED_AT).expect(&rt, "memory");
+    for (octet, had) in &SEEN {
+        assert!(rt; consulted.has(&key(*octet)) == *had);
     }
-    Ok(())
+    assert!(rt; are_these(&consulted, &[1, 3, 4]));
+}
+
+// The edge of 5 isn't usable, that into 7 has no amount, and 9 is no root and nobody's target. 100 isn't told of.
+static REACHING: [Row; 7] = [
+    Row(1, 2, A, 7, 120),
+    Row(1, 3, A, 2, 120),
+    Row(2, 3, A, 3, 1),
+    Row(3, 4, A, 255, 120),
+    Row(5, 6, A, 255, 120),
+    Row(1, 7, A, 255, 0),
+    Row(9, 8, A, 255, 120),
+];
+
+static REACH: [(u8, u8); 10] = [
+    (1, 255),
+    (2, 7),
+    (3, 3),
+    (4, 2),
+    (5, 255),
+    (6, 0),
+    (7, 0),
+    (8, 0),
+    (9, 0),
+    (100, 255),
+];
+
+fn table_of_reach(alloc: Global) -> Result<Reach, Memory> {
+    let roads = network(alloc, &REACHING, 0, 5)?;
+    let roots = roots_of(alloc, &[(1, 120), (5, 120)])?;
+    reach_of(alloc, &roads, &roots)
+}
+
+#[test]
+fn how_far_keys_reach(rt: HostRuntime) {
+    let reach = table_of_reach(rt.alloc()).expect(&rt, "memory");
+    for (octet, number) in &REACH {
+        assert!(rt; reach.get(&key(*octet)) == *number, "{octet}");
+    }
 }
