@@ -6,6 +6,7 @@ from .certificates import ATTRIBUTE, KEY, SIGNATURE, SUBKEY, USER_ID, fingerprin
 from .packets import shortest_length, write_packet
 from .script import LONGEST_LINE, print_user_id
 from .shelf import LONGEST_ENTRY, TRUST_ROOT
+from .signatures import FEBRUARY_2013, REVOCATIONS
 
 USER_IDS = [
     b"", b"a", b"Ann <ann@example.org>", b"Ben <ben@example.org>", b"Cid <cid@example.org.net>", b"d\\e",
@@ -19,9 +20,9 @@ PATTERNS = [
 AMOUNTS = [120, 120, 120, 60, 60, 40, 30, 1, 0, 255, 90, 119]
 DEPTHS = [0, 1, 1, 1, 2, 2, 3, 4, 254, 255]
 ODD_HASHES = [9, 10, 11, 12, 14, 2, 3, 1, 13, 0, 255]
+OLD_HASHES = [2, 3, 2, 3, 1]
 LENGTHS_OF_LIFE = [0, 1, 50, 100, 1000, 3000, 3001, 4294967295]
 SHAPES = ["random", "random", "random", "line", "ring", "layers"]
-FEBRUARY_2013 = 1359676800
 
 
 class Key:
@@ -40,7 +41,7 @@ class Generator:
         self.keys = []
         self.odd = self.pick([0.003, 0.01, 0.02, 0.05, 0.1, 0.3])
         self.views = [b"p", b"q", b"-_9z"]
-        self.moments = [0, 1, 5000, 6000, FEBRUARY_2013, 4294967295]
+        self.moments = [0, 1, 5000, 6000, FEBRUARY_2013, 1500000000, 4294967295]
         self.lines = []
         self.entries = {}
 
@@ -118,6 +119,9 @@ class Generator:
         if self.is_odd():
             any_time = self.random.randrange(6000)
             made = self.pick([1000, 999, 1999, 4000, 7000, FEBRUARY_2013 - 1, FEBRUARY_2013, any_time])
+        old = kind in REVOCATIONS and self.chance(0.5)
+        if old:
+            made = self.pick([made, FEBRUARY_2013, FEBRUARY_2013 + 1])
         hashed = self.make_facts(kind, made)
         if self.chance(0.4):
             named = self.pick(self.keys) if self.is_odd() else issuer
@@ -130,7 +134,7 @@ class Generator:
         unhashed = [(16, self.random.randbytes(8))] if self.chance(0.2) else []
         if self.chance(0.05):
             unhashed.append((5, bytes([255, 255])))
-        hash_number = self.pick(ODD_HASHES) if self.is_odd() else 8
+        hash_number = self.pick(OLD_HASHES) if old else self.pick(ODD_HASHES) if self.is_odd() else 8
         body = bytes([4, kind, 27, hash_number]) + self.area(hashed) + self.area(unhashed)
         body += b"\0\0" + self.random.randbytes(self.pick([0, 2, 2, 2, 2]))
         return self.damage(body) if self.is_odd() and self.chance(0.1) else body

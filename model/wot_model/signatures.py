@@ -11,7 +11,8 @@ OTHER_KNOWN = {4, 11, 12, 21, 22, 23, 24, 26, 27, 28, 30, 31, 32, 35, 39}
 SIZES = {CREATED: 4, EXPIRATION: 4, TRUST: 2, REVOCABLE: 1, KEY_EXPIRATION: 4, ISSUER_KEY_ID: 8, PRIMARY: 1, ISSUER: 21}
 
 CERTIFICATIONS = range(0x10, 0x14)
-DIRECT_KEY, KEY_REVOCATION, CERTIFICATION_REVOCATION = 0x1F, 0x20, 0x30
+DIRECT_KEY, KEY_REVOCATION, SUBKEY_REVOCATION, CERTIFICATION_REVOCATION = 0x1F, 0x20, 0x28, 0x30
+REVOCATIONS = {KEY_REVOCATION, SUBKEY_REVOCATION, CERTIFICATION_REVOCATION}
 SOFT_REASONS = {1, 3, 32}
 
 ALWAYS_ADMITTED = {8, 9, 10, 11, 12, 14}
@@ -52,9 +53,9 @@ class Facts:
         return self.reason not in SOFT_REASONS
 
     def is_admitted(self):
-        """Whether the standard policy admits the hash algorithm at the time of signing."""
+        """Whether the standard policy admits the hash algorithm, for this kind, at the time of signing."""
         if self.hash in ADMITTED_UNTIL_2013:
-            return self.made < FEBRUARY_2013
+            return self.kind in REVOCATIONS or self.made < FEBRUARY_2013
         return self.hash in ALWAYS_ADMITTED
 
 

@@ -4,17 +4,17 @@ use Rattle.wot_policy.specs.declared.rows.Ask.{Ask}
 use Rattle.wot_policy.specs.declared.rows.Row.{Row}
 use Rattle.wot_policy.specs.declared.rows.Row.TheVariants.{Never, Before, Always}
 use Rattle.wot_policy.specs.declared.rows.PolicyRows.{PolicyRows}
-use Rattle.wot_policy.specs.Admits.{row_of}
+use Rattle.wot_policy.specs.Admits.{is_revoking, row_of}
 
 -- the first moment of 1 February 2013, in seconds from 1970 on
 abbrev pub february_2013 : ℕ
 february_2013 = 1359676800
 
--- the hash numbers that still count
-abbrev pub standard_table : List (ℕ × Row)
-standard_table =
-    (2, Before february_2013)  -- SHA-1
-    ∷ (3, Before february_2013)  -- RIPEMD-160
+-- the hash numbers that still count, where SHA-1 and RIPEMD-160 have this row
+abbrev pub table_with : Row → List (ℕ × Row)
+table_with old =
+    (2, old)  -- SHA-1
+    ∷ (3, old)  -- RIPEMD-160
     ∷ (8, Always)  -- SHA2-256
     ∷ (9, Always)  -- SHA2-384
     ∷ (10, Always)  -- SHA2-512
@@ -28,10 +28,11 @@ abbrev pub found_in : List (ℕ × Row) → ℕ → Row
 found_in [] hash = Never
 found_in (entry ∷ rest) hash = if nat_eq hash entry.0 then entry.1 else found_in rest hash
 
--- the standard row of a hash number
-unfoldable pub standard_row : ℕ → Row
-standard_row hash = found_in standard_table hash
+-- The standard row of a kind and a hash number: what takes something back counts whenever it was made, so that no
+-- revocation by an old key is lost.
+unfoldable pub standard_row : ℕ → ℕ → Row
+standard_row kind hash = found_in (table_with (if is_revoking kind then Always else Before february_2013)) hash
 
--- The row of each ask is the standard one of its hash number.
+-- The row of each ask is the standard one of its kind and its hash number.
 abbrev pub IsStandard : PolicyRows → Type 0
-IsStandard rows = (ask : Ask) → ask.hash < 256 → row_of rows ask ≡ standard_row ask.hash
+IsStandard rows = (ask : Ask) → ask.hash < 256 → row_of rows ask ≡ standard_row ask.kind ask.hash

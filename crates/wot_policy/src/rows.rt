@@ -1,5 +1,12 @@
 ghost use Rattle.std.specs.Prelude.{◌≡◌};
-ghost use Rattle.wot_policy.specs.Admits.{admits as admits_by};
+ghost use Rattle.wot_policy.specs.Admits.{admits as admits_by, is_revoking as takes_back};
+
+/// Revocations of a key, of a subkey and of a certification (RFC 9580, section 5.2.1).
+const KEY_REVOCATION: u8 = 0x20;
+
+const SUBKEY_REVOCATION: u8 = 0x28;
+
+const CERTIFICATION_REVOCATION: u8 = 0x30;
 
 /// What a policy is asked about a signature.
 #[derive(Clone, Copy, Debug, PartialEq, Eq)]
@@ -21,18 +28,35 @@ pub enum Row {
     Always,
 }
 
-/// The rows by which signatures are admitted.
+/// The rows by which signatures are admitted. Item h of either list is the row of the hash number h.
 #[derive(Clone, Copy, Debug, PartialEq, Eq)]
 pub struct PolicyRows {
-    /// Item h is the row of the hash number h.
+    /// For the kinds of signature that take nothing back.
     pub plain: [Row; 256],
+    /// For revocations, of a key, a subkey or a certification.
+    pub revoking: [Row; 256],
+}
+
+/// Whether signatures of this kind take something back.
+fn is_revoking(kind: u8) -> bool
+    ensures { result ≡ takes_back kind }
+{
+    matches!(
+        kind,
+        KEY_REVOCATION | SUBKEY_REVOCATION | CERTIFICATION_REVOCATION
+    )
 }
 
 /// Whether the rows admit what is asked.
 pub fn admits(rows: &PolicyRows, ask: Ask) -> bool
     ensures by_row { result ≡ admits_by rows.now ask }
 {
-    match rows.plain[ask.hash as usize] {
+    let for_kind = if is_revoking(ask.kind) {
+        &rows.revoking
+    } else {
+        &rows.plain
+    };
+    match for_kind[ask.hash as usize] {
         Row::Never => false,
         Row::Before(moment) => ask.made < moment,
         Row::Always => true,

@@ -5,7 +5,7 @@ use wot_policy::{Ask, Policy, PolicyRows, Row, admits, standard_rows};
 /// The moment at which SHA-1 and RIPEMD-160 end.
 const END: u32 = 1_359_676_800;
 
-/// Each hash number that is ever admitted, and whether it still is from `END` on.
+/// Each hash number that is ever admitted, and whether it still is from `END` on, for signatures that revoke nothing.
 const COUNTED: [(u8, bool); 8] = [
     (2, false),
     (3, false),
@@ -17,21 +17,43 @@ const COUNTED: [(u8, bool); 8] = [
     (14, true),
 ];
 
-fn expected(hash: u8, made: u32) -> bool {
-    COUNTED.iter().any(|(number, still)| *number == hash && (*still || made < END))
+/// Each kind of signature of RFC 9580, and some numbers beside those that revoke; and whether it revokes.
+const KINDS: [(u8, bool); 18] = [
+    (0x00, false),
+    (0x01, false),
+    (0x02, false),
+    (0x10, false),
+    (0x13, false),
+    (0x18, false),
+    (0x19, false),
+    (0x1f, false),
+    (0x20, true),
+    (0x21, false),
+    (0x27, false),
+    (0x28, true),
+    (0x29, false),
+    (0x2f, false),
+    (0x30, true),
+    (0x31, false),
+    (0x40, false),
+    (0xff, false),
+];
+
+fn expected(revokes: bool, hash: u8, made: u32) -> bool {
+    COUNTED.iter().any(|(number, still)| *number == hash && (*still || revokes || made < END))
 }
 
 #[test]
-fn standard_rows_around_their_end(rt: HostRuntime) -> Result<(), Fail> {
+fn standard_rows_by_kind_and_around_their_end(rt: HostRuntime) -> Result<(), Fail> {
     let rows = standard_rows();
     for hash in 0..=u8::MAX {
         for made in [0, END - 1, END, END + 1, u32::MAX] {
-            for kind in [0x10, 0x20, 0x30] {
+            for (kind, revokes) in KINDS {
                 let ask = Ask { kind, hash, made };
                 assert_eq!(rt;
                     admits(&rows, ask),
-                    expected(hash, made),
-                    "hash {hash} made {made}"
+                    expected(revokes, hash, made),
+                    "kind {kind} hash {hash} made {made}"
                 );
             }
         }
@@ -43,6 +65,7 @@ fn standard_rows_around_their_end(rt: HostRuntime) -> Result<(), Fail> {
 fn each_question_asks_the_closure_once(rt: HostRuntime) -> Result<(), Fail> {
     let rows = PolicyRows {
         plain: [Row::Before(7); 256],
+        revoking: [Row::Never; 256],
     };
     let calls = Cell::new(0u64);
     let mut policy = Policy::new(rows, |ask| {

@@ -1,14 +1,18 @@
-use Rattle.std.proofs.Common.{◌<◌, ◌≡◌, ◌≢◌, length, arith, rules, get_or-set_other, get_or-set_same, below_more}
+use Rattle.std.proofs.Common.{◌≡◌, Bool, true, false, if◌then◌else◌, slice_index_or}
+use Rattle.wot_policy.specs.declared.rows.Row.TheVariants.{Never, Before, Always}
+use Rattle.wot_policy.specs.Admits.{is_revoking}
+use Rattle.wot_policy.specs.Standard.{standard_row, found_in, table_with, february_2013}
 use Rattle.wot_policy.proofs.standard.standard_rows.Goals as goal
 
-pub loop-hash-preserved : goal.loop-hash-preserved
-loop-hash-preserved c =
-    let all : length c.loop-hash.plain ≡ 256 = c.loop-hash.invariant.whole in
-    let lt : c.loop-hash.hash < length c.loop-hash.plain = omega (arith, all) in
+pub returns : goal.returns
+unfolding standard_row
+returns c =
+    let plain = c.rows_with.result in
+    let revoking = c.rows_with-2.result in
     record {
-      whole = search rules;
-      filled =
-          below_more _ _
-          (λ k h. let ne : k ≢ c.loop-hash.hash = omega arith in rw get_or-set_other (c.loop-hash.invariant.filled k h))
-          (rw get_or-set_same c.standard_row.ensures);
+      standard = λ ask h.
+          elim (is_revoking ask.kind) as (λ b. slice_index_or (if b then revoking else plain) ask.hash Never ≡ found_in (table_with (if b then Always else Before february_2013)) ask.hash) [
+            | true ↦ c.rows_with-2.ensures ask.hash h
+            | false ↦ c.rows_with.ensures ask.hash h
+          ];
     }
