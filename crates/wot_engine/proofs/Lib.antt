@@ -21,3 +21,4 @@ mod Anew
 mod Dumping
 mod Alike
 mod Worded
+mod Refusals

@@ -1,7 +1,9 @@
--- That each line has exactly one outcome.
-use Rattle.std.specs.Prelude.{◌≡◌, ℕ, List, Option}
+-- Laws of one line: that it has exactly one outcome, and what a refusal leaves.
+use Rattle.std.specs.Prelude.{◌≡◌, ℕ, Bool, true, List, Option, Some}
 use Rattle.wot_policy.specs.declared.rows.PolicyRows.{PolicyRows}
 use Rattle.wot_script.specs.declared.reply.Reply.{Reply}
+use Rattle.wot_script.specs.declared.reply.Reply.TheVariants.{Shelf}
+use Rattle.wot_script.specs.Replies.{is_refusal}
 use Rattle.wot_certd.specs.World.{Answer}
 use Rattle.wot_cache.specs.State.{State, IsState}
 use Rattle.wot_engine.specs.LineStep.{LineStep}
@@ -14,3 +16,14 @@ pub record OneOutcome (rows : PolicyRows) : Type 0 where
       → LineStep rows old line given reply new → LineStep rows old line given other third → (reply ≡ other) × (new ≡ third)
   pub stays : (old : State) (line : List ℕ) (given : Answer) (reply : Option Reply) (new : State) → IsState old
       → LineStep rows old line given reply new → IsState new
+
+-- The line is refused, or the shelf failed in it.
+abbrev pub is_refused : Reply → Bool
+is_refused Shelf = true
+is_refused reply = is_refusal reply
+
+-- A line that is refused leaves certificates, verdicts and views.
+abbrev pub RefusalsLeaveAll : PolicyRows → Type 0
+RefusalsLeaveAll rows =
+    (old : State) (line : List ℕ) (given : Answer) (reply : Reply) (new : State) → LineStep rows old line given (Some reply) new
+    → is_refused reply ≡ true → new ≡ old

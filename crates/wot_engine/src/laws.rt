@@ -6,6 +6,7 @@ ghost use Rattle.wot_keyring.specs.Dump.{judged_by};
 ghost use Rattle.wot_certd.specs.World.{Answer, World};
 ghost use Rattle.wot_cache.specs.State.{State, IsState};
 ghost use Rattle.wot_engine.specs.Depends.{DependsOnWhatIsPresent};
+ghost use Rattle.wot_engine.specs.Law.{RefusalsLeaveAll};
 ghost use Rattle.wot_engine.specs.LineStep.{LineStep};
 ghost use Rattle.wot_engine.specs.Scene.{Scene, opening};
 ghost use Rattle.wot_engine.specs.Transcript.{Run, Transcript};
@@ -32,6 +33,11 @@ pub fn each_line_has_one_outcome()
     list_is_one();
     lines_spell_commands();
 }
+
+/// A line that is refused, or in which the shelf failed, leaves certificates, verdicts and views as they were.
+pub fn refused_lines_leave_the_state()
+    ensures { (rows : PolicyRows) → RefusalsLeaveAll rows }
+{}
 
 /// Over a shelf of each world, each input has exactly one transcript.
 pub fn each_input_has_one_transcript()
