@@ -8,10 +8,14 @@ mod engine;
 #[cfg(test)]
 mod explain;
 #[cfg(test)]
+mod failing;
+#[cfg(test)]
 mod kept;
 #[cfg(test)]
 mod keyring;
 #[cfg(test)]
 mod layers;
+#[cfg(test)]
+mod policy;
 #[cfg(test)]
 mod shelf;

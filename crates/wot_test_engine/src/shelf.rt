@@ -5,20 +5,20 @@ use wot_certd::{Given, MemoryShelf, Shelf};
 use wot_types::{Fpr, Name};
 
 /// A certificate from the field, with its one key packet, and its fingerprint.
-const FIELD: &[u8] =
+pub const FIELD: &[u8] =
     b"c6330453f35f0b16092b06010401da470f010107403f098994bdd916ed4053197934e4a87c80733a1280d62f8010992e43ee3b2406";
 
-const FIELD_FPR: &[u8] = b"c959bdbafa32a2f89a153b678cfde12197965a9a";
+pub const FIELD_FPR: &[u8] = b"c959bdbafa32a2f89a153b678cfde12197965a9a";
 
 /// Two keys of the rows, R and A, and T's fingerprint.
-const R_KEY: &[u8] = b"c60704000003e81b01";
+pub const R_KEY: &[u8] = b"c60704000003e81b01";
 
 const A_KEY: &[u8] = b"c60704000003e81b02";
 
-const T_FPR: &[u8] = b"3c98b8180e0fcaca1032499082a5de8fa5d98232";
+pub const T_FPR: &[u8] = b"3c98b8180e0fcaca1032499082a5de8fa5d98232";
 
 /// An entry: the digits of its name, or nothing for the trust root, and those of its octets.
-type Row = (&'static [u8], &'static [u8]);
+pub type Row = (&'static [u8], &'static [u8]);
 
 fn name_of(digits: &[u8]) -> Result<Name, Fail> {
     if digits.is_empty() {
@@ -28,7 +28,7 @@ fn name_of(digits: &[u8]) -> Result<Name, Fail> {
 }
 
 /// A shelf with these entries, whose calls with these numbers fail.
-fn shelf_of(alloc: Global, entries: &[Row], fails: &[u64]) -> Result<MemoryShelf, Fail> {
+pub fn shelf_of(alloc: Global, entries: &[Row], fails: &[u64]) -> Result<MemoryShelf, Fail> {
     let mut shelf = MemoryShelf::new(alloc, fails.to_vec(alloc)?, Vec::new(alloc));
     for (digits, octets) in entries {
         shelf.put(name_of(digits)?, hex::decode(alloc, octets)?)?;

@@ -10,7 +10,7 @@ use wot_io::{
     write_all,
 };
 
-/// What `next` answers up to the end, or up to the second fault, as text: a line is `t..|`, or
+/// What `next` answers up to the end, or up to the fourth fault, as text: a line is `t..|`, or
 /// `T` and its length where it is long; `l` is `Long`, `.` the end, `r` and `m` are the faults.
 /// A `!` follows where `text` gives something after another answer than `Text`.
 fn answers<S: Source>(alloc: Global, source: &mut S) -> Result<String, Fail> {
@@ -23,7 +23,7 @@ fn answers<S: Source>(alloc: Global, source: &mut S) -> Result<String, Fail> {
         if answer.is_err() {
             faults = faults.saturating_add(1);
         }
-        if answer == Ok(Line::End) || faults == 2 {
+        if answer == Ok(Line::End) || faults == 4 {
             break;
         }
     }
@@ -98,10 +98,10 @@ fn lines_are_the_parts_between_line_feeds(rt: HostRuntime) -> Result<(), Fail> {
 fn a_read_fault_is_answered_again(rt: HostRuntime) -> Result<(), Fail> {
     let alloc = rt.alloc();
     let rows: [(&[u8], u64, &str); 5] = [
-        (b"ab\ncd\nef\n", 1, "rr"),
-        (b"ab\ncd\nef\n", 2, "tab|rr"),
-        (b"ab\ncd\nef\n", 3, "tab|tcd|tef|rr"),
-        (b"ab\ncd\nef", 3, "tab|tcd|rr"),
+        (b"ab\ncd\nef\n", 1, "rrrr"),
+        (b"ab\ncd\nef\n", 2, "tab|rrrr"),
+        (b"ab\ncd\nef\n", 3, "tab|tcd|tef|rrrr"),
+        (b"ab\ncd\nef", 3, "tab|tcd|rrrr"),
         (b"ab\ncd\nef", 5, "tab|tcd|tef|."),
     ];
     for (input, failing, want) in rows {
@@ -167,9 +167,9 @@ fn long_lines_and_many_octets(rt: HostRuntime) -> Result<(), Fail> {
         (16_777_216, &[], 65535, "T16777216|."),
         (16_777_217, &[], 65535, "l."),
         (MOST - 1, &[MOST - 3], 65535, "ltx|."),
-        (MOST, &[MOST - 3], 65535, "lmm"),
-        (MOST, &[MOST - 3, MOST - 1], 65536, "ltx|mm"),
-        (MOST + 1, &[], 65536, "mm"),
+        (MOST, &[MOST - 3], 65535, "lmmmm"),
+        (MOST, &[MOST - 3, MOST - 1], 65536, "ltx|mmmm"),
+        (MOST + 1, &[], 65536, "mmmm"),
     ];
     for (size, feeds, piece, want) in rows {
         let mut source = Long {
@@ -199,7 +199,7 @@ fn each_read_offers_a_whole_piece_or_what_remains(rt: HostRuntime) -> Result<(),
         whole: true,
     };
     let seen = answers(alloc, &mut source)?;
-    assert_eq!(rt; seen.as_str(), "mm");
+    assert_eq!(rt; seen.as_str(), "mmmm");
     assert_eq!(rt; source.at, MOST);
     assert!(rt; source.whole);
     assert_eq!(rt; source.offered, 16384);

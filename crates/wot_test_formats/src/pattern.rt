@@ -31,7 +31,7 @@ fn answer_to(alloc: Global, pattern: &str, text: &str) -> Answer {
 }
 
 /// Patterns, texts and answers. The answers were computed by another program, with sets of positions and no passes.
-static ROWS: [(&str, &str, Answer); 139] = [
+static ROWS: [(&str, &str, Answer); 140] = [
     ("", "", Matches),
     ("", "abc", Matches),
     ("a*", "bbb", Matches),
@@ -140,6 +140,7 @@ static ROWS: [(&str, &str, Answer); 139] = [
     ("(($)*|(^)+)*b", "ab", Matches),
     ("^(a*)*$", "aaaaaaaaaaaaaaaab", Differs),
     ("(|a)*b", "aaab", Matches),
+    ("(|a)*b", "aab", Matches),
     ("^(|a)*b$", "aacb", Differs),
     ("^(a*b?)+c$", "aabababc", Matches),
     ("^((a|b)*c?)*d$", "abcabd", Matches),
@@ -234,6 +235,23 @@ fn bounds_are_exact(rt: HostRuntime) -> Result<(), Fail> {
             "{count} of {first:?} and {second:?}"
         );
     }
+    Ok(())
+}
+
+/// A repetition of a repetition, over a text that has as many readings as there are subsets of its places.
+#[test]
+fn nested_repetitions_take_no_turn_twice(rt: HostRuntime) -> Result<(), Fail> {
+    let mut text = repeated(rt.alloc(), 2000, "a", "")?;
+    assert_eq!(rt; answer_to(rt.alloc(), "^(a*)*$", text.as_str()), Matches);
+    text.push_str("b")?;
+    assert_eq!(rt; answer_to(rt.alloc(), "^(a*)*$", text.as_str()), Differs);
+
+    let mut nested = repeated(rt.alloc(), 64, "(", "")?;
+    nested.push_str("a")?;
+    nested.push_str(repeated(rt.alloc(), 64, ")", "")?.as_str())?;
+    assert_eq!(rt; answer_to(rt.alloc(), nested.as_str(), "ba"), Matches);
+    nested.push_str(")")?;
+    assert_eq!(rt; answer_to(rt.alloc(), nested.as_str(), "ba"), Unreadable);
     Ok(())
 }
 

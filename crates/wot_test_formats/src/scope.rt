@@ -85,6 +85,19 @@ fn scope_of_patterns(rt: HostRuntime) -> Result<(), Fail> {
     Ok(())
 }
 
+/// A pattern that has very many readings over a long user ID.
+#[test]
+fn nested_repetitions(rt: HostRuntime) -> Result<(), Fail> {
+    let body = certification(rt.alloc(), Some(b"^(a*)*$"), None)?;
+    let mut uid = vec![in rt.alloc(); b'a'; 2000]?;
+    for expected in [true, false] {
+        let held = in_scope(rt.alloc(), &body, &uid).ok().ok_or("no memory")?;
+        assert_eq!(rt; held, expected);
+        uid.push(b'b')?;
+    }
+    Ok(())
+}
+
 #[test]
 fn longest_pattern(rt: HostRuntime) -> Result<(), Fail> {
     for (count, expected) in [(1024, true), (1025, false)] {

@@ -1,0 +1,241 @@
+//! Runs over devices that fail, and over inputs without an end.
+ghost use Rattle.std.specs.Prelude.{None};
+
+use crate::engine::{owned, sink_of, source_of, status_of};
+use crate::shelf::{FIELD, FIELD_FPR, R_KEY, T_FPR, shelf_of};
+use std::alloc::Global;
+use std::process::Abort;
+use std::test::Fail;
+use wot_io::{Failed, Sink, Source};
+
+/// A script with the numbers of the reads, of the writes and of the shelf's calls that fail, and what comes of it: the
+/// status, and what is written. The source gives five octets a read, the sink takes three a write.
+#[derive(Clone, Copy)]
+struct Case {
+    script: &'static [u8],
+    reads: &'static [u64],
+    writes: &'static [u64],
+    calls: &'static [u64],
+    status: u8,
+    written: &'static [u8],
+}
+
+const KEYS: Case = Case {
+    script: b"keys\n",
+    reads: &[],
+    writes: &[],
+    calls: &[],
+    status: 0,
+    written: b"keys 0\n",
+};
+
+const TWICE: Case = Case {
+    script: b"keys\nkeys\n",
+    written: b"keys 0\nkeys 0\n",
+    ..KEYS
+};
+
+const LOAD: Case = Case {
+    script: b"load c959bdbafa32a2f89a153b678cfde12197965a9a
+load c959bdbafa32a2f89a153b678cfde12197965a9a
+keys
+",
+    written: b"ok taken 1 skipped 0 new 1
+ok taken 1 skipped 0 new 0
+keys 1
+key c959bdbafa32a2f89a153b678cfde12197965a9a 0 0
+",
+    ..KEYS
+};
+
+/// Each stop leaves a prefix of what the same script writes where nothing fails. A shelf that fails stops nothing.
+static CASES: [Case; 17] = [
+    KEYS,
+    TWICE,
+    LOAD,
+    Case {
+        reads: &[1],
+        status: 3,
+        written: b"",
+        ..TWICE
+    },
+    Case {
+        reads: &[2],
+        status: 3,
+        written: b"keys 0\n",
+        ..TWICE
+    },
+    Case {
+        reads: &[3],
+        status: 3,
+        ..TWICE
+    },
+    Case {
+        reads: &[4],
+        ..TWICE
+    },
+    // A line that was begun when the read failed isn't answered.
+    Case {
+        script: b"keys\nkeys",
+        reads: &[3],
+        status: 3,
+        written: b"keys 0\n",
+        ..TWICE
+    },
+    Case {
+        writes: &[1],
+        status: 4,
+        written: b"",
+        ..KEYS
+    },
+    Case {
+        writes: &[2],
+        status: 4,
+        written: b"key",
+        ..KEYS
+    },
+    Case {
+        writes: &[3],
+        status: 4,
+        written: b"keys 0",
+        ..KEYS
+    },
+    Case {
+        writes: &[4],
+        status: 4,
+        written: b"keys 0\n",
+        ..TWICE
+    },
+    // Of two devices that fail, the one that fails first is told.
+    Case {
+        reads: &[2],
+        writes: &[3],
+        status: 4,
+        written: b"keys 0",
+        ..TWICE
+    },
+    Case {
+        reads: &[2],
+        writes: &[4],
+        status: 3,
+        written: b"keys 0\n",
+        ..TWICE
+    },
+    Case {
+        calls: &[1],
+        written: b"fault shelf
+ok taken 1 skipped 0 new 1
+keys 1
+key c959bdbafa32a2f89a153b678cfde12197965a9a 0 0
+",
+        ..LOAD
+    },
+    // What was loaded stays where a later call fails.
+    Case {
+        calls: &[2],
+        written: b"ok taken 1 skipped 0 new 1
+fault shelf
+keys 1
+key c959bdbafa32a2f89a153b678cfde12197965a9a 0 0
+",
+        ..LOAD
+    },
+    Case {
+        calls: &[1, 2],
+        written: b"fault shelf\nfault shelf\nkeys 0\n",
+        ..LOAD
+    },
+];
+
+/// The status of a case, and what was written.
+fn outcome(alloc: Global, case: &Case) -> Result<(u8, Vec<u8>), Fail> {
+    let words = owned(alloc, &["run", "folder"])?;
+    let mut input = source_of(alloc, case.script, case.reads)?;
+    let mut output = sink_of(alloc, case.writes)?;
+    let mut shelf = shelf_of(alloc, &[(FIELD_FPR, FIELD), (T_FPR, R_KEY)], case.calls)?;
+    let status = status_of(alloc, &words, &mut input, &mut output, &mut shelf);
+    Ok((status, output.written().to_vec(alloc)?))
+}
+
+#[test]
+fn devices_that_fail(rt: HostRuntime) -> Result<(), Fail> {
+    let alloc = rt.alloc();
+    for case in &CASES {
+        let (status, written) = outcome(alloc, case)?;
+        assert_eq!(rt; status, case.status);
+        assert!(rt; written.as_slice() == case.written);
+    }
+    endless_comments(&rt)?;
+    a_sink_that_takes_nothing(&rt)
+}
+
+/// The octets from one line feed to the next.
+const LINE: u64 = 65536;
+
+/// Gives `#` for ever, with a line feed at each 65,536th octet.
+#[derive(Drop)]
+struct Endless {
+    given: u64,
+}
+
+impl Source for Endless {
+    ghost left = { λ _. None };
+
+    ghost faults = { λ _. 0 };
+
+    fn read(&mut self, to: &mut [u8]) -> Result<usize, Failed> {
+        let rest = LINE - self.given % LINE;
+        let n = to.len().min(usize::try_from(rest).unwrap_or(0));
+        let (piece, _) = to.split_at_mut(n);
+        let _ = piece.fill(b'#');
+        let last = n.wrapping_sub(1);
+        if n as u64 == rest && last < piece.len() {
+            piece[last] = b'\n';
+        }
+        self.given = self.given.wrapping_add(n as u64);
+        Ok(n)
+    }
+}
+
+/// Takes nothing, and counts that as a fault.
+#[derive(Drop)]
+struct Refusing {
+    faults: u64,
+}
+
+impl Sink for Refusing {
+    ghost written = { λ _. None };
+
+    ghost faults = { λ s. s.faults };
+
+    fn write(&mut self, _: &[u8]) -> Result<usize, Failed> {
+        self.faults = self.faults.saturating_add(1);
+        Ok(0)
+    }
+}
+
+/// An input without an end is left after 2^30 octets, with the status 6.
+fn endless_comments<R: Abort + AllocGlobal>(rt: &R) -> Result<(), Fail> {
+    let alloc = rt.alloc();
+    let mut input = Endless { given: 0 };
+    let mut output = sink_of(alloc, &[])?;
+    let mut shelf = shelf_of(alloc, &[], &[])?;
+    let words = owned(alloc, &["run"])?;
+    let status = status_of(alloc, &words, &mut input, &mut output, &mut shelf);
+    assert_eq!(rt; status, 6);
+    assert_eq!(rt; input.given, 1_073_741_824);
+    assert!(rt; output.written().is_empty());
+    Ok(())
+}
+
+fn a_sink_that_takes_nothing<R: Abort + AllocGlobal>(rt: &R) -> Result<(), Fail> {
+    let alloc = rt.alloc();
+    let mut input = source_of(alloc, KEYS.script, &[])?;
+    let mut output = Refusing { faults: 0 };
+    let mut shelf = shelf_of(alloc, &[], &[])?;
+    let words = owned(alloc, &["run"])?;
+    let status = status_of(alloc, &words, &mut input, &mut output, &mut shelf);
+    assert_eq!(rt; status, 4);
+    assert_eq!(rt; output.faults, 1);
+    Ok(())
+}
