@@ -21,3 +21,7 @@ mod Anew
 mod Dumping
 mod Alike
 mod Worded
+mod Forms
+mod Ending
+mod Playing
+mod Summing

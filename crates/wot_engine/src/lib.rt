@@ -4,7 +4,9 @@
 mod answer;
 mod bindings;
 mod commands;
+mod form;
 mod fresh;
+mod generated;
 mod laws;
 mod listing;
 mod load;

@@ -8,6 +8,8 @@ mod engine;
 #[cfg(test)]
 mod explain;
 #[cfg(test)]
+mod generated;
+#[cfg(test)]
 mod kept;
 #[cfg(test)]
 mod keyring;
