@@ -23,3 +23,7 @@ mod Dumping
 mod Alike
 mod Worded
 mod Refusals
+mod Forms
+mod Ending
+mod Playing
+mod Summing

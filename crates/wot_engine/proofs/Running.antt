@@ -1,13 +1,13 @@
 -- Commands that were run, and the lines that hold them.
-use Rattle.std.proofs.Common.{◌≡◌, ℕ, List, [], ◌++◌, Option, Some, None, Result, Ok, Err, refl, sym, ap, subst, ◌∙◌}
+use Rattle.std.proofs.Common.{◌≡◌, ℕ, List, ◌++◌, Option, Some, None, Result, Ok, Err, refl, sym, ap, subst, ◌∙◌}
 use Rattle.std.specs.Prelude.{IfOk, IfSome, OnOk}
+use Rattle.std.proofs.lemmas.List.{append-nil}
 use Rattle.wot_types.specs.declared.name.Name.{Name}
 use Rattle.wot_io.specs.Counts.{Rose}
 use Rattle.wot_policy.specs.declared.rows.PolicyRows.{PolicyRows}
 use Rattle.wot_script.specs.declared.command.Command.{Command}
 use Rattle.wot_script.specs.declared.reply.Reply.{Reply}
 use Rattle.wot_script.specs.declared.reply.Reply.TheVariants as replies
-use Rattle.wot_script.specs.Grammar.{command_of}
 use Rattle.wot_script.specs.Replies.{reply_text}
 use Rattle.wot_certd.specs.Shelf.{Becomes}
 use Rattle.wot_certd.specs.World.{Answer, World, called, read_answer}
@@ -15,8 +15,7 @@ use Rattle.wot_cache.specs.State.{State}
 use Rattle.wot_engine.specs.Entry.{IsWorldAfter, WasGiven, entry_for, entry_in}
 use Rattle.wot_engine.specs.LineStep.{Answers, Does, LineStep}
 use Rattle.wot_engine.specs.Ran.{Ran, Seen}
-use Rattle.wot_engine.specs.Stepped.{Stepped}
-use Rattle.wot_engine.specs.Transcript.{listed, octets_of}
+use Rattle.wot_engine.specs.Stepped.{Replied, Stepped}
 use Rattle.wot_engine.proofs.Refusing.{if_ok}
 use Rattle.wot_engine.proofs.Stepping.{one_reply}
 
@@ -53,30 +52,46 @@ world_so (Some w) after name b = b
 
 -- ---- lines
 
--- The octets of the reply were appended, where there is memory.
-pub stepped : {T E : Type 0} (r : Result T E) (rows : PolicyRows) (line : List ℕ) (old : State) (before : Seen) (new : State) (after : Seen) (had mid has : List ℕ) (reply : Reply) (given : Answer) (entry : Option Name)
-    → entry_in line ≡ entry → LineStep rows old line given (Some reply) new → WasGiven entry before.world given → IsWorldAfter entry before.world after.world
-    → (given ≡ Answer.fault → Rose before.faults after.faults) → mid ≡ had → OnOk r (has ≡ mid ++ reply_text reply) → OnOk r (Stepped rows line old before had new after has)
-stepped (Ok a) rows line old before new after had mid has reply given entry e step asked world cause same f = record {
+pub replied : (rows : PolicyRows) (line : List ℕ) (old : State) (before : Seen) (new : State) (after : Seen) (reply : Option Reply) (given : Answer) (entry : Option Name)
+    → entry_in line ≡ entry → LineStep rows old line given reply new → WasGiven entry before.world given → IsWorldAfter entry before.world after.world
+    → (given ≡ Answer.fault → Rose before.faults after.faults) → Replied rows line old before reply new after
+replied rows line old before new after reply given entry e step asked world cause = record {
   given = given;
-  reply = Some reply;
   step = step;
   asked = subst (λ (o : Option Name). WasGiven o before.world given) (sym e) asked;
   world = subst (λ (o : Option Name). IsWorldAfter o before.world after.world) (sym e) world;
   cause = cause;
+}
+
+-- a line for which nothing is read
+pub replied_alone : (rows : PolicyRows) (line : List ℕ) (old : State) (seen : Seen) (new : State) (reply : Option Reply) → entry_in line ≡ None
+    → LineStep rows old line Answer.absent reply new → Replied rows line old seen reply new seen
+replied_alone rows line old seen new reply e step =
+    replied rows line old seen new seen reply Answer.absent None e step refl refl (λ f. absurd (cc f))
+
+-- The octets of the reply were appended, where there is memory.
+pub stepped : {T E : Type 0} (r : Result T E) (rows : PolicyRows) (line : List ℕ) (old : State) (before : Seen) (new : State) (after : Seen) (had mid has : List ℕ) (reply : Reply)
+    → Replied rows line old before (Some reply) new after → mid ≡ had → OnOk r (has ≡ mid ++ reply_text reply) → OnOk r (Stepped rows line old before had new after has)
+stepped (Ok a) rows line old before new after had mid has reply p same f = record {
+  given = p.given;
+  reply = Some reply;
+  step = p.step;
+  asked = p.asked;
+  world = p.world;
+  cause = p.cause;
   octets = f ∙ ap (λ (x : List ℕ). x ++ reply_text reply) same ∙ ap (λ (x : List ℕ). had ++ x) (sym (one_reply reply));
 }
-stepped (Err x) rows line old before new after had mid has reply given entry e step asked world cause same f = tt
+stepped (Err x) rows line old before new after had mid has reply p same f = tt
 
 -- A line that is passed over appends nothing.
-pub passed : (rows : PolicyRows) (line : List ℕ) (old : State) (seen : Seen) (had : List ℕ) → entry_in line ≡ None → LineStep rows old line Answer.absent None old
-    → had ≡ had ++ octets_of (listed None) → Stepped rows line old seen had old seen had
-passed rows line old seen had e step same = record {
-  given = Answer.absent;
+pub passed : (rows : PolicyRows) (line : List ℕ) (old : State) (before : Seen) (new : State) (after : Seen) (had has : List ℕ) → Replied rows line old before None new after
+    → has ≡ had → Stepped rows line old before had new after has
+passed rows line old before new after had has p same = record {
+  given = p.given;
   reply = None;
-  step = step;
-  asked = subst (λ (o : Option Name). WasGiven o seen.world Answer.absent) (sym e) refl;
-  world = subst (λ (o : Option Name). IsWorldAfter o seen.world seen.world) (sym e) refl;
-  cause = λ e. absurd (cc e);
-  octets = same;
+  step = p.step;
+  asked = p.asked;
+  world = p.world;
+  cause = p.cause;
+  octets = same ∙ sym (append-nil had);
 }

@@ -209,8 +209,9 @@ module _ (rows : PolicyRows) where
       let t' = rw s.left_is at t in
       absurd (omega (arith, most_size origin world input before held taken left written shelf state t'.rest left' written taken' s t'.left_is t'.count a, lt))) s
 
-  pub Most-untouched : (left0 written0 : Option (List ℕ)) (origin : Option World) → AllTold left0 written0 origin (λ input before world. AnsweredMost rows world input before left0 written0 → ⊥)
-  Most-untouched left0 written0 origin =
+  -- where nothing was taken, whatever was written
+  pub Most-untouched : (left0 written0 : Option (List ℕ)) (origin : Option World) (written : Option (List ℕ)) → AllTold left0 written0 origin (λ input before world. AnsweredMost rows world input before left0 written → ⊥)
+  Most-untouched left0 written0 origin written =
       all_told left0 written0 origin _ (λ input before world e f is a.
       let same : input ≡ a.taken.rest = some-is input a.taken.rest (sym e ∙ a.taken.left_is) in
       absurd (omega (arith, a.size, ap length same, ap length a.taken.input_is, length-append a.octets a.taken.rest)))

@@ -9,6 +9,10 @@ pub mod Entry
 pub mod Scene
 pub mod Law
 pub mod Transcript
+pub mod Forms
+pub mod Generated
+pub mod Played
+pub mod Ends
 pub mod Turn
 pub mod Ran
 pub mod Stepped

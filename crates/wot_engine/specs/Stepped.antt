@@ -10,6 +10,14 @@ use Rattle.wot_engine.specs.LineStep.{LineStep}
 use Rattle.wot_engine.specs.Ran.{Seen}
 use Rattle.wot_engine.specs.Transcript.{listed, octets_of}
 
+-- The shelf gave this, and by it the line had this reply, or none. A fault was given only where the count of faults rose.
+pub record Replied (rows : PolicyRows) (line : List ℕ) (old : State) (before : Seen) (reply : Option Reply) (new : State) (after : Seen) : Type 0 where
+  pub given : Answer
+  pub step : LineStep rows old line given reply new
+  pub asked : WasGiven (entry_in line) before.world given
+  pub world : IsWorldAfter (entry_in line) before.world after.world
+  pub cause : given ≡ Answer.fault → Rose before.faults after.faults
+
 -- The shelf gave this, by it the line had its step, and the octets of the reply are behind those that were there. A fault was
 -- given only where the count of faults rose.
 pub record Stepped (rows : PolicyRows) (line : List ℕ) (old : State) (before : Seen) (had : List ℕ) (new : State) (after : Seen) (has : List ℕ) : Type 0 where

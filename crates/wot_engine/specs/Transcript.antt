@@ -1,5 +1,5 @@
 -- Whole runs: the lines of an input, their replies, and what is written for them.
-use Rattle.std.specs.Prelude.{◌≡◌, ◌≢◌, ◌⊎◌, ◌≤◌, ℕ, ◌^◌, List, [], ◌∷◌, ◌++◌, length, take, Option, Some, None, codes}
+use Rattle.std.specs.Prelude.{◌≡◌, ◌⊎◌, ◌≤◌, ℕ, ◌^◌, List, [], ◌∷◌, ◌++◌, length, take, Option, Some, None}
 use Rattle.std.specs.List.{flat_map}
 use Rattle.wot_io.specs.Input.{lines_of, whole_lines_of}
 use Rattle.wot_policy.specs.declared.rows.PolicyRows.{PolicyRows}
@@ -94,10 +94,3 @@ AllTold None written world P = Unit {0}
 AllTold (Some input) None world P = Unit {0}
 AllTold (Some input) (Some before) None P = ReadNothing (lines_of input) → (world : World) → P input before world
 AllTold (Some input) (Some before) (Some world) P = P input before world
-
--- the words of a run: alone, or with the folder of the certificate directory
-abbrev pub IsForm : List (List ℕ) → Type 0
-IsForm [] = ⊥
-IsForm (word ∷ []) = word ≡ codes "run"
-IsForm (word ∷ folder ∷ []) = (word ≡ codes "run") × (folder ≢ [])
-IsForm (word ∷ folder ∷ third ∷ words) = ⊥

@@ -1,4 +1,4 @@
-ghost use Rattle.std.specs.Prelude.{◌≡◌, ◌≤◌, ◌<◌, ◌+◌, ◌-◌, ◌^◌, Some, None, length, vec_len, vec_capacity, false, true, IfOk, OnOk, OnErr};
+ghost use Rattle.std.specs.Prelude.{◌≡◌, ◌≤◌, ◌<◌, ◌+◌, ◌-◌, ◌^◌, Some, None, length, vec_len, vec_capacity, false, true, IfOk, IfSome, OnOk, OnErr};
 ghost use Rattle.wot_types.specs.Limits.{standard_limits};
 ghost use Rattle.wot_policy.specs.declared.rows.PolicyRows.{PolicyRows};
 ghost use Rattle.wot_policy.specs.Kept.{IsFaithful, rows_of};
@@ -13,7 +13,7 @@ ghost use Rattle.wot_certd.specs.World.{Answer};
 ghost use Rattle.wot_engine.specs.Entry.{entry_for, entry_in};
 ghost use Rattle.wot_engine.specs.LineStep.{Does};
 ghost use Rattle.wot_engine.specs.Ran.{Ran};
-ghost use Rattle.wot_engine.specs.Stepped.{Stepped};
+ghost use Rattle.wot_engine.specs.Stepped.{Replied, Stepped};
 ghost use Rattle.wot_engine.specs.Fresh.{IsDump, OnDump, IsMadeAnew};
 ghost use Rattle.wot_engine.specs.Made.{heard, LineMakes, Makes};
 
@@ -114,13 +114,47 @@ impl Machine {
         ensures faithful { IsFaithful F.Fn policy.new }
         ensures rows { rows_of policy.new ≡ rows_of policy.old }
     {
-        let long = line.len() > LONGEST;
-        if !long && test_silent(line) {
-            return Ok(());
-        }
         out.reserve(ROOM)?;
-        if long {
-            return print_reply(&Reply::Long, out);
+        match self.reply(line, shelf, policy)? {
+            Some(reply) => print_reply(&reply, out),
+            None => Ok(()),
+        }
+    }
+
+    /// The reply to a line, without its line feed; none to one that is passed over. After `Memory` the machine is as
+    /// before but for marks and the count of edges made.
+    #[tactic(auto, using(crate::proofs::Unchanged::unchanged))]
+    pub(crate) fn reply<D: Shelf, F: Fn(Ask) -> bool>(
+        &mut self,
+        line: &[u8],
+        shelf: &mut D,
+        policy: &mut Policy<F>,
+    ) -> Result<Option<Reply>, Memory>
+        requires countable { self.old.engine.keyring.changes < 2 ^ 64 - 1 }
+        requires judged { IsJudgedBy (rows_of policy.old) self.old.engine.keyring }
+        requires faithful { IsFaithful F.Fn policy.old }
+        ensures replied { IfOk result (λ reply. Replied (rows_of policy.old) line.now
+            (state_of self.old.engine) (record { world = D.world shelf.old; faults = D.faults shelf.old }) reply
+            (state_of self.new.engine) (record { world = D.world shelf.new; faults = D.faults shelf.new })) }
+        ensures untouched { entry_in line.now ≡ None → shelf.new ≡ shelf.old }
+        ensures later { D.faults shelf.old ≤ D.faults shelf.new }
+        ensures words { IfOk result (λ reply. IfSome reply HasWords) }
+        ensures anew { OnOk result (IsDump line.now → (rows : PolicyRows) → IsMadeAnew rows (state_of self.old.engine)) }
+        ensures quiet { IfOk result (λ reply. IfSome reply (λ reply.
+            is_short reply ≡ false → StaysButMarks self.old.engine self.new.engine)) }
+        ensures kept { OnErr result (StaysButMarks self.old.engine self.new.engine) }
+        ensures unchanged { state_of self.new.engine ≡ state_of self.old.engine → StaysButMarks self.old.engine self.new.engine }
+        ensures makes { LineMakes result (heard line.now) self.old.engine self.new.engine self.old.made self.new.made }
+        ensures counted { IsOneChange self.old.engine.keyring self.new.engine.keyring }
+        ensures judged { IsJudgedBy (rows_of policy.old) self.new.engine.keyring }
+        ensures faithful { IsFaithful F.Fn policy.new }
+        ensures rows { rows_of policy.new ≡ rows_of policy.old }
+    {
+        if line.len() > LONGEST {
+            return Ok(Some(Reply::Long));
+        }
+        if test_silent(line) {
+            return Ok(None);
         }
         let reply = answer(
             self.alloc,
@@ -130,7 +164,7 @@ impl Machine {
             shelf,
             policy,
         )?;
-        print_reply(&reply, out)
+        Ok(Some(reply))
     }
 }
 

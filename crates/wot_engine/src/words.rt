@@ -1,9 +1,14 @@
-ghost use Rattle.std.specs.Prelude.{◌≡◌, ◌≢◌, ◌⊎◌, ◌↔◌, ◌<◌, ◌^◌, [], ◌∷◌, ℕ, List, length, map, codes, Some, string_bytes, IsTrue};
+ghost use Rattle.std.specs.Prelude.{◌≡◌, ◌≢◌, ◌⊎◌, ◌↔◌, ◌<◌, ◌≤◌, ◌^◌, [], ℕ, length, map, Some, IfSome, string_bytes};
 ghost use Rattle.wot_policy.specs.Kept.{IsFaithful, rows_of};
 ghost use Rattle.wot_io.specs.Counts.{Rose};
 ghost use Rattle.wot_io.specs.Input.{lines_of};
-ghost use Rattle.wot_engine.specs.Transcript.{Told, AllTold, TakesAtMost, Answered, Begun, AnsweredWhole, AnsweredMost, IsForm};
+ghost use Rattle.wot_engine.specs.Ends.{status_at};
+ghost use Rattle.wot_engine.specs.Forms.{IsForm, IsRun, OnGenerated};
+ghost use Rattle.wot_engine.specs.Generated.{SummaryBegun, Summarized};
+ghost use Rattle.wot_engine.specs.Transcript.{Told, AllTold, TakesAtMost, Answered, Begun, AnsweredWhole, AnsweredMost};
 
+use crate::form::{Form, form_of};
+use crate::generated::generate;
 use crate::laws::each_line_has_one_outcome;
 use crate::run::{Stop, run};
 use std::alloc::Global;
@@ -11,35 +16,15 @@ use wot_certd::Shelf;
 use wot_io::{Sink, Source};
 use wot_policy::{Ask, Policy};
 
-fn is_run(word: &String) -> bool
-    ensures run { IsTrue result ↔ (string_bytes word.now ≡ codes "run") }
-{
-    word.as_str() == "run"
-}
-
-fn is_folder(word: &String) -> bool
-    ensures folder { IsTrue result ↔ (string_bytes word.now ≢ []) }
-{
-    !word.is_empty()
-}
-
-/// `run`, or `run FOLDER` with any text that isn't empty.
-fn is_form(words: &[String]) -> bool
-    ensures form { IsTrue result ↔ IsForm (map string_bytes words.now) }
-{
-    match words {
-        [word] => is_run(word),
-        [word, folder] => is_run(word) && is_folder(folder),
-        _ => false,
-    }
-}
-
 /// Runs the program on the words after its name, and answers its exit status:
 /// 0 where the input was read to its end and every reply was written, 2 where the arguments are wrong,
 /// 3 after a failed read, 4 after a failed write, 5 for want of memory, and 6 where 2^30 octets were taken before the
 /// end. For each line the reply is written whole before more is read. The shelf is the certificate directory, from which
 /// `load` reads. The policy says which signatures are admitted; it is asked once for each sound signature that an import
 /// or a load adds.
+///
+/// With `gen X N` neither input nor shelf is called. A script is made of X and N and answered over an empty shelf in
+/// memory, and three lines on it are written; the status is 0, 4 or 5.
 pub fn run_words<S: Source, K: Sink, D: Shelf, F: Fn(Ask) -> bool>(
     alloc: Global,
     words: &[String],
@@ -52,11 +37,20 @@ pub fn run_words<S: Source, K: Sink, D: Shelf, F: Fn(Ask) -> bool>(
 
     // The headline: an input read to its end has its whole transcript written.
     ensures whole { AllTold (S.left input.old) (K.written output.old) (D.world shelf.old) (λ octets before world.
-        result ≡ 0 → Answered (rows_of policy.old) world (lines_of octets) before (K.written output.new) × (S.left input.new ≡ Some [])) }
+        IsRun (map string_bytes words.now) → result ≡ 0 →
+        Answered (rows_of policy.old) world (lines_of octets) before (K.written output.new) × (S.left input.new ≡ Some [])) }
 
     // Whatever the status, what was written is a prefix of the transcript.
     ensures prefix { AllTold (S.left input.old) (K.written output.old) (D.world shelf.old) (λ octets before world.
-        Begun (rows_of policy.old) world (lines_of octets) before (K.written output.new)) }
+        IsRun (map string_bytes words.now) → Begun (rows_of policy.old) world (lines_of octets) before (K.written output.new)) }
+
+    // A generated run writes its three lines, and whatever the status a prefix of them. It leaves source and shelf alone.
+    ensures generated { OnGenerated (map string_bytes words.now) (λ start count. IfSome (K.written output.old) (λ before.
+        result ≡ 0 → Summarized (rows_of policy.old) start count before (K.written output.new))) }
+    ensures begun { OnGenerated (map string_bytes words.now) (λ start count. IfSome (K.written output.old) (λ before.
+        SummaryBegun (rows_of policy.old) start count before (K.written output.new))) }
+    ensures alone { OnGenerated (map string_bytes words.now) (λ start count. (input.new ≡ input.old) × (shelf.new ≡ shelf.old)) }
+    ensures ends { OnGenerated (map string_bytes words.now) (λ start count. (result ≡ 0) ⊎ (result ≡ 4) ⊎ (result ≡ 5)) }
 
     // Whatever the status, the source gives no more than 2^30 octets, and the policy comes back with the same rows.
     ensures at_most { TakesAtMost (S.left input.old) (S.left input.new) }
@@ -83,10 +77,20 @@ pub fn run_words<S: Source, K: Sink, D: Shelf, F: Fn(Ask) -> bool>(
         → (result ≡ 0) ⊎ (result ≡ 5)) }
 {
     each_line_has_one_outcome();
-    if !is_form(words) {
-        return 2;
+    match form_of(words) {
+        None => 2,
+        Some(Form::Run) => status_of(run(alloc, input, output, shelf, policy)),
+        Some(Form::Generate(start, count)) => status_of(generate(
+            alloc, start, count, output, policy,
+        )),
     }
-    match run(alloc, input, output, shelf, policy) {
+}
+
+/// The exit status of a run that ended so.
+fn status_of(ended: Result<(), Stop>) -> u8
+    ensures { result ≡ status_at ended }
+{
+    match ended {
         Ok(()) => 0,
         Err(Stop::Read) => 3,
         Err(Stop::Write) => 4,

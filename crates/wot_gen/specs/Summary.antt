@@ -1,14 +1,15 @@
 -- What is printed of a run of the generated script.
-use Rattle.std.specs.Prelude.{ℕ, List, [], ◌∷◌, ◌++◌, length, codes}
+use Rattle.std.specs.Prelude.{◌≡◌, ℕ, List, [], ◌∷◌, ◌++◌, codes}
 use Rattle.std.specs.List.{flat_map, sum_by}
 use Rattle.std.specs.Fmt.{decimal}
 use Rattle.hex.specs.Hex.{encode_lower}
+use Rattle.sha2.specs.Hashers.{Holds256}
 use Rattle.sha2.specs.Sha256.{sha256}
 use Rattle.wot_script.specs.Texts.{joined_line}
 use Rattle.wot_script.specs.Replies.{reply_text}
 use Rattle.wot_script.specs.declared.reply.Reply.{Reply}
 use Rattle.wot_script.specs.declared.reply.Reply.TheVariants.{Amount}
-use Rattle.wot_gen.specs.Script.{commands_of}
+use Rattle.wot_gen.specs.declared.tally.Tally.{Tally}
 
 -- the amount that the reply to a question tells; other replies tell none
 abbrev pub amount_in : Reply → ℕ
@@ -30,7 +31,6 @@ summary start count lines amounts digest =
     ++ joined_line (codes "amounts " ∷ decimal amounts ∷ [])
     ++ joined_line (codes "transcript " ∷ encode_lower digest ∷ [])
 
--- the three lines of the script of a start and a count that had these replies
-abbrev pub report : ℕ → ℕ → List Reply → List ℕ
-report start count replies =
-    summary start count (length (commands_of start count)) (amounts_in replies) (transcript_digest replies)
+-- A tally comes to these replies: to the sum of their amounts, and to their transcript.
+abbrev pub Tells : Tally → List Reply → Type 0
+Tells tally replies = (tally.amounts ≡ amounts_in replies) × Holds256 tally.transcript (flat_map reply_text replies)

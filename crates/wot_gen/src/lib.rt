@@ -8,7 +8,9 @@ mod identities;
 mod identity;
 mod lines;
 mod summary;
+mod tally;
 mod words;
 
 pub use lines::script;
 pub use summary::put_summary;
+pub use tally::Tally;

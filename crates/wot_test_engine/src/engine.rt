@@ -114,11 +114,16 @@ fn scripts_and_their_replies(rt: HostRuntime) -> Result<(), Fail> {
 
 #[test]
 fn words_that_are_no_form(rt: HostRuntime) -> Result<(), Fail> {
-    let rows: [&[&str]; 7] = [
+    let rows: [&[&str]; 12] = [
         &[],
         &["run", "x", "y"],
         &["gen", "1", "0"],
         &["gen", "01", "5"],
+        &["gen", "+1", "5"],
+        &["gen", "1"],
+        &["gen", "1", "2001"],
+        &["gen", "1", "2", "3"],
+        &["gen", "18446744073709551616", "1"],
         &["run", ""],
         &["Run"],
         &[""],

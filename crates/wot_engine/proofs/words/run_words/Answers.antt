@@ -1,48 +1,165 @@
-use Rattle.std.proofs.Common.{inl, inr, arith}
+use Rattle.std.proofs.Common.{inl, inr, sym, ◌∙◌, map}
+use Rattle.std.specs.String.{string_bytes}
 use Rattle.wot_policy.specs.Kept.{rows_of}
-use Rattle.wot_engine.proofs.Taking.{told_of_most}
-use Rattle.wot_engine.proofs.Turns.{AllTold-weaker, Most-untouched, Begun-nothing}
+use Rattle.wot_io.specs.Counts.{Rose}
+use Rattle.wot_engine.specs.Forms.{IsForm}
+use Rattle.wot_engine.proofs.Ending.{any_status, generated_begun, generated_complete, generated_ends, generated_whole, is_done, is_much, is_read, is_write, much_or_memory, never_much, never_read, not_two, run_complete}
+use Rattle.wot_engine.proofs.Forms.{one_form, script_bounds}
+use Rattle.wot_engine.proofs.Giving.{all_told}
+use Rattle.wot_engine.proofs.Taking.{takes_nothing}
+use Rattle.wot_engine.proofs.Turns.{AllTold-weaker, Most-untouched}
 use Rattle.wot_engine.proofs.words.run_words.Goals as goal
 
-pub returns-then-not-is_form-clause-most_only : goal.returns-then-not-is_form-clause-most_only
-returns-then-not-is_form-clause-most_only g c =
-    AllTold-weaker (rows_of c.args.policy.now) (g.S.Source.left c.args.input.now) (g.K.Sink.written c.args.output.now) (g.D.Shelf.world c.args.shelf.now) _ _ (λ input before world no most. absurd (no most)) (Most-untouched (rows_of c.args.policy.now) (g.S.Source.left c.args.input.now) (g.K.Sink.written c.args.output.now) (g.D.Shelf.world c.args.shelf.now))
+-- ---- wrong arguments
 
-pub returns-then-not-is_form-clause-prefix : goal.returns-then-not-is_form-clause-prefix
-returns-then-not-is_form-clause-prefix g c = Begun-nothing (rows_of c.args.policy.now) (record { some = c.each_line_has_one_outcome.ensures.some (rows_of c.args.policy.now); one = c.each_line_has_one_outcome.ensures.one (rows_of c.args.policy.now); stays = c.each_line_has_one_outcome.ensures.stays (rows_of c.args.policy.now) }) (g.S.Source.left c.args.input.now) (g.K.Sink.written c.args.output.now) (g.D.Shelf.world c.args.shelf.now)
+pub returns-in-None-clause-prefix : goal.returns-in-None-clause-prefix
+returns-in-None-clause-prefix g c =
+    all_told (g.S.Source.left c.args.input.now) (g.K.Sink.written c.args.output.now) (g.D.Shelf.world c.args.shelf.now) _
+    (λ input before world e f is form. absurd (c.in-None.ensures.form (inl form)))
 
-pub returns-in-Ok-clause-whole : goal.returns-in-Ok-clause-whole
-returns-in-Ok-clause-whole g c =
+pub returns-in-None-clause-most_only : goal.returns-in-None-clause-most_only
+returns-in-None-clause-most_only g c =
     AllTold-weaker (rows_of c.args.policy.now) (g.S.Source.left c.args.input.now) (g.K.Sink.written c.args.output.now) (g.D.Shelf.world c.args.shelf.now) _ _
-    (λ input before world t e. t) c.in-Ok.ensures.whole
+    (λ input before world no most. absurd (no most))
+    (Most-untouched (rows_of c.args.policy.now) (g.S.Source.left c.args.input.now) (g.K.Sink.written c.args.output.now) (g.D.Shelf.world c.args.shelf.now) (g.K.Sink.written c.args.output.now))
 
-pub returns-in-Ok-clause-most_only : goal.returns-in-Ok-clause-most_only
-returns-in-Ok-clause-most_only g c =
+-- ---- a run
+
+pub returns-in-Some-Run-clause-whole : goal.returns-in-Some-Run-clause-whole
+returns-in-Some-Run-clause-whole g c =
     AllTold-weaker (rows_of c.args.policy.now) (g.S.Source.left c.args.input.now) (g.K.Sink.written c.args.output.now) (g.D.Shelf.world c.args.shelf.now) _ _
-    (λ input before world t most. elim (t most) [ inl e ↦ absurd (cc e) | inr e ↦ absurd (cc e) ]) c.in-Ok.ensures.most_only
+    (λ input before world t form e. is_done c.run.result _ (sym c.status_of.ensures ∙ e) t) c.run.ensures.whole
 
-pub returns-in-Err-Read-clause-taken : goal.returns-in-Err-Read-clause-taken
-returns-in-Err-Read-clause-taken g c =
+pub returns-in-Some-Run-clause-prefix : goal.returns-in-Some-Run-clause-prefix
+returns-in-Some-Run-clause-prefix g c =
     AllTold-weaker (rows_of c.args.policy.now) (g.S.Source.left c.args.input.now) (g.K.Sink.written c.args.output.now) (g.D.Shelf.world c.args.shelf.now) _ _
-    (λ input before world t e. t (cc c.in-Err-Read.field-0-is)) c.in-Err-Read.ensures.taken
+    (λ input before world t form. t) c.run.ensures.prefix
 
-pub returns-in-Err-Read-clause-most_only : goal.returns-in-Err-Read-clause-most_only
-returns-in-Err-Read-clause-most_only g c =
+pub returns-in-Some-Run-clause-source : goal.returns-in-Some-Run-clause-source
+returns-in-Some-Run-clause-source g c e = c.run.ensures.source (is_read c.run.result (sym c.status_of.ensures ∙ e))
+
+pub returns-in-Some-Run-clause-taken : goal.returns-in-Some-Run-clause-taken
+returns-in-Some-Run-clause-taken g c =
     AllTold-weaker (rows_of c.args.policy.now) (g.S.Source.left c.args.input.now) (g.K.Sink.written c.args.output.now) (g.D.Shelf.world c.args.shelf.now) _ _
-    (λ input before world t most. elim (t most) [ inl e ↦ absurd (cc (e, c.in-Err-Read.field-0-is)) | inr e ↦ absurd (cc (e, c.in-Err-Read.field-0-is)) ]) c.in-Err-Read.ensures.most_only
+    (λ input before world t e. t (is_read c.run.result (sym c.status_of.ensures ∙ e))) c.run.ensures.taken
 
-pub returns-in-Err-Write-clause-most_only : goal.returns-in-Err-Write-clause-most_only
-returns-in-Err-Write-clause-most_only g c =
+pub returns-in-Some-Run-clause-sink : goal.returns-in-Some-Run-clause-sink
+returns-in-Some-Run-clause-sink g c e = c.run.ensures.sink (is_write c.run.result (sym c.status_of.ensures ∙ e))
+
+pub returns-in-Some-Run-clause-most : goal.returns-in-Some-Run-clause-most
+returns-in-Some-Run-clause-most g c =
     AllTold-weaker (rows_of c.args.policy.now) (g.S.Source.left c.args.input.now) (g.K.Sink.written c.args.output.now) (g.D.Shelf.world c.args.shelf.now) _ _
-    (λ input before world t most. elim (t most) [ inl e ↦ absurd (cc (e, c.in-Err-Write.field-0-is)) | inr e ↦ absurd (cc (e, c.in-Err-Write.field-0-is)) ]) c.in-Err-Write.ensures.most_only
+    (λ input before world t e. t (is_much c.run.result (sym c.status_of.ensures ∙ e))) c.run.ensures.most
 
-pub returns-in-Err-TooMuch-clause-most : goal.returns-in-Err-TooMuch-clause-most
-returns-in-Err-TooMuch-clause-most g c =
+pub returns-in-Some-Run-clause-most_only : goal.returns-in-Some-Run-clause-most_only
+returns-in-Some-Run-clause-most_only g c =
     AllTold-weaker (rows_of c.args.policy.now) (g.S.Source.left c.args.input.now) (g.K.Sink.written c.args.output.now) (g.D.Shelf.world c.args.shelf.now) _ _
-    (λ input before world t e. t (cc c.in-Err-TooMuch.field-0-is)) c.in-Err-TooMuch.ensures.most
+    (λ input before world t most. much_or_memory c.run.result c.status_of.result c.status_of.ensures (t most)) c.run.ensures.most_only
 
-pub returns-in-Err-TooMuch-clause-complete : goal.returns-in-Err-TooMuch-clause-complete
-returns-in-Err-TooMuch-clause-complete g c =
-    told_of_most (g.S.Source.left c.args.input.now) (g.K.Sink.written c.args.output.now) _
-    (c.in-Err-TooMuch.ensures.much (cc c.in-Err-TooMuch.field-0-is))
-    (λ input before much form few source sink. absurd (omega (arith, much, few)))
+pub returns-in-Some-Run-clause-complete : goal.returns-in-Some-Run-clause-complete
+returns-in-Some-Run-clause-complete g c =
+    run_complete c.run.result c.status_of.result (g.S.Source.left c.args.input.now) (g.K.Sink.written c.args.output.now)
+    (IsForm (map string_bytes c.args.words.now))
+    (Rose (g.S.Source.faults c.args.input.now) (g.S.Source.faults c.run.new.input))
+    (Rose (g.K.Sink.faults c.args.output.now) (g.K.Sink.faults c.run.new.output))
+    c.status_of.ensures c.run.ensures.source c.run.ensures.sink c.run.ensures.much
+
+pub returns-in-Some-Run-clause-statuses : goal.returns-in-Some-Run-clause-statuses
+returns-in-Some-Run-clause-statuses g c = any_status c.run.result c.status_of.result c.status_of.ensures
+
+pub returns-in-Some-Run-clause-usage : goal.returns-in-Some-Run-clause-usage
+returns-in-Some-Run-clause-usage g c =
+    (λ e. absurd (not_two c.run.result c.status_of.result c.status_of.ensures e), λ no. absurd (no (inl (rw c.in-Some-Run.field-0-is at c.in-Some-Run.ensures.form))))
+
+pub returns-in-Some-Run-clause-untouched : goal.returns-in-Some-Run-clause-untouched
+returns-in-Some-Run-clause-untouched g c e = absurd (not_two c.run.result c.status_of.result c.status_of.ensures e)
+
+pub returns-in-Some-Run-clause-generated : goal.returns-in-Some-Run-clause-generated
+returns-in-Some-Run-clause-generated g c start count p = absurd (one_form (map string_bytes c.args.words.now) start count (rw c.in-Some-Run.field-0-is at c.in-Some-Run.ensures.form) p)
+
+pub returns-in-Some-Run-clause-begun : goal.returns-in-Some-Run-clause-begun
+returns-in-Some-Run-clause-begun g c start count p = absurd (one_form (map string_bytes c.args.words.now) start count (rw c.in-Some-Run.field-0-is at c.in-Some-Run.ensures.form) p)
+
+pub returns-in-Some-Run-clause-alone : goal.returns-in-Some-Run-clause-alone
+returns-in-Some-Run-clause-alone g c start count p = absurd (one_form (map string_bytes c.args.words.now) start count (rw c.in-Some-Run.field-0-is at c.in-Some-Run.ensures.form) p)
+
+pub returns-in-Some-Run-clause-ends : goal.returns-in-Some-Run-clause-ends
+returns-in-Some-Run-clause-ends g c start count p = absurd (one_form (map string_bytes c.args.words.now) start count (rw c.in-Some-Run.field-0-is at c.in-Some-Run.ensures.form) p)
+
+-- ---- a generated run
+
+pub returns-in-Some-Generate-clause-whole : goal.returns-in-Some-Generate-clause-whole
+returns-in-Some-Generate-clause-whole g c =
+    all_told (g.S.Source.left c.args.input.now) (g.K.Sink.written c.args.output.now) (g.D.Shelf.world c.args.shelf.now) _
+    (λ input before world e f is form. absurd (one_form (map string_bytes c.args.words.now) c.in-Some-Generate.start c.in-Some-Generate.count form (rw c.in-Some-Generate.field-0-is at c.in-Some-Generate.ensures.form)))
+
+pub returns-in-Some-Generate-clause-prefix : goal.returns-in-Some-Generate-clause-prefix
+returns-in-Some-Generate-clause-prefix g c =
+    all_told (g.S.Source.left c.args.input.now) (g.K.Sink.written c.args.output.now) (g.D.Shelf.world c.args.shelf.now) _
+    (λ input before world e f is form. absurd (one_form (map string_bytes c.args.words.now) c.in-Some-Generate.start c.in-Some-Generate.count form (rw c.in-Some-Generate.field-0-is at c.in-Some-Generate.ensures.form)))
+
+pub returns-in-Some-Generate-clause-generated : goal.returns-in-Some-Generate-clause-generated
+returns-in-Some-Generate-clause-generated g c =
+    generated_whole c.generate.result c.status_of-in-Some-Generate.result (rows_of c.args.policy.now) (map string_bytes c.args.words.now) c.in-Some-Generate.start c.in-Some-Generate.count
+    (g.K.Sink.written c.args.output.now) (g.K.Sink.written c.generate.new.output) c.status_of-in-Some-Generate.ensures (rw c.in-Some-Generate.field-0-is at c.in-Some-Generate.ensures.form) c.generate.ensures.whole
+
+pub returns-in-Some-Generate-clause-begun : goal.returns-in-Some-Generate-clause-begun
+returns-in-Some-Generate-clause-begun g c =
+    generated_begun (rows_of c.args.policy.now) (map string_bytes c.args.words.now) c.in-Some-Generate.start c.in-Some-Generate.count
+    (g.K.Sink.written c.args.output.now) (g.K.Sink.written c.generate.new.output) (rw c.in-Some-Generate.field-0-is at c.in-Some-Generate.ensures.form) c.generate.ensures.prefix
+
+pub returns-in-Some-Generate-clause-ends : goal.returns-in-Some-Generate-clause-ends
+returns-in-Some-Generate-clause-ends g c start count p = generated_ends c.generate.result c.status_of-in-Some-Generate.result c.status_of-in-Some-Generate.ensures c.generate.ensures.ends
+
+pub returns-in-Some-Generate-clause-source : goal.returns-in-Some-Generate-clause-source
+returns-in-Some-Generate-clause-source g c e = absurd (never_read c.generate.result c.status_of-in-Some-Generate.result c.status_of-in-Some-Generate.ensures c.generate.ensures.ends e)
+
+pub returns-in-Some-Generate-clause-taken : goal.returns-in-Some-Generate-clause-taken
+returns-in-Some-Generate-clause-taken g c =
+    all_told (g.S.Source.left c.args.input.now) (g.K.Sink.written c.args.output.now) (g.D.Shelf.world c.args.shelf.now) _
+    (λ input before world e f is three. absurd (never_read c.generate.result c.status_of-in-Some-Generate.result c.status_of-in-Some-Generate.ensures c.generate.ensures.ends three))
+
+pub returns-in-Some-Generate-clause-sink : goal.returns-in-Some-Generate-clause-sink
+returns-in-Some-Generate-clause-sink g c e = c.generate.ensures.sink (is_write c.generate.result (sym c.status_of-in-Some-Generate.ensures ∙ e))
+
+pub returns-in-Some-Generate-clause-most : goal.returns-in-Some-Generate-clause-most
+returns-in-Some-Generate-clause-most g c =
+    all_told (g.S.Source.left c.args.input.now) (g.K.Sink.written c.args.output.now) (g.D.Shelf.world c.args.shelf.now) _
+    (λ input before world e f is six. absurd (never_much c.generate.result c.status_of-in-Some-Generate.result c.status_of-in-Some-Generate.ensures c.generate.ensures.ends six))
+
+pub returns-in-Some-Generate-clause-most_only : goal.returns-in-Some-Generate-clause-most_only
+returns-in-Some-Generate-clause-most_only g c =
+    AllTold-weaker (rows_of c.args.policy.now) (g.S.Source.left c.args.input.now) (g.K.Sink.written c.args.output.now) (g.D.Shelf.world c.args.shelf.now) _ _
+    (λ input before world no most. absurd (no most))
+    (Most-untouched (rows_of c.args.policy.now) (g.S.Source.left c.args.input.now) (g.K.Sink.written c.args.output.now) (g.D.Shelf.world c.args.shelf.now) (g.K.Sink.written c.generate.new.output))
+
+pub returns-in-Some-Generate-clause-at_most : goal.returns-in-Some-Generate-clause-at_most
+returns-in-Some-Generate-clause-at_most g c = takes_nothing (g.S.Source.left c.args.input.now)
+
+pub returns-in-Some-Generate-clause-statuses : goal.returns-in-Some-Generate-clause-statuses
+returns-in-Some-Generate-clause-statuses g c = any_status c.generate.result c.status_of-in-Some-Generate.result c.status_of-in-Some-Generate.ensures
+
+pub returns-in-Some-Generate-clause-usage : goal.returns-in-Some-Generate-clause-usage
+returns-in-Some-Generate-clause-usage g c = (
+  λ e. absurd (not_two c.generate.result c.status_of-in-Some-Generate.result c.status_of-in-Some-Generate.ensures e),
+  λ no. absurd (no (inr (c.in-Some-Generate.start, c.in-Some-Generate.count, (rw c.in-Some-Generate.field-0-is at c.in-Some-Generate.ensures.form)))),
+)
+
+pub returns-in-Some-Generate-clause-untouched : goal.returns-in-Some-Generate-clause-untouched
+returns-in-Some-Generate-clause-untouched g c e = absurd (not_two c.generate.result c.status_of-in-Some-Generate.result c.status_of-in-Some-Generate.ensures e)
+
+pub returns-in-Some-Generate-clause-complete : goal.returns-in-Some-Generate-clause-complete
+returns-in-Some-Generate-clause-complete g c =
+    generated_complete c.generate.result c.status_of-in-Some-Generate.result (g.S.Source.left c.args.input.now) (g.K.Sink.written c.args.output.now)
+    (IsForm (map string_bytes c.args.words.now))
+    (Rose (g.S.Source.faults c.args.input.now) (g.S.Source.faults c.args.input.now))
+    (Rose (g.K.Sink.faults c.args.output.now) (g.K.Sink.faults c.generate.new.output))
+    c.status_of-in-Some-Generate.ensures c.generate.ensures.ends c.generate.ensures.sink
+
+pub generate-requires-clause-some : goal.generate-requires-clause-some
+generate-requires-clause-some g c =
+    (script_bounds (map string_bytes c.args.words.now) c.in-Some-Generate.start c.in-Some-Generate.count (rw c.in-Some-Generate.field-0-is at c.in-Some-Generate.ensures.form)).0
+
+pub generate-requires-clause-few : goal.generate-requires-clause-few
+generate-requires-clause-few g c =
+    (script_bounds (map string_bytes c.args.words.now) c.in-Some-Generate.start c.in-Some-Generate.count (rw c.in-Some-Generate.field-0-is at c.in-Some-Generate.ensures.form)).1

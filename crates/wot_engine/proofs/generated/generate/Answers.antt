@@ -1,0 +1,19 @@
+use Rattle.wot_policy.specs.Kept.{rows_of}
+use Rattle.wot_engine.proofs.Summing.{all_begun, all_written, not_begun}
+use Rattle.wot_engine.proofs.generated.generate.Goals as goal
+
+pub returns-in_err-text-clause-prefix : goal.returns-in_err-text-clause-prefix
+returns-in_err-text-clause-prefix g c =
+    not_begun (rows_of c.args.policy.now) c.args.start c.args.count
+    (record {
+      some = c.each_line_has_one_outcome.ensures.some (rows_of c.args.policy.now);
+      one = c.each_line_has_one_outcome.ensures.one (rows_of c.args.policy.now);
+      stays = c.each_line_has_one_outcome.ensures.stays (rows_of c.args.policy.now);
+    })
+    (g.K.Sink.written c.args.output.now)
+
+pub returns-clause-prefix : goal.returns-clause-prefix
+returns-clause-prefix g c =
+    all_begun (rows_of c.args.policy.now) c.args.start c.args.count (g.K.Sink.written c.args.output.now) (g.K.Sink.written c.write_all.new.to)
+    (all_written (rows_of c.args.policy.now) c.args.start c.args.count (g.K.Sink.written c.args.output.now) (g.K.Sink.written c.write_all.new.to) c.in_ok-text.text.items
+    c.in_ok-text.ensures.summary (rw c.deref.ensures.value at c.in_ok-write_all.ensures.ok))

@@ -1,0 +1,12 @@
+-- How a run ends.
+use Rattle.std.specs.Prelude.{ℕ, Result, Ok, Err}
+use Rattle.wot_engine.specs.declared.run.Stop.{Stop}
+use Rattle.wot_engine.specs.declared.run.Stop.TheVariants.{Read, Write, Memory, TooMuch}
+
+-- the exit status
+abbrev pub status_at : {T : Type 0} → Result T Stop → ℕ
+status_at (Ok value) = 0
+status_at (Err Read) = 3
+status_at (Err Write) = 4
+status_at (Err Memory) = 5
+status_at (Err TooMuch) = 6

@@ -1,0 +1,37 @@
+-- A generated run: a script that the program makes, answers and sums up.
+use Rattle.std.specs.Prelude.{◌≡◌, ℕ, List, [], ◌++◌, length, take, Option, Some}
+use Rattle.wot_io.specs.Input.{lines_of}
+use Rattle.wot_policy.specs.declared.rows.PolicyRows.{PolicyRows}
+use Rattle.wot_script.specs.declared.reply.Reply.{Reply}
+use Rattle.wot_certd.specs.World.{World}
+use Rattle.wot_gen.specs.Script.{commands_of, text_of}
+use Rattle.wot_gen.specs.Summary.{amounts_in, summary, transcript_digest}
+use Rattle.wot_engine.specs.Transcript.{RepliesTo}
+
+-- the world of a shelf in memory without entries, no call of which fails
+abbrev pub no_entries : World
+no_entries = record { entries = []; calls = 0; fails = []; late = [] }
+
+-- the lines of the script of a start and a count
+abbrev pub script_lines : ℕ → ℕ → List (List ℕ)
+script_lines start count = lines_of (text_of (commands_of start count))
+
+-- Three lines: how many lines the script has, the sum of the amounts that its questions are told, and the digest of its
+-- transcript, which is that of the plain machine over an empty shelf.
+pub record IsSummary (rows : PolicyRows) (start count : ℕ) (text : List ℕ) : Type 0 where
+  pub replies : List Reply
+  pub told : RepliesTo rows no_entries (script_lines start count) replies
+  pub text_is : text ≡ summary start count (length (script_lines start count)) (amounts_in replies) (transcript_digest replies)
+
+-- The three lines were written.
+pub record Summarized (rows : PolicyRows) (start count : ℕ) (before : List ℕ) (after : Option (List ℕ)) : Type 0 where
+  pub text : List ℕ
+  pub is_summary : IsSummary rows start count text
+  pub written : after ≡ Some (before ++ text)
+
+-- What was written is a prefix of the three lines.
+pub record SummaryBegun (rows : PolicyRows) (start count : ℕ) (before : List ℕ) (after : Option (List ℕ)) : Type 0 where
+  pub text : List ℕ
+  pub is_summary : IsSummary rows start count text
+  pub size : ℕ
+  pub written : after ≡ Some (before ++ take size text)

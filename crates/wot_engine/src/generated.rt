@@ -1,0 +1,121 @@
+//! A generated run: a script that the program makes, answers and sums up.
+ghost use Rattle.std.specs.Prelude.{◌≡◌, ◌⊎◌, ◌≤◌, ◌<◌, ◌+◌, ◌-◌, ◌^◌, length, IfErr, IfOk, IfSome, OnOk, IsErrOf};
+ghost use Rattle.wot_io.specs.Counts.{Rose};
+ghost use Rattle.wot_io.specs.Input.{lines_of};
+ghost use Rattle.wot_policy.specs.Kept.{IsFaithful, rows_of};
+ghost use Rattle.wot_keyring.specs.Kept.{IsJudgedBy};
+ghost use Rattle.wot_cache.specs.State.{state_of};
+ghost use Rattle.wot_engine.specs.Generated.{IsSummary, SummaryBegun, Summarized};
+ghost use Rattle.wot_engine.specs.Played.{Adds, IsPlayed};
+
+use crate::laws::each_line_has_one_outcome;
+use crate::machine::Machine;
+use crate::run::Stop;
+use std::alloc::Global;
+use wot_certd::MemoryShelf;
+use wot_gen::{Tally, put_summary, script};
+use wot_io::{Sink, first_line, write_all};
+use wot_policy::{Ask, Policy};
+use wot_types::Memory;
+
+/// Makes the script of a start and a count, answers its lines over an empty shelf in memory, and writes what that run
+/// comes to.
+pub fn generate<K: Sink, F: Fn(Ask) -> bool>(
+    alloc: Global,
+    start: u64,
+    count: u32,
+    output: &mut K,
+    policy: &mut Policy<F>,
+) -> Result<(), Stop>
+    requires some { 1 ≤ count }
+    requires few { count ≤ 2000 }
+    requires faithful { IsFaithful F.Fn policy.old }
+    ensures whole { IfSome (K.written output.old) (λ before.
+        OnOk result (Summarized (rows_of policy.old) start count before (K.written output.new))) }
+    ensures prefix { IfSome (K.written output.old) (λ before.
+        SummaryBegun (rows_of policy.old) start count before (K.written output.new)) }
+    ensures sink { IsErrOf result Stop.Write → Rose (K.faults output.old) (K.faults output.new) }
+    ensures ends { IfErr result (λ stop. (stop ≡ Stop.Write) ⊎ (stop ≡ Stop.Memory)) }
+    ensures faithful { IsFaithful F.Fn policy.new }
+    ensures rows { rows_of policy.new ≡ rows_of policy.old }
+{
+    each_line_has_one_outcome();
+    let text = summary_of(alloc, start, count, policy)?;
+    write_all(output, &text)?;
+    Ok(())
+}
+
+/// The three lines that are told of a generated run.
+fn summary_of<F: Fn(Ask) -> bool>(
+    alloc: Global,
+    start: u64,
+    count: u32,
+    policy: &mut Policy<F>,
+) -> Result<Vec<u8>, Memory>
+    requires some { 1 ≤ count }
+    requires few { count ≤ 2000 }
+    requires faithful { IsFaithful F.Fn policy.old }
+    ensures summary { IfOk result (λ text. IsSummary (rows_of policy.old) start count text.items) }
+    ensures faithful { IsFaithful F.Fn policy.new }
+    ensures rows { rows_of policy.new ≡ rows_of policy.old }
+{
+    let mut text = Vec::new(alloc);
+    let lines = script(alloc, start, count, &mut text)?;
+    let tally = play(alloc, &text, policy)?;
+    let amounts = tally.amounts;
+    let digest = tally.digest();
+    let mut out = Vec::new(alloc);
+    put_summary(alloc, start, count, lines, amounts, &digest, &mut out)?;
+    Ok(out)
+}
+
+/// Answers the lines of a text by a machine of its own, over an empty shelf.
+fn play<F: Fn(Ask) -> bool>(
+    alloc: Global,
+    text: &[u8],
+    policy: &mut Policy<F>,
+) -> Result<Tally, Memory>
+    requires small { length text.now < 2 ^ 30 }
+    requires faithful { IsFaithful F.Fn policy.old }
+    ensures played { IfOk result (λ tally. IsPlayed (rows_of policy.old) (lines_of text.now) tally) }
+    ensures faithful { IsFaithful F.Fn policy.new }
+    ensures rows { rows_of policy.new ≡ rows_of policy.old }
+{
+    let mut machine = Machine::new(alloc);
+    let mut shelf = MemoryShelf::new(alloc, Vec::new(alloc), Vec::new(alloc));
+    let mut tally = Tally::new(alloc);
+    let mut rest = text;
+    'lines: while !rest.is_empty() {
+        let (line, others) = first_line(rest);
+        add_line(&mut machine, line, &mut shelf, policy, &mut tally)?;
+        rest = others;
+    }
+    Ok(tally)
+}
+
+/// Answers a line, and adds its reply.
+fn add_line<F: Fn(Ask) -> bool>(
+    machine: &mut Machine,
+    line: &[u8],
+    shelf: &mut MemoryShelf,
+    policy: &mut Policy<F>,
+    tally: &mut Tally,
+) -> Result<(), Memory>
+    requires room { tally.old.amounts < 2 ^ 63 }
+    requires countable { machine.old.engine.keyring.changes < 2 ^ 64 - 1 }
+    requires judged { IsJudgedBy (rows_of policy.old) machine.old.engine.keyring }
+    requires faithful { IsFaithful F.Fn policy.old }
+    ensures added { OnOk result (Adds (rows_of policy.old) line.now
+        (record { state = state_of machine.old.engine; world = shelf.old.world }) tally.old
+        (record { state = state_of machine.new.engine; world = shelf.new.world }) tally.new) }
+    ensures amounts { tally.new.amounts < tally.old.amounts + 2 ^ 32 }
+    ensures counted { machine.new.engine.keyring.changes ≤ machine.old.engine.keyring.changes + 1 }
+    ensures judged { IsJudgedBy (rows_of policy.old) machine.new.engine.keyring }
+    ensures faithful { IsFaithful F.Fn policy.new }
+    ensures rows { rows_of policy.new ≡ rows_of policy.old }
+{
+    match machine.reply(line, shelf, policy)? {
+        Some(reply) => tally.add(&reply),
+        None => Ok(()),
+    }
+}
