@@ -74,6 +74,11 @@ impl Reach {
         }
     }
 
+    /// How many edges were looked at when it was made: what it costs to make it again.
+    pub fn edges(&self) -> usize {
+        self.rows.slots.len()
+    }
+
     /// A table of these numbers, one for each of the fingerprints; where there are fewer numbers, the last have none.
     pub(crate) fn new<R: Roads>(
         alloc: Global,

@@ -1,13 +1,12 @@
 // The numbers of a table once more, in a row: most are found by one look, and not by a walk through a tree.
 ghost use Rattle.std.specs.Prelude.{◌≡◌, ℕ, List, IfOk, OnOk};
 ghost use Rattle.wot_types.specs.declared.fpr.Fpr.{Fpr as Print};
-ghost use Rattle.wot_types.specs.Fpr.{same_fpr};
 ghost use Rattle.wot_search.specs.Reach.{number_at};
 ghost use Rattle.wot_search.specs.Slots.{AreSlots, Tells, TellsIfSome};
 
 use std::alloc::Global;
 use std::collections::BTreeMap;
-use wot_types::{Fpr, Memory, compare_fprs};
+use wot_types::{Fpr, Memory};
 
 /// The number of a fingerprint.
 #[derive(Clone, Copy)]
@@ -128,18 +127,12 @@ fn put_slot(slots: &mut Vec<Slot>, numbers: &BTreeMap<Fpr, u8>, fpr: &Fpr) -> Re
     Ok(())
 }
 
-pub(crate) fn is_same(a: &Fpr, b: &Fpr) -> bool
-    ensures { result ≡ same_fpr a.now b.now }
-{
-    compare_fprs(a, b).is_eq()
-}
-
 /// The number of a slot, if it is this fingerprint's.
-#[tactic(auto, using(crate::proofs::Slotting::tells_same))]
+#[tactic(auto, using(crate::proofs::Slotting::tells_equal))]
 fn number_if(slot: &Slot, fpr: &Fpr) -> Option<u8>
     ensures tells { (numbers : List (Print × ℕ)) → Tells numbers slot.now.fpr slot.now.number → TellsIfSome numbers fpr.now result }
 {
-    if is_same(&slot.fpr, fpr) {
+    if slot.fpr == *fpr {
         Some(slot.number)
     } else {
         None
@@ -163,7 +156,7 @@ fn place_from(slots: &[Slot], start: usize, fpr: &Fpr) -> Option<usize> {
         let Some(slot) = slots.get(place) else {
             return None;
         };
-        if is_same(&slot.fpr, fpr) {
+        if slot.fpr == *fpr {
             return Some(place);
         }
         place = place.saturating_add(1);
