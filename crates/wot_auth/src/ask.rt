@@ -15,7 +15,7 @@ use crate::take::take;
 use std::alloc::Global;
 use wot_edge::laws::{answer_is_one, paths_fit, zero_is_no_path};
 use wot_edge::{Roads, Roots};
-use wot_search::{Consulted, Reach, Unnoted};
+use wot_search::{Consulted, Metered, Reach, Unnoted};
 use wot_types::{Fpr, Memory};
 
 /// How far a user ID of the target is authenticated: next paths until their sum reaches what is
@@ -54,6 +54,28 @@ pub fn authenticate<R: Roads>(
     answer_is_one();
     zero_is_no_path();
     paths_fit();
+    Ok(answer)
+}
+
+/// The same answer, unless more would be looked at than the meter lets: then `Memory`, and nothing is left on it.
+pub fn authenticate_metered<R: Roads>(
+    alloc: Global,
+    roads: &R,
+    roots: &Roots,
+    target: &Fpr,
+    uid: &[u8],
+    wanted: u32,
+    metered: &mut Metered,
+) -> Result<Answer, Memory>
+    requires wanted { 1 ≤ wanted }
+    requires few { length roots.now ≤ 64 }
+    ensures answer { IfOk result (λ answer. IsAnswer (asks (R.told roads.now uid.now) roots.now target.now) wanted answer.paths) }
+    ensures sum { IfOk result (λ answer. answer.sum ≡ amount_of answer.paths) }
+    ensures local { IfOk result (λ answer. (other : Question)
+        → Agree (asks (R.told roads.now uid.now) roots.now target.now) other metered.new.consulted → IsAnswer other wanted answer.paths) }
+{
+    let reach = Reach::everywhere(alloc);
+    let answer = take(alloc, roads, roots, &reach, target, uid, wanted, metered)?;
     Ok(answer)
 }
 

@@ -6,4 +6,4 @@ mod ask;
 mod take;
 
 pub use answer::Answer;
-pub use ask::{authenticate, authenticate_within};
+pub use ask::{authenticate, authenticate_metered, authenticate_within};

@@ -1,5 +1,6 @@
 -- What is looked up in a network and in a keyring is what the certification network tells.
 use Rattle.std.proofs.Common.{◌≡◌, inl, inr, ℕ, Bool, true, false, cond, List, [], ◌∷◌, map, Option, Some, None, is_some, refl, sym, ap, subst, ◌∙◌}
+use Rattle.std.specs.Prelude.{not, ◌||◌}
 use Rattle.std.specs.List.Sorted.{IsStrictlySortedBy}
 use Rattle.std.specs.Map.{lookup}
 use Rattle.std.specs.Option.{option_map, option_map_or, unwrap_or}
@@ -17,7 +18,9 @@ use Rattle.wot_live.specs.Rows.{edges_of, revoked_of}
 use Rattle.wot_standing.specs.Standing.{standing_of}
 use Rattle.wot_standing.specs.declared.status.Standing.{Standing}
 use Rattle.wot_standing.specs.Usable.{is_usable}
-use Rattle.wot_network.specs.Told.{row_of, entry_of, record_of, is_usable_by, is_in_scope}
+use Rattle.wot_scope.specs.Deciding.{scope_holds}
+use Rattle.wot_signature.specs.Signature.{scopes_of}
+use Rattle.wot_network.specs.Told.{row_of, entry_of, record_of, is_usable_by, is_in_scope, body_at}
 use Rattle.wot_network.specs.Net.{Line, Tells, line_at, Net, IsRight, Present, told_of}
 
 -- ---- the keyring
@@ -127,6 +130,12 @@ module _ (n : Net) (k : Keyring) (right : IsRight n k n.time) where
   scope_here u fpr row f h e =
       let (c, g, s) = row_here u fpr row h in
       (c, g, ap (λ (r : Row). r.scope) s ∙ ap (λ (x : EdgeFacts). is_in_scope c.user_ids u x) e)
+
+  -- an edge without a scope
+  pub scope_open : (u : List ℕ) (row : Row) (f : EdgeFacts) → f.scoped ≡ false → Has (rows_into (told_of here u) f.target) row → row.edge ≡ f → row.scope ≡ true
+  scope_open u row f plain h e =
+      let (c, g, r) = scope_here u f.target row f h e in
+      r ∙ ap (λ (b : Bool). not b || scope_holds (scopes_of (body_at c.user_ids f.uid f.sig)) u) plain
 
   pub scope_some : (u : List ℕ) (row : Row) (f : EdgeFacts) (c : Certificate) → cert_at k f.target ≡ Some c → Has (rows_into (told_of here u) f.target) row → row.edge ≡ f → row.scope ≡ is_in_scope c.user_ids u f
   scope_some u row f c at h e =

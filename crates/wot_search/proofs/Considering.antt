@@ -87,6 +87,10 @@ row_edge told fpr row h = by (rows_into told fpr) h
 
 -- ---- the candidate
 
+pub and_not : (a b : Bool) → b ≡ false → (a && b) ≡ false
+and_not true b e = e
+and_not false b e = refl
+
 pub none_if : (a b : Bool) (x : Node) → b ≡ false → None ≡ cond (a && b) (Some x) None
 none_if true b x e = sym (ap (λ (t : Bool). cond t (Some x) None) e)
 none_if false b x e = refl

@@ -21,13 +21,14 @@ fn wanted(
     demand: Demand,
     size: u8,
     width: u8,
+    place: usize,
     edge: &EdgeFacts,
     reached: &Reached,
 ) -> Option<Node>
     requires { size < 255 }
     ensures { (told : List ℕ → Record) → result ≡ wanted_of (quest_of told quest.now) (look reached.now.nodes) demand size width edge.now }
 {
-    match candidate(quest, demand, size, width, edge) {
+    match candidate(quest, demand, size, width, place, edge) {
         None => None,
         Some(node) => {
             if keeps(
@@ -80,13 +81,15 @@ fn keep<R: Roads, N: Notes>(
     Ok(())
 }
 
-/// Considers an edge before a suffix of so many edges and of so much.
+/// Considers an edge before a suffix of so many edges and of so much. How far its issuer reaches is found at once where
+/// it is at this place of the table.
 pub fn consider<R: Roads, N: Notes>(
     roads: &R,
     quest: &Quest,
     demand: Demand,
     size: u8,
     width: u8,
+    place: usize,
     edge: &Edge,
     reached: &mut Reached,
     notes: &mut N,
@@ -103,7 +106,7 @@ pub fn consider<R: Roads, N: Notes>(
     ensures grows { Widens (N.noted notes.old) (N.noted notes.new) }
     ensures gains { Gains (λ fpr. fpr ≡ edge.now.issuer) (N.noted notes.old) (N.noted notes.new) }
 {
-    match wanted(quest, demand, size, width, &edge.facts(), reached) {
+    match wanted(quest, demand, size, width, place, &edge.facts(), reached) {
         None => Ok(()),
         Some(node) => {
             keep(roads, quest, size, edge, node, reached, notes)?;

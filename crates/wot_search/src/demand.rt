@@ -1,11 +1,9 @@
-ghost use Rattle.std.specs.Prelude.{◌≡◌, ◌<◌, ℕ, List};
+ghost use Rattle.std.specs.Prelude.{◌≡◌, ◌<◌, ℕ, List, nat_le, nat_lt};
 ghost use Rattle.wot_types.specs.Fpr.{same_fpr};
-ghost use Rattle.wot_search.specs.Demand.{is_place, is_met, is_enough, demand_of, candidate_of};
+ghost use Rattle.wot_search.specs.Demand.{is_place, is_met, demand_of, candidate_of};
 ghost use Rattle.wot_search.specs.Quest.{quest_of};
 ghost use Rattle.wot_search.specs.Layer.{is_better, is_kept, link_cmp};
-ghost use Rattle.wot_edge.specs.Path.{step_left, step_of};
 ghost use Rattle.wot_edge.specs.Record.{Record};
-ghost use Rattle.wot_edge.specs.Sums.{use_in};
 
 use crate::left::{left_of_step, step_from};
 use crate::node::{Demand, Goal, Node};
@@ -49,32 +47,43 @@ fn meets(demand: Demand, target: &Fpr, edge: &EdgeFacts) -> bool
     }
 }
 
-/// Whether so much is left of an edge before so many others, and its issuer reaches so far.
-fn suffices(quest: &Quest, size: u8, left: u8, edge: &EdgeFacts) -> bool
-    requires { left ≡ step_left (use_in quest.now.used.now) (step_of edge.now) }
-    ensures { (told : List ℕ → Record) → result ≡ is_enough (quest_of told quest.now) size edge.now }
+/// Whether the issuer of an edge reaches so far.
+fn reaches(quest: &Quest, size: u8, place: usize, edge: &EdgeFacts) -> bool
+    ensures { (told : List ℕ → Record) → result ≡ nat_lt size ((quest_of told quest.now).reach edge.now.issuer) }
 {
-    quest.least <= left && size < quest.reach.get(&edge.issuer)
+    size < quest.reach.get_near(place, &edge.issuer)
 }
 
-/// What would be kept of an edge before a suffix of so many edges, and of so much; `None` where it
-/// doesn't meet the demand, too little is left of it, or its issuer doesn't reach so far.
+/// Whether so much is left of an edge before so many others, where its issuer reaches so far.
+fn suffices(quest: &Quest, left: u8) -> bool
+    ensures { result ≡ nat_le quest.now.least left }
+{
+    quest.least <= left
+}
+
+/// What would be kept of an edge before a suffix of so many edges, and of so much; `None` where its issuer doesn't reach
+/// so far, it doesn't meet the demand, or too little is left of it. How far the issuer reaches is found at once where it
+/// is at this place of the table.
 pub fn candidate(
     quest: &Quest,
     demand: Demand,
     size: u8,
     width: u8,
+    place: usize,
     edge: &EdgeFacts,
 ) -> Option<Node>
     requires { size < 255 }
     ensures { (told : List ℕ → Record) → result ≡ candidate_of (quest_of told quest.now) demand size width edge.now }
 {
+    if !reaches(quest, size, place, edge) {
+        return None;
+    }
     if !meets(demand, quest.target, edge) {
         return None;
     }
     let step = step_from(edge);
     let left = left_of_step(quest.used, &step);
-    if !suffices(quest, size, left, edge) {
+    if !suffices(quest, left) {
         return None;
     }
     Some(Node {

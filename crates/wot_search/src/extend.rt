@@ -32,9 +32,13 @@ pub fn extend<R: Roads, N: Notes>(
     let edges = roads.rows(at);
     let demand = demand(roads, quest, size);
     let width = width_at(reached, size, at);
+    let mut place = quest.reach.start(at);
     notes.note(at)?;
     'edges: for edge in edges {
-        consider(roads, quest, demand, size, width, edge, reached, notes)?;
+        consider(
+            roads, quest, demand, size, width, place, edge, reached, notes,
+        )?;
+        place = place.saturating_add(1);
     }
     Ok(())
 }

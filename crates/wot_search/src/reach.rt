@@ -4,6 +4,7 @@ ghost use Rattle.wot_edge.specs.Record.{Has, edges_into};
 ghost use Rattle.wot_edge.specs.Roots.{root_amount};
 ghost use Rattle.wot_search.specs.Reach.{Allows, HasEnough, IsReach, number_at};
 
+use crate::rows::Rows;
 use crate::slots::{Slots, number_in};
 use std::alloc::Global;
 use std::collections::BTreeMap;
@@ -17,6 +18,7 @@ use wot_types::{Fpr, Memory};
 pub struct Reach {
     numbers: BTreeMap<Fpr, u8, Global>,
     slots: Slots,
+    rows: Rows,
 }
 
 impl Model for Reach {
@@ -28,7 +30,8 @@ impl Model for Reach {
 
     ghost view = { λ reach. reach.numbers.entries };
 
-    ghost invariant = { λ reach. AreSlots reach.numbers.entries reach.slots.slots.items };
+    ghost invariant = { λ reach. AreSlots reach.numbers.entries reach.slots.slots.items
+        × AreSlots reach.numbers.entries reach.rows.slots.items };
 }
 
 impl Reach {
@@ -39,6 +42,7 @@ impl Reach {
         Reach {
             numbers: BTreeMap::new(alloc),
             slots: Slots::none(alloc),
+            rows: Rows::none(alloc),
         }
     }
 
@@ -52,16 +56,46 @@ impl Reach {
         }
     }
 
+    /// Where the numbers of the issuers of the edges into a fingerprint begin, for [`get_near`](Reach::get_near).
+    pub(crate) fn start(&self, fpr: &Fpr) -> usize {
+        match self.slots.place(fpr) {
+            Some(place) => self.rows.start(place),
+            None => usize::MAX,
+        }
+    }
+
+    /// The same number, which is found at once where it is at this place.
+    pub(crate) fn get_near(&self, place: usize, fpr: &Fpr) -> u8
+        ensures number { result ≡ number_at self.now fpr.now }
+    {
+        match self.rows.number(place, fpr) {
+            Some(number) => number,
+            None => self.get(fpr),
+        }
+    }
+
+    /// How many edges were looked at when it was made: what it costs to make it again.
+    pub fn edges(&self) -> usize {
+        self.rows.slots.len()
+    }
+
     /// A table of these numbers, one for each of the fingerprints; where there are fewer numbers, the last have none.
-    pub(crate) fn new(alloc: Global, fprs: &[Fpr], numbers: &[u8]) -> Result<Reach, Memory> {
+    pub(crate) fn new<R: Roads>(
+        alloc: Global,
+        roads: &R,
+        fprs: &[Fpr],
+        numbers: &[u8],
+    ) -> Result<Reach, Memory> {
         let mut table = BTreeMap::new(alloc);
         for (fpr, number) in fprs.iter().zip(numbers) {
             table.insert(*fpr, *number)?;
         }
         let slots = Slots::of(alloc, fprs, &table)?;
+        let rows = Rows::of(alloc, roads, fprs, &slots, &table)?;
         Ok(Reach {
             numbers: table,
             slots,
+            rows,
         })
     }
 
@@ -107,21 +141,23 @@ fn has_enough<R: Roads>(roads: &R, roots: &Roots, reach: &Reach, fpr: &Fpr) -> b
         return false;
     }
     let edges = roads.rows(fpr);
+    let mut place = reach.start(fpr);
     'edges: for edge in edges {
-        if !allows(roads, reach, number, edge) {
+        if !allows(roads, reach, place, number, edge) {
             return false;
         }
+        place = place.saturating_add(1);
     }
     true
 }
 
 /// Whether an edge asks no more of its target than this number.
-fn allows<R: Roads>(roads: &R, reach: &Reach, number: u8, edge: &Edge) -> bool
+fn allows<R: Roads>(roads: &R, reach: &Reach, place: usize, number: u8, edge: &Edge) -> bool
     requires row { (id : List ℕ) → Has (edges_into (R.told roads.now id) edge.now.target) edge.now }
     ensures allows { result ≡ true → Allows (R.told roads.now) (number_at reach.now) number edge.now }
 {
     let facts = edge.facts();
-    let passed_on = reach.get(&facts.issuer).saturating_sub(1);
+    let passed_on = reach.get_near(place, &facts.issuer).saturating_sub(1);
     if facts.amount == 0 || facts.depth.min(passed_on) <= number {
         return true;
     }

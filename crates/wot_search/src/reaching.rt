@@ -121,7 +121,7 @@ pub fn make_reach<R: Roads>(
     let links = links_of(alloc, roads, fprs)?;
     let mut numbers = first_numbers(alloc, roots, fprs)?;
     raise(&links, &mut numbers);
-    let reach = Reach::new(alloc, fprs, &numbers)?;
+    let reach = Reach::new(alloc, roads, fprs, &numbers)?;
     if reach.is_over(roads, roots) {
         return Ok(reach);
     }

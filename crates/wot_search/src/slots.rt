@@ -1,13 +1,12 @@
 // The numbers of a table once more, in a row: most are found by one look, and not by a walk through a tree.
 ghost use Rattle.std.specs.Prelude.{◌≡◌, ℕ, List, IfOk, OnOk};
 ghost use Rattle.wot_types.specs.declared.fpr.Fpr.{Fpr as Print};
-ghost use Rattle.wot_types.specs.Fpr.{same_fpr};
 ghost use Rattle.wot_search.specs.Reach.{number_at};
 ghost use Rattle.wot_search.specs.Slots.{AreSlots, Tells, TellsIfSome};
 
 use std::alloc::Global;
 use std::collections::BTreeMap;
-use wot_types::{Fpr, Memory, compare_fprs};
+use wot_types::{Fpr, Memory};
 
 /// The number of a fingerprint.
 #[derive(Clone, Copy)]
@@ -58,9 +57,17 @@ impl Slots {
     pub(crate) fn find(&self, fpr: &Fpr) -> Option<u8>
         ensures tells { (numbers : List (Print × ℕ)) → AreSlots numbers self.now.slots.items → TellsIfSome numbers fpr.now result }
     {
+        match self.place(fpr) {
+            None => None,
+            Some(place) => number_from(&self.slots, place, fpr),
+        }
+    }
+
+    /// At which place a fingerprint is; `None` also where it isn't found.
+    pub(crate) fn place(&self, fpr: &Fpr) -> Option<usize> {
         match self.starts.get(part_of(fpr, self.slots.len())) {
             None => None,
-            Some(start) => find_from(&self.slots, *start as usize, fpr),
+            Some(start) => place_from(&self.slots, *start as usize, fpr),
         }
     }
 }
@@ -95,6 +102,17 @@ pub(crate) fn number_in(numbers: &BTreeMap<Fpr, u8>, fpr: &Fpr) -> u8
     }
 }
 
+/// The same, by the slots where it is found there.
+pub(crate) fn number_by(slots: &Slots, numbers: &BTreeMap<Fpr, u8>, fpr: &Fpr) -> u8
+    requires slots { AreSlots numbers.now.entries slots.now.slots.items }
+    ensures number { result ≡ number_at numbers.now.entries fpr.now }
+{
+    match slots.find(fpr) {
+        Some(number) => number,
+        None => number_in(numbers, fpr),
+    }
+}
+
 /// Appends the slot of a fingerprint.
 fn put_slot(slots: &mut Vec<Slot>, numbers: &BTreeMap<Fpr, u8>, fpr: &Fpr) -> Result<(), Memory>
     requires slots { AreSlots numbers.now.entries slots.old.items }
@@ -107,18 +125,12 @@ fn put_slot(slots: &mut Vec<Slot>, numbers: &BTreeMap<Fpr, u8>, fpr: &Fpr) -> Re
     Ok(())
 }
 
-fn is_same(a: &Fpr, b: &Fpr) -> bool
-    ensures { result ≡ same_fpr a.now b.now }
-{
-    compare_fprs(a, b).is_eq()
-}
-
 /// The number of a slot, if it is this fingerprint's.
-#[tactic(auto, using(crate::proofs::Slotting::tells_same))]
+#[tactic(auto, using(crate::proofs::Slotting::tells_equal))]
 fn number_if(slot: &Slot, fpr: &Fpr) -> Option<u8>
     ensures tells { (numbers : List (Print × ℕ)) → Tells numbers slot.now.fpr slot.now.number → TellsIfSome numbers fpr.now result }
 {
-    if is_same(&slot.fpr, fpr) {
+    if slot.fpr == *fpr {
         Some(slot.number)
     } else {
         None
@@ -126,7 +138,7 @@ fn number_if(slot: &Slot, fpr: &Fpr) -> Option<u8>
 }
 
 /// The number of the slot at a place, if it is this fingerprint's.
-fn number_from(slots: &[Slot], place: usize, fpr: &Fpr) -> Option<u8>
+pub(crate) fn number_from(slots: &[Slot], place: usize, fpr: &Fpr) -> Option<u8>
     ensures tells { (numbers : List (Print × ℕ)) → AreSlots numbers slots.now → TellsIfSome numbers fpr.now result }
 {
     if place >= slots.len() {
@@ -135,15 +147,15 @@ fn number_from(slots: &[Slot], place: usize, fpr: &Fpr) -> Option<u8>
     number_if(&slots[place], fpr)
 }
 
-/// The number of a fingerprint, if it is in one of the first slots from here on.
-fn find_from(slots: &[Slot], start: usize, fpr: &Fpr) -> Option<u8>
-    ensures tells { (numbers : List (Print × ℕ)) → AreSlots numbers slots.now → TellsIfSome numbers fpr.now result }
-{
+/// The place of a fingerprint, if it is in one of the first slots from here on.
+fn place_from(slots: &[Slot], start: usize, fpr: &Fpr) -> Option<usize> {
     let mut place = start;
     'places: for _look in 0..LOOKS {
-        let number = number_from(slots, place, fpr);
-        if number.is_some() {
-            return number;
+        let Some(slot) = slots.get(place) else {
+            return None;
+        };
+        if slot.fpr == *fpr {
+            return Some(place);
         }
         place = place.saturating_add(1);
     }

@@ -6,7 +6,7 @@ use Rattle.wot_network.specs.Net.{told_of}
 use Rattle.wot_network.specs.Roads.{present_of}
 use Rattle.wot_network.specs.Told.{is_in_scope}
 use Rattle.std.proofs.lemmas.Result.{IfOk-weaker}
-use Rattle.wot_network.proofs.Looking.{scope_some, scope_none}
+use Rattle.wot_network.proofs.Looking.{scope_open, scope_some, scope_none}
 use Rattle.wot_network.proofs.roads.NetRoadsRoads.scope.Goals as goal
 
 pub returns-in-Some : goal.returns-in-Some
@@ -26,4 +26,11 @@ returns-in-None c = record {
   scope = λ row h e.
       absurd (scope_none c.args.self.now.network.now c.args.self.now.keyring.now c.args.self.now.right c.args.uid.now row c.facts-facts.result
       (sym c.in-None.ensures.found) (subst (λ (f : EdgeFacts). Has (rows_into (told_of (present_of c.args.self.now) c.args.uid.now) f.target) row) (sym c.facts-facts.ensures.facts) h));
+}
+
+pub returns-then-not-facts : goal.returns-then-not-facts
+returns-then-not-facts c = record {
+  scope = λ row h e.
+      scope_open c.args.self.now.network.now c.args.self.now.keyring.now c.args.self.now.right c.args.uid.now row c.facts-facts.result c.if-not-facts.true
+      (subst (λ (f : EdgeFacts). Has (rows_into (told_of (present_of c.args.self.now) c.args.uid.now) f.target) row) (sym c.facts-facts.ensures.facts) h) (e ∙ sym c.facts-facts.ensures.facts);
 }

@@ -6,6 +6,6 @@ use Rattle.wot_search.proofs.reach.Reach.get.Goals as goal
 pub returns-in-Some : goal.returns-in-Some
 returns-in-Some c = record {
   number =
-      c.in-Some.ensures.tells c.self.inside.numbers.entries c.self.invariant
+      c.in-Some.ensures.tells c.self.inside.numbers.entries c.self.invariant.0
       ∙ ap (λ (numbers : List (Fpr × ℕ)). number_at numbers c.args.fpr.now) c.self.view_is;
 }

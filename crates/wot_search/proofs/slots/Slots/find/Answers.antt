@@ -4,5 +4,5 @@ use Rattle.wot_search.proofs.slots.Slots.find.Goals as goal
 
 pub returns-in-Some : goal.returns-in-Some
 returns-in-Some c = record {
-  tells = λ numbers are. c.find_from.ensures.tells numbers (subst (AreSlots numbers) (sym c.deref-in-Some.ensures.value) are);
+  tells = λ numbers are. c.number_from.ensures.tells numbers (subst (AreSlots numbers) (sym c.deref.ensures.value) are);
 }

@@ -1,0 +1,12 @@
+use Rattle.wot_search.specs.declared.slots.Slot.{Slot}
+use Rattle.wot_search.proofs.Slotting.{slot_added}
+use Rattle.wot_search.proofs.rows.put_issuer.Goals as goal
+
+pub returns : goal.returns
+returns c =
+    let slot : Slot = record { fpr = c.args.fpr.now; number = c.number_by-number.result } in
+    record {
+      rows =
+          slot_added c.args.numbers.now.entries c.args.rows.now.items c.push.new.self.items slot c.requires.rows
+          c.number_by-number.ensures.number c.in_ok-push.ensures.items;
+    }

@@ -1,0 +1,102 @@
+// The numbers of a table a third time, in the order of edges: a search that goes over the edges into a fingerprint finds
+// those of their issuers side by side.
+ghost use Rattle.std.specs.Prelude.{ℕ, List, IfOk, OnOk};
+ghost use Rattle.wot_types.specs.declared.fpr.Fpr.{Fpr as Print};
+ghost use Rattle.wot_search.specs.Slots.{AreSlots, TellsIfSome};
+
+use crate::slots::{Slot, Slots, number_by, number_from};
+use std::alloc::Global;
+use std::collections::BTreeMap;
+use wot_edge::Roads;
+use wot_types::{Fpr, Memory};
+
+/// The slots of the issuers of edges, fingerprint after fingerprint, and where those of each fingerprint begin.
+#[derive(Drop)]
+pub(crate) struct Rows {
+    pub(crate) slots: Vec<Slot, Global>,
+    pub(crate) starts: Vec<u32, Global>,
+}
+
+impl Rows {
+    pub(crate) fn none(alloc: Global) -> Rows
+        ensures slots { (numbers : List (Print × ℕ)) → AreSlots numbers result.slots.items }
+    {
+        Rows {
+            slots: Vec::new(alloc),
+            starts: Vec::new(alloc),
+        }
+    }
+
+    /// Those of the edges into these fingerprints.
+    pub(crate) fn of<R: Roads>(
+        alloc: Global,
+        roads: &R,
+        fprs: &[Fpr],
+        slots: &Slots,
+        numbers: &BTreeMap<Fpr, u8>,
+    ) -> Result<Rows, Memory>
+        requires slots { AreSlots numbers.now.entries slots.now.slots.items }
+        ensures slots { IfOk result (λ made. AreSlots numbers.now.entries made.slots.items) }
+    {
+        let mut rows = Vec::new(alloc);
+        let mut starts = Vec::new(alloc);
+        'fprs: for fpr in fprs {
+            starts.push(u32::try_from(rows.len()).unwrap_or(u32::MAX))?;
+            put_row(roads, fpr, slots, numbers, &mut rows)?;
+        }
+        Ok(Rows {
+            slots: rows,
+            starts,
+        })
+    }
+
+    /// Where the slots of the edges into the fingerprint at a place begin, if it has some.
+    pub(crate) fn start(&self, place: usize) -> usize {
+        match self.starts.get(place) {
+            Some(start) => *start as usize,
+            None => usize::MAX,
+        }
+    }
+
+    /// The number in the slot at a place, if it is this fingerprint's.
+    pub(crate) fn number(&self, place: usize, fpr: &Fpr) -> Option<u8>
+        ensures tells { (numbers : List (Print × ℕ)) → AreSlots numbers self.now.slots.items → TellsIfSome numbers fpr.now result }
+    {
+        number_from(&self.slots, place, fpr)
+    }
+}
+
+/// Appends the slots of the issuers of the edges into a fingerprint.
+fn put_row<R: Roads>(
+    roads: &R,
+    fpr: &Fpr,
+    slots: &Slots,
+    numbers: &BTreeMap<Fpr, u8>,
+    rows: &mut Vec<Slot>,
+) -> Result<(), Memory>
+    requires slots { AreSlots numbers.now.entries slots.now.slots.items }
+    requires rows { AreSlots numbers.now.entries rows.old.items }
+    ensures rows { OnOk result (AreSlots numbers.now.entries rows.new.items) }
+{
+    let edges = roads.rows(fpr);
+    'edges: for edge in edges {
+        put_issuer(&edge.facts().issuer, slots, numbers, rows)?;
+    }
+    Ok(())
+}
+
+/// Appends the slot of an issuer.
+fn put_issuer(
+    fpr: &Fpr,
+    slots: &Slots,
+    numbers: &BTreeMap<Fpr, u8>,
+    rows: &mut Vec<Slot>,
+) -> Result<(), Memory>
+    requires slots { AreSlots numbers.now.entries slots.now.slots.items }
+    requires rows { AreSlots numbers.now.entries rows.old.items }
+    ensures rows { OnOk result (AreSlots numbers.now.entries rows.new.items) }
+{
+    let number = number_by(slots, numbers, fpr);
+    rows.push(Slot { fpr: *fpr, number })?;
+    Ok(())
+}
