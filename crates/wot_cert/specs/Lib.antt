@@ -23,4 +23,3 @@ pub mod Sizes
 pub mod Drafting
 pub mod ReadBack
 pub mod Totals
-pub mod Growing
