@@ -16,7 +16,7 @@ use Rattle.wot_keyring.specs.Held.{cert_in, verdict_set, removing, verdict_clear
 use Rattle.wot_keyring.specs.Import.{answer_to, answer_under, is_entry}
 use Rattle.wot_keyring.specs.Verdict.{is_over}
 use Rattle.wot_script.specs.declared.command.Command.{Command}
-use Rattle.wot_script.specs.declared.command.Command.TheVariants.{Import, Load, Remove, Good, Bad, Unjudge, Time, Root, Close, Ask, Explain, Pending, Keys, Export, Dump}
+use Rattle.wot_script.specs.declared.command.Command.TheVariants.{Import, Load, Remove, Good, Bad, Unjudge, Time, Root, Close, Ask, Explain, Absence, Check, Pending, Keys, Export, Dump}
 use Rattle.wot_script.specs.declared.reply.Reply.{Reply}
 use Rattle.wot_script.specs.declared.reply.Reply.TheVariants as replies
 use Rattle.wot_script.specs.Grammar.{command_of}
@@ -83,6 +83,8 @@ does rows s (Close view) answer r m =
 does rows s (Ask view target wanted uid) answer r m = λ g _. g.1
 does rows s (Command.List view wanted) answer r m = λ g _. g.1
 does rows s (Explain view fpr uid) answer r m = given s (explain s view fpr uid) r m (λ _. refl)
+does rows s (Absence view target wanted uid) answer r m = λ g _. g.1
+does rows s (Check view target claims labels uid) answer r m = λ g _. g.1
 does rows s Pending answer r m = given s (pending s) r m (λ _. refl)
 does rows s Keys answer r m = given s (keys s) r m (λ _. refl)
 does rows s (Export fpr) answer r m = given s (export s fpr) r m (λ _. refl)
