@@ -1,5 +1,5 @@
 -- Claims of absence: each line that asks for one, or makes one, has one reply.
-use Rattle.std.proofs.Common.{◌≡◌, ℕ, ◌<◌, ◌≤◌, ◌&&◌, Bool, true, false, List, [], ◌∷◌, ◌++◌, map, Ordering, Option, Some, None, Result, Ok, Err, refl, sym, ap, ◌∙◌, subst, arith}
+use Rattle.std.proofs.Common.{◌≡◌, ℕ, ◌<◌, ◌≤◌, Bool, true, false, List, [], ◌∷◌, ◌++◌, map, Ordering, Option, Some, None, Result, Ok, Err, refl, sym, ap, ◌∙◌, subst, arith}
 use Rattle.std.specs.Prelude.{nat_le, IfOk, IsSomeAnd}
 use Rattle.std.specs.declared.cmp.Ordering.TheVariants.{Less, Equal, Greater}
 use Rattle.std.specs.Ordering.{is_lt, match_ordering, ordering_reverse}
@@ -18,7 +18,6 @@ use Rattle.wot_edge.specs.Path.{Question, Use, asks, use_of}
 use Rattle.wot_check.specs.declared.checking.Checked.{Checked}
 use Rattle.wot_check.specs.declared.checking.Checked.TheVariants as answers
 use Rattle.wot_check.specs.Absence.{IsChecked, IsLeastTable, IsMade}
-use Rattle.wot_check.specs.Claim.{Claim}
 use Rattle.wot_check.specs.Table.{AreLabels, IsTable, Labels}
 use Rattle.wot_script.specs.Claims.{IsClaimSpelled, IsLabelSpelled, is_rising}
 use Rattle.wot_script.specs.declared.reply.ClaimLine.{ClaimLine}
@@ -33,7 +32,7 @@ use Rattle.wot_cache.specs.declared.view.View.{View}
 use Rattle.wot_cache.specs.Parts.{ArePartsOf}
 use Rattle.wot_cache.specs.Question.{question_in}
 use Rattle.wot_cache.specs.State.{Engine, state_of}
-use Rattle.wot_engine.specs.Absent.{Checks, TellsAbsence, claim_in, missed, sum_in, table_in, verdict_on}
+use Rattle.wot_engine.specs.Absent.{Checks, TellsAbsence, claim_in, missed, table_in, verdict_on}
 
 -- ---- tables in a line
 
