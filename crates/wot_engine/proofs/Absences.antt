@@ -1,23 +1,23 @@
 -- Claims of absence: each line that asks for one, or makes one, has one reply.
-use Rattle.std.proofs.Common.{◌≡◌, ℕ, ◌<◌, ◌≤◌, ◌&&◌, Bool, true, false, List, [], ◌∷◌, ◌++◌, map, Ordering, Option, Some, None, refl, sym, ap, ◌∙◌, subst, arith}
-use Rattle.std.specs.Prelude.{nat_le}
+use Rattle.std.proofs.Common.{◌≡◌, ℕ, ◌<◌, ◌≤◌, Bool, true, false, List, [], ◌∷◌, ◌++◌, map, Ordering, Option, Some, None, Result, Ok, Err, refl, sym, ap, ◌∙◌, subst, arith}
+use Rattle.std.specs.Prelude.{nat_le, IfOk, IsSomeAnd}
 use Rattle.std.specs.declared.cmp.Ordering.TheVariants.{Less, Equal, Greater}
 use Rattle.std.specs.Ordering.{is_lt, match_ordering, ordering_reverse}
 use Rattle.std.specs.BTreeMap.{insert_entry}
 use Rattle.std.specs.List.{AllByRecursion}
 use Rattle.std.specs.List.Sorted.{IsStrictlySortedBy}
 use Rattle.std.specs.Map.{keys_of}
-use Rattle.std.proofs.lemmas.Bool.{and_parts}
+use Rattle.std.proofs.lemmas.Bool.{and_parts, lt-leb}
 use Rattle.wot_types.specs.declared.fpr.Fpr.{Fpr}
 use Rattle.wot_types.specs.Fpr.{fpr_cmp}
 use Rattle.wot_types.specs.FprLaws.{fpr_total}
+use Rattle.wot_types.specs.declared.memory.Memory.{Memory}
 use Rattle.wot_edge.specs.declared.path.Path.{Path}
-use Rattle.wot_edge.specs.Answer.{amount_of}
-use Rattle.wot_edge.specs.Path.{Question, Use, use_of}
+use Rattle.wot_edge.specs.Answer.{IsAnswer, amount_of}
+use Rattle.wot_edge.specs.Path.{Question, Use, asks, use_of}
 use Rattle.wot_check.specs.declared.checking.Checked.{Checked}
 use Rattle.wot_check.specs.declared.checking.Checked.TheVariants as answers
-use Rattle.wot_check.specs.Absence.{IsChecked, IsLeastTable}
-use Rattle.wot_check.specs.Claim.{Claim}
+use Rattle.wot_check.specs.Absence.{IsChecked, IsLeastTable, IsMade}
 use Rattle.wot_check.specs.Table.{AreLabels, IsTable, Labels}
 use Rattle.wot_script.specs.Claims.{IsClaimSpelled, IsLabelSpelled, is_rising}
 use Rattle.wot_script.specs.declared.reply.ClaimLine.{ClaimLine}
@@ -25,7 +25,14 @@ use Rattle.wot_script.specs.declared.reply.LabelLine.{LabelLine}
 use Rattle.wot_script.specs.declared.reply.Reply.{Reply}
 use Rattle.wot_script.specs.declared.reply.Reply.TheVariants as replies
 use Rattle.wot_script.specs.Replies.{HasWords}
-use Rattle.wot_engine.specs.Absent.{TellsAbsence, missed, sum_in, table_in, verdict_on}
+use Rattle.wot_network.specs.Net.{told_of}
+use Rattle.wot_network.specs.Roads.{present_of}
+use Rattle.wot_cache.specs.declared.parts.Parts.{Parts}
+use Rattle.wot_cache.specs.declared.view.View.{View}
+use Rattle.wot_cache.specs.Parts.{ArePartsOf}
+use Rattle.wot_cache.specs.Question.{question_in}
+use Rattle.wot_cache.specs.State.{Engine, state_of}
+use Rattle.wot_engine.specs.Absent.{Checks, TellsAbsence, claim_in, missed, table_in, verdict_on}
 
 -- ---- tables in a line
 
@@ -80,7 +87,7 @@ insert_last (e ∷ table) rest fpr label s =
     below (x ∷ es) above = below es above.1
 
 -- one label more is put in
-pub table_more : (labels later : List LabelLine) (label : LabelLine) (table new : Labels) → IsTable (table_in labels)
+table_more : (labels later : List LabelLine) (label : LabelLine) (table new : Labels) → IsTable (table_in labels)
     → table ++ table_in (label ∷ later) ≡ table_in labels → new ≡ insert_entry fpr_cmp table label.0 label.1 → new ++ table_in later ≡ table_in labels
 table_more labels later label table new good so e =
     let sorted = subst (λ (es : Labels). IsStrictlySortedBy fpr_cmp (keys_of es)) (sym so) good.order in
@@ -93,13 +100,27 @@ table_more labels later label table new good so e =
     put_back (e ∷ es) x rest = ap (λ (t : Labels). e ∷ t) (put_back es x rest)
 
 -- each label that is put in is at least 1
-pub label_some : (labels later : List LabelLine) (label : LabelLine) (table : Labels) → IsTable (table_in labels)
+label_some : (labels later : List LabelLine) (label : LabelLine) (table : Labels) → IsTable (table_in labels)
     → table ++ table_in (label ∷ later) ≡ table_in labels → 1 ≤ label.1
 label_some labels later label table good so = by table (subst AreLabels (sym so) good.labels)
   where
     by : (es : Labels) → AreLabels (es ++ table_in (label ∷ later)) → 1 ≤ label.1
     by [] all = let some = all.0.0 in omega (arith, some)
     by (e ∷ es) all = by es all.1
+
+-- the same of the first label that is left
+abbrev Left : Labels → List LabelLine → List LabelLine → Type 0
+Left table left labels = table ++ table_in left ≡ table_in labels
+
+pub first_put : (labels left later : List LabelLine) (label : LabelLine) (table new : Labels) → IsTable (table_in labels) → left ≡ label ∷ later
+    → Left table left labels → new ≡ insert_entry fpr_cmp table label.0 label.1 → Left new later labels
+first_put labels left later label table new good e so put =
+    table_more labels later label table new good (subst (λ (ls : List LabelLine). Left table ls labels) e so) put
+
+pub first_some : (labels left later : List LabelLine) (label : LabelLine) (table : Labels) → IsTable (table_in labels) → left ≡ label ∷ later
+    → Left table left labels → 1 ≤ label.1
+first_some labels left later label table good e so =
+    label_some labels later label table good (subst (λ (ls : List LabelLine). Left table ls labels) e so)
 
 -- ---- what a check comes to
 
@@ -124,5 +145,38 @@ pub tells_some : ((q : Question) (used : Use) → (table : Labels) × IsTable ta
 tells_some some true q paths = (replies.Reached (amount_of paths), refl)
 tells_some some false q paths = by (some q (use_of paths))
   where
+    tells : (table : Labels) → IsTable table → IsLeastTable q (use_of paths) table → TellsAbsence false q paths (missed paths table)
+    tells table good least = (table, good, least, refl)
+
     by : (table : Labels) × IsTable table × IsLeastTable q (use_of paths) table → (r : Reply) × TellsAbsence false q paths r
-    by t = (missed paths t.0, t.0, t.1, t.2, refl)
+    by t = (missed paths t.0, tells t.0 t.1 t.2)
+
+-- the reply to a question that missed
+pub told_misses : (q : Question) (wanted sum : ℕ) (paths shown : List Path) (made : Option Labels) (table : Labels) (result : Result Reply Memory)
+    → IsAnswer q wanted paths → sum ≡ amount_of paths → sum < wanted → shown ≡ paths → IsMade q (use_of shown) made → made ≡ Some table
+    → IfOk result (λ reply. reply ≡ missed shown table)
+    → IfOk result (λ reply. (x : List Path) × IsAnswer q wanted x × TellsAbsence (nat_le wanted (amount_of x)) q x reply)
+told_misses q wanted sum paths shown made table (Err fault) answer e lt same m some told = tt
+told_misses q wanted sum paths shown made table (Ok reply) answer e lt same m some told =
+    let here = subst (IsMade q (use_of shown)) some m in
+    by (lt-leb wanted (amount_of shown) (omega (arith, e, lt, ap amount_of same)))
+    (subst (IsAnswer q wanted) (sym same) answer) here.0 here.1
+  where
+    tells : (b : Bool) → b ≡ false → IsTable table → IsLeastTable q (use_of shown) table → TellsAbsence b q shown reply
+    tells true f good least = absurd cc
+    tells false f good least = (table, good, least, told)
+
+    by : nat_le wanted (amount_of shown) ≡ false → IsAnswer q wanted shown → IsTable table → IsLeastTable q (use_of shown) table
+        → (x : List Path) × IsAnswer q wanted x × TellsAbsence (nat_le wanted (amount_of x)) q x reply
+    by f a good least = (shown, a, tells (nat_le wanted (amount_of shown)) f good least)
+
+-- what is checked over the parts that are seen from a view is checked from that view
+pub checks_shown : (engine : Engine) (o : Option View) (parts : Parts) (target : Fpr) (claims : List ClaimLine) (labels : List LabelLine) (uid : List ℕ)
+    (result : Result Reply Memory) → IsSomeAnd o (λ v. ArePartsOf engine.keyring v parts)
+    → IfOk result (λ reply. (checked : Checked) × IsChecked (asks (told_of (present_of parts.roads) uid) parts.roots.now target) (map claim_in claims) (table_in labels) checked × (reply ≡ verdict_on claims checked))
+    → IfOk result (λ reply. Checks (state_of engine) o target claims labels uid reply)
+checks_shown engine None parts target claims labels uid result are checks = absurd are
+checks_shown engine (Some v) parts target claims labels uid result are checks =
+    let same : asks (told_of (present_of parts.roads) uid) parts.roots.now target ≡ question_in (state_of engine) v target uid =
+    λ i. asks (told_of (are.roads i) uid) (are.roots i) target in
+    subst (λ (q : Question). IfOk result (λ reply. (checked : Checked) × IsChecked q (map claim_in claims) (table_in labels) checked × (reply ≡ verdict_on claims checked))) same checks

@@ -31,7 +31,7 @@ use Rattle.wot_cache.specs.declared.view.ViewFault.{ViewFault}
 use Rattle.wot_cache.specs.Views.{root_fault, time_fault, view_at}
 use Rattle.wot_cache.specs.State.{Engine, State, start, state_of, with_held, rooting, timing}
 use Rattle.wot_cache.specs.Dump.{CarriesOver, IsRestored, after, commands_of, unless_refused}
-use Rattle.wot_engine.specs.Entry.{entry_for, entry_in}
+use Rattle.wot_engine.specs.Entry.{entry_for}
 use Rattle.wot_engine.specs.Lines.{is_silent}
 use Rattle.wot_engine.specs.Outcome.{Outcome, done, imports, set_verdict, only, unless}
 use Rattle.wot_engine.specs.LineStep.{Answers, Does, Gives}

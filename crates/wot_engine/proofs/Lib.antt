@@ -3,6 +3,7 @@ mod Stays
 mod Named
 mod Marked
 mod Absences
+mod Claiming
 mod Outcomes
 mod Runs
 mod Stepping

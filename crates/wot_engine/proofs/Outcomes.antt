@@ -1,5 +1,5 @@
 -- Each line has exactly one outcome.
-use Rattle.std.proofs.Common.{◌≡◌, ℕ, ◌≤◌, Bool, true, false, List, length, Option, Some, None, refl, sym, ap, ◌∙◌}
+use Rattle.std.proofs.Common.{◌≡◌, ℕ, ◌≤◌, Bool, true, false, List, length, Option, Some, None, refl, sym, ap, ◌∙◌, subst}
 use Rattle.std.specs.Prelude.{MatchBool, map, nat_le, nat_lt}
 use Rattle.std.specs.List.{AllByRecursion}
 use Rattle.wot_types.specs.declared.fpr.Fpr.{Fpr}

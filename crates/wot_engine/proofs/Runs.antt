@@ -3,7 +3,7 @@ use Rattle.std.proofs.Common.{◌≡◌, ℕ, List, [], ◌∷◌, ◌++◌, Opt
 use Rattle.wot_policy.specs.declared.rows.PolicyRows.{PolicyRows}
 use Rattle.wot_script.specs.declared.reply.Reply.{Reply}
 use Rattle.wot_certd.specs.World.{World}
-use Rattle.wot_cache.specs.State.{State, IsState}
+use Rattle.wot_cache.specs.State.{IsState}
 use Rattle.wot_engine.specs.Entry.{entry_in, given_by, world_after}
 use Rattle.wot_engine.specs.Law.{OneOutcome}
 use Rattle.wot_engine.specs.Scene.{Scene, Step, opening}

@@ -33,7 +33,7 @@ use Rattle.wot_engine.specs.Outcome.{Outcome, only, done, imports, load, remove,
 use Rattle.wot_engine.specs.Listing.{explain, pending}
 use Rattle.wot_engine.specs.Entry.{entry_in, given_by}
 use Rattle.wot_engine.specs.LineStep.{LineStep, HasReply, Answers, Does, Gives}
-use Rattle.wot_engine.specs.Scene.{Scene, Step}
+use Rattle.wot_engine.specs.Scene.{Scene}
 use Rattle.wot_engine.specs.Transcript.{Run}
 
 -- what is true of all entries is true of those that are left

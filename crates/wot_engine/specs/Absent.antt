@@ -13,12 +13,12 @@ use Rattle.wot_script.specs.declared.reply.Reply.TheVariants as replies
 use Rattle.wot_check.specs.declared.checking.Checked.{Checked}
 use Rattle.wot_check.specs.declared.checking.Checked.TheVariants as answers
 use Rattle.wot_check.specs.declared.claimed.ClaimedStep.{ClaimedStep}
-use Rattle.wot_check.specs.Absence.{IsChecked, IsLeastTable}
+use Rattle.wot_check.specs.Absence.{AreSpent, IsChecked, IsLeastTable}
 use Rattle.wot_check.specs.Claim.{Claim}
 use Rattle.wot_check.specs.Table.{IsTable, Labels}
 use Rattle.wot_cache.specs.declared.view.View.{View}
 use Rattle.wot_cache.specs.Question.{question_in}
-use Rattle.wot_cache.specs.State.{State}
+use Rattle.wot_cache.specs.State.{State, IsState}
 
 -- ---- `absence`
 
@@ -79,3 +79,19 @@ Checks s None target claims labels uid reply = reply ≡ replies.View
 Checks s (Some view) target claims labels uid reply =
     (checked : Checked) × IsChecked (question_in s view target uid) (map claim_in claims) (table_in labels) checked
     × (reply ≡ verdict_on claims checked)
+
+-- ---- what claims are worth
+
+-- The claim of a reply `absence missed` is accepted: handed to `check` from the same view, it has the reply `checked yes`.
+abbrev pub AreClaimsAccepted : Type 0
+AreClaimsAccepted =
+    (s : State) (view : View) (target : Fpr) (wanted : ℕ) (uid : List ℕ) (sum : ℕ) (claims : List ClaimLine) (labels : List LabelLine)
+    → Misses s (Some view) target wanted uid (replies.Missed sum claims labels)
+    → Checks s (Some view) target claims labels uid (replies.CheckedYes sum)
+
+-- In a state that can be, no valid path of positive amount is left after the paths of a claim that is accepted.
+abbrev pub DoClaimsLeaveNothing : Type 0
+DoClaimsLeaveNothing =
+    (s : State) (view : View) (target : Fpr) (uid : List ℕ) (sum : ℕ) (claims : List ClaimLine) (labels : List LabelLine) → IsState s
+    → Checks s (Some view) target claims labels uid (replies.CheckedYes sum)
+    → AreSpent (question_in s view target uid) (map claim_in claims)

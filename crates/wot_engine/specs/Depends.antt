@@ -12,7 +12,7 @@ use Rattle.wot_keyring.specs.Keyring.{Certificates}
 use Rattle.wot_cache.specs.State.{State}
 use Rattle.wot_cache.specs.Views.{view_at}
 use Rattle.wot_engine.specs.LineStep.{LineStep}
-use Rattle.wot_engine.specs.Scene.{Scene, opening}
+use Rattle.wot_engine.specs.Scene.{opening}
 use Rattle.wot_engine.specs.Transcript.{Run}
 
 -- A history leads to the state: lines, answered from the start on, with a shelf of some world.

@@ -34,7 +34,8 @@ pub fn absence(
     uid: &[u8],
 ) -> Result<Reply, Memory>
     requires wanted { 1 ≤ wanted }
-    ensures misses { IfOk result (λ reply. Misses (state_of engine.old) (view_at engine.old.views view.now) target.now wanted uid.now reply) }
+    ensures misses { IfOk result (λ reply.
+        Misses (state_of engine.old) (view_at engine.old.views view.now) target.now wanted uid.now reply) }
     ensures keyring { engine.new.keyring ≡ engine.old.keyring }
     ensures views { engine.new.views ≡ engine.old.views }
     ensures refreshed { IsRefreshed result view.now engine.old engine.new steps.old.made steps.new.made }

@@ -38,7 +38,7 @@ pub fn check(
     ensures refreshed { IsRefreshed result view.now engine.old engine.new steps.old.made steps.new.made }
 {
     match engine.parts(view, steps) {
-        Ok(parts) => check_from(alloc, &parts, target, claims.items(), labels.items(), uid),
+        Ok(parts) => check_from(alloc, &parts, target, claims, labels, uid),
         Err(AskFault::View) => Ok(Reply::View),
         Err(AskFault::Memory) => Err(Memory),
     }
@@ -49,8 +49,8 @@ fn check_from(
     alloc: Global,
     parts: &Parts<'_>,
     target: &Fpr,
-    claims: &[ClaimLine],
-    labels: &[LabelLine],
+    claims: &ClaimLines,
+    labels: &LabelLines,
     uid: &[u8],
 ) -> Result<Reply, Memory>
     requires few { length claims.now < 2 ^ 24 }
@@ -60,8 +60,9 @@ fn check_from(
         (map claim_in claims.now) (table_in labels.now) checked
         × (reply ≡ verdict_on claims.now checked)) }
 {
+    let claims = claims.items();
     let paths = claimed_paths(alloc, claims)?;
-    let table = claimed_table(alloc, labels)?;
+    let table = claimed_table(alloc, labels.items())?;
     let (roads, roots) = (&parts.roads, parts.roots);
     let paths = paths.as_slice();
     let checked = wot_check::check(alloc, roads, roots, paths, &table, target, uid)?;

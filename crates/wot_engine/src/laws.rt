@@ -5,6 +5,7 @@ ghost use Rattle.wot_script.specs.declared.reply.Reply.{Reply};
 ghost use Rattle.wot_keyring.specs.Dump.{judged_by};
 ghost use Rattle.wot_certd.specs.World.{Answer, World};
 ghost use Rattle.wot_cache.specs.State.{State, IsState};
+ghost use Rattle.wot_engine.specs.Absent.{AreClaimsAccepted, DoClaimsLeaveNothing};
 ghost use Rattle.wot_engine.specs.Depends.{DependsOnWhatIsPresent};
 ghost use Rattle.wot_engine.specs.Law.{RefusalsLeaveAll};
 ghost use Rattle.wot_engine.specs.LineStep.{LineStep};
@@ -12,7 +13,9 @@ ghost use Rattle.wot_engine.specs.Scene.{Scene, opening};
 ghost use Rattle.wot_engine.specs.Transcript.{Run, Transcript};
 
 use wot_cert::laws::judging;
-use wot_check::laws::{check_is_one, least_table_is_one};
+use wot_check::laws::{
+    accepted_paths_leave_nothing, check_is_one, least_table_is_one, least_tables_are_accepted,
+};
 use wot_edge::laws::answer_is_one;
 use wot_explain::laws::list_is_one;
 use wot_network::laws::record_is_lawful;
@@ -69,4 +72,15 @@ pub fn answers_depend_on_what_is_present()
     judging();
     reached_states_are_judged();
     each_line_has_one_outcome();
+}
+
+/// Claims of absence hold. What a reply `absence missed` claims is accepted by `check` from the same view in the same
+/// state; and after the paths of a claim that is accepted no valid path of positive amount is left.
+pub fn claims_of_absence_hold()
+    ensures accepted { AreClaimsAccepted }
+    ensures nothing { DoClaimsLeaveNothing }
+{
+    least_tables_are_accepted();
+    accepted_paths_leave_nothing();
+    record_is_lawful();
 }

@@ -1,5 +1,4 @@
-use Rattle.std.proofs.Common.{◌≡◌, sym}
-use Rattle.wot_policy.specs.Kept.{rows_of}
+use Rattle.std.proofs.Common.{sym}
 use Rattle.wot_certd.specs.World.{Answer}
 use Rattle.wot_engine.proofs.Refusing.{if_ok}
 use Rattle.wot_engine.proofs.Running.{asked_so, world_so}

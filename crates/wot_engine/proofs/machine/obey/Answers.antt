@@ -1,4 +1,3 @@
-use Rattle.wot_policy.specs.Kept.{rows_of}
 use Rattle.wot_engine.proofs.machine.obey.Goals as goal
 
 pub returns-in-Load-clause-ran : goal.returns-in-Load-clause-ran
