@@ -1,12 +1,9 @@
 ghost use Rattle.wot_policy.specs.Kept.{IsFaithful};
 
+use crate::certificates::{assembled, judged};
 use std::alloc::Global;
 use std::cell::Cell;
-use std::test::Fail;
-use wot_cert::{
-    Adds, Assembled, Cert, CertFault, MergeFault, Part, Span, assemble, issuer_of, span,
-};
-use wot_packet::read_packets;
+use wot_cert::{Adds, Assembled, Cert, CertFault, MergeFault, Part, Sig, Span, issuer_of, span};
 use wot_policy::{Ask, Policy, admits, standard_rows};
 use wot_sample::Packet::{self, Other, Signature, SignatureByHash, UserId};
 use wot_sample::Says::{Lasts, Made, Subpacket, Trust};
@@ -17,20 +14,6 @@ use wot_sample::{
 use wot_types::{Fpr, SigNumber};
 use wot_verdict::{Verdict, Verdicts};
 
-/// The certificates of a text whose packets are read.
-fn assembled(alloc: Global, text: &[u8]) -> Result<Assembled, CertFault> {
-    match read_packets(alloc, text) {
-        Ok(packets) => {
-            if packets.len() < 1 << 28 {
-                assemble(alloc, &packets)
-            } else {
-                Err(CertFault::Memory)
-            }
-        }
-        Err(_) => Err(CertFault::Memory),
-    }
-}
-
 /// The certificates of these packets.
 fn of_packets(alloc: Global, packets: &[Packet]) -> Option<Assembled> {
     let text = wot_sample::text(alloc, packets)?;
@@ -38,7 +21,7 @@ fn of_packets(alloc: Global, packets: &[Packet]) -> Option<Assembled> {
 }
 
 /// Packets, and how many certificates and skipped keys they give, or the first fault in the order of the packets.
-const OUTCOMES: [(&[Packet], Result<(usize, u64), CertFault>); 29] = [
+static OUTCOMES: [(&[Packet], Result<(usize, u64), CertFault>); 29] = [
     (&[KEY_R, KEY_A], Ok((2, 0))),
     (
         &[KEY_R, KEY_A, Other(8, b"\x00")],
@@ -118,7 +101,8 @@ const OUTCOMES: [(&[Packet], Result<(usize, u64), CertFault>); 29] = [
 
 /// Keys and a trust packet, with lengths in the legacy format; the second key isn't of version 4.
 const LEGACY: &[u8] =
-    b"\x98\x07\x04\x00\x00\x03\xe8\x1b\x01\xb0\x02\x00\x00\x98\x06\x03\x00\x00\x03\xe8\x01\x98\x07\x04\x00\x00\x03\xe8\x1b\x02";
+    b"\x98\x07\x04\x00\x00\x03\xe8\x1b\x01\xb0\x02\x00\x00\x98\x06\x03\x00\x00\x03\xe8\x01\x98\x07\x04\x00\x00\x03\
+      \xe8\x1b\x02";
 
 fn outcome(alloc: Global, text: &[u8]) -> Result<(usize, u64), CertFault> {
     match assembled(alloc, text) {
@@ -127,18 +111,26 @@ fn outcome(alloc: Global, text: &[u8]) -> Result<(usize, u64), CertFault> {
     }
 }
 
-#[test]
-fn first_faults_and_skipped_keys(rt: HostRuntime) -> Result<(), Fail> {
-    for (packets, expected) in OUTCOMES {
-        let text = wot_sample::text(rt.alloc(), packets).ok_or("memory")?;
-        assert_eq!(rt; outcome(rt.alloc(), &text), expected, "{text:?}");
+/// Whether packets are assembled so.
+fn comes_to(alloc: Global, packets: &[Packet], expected: Result<(usize, u64), CertFault>) -> bool {
+    match wot_sample::text(alloc, packets) {
+        Some(text) => outcome(alloc, &text) == expected,
+        None => false,
     }
-    assert_eq!(rt; outcome(rt.alloc(), LEGACY), Ok((2, 1)));
-    Ok(())
+}
+
+#[test]
+fn first_faults_and_skipped_keys(rt: HostRuntime) {
+    let mut number = 0u32;
+    for (packets, expected) in &OUTCOMES {
+        assert!(rt; comes_to(rt.alloc(), packets, *expected), "row {number}");
+        number = number.wrapping_add(1);
+    }
+    assert!(rt; outcome(rt.alloc(), LEGACY) == Ok((2, 1)));
 }
 
 /// Packets, and those of the first certificate of each: in order, without doubles.
-const TEXTS: [(&[Packet], &[Packet]); 6] = [
+static TEXTS: [(&[Packet], &[Packet]); 6] = [
     // Signatures in every place, among markers, padding and what is dropped, with doubles and a user ID that comes
     // twice.
     (
@@ -283,13 +275,21 @@ const TEXTS: [(&[Packet], &[Packet]); 6] = [
 ];
 
 /// Texts, and the text of the first certificate of each, in the shortest spelling.
-const SPELLED: [(&[u8], &[u8]); 2] = [
+static SPELLED: [(&[u8], &[u8]); 2] = [
     // Lengths in the legacy format.
     (LEGACY, b"\xc6\x07\x04\x00\x00\x03\xe8\x1b\x01"),
     // User IDs of 191 and of 192 octets.
     (
-        b"\xc6\x07\x04\x00\x00\x03\xe8\x1b\x01\xcd\xc0\x00uuuuuuuuuuuuuuuuuuuuuuuuuuuuuuuuuuuuuuuuuuuuuuuuuuuuuuuuuuuuuuuuuuuuuuuuuuuuuuuuuuuuuuuuuuuuuuuuuuuuuuuuuuuuuuuuuuuuuuuuuuuuuuuuuuuuuuuuuuuuuuuuuuuuuuuuuuuuuuuuuuuuuuuuuuuuuuuuuuuuuuuuuuuuuuuu\xcd\xbfuuuuuuuuuuuuuuuuuuuuuuuuuuuuuuuuuuuuuuuuuuuuuuuuuuuuuuuuuuuuuuuuuuuuuuuuuuuuuuuuuuuuuuuuuuuuuuuuuuuuuuuuuuuuuuuuuuuuuuuuuuuuuuuuuuuuuuuuuuuuuuuuuuuuuuuuuuuuuuuuuuuuuuuuuuuuuuuuuuuuuuuuuuuuuuu",
-        b"\xc6\x07\x04\x00\x00\x03\xe8\x1b\x01\xcd\xbfuuuuuuuuuuuuuuuuuuuuuuuuuuuuuuuuuuuuuuuuuuuuuuuuuuuuuuuuuuuuuuuuuuuuuuuuuuuuuuuuuuuuuuuuuuuuuuuuuuuuuuuuuuuuuuuuuuuuuuuuuuuuuuuuuuuuuuuuuuuuuuuuuuuuuuuuuuuuuuuuuuuuuuuuuuuuuuuuuuuuuuuuuuuuuuu\xcd\xc0\x00uuuuuuuuuuuuuuuuuuuuuuuuuuuuuuuuuuuuuuuuuuuuuuuuuuuuuuuuuuuuuuuuuuuuuuuuuuuuuuuuuuuuuuuuuuuuuuuuuuuuuuuuuuuuuuuuuuuuuuuuuuuuuuuuuuuuuuuuuuuuuuuuuuuuuuuuuuuuuuuuuuuuuuuuuuuuuuuuuuuuuuuuuuuuuuuu",
+        b"\xc6\x07\x04\x00\x00\x03\xe8\x1b\x01\xcd\xc0\x00uuuuuuuuuuuuuuuuuuuuuuuuuuuuuuuuuuuuuuuuuuuuuuuuuuuuuuuuuu\
+          uuuuuuuuuuuuuuuuuuuuuuuuuuuuuuuuuuuuuuuuuuuuuuuuuuuuuuuuuuuuuuuuuuuuuuuuuuuuuuuuuuuuuuuuuuuuuuuuuuuuuuuuuu\
+          uuuuuuuuuuuuuuuuuuuuuuuuuuuu\xcd\xbfuuuuuuuuuuuuuuuuuuuuuuuuuuuuuuuuuuuuuuuuuuuuuuuuuuuuuuuuuuuuuuuuuuuuuu\
+          uuuuuuuuuuuuuuuuuuuuuuuuuuuuuuuuuuuuuuuuuuuuuuuuuuuuuuuuuuuuuuuuuuuuuuuuuuuuuuuuuuuuuuuuuuuuuuuuuuuuuuuuuu\
+          uuuuuuuuuuuuuuu",
+        b"\xc6\x07\x04\x00\x00\x03\xe8\x1b\x01\xcd\xbfuuuuuuuuuuuuuuuuuuuuuuuuuuuuuuuuuuuuuuuuuuuuuuuuuuuuuuuuuuuuuu\
+          uuuuuuuuuuuuuuuuuuuuuuuuuuuuuuuuuuuuuuuuuuuuuuuuuuuuuuuuuuuuuuuuuuuuuuuuuuuuuuuuuuuuuuuuuuuuuuuuuuuuuuuuuu\
+          uuuuuuuuuuuuuuuuuuuuuuu\xcd\xc0\x00uuuuuuuuuuuuuuuuuuuuuuuuuuuuuuuuuuuuuuuuuuuuuuuuuuuuuuuuuuuuuuuuuuuuuuu\
+          uuuuuuuuuuuuuuuuuuuuuuuuuuuuuuuuuuuuuuuuuuuuuuuuuuuuuuuuuuuuuuuuuuuuuuuuuuuuuuuuuuuuuuuuuuuuuuuuuuuuuuuuuu\
+          uuuuuuuuuuuuuuu",
     ),
 ];
 
@@ -303,17 +303,21 @@ fn is_written_so(alloc: Global, text: &[u8], expected: &[u8]) -> Option<bool> {
     Some(out.as_slice() == expected && cert.size() == expected.len() as u64)
 }
 
+/// The same of packets.
+fn are_written_so(alloc: Global, packets: &[Packet], expected: &[Packet]) -> Option<bool> {
+    let text = wot_sample::text(alloc, packets)?;
+    let expected = wot_sample::text(alloc, expected)?;
+    is_written_so(alloc, &text, &expected)
+}
+
 #[test]
-fn texts_in_order(rt: HostRuntime) -> Result<(), Fail> {
-    for (packets, expected) in TEXTS {
-        let text = wot_sample::text(rt.alloc(), packets).ok_or("memory")?;
-        let expected = wot_sample::text(rt.alloc(), expected).ok_or("memory")?;
-        assert_eq!(rt; is_written_so(rt.alloc(), &text, &expected), Some(true));
+fn texts_in_order(rt: HostRuntime) {
+    for (packets, expected) in &TEXTS {
+        assert!(rt; are_written_so(rt.alloc(), packets, expected) == Some(true));
     }
-    for (text, expected) in SPELLED {
-        assert_eq!(rt; is_written_so(rt.alloc(), text, expected), Some(true));
+    for (text, expected) in &SPELLED {
+        assert!(rt; is_written_so(rt.alloc(), text, expected) == Some(true));
     }
-    Ok(())
 }
 
 /// One signature body on a key, and on a user ID, an attribute and a subkey of the same octets.
@@ -352,23 +356,28 @@ fn first_number(parts: &[Part]) -> Option<SigNumber> {
     Some(parts.first()?.sigs().first()?.number())
 }
 
-#[test]
-fn a_number_for_each_place(rt: HostRuntime) -> Result<(), Fail> {
-    let found = of_packets(rt.alloc(), IN_EVERY_PLACE).ok_or("assembled")?;
-    let cert = found.certs.as_slice().first().ok_or("one")?;
+fn numbers_are_told(alloc: Global) -> Option<bool> {
+    let found = of_packets(alloc, IN_EVERY_PLACE)?;
+    let cert = found.certs.as_slice().first()?;
     let [on_key, on_user_id, on_attribute, on_subkey] = NUMBERS;
-    assert_eq!(rt; cert.direct().first().ok_or("direct")?.number(), on_key);
-    assert_eq!(rt; first_number(cert.user_ids()), Some(on_user_id));
-    assert_eq!(rt; first_number(cert.attributes()), Some(on_attribute));
-    assert_eq!(rt; first_number(cert.subkeys()), Some(on_subkey));
-    Ok(())
+    Some(
+        cert.direct().first()?.number() == on_key
+            && first_number(cert.user_ids()) == Some(on_user_id)
+            && first_number(cert.attributes()) == Some(on_attribute)
+            && first_number(cert.subkeys()) == Some(on_subkey),
+    )
+}
+
+#[test]
+fn a_number_for_each_place(rt: HostRuntime) {
+    assert!(rt; numbers_are_told(rt.alloc()) == Some(true));
 }
 
 /// Kind, hash number, time made, depth, amount, and whether it is sound.
 type Facts = Option<(u8, u8, u32, u8, u8, bool)>;
 
 /// Keys with one signature, and what that says.
-const FACTS: [(&[Packet], Facts); 8] = [
+static FACTS: [(&[Packet], Facts); 8] = [
     (
         &[
             KEY_R,
@@ -421,19 +430,20 @@ const FACTS: [(&[Packet], Facts); 8] = [
     (&[KEY_R, Other(SIGNATURE, b"\x03")], None),
 ];
 
-#[test]
-fn facts_of_signatures(rt: HostRuntime) -> Result<(), Fail> {
-    for (packets, expected) in FACTS {
-        let found = of_packets(rt.alloc(), packets).ok_or("assembled")?;
-        let cert = found.certs.as_slice().first().ok_or("one")?;
-        let said = cert.direct().first().ok_or("direct")?.facts();
-        let told = match said {
-            Some(f) => Some((f.kind, f.hash, f.made, f.depth, f.amount, f.sound)),
-            None => None,
-        };
-        assert_eq!(rt; told, expected);
+/// What the first signature on the key of the first certificate says.
+fn facts_of(alloc: Global, packets: &[Packet]) -> Option<Facts> {
+    let found = of_packets(alloc, packets)?;
+    match found.certs.as_slice().first()?.direct().first()?.facts() {
+        Some(f) => Some(Some((f.kind, f.hash, f.made, f.depth, f.amount, f.sound))),
+        None => Some(None),
     }
-    Ok(())
+}
+
+#[test]
+fn facts_of_signatures(rt: HostRuntime) {
+    for (packets, expected) in &FACTS {
+        assert!(rt; facts_of(rt.alloc(), packets) == Some(*expected));
+    }
 }
 
 /// The key R with a direct key signature; T with one and an unsound signature on `t`; T with one of hash number 1
@@ -499,13 +509,13 @@ fn written(alloc: Global, rows: &[Merge]) -> Option<Vec<Written>> {
     Some(all)
 }
 
-const INTO_R: [Merge; 3] = [
+static INTO_R: [Merge; 3] = [
     (R_WITH_DIRECT, Ok(1), 1),
     (R_WITH_DIRECT, Ok(0), 1),
     (OTHER_KEY, Err(MergeFault::Clash), 1),
 ];
 
-const INTO_T: [Merge; 5] = [
+static INTO_T: [Merge; 5] = [
     (T_WITH_UNSOUND, Ok(3), 2),
     (T_WITH_OLD_HASH, Ok(1), 3),
     (T_WITH_UNSOUND, Ok(0), 3),
@@ -535,30 +545,37 @@ fn bare(alloc: Global, key: &[u8]) -> Option<Cert> {
     Cert::bare(alloc, key).ok().flatten()
 }
 
+const R_BODY: &[u8] = b"\x04\x00\x00\x03\xe8\x1b\x01";
+
+const T_BODY: &[u8] = b"\x04\x00\x00\x03\xe8\x1b\x04";
+
+/// Whether these marks are those of an old hash, a new one, and an unsound signature.
+fn are_marked(marks: &[Sig]) -> bool {
+    match marks {
+        [old, new, unsound] => !old.admitted() && new.admitted() && !unsound.admitted(),
+        _ => false,
+    }
+}
+
 #[test]
-fn merging_asks_of_new_sound_signatures(rt: HostRuntime) -> Result<(), Fail> {
+fn merging_asks_of_new_sound_signatures(rt: HostRuntime) {
     let rows = standard_rows();
     let calls = Cell::new(0u64);
     let mut policy = Policy::new(rows, |ask| {
         calls.set(calls.get().wrapping_add(1));
         admits(&rows, ask)
     });
-    let mut r = bare(rt.alloc(), b"\x04\x00\x00\x03\xe8\x1b\x01").ok_or("readable")?;
-    let mut t = bare(rt.alloc(), b"\x04\x00\x00\x03\xe8\x1b\x04").ok_or("readable")?;
-    let into_r = written(rt.alloc(), &INTO_R).ok_or("memory")?;
-    let into_t = written(rt.alloc(), &INTO_T).ok_or("memory")?;
+    let mut r = bare(rt.alloc(), R_BODY).expect(&rt, "R");
+    let mut t = bare(rt.alloc(), T_BODY).expect(&rt, "T");
+    let into_r = written(rt.alloc(), &INTO_R).expect(&rt, "memory");
+    let into_t = written(rt.alloc(), &INTO_T).expect(&rt, "memory");
     assert!(rt; merges(rt.alloc(), &mut r, &mut policy, &into_r));
     assert!(rt; merges(rt.alloc(), &mut t, &mut policy, &into_t));
-    assert_eq!(rt; (policy.asked(), calls.get()), (4, 4));
-    let marks = t.user_ids().first().ok_or("user ID")?.sigs();
-    let [old, new, unsound] = marks else {
-        return Err("three".into());
-    };
-    assert_eq!(rt;
-        (old.admitted(), new.admitted(), unsound.admitted()),
-        (false, true, false)
-    );
-    Ok(())
+    assert!(rt; policy.asked() == 4 && calls.get() == 4);
+    match t.user_ids() {
+        [uid] => assert!(rt; are_marked(uid.sigs())),
+        _ => assert!(rt; false),
+    }
 }
 
 /// The text of a certificate.
@@ -571,15 +588,17 @@ fn text_of(alloc: Global, cert: &Cert) -> Option<Vec<u8>> {
 /// The key R and nothing else.
 const KEY_ALONE: &[u8] = b"\xc6\x07\x04\x00\x00\x03\xe8\x1b\x01";
 
+fn clash(alloc: Global) -> Option<bool> {
+    let mut r = bare(alloc, R_BODY)?;
+    let mut t = bare(alloc, T_BODY)?;
+    let clashes = r.unite(alloc, &t) == Err(MergeFault::Clash);
+    let both = clashes && t.unite(alloc, &r) == Err(MergeFault::Clash);
+    Some(both && text_of(alloc, &r)?.as_slice() == KEY_ALONE)
+}
+
 #[test]
-fn other_keys_clash(rt: HostRuntime) -> Result<(), Fail> {
-    let mut r = bare(rt.alloc(), b"\x04\x00\x00\x03\xe8\x1b\x01").ok_or("readable")?;
-    let mut t = bare(rt.alloc(), b"\x04\x00\x00\x03\xe8\x1b\x04").ok_or("readable")?;
-    assert_eq!(rt; r.unite(rt.alloc(), &t), Err(MergeFault::Clash));
-    assert_eq!(rt; t.unite(rt.alloc(), &r), Err(MergeFault::Clash));
-    let text = text_of(rt.alloc(), &r).ok_or("memory")?;
-    assert_eq!(rt; text.as_slice(), KEY_ALONE);
-    Ok(())
+fn other_keys_clash(rt: HostRuntime) {
+    assert!(rt; clash(rt.alloc()) == Some(true));
 }
 
 /// What the union of the first certificates of two lists of packets would add to the first.
@@ -595,15 +614,13 @@ fn adds_of(alloc: Global, packets: &[Packet], more: &[Packet]) -> Option<Adds> {
 }
 
 #[test]
-fn what_a_union_adds(rt: HostRuntime) -> Result<(), Fail> {
-    let found = adds_of(rt.alloc(), T_WITH_UNSOUND, T_WITH_BOTH_HASHES);
+fn what_a_union_adds(rt: HostRuntime) {
     let expected = Adds {
         items: 2,
         signatures: 2,
         octets: 36,
     };
-    assert_eq!(rt; found, Some(expected));
-    Ok(())
+    assert!(rt; adds_of(rt.alloc(), T_WITH_UNSOUND, T_WITH_BOTH_HASHES) == Some(expected));
 }
 
 /// A key made at 1000 with a direct key signature, and on `t` a signature made at 2000 and one made at 3000 that
@@ -616,40 +633,49 @@ const WITH_TIMES: &[Packet] = &[
     Signature(CERTIFICATION, &[Made(3000), Lasts(100), Trust(0, 120)]),
 ];
 
-#[test]
-fn spans(rt: HostRuntime) -> Result<(), Fail> {
-    let found = of_packets(rt.alloc(), WITH_TIMES).ok_or("assembled")?;
-    let cert = found.certs.as_slice().first().ok_or("one")?;
-    for (t, from, to) in [
-        (999, 0, 999),
-        (2500, 2000, 2999),
-        (3050, 3000, 3099),
-        (5000, 3100, 4294967295),
-    ] {
-        assert_eq!(rt; span(cert, t), Span { from, to });
-    }
-    Ok(())
+/// A time, and the ends of its span.
+static TIMES: [(u32, u32, u32); 4] = [
+    (999, 0, 999),
+    (2500, 2000, 2999),
+    (3050, 3000, 3099),
+    (5000, 3100, 4294967295),
+];
+
+fn span_at(alloc: Global, t: u32) -> Option<Span> {
+    let found = of_packets(alloc, WITH_TIMES)?;
+    Some(span(found.certs.as_slice().first()?, t))
 }
 
 #[test]
-fn issuers(rt: HostRuntime) -> Result<(), Fail> {
-    let rows = standard_rows();
-    let mut policy = Policy::new(rows, |ask| admits(&rows, ask));
-    let mut judged = bare(rt.alloc(), b"\x04\x00\x00\x03\xe8\x1b\x01").ok_or("readable")?;
-    let direct = wot_sample::text(rt.alloc(), R_WITH_DIRECT).ok_or("memory")?;
-    assert_eq!(rt;
-        merge_text(rt.alloc(), &mut judged, &direct, &mut policy),
-        Ok(1)
-    );
-    let fpr = Fpr::V4([7; 20]);
-    let sig = judged.direct().first().ok_or("direct")?;
-    let mut verdicts = Verdicts::new(rt.alloc());
-    assert_eq!(rt; issuer_of(sig, &verdicts), None);
-    assert!(rt; verdicts.set(sig.number(), Verdict::Good(fpr)).is_ok());
-    assert_eq!(rt; issuer_of(sig, &verdicts), Some(fpr));
-    let other = bare(rt.alloc(), b"\x04\x00\x00\x03\xe8\x1b\x01").ok_or("readable")?;
-    assert_eq!(rt; judged.unite(rt.alloc(), &other), Ok(()));
-    let unjudged = judged.direct().first().ok_or("direct")?;
-    assert_eq!(rt; issuer_of(unjudged, &verdicts), None);
-    Ok(())
+fn spans(rt: HostRuntime) {
+    for (t, from, to) in &TIMES {
+        let expected = Span {
+            from: *from,
+            to: *to,
+        };
+        assert!(rt; span_at(rt.alloc(), *t) == Some(expected), "at {t}");
+    }
+}
+
+fn issuer_on_key(cert: &Cert, verdicts: &Verdicts) -> Option<Fpr> {
+    issuer_of(cert.direct().first()?, verdicts)
+}
+
+/// There is an issuer once there is a verdict, and none once the signature's mark is gone.
+fn issuers_are_told(alloc: Global) -> Option<bool> {
+    let mut judged = judged(alloc, R_WITH_DIRECT)?;
+    let mut verdicts = Verdicts::new(alloc);
+    let before = issuer_on_key(&judged, &verdicts);
+    let number = judged.direct().first()?.number();
+    verdicts.set(number, Verdict::Good(Fpr::V4([7; 20]))).ok()?;
+    let good = issuer_on_key(&judged, &verdicts);
+    judged.unite(alloc, &bare(alloc, R_BODY)?).ok()?;
+    let unmarked = issuer_on_key(&judged, &verdicts);
+    let same = judged.direct().first()?.number() == number;
+    Some(before.is_none() && good == Some(Fpr::V4([7; 20])) && unmarked.is_none() && same)
+}
+
+#[test]
+fn issuers(rt: HostRuntime) {
+    assert!(rt; issuers_are_told(rt.alloc()) == Some(true));
 }

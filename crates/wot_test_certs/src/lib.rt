@@ -4,6 +4,8 @@
 #[cfg(test)]
 mod cert;
 #[cfg(test)]
+mod certificates;
+#[cfg(test)]
 mod live;
 #[cfg(test)]
 mod network;

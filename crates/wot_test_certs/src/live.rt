@@ -1,68 +1,16 @@
+use crate::certificates::{good, judged};
 use std::alloc::Global;
-use std::test::Fail;
-use wot_cert::{Assembled, Cert, Sig, Span, assemble};
-use wot_edge::Edge;
+use wot_cert::{Cert, Span};
+use wot_edge::{Edge, EdgeFacts};
 use wot_live::{Rows, rows};
-use wot_packet::read_packets;
-use wot_policy::{Policy, admits, standard_rows};
 use wot_sample::Packet::{self, Signature, SignatureByHash, UserId};
 use wot_sample::Says::{By, Final, Lasts, Made, Scope, Trust};
 use wot_sample::{
     A, CERTIFICATION, CERTIFICATION_REVOCATION, DIRECT, KEY_T, OWN_USER_IDS_REVOKED, POSITIVE, R,
     SEVERAL_ISSUERS, SPANS, T,
 };
-use wot_types::{Fpr, Steps};
-use wot_verdict::{Verdict, Verdicts};
-
-fn assembled(alloc: Global, text: &[u8]) -> Option<Assembled> {
-    match read_packets(alloc, text) {
-        Ok(packets) => {
-            if packets.len() < 1 << 28 {
-                assemble(alloc, &packets).ok()
-            } else {
-                None
-            }
-        }
-        Err(_) => None,
-    }
-}
-
-/// The first certificate of a few packets, judged by the standard rows.
-fn judged(alloc: Global, packets: &[Packet]) -> Option<Cert> {
-    let text = wot_sample::text(alloc, packets)?;
-    let found = assembled(alloc, &text)?;
-    let first = found.certs.as_slice().first()?;
-    let mut cert = Cert::bare(alloc, first.body()).ok().flatten()?;
-    if cert.size() >= 1000 || first.size() >= 1000 {
-        return None;
-    }
-    let rows = standard_rows();
-    let mut policy = Policy::new(rows, |ask| admits(&rows, ask));
-    match cert.merge(alloc, first, &mut policy) {
-        Ok(_) => Some(cert),
-        Err(_) => None,
-    }
-}
-
-/// Says that each of these is good by the issuer that it names, or else by this one.
-fn say_good(verdicts: &mut Verdicts, sigs: &[Sig], own: Fpr) -> Option<()> {
-    for sig in sigs {
-        let issuer = sig.facts()?.issuer.unwrap_or(own);
-        if verdicts.set(sig.number(), Verdict::Good(issuer)).is_err() {
-            return None;
-        }
-    }
-    Some(())
-}
-
-fn good(alloc: Global, cert: &Cert) -> Option<Verdicts> {
-    let mut verdicts = Verdicts::new(alloc);
-    say_good(&mut verdicts, cert.direct(), cert.fpr())?;
-    for uid in cert.user_ids() {
-        say_good(&mut verdicts, uid.sigs(), cert.fpr())?;
-    }
-    Some(verdicts)
-}
+use wot_types::Steps;
+use wot_verdict::Verdicts;
 
 fn rows_at(
     alloc: Global,
@@ -77,54 +25,37 @@ fn rows_at(
     rows(alloc, cert, verdicts, t, steps).ok()
 }
 
-/// Whose fingerprint it is.
-fn letter(fpr: Fpr) -> u8 {
-    let Fpr::V4(octets) = fpr;
-    match octets[0] {
-        0x7f => b'R',
-        0x35 => b'A',
-        0x3c => b'T',
-        _ => b'?',
+/// Whether these edges say so, in order.
+fn say(edges: &[Edge], expected: &[EdgeFacts]) -> bool {
+    if edges.len() != expected.len() {
+        return false;
     }
-}
-
-/// An edge into T: its issuer, the places of the user ID and of the signature, when it was made, its depth and
-/// amount, and whether its scope is limited.
-type Row = (u8, u32, u32, u32, u8, u8, bool);
-
-fn shown(edge: &Edge) -> Row {
-    let facts = edge.facts();
-    let issuer = if letter(facts.target) == b'T' {
-        letter(facts.issuer)
-    } else {
-        b'?'
-    };
-    (
-        issuer,
-        facts.uid,
-        facts.sig,
-        facts.made,
-        facts.depth,
-        facts.amount,
-        facts.scoped,
-    )
-}
-
-fn all_shown(alloc: Global, edges: &[Edge]) -> Option<Vec<Row>> {
-    let mut all = Vec::new(alloc);
-    for edge in edges {
-        all.push(shown(edge)).ok()?;
+    for (edge, facts) in edges.iter().zip(expected) {
+        if edge.facts() != *facts {
+            return false;
+        }
     }
-    Some(all)
+    true
 }
 
-/// What a certificate is, its packets, a time, the edges into it then, the places of the user IDs that its own key
-/// revoked, and the span of that time.
+/// An edge from R to the first user ID of T, as its first signature there says without trust.
+const PLAIN: EdgeFacts = EdgeFacts {
+    issuer: R,
+    target: T,
+    uid: 0,
+    sig: 0,
+    made: 2000,
+    depth: 0,
+    amount: 120,
+    scoped: false,
+};
+
+/// Packets, a time, the edges into their certificate then, the places of the user IDs that its own key revoked, and the
+/// span of that time.
 type Case = (
-    &'static str,
     &'static [Packet],
     u32,
-    &'static [Row],
+    &'static [EdgeFacts],
     &'static [u32],
     (u32, u32),
 );
@@ -208,211 +139,230 @@ const TWO_OF_ONE_MOMENT: &[Packet] = &[
     Signature(CERTIFICATION, &[Made(2000), Trust(3, 30), By(R)]),
 ];
 
-const CASES: [Case; 21] = [
+static CASES: [Case; 21] = [
+    (SPANS, 999, &[], &[], (0, 999)),
+    (SPANS, 1999, &[], &[], (1000, 1999)),
     (
-        "the certificate of the table of spans",
-        SPANS,
-        999,
-        &[],
-        &[],
-        (0, 999),
-    ),
-    (
-        "the certificate of the table of spans",
-        SPANS,
-        1999,
-        &[],
-        &[],
-        (1000, 1999),
-    ),
-    (
-        "the certificate of the table of spans",
         SPANS,
         2500,
-        &[(b'R', 0, 0, 2000, 0, 60, false)],
+        &[EdgeFacts {
+            amount: 60,
+            ..PLAIN
+        }],
         &[],
         (2000, 2999),
     ),
     (
-        "the certificate of the table of spans",
         SPANS,
         3050,
-        &[(b'R', 0, 1, 3000, 0, 120, false)],
+        &[EdgeFacts {
+            sig: 1,
+            made: 3000,
+            ..PLAIN
+        }],
         &[],
         (3000, 3099),
     ),
     (
-        "the certificate of the table of spans",
         SPANS,
         3099,
-        &[(b'R', 0, 1, 3000, 0, 120, false)],
+        &[EdgeFacts {
+            sig: 1,
+            made: 3000,
+            ..PLAIN
+        }],
         &[],
         (3000, 3099),
     ),
     (
-        "the certificate of the table of spans",
         SPANS,
         3100,
-        &[(b'R', 0, 0, 2000, 0, 60, false)],
+        &[EdgeFacts {
+            amount: 60,
+            ..PLAIN
+        }],
         &[],
         (3100, 4294967295),
     ),
     (
-        "the certificate of the table of spans",
         SPANS,
         5000,
-        &[(b'R', 0, 0, 2000, 0, 60, false)],
+        &[EdgeFacts {
+            amount: 60,
+            ..PLAIN
+        }],
         &[],
         (3100, 4294967295),
     ),
+    (REVOKED_AT_ONCE, 5000, &[], &[], (2000, 4294967295)),
+    (REVOKED_BEFORE, 5000, &[PLAIN], &[], (2000, 4294967295)),
+    (REVOCATION_EXPIRED, 2550, &[], &[], (2500, 2599)),
+    (REVOCATION_EXPIRED, 2600, &[PLAIN], &[], (2600, 4294967295)),
+    (NOT_REVOCABLE, 5000, &[PLAIN], &[], (2500, 4294967295)),
+    (REVOKED_BY_ANOTHER, 5000, &[PLAIN], &[], (2500, 4294967295)),
+    (HASH_NOT_ADMITTED, 5000, &[], &[], (2000, 4294967295)),
     (
-        "revoked by its issuer at the same moment",
-        REVOKED_AT_ONCE,
-        5000,
-        &[],
-        &[],
-        (2000, 4294967295),
-    ),
-    (
-        "revoked before it was made",
-        REVOKED_BEFORE,
-        5000,
-        &[(b'R', 0, 0, 2000, 0, 120, false)],
-        &[],
-        (2000, 4294967295),
-    ),
-    (
-        "revoked by a revocation that expired",
-        REVOCATION_EXPIRED,
-        2550,
-        &[],
-        &[],
-        (2500, 2599),
-    ),
-    (
-        "revoked by a revocation that expired",
-        REVOCATION_EXPIRED,
-        2600,
-        &[(b'R', 0, 0, 2000, 0, 120, false)],
-        &[],
-        (2600, 4294967295),
-    ),
-    (
-        "not revocable",
-        NOT_REVOCABLE,
-        5000,
-        &[(b'R', 0, 0, 2000, 0, 120, false)],
-        &[],
-        (2500, 4294967295),
-    ),
-    (
-        "revoked by another",
-        REVOKED_BY_ANOTHER,
-        5000,
-        &[(b'R', 0, 0, 2000, 0, 120, false)],
-        &[],
-        (2500, 4294967295),
-    ),
-    (
-        "by a hash that isn't admitted",
-        HASH_NOT_ADMITTED,
-        5000,
-        &[],
-        &[],
-        (2000, 4294967295),
-    ),
-    (
-        "a self-certification with trust and a pattern",
         TRUST_IN_ITSELF,
         5000,
-        &[(b'T', 0, 0, 2000, 0, 120, false)],
+        &[EdgeFacts { issuer: T, ..PLAIN }],
         &[],
         (2000, 4294967295),
     ),
     (
-        "issuers of several user IDs",
         SEVERAL_ISSUERS,
         2460,
         &[
-            (b'A', 0, 1, 2300, 0, 120, false),
-            (b'A', 1, 1, 2200, 255, 1, true),
-            (b'T', 1, 2, 2100, 0, 120, false),
-            (b'R', 1, 0, 2000, 1, 60, false),
+            EdgeFacts {
+                issuer: A,
+                sig: 1,
+                made: 2300,
+                ..PLAIN
+            },
+            EdgeFacts {
+                issuer: A,
+                uid: 1,
+                sig: 1,
+                made: 2200,
+                depth: 255,
+                amount: 1,
+                scoped: true,
+                ..PLAIN
+            },
+            EdgeFacts {
+                issuer: T,
+                uid: 1,
+                sig: 2,
+                made: 2100,
+                ..PLAIN
+            },
+            EdgeFacts {
+                uid: 1,
+                depth: 1,
+                amount: 60,
+                ..PLAIN
+            },
         ],
         &[],
         (2450, 2499),
     ),
     (
-        "issuers of several user IDs",
         SEVERAL_ISSUERS,
         5000,
         &[
-            (b'A', 0, 1, 2300, 0, 120, false),
-            (b'A', 1, 1, 2200, 255, 1, true),
-            (b'T', 1, 2, 2100, 0, 120, false),
-            (b'R', 0, 2, 2500, 0, 30, false),
-            (b'R', 1, 0, 2000, 1, 60, false),
+            EdgeFacts {
+                issuer: A,
+                sig: 1,
+                made: 2300,
+                ..PLAIN
+            },
+            EdgeFacts {
+                issuer: A,
+                uid: 1,
+                sig: 1,
+                made: 2200,
+                depth: 255,
+                amount: 1,
+                scoped: true,
+                ..PLAIN
+            },
+            EdgeFacts {
+                issuer: T,
+                uid: 1,
+                sig: 2,
+                made: 2100,
+                ..PLAIN
+            },
+            EdgeFacts {
+                sig: 2,
+                made: 2500,
+                amount: 30,
+                ..PLAIN
+            },
+            EdgeFacts {
+                uid: 1,
+                depth: 1,
+                amount: 60,
+                ..PLAIN
+            },
         ],
         &[],
         (2500, 4294967295),
     ),
     (
-        "user IDs that their own key revoked",
         OWN_USER_IDS_REVOKED,
         2400,
         &[
-            (b'T', 0, 0, 2000, 0, 120, false),
-            (b'T', 1, 0, 2000, 0, 120, false),
-            (b'R', 2, 0, 2000, 0, 120, false),
+            EdgeFacts { issuer: T, ..PLAIN },
+            EdgeFacts {
+                issuer: T,
+                uid: 1,
+                ..PLAIN
+            },
+            EdgeFacts { uid: 2, ..PLAIN },
         ],
         &[],
         (2000, 2499),
     ),
     (
-        "user IDs that their own key revoked",
         OWN_USER_IDS_REVOKED,
         2600,
-        &[(b'R', 2, 0, 2000, 0, 120, false)],
+        &[EdgeFacts { uid: 2, ..PLAIN }],
         &[0, 1, 2],
         (2500, 2999),
     ),
     (
-        "user IDs that their own key revoked",
         OWN_USER_IDS_REVOKED,
         5000,
         &[
-            (b'T', 1, 1, 3000, 0, 120, false),
-            (b'R', 2, 0, 2000, 0, 120, false),
+            EdgeFacts {
+                issuer: T,
+                uid: 1,
+                sig: 1,
+                made: 3000,
+                ..PLAIN
+            },
+            EdgeFacts { uid: 2, ..PLAIN },
         ],
         &[0, 2],
         (3000, 4294967295),
     ),
     (
-        "two of one moment",
         TWO_OF_ONE_MOMENT,
         5000,
-        &[(b'R', 0, 0, 2000, 1, 10, false)],
+        &[EdgeFacts {
+            depth: 1,
+            amount: 10,
+            ..PLAIN
+        }],
         &[],
         (2000, 4294967295),
     ),
 ];
 
+/// Whether that is what is told of a certificate at a time.
+fn is_told(alloc: Global, case: &Case) -> Option<bool> {
+    let (packets, t, edges, revoked, (from, to)) = *case;
+    let cert = judged(alloc, packets)?;
+    let verdicts = good(alloc, &cert)?;
+    let mut steps = Steps::new();
+    let (found, span) = rows_at(alloc, &cert, &verdicts, t, &mut steps)?;
+    Some(
+        say(&found.edges, edges)
+            && found.revoked.as_slice() == revoked
+            && span == Span { from, to }
+            && steps.made == edges.len() as u64,
+    )
+}
+
 #[test]
-fn rows_and_spans(rt: HostRuntime) -> Result<(), Fail> {
-    for (what, packets, t, edges, revoked, (from, to)) in CASES {
-        let cert = judged(rt.alloc(), packets).ok_or("judged")?;
-        let verdicts = good(rt.alloc(), &cert).ok_or("verdicts")?;
-        let mut steps = Steps::new();
-        let (found, span) = rows_at(rt.alloc(), &cert, &verdicts, t, &mut steps).ok_or("rows")?;
-        let found_edges = all_shown(rt.alloc(), &found.edges).ok_or("edges")?;
-        assert_eq!(rt; found_edges.as_slice(), edges, "edges of {what} at {t}");
-        assert_eq!(rt;
-            found.revoked.as_slice(),
-            revoked,
-            "user IDs of {what} at {t}"
+fn rows_and_spans(rt: HostRuntime) {
+    let mut number = 0u32;
+    for case in &CASES {
+        assert!(rt;
+            is_told(rt.alloc(), case) == Some(true),
+            "case {number} at {}",
+            case.1
         );
-        assert_eq!(rt; span, Span { from, to }, "span of {what} at {t}");
-        assert_eq!(rt; steps.made, edges.len() as u64, "made for {what} at {t}");
+        number = number.wrapping_add(1);
     }
-    Ok(())
 }

@@ -1,8 +1,6 @@
+use crate::certificates::{good, judged};
 use std::alloc::Global;
-use std::test::Fail;
-use wot_cert::{Assembled, Cert, Part, Sig, Span, assemble};
-use wot_packet::read_packets;
-use wot_policy::{Policy, admits, standard_rows};
+use wot_cert::{Part, Span};
 use wot_sample::Packet::{self, Signature, UserId};
 use wot_sample::Says::{By, Final, KeyLasts, Lasts, Made, Primary, Reason};
 use wot_sample::{
@@ -12,63 +10,11 @@ use wot_sample::{
 use wot_standing::{
     Certifiers, Standing, is_key_in_order, is_own_revoked, is_usable, standing, steady_span,
 };
-use wot_types::Fpr;
-use wot_verdict::{Verdict, Verdicts};
+use wot_verdict::Verdicts;
 
-fn assembled(alloc: Global, text: &[u8]) -> Option<Assembled> {
-    match read_packets(alloc, text) {
-        Ok(packets) => {
-            if packets.len() < 1 << 28 {
-                assemble(alloc, &packets).ok()
-            } else {
-                None
-            }
-        }
-        Err(_) => None,
-    }
-}
-
-/// The first certificate of a few packets, judged by the standard rows.
-fn judged(alloc: Global, packets: &[Packet]) -> Option<Cert> {
-    let text = wot_sample::text(alloc, packets)?;
-    let found = assembled(alloc, &text)?;
-    let first = found.certs.as_slice().first()?;
-    let mut cert = Cert::bare(alloc, first.body()).ok().flatten()?;
-    if cert.size() >= 1000 || first.size() >= 1000 {
-        return None;
-    }
-    let rows = standard_rows();
-    let mut policy = Policy::new(rows, |ask| admits(&rows, ask));
-    match cert.merge(alloc, first, &mut policy) {
-        Ok(_) => Some(cert),
-        Err(_) => None,
-    }
-}
-
-/// Says that each of these is good by the issuer that it names, or else by this one.
-fn say_good(verdicts: &mut Verdicts, sigs: &[Sig], own: Fpr) -> Option<()> {
-    for sig in sigs {
-        let issuer = sig.facts()?.issuer.unwrap_or(own);
-        if verdicts.set(sig.number(), Verdict::Good(issuer)).is_err() {
-            return None;
-        }
-    }
-    Some(())
-}
-
-fn good(alloc: Global, cert: &Cert) -> Option<Verdicts> {
-    let mut verdicts = Verdicts::new(alloc);
-    say_good(&mut verdicts, cert.direct(), cert.fpr())?;
-    for uid in cert.user_ids() {
-        say_good(&mut verdicts, uid.sigs(), cert.fpr())?;
-    }
-    Some(verdicts)
-}
-
-/// What a certificate is, its packets, a time, and the standing that it has then: whether it has one, its end,
-/// whether it is hard revoked, its soft moment; and the span of that time.
+/// Packets, a time, and the standing that they have then: whether there is one, its end, whether it is hard revoked,
+/// its soft moment; and the span of that time.
 type Case = (
-    &'static str,
     &'static [Packet],
     u32,
     (bool, Option<u64>, bool, Option<u32>),
@@ -182,163 +128,105 @@ const REVOKED_BY_ANOTHER: &[Packet] = &[
     Signature(CERTIFICATION_REVOCATION, &[Made(2000), By(R)]),
 ];
 
-const CASES: [Case; 23] = [
+static CASES: [Case; 23] = [
+    (SPANS, 999, (false, None, false, None), (0, 999)),
+    (SPANS, 2500, (true, None, false, None), (2000, 2999)),
+    (SPANS, 3050, (true, None, false, None), (3000, 3099)),
+    (SPANS, 5000, (true, None, false, None), (3100, 4294967295)),
     (
-        "the certificate of the table of spans",
-        SPANS,
-        999,
-        (false, None, false, None),
-        (0, 999),
-    ),
-    (
-        "the certificate of the table of spans",
-        SPANS,
-        2500,
-        (true, None, false, None),
-        (2000, 2999),
-    ),
-    (
-        "the certificate of the table of spans",
-        SPANS,
-        3050,
-        (true, None, false, None),
-        (3000, 3099),
-    ),
-    (
-        "the certificate of the table of spans",
-        SPANS,
-        5000,
-        (true, None, false, None),
-        (3100, 4294967295),
-    ),
-    (
-        "retired at 2001",
         RETIRED,
         5000,
         (true, None, false, Some(2001)),
         (2001, 4294967295),
     ),
+    (RETIRED, 2000, (true, None, false, None), (1000, 2000)),
     (
-        "retired at 2001",
-        RETIRED,
-        2000,
-        (true, None, false, None),
-        (1000, 2000),
-    ),
-    (
-        "retired at 2000, and superseded later",
         RETIRED_THEN_SUPERSEDED,
         5000,
         (true, None, false, Some(2000)),
         (2001, 4294967295),
     ),
+    (COMPROMISED, 5000, (true, None, true, None), (1000, 8999)),
+    (COMPROMISED, 0, (false, None, true, None), (0, 999)),
     (
-        "compromised, as is said at 9000: whatever the time is",
-        COMPROMISED,
-        5000,
-        (true, None, true, None),
-        (1000, 8999),
-    ),
-    (
-        "compromised, as is said at 9000: whatever the time is",
-        COMPROMISED,
-        0,
-        (false, None, true, None),
-        (0, 999),
-    ),
-    (
-        "revoked without a reason",
         REVOKED_WITHOUT_REASON,
         5000,
         (true, None, true, None),
         (2000, 4294967295),
     ),
     (
-        "the key ends by its direct key signature",
         ENDED_BY_DIRECT_KEY,
         1200,
         (true, Some(1500), false, None),
         (1000, 1499),
     ),
     (
-        "the key ends by its direct key signature",
         ENDED_BY_DIRECT_KEY,
         1500,
         (true, Some(1500), false, None),
         (1500, 1899),
     ),
     (
-        "the key ends by a user ID",
         ENDED_BY_USER_ID,
         1200,
         (true, Some(1700), false, None),
         (1000, 1699),
     ),
     (
-        "the primary user ID is the one of an older self-certification",
         OLDER_IS_PRIMARY,
         5000,
         (true, Some(1100), false, None),
         (3000, 4294967295),
     ),
     (
-        "a primary mark is lost with a newer self-certification of its user ID",
         PRIMARY_IS_LOST,
         2200,
         (true, Some(1100), false, None),
         (2000, 2499),
     ),
     (
-        "a primary mark is lost with a newer self-certification of its user ID",
         PRIMARY_IS_LOST,
         5000,
         (true, Some(1200), false, None),
         (3000, 4294967295),
     ),
     (
-        "a revocation of the same moment revokes",
         REVOKED_AT_ONCE,
         5000,
         (false, None, false, None),
         (1000, 4294967295),
     ),
     (
-        "one made before does not",
         REVOKED_BEFORE,
         5000,
         (true, None, false, None),
         (1000, 4294967295),
     ),
     (
-        "one that expired revokes no more",
         REVOCATION_EXPIRED,
         2050,
         (false, None, false, None),
         (2000, 2099),
     ),
     (
-        "one that expired revokes no more",
         REVOCATION_EXPIRED,
         2100,
         (true, None, false, None),
         (2100, 4294967295),
     ),
     (
-        "what is not revocable stays",
         NOT_REVOCABLE,
         5000,
         (true, None, false, None),
         (2000, 4294967295),
     ),
     (
-        "a later signature does not undo the revocation of the key",
         SIGNED_AFTER_REVOCATION,
         5000,
         (true, None, false, Some(2000)),
         (3000, 4294967295),
     ),
     (
-        "revocations by another key have no effect",
         REVOKED_BY_ANOTHER,
         5000,
         (true, None, false, None),
@@ -346,63 +234,70 @@ const CASES: [Case; 23] = [
     ),
 ];
 
-#[test]
-fn standings_and_spans(rt: HostRuntime) -> Result<(), Fail> {
-    for (what, packets, t, (has, end, hard, soft), (from, to)) in CASES {
-        let cert = judged(rt.alloc(), packets).ok_or("judged")?;
-        let verdicts = good(rt.alloc(), &cert).ok_or("verdicts")?;
-        let expected = Standing {
-            has,
-            created: 1000,
-            end,
-            hard,
-            soft,
-        };
-        assert_eq!(rt;
-            standing(&cert, &verdicts, t),
-            (expected, Span { from, to }),
-            "{what} at {t}"
-        );
-    }
-    Ok(())
+/// Whether a certificate has that standing at a time, over that span.
+fn stands_so(alloc: Global, case: &Case) -> Option<bool> {
+    let (packets, t, (has, end, hard, soft), (from, to)) = *case;
+    let cert = judged(alloc, packets)?;
+    let verdicts = good(alloc, &cert)?;
+    let (found, span) = standing(&cert, &verdicts, t);
+    let expected = Standing {
+        has,
+        created: 1000,
+        end,
+        hard,
+        soft,
+    };
+    Some(found == expected && span == Span { from, to })
 }
 
-/// What a certificate is, its packets, a time, whether an edge that it made at 2000 is usable then, and whether its
-/// key is in order.
-type Use = (&'static str, &'static [Packet], u32, bool, bool);
+#[test]
+fn standings_and_spans(rt: HostRuntime) {
+    let mut number = 0u32;
+    for case in &CASES {
+        assert!(rt;
+            stands_so(rt.alloc(), case) == Some(true),
+            "case {number} at {}",
+            case.1
+        );
+        number = number.wrapping_add(1);
+    }
+}
 
-const USES: [Use; 6] = [
-    ("retired at 2001", RETIRED, 5000, true, false),
-    (
-        "retired at 2000",
-        RETIRED_THEN_SUPERSEDED,
-        5000,
-        false,
-        false,
-    ),
-    ("compromised", COMPROMISED, 5000, false, false),
-    (
-        "the certificate of the table of spans",
-        SPANS,
-        5000,
-        true,
-        true,
-    ),
-    ("before it ended", ENDED_BY_DIRECT_KEY, 1499, false, true),
-    ("when it ended", ENDED_BY_DIRECT_KEY, 1500, false, false),
+/// Packets, a time, whether an edge that their key made at 2000 is usable then, and whether the key is in order.
+type Use = (&'static [Packet], u32, bool, bool);
+
+static USES: [Use; 6] = [
+    (RETIRED, 5000, true, false),
+    (RETIRED_THEN_SUPERSEDED, 5000, false, false),
+    (COMPROMISED, 5000, false, false),
+    (SPANS, 5000, true, true),
+    (ENDED_BY_DIRECT_KEY, 1499, false, true),
+    (ENDED_BY_DIRECT_KEY, 1500, false, false),
 ];
 
+fn is_used_so(alloc: Global, case: &Use) -> Option<bool> {
+    let (packets, t, usable, in_order) = *case;
+    let cert = judged(alloc, packets)?;
+    let verdicts = good(alloc, &cert)?;
+    let (standing, span) = standing(&cert, &verdicts, t);
+    Some(
+        is_usable(&standing, 2000) == usable
+            && is_key_in_order(&standing, t) == in_order
+            && steady_span(&cert, t) == span,
+    )
+}
+
 #[test]
-fn usable_and_in_order(rt: HostRuntime) -> Result<(), Fail> {
-    for (what, packets, t, usable, in_order) in USES {
-        let cert = judged(rt.alloc(), packets).ok_or("judged")?;
-        let verdicts = good(rt.alloc(), &cert).ok_or("verdicts")?;
-        let (standing, span) = standing(&cert, &verdicts, t);
-        assert_eq!(rt; is_usable(&standing, 2000), usable, "edge of {what}");
-        assert_eq!(rt; is_key_in_order(&standing, t), in_order, "key of {what}");
-        assert_eq!(rt; steady_span(&cert, t), span, "span of {what}");
+fn usable_and_in_order(rt: HostRuntime) {
+    let mut number = 0u32;
+    for case in &USES {
+        assert!(rt;
+            is_used_so(rt.alloc(), case) == Some(true),
+            "case {number} at {}",
+            case.1
+        );
+        number = number.wrapping_add(1);
     }
-    Ok(())
 }
 
 /// Where the certifications of R, A and T stand on a user ID at a time, and whether its own key revoked it.
@@ -423,7 +318,7 @@ fn places(
 /// Packets, a time, the place of a user ID, and what `places` gives there.
 type Certified = (&'static [Packet], u32, usize, [Option<u32>; 3], bool);
 
-const CERTIFIED: [Certified; 7] = [
+static CERTIFIED: [Certified; 7] = [
     (SEVERAL_ISSUERS, 5000, 0, [Some(2), Some(1), None], false),
     (SEVERAL_ISSUERS, 5000, 1, [Some(0), Some(1), Some(2)], false),
     (SEVERAL_ISSUERS, 2460, 0, [None, Some(1), None], false),
@@ -433,14 +328,22 @@ const CERTIFIED: [Certified; 7] = [
     (OWN_USER_IDS_REVOKED, 2400, 0, [None, None, Some(0)], false),
 ];
 
+fn is_certified_so(alloc: Global, case: &Certified) -> Option<bool> {
+    let (packets, t, uid, expected, revoked) = *case;
+    let cert = judged(alloc, packets)?;
+    let verdicts = good(alloc, &cert)?;
+    let part = cert.user_ids().get(uid)?;
+    Some(places(alloc, part, &verdicts, t)? == (expected, revoked))
+}
+
 #[test]
-fn certifiers_of_user_ids(rt: HostRuntime) -> Result<(), Fail> {
-    for (packets, t, uid, expected, revoked) in CERTIFIED {
-        let cert = judged(rt.alloc(), packets).ok_or("judged")?;
-        let verdicts = good(rt.alloc(), &cert).ok_or("verdicts")?;
-        let part = cert.user_ids().get(uid).ok_or("a user ID")?;
-        let found = places(rt.alloc(), part, &verdicts, t).ok_or("places")?;
-        assert_eq!(rt; found, (expected, revoked), "user ID {uid} at {t}");
+fn certifiers_of_user_ids(rt: HostRuntime) {
+    let mut number = 0u32;
+    for case in &CERTIFIED {
+        assert!(rt;
+            is_certified_so(rt.alloc(), case) == Some(true),
+            "case {number}"
+        );
+        number = number.wrapping_add(1);
     }
-    Ok(())
 }
