@@ -1,7 +1,6 @@
 -- A line that is refused leaves the state.
 use Rattle.std.proofs.Common.{◌≡◌, ◌∙◌, ℕ, Bool, true, false, cond, List, length, Option, Some, None, Result, Ok, Err, refl, sym, ap}
 use Rattle.std.specs.Prelude.{MatchBool, nat_lt, is_some}
-use Rattle.wot_types.specs.declared.fpr.Fpr.{Fpr}
 use Rattle.wot_types.specs.declared.limits.Limit.TheVariants as words
 use Rattle.wot_types.specs.declared.name.Name.{Name}
 use Rattle.wot_types.specs.declared.number.SigNumber.{SigNumber}
@@ -28,7 +27,7 @@ use Rattle.wot_engine.specs.Law.{is_refused}
 use Rattle.wot_engine.specs.Lines.{is_silent, longest}
 use Rattle.wot_engine.specs.Outcome.{Outcome, only, done, imports, import, load, remove, set_verdict, clear_verdict, time, root, close, unless, keys, export, dump}
 use Rattle.wot_engine.specs.Listing.{explain, pending}
-use Rattle.wot_engine.specs.LineStep.{LineStep, HasReply, Answers, Does, Gives}
+use Rattle.wot_engine.specs.LineStep.{LineStep, Answers, Does, Gives}
 
 -- an outcome that leaves this state where it is refused
 abbrev Leaves : State → Outcome → Type 0

@@ -1,4 +1,4 @@
-use Rattle.std.proofs.Common.{◌≡◌, Bool, true, false, if◌then◌else◌, slice_index_or}
+use Rattle.std.proofs.Common.{◌≡◌, true, false, if◌then◌else◌, slice_index_or}
 use Rattle.wot_policy.specs.declared.rows.Row.TheVariants.{Never, Before, Always}
 use Rattle.wot_policy.specs.Admits.{is_revoking}
 use Rattle.wot_policy.specs.Standard.{standard_row, found_in, table_with, february_2013}
