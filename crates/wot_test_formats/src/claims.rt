@@ -15,7 +15,10 @@ static LINES: [(&[u8], Option<&[u8]>); 58] = [
         Some(b"absence a $ 120 \\xc3\\xa9 Ann"),
     ),
     (b"absence a $ 1 ", Some(b"absence a $ 1 ")),
-    (b"absence a $ 4294967295 t", Some(b"absence a $ 4294967295 t")),
+    (
+        b"absence a $ 4294967295 t",
+        Some(b"absence a $ 4294967295 t"),
+    ),
     (b"absence a $ 1", None),
     (b"absence a $ 0 t", None),
     (b"absence a $ 4294967296 t", None),
