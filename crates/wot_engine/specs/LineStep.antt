@@ -35,7 +35,8 @@ Does rows old (Ask view target wanted uid) given reply new = Asks old (view_at o
 Does rows old (Command.List view wanted) given reply new = Lists old (view_at old.views view) wanted reply × (new ≡ old)
 Does rows old (Explain view fpr uid) given reply new = Gives (explain old view fpr uid) reply new
 Does rows old (Absence view target wanted uid) given reply new = Misses old (view_at old.views view) target wanted uid reply × (new ≡ old)
-Does rows old (Check view target claims labels uid) given reply new = Checks old (view_at old.views view) target claims labels uid reply × (new ≡ old)
+Does rows old (Check view target claims labels uid) given reply new =
+    Checks old (view_at old.views view) target claims labels uid reply × (new ≡ old)
 Does rows old Pending given reply new = Gives (pending old) reply new
 Does rows old Keys given reply new = Gives (keys old) reply new
 Does rows old (Export fpr) given reply new = Gives (export old fpr) reply new

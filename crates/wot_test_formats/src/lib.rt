@@ -4,6 +4,8 @@
 #[cfg(test)]
 mod certd;
 #[cfg(test)]
+mod claims;
+#[cfg(test)]
 mod cursor;
 #[cfg(test)]
 mod generated;
