@@ -14,4 +14,6 @@ mod keyring;
 #[cfg(test)]
 mod layers;
 #[cfg(test)]
+mod script;
+#[cfg(test)]
 mod shelf;
