@@ -61,7 +61,11 @@ const DUMPED: [&[u8]; 12] = [
 ];
 
 /// Does what a command says to an engine that changed seldom; whether it was done.
-pub fn run<F: Fn(Ask) -> bool>(engine: &mut Engine, command: &Command, policy: &mut Policy<F>) -> bool
+pub fn run<F: Fn(Ask) -> bool>(
+    engine: &mut Engine,
+    command: &Command,
+    policy: &mut Policy<F>,
+) -> bool
     requires judged { IsJudgedBy (rows_of policy.old) engine.old.keyring }
     requires faithful { IsFaithful F.Fn policy.old }
     ensures judged { IsJudgedBy (rows_of policy.new) engine.new.keyring }

@@ -39,9 +39,7 @@ fn put_digits(octets: &[u8], line: &mut Vec<u8>) -> Result<(), Memory> {
 
 /// Appends the line that imports T with its user ID and all certifications.
 fn put_import(line: &mut Vec<u8>) -> Result<(), Memory> {
-    line.extend_from_slice(
-        b"import c60704000003e81b04c210041f1b0800060502000003e800000000cd0174",
-    )?;
+    line.extend_from_slice(b"import c60704000003e81b04c210041f1b0800060502000003e800000000cd0174")?;
     for number in 0..CERTIFICATIONS {
         line.extend_from_slice(b"c210")?;
         put_digits(&certification(number), line)?;
@@ -62,7 +60,9 @@ fn put_verdict(number: u32, line: &mut Vec<u8>) -> Result<(), Memory> {
 fn put_turn(alloc: Global, turn: u32, line: &mut Vec<u8>) -> Result<(), Memory> {
     let number = turn / 2 + 1;
     if turn % 2 == 1 {
-        let wanted = format!(in alloc; "ask p 3c98b8180e0fcaca1032499082a5de8fa5d98232 {number} t")?;
+        let wanted = format!(in alloc;
+            "ask p 3c98b8180e0fcaca1032499082a5de8fa5d98232 {number} t"
+        )?;
         line.extend_from_slice(wanted.as_bytes())?;
         return Ok(());
     }

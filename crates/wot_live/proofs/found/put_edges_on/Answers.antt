@@ -30,8 +30,8 @@ back-preserved c =
       seen = sig ∷ seen;
       all = seam a.part.now.sigs c.back.rest.now c.in-Some.prefix.now seen sig c.back.invariant.all c.in-Some.ensures.cases.0;
       found = λ edges e.
-      let before : List EdgeFacts = with_edges edges (filter_map edge seen) in
-      c.in_ok-put_some.ensures before (c.back.invariant.found edges e)
-      ∙ ap (λ (o : Option EdgeFacts). by_place (with_edges before (cons_option o []))) (c.edge_with-edge.ensures ∙ kept_is a.verdicts.now a.target a.t a.uid a.part.now _ sig c.in_ok-certifiers.ensures.newest)
-      ∙ ap by_place (sym (with_edges-option edges (filter_map edge seen) (edge sig)));
+          let before : List EdgeFacts = with_edges edges (filter_map edge seen) in
+          c.in_ok-put_some.ensures before (c.back.invariant.found edges e)
+          ∙ ap (λ (o : Option EdgeFacts). by_place (with_edges before (cons_option o []))) (c.edge_with-edge.ensures ∙ kept_is a.verdicts.now a.target a.t a.uid a.part.now _ sig c.in_ok-certifiers.ensures.newest)
+          ∙ ap by_place (sym (with_edges-option edges (filter_map edge seen) (edge sig)));
     }
