@@ -27,7 +27,8 @@ fn a_generated_run(rt: HostRuntime) -> Result<(), Fail> {
         let mut shelf = failing_shelf(rt.alloc())?;
         let status = status_of(rt.alloc(), &words, &mut input, &mut output, &mut shelf);
         assert_eq!(rt; status, wanted);
-        assert!(rt; output.written() == &TOLD.as_bytes()[..size]);
+        assert_eq!(rt; output.written().len(), size);
+        assert!(rt; TOLD.as_bytes().starts_with(output.written()));
         // Neither source nor shelf was called.
         assert!(rt; input.read(&mut [0; 5]) == Ok(5));
         assert!(rt; shelf.read(&Name::TrustRoot).is_err());
