@@ -1,11 +1,12 @@
 //! Certificates: `wot_bench certificates COUNT` makes that many of some 30,000 octets, assembles each from its
-//! packets and merges it into one of its key alone. It prints the seconds of both, and those of the SHA-256 that the
+//! packets and merges it into one of its key alone. It tells the times of both, and that of the SHA-256 that the
 //! numbers of the signatures take, by the toolchain's crate alone. `wot_bench merging COUNT` makes one with that many
 //! signatures, and merges it with itself, and with itself and one signature more.
 ghost use Rattle.std.specs.Prelude.{◌≤◌};
 ghost use Rattle.wot_policy.specs.Kept.{IsFaithful};
 
 use crate::paths::mixed;
+use crate::time::{Counts, found, since};
 use sha2::{Digest, Sha256};
 use std::alloc::{AllocError, Global};
 use std::io;
@@ -59,8 +60,8 @@ fn assembled(alloc: Global, text: &[u8]) -> Option<Cert> {
     if packets.len() >= 1 << 28 {
         return None;
     }
-    let found = assemble(alloc, &packets).ok()?;
-    found.certs.into_vec().pop()
+    let all = assemble(alloc, &packets).ok()?;
+    all.certs.into_vec().pop()
 }
 
 fn assemble_all(alloc: Global, texts: &[Vec<u8>]) -> Result<Vec<Cert>, AllocError> {
@@ -132,47 +133,64 @@ fn hash_all(certs: &[Cert]) -> u8 {
     last
 }
 
-pub fn bench(rt: &(impl Print + AllocGlobal + Clock), count: usize) -> io::Result<()> {
-    let mut texts = Vec::new(rt.alloc());
+/// The texts of so many certificates, and how many octets they have.
+fn texts_of(alloc: Global, count: usize) -> Result<(Vec<Vec<u8>>, u64), AllocError> {
+    let mut texts = Vec::new(alloc);
     let mut octets = 0u64;
     for number in 0..count as u64 {
-        let text = text_of(rt.alloc(), number, SIGNATURES)?;
+        let text = text_of(alloc, number, SIGNATURES)?;
         octets = octets.wrapping_add(text.len() as u64);
         texts.push(text)?;
     }
+    Ok((texts, octets))
+}
+
+/// How many items merging added, and the nanoseconds.
+fn merge_timed<R: AllocGlobal + Clock>(rt: &R, certs: &[Cert]) -> io::Result<(u64, u64)> {
     let rows = standard_rows();
     let mut policy = Policy::new(rows, |ask| admits(&rows, ask));
     let start = Instant::now(rt)?;
-    let certs = assemble_all(rt.alloc(), &texts)?;
-    let assembling = start.elapsed(rt)?.as_secs_f64();
-    let start = Instant::now(rt)?;
-    let items = merge_all(rt.alloc(), &certs, &mut policy);
-    let merging = start.elapsed(rt)?.as_secs_f64();
-    let start = Instant::now(rt)?;
-    let last = hash_all(&certs);
-    let hashing = start.elapsed(rt)?.as_secs_f64();
-    let found = certs.len();
-    println!(rt; "{found} {octets} {items} {assembling} {merging} {hashing} {last}")
+    let items = merge_all(rt.alloc(), certs, &mut policy);
+    Ok((items, since(rt, start)?))
 }
 
-pub fn merging(rt: &(impl Print + AllocGlobal + Clock), count: usize) -> io::Result<()> {
-    let text = text_of(rt.alloc(), 1, count as u64)?;
-    let longer = text_of(rt.alloc(), 1, (count as u64).wrapping_add(1))?;
-    let octets = text.len();
-    let (Some(mut cert), Some(same), Some(more)) = (
-        assembled(rt.alloc(), &text),
-        assembled(rt.alloc(), &text),
-        assembled(rt.alloc(), &longer),
-    ) else {
-        return println!(rt; "no certificate");
-    };
+/// Certificates, octets, items, and the nanoseconds of assembling, merging and hashing.
+pub fn bench<R: AllocGlobal + Clock>(rt: &R, count: usize) -> io::Result<Counts> {
+    let (texts, octets) = texts_of(rt.alloc(), count)?;
+    let start = Instant::now(rt)?;
+    let certs = assemble_all(rt.alloc(), &texts)?;
+    let assembling = since(rt, start)?;
+    let (items, merging) = merge_timed(rt, &certs)?;
+    let start = Instant::now(rt)?;
+    let odd = u64::from(hash_all(&certs)) % 2;
+    let hashing = since(rt, start)?.saturating_add(odd);
+    Ok([
+        certs.len() as u64,
+        octets,
+        items,
+        assembling,
+        merging,
+        hashing,
+    ])
+}
+
+/// The certificate of so many signatures, and the octets of its text.
+fn made(alloc: Global, signatures: u64) -> Option<(Cert, u64)> {
+    let text = text_of(alloc, 1, signatures).ok()?;
+    Some((assembled(alloc, &text)?, text.len() as u64))
+}
+
+/// Octets, the items that merging with itself and with one signature more added, and the nanoseconds of each.
+pub fn merging<R: AllocGlobal + Clock>(rt: &R, count: usize) -> io::Result<Counts> {
+    let (mut cert, octets) = found(made(rt.alloc(), count as u64))?;
+    let (same, _) = found(made(rt.alloc(), count as u64))?;
+    let (more, _) = found(made(rt.alloc(), (count as u64).wrapping_add(1)))?;
     let rows = standard_rows();
     let mut policy = Policy::new(rows, |ask| admits(&rows, ask));
     let start = Instant::now(rt)?;
     let none = merge(rt.alloc(), &mut cert, &same, &mut policy);
-    let itself = start.elapsed(rt)?.as_secs_f64();
+    let itself = since(rt, start)?;
     let start = Instant::now(rt)?;
     let one = merge(rt.alloc(), &mut cert, &more, &mut policy);
-    let longer = start.elapsed(rt)?.as_secs_f64();
-    println!(rt; "{octets} {none} {one} {itself} {longer}")
+    Ok([octets, none, one, itself, since(rt, start)?, 0])
 }

@@ -1,5 +1,6 @@
 //! The toolchain's own crates, alone: `wot_bench hex SIZE COUNT` reads the digits of that many octets, and
 //! `wot_bench sha1 SIZE COUNT` and `wot_bench sha2 SIZE COUNT` hash them, COUNT times each.
+use crate::time::{Counts, since};
 use sha1::Sha1;
 use sha2::{Digest, Sha256};
 use std::alloc::Global;
@@ -19,7 +20,8 @@ fn octets_of(alloc: Global, size: usize) -> io::Result<Vec<u8>> {
     Ok(octets)
 }
 
-pub fn hex(rt: &(impl Print + AllocGlobal + Clock), size: usize, count: usize) -> io::Result<()> {
+/// The octets that were read, and the nanoseconds.
+pub fn hex<R: AllocGlobal + Clock>(rt: &R, size: usize, count: usize) -> io::Result<Counts> {
     let octets = octets_of(rt.alloc(), size)?;
     let digits = hex::encode(rt.alloc(), octets.as_slice())?;
     let start = Instant::now(rt)?;
@@ -29,31 +31,29 @@ pub fn hex(rt: &(impl Print + AllocGlobal + Clock), size: usize, count: usize) -
             read = read.wrapping_add(octets.len() as u64);
         }
     }
-    let seconds = start.elapsed(rt)?.as_secs_f64();
-    println!(rt; "{read} octets from digits, {seconds} s")
+    Ok([read, since(rt, start)?, 0, 0, 0, 0])
 }
 
-pub fn sha1(rt: &(impl Print + AllocGlobal + Clock), size: usize, count: usize) -> io::Result<()> {
+/// The nanoseconds, and an octet of all digests.
+pub fn sha1<R: AllocGlobal + Clock>(rt: &R, size: usize, count: usize) -> io::Result<Counts> {
     let octets = vec![in rt.alloc(); 0x5au8; size]?;
     let start = Instant::now(rt)?;
     let mut last = 0u8;
     for _ in 0..count {
         let mut hasher = Sha1::new();
         hasher.update(&octets);
-        let digest = hasher.finalize();
-        last ^= digest[0];
+        last ^= hasher.finalize()[0];
     }
-    let seconds = start.elapsed(rt)?.as_secs_f64();
-    println!(rt; "{count} times {size} octets hashed, {seconds} s ({last})")
+    Ok([since(rt, start)?, u64::from(last), 0, 0, 0, 0])
 }
 
-pub fn sha2(rt: &(impl Print + AllocGlobal + Clock), size: usize, count: usize) -> io::Result<()> {
+/// The same by SHA-256.
+pub fn sha2<R: AllocGlobal + Clock>(rt: &R, size: usize, count: usize) -> io::Result<Counts> {
     let octets = vec![in rt.alloc(); 0x5au8; size]?;
     let start = Instant::now(rt)?;
     let mut last = 0u8;
     for _ in 0..count {
         last ^= Sha256::digest(octets.as_slice())[0];
     }
-    let seconds = start.elapsed(rt)?.as_secs_f64();
-    println!(rt; "{count} times {size} octets hashed, {seconds} s ({last})")
+    Ok([since(rt, start)?, u64::from(last), 0, 0, 0, 0])
 }

@@ -2,10 +2,12 @@
 //! alone over the same octets.
 ghost use Rattle.std.specs.Prelude.{None};
 
+use crate::time::Counts;
 use memchr::memchr_iter;
 use std::alloc::{AllocError, Global};
 use std::io;
 use std::rt::CpuClock;
+use std::time::Duration;
 use wot_io::{Failed, Line, Lines, Source};
 
 const OCTETS: u64 = 1_000_000_000;
@@ -85,13 +87,12 @@ fn search(block: &[u8]) -> u64 {
     count
 }
 
-/// Prints how many lines were cut and in how many microseconds of processor time, and the same of
-/// the search alone.
-pub fn bench(
-    rt: &(impl Print + AllocGlobal + CpuClock),
-    length: usize,
-    piece: usize,
-) -> io::Result<()> {
+fn micros(from: Duration, to: Duration) -> u64 {
+    u64::try_from(to.saturating_sub(from).as_micros()).unwrap_or(u64::MAX)
+}
+
+/// How many lines were cut and in how many microseconds of processor time, and the same of the search alone.
+pub fn bench<R: AllocGlobal + CpuClock>(rt: &R, length: usize, piece: usize) -> io::Result<Counts> {
     let block = block_of(rt.alloc(), length)?;
     let mut source = Repeated {
         block: &block,
@@ -104,7 +105,12 @@ pub fn bench(
     let cut = rt.thread_cpu_time()?;
     let feeds = search(&block);
     let searched = rt.thread_cpu_time()?;
-    let cut_time = cut.saturating_sub(start).as_micros();
-    let search_time = searched.saturating_sub(cut).as_micros();
-    println!(rt; "{lines} {cut_time} {feeds} {search_time}")
+    Ok([
+        lines,
+        micros(start, cut),
+        feeds,
+        micros(cut, searched),
+        0,
+        0,
+    ])
 }

@@ -1,5 +1,6 @@
 //! Rows of one certificate: `wot_bench rows ISSUERS REVOCATIONS` makes a certificate with one certification by each
 //! of so many issuers, of which so many revoked it, and finds the edges into it.
+use crate::time::{Counts, found, since};
 use std::alloc::Global;
 use std::io;
 use std::rt::Clock;
@@ -62,8 +63,8 @@ fn assembled(alloc: Global, text: &[u8]) -> Option<Assembled> {
 
 /// The first certificate of a text, judged by the standard rows.
 fn judged(alloc: Global, text: &[u8]) -> Option<Cert> {
-    let found = assembled(alloc, text)?;
-    let first = found.certs.as_slice().first()?;
+    let all = assembled(alloc, text)?;
+    let first = all.certs.as_slice().first()?;
     let mut cert = Cert::bare(alloc, first.body()).ok().flatten()?;
     if cert.size() >= 1 << 30 || first.size() >= 1 << 30 {
         return None;
@@ -100,29 +101,21 @@ fn edges(alloc: Global, cert: &Cert, verdicts: &Verdicts, steps: &mut Steps) -> 
     if cert.size() >= 1 << 30 {
         return None;
     }
-    let (found, _) = rows(alloc, cert, verdicts, 5000, steps).ok()?;
-    Some(found.edges.len())
+    let (told, _) = rows(alloc, cert, verdicts, 5000, steps).ok()?;
+    Some(told.edges.len())
 }
 
-pub fn bench(
-    rt: &(impl Print + AllocGlobal + Clock),
-    issuers: u64,
-    revocations: u64,
-) -> io::Result<()> {
-    let alloc = rt.alloc();
-    let Some(text) = text_of(alloc, issuers, revocations) else {
-        return println!(rt; "no text");
-    };
-    let Some(cert) = judged(alloc, &text) else {
-        return println!(rt; "no certificate");
-    };
-    let Some(verdicts) = good(alloc, &cert) else {
-        return println!(rt; "no verdicts");
-    };
+/// The edges into a certificate, how many were made, and the nanoseconds.
+pub fn bench<R: AllocGlobal + Clock>(
+    rt: &R,
+    issuers: usize,
+    revocations: usize,
+) -> io::Result<Counts> {
+    let text = found(text_of(rt.alloc(), issuers as u64, revocations as u64))?;
+    let cert = found(judged(rt.alloc(), &text))?;
+    let verdicts = found(good(rt.alloc(), &cert))?;
     let mut steps = Steps::new();
     let start = Instant::now(rt)?;
-    let count = edges(alloc, &cert, &verdicts, &mut steps).unwrap_or(0);
-    let nanos = start.elapsed(rt)?.as_nanos();
-    let made = steps.made;
-    println!(rt; "{count} {made} {nanos}")
+    let count = found(edges(rt.alloc(), &cert, &verdicts, &mut steps))?;
+    Ok([count as u64, steps.made, since(rt, start)?, 0, 0, 0])
 }

@@ -1,5 +1,6 @@
 //! Reading packets: `wot_bench packets LENGTH` reads 100,000,000 octets of packets with bodies of that length, and
 //! `wot_bench packets-copied LENGTH` copies the same octets.
+use crate::time::{Counts, found, since};
 use std::alloc::{AllocError, Global};
 use std::io;
 use std::rt::Clock;
@@ -22,24 +23,19 @@ fn text_of(alloc: Global, length: usize) -> Result<Vec<u8>, AllocError> {
     Ok(text)
 }
 
-pub fn bench(rt: &(impl Print + AllocGlobal + Clock), length: usize) -> io::Result<()> {
+/// Packets, octets, and the nanoseconds of reading them.
+pub fn bench<R: AllocGlobal + Clock>(rt: &R, length: usize) -> io::Result<Counts> {
     let text = text_of(rt.alloc(), length)?;
-    let octets = text.len();
     let start = Instant::now(rt)?;
-    let packets = match read_packets(rt.alloc(), &text) {
-        Ok(packets) => packets,
-        Err(_) => Vec::new(rt.alloc()),
-    };
-    let seconds = start.elapsed(rt)?.as_secs_f64();
-    let count = packets.len();
-    println!(rt; "{count} packets, {octets} octets, {seconds} s")
+    let packets = found(read_packets(rt.alloc(), &text).ok())?;
+    let nanos = since(rt, start)?;
+    Ok([packets.len() as u64, text.len() as u64, nanos, 0, 0, 0])
 }
 
-pub fn bench_copy(rt: &(impl Print + AllocGlobal + Clock), length: usize) -> io::Result<()> {
+/// The same of copying the octets.
+pub fn bench_copy<R: AllocGlobal + Clock>(rt: &R, length: usize) -> io::Result<Counts> {
     let text = text_of(rt.alloc(), length)?;
     let start = Instant::now(rt)?;
     let copy = text.as_slice().to_vec(rt.alloc())?;
-    let seconds = start.elapsed(rt)?.as_secs_f64();
-    let octets = copy.len();
-    println!(rt; "0 packets, {octets} octets, {seconds} s")
+    Ok([0, copy.len() as u64, since(rt, start)?, 0, 0, 0])
 }

@@ -1,5 +1,6 @@
 //! Next paths over networks in memory: random ones, thirty layers of two, and a clique.
 
+use crate::time::{Counts, found, since};
 use std::alloc::Global;
 use std::io;
 use std::rt::Clock;
@@ -142,7 +143,7 @@ fn ask(
 ) -> Result<(usize, usize), Memory> {
     let mut consulted = Consulted::new(alloc);
     let used = Used::new(alloc);
-    let found = next_path(
+    let path = next_path(
         alloc,
         roads,
         roots,
@@ -151,60 +152,85 @@ fn ask(
         &[UID],
         &mut consulted,
     )?;
-    let steps = match &found {
+    let steps = match &path {
         Some(path) => path.steps.as_slice().len(),
         None => 0,
     };
     Ok((steps, consulted.iter().count()))
 }
 
-pub(crate) fn failed(_memory: Memory) -> io::Error {
-    io::Error::from(io::ErrorKind::OutOfMemory)
+/// The network of that kind.
+fn network(alloc: Global, kind: &str, size: u64) -> Result<PlainRoads, Memory> {
+    match kind {
+        "clique" => clique(alloc, size),
+        "layers" => layers(alloc, size),
+        _ => random(alloc, size),
+    }
 }
 
-/// Asks so many questions, and prints what the script puts into its table: how many were asked and
-/// answered, the mean of what was consulted, and the median, the 99th of 100, and the greatest of
-/// the nanoseconds of one question.
-pub fn bench<R: Clock + Print + AllocGlobal>(
+/// What a number of questions came to: how many were answered, what was consulted, and the nanoseconds of each.
+#[derive(Drop)]
+struct Asked {
+    answered: u64,
+    looked: u64,
+    times: Vec<u64>,
+}
+
+/// Asks so many questions about random targets below this number, or about the target 1 where it is 0.
+fn ask_all<R: Clock + AllocGlobal>(
     rt: &R,
-    kind: &str,
-    size: u64,
-    roots: u64,
+    roads: &PlainRoads,
+    roots: &Roots,
+    below: u64,
     questions: u64,
-) -> io::Result<()> {
-    let alloc = rt.alloc();
-    let roads = match kind {
-        "clique" => clique(alloc, size).map_err(failed)?,
-        "layers" => layers(alloc, size).map_err(failed)?,
-        _ => random(alloc, size).map_err(failed)?,
-    };
-    let step = if roots == 0 { 1 } else { size / roots };
-    let roots = roots_of(alloc, roots, step).map_err(failed)?;
-    let mut times: Vec<u64> = Vec::new(alloc);
+) -> io::Result<Asked> {
+    let mut times = Vec::new(rt.alloc());
     let mut answered = 0u64;
     let mut looked = 0u64;
     for i in 0..questions {
-        let target = if kind == "layers" || size == 0 {
-            1
-        } else {
-            mixed(i) % size
-        };
+        let target = if below == 0 { 1 } else { mixed(i) % below };
         let start = Instant::now(rt)?;
-        let (steps, consulted) = ask(alloc, &roads, &roots, target).map_err(failed)?;
-        let nanos = u64::try_from(start.elapsed(rt)?.as_nanos()).unwrap_or(u64::MAX);
-        times.push(nanos)?;
+        let (steps, consulted) = found(ask(rt.alloc(), roads, roots, target).ok())?;
+        times.push(since(rt, start)?)?;
         looked = looked.wrapping_add(consulted as u64);
-        if steps > 0 {
-            answered = answered.wrapping_add(1);
-        }
+        answered = answered.wrapping_add(u64::from(steps > 0));
     }
     times.sort()?;
+    Ok(Asked {
+        answered,
+        looked,
+        times,
+    })
+}
+
+fn at(times: &[u64], place: usize) -> u64 {
+    times.get(place).copied().unwrap_or(0)
+}
+
+/// How many questions were asked and answered, the sum of what was consulted, and the median, the 99th of 100, and
+/// the greatest of the nanoseconds of one question.
+pub fn bench<R: Clock + AllocGlobal>(
+    rt: &R,
+    kind: &str,
+    size: usize,
+    roots: usize,
+    questions: usize,
+) -> io::Result<Counts> {
+    let (size, roots, questions) = (size as u64, roots as u64, questions as u64);
+    let roads = found(network(rt.alloc(), kind, size).ok())?;
+    let step = if roots == 0 { 1 } else { size / roots };
+    let roots = found(roots_of(rt.alloc(), roots, step).ok())?;
+    let below = if kind == "layers" { 0 } else { size };
+    let asked = ask_all(rt, &roads, &roots, below, questions)?;
+    let times = asked.times.as_slice();
     let count = times.len();
-    let median = times.get(count / 2).copied().unwrap_or(0);
-    let most = times
-        .get(count.wrapping_sub(count / 100).wrapping_sub(1))
-        .copied()
-        .unwrap_or(0);
-    let last = times.get(count.wrapping_sub(1)).copied().unwrap_or(0);
-    println!(rt; "{questions} {answered} {looked} {median} {most} {last}")
+    let most = count.wrapping_sub(count / 100).wrapping_sub(1);
+    Ok([
+        questions,
+        asked.answered,
+        asked.looked,
+        at(times, count / 2),
+        at(times, most),
+        at(times, count.wrapping_sub(1)),
+    ])
 }

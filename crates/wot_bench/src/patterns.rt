@@ -1,6 +1,7 @@
 //! Matching: `wot_bench pattern_text PATTERN COUNT TURNS` tries a pattern so many turns on COUNT times `a`, and
 //! `wot_bench pattern_uids PATTERN WHO COUNT` on so many user IDs of 40 octets. WHO is `own` for the matcher of
 //! scopes, `regex` for the toolchain's regular expressions, or another word for neither.
+use crate::time::{Counts, found};
 use regex::Regex;
 use std::alloc::Global;
 use std::{io, str};
@@ -11,18 +12,21 @@ fn matcher_of(alloc: Global, pattern: &str) -> Option<Matcher> {
     Matcher::new(alloc, pattern).ok()
 }
 
-/// Tries the pattern so many turns on a text of `count` times `a`.
-pub fn on_text(rt: &HostRuntime, pattern: &str, count: usize, turns: usize) -> io::Result<()> {
-    let text = vec![in rt.alloc(); b'a'; count]?;
-    let (Some(mut matcher), Ok(text)) = (matcher_of(rt.alloc(), pattern), str::from_utf8(&text))
-    else {
-        return println!(rt; "no pattern");
-    };
-    let mut matched = 0u32;
+fn count_turns(alloc: Global, pattern: &str, text: &[u8], turns: usize) -> Option<u64> {
+    let mut matcher = matcher_of(alloc, pattern)?;
+    let text = str::from_utf8(text).ok()?;
+    let mut matched = 0u64;
     for _ in 0..turns {
-        matched = matched.saturating_add(u32::from(matcher.matches(text)));
+        matched = matched.saturating_add(u64::from(matcher.matches(text)));
     }
-    println!(rt; "{matched} of {turns}")
+    Some(matched)
+}
+
+/// Tries the pattern so many turns on a text of `count` times `a`: how often it matched, and the turns.
+pub fn on_text(rt: &HostRuntime, pattern: &str, count: usize, turns: usize) -> io::Result<Counts> {
+    let text = vec![in rt.alloc(); b'a'; count]?;
+    let matched = found(count_turns(rt.alloc(), pattern, &text, turns))?;
+    Ok([matched, turns as u64, 0, 0, 0, 0])
 }
 
 const UID: [u8; 40] = *b"Ann Example <ann000000@mail.example.org>";
@@ -74,15 +78,13 @@ fn count_text(count: u32) -> Option<u32> {
     Some(valid)
 }
 
-/// Tries the pattern on so many user IDs.
-pub fn on_uids(rt: &HostRuntime, pattern: &str, count: u32, who: &str) -> io::Result<()> {
+/// Tries the pattern on so many user IDs: how often it matched, and the user IDs.
+pub fn on_uids(rt: &HostRuntime, pattern: &str, who: &str, count: usize) -> io::Result<Counts> {
+    let count = u32::try_from(count).unwrap_or(0);
     let counted = match who {
         "own" => count_own(rt.alloc(), pattern, count),
         "regex" => count_regex(rt.alloc(), pattern, count),
         _ => count_text(count),
     };
-    match counted {
-        Some(counted) => println!(rt; "{counted} of {count}"),
-        None => println!(rt; "no pattern"),
-    }
+    Ok([u64::from(found(counted)?), u64::from(count), 0, 0, 0, 0])
 }

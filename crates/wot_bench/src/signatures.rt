@@ -1,5 +1,6 @@
 //! Reading signatures: `wot_bench signatures SIZE` reads a signature whose hashed area has about SIZE octets, as many
 //! subpackets as fit in them, until 50,000,000 octets were read, and then takes the SHA-256 of as many.
+use crate::time::{Counts, since};
 use sha2::{Digest, Sha256};
 use std::alloc::{AllocError, Global};
 use std::io;
@@ -28,23 +29,35 @@ fn body_of(alloc: Global, size: usize) -> Result<Vec<u8>, AllocError> {
     Ok(body)
 }
 
-pub fn bench(rt: &(impl Print + AllocGlobal + Clock), size: usize) -> io::Result<()> {
-    let body = body_of(rt.alloc(), size)?;
-    let octets = body.len();
-    let rounds = OCTETS / octets.max(1);
-    let start = Instant::now(rt)?;
-    let mut sound = 0u32;
+/// How often the signature was sound.
+fn read_again(body: &[u8], rounds: usize) -> u64 {
+    let mut sound = 0u64;
     for _ in 0..rounds {
-        if read_signature(body.as_slice()).is_some_and(|facts| facts.sound) {
+        if read_signature(body).is_some_and(|facts| facts.sound) {
             sound = sound.wrapping_add(1);
         }
     }
-    let read = start.elapsed(rt)?.as_secs_f64();
-    let start = Instant::now(rt)?;
+    sound
+}
+
+fn hash_again(body: &[u8], rounds: usize) -> u8 {
     let mut last = 0u8;
     for _ in 0..rounds {
-        last ^= Sha256::digest(body.as_slice())[0];
+        last ^= Sha256::digest(body)[0];
     }
-    let hashed = start.elapsed(rt)?.as_secs_f64();
-    println!(rt; "{octets} {rounds} {sound} {read} {hashed} {last}")
+    last
+}
+
+/// Octets, how often the body was read and was sound, the nanoseconds of reading and of hashing, and an octet of the
+/// digests.
+pub fn bench<R: AllocGlobal + Clock>(rt: &R, size: usize) -> io::Result<Counts> {
+    let body = body_of(rt.alloc(), size)?;
+    let rounds = OCTETS / body.len().max(1);
+    let start = Instant::now(rt)?;
+    let sound = read_again(&body, rounds);
+    let read = since(rt, start)?;
+    let start = Instant::now(rt)?;
+    let last = u64::from(hash_again(&body, rounds));
+    let hashed = since(rt, start)?;
+    Ok([body.len() as u64, rounds as u64, sound, read, hashed, last])
 }
