@@ -27,9 +27,7 @@ const BY_X: &[u8] = &[4, 0x10, 27, 8, 0, 29, 5, 2, 0, 0, 7, 208, 22, 33, 4];
 /// The body of a certification.
 fn certification(alloc: Global, head: &[u8], issuer: &Fpr) -> Result<Vec<u8>, Memory> {
     let mut body = head.to_vec(alloc)?;
-    match issuer {
-        Fpr::V4(octets) => body.extend_from_slice(octets.as_slice())?,
-    }
+    body.extend_from_slice(issuer.octets())?;
     body.extend_from_slice(&[0, 0, 0, 0])?;
     Ok(body)
 }

@@ -251,21 +251,25 @@ fn matcher_of(alloc: Global, pattern: &str) -> Option<Matcher> {
     Matcher::new(alloc, parse(alloc, pattern).ok()?).ok()
 }
 
-/// A repetition of a repetition, over a text that has as many readings as there are subsets of its places.
-#[test]
-fn nested_repetitions_take_no_turn_twice(rt: HostRuntime) -> Result<(), Fail> {
-    let mut text = repeated(rt.alloc(), 2000, "a", "")?;
-    assert_eq!(rt; answer_to(rt.alloc(), "^(a*)*$", text.as_str()), Matches);
-    text.push_str("b")?;
-    assert_eq!(rt; answer_to(rt.alloc(), "^(a*)*$", text.as_str()), Differs);
+/// Texts of so many `a`, and what `^(a*)*$` answers: a repetition of a repetition has as many readings there as there are
+/// subsets of the places.
+static NESTED: [(u32, &str, Answer); 2] = [(2000, "", Matches), (2000, "b", Differs)];
 
-    let mut nested = repeated(rt.alloc(), 64, "(", "")?;
-    nested.push_str("a")?;
-    nested.push_str(repeated(rt.alloc(), 64, ")", "")?.as_str())?;
-    assert_eq!(rt; answer_to(rt.alloc(), nested.as_str(), "ba"), Matches);
-    nested.push_str(")")?;
-    assert_eq!(rt; answer_to(rt.alloc(), nested.as_str(), "ba"), Unreadable);
-    Ok(())
+/// What a pattern answers to so many `a` and an end.
+fn answer_to_many(alloc: Global, count: u32, end: &str) -> Option<Answer> {
+    let mut text = repeated(alloc, count, "a", "")?;
+    text.push_str(end).ok()?;
+    Some(answer_to(alloc, "^(a*)*$", text.as_str()))
+}
+
+#[test]
+fn nested_repetitions_take_no_turn_twice(rt: HostRuntime) {
+    for (count, end, expected) in &NESTED {
+        assert!(rt;
+            answer_to_many(rt.alloc(), *count, end) == Some(*expected),
+            "{end:?}"
+        );
+    }
 }
 
 #[test]

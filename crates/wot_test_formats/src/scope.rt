@@ -62,17 +62,17 @@ fn holds(alloc: Global, patterns: &[&[u8]], uid: &[u8]) -> Option<bool> {
     in_scope(alloc, &body, uid).ok()
 }
 
-/// A pattern that has very many readings over a long user ID.
+/// Whether a user ID of many `a` and an end is in the scope of a pattern that has very many readings over it.
+fn holds_over_many(alloc: Global, end: &[u8]) -> Option<bool> {
+    let mut uid = vec![in alloc; b'a'; 2000].ok()?;
+    uid.extend_from_slice(end).ok()?;
+    holds(alloc, &[b"^(a*)*$"], &uid)
+}
+
 #[test]
-fn nested_repetitions(rt: HostRuntime) -> Result<(), Fail> {
-    let body = certification(rt.alloc(), Some(b"^(a*)*$"), None)?;
-    let mut uid = vec![in rt.alloc(); b'a'; 2000]?;
-    for expected in [true, false] {
-        let held = in_scope(rt.alloc(), &body, &uid).ok().ok_or("no memory")?;
-        assert_eq!(rt; held, expected);
-        uid.push(b'b')?;
-    }
-    Ok(())
+fn nested_repetitions(rt: HostRuntime) {
+    assert!(rt; holds_over_many(rt.alloc(), b"") == Some(true));
+    assert!(rt; holds_over_many(rt.alloc(), b"b") == Some(false));
 }
 
 #[test]
