@@ -183,5 +183,30 @@ pub fn compare_fprs(left: &Fpr, right: &Fpr) -> Ordering
     ensures octets { result ≡ fpr_cmp left.now right.now }
     ensures plain { result ≡ slice_cmp nat_cmp (octets_of left.now) (octets_of right.now) }
 {
-    left.octets().cmp(right.octets())
+    compare_octets(left.octets(), right.octets())
+}
+
+/// How many octets are compared one by one. Most fingerprints differ in one of these, and then the rest isn't looked at.
+const HEADS: u8 = 4;
+
+fn compare_octets(left: &[u8], right: &[u8]) -> Ordering
+    ensures { result ≡ slice_cmp nat_cmp left.now right.now }
+{
+    let mut left_rest = left;
+    let mut right_rest = right;
+    'heads: for _head in 0..HEADS {
+        let Some((a, more)) = left_rest.split_first() else {
+            return left_rest.cmp(right_rest);
+        };
+        let Some((b, others)) = right_rest.split_first() else {
+            return left_rest.cmp(right_rest);
+        };
+        let order = a.cmp(b);
+        if order.is_ne() {
+            return order;
+        }
+        left_rest = more;
+        right_rest = others;
+    }
+    left_rest.cmp(right_rest)
 }
