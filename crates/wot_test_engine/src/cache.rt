@@ -2,66 +2,54 @@ ghost use Rattle.std.specs.Prelude.{◌≡◌};
 ghost use Rattle.wot_keyring.specs.Kept.{IsJudgedBy};
 ghost use Rattle.wot_policy.specs.Kept.{IsFaithful, rows_of};
 
+use crate::script::Line::{self, Import, Other};
+use crate::script::{NOBODY_BAD, R_BY_R, R_CERT, T_BY_R, T_BY_T, T_CERT, command_of, text_of};
 use std::alloc::Global;
-use std::process::Abort;
-use std::test::Fail;
 use wot_cache::{AskFault, Engine, NoView, ViewFault};
 use wot_edge::Roads;
 use wot_keyring::ExportFault;
 use wot_policy::{Ask, Policy, admits, standard_rows};
-use wot_script::{Command, read_line};
-use wot_types::{Fpr, Limit, Limits, Memory, Steps, ViewName};
+use wot_sample::{A, R, T};
+use wot_script::Command;
+use wot_types::{Limit, Limits, Steps, ViewName};
 use wot_verdict::Verdict;
 
-/// The fingerprints of the keys with the bodies 04000003e81b01, 04000003e81b02 and 04000003e81b04.
-pub const R: Fpr = Fpr::V4([
-    127, 53, 200, 219, 214, 179, 235, 47, 253, 89, 203, 221, 46, 65, 234, 41, 18, 18, 172, 56,
-]);
-
-const A: Fpr = Fpr::V4([
-    53, 46, 95, 18, 5, 155, 70, 5, 165, 184, 248, 143, 102, 214, 85, 201, 19, 62, 28, 162,
-]);
-
-pub const T: Fpr = Fpr::V4([
-    60, 152, 184, 24, 14, 15, 202, 202, 16, 50, 73, 144, 130, 165, 222, 143, 165, 217, 130, 50,
-]);
-
 /// R and T, each with a direct key signature, T with the user ID t, which R certified; the verdicts; and two views.
-pub const SCRIPT: [&[u8]; 13] = [
-    b"import c60704000003e81b01c210041f1b0800060502000003e800000000",
-    b"import c60704000003e81b04c210041f1b0800060502000003e800000000cd0174c21004101b0800060502000007d000000000",
-    b"verdict 7331b37825bdca65502938381c08cd08d9da47de1940c67bdae7bdf1dfab72d5 good 7f35c8dbd6b3eb2ffd59cbdd2e41ea291212ac38",
-    b"verdict 6f340f6bdd375d28b7edb40f930d95bf4ad33f807483dfd6a9600c1af4e334bd good 3c98b8180e0fcaca1032499082a5de8fa5d98232",
-    b"verdict 68d0eb5f8ca13914fcddf1b23e5f608bf9847603834da284f01a707208051209 good 7f35c8dbd6b3eb2ffd59cbdd2e41ea291212ac38",
-    b"verdict 0000000000000000000000000000000000000000000000000000000000000009 bad",
-    b"view q time 1500",
-    b"view p time 4000",
-    b"view p root 7f35c8dbd6b3eb2ffd59cbdd2e41ea291212ac38 120",
-    b"view p root 3c98b8180e0fcaca1032499082a5de8fa5d98232 60",
-    b"view q root 7f35c8dbd6b3eb2ffd59cbdd2e41ea291212ac38 255",
-    b"view p time 5000",
-    b"view p root 352e5f12059b4605a5b8f88f66d655c9133e1ca2 1",
+pub(crate) static SCRIPT: [Line; 13] = [
+    Import(R_CERT),
+    Import(T_CERT),
+    T_BY_R,
+    T_BY_T,
+    R_BY_R,
+    NOBODY_BAD,
+    Other(b"view q time 1500"),
+    Other(b"view p time 4000"),
+    Other(b"view p root 7f35c8dbd6b3eb2ffd59cbdd2e41ea291212ac38 120"),
+    Other(b"view p root 3c98b8180e0fcaca1032499082a5de8fa5d98232 60"),
+    Other(b"view q root 7f35c8dbd6b3eb2ffd59cbdd2e41ea291212ac38 255"),
+    Other(b"view p time 5000"),
+    Other(b"view p root 352e5f12059b4605a5b8f88f66d655c9133e1ca2 1"),
 ];
 
 /// What it comes to: certificates by fingerprint, verdicts by number, and views by name with their roots by
 /// fingerprint.
-const DUMPED: [&[u8]; 12] = [
-    b"import c60704000003e81b04c210041f1b0800060502000003e800000000cd0174c21004101b0800060502000007d000000000",
-    b"import c60704000003e81b01c210041f1b0800060502000003e800000000",
-    b"verdict 0000000000000000000000000000000000000000000000000000000000000009 bad",
-    b"verdict 68d0eb5f8ca13914fcddf1b23e5f608bf9847603834da284f01a707208051209 good 7f35c8dbd6b3eb2ffd59cbdd2e41ea291212ac38",
-    b"verdict 6f340f6bdd375d28b7edb40f930d95bf4ad33f807483dfd6a9600c1af4e334bd good 3c98b8180e0fcaca1032499082a5de8fa5d98232",
-    b"verdict 7331b37825bdca65502938381c08cd08d9da47de1940c67bdae7bdf1dfab72d5 good 7f35c8dbd6b3eb2ffd59cbdd2e41ea291212ac38",
-    b"view p time 5000",
-    b"view p root 352e5f12059b4605a5b8f88f66d655c9133e1ca2 1",
-    b"view p root 3c98b8180e0fcaca1032499082a5de8fa5d98232 60",
-    b"view p root 7f35c8dbd6b3eb2ffd59cbdd2e41ea291212ac38 120",
-    b"view q time 1500",
-    b"view q root 7f35c8dbd6b3eb2ffd59cbdd2e41ea291212ac38 255",
+static DUMPED: [Line; 12] = [
+    Import(T_CERT),
+    Import(R_CERT),
+    NOBODY_BAD,
+    R_BY_R,
+    T_BY_T,
+    T_BY_R,
+    Other(b"view p time 5000"),
+    Other(b"view p root 352e5f12059b4605a5b8f88f66d655c9133e1ca2 1"),
+    Other(b"view p root 3c98b8180e0fcaca1032499082a5de8fa5d98232 60"),
+    Other(b"view p root 7f35c8dbd6b3eb2ffd59cbdd2e41ea291212ac38 120"),
+    Other(b"view q time 1500"),
+    Other(b"view q root 7f35c8dbd6b3eb2ffd59cbdd2e41ea291212ac38 255"),
 ];
 
 /// Does what a command says to an engine that changed seldom; whether it was done.
-pub fn run<F: Fn(Ask) -> bool>(
+pub(crate) fn run<F: Fn(Ask) -> bool>(
     engine: &mut Engine,
     command: &Command,
     policy: &mut Policy<F>,
@@ -90,10 +78,10 @@ pub fn run<F: Fn(Ask) -> bool>(
 }
 
 /// Does what these lines say, one after the other; whether each was done.
-pub fn run_all<F: Fn(Ask) -> bool>(
+pub(crate) fn run_all<F: Fn(Ask) -> bool>(
     alloc: Global,
     engine: &mut Engine,
-    lines: &[&[u8]],
+    lines: &[Line],
     policy: &mut Policy<F>,
 ) -> bool
     requires judged { IsJudgedBy (rows_of policy.old) engine.old.keyring }
@@ -102,7 +90,7 @@ pub fn run_all<F: Fn(Ask) -> bool>(
     ensures faithful { IsFaithful F.Fn policy.new }
 {
     for line in lines {
-        let Ok(command) = read_line(alloc, line) else {
+        let Some(command) = command_of(alloc, line) else {
             return false;
         };
         if !run(engine, &command, policy) {
@@ -113,7 +101,7 @@ pub fn run_all<F: Fn(Ask) -> bool>(
 }
 
 /// A fresh engine in which these lines were done.
-fn engine_of(alloc: Global, lines: &[&[u8]]) -> Option<Engine> {
+fn engine_of(alloc: Global, lines: &[Line]) -> Option<Engine> {
     let rows = standard_rows();
     let mut policy = Policy::new(rows, |ask| admits(&rows, ask));
     let mut engine = Engine::new(alloc, Limits::standard());
@@ -124,25 +112,12 @@ fn engine_of(alloc: Global, lines: &[&[u8]]) -> Option<Engine> {
     }
 }
 
-pub fn view_name(alloc: Global, text: &[u8]) -> Result<ViewName, Fail> {
-    match ViewName::read(alloc, text)? {
-        Some(name) => Ok(name),
-        None => Err("no name".into()),
-    }
-}
-
-/// These lines, each with its line feed.
-fn text_of(alloc: Global, lines: &[&[u8]]) -> Result<Vec<u8>, Memory> {
-    let mut text = Vec::new(alloc);
-    for line in lines {
-        text.extend_from_slice(line)?;
-        text.push(b'\n')?;
-    }
-    Ok(text)
+pub(crate) fn view_name(alloc: Global, text: &[u8]) -> Option<ViewName> {
+    ViewName::read(alloc, text).ok()?
 }
 
 /// The amount of an answer about the user ID t of T, and how many paths and edges were made.
-pub fn amount_of(
+pub(crate) fn amount_of(
     engine: &mut Engine,
     view: &ViewName,
     wanted: u32,
@@ -157,111 +132,146 @@ pub fn amount_of(
     Ok((answer.sum, answer.paths.as_slice().len(), steps.made))
 }
 
+/// Whether an engine in which these lines were done dumps this text.
+fn is_dumped(alloc: Global, lines: &[Line], expected: &[u8]) -> Option<bool> {
+    let engine = engine_of(alloc, lines)?;
+    let mut text = Vec::new(alloc);
+    let count = engine.dump(&mut text).ok()?;
+    Some(count == 12 && text.as_slice() == expected)
+}
+
 #[test]
-fn a_dump_makes_the_state_anew(rt: HostRuntime) -> Result<(), Fail> {
-    let expected = text_of(rt.alloc(), &DUMPED)?;
-    for lines in [SCRIPT.as_slice(), DUMPED.as_slice()] {
-        let engine = engine_of(rt.alloc(), lines).ok_or("done")?;
-        let mut text = Vec::new(rt.alloc());
-        assert_eq!(rt; engine.dump(&mut text)?, 12);
-        assert_eq!(rt; text.as_slice(), expected.as_slice());
+fn a_dump_makes_the_state_anew(rt: HostRuntime) {
+    let expected = text_of(rt.alloc(), &DUMPED).expect(&rt, "a text");
+    assert!(rt; is_dumped(rt.alloc(), &SCRIPT, &expected) == Some(true));
+    assert!(rt; is_dumped(rt.alloc(), &DUMPED, &expected) == Some(true));
+}
+
+/// A certificate that is held is written, and one that isn't is absent.
+fn is_exported(alloc: Global) -> Option<bool> {
+    let engine = engine_of(alloc, &SCRIPT)?;
+    let mut text = Vec::new(alloc);
+    let held = engine.keyring().export(&R, &mut text);
+    let absent = engine.keyring().export(&A, &mut text);
+    let expected = wot_sample::text(alloc, R_CERT)?;
+    Some(held == Ok(()) && absent == Err(ExportFault::Absent) && text == expected)
+}
+
+#[test]
+fn a_certificate_is_exported(rt: HostRuntime) {
+    assert!(rt; is_exported(rt.alloc()) == Some(true));
+}
+
+/// At 5000, R's certification of 2000 is there: 120 by R. At 1500 and at 1999 it isn't. No edge is made twice.
+fn times_are_told(engine: &mut Engine, p: &ViewName, q: &ViewName) -> bool {
+    amount_of(engine, p, 120) == Ok((120, 1, 1))
+        && amount_of(engine, p, 120) == Ok((120, 1, 0))
+        && amount_of(engine, q, 120) == Ok((0, 0, 0))
+        && engine.view_time(q, 2000).is_ok()
+        && amount_of(engine, q, 120) == Ok((120, 1, 1))
+        && engine.view_time(q, 1999).is_ok()
+        && amount_of(engine, q, 120) == Ok((0, 0, 0))
+}
+
+/// The amount of a root, and then a root's certificate dropped, after which no other edge is made anew.
+fn changes_are_told(engine: &mut Engine, p: &ViewName) -> bool {
+    if engine.view_root(p, &R, 50).is_err()
+        || amount_of(engine, p, 120) != Ok((50, 1, 0))
+        || engine.keyring().changes() != 6
+    {
+        return false;
     }
-    Ok(())
+    engine.remove(&R).is_ok() && amount_of(engine, p, 120) == Ok((0, 0, 0))
 }
 
 #[test]
-fn a_certificate_is_exported(rt: HostRuntime) -> Result<(), Fail> {
-    let engine = engine_of(rt.alloc(), &SCRIPT).ok_or("done")?;
-    let mut text = Vec::new(rt.alloc());
-    assert_eq!(rt; engine.keyring().export(&R, &mut text), Ok(()));
-    assert_eq!(rt;
-        engine.keyring().export(&A, &mut text),
-        Err(ExportFault::Absent)
-    );
-    assert_eq!(rt;
-        text.as_slice(),
-        b"\xc6\x07\x04\x00\x00\x03\xe8\x1b\x01\xc2\x10\x04\x1f\x1b\x08\x00\x06\x05\x02\x00\x00\x03\xe8\x00\x00\x00\x00".as_slice()
-    );
-    Ok(())
+fn answers_are_those_of_the_present(rt: HostRuntime) {
+    let mut engine = engine_of(rt.alloc(), &SCRIPT).expect(&rt, "done");
+    let p = view_name(rt.alloc(), b"p").expect(&rt, "p");
+    let q = view_name(rt.alloc(), b"q").expect(&rt, "q");
+    assert!(rt; times_are_told(&mut engine, &p, &q));
+    assert!(rt; changes_are_told(&mut engine, &p));
+}
+
+/// Whether the roads are those of the certification of t.
+fn are_its_roads<N: Roads>(roads: &N) -> bool {
+    roads.rows(&T).len() == 1
+        && roads.rows(&R).is_empty()
+        && roads.in_order(&T, b"t")
+        && !roads.in_order(&T, b"u")
+        && roads.place(&T, b"t") == Some(0)
+}
+
+fn has_roads(engine: &mut Engine, view: &ViewName, steps: &mut Steps) -> bool {
+    match engine.roads(view, steps) {
+        Ok(roads) => are_its_roads(&roads),
+        Err(_) => false,
+    }
+}
+
+fn has_parts(engine: &mut Engine, view: &ViewName, steps: &mut Steps) -> bool {
+    match engine.parts(view, steps) {
+        Ok(parts) => {
+            parts.keyring.changes() == 6
+                && are_its_roads(&parts.roads)
+                && parts.roots.get(&R) == 120
+                && parts.t == 5000
+        }
+        Err(_) => false,
+    }
 }
 
 #[test]
-fn answers_are_those_of_the_present(rt: HostRuntime) -> Result<(), Fail> {
-    let mut engine = engine_of(rt.alloc(), &SCRIPT).ok_or("done")?;
-    let p = view_name(rt.alloc(), b"p")?;
-    let q = view_name(rt.alloc(), b"q")?;
-    // At 5000, R's certification of 2000 is there: 120 by R. At 1500 it isn't.
-    assert_eq!(rt; amount_of(&mut engine, &p, 120), Ok((120, 1, 1)));
-    assert_eq!(rt; amount_of(&mut engine, &p, 120), Ok((120, 1, 0)));
-    assert_eq!(rt; amount_of(&mut engine, &q, 120), Ok((0, 0, 0)));
-    engine.view_time(&q, 2000)?;
-    assert_eq!(rt; amount_of(&mut engine, &q, 120), Ok((120, 1, 1)));
-    engine.view_time(&q, 1999)?;
-    assert_eq!(rt; amount_of(&mut engine, &q, 120), Ok((0, 0, 0)));
-    engine.view_root(&p, &R, 50)?;
-    assert_eq!(rt; amount_of(&mut engine, &p, 120), Ok((50, 1, 0)));
-    assert_eq!(rt; engine.keyring().changes(), 6);
-    engine.remove(&R)?;
-    // No other certificate was altered, so no edge is made anew.
-    assert_eq!(rt; amount_of(&mut engine, &p, 120), Ok((0, 0, 0)));
-    Ok(())
-}
-
-#[test]
-fn roads_of_a_view(rt: HostRuntime) -> Result<(), Fail> {
-    let mut engine = engine_of(rt.alloc(), &SCRIPT).ok_or("done")?;
-    let p = view_name(rt.alloc(), b"p")?;
-    let z = view_name(rt.alloc(), b"z")?;
+fn roads_of_a_view(rt: HostRuntime) {
+    let mut engine = engine_of(rt.alloc(), &SCRIPT).expect(&rt, "done");
+    let p = view_name(rt.alloc(), b"p").expect(&rt, "p");
+    let z = view_name(rt.alloc(), b"z").expect(&rt, "z");
     let mut steps = Steps::new();
-    let roads = engine.roads(&p, &mut steps)?;
-    assert_eq!(rt; roads.rows(&T).len(), 1);
-    assert!(rt; roads.rows(&R).is_empty());
-    assert!(rt; roads.in_order(&T, b"t"));
-    assert!(rt; !roads.in_order(&T, b"u"));
-    assert_eq!(rt; roads.place(&T, b"t"), Some(0));
+    assert!(rt; has_roads(&mut engine, &p, &mut steps) && has_parts(&mut engine, &p, &mut steps));
     assert!(rt; engine.roads(&z, &mut steps).is_err());
-    let parts = engine.parts(&p, &mut steps)?;
-    assert_eq!(rt; parts.keyring.changes(), 6);
-    assert_eq!(rt; parts.roads.rows(&T).len(), 1);
-    assert_eq!(rt; parts.roots.get(&R), 120);
-    assert_eq!(rt; parts.t, 5000);
     assert!(rt; engine.parts(&z, &mut steps).is_err());
-    assert_eq!(rt; steps.made, 1);
-    assert_eq!(rt; engine.time(&p), Some(5000));
-    Ok(())
+    assert!(rt; steps.made == 1 && engine.time(&p) == Some(5000));
 }
 
+fn opens_within_limits(engine: &mut Engine, p: &ViewName, q: &ViewName) -> bool {
+    engine.view_root(p, &R, 5) == Err(ViewFault::View)
+        && engine.view_time(p, 5) == Ok(())
+        && engine.view_time(q, 5) == Err(ViewFault::Full(Limit::Views))
+        && engine.view_root(p, &R, 0) == Err(ViewFault::Absent)
+        && engine.view_root(p, &R, 5) == Ok(())
+        && engine.view_root(p, &A, 5) == Err(ViewFault::Full(Limit::Roots))
+        && engine.view_root(p, &R, 6) == Ok(())
+        && engine.view_time(p, 7) == Ok(())
+}
+
+fn has_view(engine: &Engine, p: &ViewName, t: u32, amount: u8, count: usize) -> bool {
+    match engine.roots(p) {
+        Some(roots) => {
+            engine.time(p) == Some(t) && roots.get(&R) == amount && roots.len() == count
+        }
+        None => false,
+    }
+}
+
+fn closes(engine: &mut Engine, p: &ViewName, q: &ViewName) -> bool {
+    engine.view_close(q) == Err(NoView)
+        && engine.view_close(p) == Ok(())
+        && engine.time(p).is_none()
+        && amount_of(engine, p, 1) == Err(AskFault::View)
+}
+
+/// What was closed is opened with no roots.
 #[test]
-fn views_within_their_limits(rt: HostRuntime) -> Result<(), Fail> {
+fn views_within_their_limits(rt: HostRuntime) {
     let limits = Limits {
         views: 1,
         roots: 1,
         ..Limits::standard()
     };
     let mut engine = Engine::new(rt.alloc(), limits);
-    let p = view_name(rt.alloc(), b"p")?;
-    let q = view_name(rt.alloc(), b"q")?;
-    assert_eq!(rt; engine.view_root(&p, &R, 5), Err(ViewFault::View));
-    assert_eq!(rt; engine.view_time(&p, 5), Ok(()));
-    assert_eq!(rt; engine.view_time(&q, 5), Err(ViewFault::Full(Limit::Views)));
-    assert_eq!(rt; engine.view_root(&p, &R, 0), Err(ViewFault::Absent));
-    assert_eq!(rt; engine.view_root(&p, &R, 5), Ok(()));
-    assert_eq!(rt;
-        engine.view_root(&p, &A, 5),
-        Err(ViewFault::Full(Limit::Roots))
-    );
-    assert_eq!(rt; engine.view_root(&p, &R, 6), Ok(()));
-    assert_eq!(rt; engine.view_time(&p, 7), Ok(()));
-    assert_eq!(rt; engine.time(&p), Some(7));
-    let amount = engine.roots(&p).map(|roots| roots.get(&R));
-    assert_eq!(rt; amount, Some(6));
-    assert_eq!(rt; engine.view_close(&q), Err(NoView));
-    assert_eq!(rt; engine.view_close(&p), Ok(()));
-    assert_eq!(rt; engine.time(&p), None);
-    assert_eq!(rt; amount_of(&mut engine, &p, 1), Err(AskFault::View));
-    // What was closed is opened with no roots.
-    assert_eq!(rt; engine.view_time(&p, 8), Ok(()));
-    let count = engine.roots(&p).map(|roots| roots.len());
-    assert_eq!(rt; count, Some(0));
-    Ok(())
+    let p = view_name(rt.alloc(), b"p").expect(&rt, "p");
+    let q = view_name(rt.alloc(), b"q").expect(&rt, "q");
+    assert!(rt; opens_within_limits(&mut engine, &p, &q) && has_view(&engine, &p, 7, 6, 1));
+    assert!(rt; closes(&mut engine, &p, &q));
+    assert!(rt; engine.view_time(&p, 8) == Ok(()) && has_view(&engine, &p, 8, 0, 0));
 }

@@ -1,9 +1,10 @@
 ghost use Rattle.std.specs.Prelude.{None};
 
 use crate::layers;
+use crate::script::Line::{self, Import, Other};
+use crate::script::{FIELD, R_BY_R, R_CERT, T_BY_T, T_CERT, text_of};
 use std::alloc::Global;
 use std::cell::Cell;
-use std::test::Fail;
 use wot_certd::{MemoryShelf, Shelf};
 use wot_engine::{Machine, run_words};
 use wot_io::{Failed, MemorySink, MemorySource, Sink, Source};
@@ -11,38 +12,35 @@ use wot_policy::{Policy, admits, standard_rows};
 
 /// What came of a run: the status, what was written, and how much of the input is left (up to 64 octets).
 #[derive(Drop)]
-pub struct Outcome {
-    pub status: u8,
-    pub written: Vec<u8>,
-    pub left: usize,
+pub(crate) struct Outcome {
+    pub(crate) status: u8,
+    pub(crate) written: Vec<u8>,
+    pub(crate) left: usize,
 }
 
-pub fn owned(alloc: Global, words: &[&str]) -> Result<Vec<String>, Fail> {
+pub(crate) fn owned(alloc: Global, words: &[&str]) -> Option<Vec<String>> {
     let mut all = Vec::new(alloc);
     for word in words {
-        all.push(String::from_str(alloc, word)?)?;
+        all.push(String::from_str(alloc, word).ok()?).ok()?;
     }
-    Ok(all)
+    Some(all)
 }
 
 /// A source that gives five octets a read, and fails in the reads with these numbers.
-pub fn source_of(alloc: Global, script: &[u8], fails: &[u64]) -> Result<MemorySource, Fail> {
-    let script = script.to_vec(alloc)?;
-    let fails = fails.to_vec(alloc)?;
-    Ok(MemorySource::new(script, 5, fails))
+pub(crate) fn source_of(alloc: Global, script: &[u8], fails: &[u64]) -> Option<MemorySource> {
+    let script = script.to_vec(alloc).ok()?;
+    let fails = fails.to_vec(alloc).ok()?;
+    Some(MemorySource::new(script, 5, fails))
 }
 
 /// A sink that takes three octets a write, and fails in the writes with these numbers.
-pub fn sink_of(alloc: Global, fails: &[u64]) -> Result<MemorySink, Fail> {
-    let fails = fails.to_vec(alloc)?;
-    match MemorySink::new(alloc, 3, 8192, fails) {
-        Ok(sink) => Ok(sink),
-        Err(_) => Err("memory".into()),
-    }
+pub(crate) fn sink_of(alloc: Global, fails: &[u64]) -> Option<MemorySink> {
+    let fails = fails.to_vec(alloc).ok()?;
+    MemorySink::new(alloc, 3, 8192, fails).ok()
 }
 
 /// The status of a run under the standard policy.
-pub fn status_of<S: Source, K: Sink, D: Shelf>(
+pub(crate) fn status_of<S: Source, K: Sink, D: Shelf>(
     alloc: Global,
     words: &[String],
     input: &mut S,
@@ -65,100 +63,108 @@ fn left_in(input: &mut MemorySource) -> usize {
 }
 
 /// Runs a script over memory, with reads and writes that fail in the calls with these numbers.
-pub fn outcome_of(
+pub(crate) fn outcome_of(
     alloc: Global,
     words: &[&str],
     script: &[u8],
     read_fails: &[u64],
     write_fails: &[u64],
-) -> Result<Outcome, Fail> {
+) -> Option<Outcome> {
     let words = owned(alloc, words)?;
     let mut input = source_of(alloc, script, read_fails)?;
     let mut output = sink_of(alloc, write_fails)?;
     let mut shelf = empty_shelf(alloc);
     let status = status_of(alloc, &words, &mut input, &mut output, &mut shelf);
-    let written = output.written().to_vec(alloc)?;
+    let written = output.written().to_vec(alloc).ok()?;
     let left = left_in(&mut input);
-    Ok(Outcome {
+    Some(Outcome {
         status,
         written,
         left,
     })
 }
 
-/// The key of a certificate from the field, with its one key packet.
-const IMPORT_AND_KEYS: &[u8] =
-    b"import c6330453f35f0b16092b06010401da470f010107403f098994bdd916ed4053197934e4a87c80733a1280d62f8010992e43ee3b2406\nkeys\n";
+/// Scripts, and their replies.
+static SCRIPTS: [(&[u8], &[u8]); 5] = [
+    (b"", b""),
+    (b"\n\n#keys\n", b""),
+    (b"keys\nkeys", b"keys 0\nkeys 0\n"),
+    (b"keys\r\nkeys\n", b"refused line\nkeys 0\n"),
+    (b"\0\n\xff\xfe\n", b"refused line\nrefused line\n"),
+];
 
-#[test]
-fn scripts_and_their_replies(rt: HostRuntime) -> Result<(), Fail> {
-    let rows: [(&[u8], &[u8]); 6] = [
-        (b"", b""),
-        (b"\n\n#keys\n", b""),
-        (b"keys\nkeys", b"keys 0\nkeys 0\n"),
-        (b"keys\r\nkeys\n", b"refused line\nkeys 0\n"),
-        (b"\0\n\xff\xfe\n", b"refused line\nrefused line\n"),
-        (
-            IMPORT_AND_KEYS,
-            b"ok taken 1 skipped 0 new 1\nkeys 1\nkey c959bdbafa32a2f89a153b678cfde12197965a9a 0 0\n",
-        ),
-    ];
-    for (script, replies) in rows.iter() {
-        let outcome = outcome_of(rt.alloc(), &["run"], script, &[], &[])?;
-        assert_eq!(rt; outcome.status, 0);
-        assert!(rt; outcome.written.as_slice() == *replies);
-        assert_eq!(rt; outcome.left, 0);
+/// A certificate from the field is imported.
+static IMPORT_AND_KEYS: [Line; 2] = [Import(&[FIELD]), Other(b"keys")];
+
+const IMPORTED_AND_KEYS: &[u8] =
+    b"ok taken 1 skipped 0 new 1\nkeys 1\nkey c959bdbafa32a2f89a153b678cfde12197965a9a 0 0\n";
+
+/// Whether a script is replied to so, and read to its end.
+pub(crate) fn is_replied(alloc: Global, script: &[u8], replies: &[u8]) -> bool {
+    match outcome_of(alloc, &["run"], script, &[], &[]) {
+        Some(outcome) => {
+            outcome.status == 0 && outcome.written.as_slice() == replies && outcome.left == 0
+        }
+        None => false,
     }
-    Ok(())
 }
 
 #[test]
-fn words_that_are_no_form(rt: HostRuntime) -> Result<(), Fail> {
-    let rows: [&[&str]; 12] = [
-        &[],
-        &["run", "x", "y"],
-        &["gen", "1", "0"],
-        &["gen", "01", "5"],
-        &["gen", "+1", "5"],
-        &["gen", "1"],
-        &["gen", "1", "2001"],
-        &["gen", "1", "2", "3"],
-        &["gen", "18446744073709551616", "1"],
-        &["run", ""],
-        &["Run"],
-        &[""],
-    ];
-    for words in rows.iter() {
-        let outcome = outcome_of(rt.alloc(), words, b"keys\n", &[], &[])?;
-        assert_eq!(rt; outcome.status, 2);
-        assert!(rt; outcome.written.is_empty());
-        assert_eq!(rt; outcome.left, 5);
+fn scripts_and_their_replies(rt: HostRuntime) {
+    for (script, replies) in &SCRIPTS {
+        assert!(rt; is_replied(rt.alloc(), script, replies), "{script:?}");
     }
-    Ok(())
+    let script = text_of(rt.alloc(), &IMPORT_AND_KEYS).expect(&rt, "a text");
+    assert!(rt; is_replied(rt.alloc(), &script, IMPORTED_AND_KEYS));
 }
 
-/// What a fresh machine replies to a line.
-fn reply_to(alloc: Global, line: &[u8]) -> Result<Vec<u8>, Fail> {
+static OTHER_WORDS: [&[&str]; 12] = [
+    &[],
+    &["run", "x", "y"],
+    &["gen", "1", "0"],
+    &["gen", "01", "5"],
+    &["gen", "+1", "5"],
+    &["gen", "1"],
+    &["gen", "1", "2001"],
+    &["gen", "1", "2", "3"],
+    &["gen", "18446744073709551616", "1"],
+    &["run", ""],
+    &["Run"],
+    &[""],
+];
+
+/// Whether these words are refused, with nothing read or written.
+fn are_no_form(alloc: Global, words: &[&str]) -> bool {
+    match outcome_of(alloc, words, b"keys\n", &[], &[]) {
+        Some(outcome) => outcome.status == 2 && outcome.written.is_empty() && outcome.left == 5,
+        None => false,
+    }
+}
+
+#[test]
+fn words_that_are_no_form(rt: HostRuntime) {
+    for words in &OTHER_WORDS {
+        assert!(rt; are_no_form(rt.alloc(), words), "{words:?}");
+    }
+}
+
+/// Whether a fresh machine replies so to a line.
+fn replies(alloc: Global, line: &[u8], reply: &[u8]) -> bool {
     let rows = standard_rows();
     let mut policy = Policy::new(rows, |ask| admits(&rows, ask));
     let mut shelf = empty_shelf(alloc);
     let mut out = Vec::new(alloc);
-    match Machine::new(alloc).line(line, &mut shelf, &mut policy, &mut out) {
-        Ok(()) => Ok(out),
-        Err(_) => Err("memory".into()),
-    }
+    let done = Machine::new(alloc)
+        .line(line, &mut shelf, &mut policy, &mut out)
+        .is_ok();
+    done && out.as_slice() == reply
 }
 
 #[test]
-fn lines_that_are_too_long(rt: HostRuntime) -> Result<(), Fail> {
-    let mut line = vec![in rt.alloc(); b'#'; 16777216]?;
-    assert_eq!(rt; reply_to(rt.alloc(), &line)?.as_slice(), b"".as_slice());
-    line.push(b'#')?;
-    assert_eq!(rt;
-        reply_to(rt.alloc(), &line)?.as_slice(),
-        b"refused long\n".as_slice()
-    );
-    Ok(())
+fn lines_that_are_too_long(rt: HostRuntime) {
+    let mut line = vec![in rt.alloc(); b'#'; 16777216].expect(&rt, "memory");
+    assert!(rt; replies(rt.alloc(), &line, b""));
+    assert!(rt; line.push(b'#').is_ok() && replies(rt.alloc(), &line, b"refused long\n"));
 }
 
 /// A source that notes each read, as the digit 1, in a number that it shares with a sink.
@@ -203,66 +209,72 @@ impl Sink for HeardSink<'_> {
     }
 }
 
-#[test]
-fn each_reply_is_written_before_more_is_read(rt: HostRuntime) -> Result<(), Fail> {
+/// The calls of a run over a script of three lines that are answered.
+fn heard(alloc: Global) -> Option<u64> {
     let log = Cell::new(0u64);
-    let words = owned(rt.alloc(), &["run"])?;
+    let words = owned(alloc, &["run"])?;
     let mut input = HeardSource {
         log: &log,
-        input: source_of(rt.alloc(), b"keys\nkeys\nkeys\n", &[])?,
+        input: source_of(alloc, b"keys\nkeys\nkeys\n", &[])?,
     };
     let mut output = HeardSink { log: &log };
-    let mut shelf = empty_shelf(rt.alloc());
-    let status = status_of(rt.alloc(), &words, &mut input, &mut output, &mut shelf);
-    assert_eq!(rt; status, 0);
-    assert_eq!(rt; log.get(), 1_212_121);
-    Ok(())
+    let mut shelf = empty_shelf(alloc);
+    let status = status_of(alloc, &words, &mut input, &mut output, &mut shelf);
+    if status == 0 { Some(log.get()) } else { None }
+}
+
+#[test]
+fn each_reply_is_written_before_more_is_read(rt: HostRuntime) {
+    assert!(rt; heard(rt.alloc()) == Some(1_212_121));
 }
 
 /// A key that is a root of both views, a key whose user ID it certifies, and no verdict on that certification yet.
-const SETUP: &[u8] = b"import c60704000003e81b01c210041f1b0800060502000003e800000000
-import c60704000003e81b04c210041f1b0800060502000003e800000000cd0174c21004101b0800060502000007d000000000
-verdict 68d0eb5f8ca13914fcddf1b23e5f608bf9847603834da284f01a707208051209 good 7f35c8dbd6b3eb2ffd59cbdd2e41ea291212ac38
-verdict 6f340f6bdd375d28b7edb40f930d95bf4ad33f807483dfd6a9600c1af4e334bd good 3c98b8180e0fcaca1032499082a5de8fa5d98232
-view p time 5000
-view p root 7f35c8dbd6b3eb2ffd59cbdd2e41ea291212ac38 120
-view q time 5000
-view q root 7f35c8dbd6b3eb2ffd59cbdd2e41ea291212ac38 40
-";
+static SETUP: [Line; 8] = [
+    Import(R_CERT),
+    Import(T_CERT),
+    R_BY_R,
+    T_BY_T,
+    Other(b"view p time 5000"),
+    Other(b"view p root 7f35c8dbd6b3eb2ffd59cbdd2e41ea291212ac38 120"),
+    Other(b"view q time 5000"),
+    Other(b"view q root 7f35c8dbd6b3eb2ffd59cbdd2e41ea291212ac38 40"),
+];
 
 const SET_UP: &[u8] =
     b"ok taken 1 skipped 0 new 2\nok taken 1 skipped 0 new 4\nok\nok\nok\nok\nok\nok\n";
 
 /// What a letter stands for. Lines: a, b, c of the client that asks through the view p, x, y, z of the one that asks
 /// through q. Replies: a change, the one path seen from p or from q, and no path.
-fn text_of(letter: u8) -> &'static [u8] {
+fn spelling_of(letter: u8) -> &'static [u8] {
     match letter {
         b'a' | b'c' => b"ask p 3c98b8180e0fcaca1032499082a5de8fa5d98232 120 t\n",
         b'b' => b"verdict 7331b37825bdca65502938381c08cd08d9da47de1940c67bdae7bdf1dfab72d5 bad\n",
-        b'x' =>
-            b"verdict 7331b37825bdca65502938381c08cd08d9da47de1940c67bdae7bdf1dfab72d5 good 7f35c8dbd6b3eb2ffd59cbdd2e41ea291212ac38\n",
+        b'x' => b"verdict 7331b37825bdca65502938381c08cd08d9da47de1940c67bdae7bdf1dfab72d5 \
+              good 7f35c8dbd6b3eb2ffd59cbdd2e41ea291212ac38\n",
         b'y' => b"ask q 3c98b8180e0fcaca1032499082a5de8fa5d98232 120 t\n",
         b'z' => b"drop 3c98b8180e0fcaca1032499082a5de8fa5d98232\n",
         b'k' => b"ok\n",
-        b'p' =>
-            b"amount 120 paths 1\npath 120 steps 1 root 7f35c8dbd6b3eb2ffd59cbdd2e41ea291212ac38\nstep 7f35c8dbd6b3eb2ffd59cbdd2e41ea291212ac38 3c98b8180e0fcaca1032499082a5de8fa5d98232 0 120 t\n",
-        b'q' =>
-            b"amount 40 paths 1\npath 40 steps 1 root 7f35c8dbd6b3eb2ffd59cbdd2e41ea291212ac38\nstep 7f35c8dbd6b3eb2ffd59cbdd2e41ea291212ac38 3c98b8180e0fcaca1032499082a5de8fa5d98232 0 120 t\n",
+        b'p' => b"amount 120 paths 1\n\
+              path 120 steps 1 root 7f35c8dbd6b3eb2ffd59cbdd2e41ea291212ac38\n\
+              step 7f35c8dbd6b3eb2ffd59cbdd2e41ea291212ac38 3c98b8180e0fcaca1032499082a5de8fa5d98232 0 120 t\n",
+        b'q' => b"amount 40 paths 1\n\
+              path 40 steps 1 root 7f35c8dbd6b3eb2ffd59cbdd2e41ea291212ac38\n\
+              step 7f35c8dbd6b3eb2ffd59cbdd2e41ea291212ac38 3c98b8180e0fcaca1032499082a5de8fa5d98232 0 120 t\n",
         _ => b"amount 0 paths 0\n",
     }
 }
 
 /// A text, and behind it that of each letter.
-fn spelled(alloc: Global, prefix: &[u8], letters: &[u8]) -> Result<Vec<u8>, Fail> {
-    let mut text = prefix.to_vec(alloc)?;
+fn spelled(alloc: Global, prefix: &[u8], letters: &[u8]) -> Option<Vec<u8>> {
+    let mut text = prefix.to_vec(alloc).ok()?;
     for letter in letters {
-        text.extend_from_slice(text_of(*letter))?;
+        text.extend_from_slice(spelling_of(*letter)).ok()?;
     }
-    Ok(text)
+    Some(text)
 }
 
 /// Every way in which the two clients' lines may be interleaved, and what is replied to them.
-const INTERLEAVED: [(&[u8; 6], &[u8; 6]); 20] = [
+static INTERLEAVED: [(&[u8; 6], &[u8; 6]); 20] = [
     (b"abcxyz", b"0k0kqk"),
     (b"abxcyz", b"0kkpqk"),
     (b"abxycz", b"0kkqpk"),
@@ -285,22 +297,31 @@ const INTERLEAVED: [(&[u8; 6], &[u8; 6]); 20] = [
     (b"xyzabc", b"kqk0k0"),
 ];
 
-#[test]
-fn two_clients_interleaved_in_every_way(rt: HostRuntime) -> Result<(), Fail> {
-    for (order, letters) in INTERLEAVED.iter() {
-        let script = spelled(rt.alloc(), SETUP, order.as_slice())?;
-        let replies = spelled(rt.alloc(), SET_UP, letters.as_slice())?;
-        let outcome = outcome_of(rt.alloc(), &["run"], &script, &[], &[])?;
-        assert_eq!(rt; outcome.status, 0);
-        assert!(rt; outcome.written.as_slice() == replies.as_slice());
-    }
-    Ok(())
+/// Whether these lines behind those that set up are replied to so.
+fn is_interleaved_so(alloc: Global, setup: &[u8], order: &[u8], letters: &[u8]) -> Option<bool> {
+    let script = spelled(alloc, setup, order)?;
+    let replies = spelled(alloc, SET_UP, letters)?;
+    Some(is_replied(alloc, &script, &replies))
 }
 
 #[test]
-fn thirty_layers_of_two_certificates(rt: HostRuntime) -> Result<(), Fail> {
-    let outcome = outcome_of(rt.alloc(), &["run"], layers::SCRIPT, &[], &[])?;
-    assert_eq!(rt; outcome.status, 0);
-    assert!(rt; outcome.written.as_slice().ends_with(layers::ANSWER));
-    Ok(())
+fn two_clients_interleaved_in_every_way(rt: HostRuntime) {
+    let setup = text_of(rt.alloc(), &SETUP).expect(&rt, "a text");
+    for (order, letters) in &INTERLEAVED {
+        let told = is_interleaved_so(rt.alloc(), &setup, order.as_slice(), letters.as_slice());
+        assert!(rt; told == Some(true), "{order:?}");
+    }
+}
+
+/// Whether the replies to a script end so.
+pub(crate) fn ends_with(alloc: Global, script: &[u8], answer: &[u8]) -> bool {
+    match outcome_of(alloc, &["run"], script, &[], &[]) {
+        Some(outcome) => outcome.status == 0 && outcome.written.as_slice().ends_with(answer),
+        None => false,
+    }
+}
+
+#[test]
+fn thirty_layers_of_two_certificates(rt: HostRuntime) {
+    assert!(rt; ends_with(rt.alloc(), layers::SCRIPT, layers::ANSWER));
 }

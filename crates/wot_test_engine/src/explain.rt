@@ -1,8 +1,7 @@
 use std::alloc::Global;
-use std::test::Fail;
 use wot_cert::{Assembled, Cert, Sig, assemble};
 use wot_edge::{Roots, Step};
-use wot_explain::{Bind, ExplainFault, Explained, explain, list, list_after};
+use wot_explain::{Bind, ExplainFault, Explained, Reason as Why, explain, list, list_after};
 use wot_keyring::Keyring;
 use wot_network::Network;
 use wot_packet::read_packets;
@@ -13,7 +12,7 @@ use wot_sample::{
     A, CERTIFICATION, CERTIFICATION_REVOCATION, DIRECT, DIRECT_KEY, KEY_A, KEY_R, KEY_REVOCATION,
     KEY_T, POSITIVE, R, SPANS, T,
 };
-use wot_types::{Fpr, Limits, Place, Steps};
+use wot_types::{Fpr, Limits, Place, Steps, UserId as UserIdOctets};
 use wot_verdict::Verdict;
 
 /// What the verdicts on the signatures of user IDs say.
@@ -332,71 +331,100 @@ static CASES: [Case; 26] = [
     (&[], OWN_REVOKED, Said::Named, 5000, 6, &[8]),
 ];
 
-#[test]
-fn words_of_certifications_and_targets(rt: HostRuntime) -> Result<(), Fail> {
-    for (issuer, target, said, t, word, words) in &CASES {
-        let keyring = state(rt.alloc(), issuer, target, *said).ok_or("a keyring")?;
-        let told = explained(rt.alloc(), &keyring, *t, &T, b"t")
-            .ok()
-            .ok_or("explained")?;
-        assert_eq!(rt; told.target, *word);
-        let found: Vec<u8> = told
-            .certs
-            .as_slice()
-            .iter()
-            .map(|c| c.1)
-            .collect(rt.alloc())?;
-        assert_eq!(rt; found.as_slice(), *words);
+/// Whether these are the words of the certifications.
+fn have_words(certs: &[Why], words: &[u8]) -> bool {
+    if certs.len() != words.len() {
+        return false;
     }
-    Ok(())
+    for (reason, word) in certs.iter().zip(words) {
+        if reason.1 != *word {
+            return false;
+        }
+    }
+    true
+}
+
+/// Whether T's user ID t is explained so.
+fn is_explained_so(alloc: Global, case: &Case) -> Option<bool> {
+    let (issuer, target, said, t, word, words) = *case;
+    let keyring = state(alloc, issuer, target, said)?;
+    let told = explained(alloc, &keyring, t, &T, b"t").ok()?;
+    Some(told.target == word && have_words(told.certs.as_slice(), words))
+}
+
+#[test]
+fn words_of_certifications_and_targets(rt: HostRuntime) {
+    let mut number = 0u32;
+    for case in &CASES {
+        assert!(rt;
+            is_explained_so(rt.alloc(), case) == Some(true),
+            "case {number}"
+        );
+        number = number.wrapping_add(1);
+    }
+}
+
+/// The edge of the certification that lasts.
+const EDGE: Step = Step {
+    issuer: R,
+    target: T,
+    uid: 0,
+    depth: 0,
+    amount: 60,
+};
+
+fn has_edge(told: &Explained) -> bool {
+    match told.certs.as_slice() {
+        [edge, expired] => edge.2 == Some(EDGE) && expired.1 == 7 && expired.2.is_none(),
+        _ => false,
+    }
+}
+
+fn is_absent(alloc: Global, keyring: &Keyring, fpr: &Fpr, uid: &[u8]) -> bool {
+    match explained(alloc, keyring, 5000, fpr, uid) {
+        Err(ExplainFault::Absent) => true,
+        _ => false,
+    }
+}
+
+/// Whether R's binding of T's user ID t reaches its amount, and no more.
+fn is_bound(alloc: Global, keyring: &Keyring, roots: &Roots) -> Option<bool> {
+    let binds = listed(alloc, keyring, 5000, roots, 60)?;
+    let none = listed(alloc, keyring, 5000, roots, 61)?;
+    let bound = match binds.as_slice() {
+        [bind] => bind.sum == 60 && bind.fpr == T && bind.uid.octets() == b"t".as_slice(),
+        _ => false,
+    };
+    Some(bound && none.is_empty())
+}
+
+/// Whether pieces of the list have their sizes: from the front on, of no binding, and behind the one that there is.
+fn has_pieces(alloc: Global, keyring: &Keyring, roots: &Roots) -> Option<bool> {
+    let uid = UserIdOctets::new(alloc, b"t").ok()?;
+    let place = Place { fpr: T, uid };
+    let all = size_of_piece(alloc, keyring, 5000, roots, None, 5)?;
+    let none = size_of_piece(alloc, keyring, 5000, roots, None, 0)?;
+    let rest = size_of_piece(alloc, keyring, 5000, roots, Some(&place), 5)?;
+    Some((all, none, rest) == (1, 0, 0))
+}
+
+fn root_r(alloc: Global) -> Option<Roots> {
+    let mut roots = Roots::new(alloc);
+    roots.set(R, 120).ok()?;
+    Some(roots)
 }
 
 /// Of two certifications by R the one that lasts is the edge, and the binding reaches its amount.
 #[test]
-fn an_edge_and_its_binding(rt: HostRuntime) -> Result<(), Fail> {
-    let keyring = state(rt.alloc(), &[KEY_R, DIRECT], SPANS, Said::Named).ok_or("a keyring")?;
-    let told = explained(rt.alloc(), &keyring, 5000, &T, b"t")
-        .ok()
-        .ok_or("explained")?;
-    let [edge, expired] = told.certs.as_slice() else {
-        return Err(Fail::from("two certifications"));
-    };
-    let step = Step {
-        issuer: R,
-        target: T,
-        uid: 0,
-        depth: 0,
-        amount: 60,
-    };
-    assert_eq!(rt; edge.2, Some(step));
-    assert_eq!(rt; (expired.1, expired.2), (7, None));
-    assert_eq!(rt;
-        explained(rt.alloc(), &keyring, 5000, &T, b"u").err(),
-        Some(ExplainFault::Absent)
-    );
-    assert_eq!(rt;
-        explained(rt.alloc(), &keyring, 5000, &A, b"t").err(),
-        Some(ExplainFault::Absent)
-    );
-    let mut roots = Roots::new(rt.alloc());
-    roots.set(R, 120)?;
-    let binds = listed(rt.alloc(), &keyring, 5000, &roots, 60).ok_or("listed")?;
-    let [bind] = binds.as_slice() else {
-        return Err(Fail::from("one binding"));
-    };
-    assert_eq!(rt;
-        (bind.sum, bind.fpr, bind.uid.octets()),
-        (60, T, b"t".as_slice())
-    );
-    let none = listed(rt.alloc(), &keyring, 5000, &roots, 61).ok_or("listed")?;
-    assert!(rt; none.is_empty());
-    let place = Place {
-        fpr: T,
-        uid: wot_types::UserId::new(rt.alloc(), b"t")?,
-    };
-    for (after, count, size) in [(None, 5, 1), (None, 0, 0), (Some(&place), 5, 0)] {
-        let found = size_of_piece(rt.alloc(), &keyring, 5000, &roots, after, count);
-        assert_eq!(rt; found, Some(size));
+fn an_edge_and_its_binding(rt: HostRuntime) {
+    let keyring = state(rt.alloc(), &[KEY_R, DIRECT], SPANS, Said::Named).expect(&rt, "a keyring");
+    match explained(rt.alloc(), &keyring, 5000, &T, b"t") {
+        Ok(told) => assert!(rt; has_edge(&told)),
+        Err(_) => assert!(rt; false),
     }
-    Ok(())
+    assert!(rt; is_absent(rt.alloc(), &keyring, &T, b"u"));
+    assert!(rt; is_absent(rt.alloc(), &keyring, &A, b"t"));
+    let roots = root_r(rt.alloc()).expect(&rt, "a root");
+    assert!(rt; is_bound(rt.alloc(), &keyring, &roots) == Some(true));
+    assert!(rt; has_pieces(rt.alloc(), &keyring, &roots) == Some(true));
 }

@@ -2,11 +2,12 @@
 ghost use Rattle.std.specs.Prelude.{None};
 
 use crate::engine::{owned, sink_of, source_of, status_of};
-use crate::shelf::{FIELD, FIELD_FPR, R_KEY, T_FPR, shelf_of};
+use crate::script::{FIELD, FIELD_FPR};
+use crate::shelf::{Row, shelf_of};
 use std::alloc::Global;
-use std::process::Abort;
-use std::test::Fail;
 use wot_io::{Failed, Sink, Source};
+use wot_sample::{KEY_R, T};
+use wot_types::Name;
 
 /// A script with the numbers of the reads, of the writes and of the shelf's calls that fail, and what comes of it: the
 /// status, and what is written. The source gives five octets a read, the sink takes three a write.
@@ -147,26 +148,26 @@ key c959bdbafa32a2f89a153b678cfde12197965a9a 0 0
     },
 ];
 
-/// The status of a case, and what was written.
-fn outcome(alloc: Global, case: &Case) -> Result<(u8, Vec<u8>), Fail> {
+/// The shelf of all cases: a certificate, and another's key under a name.
+static ENTRIES: [Row; 2] = [(Name::Cert(FIELD_FPR), &[FIELD]), (Name::Cert(T), &[KEY_R])];
+
+/// Whether a case ends so.
+fn ends_so(alloc: Global, case: &Case) -> Option<bool> {
     let words = owned(alloc, &["run", "folder"])?;
     let mut input = source_of(alloc, case.script, case.reads)?;
     let mut output = sink_of(alloc, case.writes)?;
-    let mut shelf = shelf_of(alloc, &[(FIELD_FPR, FIELD), (T_FPR, R_KEY)], case.calls)?;
+    let mut shelf = shelf_of(alloc, &ENTRIES, case.calls)?;
     let status = status_of(alloc, &words, &mut input, &mut output, &mut shelf);
-    Ok((status, output.written().to_vec(alloc)?))
+    Some(status == case.status && output.written() == case.written)
 }
 
 #[test]
-fn devices_that_fail(rt: HostRuntime) -> Result<(), Fail> {
-    let alloc = rt.alloc();
+fn devices_that_fail(rt: HostRuntime) {
+    let mut number = 0u32;
     for case in &CASES {
-        let (status, written) = outcome(alloc, case)?;
-        assert_eq!(rt; status, case.status);
-        assert!(rt; written.as_slice() == case.written);
+        assert!(rt; ends_so(rt.alloc(), case) == Some(true), "case {number}");
+        number = number.wrapping_add(1);
     }
-    endless_comments(&rt)?;
-    a_sink_that_takes_nothing(&rt)
 }
 
 /// The octets from one line feed to the next.
@@ -214,28 +215,33 @@ impl Sink for Refusing {
     }
 }
 
-/// An input without an end is left after 2^30 octets, with the status 6.
-fn endless_comments<R: Abort + AllocGlobal>(rt: &R) -> Result<(), Fail> {
-    let alloc = rt.alloc();
+/// The status of a run over endless comments, how much was read, and whether nothing was written.
+fn read_endless(alloc: Global) -> Option<(u8, u64, bool)> {
+    let words = owned(alloc, &["run"])?;
     let mut input = Endless { given: 0 };
     let mut output = sink_of(alloc, &[])?;
     let mut shelf = shelf_of(alloc, &[], &[])?;
-    let words = owned(alloc, &["run"])?;
     let status = status_of(alloc, &words, &mut input, &mut output, &mut shelf);
-    assert_eq!(rt; status, 6);
-    assert_eq!(rt; input.given, 1_073_741_824);
-    assert!(rt; output.written().is_empty());
-    Ok(())
+    Some((status, input.given, output.written().is_empty()))
 }
 
-fn a_sink_that_takes_nothing<R: Abort + AllocGlobal>(rt: &R) -> Result<(), Fail> {
-    let alloc = rt.alloc();
+/// An input without an end is left after 2^30 octets, with the status 6.
+#[test]
+fn endless_comments(rt: HostRuntime) {
+    assert!(rt; read_endless(rt.alloc()) == Some((6, 1_073_741_824, true)));
+}
+
+/// The status of a run whose sink takes nothing, and the count of its faults.
+fn refused(alloc: Global) -> Option<(u8, u64)> {
+    let words = owned(alloc, &["run"])?;
     let mut input = source_of(alloc, KEYS.script, &[])?;
     let mut output = Refusing { faults: 0 };
     let mut shelf = shelf_of(alloc, &[], &[])?;
-    let words = owned(alloc, &["run"])?;
     let status = status_of(alloc, &words, &mut input, &mut output, &mut shelf);
-    assert_eq!(rt; status, 4);
-    assert_eq!(rt; output.faults, 1);
-    Ok(())
+    Some((status, output.faults))
+}
+
+#[test]
+fn a_sink_that_takes_nothing(rt: HostRuntime) {
+    assert!(rt; refused(rt.alloc()) == Some((4, 1)));
 }

@@ -4,132 +4,134 @@ ghost use Rattle.wot_keyring.specs.Kept.{IsJudgedBy};
 ghost use Rattle.wot_policy.specs.Kept.{IsFaithful, rows_of};
 
 use crate::cache::{SCRIPT, amount_of, run_all, view_name};
+use crate::script::Line::{self, Import, Other};
+use crate::script::{R_BY_R, R_CERT, T_BY_R};
 use std::alloc::Global;
-use std::test::Fail;
 use wot_cache::Engine;
 use wot_policy::{Ask, Policy, admits, standard_rows};
+use wot_sample::{DIRECT, KEY_A};
 use wot_types::{Limits, ViewName};
 
 /// What is done, and what is told from p and from q after it: the amount for T's user ID t, and the number of paths.
 #[derive(Clone, Copy)]
 struct Turn {
-    lines: &'static [&'static [u8]],
+    lines: &'static [Line],
     p: (u32, usize),
     q: (u32, usize),
 }
 
-const R_IMPORTED: &[u8] = b"import c60704000003e81b01c210041f1b0800060502000003e800000000";
-
 /// One after the other, from the state on that `SCRIPT` makes: p at 5000 with the roots R 120, T 60 and A 1, and q at
 /// 1500 with the root R 255.
-const TURNS: [Turn; 19] = [
+static TURNS: [Turn; 19] = [
     // A verdict and a certificate on which no answer rests.
     Turn {
-        lines: &[b"verdict 0000000000000000000000000000000000000000000000000000000000000008 bad"],
+        lines: &[Other(
+            b"verdict 0000000000000000000000000000000000000000000000000000000000000008 bad",
+        )],
         p: (120, 1),
         q: (0, 0),
     },
     Turn {
-        lines: &[b"import c60704000003e81b02c210041f1b0800060502000003e800000000"],
+        lines: &[Import(&[KEY_A, DIRECT])],
         p: (120, 1),
         q: (0, 0),
     },
     // The time of a view.
     Turn {
-        lines: &[b"view q time 2000"],
+        lines: &[Other(b"view q time 2000")],
         p: (120, 1),
         q: (120, 1),
     },
     Turn {
-        lines: &[b"view p time 1999"],
+        lines: &[Other(b"view p time 1999")],
         p: (0, 0),
         q: (120, 1),
     },
     Turn {
-        lines: &[b"view p time 2000"],
+        lines: &[Other(b"view p time 2000")],
         p: (120, 1),
         q: (120, 1),
     },
     // The verdict on the certification, and on the introducer's own signature.
     Turn {
-        lines: &[b"verdict 7331b37825bdca65502938381c08cd08d9da47de1940c67bdae7bdf1dfab72d5 bad"],
+        lines: &[Other(
+            b"verdict 7331b37825bdca65502938381c08cd08d9da47de1940c67bdae7bdf1dfab72d5 bad",
+        )],
         p: (0, 0),
         q: (0, 0),
     },
     Turn {
-        lines: &[
-            b"verdict 7331b37825bdca65502938381c08cd08d9da47de1940c67bdae7bdf1dfab72d5 good 7f35c8dbd6b3eb2ffd59cbdd2e41ea291212ac38",
-        ],
+        lines: &[T_BY_R],
         p: (120, 1),
         q: (120, 1),
     },
     Turn {
-        lines: &[b"verdict 68d0eb5f8ca13914fcddf1b23e5f608bf9847603834da284f01a707208051209 none"],
+        lines: &[Other(
+            b"verdict 68d0eb5f8ca13914fcddf1b23e5f608bf9847603834da284f01a707208051209 none",
+        )],
         p: (0, 0),
         q: (0, 0),
     },
     Turn {
-        lines: &[
-            b"verdict 68d0eb5f8ca13914fcddf1b23e5f608bf9847603834da284f01a707208051209 good 7f35c8dbd6b3eb2ffd59cbdd2e41ea291212ac38",
-        ],
+        lines: &[R_BY_R],
         p: (120, 1),
         q: (120, 1),
     },
     // The amounts of roots, each view by its own.
     Turn {
-        lines: &[b"view p root 7f35c8dbd6b3eb2ffd59cbdd2e41ea291212ac38 50"],
+        lines: &[Other(b"view p root 7f35c8dbd6b3eb2ffd59cbdd2e41ea291212ac38 50")],
         p: (50, 1),
         q: (120, 1),
     },
     Turn {
-        lines: &[b"view q root 7f35c8dbd6b3eb2ffd59cbdd2e41ea291212ac38 40"],
+        lines: &[Other(b"view q root 7f35c8dbd6b3eb2ffd59cbdd2e41ea291212ac38 40")],
         p: (50, 1),
         q: (40, 1),
     },
     Turn {
-        lines: &[b"view p root 352e5f12059b4605a5b8f88f66d655c9133e1ca2 2"],
+        lines: &[Other(b"view p root 352e5f12059b4605a5b8f88f66d655c9133e1ca2 2")],
         p: (50, 1),
         q: (40, 1),
     },
     Turn {
-        lines: &[b"view p root 7f35c8dbd6b3eb2ffd59cbdd2e41ea291212ac38 0"],
+        lines: &[Other(b"view p root 7f35c8dbd6b3eb2ffd59cbdd2e41ea291212ac38 0")],
         p: (0, 0),
         q: (40, 1),
     },
     Turn {
-        lines: &[b"view p root 7f35c8dbd6b3eb2ffd59cbdd2e41ea291212ac38 120"],
+        lines: &[Other(b"view p root 7f35c8dbd6b3eb2ffd59cbdd2e41ea291212ac38 120")],
         p: (120, 1),
         q: (40, 1),
     },
     // A view that was closed and is opened again.
     Turn {
-        lines: &[b"view p close", b"view p time 2000"],
+        lines: &[Other(b"view p close"), Other(b"view p time 2000")],
         p: (0, 0),
         q: (40, 1),
     },
     Turn {
-        lines: &[b"view p root 7f35c8dbd6b3eb2ffd59cbdd2e41ea291212ac38 7"],
+        lines: &[Other(b"view p root 7f35c8dbd6b3eb2ffd59cbdd2e41ea291212ac38 7")],
         p: (7, 1),
         q: (40, 1),
     },
     // A certificate that is dropped, and that returns.
     Turn {
-        lines: &[b"drop 7f35c8dbd6b3eb2ffd59cbdd2e41ea291212ac38"],
+        lines: &[Other(b"drop 7f35c8dbd6b3eb2ffd59cbdd2e41ea291212ac38")],
         p: (0, 0),
         q: (0, 0),
     },
     Turn {
-        lines: &[R_IMPORTED],
+        lines: &[Import(R_CERT)],
         p: (7, 1),
         q: (40, 1),
     },
     // More than one change, after which all is as it was.
     Turn {
         lines: &[
-            b"drop 7f35c8dbd6b3eb2ffd59cbdd2e41ea291212ac38",
-            R_IMPORTED,
-            b"view q time 1999",
-            b"view q time 2000",
+            Other(b"drop 7f35c8dbd6b3eb2ffd59cbdd2e41ea291212ac38"),
+            Import(R_CERT),
+            Other(b"view q time 1999"),
+            Other(b"view q time 2000"),
         ],
         p: (7, 1),
         q: (40, 1),
@@ -185,13 +187,12 @@ fn are_told<F: Fn(Ask) -> bool>(
 }
 
 #[test]
-fn kept_answers_are_those_of_the_present(rt: HostRuntime) -> Result<(), Fail> {
+fn kept_answers_are_those_of_the_present(rt: HostRuntime) {
     let rows = standard_rows();
     let mut policy = Policy::new(rows, |ask| admits(&rows, ask));
     let mut engine = Engine::new(rt.alloc(), Limits::standard());
-    let p = view_name(rt.alloc(), b"p")?;
-    let q = view_name(rt.alloc(), b"q")?;
+    let p = view_name(rt.alloc(), b"p").expect(&rt, "p");
+    let q = view_name(rt.alloc(), b"q").expect(&rt, "q");
     assert!(rt; run_all(rt.alloc(), &mut engine, &SCRIPT, &mut policy));
     assert!(rt; are_told(rt.alloc(), &mut engine, &p, &q, &TURNS, &mut policy));
-    Ok(())
 }

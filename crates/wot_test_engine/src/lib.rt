@@ -24,6 +24,8 @@ mod policy;
 #[cfg(test)]
 mod rows;
 #[cfg(test)]
+mod script;
+#[cfg(test)]
 mod shelf;
 #[cfg(test)]
 mod version_6;

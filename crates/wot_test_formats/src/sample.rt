@@ -1,4 +1,4 @@
-use wot_sample::Packet::{self, Other, Signature, SignatureByHash, UserId};
+use wot_sample::Packet::{self, KeyV6, Other, Signature, SignatureByHash, SignatureV6, UserId};
 use wot_sample::Says::{Final, KeyLasts, Lasts, Made, Primary, Reason, Scope};
 use wot_sample::{
     CERTIFICATION, CERTIFICATION_REVOCATION, KEY_R, KEY_REVOCATION, POSITIVE, SPANS, text,
@@ -13,7 +13,7 @@ const CERTIFIED: &[u8] =
       \xeb\x2f\xfd\x59\xcb\xdd\x2e\x41\xea\x29\x12\x12\xac\x38\x00\x00\x00\x00";
 
 /// Packets, and their octets.
-static ROWS: [(&[Packet], &[u8]); 7] = [
+static ROWS: [(&[Packet], &[u8]); 8] = [
     (&[], b""),
     (SPANS, CERTIFIED),
     (&[KEY_R], b"\xc6\x07\x04\x00\x00\x03\xe8\x1b\x01"),
@@ -32,6 +32,15 @@ static ROWS: [(&[Packet], &[u8]); 7] = [
         ],
         b"\xc2\x19\x04\x13\x1b\x08\x00\x0f\x05\x02\x00\x00\x07\xd0\x05\x09\x00\x00\x00\x64\x02\x19\x01\x00\x00\x00\
           \x00\xc2\x13\x04\x20\x1b\x08\x00\x09\x05\x02\x00\x00\x07\xd1\x02\x1d\x03\x00\x00\x00\x00",
+    ),
+    (
+        &[
+            KeyV6(1),
+            SignatureV6(KEY_REVOCATION, &[Made(9000), Reason(2)], b"salt"),
+        ],
+        b"\xc6\x0b\x06\x00\x00\x03\xe8\x1b\x00\x00\x00\x01\x01\
+          \xc2\x1c\x06\x20\x1b\x08\x00\x00\x00\x09\x05\x02\x00\x00\x23\x28\x02\x1d\x02\
+          \x00\x00\x00\x00\x00\x00\x04salt",
     ),
     (
         &[Signature(CERTIFICATION_REVOCATION, &[Made(1000), Final, Lasts(100)])],

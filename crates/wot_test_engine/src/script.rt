@@ -1,0 +1,133 @@
+//! Scripts and replies whose certificates and verdicts are written down by name.
+use std::alloc::Global;
+use wot_sample::Packet::{self, Other as Bare, Signature, UserId};
+use wot_sample::Says::{Made, Trust};
+use wot_sample::{CERTIFICATION, DIRECT, KEY, KEY_A, KEY_R, KEY_T};
+use wot_script::{Command, Octets, read_line};
+use wot_types::Fpr;
+
+/// A line of a script, or of what is replied.
+#[derive(Clone, Copy)]
+pub(crate) enum Line {
+    /// Packets are imported.
+    Import(&'static [Packet]),
+    /// The reply that exports packets.
+    Export(&'static [Packet]),
+    /// Any other line, or several, with a line feed after each but the last.
+    Other(&'static [u8]),
+}
+
+/// R with a direct key signature.
+pub(crate) const R_CERT: &[Packet] = &[KEY_R, DIRECT];
+
+/// A with a direct key signature and the user ID a, which R certified at 2000, with depth 1 and amount 120.
+pub(crate) const A_CERT: &[Packet] = &[
+    KEY_A,
+    DIRECT,
+    UserId(b"a"),
+    Signature(CERTIFICATION, &[Made(2000), Trust(1, 120)]),
+];
+
+/// T with a direct key signature and the user ID t, which somebody certified at 2000.
+pub(crate) const T_CERT: &[Packet] = &[
+    KEY_T,
+    DIRECT,
+    UserId(b"t"),
+    Signature(CERTIFICATION, &[Made(2000)]),
+];
+
+/// The Ed25519 key of RFC 9580, appendix A.1, and its fingerprint.
+pub(crate) const FIELD: Packet = Bare(
+    KEY,
+    b"\x04\x53\xf3\x5f\x0b\x16\x09\x2b\x06\x01\x04\x01\xda\x47\x0f\x01\x01\x07\x40\x3f\x09\x89\x94\xbd\xd9\x16\xed\
+      \x40\x53\x19\x79\x34\xe4\xa8\x7c\x80\x73\x3a\x12\x80\xd6\x2f\x80\x10\x99\x2e\x43\xee\x3b\x24\x06",
+);
+
+pub(crate) const FIELD_FPR: Fpr = Fpr::V4(
+    *b"\xc9\x59\xbd\xba\xfa\x32\xa2\xf8\x9a\x15\x3b\x67\x8c\xfd\xe1\x21\x97\x96\x5a\x9a",
+);
+
+/// A key that isn't readable: its version is 3.
+pub(crate) const UNREADABLE: Packet = Bare(KEY, b"\x03\x00\x00\x03\xe8\x01");
+
+/// Verdicts: in each the signature on the first key's certificate is good by the second key. Where both are one, it is
+/// the direct key signature, else the certification of the certificate's user ID.
+pub(crate) const R_BY_R: Line = Line::Other(
+    b"verdict 68d0eb5f8ca13914fcddf1b23e5f608bf9847603834da284f01a707208051209 \
+      good 7f35c8dbd6b3eb2ffd59cbdd2e41ea291212ac38",
+);
+
+pub(crate) const A_BY_A: Line = Line::Other(
+    b"verdict a749ae5e0740c6912fd3d7aa0551076010c77315bb0e8ce6bba6c239c1719f3a \
+      good 352e5f12059b4605a5b8f88f66d655c9133e1ca2",
+);
+
+pub(crate) const A_BY_R: Line = Line::Other(
+    b"verdict 5840f9f9f8f1cf0319951109612c55e5c55500f918ec27c1c184cd305eafe0a3 \
+      good 7f35c8dbd6b3eb2ffd59cbdd2e41ea291212ac38",
+);
+
+pub(crate) const T_BY_T: Line = Line::Other(
+    b"verdict 6f340f6bdd375d28b7edb40f930d95bf4ad33f807483dfd6a9600c1af4e334bd \
+      good 3c98b8180e0fcaca1032499082a5de8fa5d98232",
+);
+
+pub(crate) const T_BY_R: Line = Line::Other(
+    b"verdict 7331b37825bdca65502938381c08cd08d9da47de1940c67bdae7bdf1dfab72d5 \
+      good 7f35c8dbd6b3eb2ffd59cbdd2e41ea291212ac38",
+);
+
+pub(crate) const T_BY_A: Line = Line::Other(
+    b"verdict 7331b37825bdca65502938381c08cd08d9da47de1940c67bdae7bdf1dfab72d5 \
+      good 352e5f12059b4605a5b8f88f66d655c9133e1ca2",
+);
+
+/// A verdict on a signature that no certificate has.
+pub(crate) const NOBODY_BAD: Line = Line::Other(
+    b"verdict 0000000000000000000000000000000000000000000000000000000000000009 bad",
+);
+
+/// The command of a line.
+pub(crate) fn command_of(alloc: Global, line: &Line) -> Option<Command> {
+    match line {
+        Line::Import(packets) => {
+            let octets = wot_sample::text(alloc, packets)?;
+            Some(Command::Import(Octets::from_vec(octets)))
+        }
+        Line::Export(_) => None,
+        Line::Other(text) => read_line(alloc, text).ok(),
+    }
+}
+
+/// Appends a word and the digits of these packets.
+fn push_packets(alloc: Global, word: &[u8], packets: &[Packet], text: &mut Vec<u8>) -> Option<()> {
+    let octets = wot_sample::text(alloc, packets)?;
+    let digits = hex::encode(alloc, octets.as_slice()).ok()?;
+    text.extend_from_slice(word).ok()?;
+    text.extend_from_slice(digits.as_bytes()).ok()
+}
+
+/// Appends the text of a line, without its line feed.
+pub(crate) fn push_text(alloc: Global, line: &Line, text: &mut Vec<u8>) -> Option<()> {
+    match line {
+        Line::Import(packets) => push_packets(alloc, b"import ", packets, text),
+        Line::Export(packets) => push_packets(alloc, b"export ", packets, text),
+        Line::Other(octets) => text.extend_from_slice(octets).ok(),
+    }
+}
+
+/// Appends these lines to a text, each with its line feed.
+pub(crate) fn push_lines(alloc: Global, lines: &[Line], text: &mut Vec<u8>) -> Option<()> {
+    for line in lines {
+        push_text(alloc, line, text)?;
+        text.push(b'\n').ok()?;
+    }
+    Some(())
+}
+
+/// The text of these lines.
+pub(crate) fn text_of(alloc: Global, lines: &[Line]) -> Option<Vec<u8>> {
+    let mut text = Vec::new(alloc);
+    push_lines(alloc, lines, &mut text)?;
+    Some(text)
+}
