@@ -1,6 +1,5 @@
 //! The lines `absence` and `check`, and the replies to them.
 use std::alloc::Global;
-use std::test::Fail;
 use wot_script::{
     ClaimLine, ClaimLines, ClaimStepLine, ClaimStepLines, Command, LabelLine, LabelLines,
     LineFault, Reply, print_command, print_reply, read_line,
@@ -90,101 +89,105 @@ const LESSER: &[u8] = b"c959bdbafa32a2f89a153b678cfde12197965a9a";
 const GREATER: &[u8] = b"c95a000000000000000000000000000000000000";
 
 /// The line that a row stands for.
-fn whole(alloc: Global, case: &[u8]) -> Result<Vec<u8>, Fail> {
+fn whole(alloc: Global, case: &[u8]) -> Option<Vec<u8>> {
     let mut line = Vec::new(alloc);
     for octet in case {
         match octet {
-            b'$' => line.extend_from_slice(LESSER)?,
-            b'&' => line.extend_from_slice(GREATER)?,
-            other => line.push(*other)?,
+            b'$' => line.extend_from_slice(LESSER).ok()?,
+            b'&' => line.extend_from_slice(GREATER).ok()?,
+            other => line.push(*other).ok()?,
         }
     }
-    Ok(line)
+    Some(line)
 }
 
-/// How the command of a line is printed; `None` where the line is no command.
-fn printed(alloc: Global, line: &[u8]) -> Result<Option<Vec<u8>>, Fail> {
+/// Whether the command of a line is printed as this line.
+fn is_printed_as(alloc: Global, line: &[u8], wanted: &[u8]) -> bool {
+    let mut out = Vec::new(alloc);
     match read_line(alloc, line) {
-        Ok(command) => {
-            let mut out = Vec::new(alloc);
-            print_command(&command, &mut out)?;
-            Ok(Some(out))
-        }
-        Err(LineFault::Line) => Ok(None),
-        Err(fault) => Err(fault)?,
+        Ok(command) => print_command(&command, &mut out).is_ok() && out.as_slice() == wanted,
+        Err(_) => false,
     }
 }
 
-fn is_read(alloc: Global, case: &[u8], wanted: Option<&[u8]>) -> Result<bool, Fail> {
+fn is_no_command(alloc: Global, line: &[u8]) -> bool {
+    matches!(read_line(alloc, line), Err(LineFault::Line))
+}
+
+fn is_read(alloc: Global, case: &[u8], wanted: Option<&[u8]>) -> Option<bool> {
     let line = whole(alloc, case)?;
-    let found = printed(alloc, &line)?;
-    match (found, wanted) {
-        (Some(found), Some(wanted)) => Ok(found == whole(alloc, wanted)?),
-        (found, wanted) => Ok(found.is_none() && wanted.is_none()),
+    match wanted {
+        Some(wanted) => Some(is_printed_as(alloc, &line, &whole(alloc, wanted)?)),
+        None => Some(is_no_command(alloc, &line)),
     }
 }
 
 #[test]
-fn claims_are_read_and_printed(rt: HostRuntime) -> Result<(), Fail> {
+fn claims_are_read_and_printed(rt: HostRuntime) {
     for (case, wanted) in &LINES {
-        assert!(rt; is_read(rt.alloc(), case, *wanted)?);
+        assert!(rt;
+            is_read(rt.alloc(), case, *wanted) == Some(true),
+            "{case:?}"
+        );
     }
-    Ok(())
 }
 
 /// A line that claims one path of so many steps.
-fn line_of_steps(alloc: Global, count: u32) -> Result<Vec<u8>, Fail> {
+fn line_of_steps(alloc: Global, count: u32) -> Option<Vec<u8>> {
     let mut line = whole(alloc, b"check a $ 1")?;
     for _ in 0..count {
-        line.extend_from_slice(b"/c959bdbafa32a2f89a153b678cfde12197965a9a.7")?;
+        line.extend_from_slice(b"/c959bdbafa32a2f89a153b678cfde12197965a9a.7")
+            .ok()?;
     }
-    line.extend_from_slice(b" - t")?;
-    Ok(line)
+    line.extend_from_slice(b" - t").ok()?;
+    Some(line)
 }
 
 #[test]
-fn a_path_has_at_most_255_steps(rt: HostRuntime) -> Result<(), Fail> {
-    let line = line_of_steps(rt.alloc(), 255)?;
-    let found = printed(rt.alloc(), &line)?;
-    assert!(rt; found == Some(line));
-    let line = line_of_steps(rt.alloc(), 256)?;
-    let found = printed(rt.alloc(), &line)?;
-    assert!(rt; found.is_none());
-    Ok(())
+fn a_path_has_at_most_255_steps(rt: HostRuntime) {
+    let longest = line_of_steps(rt.alloc(), 255).expect(&rt, "memory");
+    assert!(rt; is_printed_as(rt.alloc(), &longest, &longest));
+    let longer = line_of_steps(rt.alloc(), 256).expect(&rt, "memory");
+    assert!(rt; is_no_command(rt.alloc(), &longer));
 }
 
 const ISSUER: Fpr = Fpr::V4([0x12; 20]);
 
 const OTHER: Fpr = Fpr::V4([0xef; 20]);
 
-fn claims(alloc: Global) -> Result<ClaimLines, Fail> {
+fn claims(alloc: Global) -> Option<ClaimLines> {
     let mut steps = ClaimStepLines::new(alloc);
-    steps.push(ClaimStepLine(ISSUER, 7))?;
-    steps.push(ClaimStepLine(OTHER, 0))?;
+    steps.push(ClaimStepLine(ISSUER, 7)).ok()?;
+    steps.push(ClaimStepLine(OTHER, 0)).ok()?;
     let mut claims = ClaimLines::new(alloc);
-    claims.push(ClaimLine(60, steps))?;
-    Ok(claims)
+    claims.push(ClaimLine(60, steps)).ok()?;
+    Some(claims)
 }
 
-fn labels(alloc: Global) -> Result<LabelLines, Fail> {
+fn labels(alloc: Global) -> Option<LabelLines> {
     let mut labels = LabelLines::new(alloc);
-    labels.push(LabelLine(ISSUER, 2))?;
-    labels.push(LabelLine(OTHER, 1))?;
-    Ok(labels)
+    labels.push(LabelLine(ISSUER, 2)).ok()?;
+    labels.push(LabelLine(OTHER, 1)).ok()?;
+    Some(labels)
 }
 
 const CHECK: &[u8] = b"check v 1212121212121212121212121212121212121212 \
     60/1212121212121212121212121212121212121212.7/efefefefefefefefefefefefefefefefefefefef.0 \
     1212121212121212121212121212121212121212=2,efefefefefefefefefefefefefefefefefefefef=1 t";
 
+/// The command of that line.
+fn check(alloc: Global) -> Option<Command> {
+    let view = ViewName::read(alloc, b"v").ok()??;
+    let uid = UserId::new(alloc, b"t").ok()?;
+    let claims = claims(alloc)?;
+    let labels = labels(alloc)?;
+    Some(Command::Check(view, ISSUER, claims, labels, uid))
+}
+
 #[test]
-fn fields_of_claims_stand_in_their_order(rt: HostRuntime) -> Result<(), Fail> {
-    let alloc = rt.alloc();
-    let view = ViewName::read(alloc, b"v")?.ok_or("a name")?;
-    let uid = UserId::new(alloc, b"t")?;
-    let check = read_line(alloc, CHECK)?;
-    assert!(rt; check == Command::Check(view, ISSUER, claims(alloc)?, labels(alloc)?, uid));
-    Ok(())
+fn fields_of_claims_stand_in_their_order(rt: HostRuntime) {
+    let wanted = check(rt.alloc()).expect(&rt, "memory");
+    assert!(rt; read_line(rt.alloc(), CHECK) == Ok(wanted));
 }
 
 const MISSED: &[u8] = b"absence missed 60\nclaim \
@@ -192,33 +195,34 @@ const MISSED: &[u8] = b"absence missed 60\nclaim \
     1212121212121212121212121212121212121212=2,efefefefefefefefefefefefefefefefefefefef=1\n";
 
 /// Whether a reply is printed as this text.
-fn is_printed(alloc: Global, reply: &Reply, text: &[u8]) -> Result<bool, Fail> {
+fn is_printed(alloc: Global, reply: &Reply, text: &[u8]) -> bool {
+    let mut out = Vec::new(alloc);
     match reply {
-        Reply::Explained(_, _, _) => Ok(false),
-        _ => {
-            let mut out = Vec::new(alloc);
-            print_reply(reply, &mut out)?;
-            Ok(out.as_slice() == text)
-        }
+        Reply::Explained(_, _, _) => false,
+        _ => print_reply(reply, &mut out).is_ok() && out.as_slice() == text,
     }
 }
 
+/// Replies without claims, and their text.
+const REPLIES: [(Reply, &[u8]); 4] = [
+    (Reply::Reached(16320), b"absence reached 16320\n"),
+    (Reply::CheckedYes(u32::MAX), b"checked yes 4294967295\n"),
+    (Reply::CheckedNoPaths, b"checked no paths\n"),
+    (Reply::CheckedNoTable, b"checked no table\n"),
+];
+
+/// The reply with those paths and that table.
+fn missed(alloc: Global) -> Option<Reply> {
+    Some(Reply::Missed(60, claims(alloc)?, labels(alloc)?))
+}
+
 #[test]
-fn replies_to_claims_are_printed(rt: HostRuntime) -> Result<(), Fail> {
-    let alloc = rt.alloc();
-    let rows: [(Reply, &'static [u8]); 6] = [
-        (Reply::Reached(16320), b"absence reached 16320\n"),
-        (Reply::Missed(60, claims(alloc)?, labels(alloc)?), MISSED),
-        (
-            Reply::Missed(0, ClaimLines::new(alloc), LabelLines::new(alloc)),
-            b"absence missed 0\nclaim - -\n",
-        ),
-        (Reply::CheckedYes(u32::MAX), b"checked yes 4294967295\n"),
-        (Reply::CheckedNoPaths, b"checked no paths\n"),
-        (Reply::CheckedNoTable, b"checked no table\n"),
-    ];
-    for (reply, text) in &rows {
-        assert!(rt; is_printed(alloc, reply, text)?);
+fn replies_to_claims_are_printed(rt: HostRuntime) {
+    for (reply, text) in &REPLIES {
+        assert!(rt; is_printed(rt.alloc(), reply, text), "{text:?}");
     }
-    Ok(())
+    let missed = missed(rt.alloc()).expect(&rt, "memory");
+    assert!(rt; is_printed(rt.alloc(), &missed, MISSED));
+    let bare = Reply::Missed(0, ClaimLines::new(rt.alloc()), LabelLines::new(rt.alloc()));
+    assert!(rt; is_printed(rt.alloc(), &bare, b"absence missed 0\nclaim - -\n"));
 }

@@ -178,7 +178,7 @@ static MALFORMED: [&[u8]; 4] = [
 ];
 
 /// A direct key signature, made at 1000, with two octets of material.
-const WHOLE: [u8; 18] = [
+static WHOLE: [u8; 18] = [
     0x04, 0x1f, 0x1b, 0x08, 0x00, 0x06, 0x05, 0x02, 0x00, 0x00, 0x03, 0xe8, 0x00, 0x00, 0x12, 0x34,
     0x00, 0x01,
 ];
@@ -203,9 +203,9 @@ fn other_bodies_are_unreadable(rt: HostRuntime) {
         assert!(rt; says(rt.alloc(), hashed, &[], None), "{hashed:?}");
     }
     let mut body = Vec::new(rt.alloc());
-    for octet in WHOLE {
+    for octet in &WHOLE {
         assert!(rt; is_readable(&body, body.len() >= 16));
-        assert!(rt; body.push(octet).is_ok());
+        assert!(rt; body.push(*octet).is_ok());
     }
     assert!(rt; is_readable(&body, true));
     for version in 0..=u8::MAX {
