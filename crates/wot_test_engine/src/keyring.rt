@@ -110,6 +110,11 @@ const REFUSED: &[Packet] = &[KEY_R, KEY_A, Other(8, b"\x00")];
 /// Two keys, and between them one that isn't readable.
 const WITH_SKIPPED: &[Packet] = &[KEY_R, Other(TRUST, b"\x00\x00"), UNREADABLE, KEY_A];
 
+/// The same in packets of the old format (RFC 9580, section 4.2.2).
+const WITH_SKIPPED_OLD: &[u8] =
+    b"\x98\x07\x04\x00\x00\x03\xe8\x1b\x01\xb0\x02\x00\x00\x98\x06\x03\x00\x00\x03\xe8\x01\
+    \x98\x07\x04\x00\x00\x03\xe8\x1b\x02";
+
 /// The first key with a direct key signature.
 const WITH_DIRECT: &[Packet] = R_CERT;
 
@@ -228,6 +233,7 @@ fn answers_of_fresh_keyrings(rt: HostRuntime) {
         let octets = wot_sample::text(rt.alloc(), packets).expect(&rt, "octets");
         assert!(rt; answer_to(rt.alloc(), &octets) == *expected, "{octets:?}");
     }
+    assert!(rt; answer_to(rt.alloc(), WITH_SKIPPED_OLD) == Ok((2, 1, 2)));
 }
 
 #[test]

@@ -1,6 +1,8 @@
 ghost use Rattle.wot_keyring.specs.Kept.{AreSmall};
 
-use crate::keyring::{Answer, BOTH_KEYS, FIRST_KEY, FULL, REFUSED, WITH_DIRECT, WITH_SKIPPED};
+use crate::keyring::{
+    Answer, BOTH_KEYS, FIRST_KEY, FULL, REFUSED, WITH_DIRECT, WITH_SKIPPED, WITH_SKIPPED_OLD,
+};
 use crate::script::{FIELD, FIELD_FPR, UNREADABLE};
 use std::alloc::Global;
 use wot_cert::CertFault;
@@ -69,10 +71,32 @@ static WITHOUT_ROOM: [(Name, (Answer, u64, u64)); 2] = [
     (Name::Cert(A), MISFILED),
 ];
 
-const CUT: PacketFault = PacketFault {
-    at: 0,
-    why: Why::CutLength,
-};
+/// A name, octets that stand under it, and the outcome: cut ones, and packets of the old format.
+static OCTETS: [(Name, &[u8], (Answer, u64, u64)); 4] = [
+    (
+        Name::Cert(A),
+        b"\xc6",
+        (
+            Err(Refusal::Packet(PacketFault {
+                at: 0,
+                why: Why::CutLength,
+            })),
+            0,
+            0,
+        ),
+    ),
+    (Name::Cert(A), WITH_SKIPPED_OLD, MISFILED),
+    (
+        Name::TrustRoot,
+        b"\x98\x06\x03\x00\x00\x03\xe8\x01",
+        MISFILED,
+    ),
+    (
+        Name::Cert(R),
+        b"\xc6\x07\x04\x00\x00\x03\xe8\x1b\x01\x98\x06\x03\x00\x00\x03\xe8\x01",
+        MISFILED,
+    ),
+];
 
 /// The same of packets.
 fn outcome_of(
@@ -100,6 +124,8 @@ fn entries_of_a_directory(rt: HostRuntime) {
     for (name, expected) in &WITHOUT_ROOM {
         assert!(rt; outcome_of(rt.alloc(), none, name, FIRST_KEY) == Some(*expected));
     }
-    let cut = outcome(rt.alloc(), Limits::standard(), &Name::Cert(A), b"\xc6");
-    assert!(rt; cut == (Err(Refusal::Packet(CUT)), 0, 0));
+    for (name, octets, expected) in &OCTETS {
+        let told = outcome(rt.alloc(), Limits::standard(), name, octets);
+        assert!(rt; told == *expected, "{octets:?}");
+    }
 }
