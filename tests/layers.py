@@ -7,7 +7,8 @@ The script's digests are hashlib's; the answer is worked out here, by the rule f
 import hashlib
 
 CREATED, MADE, ASKED, LAYERS = 1000, 2000, 5000, 30
-HEAD = '''//! A root, thirty layers of two certificates that certify both of the next, and a target: 2^30 paths of 31 steps.
+HEAD = '''\
+//! A root, thirty layers of two certificates that certify both of the next, and a target: 2^30 paths of 31 steps.
 //! `tests/layers.py` prints this file.
 
 /// The certificates, their verdicts, a view, and a question.

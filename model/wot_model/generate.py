@@ -344,7 +344,10 @@ class Generator:
         return self.words(b"check", view, self.digits(target.name), paths, table, user_id)
 
     def claimed_path(self):
-        steps = [b"%s.%d" % (self.digits(self.name()), self.random.randrange(2)) for _ in range(1 + self.random.randrange(3))]
+        steps = [
+            b"%s.%d" % (self.digits(self.name()), self.random.randrange(2))
+            for _ in range(1 + self.random.randrange(3))
+        ]
         return b"/".join([b"%d" % self.pick([120, 120, 60, 40, 1]), *steps])
 
     def list_line(self):
@@ -361,12 +364,14 @@ class Generator:
     def odd_line(self):
         """A line that is silent or malformed, or nearly so."""
         asked = [self.ask_line, self.list_line, self.explain_line, self.absence_line, self.check_line]
-        line = self.pick([*asked, self.time_line, self.root_line, self.any_verdict_line, self.load_line, lambda: b"keys"])()
+        others = self.time_line, self.root_line, self.any_verdict_line, self.load_line, lambda: b"keys"
+        line = self.pick([*asked, *others])()
         at = self.random.randrange(len(line) + 1)
         return self.pick([
             b"", b"# comment", b"#", b" ", b"\r", b"keys\r", b"#\r", b" #", b"lists", b"pending ", b"list p 01",
             b"list p 0", b"view p time 05", b"view p time +5", b"view p time 4294967296", b"view p time 42949672950",
-            b"import", b"import ", b"import c", b"import 0g", b"load", b"load ", b"load trust-root ", b"load Trust-root", b"dump ", b"export", b"view " + b"a" * 33 + b" time 1",
+            b"import", b"import ", b"import c", b"import 0g", b"load", b"load ", b"load trust-root ",
+            b"load Trust-root", b"dump ", b"export", b"view " + b"a" * 33 + b" time 1",
             b"view  time 1", b"view P time 1",
             b"\xff\0", line + b" ", b" " + line, line + b"\r", line[:at], line[:at] + b" " + line[at:],
             line[:at] + line[at + 1 :], line.replace(b" ", b"  ", 1), line.upper(), line.replace(b" ", b"\t", 1),
@@ -423,7 +428,9 @@ class Generator:
             lines += [self.words(b"view", b"v%d" % number, b"time", 5) for number in range(self.pick([13, 14, 20]))]
         if self.chance(0.1):
             lines += [
-                self.words(b"view", b"p", b"root", self.digits(self.random.randbytes(self.pick([20, 32]))), self.pick([1, 120]))
+                self.words(
+                    b"view", b"p", b"root", self.digits(self.random.randbytes(self.pick([20, 32]))), self.pick([1, 120])
+                )
                 for _ in range(self.pick([60, 66]))
             ]
         if self.chance(0.02):

@@ -17,6 +17,6 @@ from .store import Store
 __all__ = [
     "Accepted", "Answer", "Binding", "Claim", "ClaimedStep", "Done", "Engine", "EngineEnded", "Explanation", "Exported",
     "Key", "Keyring", "Label", "Listing", "Missed", "Path", "PendingSignature", "ProtocolError", "Reached", "Reason",
-    "Refused", "Rejected", "Reply", "Step", "Store", "Taken", "TukyamidError", "VerifierFailed", "address", "for_people",
-    "read_command", "read_user_id", "write_user_id",
+    "Refused", "Rejected", "Reply", "Step", "Store", "Taken", "TukyamidError", "VerifierFailed", "address",
+    "for_people", "read_command", "read_user_id", "write_user_id",
 ]

@@ -11,14 +11,14 @@ KEY, USER_ID, ATTRIBUTE, SUBKEY, SIGNATURE = 6, 13, 17, 14, 2
 CERTIFICATIONS = range(0x10, 0x14)
 # Octets behind the type, for each subpacket type that has an effect; None is any number of them.
 _SIZES = {2: 4, 3: 4, 5: 2, 6: None, 7: 1, 9: 4, 16: 8, 25: 1, 29: None, 33: None}
-# By the version before an issuer fingerprint: how many octets both have. By that of a signature: the octets of a length.
+# By the version before an issuer fingerprint: how many octets both have. By a signature's: the octets of a length.
 _ISSUER_SIZES = {4: 21, 6: 33}
 _LENGTH_SIZES = {4: 2, 6: 4}
 _WITHOUT_EFFECT = {4, 11, 12, *range(21, 25), *range(26, 29), *range(30, 33), 35, 39}
 
 
 def packets(octets):
-    """The packets of octets as (type, body), in either format; ValueError where one has no reading."""
+    """The packets of octets as (type, body), in either format; ValueError where one is malformed."""
     at = 0
     while at < len(octets):
         first = octets[at]
@@ -68,8 +68,8 @@ def _subpackets(area):
 
 @dataclass
 class Signature:
-    """What a signature of version 4 or 6 says in its hashed area, of what people are shown. `kind` is None where it isn't
-    readable. `place` is the key's body, the number of the kind of place, and the user ID."""
+    """What a signature of version 4 or 6 says in its hashed area, of what people are shown. `kind` is None where it
+    isn't readable. `place` is the key's body, the number of the kind of place, and the user ID."""
     place: tuple
     body: bytes
     kind: int | None = None

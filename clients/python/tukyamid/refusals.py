@@ -45,7 +45,7 @@ class RefusedView(Refused):
 
 
 class RefusedPacket(Refused):
-    """The packet at octet `at` has no reading. `kind`: 1 not a packet, 2 cut within its length, 3 cut within its body,
+    """The packet at octet `at` is malformed. `kind`: 1 not a packet, 2 cut within its length, 3 cut within its body,
     4 partial length, 5 indeterminate length."""
 
     @property

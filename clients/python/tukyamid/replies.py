@@ -93,8 +93,8 @@ class Reached(Reply):
 
 @dataclass(frozen=True)
 class Missed(Reply):
-    """The answer doesn't reach what was wanted. `paths` are its paths, as a `Claim` each, and `table` is the least table
-    of absence after them, a `Label` each: together a claim that anyone may check."""
+    """The answer doesn't reach what was wanted. `paths` are its paths, as a `Claim` each, and `table` is the least
+    table of absence after them, a `Label` each: together a claim that anyone may check."""
     amount: int
     paths: tuple
     table: tuple

@@ -59,7 +59,7 @@ def write_user_id(octets):
 
 
 def read_user_id(spelled):
-    r"""The octets of a spelled user ID; ValueError where a backslash has no reading.
+    r"""The octets of a spelled user ID; ValueError where a backslash is malformed.
 
     >>> read_user_id(b"a\\\\b\\x00")
     b'a\\b\x00'
@@ -67,7 +67,7 @@ def read_user_id(spelled):
     def octet(match):
         pair = match.group(1)
         if pair is None:
-            raise ValueError(f"a backslash has no reading in {spelled!r}")
+            raise ValueError(f"a malformed backslash in {spelled!r}")
         return b"\\" if pair == b"\\" else bytes([int(pair[1:], 16)])
     return _ESCAPE.sub(octet, spelled) if b"\\" in spelled else bytes(spelled)
 

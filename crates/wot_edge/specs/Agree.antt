@@ -15,7 +15,8 @@ scoped_edge row = (row.edge, row.scope)
 -- whether each edge between two of the set is usable.
 pub record Agree (q other : Question) (set : List Fpr) : Type 0 where
   pub target : q.target ≡ other.target
-  pub rows : (fpr : Fpr) → Has set fpr → map scoped_edge (rows_into q.told fpr) ≡ map scoped_edge (rows_into other.told fpr)
+  pub rows : (fpr : Fpr) → Has set fpr
+      → map scoped_edge (rows_into q.told fpr) ≡ map scoped_edge (rows_into other.told fpr)
   pub place : (fpr : Fpr) → Has set fpr → (entry_at q.told fpr).place ≡ (entry_at other.told fpr).place
   pub in_order : (fpr : Fpr) → Has set fpr → (entry_at q.told fpr).in_order ≡ (entry_at other.told fpr).in_order
   pub usable : (fpr : Fpr) → Has set fpr → (x y : Row) → Has (rows_into q.told fpr) x

@@ -13,6 +13,10 @@ abbrev pub EachNext : Question → List Path → List Path → Type 0
 EachNext q earlier [] = Unit {0}
 EachNext q earlier (path ∷ paths) = IsNextPath q (use_of earlier) path × EachNext q (earlier ++ path ∷ []) paths
 
+-- there is no valid path of positive amount at all
+abbrev pub NoPath : Question → Type 0
+NoPath q = IsSpent q (use_of [])
+
 -- the sum of their amounts
 abbrev pub amount_of : List Path → ℕ
 amount_of paths = sum_by (λ path. path.amount) paths
@@ -23,7 +27,8 @@ but_last [] = []
 but_last (path ∷ []) = []
 but_last (path ∷ next ∷ paths) = path ∷ but_last (next ∷ paths)
 
--- The answer to a wanted amount of at least 1: next paths until their sum reaches what is wanted, or none is left. The last path isn't cut.
+-- The answer to a wanted amount of at least 1: next paths until their sum reaches what is wanted, or none is left. The
+-- last path isn't cut.
 pub record IsAnswer (q : Question) (wanted : ℕ) (paths : List Path) : Type 0 where
   pub each : EachNext q [] paths
   pub short : amount_of (but_last paths) < wanted

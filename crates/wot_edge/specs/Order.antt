@@ -13,7 +13,9 @@ edge_cmp = then_cmp (on (λ edge. edge.issuer) fpr_cmp) (on (λ edge. edge.uid) 
 
 -- Steps are ordered by issuer, target and user ID.
 abbrev pub step_cmp : Step → Step → Ordering
-step_cmp = then_cmp (on (λ step. step.issuer) fpr_cmp) (then_cmp (on (λ step. step.target) fpr_cmp) (on (λ step. step.uid) nat_cmp))
+step_cmp =
+    then_cmp (on (λ step. step.issuer) fpr_cmp)
+    (then_cmp (on (λ step. step.target) fpr_cmp) (on (λ step. step.uid) nat_cmp))
 
 -- Lists are compared step by step.
 abbrev pub steps_cmp : List Step → List Step → Ordering

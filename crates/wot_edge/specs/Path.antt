@@ -31,13 +31,15 @@ start target (step ∷ rest) = step.issuer
 
 -- what a path tells of an edge
 abbrev pub step_of : EdgeFacts → Step
-step_of edge = record { issuer = edge.issuer; target = edge.target; uid = edge.uid; depth = edge.depth; amount = edge.amount }
+step_of edge =
+    record { issuer = edge.issuer; target = edge.target; uid = edge.uid; depth = edge.depth; amount = edge.amount }
 
 -- What an edge owes to the steps after it. The last one is on U. Any other has a depth of at least
 -- their number, a scope that holds for U, and an issuer other than the target.
 abbrev pub Reaches : Question → Row → List Step → Type 0
 Reaches q row [] = (entry_at q.told q.target).place ≡ Some row.edge.uid
-Reaches q row (next ∷ rest) = (length (next ∷ rest) ≤ row.edge.depth) × (row.scope ≡ true) × (row.edge.issuer ≢ q.target)
+Reaches q row (next ∷ rest) =
+    (length (next ∷ rest) ≤ row.edge.depth) × (row.scope ≡ true) × (row.edge.issuer ≢ q.target)
 
 -- a step that may stand before others: a usable edge into where they begin
 pub record Stands (q : Question) (step : Step) (rest : List Step) : Type 0 where
@@ -127,7 +129,8 @@ Precedes q used a b =
 
 -- the steps of the next path: of a valid path of positive amount that no other one precedes
 abbrev pub IsNext : Question → Use → List Step → Type 0
-IsNext q used steps = IsOpen q used steps × ((other : List Step) → IsOpen q used other → Precedes q used other steps → ⊥)
+IsNext q used steps =
+    IsOpen q used steps × ((other : List Step) → IsOpen q used other → Precedes q used other steps → ⊥)
 
 -- the next path, with its root and its amount
 pub record IsNextPath (q : Question) (used : Use) (path : Path) : Type 0 where

@@ -1,5 +1,6 @@
 -- Roads that are kept in memory, for tests and benches. A user ID is one octet, and that octet is its place.
-use Rattle.std.specs.Prelude.{◌≡◌, ℕ, ◌&&◌, ◌||◌, not, nat_lt, nat_eq, Bool, true, false, List, [], ◌∷◌, map, Option, Some, None}
+use Rattle.std.specs.Prelude.{◌≡◌, ℕ, ◌&&◌, ◌||◌, not, nat_lt, nat_eq, Bool, true, false}
+use Rattle.std.specs.Prelude.{List, [], ◌∷◌, map, Option, Some, None}
 use Rattle.std.specs.declared.cmp.Ordering.TheVariants.{Less}
 use Rattle.std.specs.BTreeMap.{insert_entry}
 use Rattle.std.specs.List.{AllByRecursion}
@@ -35,7 +36,8 @@ holds_inside inside (Some x) = nat_eq x inside
 
 -- An edge made at 0 isn't usable.
 abbrev pub row_of : ℕ → Option ℕ → EdgeFacts → Row
-row_of inside place edge = record { edge = edge; usable = nat_lt 0 edge.made; scope = not edge.scoped || holds_inside inside place }
+row_of inside place edge =
+    record { edge = edge; usable = nat_lt 0 edge.made; scope = not edge.scoped || holds_inside inside place }
 
 abbrev pub entry_of : ℕ → Option ℕ → Line → Entry
 entry_of inside place line = record {

@@ -18,7 +18,8 @@ pub record Row : Type 0 where
   pub usable : Bool
   pub scope : Bool
 
--- what is told of a fingerprint: the edges into it, the place of U among its user IDs, and whether it is in order for U
+-- what is told of a fingerprint: the edges into it, the place of U among its user IDs, and whether it is in order for
+-- U
 pub record Entry : Type 0 where
   pub rows : List Row
   pub place : Option ℕ
@@ -42,6 +43,10 @@ rows_into told fpr = (entry_at told fpr).rows
 -- the edges of these rows
 abbrev pub edges_into : Record → Fpr → List EdgeFacts
 edges_into told fpr = map (λ row. row.edge) (rows_into told fpr)
+
+-- what is so of each row of an edge
+abbrev pub EachRow : Record → EdgeFacts → (Row → Type 0) → Type 0
+EachRow told edge holds = (row : Row) → Has (rows_into told edge.target) row → row.edge ≡ edge → holds row
 
 -- The rows into each fingerprint are of edges into it, at most one for each issuer and user ID.
 pub record IsRecord (told : Record) : Type 0 where

@@ -12,6 +12,10 @@ use Rattle.wot_types.specs.Fpr.{fpr_cmp}
 abbrev pub root_amount : List (Fpr × ℕ) → Fpr → ℕ
 root_amount roots fpr = unwrap_or (lookup (is_at (fpr_cmp fpr)) roots) 0
 
+-- none has more
+abbrev pub NoneOver : ℕ → List (Fpr × ℕ) → Type 0
+NoneOver most roots = (fpr : Fpr) → root_amount roots fpr ≤ most
+
 -- each amount is from 1 to 255
 abbrev pub AreAmounts : List (Fpr × ℕ) → Type 0
 AreAmounts roots = AllByRecursion (λ root. (0 < root.1) × (root.1 ≤ 255)) roots

@@ -18,7 +18,8 @@ is_lt-Less Equal e = absurd (true≢false (sym e))
 is_lt-Less Greater e = absurd (true≢false (sym e))
 
 pub step_total : IsTotalOrder step_cmp
-step_total = then_total (on_total (λ step. step.issuer) fpr_total) (then_total (on_total (λ step. step.target) fpr_total) (on_total (λ step. step.uid) nat_cmp_total))
+step_total = then_total (on_total (λ step. step.issuer) fpr_total)
+    (then_total (on_total (λ step. step.target) fpr_total) (on_total (λ step. step.uid) nat_cmp_total))
 
 pub steps_total : IsTotalOrder steps_cmp
 steps_total = lists_total step_total

@@ -7,8 +7,8 @@ ghost use Rattle.wot_types.specs.Fpr.{same_fpr};
 ghost use Rattle.wot_edge.specs.declared.path.Step.{Step as TheStep};
 ghost use Rattle.wot_edge.specs.declared.used.Pair.{Pair as ThePair};
 ghost use Rattle.wot_edge.specs.Record.{Has};
-ghost use Rattle.wot_edge.specs.Path.{is_of, pair_part};
-ghost use Rattle.wot_edge.specs.Sums.{sum_at, pair_cmp, pair_of};
+ghost use Rattle.wot_edge.specs.Path.{is_of};
+ghost use Rattle.wot_edge.specs.Sums.{HasSum, RaisesAll, RaisesStep, added_at, kept_at, pair_of};
 
 use crate::Step;
 use crate::sums::{make_room, raise};
@@ -46,19 +46,18 @@ fn pair_of_step(step: &Step) -> Pair
 }
 
 fn make_room_for(pairs: &mut BTreeMap<Pair, u32, Global>, step: &Step) -> Result<(), Memory>
-    ensures same { (q : ThePair) → sum_at pair_cmp pairs.new.entries q ≡ sum_at pair_cmp pairs.old.entries q }
-    ensures here { OnOk result (IsSome (lookup (is_at (pair_cmp (pair_of step.now))) pairs.new.entries)) }
-    ensures others { (q : ThePair) → IsSome (lookup (is_at (pair_cmp q)) pairs.old.entries)
-        → IsSome (lookup (is_at (pair_cmp q)) pairs.new.entries) }
+    ensures same { (q : ThePair) → kept_at pairs.new.entries q ≡ kept_at pairs.old.entries q }
+    ensures here { OnOk result (HasSum pairs.new.entries (pair_of step.now)) }
+    ensures others { (q : ThePair) → HasSum pairs.old.entries q → HasSum pairs.new.entries q }
 {
     make_room(pairs, pair_of_step(step))
 }
 
 /// Gives the pair of each step an entry. No sum is another then.
 pub fn make_rooms(pairs: &mut BTreeMap<Pair, u32, Global>, steps: &[Step]) -> Result<(), Memory>
-    ensures same { (q : ThePair) → sum_at pair_cmp pairs.new.entries q ≡ sum_at pair_cmp pairs.old.entries q }
+    ensures same { (q : ThePair) → kept_at pairs.new.entries q ≡ kept_at pairs.old.entries q }
     ensures here { OnOk result ((step : TheStep) → Has steps.now step
-        → IsSome (lookup (is_at (pair_cmp (pair_of step))) pairs.new.entries)) }
+        → HasSum pairs.new.entries (pair_of step)) }
 {
     let mut rest = steps;
     'rest: while let Some((step, later)) = rest.split_first() {
@@ -70,12 +69,10 @@ pub fn make_rooms(pairs: &mut BTreeMap<Pair, u32, Global>, steps: &[Step]) -> Re
 
 /// Raises the sum of the step's pair, where no later step is of that pair.
 fn raise_step(pairs: &mut BTreeMap<Pair, u32, Global>, step: &Step, later: &[Step], amount: u8)
-    requires here { IsSome (lookup (is_at (pair_cmp (pair_of step.now))) pairs.old.entries) }
-    requires fits { sum_at pair_cmp pairs.old.entries (pair_of step.now) + amount < 2 ^ 32 }
-    ensures raised { (q : ThePair) → sum_at pair_cmp pairs.new.entries q + pair_part q.issuer q.target amount later.now
-        ≡ sum_at pair_cmp pairs.old.entries q + pair_part q.issuer q.target amount (step.now ∷ later.now) }
-    ensures others { (q : ThePair) → IsSome (lookup (is_at (pair_cmp q)) pairs.old.entries)
-        → IsSome (lookup (is_at (pair_cmp q)) pairs.new.entries) }
+    requires here { HasSum pairs.old.entries (pair_of step.now) }
+    requires fits { kept_at pairs.old.entries (pair_of step.now) + amount < 2 ^ 32 }
+    ensures raised { RaisesStep pairs.old.entries pairs.new.entries amount step.now later.now }
+    ensures others { (q : ThePair) → HasSum pairs.old.entries q → HasSum pairs.new.entries q }
 {
     if !any_of(&step.issuer, &step.target, later) {
         raise(pairs, pair_of_step(step), amount);
@@ -84,10 +81,9 @@ fn raise_step(pairs: &mut BTreeMap<Pair, u32, Global>, step: &Step, later: &[Ste
 
 /// Raises the sum of each pair of these steps, once.
 pub fn raise_all(pairs: &mut BTreeMap<Pair, u32, Global>, steps: &[Step], amount: u8)
-    requires here { (step : TheStep) → Has steps.now step → IsSome (lookup (is_at (pair_cmp (pair_of step))) pairs.old.entries) }
-    requires fits { (q : ThePair) → sum_at pair_cmp pairs.old.entries q + pair_part q.issuer q.target amount steps.now < 2 ^ 32 }
-    ensures raised { (q : ThePair) → sum_at pair_cmp pairs.new.entries q
-        ≡ sum_at pair_cmp pairs.old.entries q + pair_part q.issuer q.target amount steps.now }
+    requires here { (step : TheStep) → Has steps.now step → HasSum pairs.old.entries (pair_of step) }
+    requires fits { (q : ThePair) → kept_at pairs.old.entries q + added_at amount steps.now q < 2 ^ 32 }
+    ensures raised { RaisesAll pairs.old.entries pairs.new.entries amount steps.now }
 {
     let mut rest = steps;
     'rest: while let Some((step, later)) = rest.split_first() {

@@ -80,7 +80,8 @@ impl PlainRoads {
     /// aren't in the order of issuer and user ID, one for each. After `false` and `Memory` the network is as before.
     pub fn put(&mut self, fpr: Fpr, in_order: bool, edges: Vec<Edge>) -> Result<bool, Memory>
         ensures rows { IfOk result (λ done. (done ≡ true) ↔ AreRows fpr edges.items) }
-        ensures put { IfOk result (λ done. done ≡ true → self.new.lines ≡ with_line self.old.lines fpr in_order edges.items) }
+        ensures put { IfOk result (λ done. done ≡ true
+            → self.new.lines ≡ with_line self.old.lines fpr in_order edges.items) }
         ensures inside { self.new.inside ≡ self.old.inside }
         ensures refused { IfOk result (λ done. done ≡ false → self.new.lines ≡ self.old.lines) }
         ensures kept { OnErr result (self.new ≡ self.old) }

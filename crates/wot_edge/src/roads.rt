@@ -1,7 +1,7 @@
 ghost use Rattle.std.specs.Prelude.{◌≡◌, ℕ, List, IfOk};
 ghost use Rattle.std.specs.List.Sorted.{IsStrictlySortedBy};
 ghost use Rattle.wot_edge.specs.Order.{edge_cmp};
-ghost use Rattle.wot_edge.specs.Record.{Record, Row, Has, IsRecord, rows_into, edges_into, entry_at};
+ghost use Rattle.wot_edge.specs.Record.{Record, EachRow, Has, IsRecord, edges_into, entry_at};
 
 use crate::Edge;
 use wot_types::{Fpr, Memory};
@@ -20,14 +20,12 @@ pub trait Roads {
     /// Whether an edge is usable.
     fn usable(&self, edge: &Edge) -> bool
         requires row { (uid : List ℕ) → Has (edges_into (told self.now uid) edge.now.target) edge.now }
-        ensures usable { (uid : List ℕ) (row : Row) → Has (rows_into (told self.now uid) edge.now.target) row
-            → row.edge ≡ edge.now → row.usable ≡ result };
+        ensures usable { (uid : List ℕ) → EachRow (told self.now uid) edge.now (λ row. row.usable ≡ result) };
 
     /// Whether the scope of an edge holds for a user ID.
     fn scope(&self, edge: &Edge, uid: &[u8]) -> Result<bool, Memory>
         requires row { (id : List ℕ) → Has (edges_into (told self.now id) edge.now.target) edge.now }
-        ensures scope { IfOk result (λ holds. (row : Row) → Has (rows_into (told self.now uid.now) edge.now.target) row
-            → row.edge ≡ edge.now → row.scope ≡ holds) };
+        ensures scope { IfOk result (λ holds. EachRow (told self.now uid.now) edge.now (λ row. row.scope ≡ holds)) };
 
     /// Whether a target is in order for a user ID.
     fn in_order(&self, target: &Fpr, uid: &[u8]) -> bool

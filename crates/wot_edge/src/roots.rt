@@ -45,7 +45,8 @@ impl Roots {
     /// roots are as before.
     pub fn set(&mut self, fpr: Fpr, amount: u8) -> Result<(), Memory>
         ensures set { OnOk result (0 < amount → self.new ≡ insert_entry fpr_cmp self.old fpr amount) }
-        ensures gets { OnOk result ((q : TheFpr) → root_amount self.new q ≡ (if same_fpr fpr q then amount else root_amount self.old q)) }
+        ensures gets { OnOk result ((q : TheFpr)
+            → root_amount self.new q ≡ (if same_fpr fpr q then amount else root_amount self.old q)) }
         ensures taken { amount ≡ 0 → (result ≡ Ok tt) × (self.new ≡ remove_entry (is_at (fpr_cmp fpr)) self.old) }
         ensures kept { OnErr result (self.new ≡ self.old) }
     {

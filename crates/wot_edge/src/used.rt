@@ -1,7 +1,7 @@
 ghost use Rattle.std.specs.Prelude.{◌≡◌, ◌<◌, ◌+◌, ◌^◌, OnOk, OnErr};
 ghost use Rattle.wot_types.specs.declared.fpr.Fpr.{Fpr as TheFpr};
 ghost use Rattle.wot_edge.specs.Path.{path_pair, path_root};
-ghost use Rattle.wot_edge.specs.Sums.{pair_sum, root_sum};
+ghost use Rattle.wot_edge.specs.Sums.{PairsRise, PairsStay, RootsRise, RootsStay, pair_sum, root_sum};
 
 use crate::Path;
 use crate::maps::{make_root_room, raise_root};
@@ -72,13 +72,13 @@ impl Used {
     /// Adds what a path uses: its amount of its root, and of each of its pairs once. After `Memory`
     /// each sum is as before.
     pub fn add(&mut self, path: &Path) -> Result<(), Memory>
-        requires pairs_fit { (issuer target : TheFpr) → pair_sum self.old issuer target + path_pair issuer target path.now < 2 ^ 32 }
+        requires pairs_fit { (issuer target : TheFpr)
+            → pair_sum self.old issuer target + path_pair issuer target path.now < 2 ^ 32 }
         requires roots_fit { (fpr : TheFpr) → root_sum self.old fpr + path_root fpr path.now < 2 ^ 32 }
-        ensures pairs { OnOk result ((issuer target : TheFpr)
-            → pair_sum self.new issuer target ≡ pair_sum self.old issuer target + path_pair issuer target path.now) }
-        ensures roots { OnOk result ((fpr : TheFpr) → root_sum self.new fpr ≡ root_sum self.old fpr + path_root fpr path.now) }
-        ensures pairs_kept { OnErr result ((issuer target : TheFpr) → pair_sum self.new issuer target ≡ pair_sum self.old issuer target) }
-        ensures roots_kept { OnErr result ((fpr : TheFpr) → root_sum self.new fpr ≡ root_sum self.old fpr) }
+        ensures pairs { OnOk result (PairsRise self.old self.new path.now) }
+        ensures roots { OnOk result (RootsRise self.old self.new path.now) }
+        ensures pairs_kept { OnErr result (PairsStay self.old self.new) }
+        ensures roots_kept { OnErr result (RootsStay self.old self.new) }
     {
         make_rooms(&mut self.pairs, path.steps.as_slice())?;
         make_root_room(&mut self.roots, path.root)?;

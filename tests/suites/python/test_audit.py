@@ -1,4 +1,4 @@
-"""Claims of absence that the program tells, and claims that nobody would: checked by it and, over its dump, without it."""
+"""Claims of absence that the program tells, and claims that nobody would: checked by it, and without it by its dump."""
 
 import subprocess
 import sys
@@ -62,7 +62,8 @@ class Audit(unittest.TestCase):
                 by_program = by_program[len(by_program) - len(claims):]
                 by_checker = run([CHECKER, dump.name], b"".join(line + b"\n" for line in claims)).splitlines()
                 self.assertEqual([b" ".join(reply) for reply in by_program], by_checker)
-                seen |= {b" ".join(reply.split(b" ")[:3 if reply.startswith(b"checked no") else 2]) for reply in by_checker}
+                seen |= {b" ".join(reply.split(b" ")[:3 if reply.startswith(b"checked no") else 2])
+                         for reply in by_checker}
         self.assertLessEqual({b"checked yes", b"checked no paths", b"checked no table"}, seen)
 
 

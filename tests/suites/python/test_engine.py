@@ -51,7 +51,8 @@ class Framing(unittest.TestCase):
         self.assertEqual(engine.absence("v", A, 40, "Alice"), Reached(40))
         self.assertEqual(engine.check("v", A, paths, table, "Alice"), Accepted(40))
         self.assertEqual(engine.check("v", A, (), table[1:], "Alice"), Rejected("table"))
-        self.assertEqual(engine.check("v", A, [Claim(255, (ClaimedStep(B, 2**32 - 1),))], (), "Alice"), Rejected("paths"))
+        claim = Claim(255, (ClaimedStep(B, 2**32 - 1),))
+        self.assertEqual(engine.check("v", A, [claim], (), "Alice"), Rejected("paths"))
         for wrong in ((), (table[1], table[0])), ((Claim(0, paths[0].steps),), ()), ((Claim(1, ()),), ()):
             self.assertRaises(ValueError, engine.check, "v", A, *wrong, "Alice")
         self.assertRaises(ProtocolError, engine.absence, "v", A, 120, "no claim")

@@ -37,7 +37,8 @@ class Cutting(unittest.TestCase):
                    b"amount 120 paths 2\n" + path % 1 + step + path % 3 + 3 * step, b"export \n",
                    b"keys 2\n" + 2 * (b"key %s 1 2\n" % HEX), b"dump 1\nimport \n", b"list 1\nbind 120 %s \n" % HEX,
                    b"pending 1\nsig %s %s -\n" % (HEX, HEX), b"explain ok 1\ncert %s edge %s 0 120\n" % (HEX, HEX),
-                   b"absence missed 60\nclaim 60/%s.0 %s=1\n" % (HEX, HEX), b"absence reached 60\n", b"checked yes 60\n"]
+                   b"absence missed 60\nclaim 60/%s.0 %s=1\n" % (HEX, HEX), b"absence reached 60\n",
+                   b"checked yes 60\n"]
         octets = b"".join(replies)
         for size in (1, 2, 3, 7, 50, len(octets)):
             cutter = ReplyCutter()
