@@ -24,7 +24,8 @@ IsOpenpgpHeader (tag ∷ octets) kind n = (kind < 64) × (tag ≡ 192 + kind) ×
 -- In the legacy format bit 7 alone is set, bits 5 to 2 are the packet's type, and bits 1 and 0 the length type.
 abbrev pub IsLegacyHeader : List ℕ → ℕ → ℕ → Type 0
 IsLegacyHeader [] kind n = ⊥
-IsLegacyHeader (tag ∷ octets) kind n = (type : ℕ) × (kind < 16) × (tag ≡ 128 + 4 * kind + type) × IsLegacyLength type octets n
+IsLegacyHeader (tag ∷ octets) kind n =
+    (type : ℕ) × (kind < 16) × (tag ≡ 128 + 4 * kind + type) × IsLegacyLength type octets n
 
 -- These octets are the header of a packet of this type, with a body of this length.
 abbrev pub IsHeader : List ℕ → ℕ → ℕ → Type 0

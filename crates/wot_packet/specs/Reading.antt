@@ -1,5 +1,6 @@
 -- The plain reader: what stands at the beginning of the octets, packet by packet.
-use Rattle.std.specs.Prelude.{ℕ, zero, suc, ◌+◌, ◌-◌, ◌*◌, ◌/◌, ◌%◌, nat_lt, ◌==◌, if◌then◌else◌, List, [], ◌∷◌, length, take, drop, Result, Ok, Err}
+use Rattle.std.specs.Prelude.{ℕ, zero, suc, ◌+◌, ◌-◌, ◌*◌, ◌/◌, ◌%◌, nat_lt, ◌==◌, if◌then◌else◌, List, [], ◌∷◌, length}
+use Rattle.std.specs.Prelude.{take, drop, Result, Ok, Err}
 use Rattle.std.specs.Int.{w16, w32, from_be_bytes}
 use Rattle.wot_packet.specs.Spelling.{Spelled}
 use Rattle.wot_packet.specs.declared.packet.PacketFault.{PacketFault}
@@ -81,16 +82,19 @@ before packet (Ok packets) = Ok (packet ∷ packets)
 before packet (Err fault) = Err fault
 
 -- what so many octets from this offset on begin with, and what others make of the octets behind it and their offset
-abbrev pub read_on : ℕ → ℕ → Result First Why → (ℕ → List ℕ → Result (List Spelled) PacketFault) → Result (List Spelled) PacketFault
+abbrev pub read_on : ℕ → ℕ → Result First Why → (ℕ → List ℕ → Result (List Spelled) PacketFault)
+    → Result (List Spelled) PacketFault
 read_on at count (Err why) others = Err (record { at = at; why = why })
 read_on at count (Ok first) others =
-    before (record { kind = first.kind; body = first.body; at = at }) (others (at + (count - length first.rest)) first.rest)
+    before (record { kind = first.kind; body = first.body; at = at })
+    (others (at + (count - length first.rest)) first.rest)
 
 -- the packets of these octets from this offset on, at most so many
 abbrev pub packets_from : ℕ → ℕ → List ℕ → Result (List Spelled) PacketFault
 packets_from most at [] = Ok []
 packets_from zero at (octet ∷ octets) = Ok []
-packets_from (suc most) at (octet ∷ octets) = read_on at (length (octet ∷ octets)) (first_of (octet ∷ octets)) (packets_from most)
+packets_from (suc most) at (octet ∷ octets) =
+    read_on at (length (octet ∷ octets)) (first_of (octet ∷ octets)) (packets_from most)
 
 -- The packets of a text, or its first fault. A text has no more packets than octets.
 abbrev pub packets_of : List ℕ → Result (List Spelled) PacketFault

@@ -97,3 +97,14 @@ moved shift packets = map (λ packet. record { kind = packet.kind; body = packet
 -- The length of each body is one that four octets tell.
 abbrev pub AreShort : List Spelled → Type 0
 AreShort packets = AllByRecursion (λ (p : Spelled). length p.body < 2 ^ 32) packets
+
+-- a text spells some list; or it has a first fault
+abbrev pub SpellsSome : List ℕ → Type 0
+SpellsSome text = (packets : List Spelled) × Spells text packets
+
+abbrev pub HasFault : List ℕ → Type 0
+HasFault text = (fault : PacketFault) × IsFirstFault text fault
+
+-- where the text behind it spells others, both spell the two lists, one behind the other
+abbrev pub SpellsBoth : List ℕ → List ℕ → List Spelled → List Spelled → Type 0
+SpellsBoth text more packets others = Spells more others → Spells (text ++ more) (packets ++ moved (length text) others)

@@ -1,7 +1,9 @@
 -- The shortest spelling of a packet in the OpenPGP format (RFC 9580, section 4.2.1).
-use Rattle.std.specs.Prelude.{ℕ, ◌+◌, ◌-◌, ◌/◌, ◌%◌, ◌^◌, ◌<◌, nat_lt, if◌then◌else◌, List, [], ◌∷◌, ◌++◌, length}
+use Rattle.std.specs.Prelude.{◌≡◌, ◌⊎◌, ℕ, ◌+◌, ◌-◌, ◌/◌, ◌%◌, ◌^◌, ◌<◌, nat_lt, if◌then◌else◌, List, [], ◌∷◌, ◌++◌}
+use Rattle.std.specs.Prelude.{length}
+use Rattle.std.specs.List.{All}
 use Rattle.std.specs.Int.{w32, to_be_bytes}
-use Rattle.wot_packet.specs.Spelling.{Spelled}
+use Rattle.wot_packet.specs.Spelling.{Spelled, Spells, moved}
 
 -- the octets of a length: one below 192, two below 8384, else five
 abbrev pub shortest_length : ℕ → List ℕ
@@ -31,3 +33,18 @@ abbrev pub placed : ℕ → List (ℕ × List ℕ) → List Spelled
 placed at [] = []
 placed at (packet ∷ packets) =
     record { kind = packet.0; body = packet.1; at = at } ∷ placed (at + length (written packet.0 packet.1)) packets
+
+abbrev pub AllCanBeWritten : List (ℕ × List ℕ) → Type 0
+AllCanBeWritten packets = All (λ packet. CanBeWritten packet.0 packet.1) packets
+
+-- what is written before a text that spells a list spells that packet before that list
+abbrev pub SpellsBefore : ℕ → List ℕ → List ℕ → List Spelled → Type 0
+SpellsBefore kind body text packets =
+    Spells text packets
+    → Spells (written kind body ++ text)
+    (record { kind = kind; body = body; at = 0 } ∷ moved (length (written kind body)) packets)
+
+-- it is the shortest header of this kind and size, or longer than that one
+abbrev pub IsNoShorter : List ℕ → ℕ → ℕ → Type 0
+IsNoShorter header kind size =
+    (header ≡ shortest_header kind size) ⊎ (length (shortest_header kind size) < length header)
