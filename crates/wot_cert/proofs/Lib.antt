@@ -31,3 +31,11 @@ pub mod Unchanged
 pub mod Assemblies
 pub mod Follows
 pub mod NewTotals
+pub mod Backs
+pub mod Spots
+pub mod Inserted
+pub mod Onward
+pub mod Changed
+pub mod Fresh
+pub mod AllPlaces
+pub mod Grown

@@ -60,7 +60,7 @@ module _ (sig : Signature → ℕ) (own : Component → ℕ) (own_same : (x y : 
   with_more : (a b s t : ℕ) → b ≡ a → s ≤ t → a + s ≤ b + t
   with_more a b s t e h = omega arith
 
-  part_more : (x y : Component) → part_weight sig own x ≤ part_weight sig own (unite_part x y)
+  pub part_more : (x y : Component) → part_weight sig own x ≤ part_weight sig own (unite_part x y)
   part_more x y = with_more _ _ _ _ (own_same x y) (united_more sig_cmp kept sig (λ a b. at_least (sig a)) x.sigs y.sigs)
 
   sum_more : (a b c d w x y z : ℕ) → a ≤ w → b ≤ x → c ≤ y → d ≤ z → a + b + c + d ≤ w + x + y + z

@@ -23,3 +23,4 @@ pub mod Sizes
 pub mod Drafting
 pub mod ReadBack
 pub mod Totals
+pub mod Growing

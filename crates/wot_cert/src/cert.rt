@@ -4,11 +4,12 @@ ghost use Rattle.wot_key.specs.Key.{is_readable, key_of, fpr_of};
 ghost use Rattle.wot_cert.specs.Answers.{ClashesExactly};
 ghost use Rattle.wot_cert.specs.Assembly.{bare};
 ghost use Rattle.wot_cert.specs.Drafting.{IsWholeSketch, completed, seen};
-ghost use Rattle.wot_cert.specs.Certificate.{unite, unmarked, with_each, on_key, on_user_id, on_attribute, on_subkey};
+ghost use Rattle.wot_cert.specs.Certificate.{Certificate, unite, unmarked, with_each, on_key, on_user_id, on_attribute, on_subkey};
 ghost use Rattle.wot_cert.specs.Copied.{copied};
 ghost use Rattle.wot_cert.specs.Counts.{items_of, signatures_of};
 ghost use Rattle.wot_cert.specs.Judged.{judged, IsJudged, sound_of};
 ghost use Rattle.wot_cert.specs.Parts.{IsCertOf, of_places};
+ghost use Rattle.wot_cert.specs.Growing.{AsksUpTo, LeadsBack, shrunk};
 ghost use Rattle.wot_cert.specs.New.{judged_beside, sound_beside};
 ghost use Rattle.wot_cert.specs.ReadBack.{ReadBack};
 ghost use Rattle.wot_cert.specs.Text.{size_of, text_of};
@@ -25,7 +26,7 @@ use crate::measure::totals_of;
 use crate::part::{copy_parts, union_parts};
 use crate::places::Places;
 use crate::sig::{Marks, copy_sigs, union_sigs};
-use crate::{Adds, MergeFault, Part, Sig};
+use crate::{Adds, Growth, MergeFault, Part, Sig};
 use std::alloc::Global;
 use std::marker::Model;
 use wot_key::{Key, fingerprint, read_key};
@@ -346,6 +347,58 @@ impl Cert {
             }
             Err(Memory) => Err(MergeFault::Memory),
         }
+    }
+
+    /// Becomes what `merge` makes of it, in place: what is there already is neither copied nor walked over. The answer
+    /// tells how many components and signatures were added, and leads back by `shrink`. After a refusal the certificate
+    /// is as before; where no memory was found the policy may have been asked for some of what is new.
+    pub fn grow<F: Fn(Ask) -> bool>(
+        &mut self,
+        alloc: Global,
+        other: &Cert,
+        policy: &mut Policy<F>,
+    ) -> Result<Growth, MergeFault>
+        requires faithful { IsFaithful F.Fn policy.old }
+        requires sizes { size_of self.old + size_of other.now < 2 ^ 63 }
+        ensures union { OnOk result (self.new ≡ unite self.old (judged (rows_of policy.old) other.now)) }
+        ensures judged { IsJudged (rows_of policy.old) self.old → IsJudged (rows_of policy.old) self.new }
+        ensures back { IfOk result (λ growth. LeadsBack growth self.old self.new) }
+        ensures items { IfOk result (λ growth. growth.items + items_of self.old ≡ items_of self.new) }
+        ensures asked { AsksUpTo result policy.old policy.new (sound_of self.old) (sound_of (unite self.old (judged (rows_of policy.old) other.now))) }
+        ensures clash { ClashesExactly self.old other.now result }
+        ensures kept { OnErr result (self.new ≡ self.old) }
+        ensures faithful { IsFaithful F.Fn policy.new }
+    {
+        if !self.has_key_of(other) {
+            return Err(MergeFault::Clash);
+        }
+        let before = self.totals;
+        let mut growth = Growth::new(alloc, before);
+        let mut totals = before;
+        match self
+            .places
+            .grow(alloc, &mut growth, &mut totals, other, policy)
+        {
+            Ok(()) => {
+                self.totals = totals;
+                growth.items = totals.items - before.items;
+                Ok(growth)
+            }
+            Err(Memory) => {
+                self.places.take_back(growth);
+                Err(MergeFault::Memory)
+            }
+        }
+    }
+
+    /// Takes out what it grew by: it is as it was before `grow`. Takes no memory.
+    pub fn shrink(&mut self, growth: Growth)
+        requires leads { (old : Certificate) × LeadsBack growth old self.old }
+        ensures shrunk { self.new ≡ shrunk growth self.old }
+    {
+        let before = growth.before;
+        self.places.take_back(growth);
+        self.totals = before;
     }
 
     /// Appends its text: the key and its signatures, then the user IDs, the attributes and the subkeys, each before its

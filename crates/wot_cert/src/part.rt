@@ -1,17 +1,25 @@
-ghost use Rattle.std.specs.Prelude.{◌≡◌, ◌<◌, ◌^◌, ℕ, OnOk, IfOk, [], ◌∷◌, ◌++◌, length, map};
+ghost use Rattle.std.specs.Prelude.{◌≡◌, ◌<◌, ◌^◌, ℕ, OnOk, OnErr, IfOk, [], ◌∷◌, ◌++◌, length, map};
 ghost use Rattle.std.specs.List.{AllByRecursion};
 ghost use Rattle.wot_cert.specs.Drafting.{IsShort, body_cmp, part_drafted, bodies_in};
 ghost use Rattle.wot_cert.specs.Certificate.{sig_cmp, part_cmp, part_with, unite_part, unite_parts};
 ghost use Rattle.wot_cert.specs.Copied.{copied};
+ghost use Rattle.wot_cert.specs.Certificate.{unite_sigs};
+ghost use Rattle.wot_cert.specs.Counts.{sum_of};
+ghost use Rattle.wot_cert.specs.Fitting.{PartFits};
+ghost use Rattle.wot_cert.specs.Growing.{AsksUpTo, shrunk_part};
+ghost use Rattle.wot_cert.specs.Judged.{if_sound, judged_sig};
+ghost use Rattle.wot_cert.specs.Totals.{FollowSigs};
 ghost use Rattle.wot_cert.specs.New.{judged_part, sound_new};
 ghost use Rattle.wot_cert.specs.Ranked.{IsRising};
 ghost use Rattle.wot_policy.specs.Kept.{IsFaithful, rows_of, asked_more};
 
-use crate::Sig;
 use crate::complete::sigs_with;
 use crate::draft::Bodies;
+use crate::growing::put_sigs;
 use crate::judge::judge_new;
+use crate::shrinking::take_sigs_back;
 use crate::sig::{Marks, copy_sigs, union_sigs};
+use crate::{Adds, Sig};
 use std::alloc::Global;
 use std::cmp::Ordering;
 use std::marker::Model;
@@ -87,6 +95,49 @@ impl Part {
         ensures faithful { IsFaithful F.Fn policy.new }
     {
         judge_new(&mut self.sigs, old, policy);
+    }
+
+    /// Puts what another part of the same body has on it, judged where it is new, and tells at which places. After
+    /// `Memory` it is as before.
+    pub(crate) fn grow<F: Fn(Ask) -> bool>(
+        &mut self,
+        alloc: Global,
+        totals: &mut Adds,
+        other: &Part,
+        policy: &mut Policy<F>,
+    ) -> Result<Vec<usize>, Memory>
+        requires faithful { IsFaithful F.Fn policy.old }
+        requires fits { PartFits other.now }
+        ensures united { OnOk result (self.new ≡ unite_part self.old (part_with (judged_sig (rows_of policy.old)) other.now)) }
+        ensures same { OnErr result (self.new ≡ self.old) }
+        ensures back { IfOk result (λ log. shrunk_part log.items self.new ≡ self.old) }
+        ensures follow { OnOk result (FollowSigs totals.old totals.new self.old.sigs self.new.sigs) }
+        ensures asked { AsksUpTo result policy.old policy.new (sum_of if_sound self.old.sigs)
+            (sum_of if_sound (unite_sigs self.old.sigs (map (judged_sig (rows_of policy.old)) other.now.sigs))) }
+        ensures faithful { IsFaithful F.Fn policy.new }
+    {
+        let mut log = Vec::new(alloc);
+        match put_sigs(
+            alloc,
+            &mut self.sigs,
+            &mut log,
+            totals,
+            other.sigs(),
+            policy,
+        ) {
+            Ok(()) => Ok(log),
+            Err(memory) => {
+                take_sigs_back(&mut self.sigs, log);
+                Err(memory)
+            }
+        }
+    }
+
+    /// Takes out the signatures that were put on it at these places.
+    pub(crate) fn take_back(&mut self, log: Vec<usize>)
+        ensures { self.new ≡ shrunk_part log.items self.old }
+    {
+        take_sigs_back(&mut self.sigs, log);
     }
 
     /// The union with a part of the same body.

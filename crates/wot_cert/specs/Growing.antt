@@ -1,0 +1,118 @@
+-- How a certificate grows in place, and how that is taken back.
+use Rattle.std.specs.Prelude.{◌≡◌, ◌≤◌, ◌<◌, ℕ, zero, suc, ◌+◌, List, [], ◌∷◌, length, slice_index_or, slice_set, Result, Ok, Err, MatchResult, map}
+use Rattle.std.specs.List.{AllByRecursion, insert, remove}
+use Rattle.std.specs.declared.cmp.Ordering.{Ordering}
+use Rattle.wot_types.specs.declared.memory.Memory.{Memory}
+use Rattle.wot_policy.specs.declared.policy.Policy.{Policy}
+use Rattle.wot_policy.specs.declared.rows.PolicyRows.{PolicyRows}
+use Rattle.wot_policy.specs.Kept.{asked_more}
+use Rattle.wot_cert.specs.declared.adds.Adds.{Adds}
+use Rattle.wot_cert.specs.declared.growth.Growth.{Growth}
+use Rattle.wot_cert.specs.declared.growth.PartStep.{PartStep}
+use Rattle.wot_cert.specs.declared.growth.PartStep.TheVariants.{New, Grown}
+use Rattle.wot_cert.specs.declared.places.Places.{Places}
+use Rattle.wot_cert.specs.Certificate.{Signature, Component, Certificate, sig_cmp, part_cmp, part_with, unite_sigs, unite_parts}
+use Rattle.wot_cert.specs.Counts.{part_weight, weight_of}
+use Rattle.wot_cert.specs.Judged.{judged_sig, if_sound}
+use Rattle.wot_cert.specs.Parts.{of_places}
+use Rattle.wot_cert.specs.Ranked.{put, IsRising}
+use Rattle.wot_cert.specs.Sizes.{sig_size, own_size}
+use Rattle.wot_cert.specs.Totals.{AreTotals, Counts}
+use Rattle.wot_cert.specs.Whole.{IsCertificate}
+
+-- ---- finding
+
+-- Where x belongs in a list that rises: at what has its rank, or where it is put in.
+abbrev pub TellsPlace : {A : Type 0} → (A → A → Ordering) → (A → A → A) → A → List A → Result ℕ ℕ → Type 0
+TellsPlace {A} R join x xs (Ok at) = (at < length xs) × ((d : A) → put R join x xs ≡ slice_set xs at (join (slice_index_or xs at d) x))
+TellsPlace {A} R join x xs (Err at) = (at ≤ length xs) × (put R join x xs ≡ insert xs at x)
+
+-- ---- taking back
+
+-- the list without what was put in at these places, from the last one on
+abbrev pub without_all : {A : Type 0} → List ℕ → List A → List A
+without_all [] xs = xs
+without_all (at ∷ log) xs = remove (without_all log xs) at
+
+-- the list with the item at a place changed
+abbrev pub changed_at : {A : Type 0} → ℕ → (A → A) → List A → List A
+changed_at at change [] = []
+changed_at zero change (x ∷ xs) = change x ∷ xs
+changed_at (suc at) change (x ∷ xs) = x ∷ changed_at at change xs
+
+abbrev pub shrunk_part : List ℕ → Component → Component
+shrunk_part log p = record { body = p.body; sigs = without_all log p.sigs }
+
+abbrev pub step_back : PartStep → List Component → List Component
+step_back (New at) ps = remove ps at
+step_back (Grown at log) ps = changed_at at (shrunk_part log.items) ps
+
+abbrev pub parts_back : List PartStep → List Component → List Component
+parts_back [] ps = ps
+parts_back (s ∷ log) ps = step_back s (parts_back log ps)
+
+-- the certificate without what it grew by
+abbrev pub shrunk : Growth → Certificate → Certificate
+shrunk g c = record {
+  key = c.key;
+  direct = without_all g.direct.items c.direct;
+  user_ids = parts_back g.user_ids.items c.user_ids;
+  attributes = parts_back g.attributes.items c.attributes;
+  subkeys = parts_back g.subkeys.items c.subkeys;
+}
+
+-- What a certificate grew by leads back to the old one.
+pub record LeadsBack (g : Growth) (old new : Certificate) : Type 0 where
+  pub shrunk : shrunk g new ≡ old
+  pub whole : IsCertificate old
+  pub totals : AreTotals g.before old
+
+-- ---- asking
+
+-- The policy was asked once for each sound signature that is new; where no memory was found, for some of them.
+abbrev pub AsksUpTo : {F T E : Type 0} → Result T E → Policy F → Policy F → ℕ → ℕ → Type 0
+AsksUpTo result before after old wanted = (k : ℕ) × (after ≡ asked_more k before) × MatchResult result (λ _. k + old ≡ wanted) (λ _. k + old ≤ wanted)
+
+abbrev pub sound_weight : Component → ℕ
+sound_weight = part_weight if_sound (λ _. 0)
+
+-- ---- all places
+
+-- Each place is the union with another certificate's, judged.
+pub record AreUnited (rows : PolicyRows) (old new : Places) (other : Certificate) : Type 0 where
+  pub direct : new.direct.items ≡ unite_sigs old.direct.items (map (judged_sig rows) other.direct)
+  pub user_ids : new.user_ids.items ≡ unite_parts old.user_ids.items (map (part_with (judged_sig rows)) other.user_ids)
+  pub attributes : new.attributes.items ≡ unite_parts old.attributes.items (map (part_with (judged_sig rows)) other.attributes)
+  pub subkeys : new.subkeys.items ≡ unite_parts old.subkeys.items (map (part_with (judged_sig rows)) other.subkeys)
+
+-- What was logged more leads back to the old places.
+pub record StillLeadsBack (g g' : Growth) (old new : Places) : Type 0 where
+  pub direct : without_all g'.direct.items new.direct.items ≡ without_all g.direct.items old.direct.items
+  pub user_ids : parts_back g'.user_ids.items new.user_ids.items ≡ parts_back g.user_ids.items old.user_ids.items
+  pub attributes : parts_back g'.attributes.items new.attributes.items ≡ parts_back g.attributes.items old.attributes.items
+  pub subkeys : parts_back g'.subkeys.items new.subkeys.items ≡ parts_back g.subkeys.items old.subkeys.items
+  pub before : g'.before ≡ g.before
+
+-- All lists rise.
+pub record PlacesRise (p : Places) : Type 0 where
+  pub direct : IsRising sig_cmp p.direct.items
+  pub user_ids : IsRising part_cmp p.user_ids.items
+  pub attributes : IsRising part_cmp p.attributes.items
+  pub subkeys : IsRising part_cmp p.subkeys.items
+
+-- what all places weigh
+abbrev pub weight_in : (Signature → ℕ) → (Component → ℕ) → Places → ℕ
+weight_in sig own p = weight_of sig own (of_places [] p)
+
+-- The totals follow the places.
+pub record PlacesFollow (a b : Adds) (old new : Places) : Type 0 where
+  pub items : Counts a.items (weight_in (λ _. 1) (λ _. 1) old) b.items (weight_in (λ _. 1) (λ _. 1) new)
+  pub signatures : Counts a.signatures (weight_in (λ _. 1) (λ _. 0) old) b.signatures (weight_in (λ _. 1) (λ _. 0) new)
+  pub octets : Counts a.octets (weight_in sig_size own_size old) b.octets (weight_in sig_size own_size new)
+
+-- Each place is what it was without what was logged.
+pub record TakesBack (g : Growth) (old new : Places) : Type 0 where
+  pub direct : new.direct.items ≡ without_all g.direct.items old.direct.items
+  pub user_ids : new.user_ids.items ≡ parts_back g.user_ids.items old.user_ids.items
+  pub attributes : new.attributes.items ≡ parts_back g.attributes.items old.attributes.items
+  pub subkeys : new.subkeys.items ≡ parts_back g.subkeys.items old.subkeys.items

@@ -1,0 +1,303 @@
+//! Uniting in place: what is new is put in its place, and logged. The first that is put in is the last in order.
+ghost use Rattle.std.specs.Prelude.{◌≡◌, ◌≤◌, ◌<◌, ◌+◌, ℕ, ◌++◌, ◌∷◌, [], vec_len, vec_capacity, IfOk, Ok, Err, OnOk, OnErr, map};
+ghost use Rattle.std.specs.List.{AllByRecursion, insert};
+ghost use Rattle.wot_cert.specs.Certificate.{Signature as TheSig, Component, sig_cmp, part_cmp, kept, part_with, unite_part, unite_parts, unite_sigs};
+ghost use Rattle.wot_cert.specs.Copied.{copied};
+ghost use Rattle.wot_cert.specs.declared.sig.Marks.TheVariants.{Dropped};
+ghost use Rattle.wot_cert.specs.Counts.{sum_of};
+ghost use Rattle.wot_cert.specs.Fitting.{SigFits, PartFits};
+ghost use Rattle.wot_cert.specs.Growing.{AsksUpTo, TellsPlace, parts_back, sound_weight, without_all};
+ghost use Rattle.wot_cert.specs.Judged.{if_sound, judged_sig};
+ghost use Rattle.wot_cert.specs.New.{judged_part, sound_new};
+ghost use Rattle.wot_cert.specs.declared.growth.PartStep.TheVariants.{New};
+ghost use Rattle.wot_cert.specs.Ranked.{put, IsRising};
+ghost use Rattle.wot_cert.specs.Totals.{FollowParts, FollowSigs, IsCappedSum};
+ghost use Rattle.wot_policy.specs.Kept.{IsFaithful, rows_of, asked_more};
+
+use crate::growth::PartStep;
+use crate::measure::{of_part, of_sig, with};
+use crate::part::order as order_parts;
+use crate::sig::{Marks, order};
+use crate::{Adds, Part, Sig};
+use std::alloc::Global;
+use wot_policy::{Ask, Policy};
+use wot_types::Memory;
+
+/// Where a signature of this body is, or would be put in.
+fn find_sig(sigs: &[Sig], sig: &Sig) -> Result<usize, usize>
+    requires { IsRising sig_cmp sigs.now }
+    ensures { (like : TheSig) → like.body ≡ sig.now.body → TellsPlace sig_cmp kept like sigs.now result }
+{
+    sigs.binary_search_by(|there| order(there, sig))
+}
+
+/// Puts an item in at a place, where there is room.
+fn put_in<T: Drop>(items: &mut Vec<T>, at: usize, item: T)
+    requires within { at ≤ vec_len items.old }
+    requires room { vec_len items.old < vec_capacity items.old }
+    ensures put { items.new.items ≡ insert items.old.items at item }
+{
+    let _ = items.insert(at, item);
+}
+
+/// Logs a step, where there is room.
+fn note<T: Drop>(log: &mut Vec<T>, step: T)
+    requires room { vec_len log.old < vec_capacity log.old }
+    ensures logged { log.new.items ≡ log.old.items ++ step ∷ [] }
+{
+    let _ = log.push(step);
+}
+
+/// Judges a signature and puts it in at a place, where there is room for it and for its log.
+fn settle<F: Fn(Ask) -> bool>(
+    sigs: &mut Vec<Sig>,
+    log: &mut Vec<usize>,
+    at: usize,
+    sig: Sig,
+    policy: &mut Policy<F>,
+)
+    requires faithful { IsFaithful F.Fn policy.old }
+    requires within { at ≤ vec_len sigs.old }
+    requires room { vec_len sigs.old < vec_capacity sigs.old }
+    requires log_room { vec_len log.old < vec_capacity log.old }
+    ensures put { sigs.new.items ≡ insert sigs.old.items at (judged_sig (rows_of policy.old) sig) }
+    ensures logged { log.new.items ≡ log.old.items ++ at ∷ [] }
+    ensures asked { policy.new ≡ asked_more (if_sound sig) policy.old }
+    ensures faithful { IsFaithful F.Fn policy.new }
+{
+    let mut judged = sig;
+    judged.judge(policy);
+    put_in(sigs, at, judged);
+    note(log, at);
+}
+
+/// Puts a signature in its place, judged, unless one of its body is there. After `Memory` nothing was put in.
+fn put_sig<F: Fn(Ask) -> bool>(
+    alloc: Global,
+    sigs: &mut Vec<Sig>,
+    log: &mut Vec<usize>,
+    totals: &mut Adds,
+    sig: &Sig,
+    policy: &mut Policy<F>,
+) -> Result<(), Memory>
+    requires faithful { IsFaithful F.Fn policy.old }
+    requires rises { IsRising sig_cmp sigs.old.items }
+    requires fits { SigFits sig.now }
+    ensures put { OnOk result (sigs.new.items ≡ put sig_cmp kept (judged_sig (rows_of policy.old) sig.now) sigs.old.items) }
+    ensures same { OnErr result (sigs.new.items ≡ sigs.old.items) }
+    ensures back { without_all log.new.items sigs.new.items ≡ without_all log.old.items sigs.old.items }
+    ensures follow { OnOk result (FollowSigs totals.old totals.new sigs.old.items sigs.new.items) }
+    ensures asked { (k : ℕ) × (policy.new ≡ asked_more k policy.old) × (k + sum_of if_sound sigs.old.items ≡ sum_of if_sound sigs.new.items) }
+    ensures faithful { IsFaithful F.Fn policy.new }
+{
+    match find_sig(sigs, sig) {
+        Ok(_) => Ok(()),
+        Err(at) => {
+            let copy = sig.marked(alloc, false)?;
+            sigs.reserve(1)?;
+            log.reserve(1)?;
+            *totals = with(*totals, of_sig(sig));
+            settle(sigs, log, at, copy, policy);
+            Ok(())
+        }
+    }
+}
+
+/// Puts each of the second list in its place, judged. After `Memory` the log leads back.
+pub(crate) fn put_sigs<F: Fn(Ask) -> bool>(
+    alloc: Global,
+    sigs: &mut Vec<Sig>,
+    log: &mut Vec<usize>,
+    totals: &mut Adds,
+    more: &[Sig],
+    policy: &mut Policy<F>,
+) -> Result<(), Memory>
+    requires faithful { IsFaithful F.Fn policy.old }
+    requires rises { IsRising sig_cmp sigs.old.items }
+    requires fit { AllByRecursion SigFits more.now }
+    ensures union { OnOk result (sigs.new.items ≡ unite_sigs sigs.old.items (map (judged_sig (rows_of policy.old)) more.now)) }
+    ensures back { without_all log.new.items sigs.new.items ≡ without_all log.old.items sigs.old.items }
+    ensures follow { OnOk result (FollowSigs totals.old totals.new sigs.old.items sigs.new.items) }
+    ensures asked { AsksUpTo result policy.old policy.new (sum_of if_sound sigs.old.items)
+        (sum_of if_sound (unite_sigs sigs.old.items (map (judged_sig (rows_of policy.old)) more.now))) }
+    ensures faithful { IsFaithful F.Fn policy.new }
+{
+    let mut left = more;
+    'left: while let Some((sig, rest)) = left.split_last() {
+        match put_sig(alloc, sigs, log, totals, sig, policy) {
+            Ok(()) => {}
+            Err(memory) => return Err(memory),
+        }
+        left = rest;
+    }
+    Ok(())
+}
+
+/// Where a component of this body is, or would be put in.
+fn find_part(parts: &[Part], part: &Part) -> Result<usize, usize>
+    requires { IsRising part_cmp parts.now }
+    ensures { (like : Component) → like.body ≡ part.now.body → TellsPlace part_cmp unite_part like parts.now result }
+{
+    parts.binary_search_by(|there| order_parts(there, part))
+}
+
+/// Judges a component and puts it in at a place, where there is room for it and for its log.
+fn settle_part<F: Fn(Ask) -> bool>(
+    parts: &mut Vec<Part>,
+    log: &mut Vec<PartStep>,
+    at: usize,
+    part: Part,
+    policy: &mut Policy<F>,
+)
+    requires faithful { IsFaithful F.Fn policy.old }
+    requires within { at ≤ vec_len parts.old }
+    requires room { vec_len parts.old < vec_capacity parts.old }
+    requires log_room { vec_len log.old < vec_capacity log.old }
+    ensures put { parts.new.items ≡ insert parts.old.items at (judged_part (rows_of policy.old) [] part) }
+    ensures logged { log.new.items ≡ log.old.items ++ New at ∷ [] }
+    ensures asked { (k : ℕ) × (policy.new ≡ asked_more k policy.old) × (k ≡ sound_new part.sigs []) }
+    ensures faithful { IsFaithful F.Fn policy.new }
+{
+    let mut judged = part;
+    judged.judge_new(&[], policy);
+    put_in(parts, at, judged);
+    note(log, PartStep::New(at));
+}
+
+/// Puts what a component has on the one of its body. After `Memory` that is as before.
+fn grow_part<F: Fn(Ask) -> bool>(
+    alloc: Global,
+    parts: &mut Vec<Part>,
+    log: &mut Vec<PartStep>,
+    totals: &mut Adds,
+    at: usize,
+    part: &Part,
+    policy: &mut Policy<F>,
+) -> Result<(), Memory>
+    requires faithful { IsFaithful F.Fn policy.old }
+    requires fits { PartFits part.now }
+    requires within { at < vec_len parts.old }
+    requires log_room { vec_len log.old < vec_capacity log.old }
+    requires there { (like : Component) → like.body ≡ part.now.body → TellsPlace part_cmp unite_part like parts.old.items (Ok at) }
+    ensures put { OnOk result (parts.new.items ≡ put part_cmp unite_part (part_with (judged_sig (rows_of policy.old)) part.now) parts.old.items) }
+    ensures same { OnErr result (parts.new.items ≡ parts.old.items) }
+    ensures back { parts_back log.new.items parts.new.items ≡ parts_back log.old.items parts.old.items }
+    ensures follow { OnOk result (FollowParts totals.old totals.new parts.old.items parts.new.items) }
+    ensures asked { AsksUpTo result policy.old policy.new (sum_of sound_weight parts.old.items)
+        (sum_of sound_weight (put part_cmp unite_part (part_with (judged_sig (rows_of policy.old)) part.now) parts.old.items)) }
+    ensures faithful { IsFaithful F.Fn policy.new }
+{
+    let there = &mut parts[at];
+    match there.grow(alloc, totals, part, policy) {
+        Ok(grown) => {
+            note(log, PartStep::Grown(at, grown));
+            Ok(())
+        }
+        Err(memory) => Err(memory),
+    }
+}
+
+/// A copy with no marks, and room for it.
+fn copy_ready(alloc: Global, parts: &mut Vec<Part>, part: &Part) -> Result<Part, Memory>
+    ensures copy { IfOk result (λ c. c ≡ part_with (copied Dropped) part.now) }
+    ensures items { parts.new.items ≡ parts.old.items }
+    ensures len { vec_len parts.new ≡ vec_len parts.old }
+    ensures room { OnOk result (vec_len parts.new < vec_capacity parts.new) }
+{
+    let copy = part.copied(alloc, Marks::Dropped)?;
+    parts.reserve(1)?;
+    Ok(copy)
+}
+
+/// Puts a component in, judged, where none of its body is. After `Memory` nothing was put in.
+fn put_new_part<F: Fn(Ask) -> bool>(
+    alloc: Global,
+    parts: &mut Vec<Part>,
+    log: &mut Vec<PartStep>,
+    totals: &mut Adds,
+    at: usize,
+    part: &Part,
+    policy: &mut Policy<F>,
+) -> Result<(), Memory>
+    requires faithful { IsFaithful F.Fn policy.old }
+    requires fits { PartFits part.now }
+    requires log_room { vec_len log.old < vec_capacity log.old }
+    requires within { at ≤ vec_len parts.old }
+    requires there { (like : Component) → like.body ≡ part.now.body → TellsPlace part_cmp unite_part like parts.old.items (Err at) }
+    ensures put { OnOk result (parts.new.items ≡ put part_cmp unite_part (part_with (judged_sig (rows_of policy.old)) part.now) parts.old.items) }
+    ensures same { OnErr result (parts.new.items ≡ parts.old.items) }
+    ensures back { parts_back log.new.items parts.new.items ≡ parts_back log.old.items parts.old.items }
+    ensures follow { OnOk result (FollowParts totals.old totals.new parts.old.items parts.new.items) }
+    ensures asked { AsksUpTo result policy.old policy.new (sum_of sound_weight parts.old.items)
+        (sum_of sound_weight (put part_cmp unite_part (part_with (judged_sig (rows_of policy.old)) part.now) parts.old.items)) }
+    ensures faithful { IsFaithful F.Fn policy.new }
+{
+    match copy_ready(alloc, parts, part) {
+        Ok(copy) => {
+            *totals = with(*totals, of_part(part));
+            settle_part(parts, log, at, copy, policy);
+            Ok(())
+        }
+        Err(memory) => Err(memory),
+    }
+}
+
+/// Puts a component in its place, its signatures judged where they are new. After `Memory` nothing was put in.
+fn put_part<F: Fn(Ask) -> bool>(
+    alloc: Global,
+    parts: &mut Vec<Part>,
+    log: &mut Vec<PartStep>,
+    totals: &mut Adds,
+    part: &Part,
+    policy: &mut Policy<F>,
+) -> Result<(), Memory>
+    requires faithful { IsFaithful F.Fn policy.old }
+    requires rises { IsRising part_cmp parts.old.items }
+    requires fits { PartFits part.now }
+    ensures put { OnOk result (parts.new.items ≡ put part_cmp unite_part (part_with (judged_sig (rows_of policy.old)) part.now) parts.old.items) }
+    ensures same { OnErr result (parts.new.items ≡ parts.old.items) }
+    ensures back { parts_back log.new.items parts.new.items ≡ parts_back log.old.items parts.old.items }
+    ensures follow { OnOk result (FollowParts totals.old totals.new parts.old.items parts.new.items) }
+    ensures asked { AsksUpTo result policy.old policy.new (sum_of sound_weight parts.old.items)
+        (sum_of sound_weight (put part_cmp unite_part (part_with (judged_sig (rows_of policy.old)) part.now) parts.old.items)) }
+    ensures faithful { IsFaithful F.Fn policy.new }
+{
+    match log.reserve(1) {
+        Ok(()) => {}
+        Err(_) => return Err(Memory),
+    }
+    match find_part(parts, part) {
+        Ok(at) => grow_part(alloc, parts, log, totals, at, part, policy),
+        Err(at) => put_new_part(alloc, parts, log, totals, at, part, policy),
+    }
+}
+
+/// Puts each of the second list in its place, judged where it is new. After `Memory` the log leads back.
+pub(crate) fn put_parts<F: Fn(Ask) -> bool>(
+    alloc: Global,
+    parts: &mut Vec<Part>,
+    log: &mut Vec<PartStep>,
+    totals: &mut Adds,
+    more: &[Part],
+    policy: &mut Policy<F>,
+) -> Result<(), Memory>
+    requires faithful { IsFaithful F.Fn policy.old }
+    requires rises { IsRising part_cmp parts.old.items }
+    requires fit { AllByRecursion PartFits more.now }
+    ensures union { OnOk result (parts.new.items ≡ unite_parts parts.old.items (map (part_with (judged_sig (rows_of policy.old))) more.now)) }
+    ensures back { parts_back log.new.items parts.new.items ≡ parts_back log.old.items parts.old.items }
+    ensures follow { OnOk result (FollowParts totals.old totals.new parts.old.items parts.new.items) }
+    ensures asked { AsksUpTo result policy.old policy.new (sum_of sound_weight parts.old.items)
+        (sum_of sound_weight (unite_parts parts.old.items (map (part_with (judged_sig (rows_of policy.old))) more.now))) }
+    ensures faithful { IsFaithful F.Fn policy.new }
+{
+    let mut left = more;
+    'left: while let Some((part, rest)) = left.split_last() {
+        match put_part(alloc, parts, log, totals, part, policy) {
+            Ok(()) => {}
+            Err(memory) => return Err(memory),
+        }
+        left = rest;
+    }
+    Ok(())
+}

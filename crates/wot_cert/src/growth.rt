@@ -1,0 +1,43 @@
+ghost use Rattle.std.specs.Prelude.{◌≡◌, []};
+
+use crate::Adds;
+use std::alloc::Global;
+
+/// What became of the components of a place: one was put in, or signatures were put on one, at these places.
+#[derive(Drop)]
+pub(crate) enum PartStep {
+    New(usize),
+    Grown(usize, Vec<usize>),
+}
+
+/// What a certificate grew by, in the order in which it was put in: enough to take it back without memory.
+#[derive(Drop)]
+pub struct Growth {
+    /// How many components and signatures are new.
+    pub items: u64,
+    pub(crate) before: Adds,
+    pub(crate) direct: Vec<usize>,
+    pub(crate) user_ids: Vec<PartStep>,
+    pub(crate) attributes: Vec<PartStep>,
+    pub(crate) subkeys: Vec<PartStep>,
+}
+
+impl Growth {
+    /// No growth yet of a certificate with these totals. Takes no memory.
+    pub(crate) fn new(alloc: Global, before: Adds) -> Growth
+        ensures direct { result.direct.items ≡ [] }
+        ensures user_ids { result.user_ids.items ≡ [] }
+        ensures attributes { result.attributes.items ≡ [] }
+        ensures subkeys { result.subkeys.items ≡ [] }
+        ensures before { result.before ≡ before }
+    {
+        Growth {
+            items: 0,
+            before,
+            direct: Vec::new(alloc),
+            user_ids: Vec::new(alloc),
+            attributes: Vec::new(alloc),
+            subkeys: Vec::new(alloc),
+        }
+    }
+}
