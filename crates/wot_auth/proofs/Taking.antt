@@ -13,6 +13,7 @@ use Rattle.wot_edge.specs.Roots.{root_amount, AreAmounts}
 use Rattle.wot_edge.specs.Path.{Question, Use, use_of, path_pair, path_root, is_of, IsNextPath, IsSpent}
 use Rattle.wot_edge.specs.Sums.{Sums, pair_sum, root_sum, use_in}
 use Rattle.wot_edge.specs.Answer.{EachNext, amount_of, but_last, IsAnswer, IsNextOrSpent}
+use Rattle.wot_search.specs.Offers.{IsLater, AreOffers}
 
 -- ---- one path more
 
@@ -47,6 +48,27 @@ use_more old new paths path e pairs roots = λ i. record { pair = λ issuer targ
 
     root : (fpr : Fpr) → root_sum new fpr ≡ (use_of (paths ++ path ∷ [])).root fpr
     root fpr = roots fpr ∙ ap (λ (u : Use). u.root fpr + path_root fpr path) e ∙ sym (sum_by_push (path_root fpr) paths path)
+
+-- after one path more at least as much is used
+pub later_more : (old new : Sums) (path : Path)
+    → ((issuer target : Fpr) → pair_sum new issuer target ≡ pair_sum old issuer target + path_pair issuer target path)
+    → ((fpr : Fpr) → root_sum new fpr ≡ root_sum old fpr + path_root fpr path)
+    → IsLater (use_in old) (use_in new)
+later_more old new path pairs roots = record {
+  pair = λ issuer target. (let e = pairs issuer target in omega (arith, e));
+  root = λ fpr. (let e = roots fpr in omega (arith, e));
+}
+
+later_trans : (a b c : Use) → IsLater a b → IsLater b c → IsLater a c
+later_trans a b c m n = record {
+  pair = λ issuer target. (let x = m.pair issuer target in let y = n.pair issuer target in omega (arith, x, y));
+  root = λ fpr. (let x = m.root fpr in let y = n.root fpr in omega (arith, x, y));
+}
+
+-- offers stay offers
+pub offers_later : (roots : List (Fpr × ℕ)) (q : Question) (used later : Use) (paths : List Path) → IsLater used later → AreOffers roots q used paths → AreOffers roots q later paths
+offers_later roots q used later [] l o = tt
+offers_later roots q used later (path ∷ paths) l o = (λ last m le left. o.0 last (later_trans used later last l m) le left, λ last m lt. o.1 last (later_trans used later last l m) lt)
 
 part_le : (b : Bool) (n : ℕ) → cond b n 0 ≤ n
 part_le true n = omega arith

@@ -12,7 +12,7 @@ use crate::Answer;
 use std::alloc::Global;
 use wot_edge::laws::paths_fit;
 use wot_edge::{Path, PathList, Roads, Roots, Used};
-use wot_search::{Notes, Reach, next_path_within};
+use wot_search::{Notes, Reach, next_offered};
 use wot_types::{Fpr, Memory};
 
 /// Takes next paths until their sum reaches what is wanted, or none is left.
@@ -40,11 +40,25 @@ pub fn take<R: Roads, N: Notes>(
     // What the bounds rest on: no root has more than 255, and next paths use no more than there is.
     let _count = roots.len();
     paths_fit();
+    // What is told is lawful.
+    let _rows = roads.rows(target);
     let mut used = Used::new(alloc);
     let mut paths: Vec<Path> = Vec::new(alloc);
+    let mut offers: Vec<Path> = Vec::new(alloc);
     let mut sum: u32 = 0;
     'paths: while sum < wanted {
-        match next_path_within(alloc, roads, roots, reach, &used, target, uid, notes)? {
+        let next = next_offered(
+            alloc,
+            roads,
+            roots,
+            reach,
+            &used,
+            target,
+            uid,
+            &mut offers,
+            notes,
+        )?;
+        match next {
             None => {
                 let paths = PathList::new(paths);
                 return Ok(Answer { sum, paths });

@@ -13,6 +13,9 @@ pub mod Extending
 pub mod Growing
 pub mod Finding
 pub mod Nexting
+pub mod Offering
+pub mod OfRoots
+pub mod Opening
 pub mod Members
 pub mod Taking
 pub mod Collecting

@@ -86,7 +86,7 @@ module _ (reach : Fpr → ℕ) (all : (fpr : Fpr) → reach fpr ≡ 255) (q othe
       )
 
   -- where a suffix begins the roots have the same amounts
-  root_same : (steps : List Step) → 1 ≤ length steps → length steps ≤ n → Suffix (widest_quest reach q used) steps → root_amount q.roots (start q.target steps) ≡ root_amount other.roots (start other.target steps)
+  pub root_same : (steps : List Step) → 1 ≤ length steps → length steps ≤ n → Suffix (widest_quest reach q used) steps → root_amount q.roots (start q.target steps) ≡ root_amount other.roots (start other.target steps)
   root_same [] some le t = absurd (omega arith)
   root_same (step ∷ rest) some le t =
       let s = t.0.stands in
@@ -102,7 +102,7 @@ module _ (reach : Fpr → ℕ) (all : (fpr : Fpr) → reach fpr ≡ 255) (q othe
   amount_same : (steps : List Step) → 1 ≤ length steps → length steps ≤ n → Suffix (widest_quest reach q used) steps → path_amount q used steps ≡ path_amount other used steps
   amount_same steps some le t = ap (λ (m : ℕ). least_left used m steps) (left_same steps some le t)
 
-  open_there : (steps : List Step) → length steps ≤ n → IsOpen q used steps → IsOpen other used steps
+  pub open_there : (steps : List Step) → length steps ≤ n → IsOpen q used steps → IsOpen other used steps
   open_there steps le o =
       let t = valid_suffix reach q used (open_within reach all q used) steps o in
       let v = o.0 in (
@@ -117,7 +117,7 @@ module _ (reach : Fpr → ℕ) (all : (fpr : Fpr) → reach fpr ≡ 255) (q othe
         subst (λ (m : ℕ). 0 < m) (amount_same steps v.some le t) o.1,
       )
 
-  open_here : (steps : List Step) → length steps ≤ n → IsOpen other used steps → IsOpen q used steps
+  pub open_here : (steps : List Step) → length steps ≤ n → IsOpen other used steps → IsOpen q used steps
   open_here steps le o =
       let t = here steps le (valid_suffix reach other used (open_within reach all other used) steps o) in
       let v = o.0 in (
@@ -132,7 +132,7 @@ module _ (reach : Fpr → ℕ) (all : (fpr : Fpr) → reach fpr ≡ 255) (q othe
         subst (λ (m : ℕ). 0 < m) (sym (amount_same steps v.some le t)) o.1,
       )
 
-  open_amount : (steps : List Step) → length steps ≤ n → IsOpen q used steps → path_amount q used steps ≡ path_amount other used steps
+  pub open_amount : (steps : List Step) → length steps ≤ n → IsOpen q used steps → path_amount q used steps ≡ path_amount other used steps
   open_amount steps le o = amount_same steps o.0.some le (valid_suffix reach q used (open_within reach all q used) steps o)
 
   next_there : (steps : List Step) → length steps ≤ n → IsNext q used steps → IsNext other used steps
@@ -147,7 +147,7 @@ module _ (reach : Fpr → ℕ) (all : (fpr : Fpr) → reach fpr ≡ 255) (q othe
           let h = open_here o (omega (arith, e, le)) p in
           x.1 o h (inr (e, inr (open_amount steps le x.0 ∙ m ∙ sym (open_amount o (omega (arith, e, le)) h), less)))
 
-  start_there : (steps : List Step) → 1 ≤ length steps → start q.target steps ≡ start other.target steps
+  pub start_there : (steps : List Step) → 1 ≤ length steps → start q.target steps ≡ start other.target steps
   start_there [] some = absurd (omega arith)
   start_there (step ∷ rest) some = refl
 

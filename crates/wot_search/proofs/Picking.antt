@@ -134,7 +134,7 @@ module _ (quest : Quest) (found : Found) where
 
 -- ---- the first rooted suffix
 
-then_Greater : (o p r : Ordering) → o ≡ Greater → ordering_then (ordering_then o p) r ≡ Greater
+pub then_Greater : (o p r : Ordering) → o ≡ Greater → ordering_then (ordering_then o p) r ≡ Greater
 then_Greater Less p r e = absurd cc
 then_Greater Equal p r e = absurd cc
 then_Greater Greater p r e = refl

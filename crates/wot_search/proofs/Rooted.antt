@@ -24,7 +24,7 @@ least_quest reach q used amount = record { question = q; used = used; reach = re
 
 -- ---- shortest suffixes have distinct issuers
 
-abbrev IsShortest : Quest → List Step → Type 0
+abbrev pub IsShortest : Quest → List Step → Type 0
 IsShortest quest steps = (other : List Step) → 1 ≤ length other → Suffix quest other → start quest.question.target other ≡ start quest.question.target steps → length steps ≤ length other
 
 rest_shortest : (quest : Quest) (step : Step) (rest : List Step) → 1 ≤ length rest → Suffix quest (step ∷ rest) → IsShortest quest (step ∷ rest) → IsShortest quest rest
@@ -39,7 +39,7 @@ from_issuer quest [] fpr h t = absurd h
 from_issuer quest (step ∷ rest) fpr (inl e) t = (step ∷ rest, t, omega arith, omega arith, sym e)
 from_issuer quest (step ∷ rest) fpr (inr h) t = let o = from_issuer quest rest fpr h t.1 in (o.0, o.1, o.2, let l = o.3 in omega (arith, l), o.4)
 
-shortest_distinct : (quest : Quest) (steps : List Step) → Suffix quest steps → IsShortest quest steps → Distinct (issuers steps)
+pub shortest_distinct : (quest : Quest) (steps : List Step) → Suffix quest steps → IsShortest quest steps → Distinct (issuers steps)
 shortest_distinct quest [] t s = tt
 shortest_distinct quest (step ∷ []) t s = (λ h. h, tt)
 shortest_distinct quest (step ∷ next ∷ rest) t s = (
@@ -49,7 +49,7 @@ shortest_distinct quest (step ∷ next ∷ rest) t s = (
 
 -- ---- suffixes and valid paths
 
-suffix_chain : (quest : Quest) (steps : List Step) → Suffix quest steps → Chain quest.question steps
+pub suffix_chain : (quest : Quest) (steps : List Step) → Suffix quest steps → Chain quest.question steps
 suffix_chain quest [] t = tt
 suffix_chain quest (step ∷ rest) t = (t.0.stands, suffix_chain quest rest t.1)
 
@@ -90,7 +90,7 @@ suffix_fewer : (reach : Fpr → ℕ) (q : Question) (used : Use) (amount : ℕ) 
 suffix_fewer reach q used amount [] le t = tt
 suffix_fewer reach q used amount (step ∷ rest) le t = (record { stands = t.0.stands; left = let a = t.0.left in omega (arith, le, a); high = t.0.high }, suffix_fewer reach q used amount rest le t.1)
 
-rooted_fewer : (reach : Fpr → ℕ) (q : Question) (used : Use) (amount : ℕ) (steps : List Step) → 1 ≤ amount → Rooted (least_quest reach q used amount) steps → Rooted (widest_quest reach q used) steps
+pub rooted_fewer : (reach : Fpr → ℕ) (q : Question) (used : Use) (amount : ℕ) (steps : List Step) → 1 ≤ amount → Rooted (least_quest reach q used amount) steps → Rooted (widest_quest reach q used) steps
 rooted_fewer reach q used amount steps le r = record { some = r.some; few = r.few; suffix = suffix_fewer reach q used amount steps le r.suffix; root = let a = r.root in omega (arith, le, a) }
 
 -- ---- the first

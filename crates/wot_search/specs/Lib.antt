@@ -10,3 +10,4 @@ pub mod Nexting
 pub mod Demand
 pub mod Reached
 pub mod Growth
+pub mod Offers

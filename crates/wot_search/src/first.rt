@@ -16,7 +16,7 @@ use wot_edge::{Path, Roads};
 use wot_types::{Fpr, Memory};
 
 /// Before the first layer: the target alone.
-fn begin(alloc: Global, target: &Fpr) -> Result<Reached, Memory>
+pub(crate) fn begin(alloc: Global, target: &Fpr) -> Result<Reached, Memory>
     ensures nodes { IfOk result (λ reached. reached.nodes.entries ≡ []) }
     ensures layer { IfOk result (λ reached. reached.layer.items ≡ target.now ∷ []) }
 {

@@ -21,7 +21,8 @@ pub fn step_from(edge: &EdgeFacts) -> Step
     }
 }
 
-fn remaining(amount: u8, used: u32) -> u8
+/// What is left of an amount.
+pub(crate) fn remaining(amount: u8, used: u32) -> u8
     ensures { result ≡ amount - used }
 {
     u32::from(amount).saturating_sub(used) as u8

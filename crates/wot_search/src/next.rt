@@ -22,7 +22,7 @@ use wot_edge::{Path, Roads, Roots, Used};
 use wot_types::{Fpr, Memory};
 
 /// No root has more than 255: what each value of `Roots` keeps, as a fact.
-fn bound_amounts(roots: &Roots)
+pub(crate) fn bound_amounts(roots: &Roots)
     ensures { (fpr : Print) → root_amount roots.now fpr ≤ 255 }
 {
     let _count = roots.len();

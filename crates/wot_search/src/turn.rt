@@ -15,7 +15,7 @@ use wot_edge::{Path, StepList};
 use wot_types::{Fpr, Memory};
 
 /// The path of so many edges that was found from a root.
-fn path_from(
+pub(crate) fn path_from(
     alloc: Global,
     nodes: &BTreeMap<Fpr, Node>,
     choice: &Choice,

@@ -2,7 +2,9 @@ use Rattle.std.proofs.Common.{inl, inr, ◌+◌, ◌<◌, [], sym, ap, subst, �
 use Rattle.wot_edge.specs.declared.path.Path.{Path}
 use Rattle.wot_edge.specs.Path.{asks, use_of}
 use Rattle.wot_edge.specs.Answer.{EachNext, amount_of, but_last}
-use Rattle.wot_auth.proofs.Taking.{each_more, short_more, use_none, use_more, pair_fits, root_fits, amount_more, next_found, more_small, spent_answer, full_answer}
+use Rattle.wot_edge.specs.Sums.{use_in}
+use Rattle.wot_search.specs.Offers.{AreOffers}
+use Rattle.wot_auth.proofs.Taking.{each_more, short_more, use_none, use_more, pair_fits, root_fits, amount_more, next_found, more_small, spent_answer, full_answer, later_more, offers_later}
 use Rattle.wot_auth.proofs.take.take.Goals as goal
 
 pub paths-init : goal.paths-init
@@ -15,27 +17,28 @@ paths-init g c =
       short = subst (λ (paths : List Path). amount_of (but_last paths) < c.args.wanted) none (omega (arith, c.requires.wanted));
       used = use_none c.new-used.result c.new-used.ensures.pairs c.new-used.ensures.roots ∙ ap use_of none;
       sum = ap amount_of none;
-      lawful = λ pos. absurd (omega (arith, pos));
+      offers = subst (AreOffers c.args.roots.now q (use_in c.new-used.result)) (sym c.new-offers.ensures.items) tt;
       grows = λ fpr h. h;
       leads = λ fpr h. inl h;
-      local = λ all set has other a. subst (EachNext other []) none tt;
+      local = λ all set has other a. (subst (EachNext other []) none tt, subst (AreOffers c.args.roots.now other (use_in c.new-used.result)) (sym c.new-offers.ensures.items) tt);
     }
 
 pub returns-in-None-clause-answer : goal.returns-in-None-clause-answer
 returns-in-None-clause-answer g c =
     let q = asks (g.R.Roads.told c.args.roads.now c.args.uid.now) c.args.roots.now c.args.target.now in
-    spent_answer q c.args.wanted c.paths.used c.paths.paths.items c.new-paths-in-None.result c.in_ok-next_path_within.field-0 c.paths.invariant.each c.paths.invariant.short c.paths.invariant.used c.in_ok-next_path_within.ensures.next c.in-None.is c.new-paths-in-None.ensures.items
+    spent_answer q c.args.wanted c.paths.used c.paths.paths.items c.new-paths-in-None.result c.in_ok-next.next c.paths.invariant.each c.paths.invariant.short c.paths.invariant.used c.in_ok-next.ensures.next c.in-None.is c.new-paths-in-None.ensures.items
 
 pub returns-in-None-clause-local : goal.returns-in-None-clause-local
 returns-in-None-clause-local g c all set has other a =
     let q = asks (g.R.Roads.told c.args.roads.now c.args.uid.now) c.args.roots.now c.args.target.now in
-    let each = c.paths.invariant.local all set (λ fpr h. has fpr (c.in_ok-next_path_within.ensures.grows fpr h)) other a in
-    spent_answer other c.args.wanted c.paths.used c.paths.paths.items c.new-paths-in-None.result c.in_ok-next_path_within.field-0 each c.paths.invariant.short c.paths.invariant.used (c.in_ok-next_path_within.ensures.local all set has other a) c.in-None.is c.new-paths-in-None.ensures.items
+    let each = c.paths.invariant.local all set (λ fpr h. has fpr (c.in_ok-next.ensures.grows fpr h)) other a in
+    let there = c.in_ok-next.ensures.local all set has other a each.1 in
+    spent_answer other c.args.wanted c.paths.used c.paths.paths.items c.new-paths-in-None.result c.in_ok-next.next each.0 c.paths.invariant.short c.paths.invariant.used there.0 c.in-None.is c.new-paths-in-None.ensures.items
 
 pub add-requires-clause-pairs_fit : goal.add-requires-clause-pairs_fit
 add-requires-clause-pairs_fit g c issuer target =
     let q = asks (g.R.Roads.told c.args.roads.now c.args.uid.now) c.args.roots.now c.args.target.now in
-    let next = next_found q c.paths.used c.paths.paths.items c.in_ok-next_path_within.field-0 c.in-Some.path c.paths.invariant.used c.in_ok-next_path_within.ensures.next c.in-Some.is in
+    let next = next_found q c.paths.used c.paths.paths.items c.in_ok-next.next c.in-Some.path c.paths.invariant.used c.in_ok-next.ensures.next c.in-Some.is in
     let small = more_small c.paths_fit.ensures.sum q c.paths.paths.items c.in-Some.path c.len-count.ensures.roots.amounts c.requires.few c.paths.invariant.each next in
     let fits = pair_fits c.paths.used c.paths.paths.items c.in-Some.path issuer target c.paths.invariant.used in
     omega (arith, fits, small)
@@ -43,7 +46,7 @@ add-requires-clause-pairs_fit g c issuer target =
 pub add-requires-clause-roots_fit : goal.add-requires-clause-roots_fit
 add-requires-clause-roots_fit g c fpr =
     let q = asks (g.R.Roads.told c.args.roads.now c.args.uid.now) c.args.roots.now c.args.target.now in
-    let next = next_found q c.paths.used c.paths.paths.items c.in_ok-next_path_within.field-0 c.in-Some.path c.paths.invariant.used c.in_ok-next_path_within.ensures.next c.in-Some.is in
+    let next = next_found q c.paths.used c.paths.paths.items c.in_ok-next.next c.in-Some.path c.paths.invariant.used c.in_ok-next.ensures.next c.in-Some.is in
     let small = more_small c.paths_fit.ensures.sum q c.paths.paths.items c.in-Some.path c.len-count.ensures.roots.amounts c.requires.few c.paths.invariant.each next in
     let fits = root_fits c.paths.used c.paths.paths.items c.in-Some.path fpr c.paths.invariant.used in
     omega (arith, fits, small)
@@ -51,7 +54,7 @@ add-requires-clause-roots_fit g c fpr =
 pub overflow_add-sum : goal.overflow_add-sum
 overflow_add-sum g c =
     let q = asks (g.R.Roads.told c.args.roads.now c.args.uid.now) c.args.roots.now c.args.target.now in
-    let next = next_found q c.paths.used c.paths.paths.items c.in_ok-next_path_within.field-0 c.in-Some.path c.paths.invariant.used c.in_ok-next_path_within.ensures.next c.in-Some.is in
+    let next = next_found q c.paths.used c.paths.paths.items c.in_ok-next.next c.in-Some.path c.paths.invariant.used c.in_ok-next.ensures.next c.in-Some.is in
     let small = more_small c.paths_fit.ensures.sum q c.paths.paths.items c.in-Some.path c.len-count.ensures.roots.amounts c.requires.few c.paths.invariant.each next in
     let more = amount_more c.paths.paths.items c.in-Some.path in
     let sum = c.paths.invariant.sum in
@@ -64,22 +67,24 @@ paths-preserved g c =
     let old = c.paths.paths.items in
     let path = c.in-Some.path in
     let more = sym c.in_ok-push-in-Some.ensures.items in
-    let next = next_found q c.paths.used old c.in_ok-next_path_within.field-0 path c.paths.invariant.used c.in_ok-next_path_within.ensures.next c.in-Some.is in
+    let next = next_found q c.paths.used old c.in_ok-next.next path c.paths.invariant.used c.in_ok-next.ensures.next c.in-Some.is in
+    let later = later_more c.paths.used c.add.new.self path c.in_ok-add-in-Some.ensures.pairs c.in_ok-add-in-Some.ensures.roots in
     let below : amount_of old < c.args.wanted = (let test = c.paths-test.true in let sum = c.paths.invariant.sum in omega (arith, test, sum)) in
     record {
       each = subst (EachNext q []) more (each_more q old path c.paths.invariant.each next);
       short = subst (λ (paths : List Path). amount_of (but_last paths) < c.args.wanted) more (short_more c.args.wanted old path below);
       used = use_more c.paths.used c.add.new.self old path c.paths.invariant.used c.in_ok-add-in-Some.ensures.pairs c.in_ok-add-in-Some.ensures.roots ∙ ap use_of more;
       sum = ap (λ (n : ℕ). n + path.amount) c.paths.invariant.sum ∙ sym (amount_more old path) ∙ ap amount_of more;
-      lawful = λ pos. c.in_ok-next_path_within.ensures.lawful;
-      grows = λ fpr h. c.in_ok-next_path_within.ensures.grows fpr (c.paths.invariant.grows fpr h);
-      leads = λ fpr h. elim (c.in_ok-next_path_within.ensures.leads fpr h) [ inl k ↦ c.paths.invariant.leads fpr k | inr l ↦ inr l ];
+      offers = offers_later c.args.roots.now q (use_in c.paths.used) (use_in c.add.new.self) c.next_offered.new.offers.items later c.in_ok-next.ensures.offers;
+      grows = λ fpr h. c.in_ok-next.ensures.grows fpr (c.paths.invariant.grows fpr h);
+      leads = λ fpr h. elim (c.in_ok-next.ensures.leads fpr h) [ inl k ↦ c.paths.invariant.leads fpr k | inr l ↦ inr l ];
       local = λ all set has other a.
-          let each = c.paths.invariant.local all set (λ fpr h. has fpr (c.in_ok-next_path_within.ensures.grows fpr h)) other a in
-          let there = next_found other c.paths.used old c.in_ok-next_path_within.field-0 path c.paths.invariant.used (c.in_ok-next_path_within.ensures.local all set has other a) c.in-Some.is in
-          subst (EachNext other []) more (each_more other old path each there);
+          let each = c.paths.invariant.local all set (λ fpr h. has fpr (c.in_ok-next.ensures.grows fpr h)) other a in
+          let there = c.in_ok-next.ensures.local all set has other a each.1 in
+          let next = next_found other c.paths.used old c.in_ok-next.next path c.paths.invariant.used there.0 c.in-Some.is in
+          (subst (EachNext other []) more (each_more other old path each.0 next), offers_later c.args.roots.now other (use_in c.paths.used) (use_in c.add.new.self) c.next_offered.new.offers.items later there.1);
     }
 
 pub returns-clause-local : goal.returns-clause-local
 returns-clause-local g c all set has other a =
-    full_answer other c.args.wanted c.paths.paths.items c.new-paths-2.result c.paths.sum (c.paths.invariant.local all set has other a) c.paths.invariant.short c.paths.invariant.sum c.paths-test.false c.new-paths-2.ensures.items
+    full_answer other c.args.wanted c.paths.paths.items c.new-paths-2.result c.paths.sum (c.paths.invariant.local all set has other a).0 c.paths.invariant.short c.paths.invariant.sum c.paths-test.false c.new-paths-2.ensures.items

@@ -1,12 +1,13 @@
 use Rattle.std.proofs.Common.{◌≡◌, ◌<◌, ◌-◌, [], List}
 use Rattle.wot_types.specs.declared.fpr.Fpr.{Fpr}
-use Rattle.wot_edge.specs.Record.{Has, IsRecord}
+use Rattle.wot_edge.specs.Record.{Has}
 use Rattle.wot_edge.specs.Path.{Question, asks, use_of}
 use Rattle.wot_edge.specs.Sums.{use_in}
 use Rattle.wot_edge.specs.Answer.{EachNext, amount_of, but_last}
 use Rattle.wot_edge.specs.Agree.{Agree}
 use Rattle.wot_edge.specs.Leads.{Leads}
 use Rattle.wot_search.specs.Looked.{Gains, Widens}
+use Rattle.wot_search.specs.Offers.{AreOffers}
 use Rattle.wot_search.specs.Reach.{number_at}
 use Rattle.wot_auth.proofs.take.take.Given as goal
 
@@ -19,11 +20,11 @@ invariant-paths g l =
       short : amount_of (but_last l.paths.items) < l.wanted;
       used : use_in l.used ≡ use_of l.paths.items;
       sum : l.sum ≡ amount_of l.paths.items;
-      lawful : 0 < l.sum → IsRecord told;
+      offers : AreOffers l.roots q (use_in l.used) l.offers.items;
       grows : Widens (g.N.Notes.noted l.fn.notes) (g.N.Notes.noted l.notes);
       leads : Gains (Leads told l.target) (g.N.Notes.noted l.fn.notes) (g.N.Notes.noted l.notes);
       local : ((fpr : Fpr) → number_at l.reach fpr ≡ 255) → (set : List Fpr) → Widens (g.N.Notes.noted l.notes) (Has set)
-          → (other : Question) → Agree q other set → EachNext other [] l.paths.items;
+          → (other : Question) → Agree q other set → EachNext other [] l.paths.items × AreOffers l.roots other (use_in l.used) l.offers.items;
     }
 
 abbrev pub decreases-paths : goal.decreases-paths

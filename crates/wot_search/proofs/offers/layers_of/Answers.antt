@@ -1,0 +1,10 @@
+use Rattle.std.proofs.Common.{◌≡◌, ◌+◌, suc, subst, ℕ, arith}
+use Rattle.wot_search.specs.Quest.{quest_of}
+use Rattle.wot_search.specs.Growth.{IsAfter}
+use Rattle.wot_search.proofs.offers.layers_of.Goals as goal
+
+pub layers-preserved : goal.layers-preserved
+layers-preserved g c =
+    let quest = quest_of (g.R.Roads.told c.args.roads.now) c.args.quest.now in
+    let n : suc c.layers.size ≡ c.layers.size + 1 = omega arith in
+    subst (λ (m : ℕ). IsAfter quest m c.advance.new.reached (λ fpr. Unit {0})) n (c.in_ok-advance.ensures.after c.layers.invariant)

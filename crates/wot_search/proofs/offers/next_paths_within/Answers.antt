@@ -1,0 +1,67 @@
+use Rattle.std.proofs.Common.{ap, sym, subst, ◌∙◌, Option, length, ℕ}
+use Rattle.wot_edge.specs.declared.path.Path.{Path}
+use Rattle.wot_edge.specs.Path.{asks}
+use Rattle.wot_edge.specs.Record.{Has}
+use Rattle.wot_edge.specs.Sums.{use_in}
+use Rattle.wot_search.specs.Growth.{IsAfter, IsResult, IsLookedBy}
+use Rattle.wot_search.specs.Offers.{AreNext, AreOfferedBy}
+use Rattle.wot_search.specs.Reach.{number_at}
+use Rattle.wot_search.specs.Reached.{look}
+use Rattle.wot_search.proofs.Layers.{looked_grows}
+use Rattle.wot_search.proofs.Nexting.{spent_next, spent_local}
+use Rattle.wot_search.proofs.OfRoots.{found_next, found_there}
+use Rattle.wot_search.proofs.Rooted.{widest_quest, least_quest}
+use Rattle.wot_search.proofs.Within.{reach_holds}
+use Rattle.wot_search.proofs.offers.next_paths_within.Goals as goal
+
+pub returns-in-None-clause-next : goal.returns-in-None-clause-next
+returns-in-None-clause-next g c =
+    let q = asks (g.R.Roads.told c.args.roads.now c.args.uid.now) c.args.roots.now c.args.target.now in
+    let used = use_in c.args.used.now in
+    let reach = number_at c.args.reach.now in
+    let holds = reach_holds (g.R.Roads.told c.args.roads.now) c.args.roots.now reach c.requires.reach c.args.uid.now c.args.target.now used in
+    subst (AreNext c.args.roots.now q used) (sym c.new-in-None.ensures.items)
+    (spent_next reach q used holds (subst (λ (o : Option Path). IsResult (widest_quest reach q used) o) c.in-None.is c.in_ok-first.ensures.first))
+
+pub returns-in-None-clause-local : goal.returns-in-None-clause-local
+returns-in-None-clause-local g c all set has other a =
+    let q = asks (g.R.Roads.told c.args.roads.now c.args.uid.now) c.args.roots.now c.args.target.now in
+    let used = use_in c.args.used.now in
+    let reach = number_at c.args.reach.now in
+    let holds = reach_holds (g.R.Roads.told c.args.roads.now) c.args.roots.now reach c.requires.reach c.args.uid.now c.args.target.now used in
+    subst (AreNext c.args.roots.now other used) (sym c.new-in-None.ensures.items)
+    (spent_local reach all q used holds set (subst (λ (o : Option Path). IsResult (widest_quest reach q used) o) c.in-None.is c.in_ok-first.ensures.first)
+    (looked_grows (widest_quest reach q used) 255 (g.N.Notes.noted c.first.new.notes) (Has set) has
+    (subst (λ (o : Option Path). IsLookedBy (widest_quest reach q used) (g.N.Notes.noted c.first.new.notes) o) c.in-None.is c.in_ok-first.ensures.looked)) other a)
+
+pub returns-in_ok-paths-in-Some-clause-next : goal.returns-in_ok-paths-in-Some-clause-next
+returns-in_ok-paths-in-Some-clause-next g c =
+    let told = g.R.Roads.told c.args.roads.now in
+    let q = asks (told c.args.uid.now) c.args.roots.now c.args.target.now in
+    let used = use_in c.args.used.now in
+    let reach = number_at c.args.reach.now in
+    let holds = reach_holds told c.args.roots.now reach c.requires.reach c.args.uid.now c.args.target.now used in
+    let wide = c.in-Some.path in
+    let f = subst (λ (o : Option Path). IsResult (widest_quest reach q used) o) c.in-Some.is c.in_ok-first.ensures.first in
+    let found = look c.in_ok-reached-in-Some.reached.nodes in
+    let size = ap length c.as_slice.ensures.items in
+    let after = subst (λ (n : ℕ). IsAfter (least_quest reach q used wide.amount) n c.in_ok-reached-in-Some.reached (λ fpr. Unit {0})) size c.in_ok-reached-in-Some.ensures.after in
+    let offered = subst (λ (n : ℕ). AreOfferedBy (least_quest reach q used wide.amount) found n c.args.roots.now c.in_ok-paths-in-Some.paths.items) size (c.in_ok-paths-in-Some.ensures told) in
+    found_next reach q (c.in_order.ensures.lawful c.args.uid.now) used holds (sym c.in_order.ensures.in_order ∙ c.if-not-in_order.false) wide f found after.entries after.complete c.in_ok-paths-in-Some.paths.items c.len-count.ensures.roots.order offered
+
+pub returns-in_ok-paths-in-Some-clause-local : goal.returns-in_ok-paths-in-Some-clause-local
+returns-in_ok-paths-in-Some-clause-local g c all set has other a =
+    let told = g.R.Roads.told c.args.roads.now in
+    let q = asks (told c.args.uid.now) c.args.roots.now c.args.target.now in
+    let used = use_in c.args.used.now in
+    let reach = number_at c.args.reach.now in
+    let holds = reach_holds told c.args.roots.now reach c.requires.reach c.args.uid.now c.args.target.now used in
+    let wide = c.in-Some.path in
+    let f = subst (λ (o : Option Path). IsResult (widest_quest reach q used) o) c.in-Some.is c.in_ok-first.ensures.first in
+    let found = look c.in_ok-reached-in-Some.reached.nodes in
+    let size = ap length c.as_slice.ensures.items in
+    let after = subst (λ (n : ℕ). IsAfter (least_quest reach q used wide.amount) n c.in_ok-reached-in-Some.reached (λ fpr. Unit {0})) size c.in_ok-reached-in-Some.ensures.after in
+    let offered = subst (λ (n : ℕ). AreOfferedBy (least_quest reach q used wide.amount) found n c.args.roots.now c.in_ok-paths-in-Some.paths.items) size (c.in_ok-paths-in-Some.ensures told) in
+    let l = subst (λ (o : Option Path). IsLookedBy (widest_quest reach q used) (g.N.Notes.noted c.first.new.notes) o) c.in-Some.is c.in_ok-first.ensures.looked in
+    found_there reach q (c.in_order.ensures.lawful c.args.uid.now) used holds (sym c.in_order.ensures.in_order ∙ c.if-not-in_order.false) wide f found after.entries after.complete c.in_ok-paths-in-Some.paths.items c.len-count.ensures.roots.order offered
+    all other set a (looked_grows (widest_quest reach q used) (length wide.steps) (g.N.Notes.noted c.first.new.notes) (Has set) has l)

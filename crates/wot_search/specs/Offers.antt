@@ -1,0 +1,105 @@
+-- Offers: next paths that one search finds at once, one of each root.
+use Rattle.std.specs.Prelude.{◌≡◌, ℕ, ◌<◌, ◌≤◌, ◌-◌, ◌++◌, nat_le, nat_lt, Bool, true, false, List, [], ◌∷◌, Option, Some, None}
+use Rattle.std.specs.List.{list_all}
+use Rattle.wot_types.specs.declared.fpr.Fpr.{Fpr}
+use Rattle.wot_edge.specs.declared.path.Path.{Path}
+use Rattle.wot_edge.specs.declared.path.Step.{Step}
+use Rattle.wot_edge.specs.Agree.{Agree}
+use Rattle.wot_edge.specs.Answer.{IsNextOrSpent}
+use Rattle.wot_edge.specs.Path.{Question, Use, IsNextPath, IsSpent, root_left, step_left}
+use Rattle.wot_edge.specs.Record.{Has}
+use Rattle.wot_edge.specs.Roots.{root_amount}
+use Rattle.wot_search.specs.declared.node.Node.{Node}
+use Rattle.wot_search.specs.Growth.{IsFoundFrom}
+use Rattle.wot_search.specs.Looked.{Widens}
+use Rattle.wot_search.specs.Quest.{Quest}
+use Rattle.wot_search.specs.Suffix.{Found}
+
+-- of each pair and of each root at least as much is used
+pub record IsLater (used later : Use) : Type 0 where
+  pub pair : (issuer target : Fpr) → used.pair issuer target ≤ later.pair issuer target
+  pub root : (fpr : Fpr) → used.root fpr ≤ later.root fpr
+
+-- what is left of a root of these amounts
+abbrev pub left_at : List (Fpr × ℕ) → Use → Fpr → ℕ
+left_at roots used fpr = root_amount roots fpr - used.root fpr
+
+-- whether so much is left of each of these edges
+abbrev pub is_left : Use → ℕ → List Step → Bool
+is_left used amount steps = list_all (λ step. nat_le amount (step_left used step)) steps
+
+-- Offers, whatever is used later: the first is the next path while its amount is left of its root and of its edges.
+-- Once less is left of its root, the others are offers.
+abbrev pub AreOffers : List (Fpr × ℕ) → Question → Use → List Path → Type 0
+AreOffers roots q used [] = Unit {0}
+AreOffers roots q used (path ∷ paths) =
+    ((later : Use) → IsLater used later → path.amount ≤ left_at roots later path.root → is_left later path.amount path.steps ≡ true
+    → IsNextPath q later path)
+    × ((later : Use) → IsLater used later → left_at roots later path.root < path.amount → AreOffers roots q later paths)
+
+-- the next path and offers after it; or no path, where none is left
+abbrev pub AreNext : List (Fpr × ℕ) → Question → Use → List Path → Type 0
+AreNext roots q used [] = IsSpent q used
+AreNext roots q used (path ∷ paths) = IsNextPath q used path × AreOffers roots q used (path ∷ paths)
+
+-- so it is of each question that agrees with this one on a set that has all that is noted
+abbrev pub AreNextWhereAgreed : List (Fpr × ℕ) → Question → Use → (Fpr → Type 0) → List Path → Type 0
+AreNextWhereAgreed roots q used noted paths =
+    (set : List Fpr) → Widens noted (Has set) → (other : Question) → Agree q other set → AreNext roots other used paths
+
+-- ---- which offer is taken
+
+-- whether less is left of the first one's root than its amount
+abbrev pub is_first_spent : List (Fpr × ℕ) → Use → List Path → Bool
+is_first_spent roots used [] = false
+is_first_spent roots used (path ∷ paths) = nat_lt (left_at roots used path.root) path.amount
+
+abbrev pub first_path : List Path → Option Path
+first_path [] = None
+first_path (path ∷ paths) = Some path
+
+abbrev pub IsNextIfSome : Question → Use → Option Path → Type 0
+IsNextIfSome q used None = Unit {0}
+IsNextIfSome q used (Some path) = IsNextPath q used path
+
+-- the next path of each question that agrees with this one on a set that has all that is noted, and of which the old
+-- offers were some: then the new ones are some of it too
+abbrev pub TakesWhereAgreed : List (Fpr × ℕ) → Question → Use → (Fpr → Type 0) → List Path → List Path → Option Path → Type 0
+TakesWhereAgreed roots q used noted old new found =
+    (set : List Fpr) → Widens noted (Has set) → (other : Question) → Agree q other set → AreOffers roots other used old
+    → IsNextOrSpent other used found × AreOffers roots other used new
+
+-- ---- of which roots a search has offers
+
+-- the path of so many edges that was found from a root of which so much is left
+pub record IsOfferOf (quest : Quest) (found : Found) (size : ℕ) (fpr : Fpr) (path : Path) : Type 0 where
+  pub left : quest.least ≤ root_left quest.question quest.used fpr
+  pub node : Node
+  pub at : found fpr ≡ Some node
+  pub long : node.size ≡ size
+  pub steps : IsFoundFrom found fpr size path.steps
+  pub root : path.root ≡ fpr
+  pub amount : path.amount ≡ quest.least
+
+-- that path, or that there is none
+abbrev pub IsOfferIf : Quest → Found → ℕ → Fpr → Option Path → Type 0
+IsOfferIf quest found size fpr None =
+    quest.least ≤ root_left quest.question quest.used fpr → (node : Node) → found fpr ≡ Some node → node.size ≡ size → ⊥
+IsOfferIf quest found size fpr (Some path) = IsOfferOf quest found size fpr path
+
+abbrev pub with_offer : Option Path → List Path → List Path
+with_offer None paths = paths
+with_offer (Some path) paths = path ∷ paths
+
+-- the offer of a root was appended, if it has one
+pub record AddsOffer (quest : Quest) (found : Found) (size : ℕ) (fpr : Fpr) (old new : List Path) : Type 0 where
+  pub offer : Option Path
+  pub is : IsOfferIf quest found size fpr offer
+  pub whole : new ≡ old ++ with_offer offer []
+
+-- the offers of these roots, in order
+abbrev pub AreOfferedBy : Quest → Found → ℕ → List (Fpr × ℕ) → List Path → Type 0
+AreOfferedBy quest found size [] paths = paths ≡ []
+AreOfferedBy quest found size (root ∷ roots) paths =
+    (offer : Option Path) × (others : List Path) × IsOfferIf quest found size root.0 offer
+    × AreOfferedBy quest found size roots others × (paths ≡ with_offer offer others)

@@ -1,0 +1,168 @@
+ghost use Rattle.std.specs.Prelude.{◌≡◌, ℕ, List, IfOk, OnOk};
+ghost use Rattle.wot_types.specs.declared.fpr.Fpr.{Fpr as Print};
+ghost use Rattle.wot_edge.specs.Leads.{Leads};
+ghost use Rattle.wot_edge.specs.Path.{asks};
+ghost use Rattle.wot_edge.specs.Record.{Record, IsRecord};
+ghost use Rattle.wot_edge.specs.Sums.{use_in};
+ghost use Rattle.wot_search.specs.Growth.{IsAfter};
+ghost use Rattle.wot_search.specs.Looked.{Gains, Widens};
+ghost use Rattle.wot_search.specs.Offers.{AddsOffer, AreNext, AreNextWhereAgreed, AreOfferedBy, IsOfferIf};
+ghost use Rattle.wot_search.specs.Quest.{quest_of};
+ghost use Rattle.wot_search.specs.Reach.{IsReach, number_at};
+ghost use Rattle.wot_search.specs.Reached.{look};
+
+use crate::first::{begin, first};
+use crate::grow::advance;
+use crate::left::left_of_root;
+use crate::next::bound_amounts;
+use crate::node::{Choice, Goal, Node};
+use crate::notes::{Notes, Unnoted};
+use crate::quest::Quest;
+use crate::reach::Reach;
+use crate::reached::{Reached, node_at};
+use crate::turn::path_from;
+use std::alloc::Global;
+use std::collections::BTreeMap;
+use wot_edge::{Path, Roads, Roots, Used};
+use wot_types::{Fpr, Memory};
+
+/// What a search finds in so many layers. Nothing is noted of what it looks at.
+fn layers_of<R: Roads>(
+    alloc: Global,
+    roads: &R,
+    quest: &Quest,
+    count: u8,
+) -> Result<Reached, Memory>
+    ensures after { IfOk result (λ reached. IsAfter (quest_of (R.told roads.now) quest.now) count reached (λ fpr. Unit {0})) }
+{
+    let mut reached = begin(alloc, quest.target)?;
+    'layers: for size in 0..count {
+        advance(alloc, roads, quest, size, &mut reached, &mut Unnoted)?;
+    }
+    Ok(reached)
+}
+
+/// The path of so many edges that was found from a root; `None` where there is none, or too little is left of the root.
+fn offer_of(
+    alloc: Global,
+    quest: &Quest,
+    nodes: &BTreeMap<Fpr, Node>,
+    size: u8,
+    fpr: &Fpr,
+) -> Result<Option<Path>, Memory>
+    ensures { IfOk result (λ offer. (told : List ℕ → Record) → IsOfferIf (quest_of told quest.now) (look nodes.now) size fpr.now offer) }
+{
+    let Some(node) = node_at(nodes, fpr) else {
+        return Ok(None);
+    };
+    if node.size != size {
+        return Ok(None);
+    }
+    if left_of_root(quest, fpr) < quest.least {
+        return Ok(None);
+    }
+    let choice = Choice {
+        fpr: *fpr,
+        width: quest.least,
+    };
+    let path = path_from(alloc, nodes, &choice, size)?;
+    Ok(Some(path))
+}
+
+/// Appends the offer of a root, if it has one.
+fn put_offer(
+    alloc: Global,
+    quest: &Quest,
+    nodes: &BTreeMap<Fpr, Node>,
+    size: u8,
+    fpr: &Fpr,
+    paths: &mut Vec<Path>,
+) -> Result<(), Memory>
+    ensures { OnOk result ((told : List ℕ → Record)
+        → AddsOffer (quest_of told quest.now) (look nodes.now) size fpr.now paths.old.items paths.new.items) }
+{
+    match offer_of(alloc, quest, nodes, size, fpr)? {
+        None => Ok(()),
+        Some(path) => {
+            paths.push(path)?;
+            Ok(())
+        }
+    }
+}
+
+/// The offers of all roots, in order.
+fn offers_of(
+    alloc: Global,
+    quest: &Quest,
+    nodes: &BTreeMap<Fpr, Node>,
+    size: u8,
+) -> Result<Vec<Path>, Memory>
+    ensures { IfOk result (λ paths. (told : List ℕ → Record)
+        → AreOfferedBy (quest_of told quest.now) (look nodes.now) size quest.now.roots.now paths.items) }
+{
+    let mut paths = Vec::new(alloc);
+    'roots: for (fpr, _amount) in quest.roots.iter() {
+        put_offer(alloc, quest, nodes, size, &fpr, &mut paths)?;
+    }
+    Ok(paths)
+}
+
+/// Next paths that one search finds: the next one, and after it, of each later root, the one that is next once less is
+/// left of the roots before it, while as much is left of its own root and of its edges. None where no valid path of
+/// positive amount is left. The search passes over each issuer where it would stand further before the target than its
+/// reach. Each fingerprint that was looked at is noted.
+pub fn next_paths_within<R: Roads, N: Notes>(
+    alloc: Global,
+    roads: &R,
+    roots: &Roots,
+    reach: &Reach,
+    used: &Used,
+    target: &Fpr,
+    uid: &[u8],
+    notes: &mut N,
+) -> Result<Vec<Path>, Memory>
+    requires reach { IsReach (R.told roads.now) roots.now (number_at reach.now) }
+    ensures next { IfOk result (λ paths. AreNext roots.now (asks (R.told roads.now uid.now) roots.now target.now) (use_in used.now) paths.items) }
+    ensures grows { Widens (N.noted notes.old) (N.noted notes.new) }
+    ensures leads { Gains (Leads (R.told roads.now uid.now) target.now) (N.noted notes.old) (N.noted notes.new) }
+
+    // Where nothing is left out, they are also those of each question that agrees on a set that has what is noted.
+    ensures local { ((fpr : Print) → number_at reach.now fpr ≡ 255) → IfOk result (λ paths. AreNextWhereAgreed roots.now
+        (asks (R.told roads.now uid.now) roots.now target.now) (use_in used.now) (N.noted notes.new) paths.items) }
+    ensures lawful { IfOk result (λ paths. IsRecord (R.told roads.now uid.now)) }
+{
+    notes.note(target)?;
+    if !roads.in_order(target, uid) {
+        return Ok(Vec::new(alloc));
+    }
+    bound_amounts(roots);
+    // The order of the roots, as a fact.
+    let _count = roots.len();
+    let widest = Quest {
+        roots,
+        used,
+        reach,
+        target,
+        uid,
+        goal: Goal::Widest,
+        least: 1,
+    };
+    match first(alloc, roads, &widest, notes)? {
+        None => Ok(Vec::new(alloc)),
+        Some(path) => {
+            let least = Quest {
+                roots,
+                used,
+                reach,
+                target,
+                uid,
+                goal: Goal::Least,
+                least: path.amount,
+            };
+            let size = path.steps.as_slice().len() as u8;
+            let reached = layers_of(alloc, roads, &least, size)?;
+            let paths = offers_of(alloc, &least, &reached.nodes, size)?;
+            Ok(paths)
+        }
+    }
+}
