@@ -3,7 +3,7 @@ use Rattle.std.proofs.Common.{◌≡◌, inl, inr, ℕ, ◌+◌, ◌<◌, ◌≤
 use Rattle.std.specs.Prelude.{nat_lt, nat_le, ◌==◌}
 use Rattle.std.specs.declared.cmp.Ordering.{Ordering}
 use Rattle.std.specs.declared.cmp.Ordering.TheVariants.{Less, Equal, Greater}
-use Rattle.std.specs.Ordering.{match_ordering}
+use Rattle.std.specs.Ordering.{match_ordering, nat_cmp}
 use Rattle.std.specs.List.{AllByRecursion, sum_by}
 use Rattle.std.specs.Option.{unwrap_or, option_copied, option_map, MatchOption, IfSome}
 use Rattle.wot_types.specs.declared.memory.Memory.{Memory}
@@ -286,11 +286,11 @@ all_right_inserted k answers new name of_view (Err fault) put same all right = r
 abbrev RightAnd : Keyring → Amounts → ℕ → KeptAnswer → Type 0
 RightAnd k roots turn a = IsRight k a × IsGood k roots turn a
 
--- the answer that is kept for a target
-pub answer_found : (k : Keyring) (roots : Amounts) (turn : ℕ) (entries : Entries) (target : Fpr) (a : KeptAnswer) → AreRight k roots turn entries
-    → lookup (is_at (fpr_cmp target)) entries ≡ Some a → RightAnd k roots turn a
-answer_found k roots turn entries target a all e = each_found (RightAnd k roots turn) (is_at (fpr_cmp target)) entries a all e
+-- the answer that is kept under a key
+pub answer_found : (k : Keyring) (roots : Amounts) (turn : ℕ) (entries : Entries) (key : ℕ) (a : KeptAnswer) → AreRight k roots turn entries
+    → lookup (is_at (nat_cmp key)) entries ≡ Some a → RightAnd k roots turn a
+answer_found k roots turn entries key a all e = each_found (RightAnd k roots turn) (is_at (nat_cmp key)) entries a all e
 
-pub answer_set : (k : Keyring) (roots : Amounts) (turn : ℕ) (entries : Entries) (target : Fpr) (a : KeptAnswer) → AreRight k roots turn entries
-    → RightAnd k roots turn a → AreRight k roots turn (set_value (is_at (fpr_cmp target)) entries a)
-answer_set k roots turn entries target a all right = each_set (RightAnd k roots turn) (is_at (fpr_cmp target)) entries a all right
+pub answer_set : (k : Keyring) (roots : Amounts) (turn : ℕ) (entries : Entries) (key : ℕ) (a : KeptAnswer) → AreRight k roots turn entries
+    → RightAnd k roots turn a → AreRight k roots turn (set_value (is_at (nat_cmp key)) entries a)
+answer_set k roots turn entries key a all right = each_set (RightAnd k roots turn) (is_at (nat_cmp key)) entries a all right

@@ -65,14 +65,14 @@ pub record IsFound (k : Keyring) (roots : Amounts) (a : KeptAnswer) : Type 0 whe
 abbrev pub IsSameBut : KeptAnswer → KeptAnswer → Type 0
 IsSameBut old new = new ≡ record old { count = new.count; turn = new.turn }
 
--- ---- answers by target
+-- ---- answers by the keys of their questions
 
 abbrev pub Entries : Type 0
-Entries = List (Fpr × KeptAnswer)
+Entries = List (ℕ × KeptAnswer)
 
 -- They are right, and good by these roots where they were last found so by them.
 abbrev pub AreRight : Keyring → Amounts → ℕ → Entries → Type 0
-AreRight k roots turn entries = AllByRecursion (λ (e : Fpr × KeptAnswer). IsRight k e.1 × IsGood k roots turn e.1) entries
+AreRight k roots turn entries = AllByRecursion (λ (e : ℕ × KeptAnswer). IsRight k e.1 × IsGood k roots turn e.1) entries
 
 -- how many fingerprints were consulted for an answer
 abbrev pub looked_in : KeptAnswer → ℕ

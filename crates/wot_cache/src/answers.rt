@@ -3,13 +3,14 @@ ghost use Rattle.std.specs.Prelude.{◌≡◌, ◌≤◌, ◌<◌, ◌+◌, ℕ,
 ghost use Rattle.std.specs.BTreeMap.{insert_entry, is_at};
 ghost use Rattle.std.specs.List.Sorted.{IsStrictlySortedBy};
 ghost use Rattle.std.specs.Map.{keys_of, lookup};
-ghost use Rattle.wot_types.specs.Fpr.{fpr_cmp};
+ghost use Rattle.std.specs.Ordering.{nat_cmp};
 ghost use Rattle.wot_edge.specs.Answer.{IsAnswer, amount_of};
 ghost use Rattle.wot_keyring.specs.Keyring.{Keyring as Held};
 ghost use Rattle.wot_cache.specs.Answers.{AreFew, AreRight, AreRightIn, AreStill, IsGood, IsOf, IsRight, IsSameBut};
 ghost use Rattle.wot_cache.specs.Answers.{Amounts, IsFound, look, looked_by, looked_in};
 ghost use Rattle.wot_cache.specs.Question.{asked_of};
 
+use crate::key::key_of;
 use crate::parts::Parts;
 use crate::roots::{are_same, listed};
 use std::alloc::Global;
@@ -39,6 +40,7 @@ pub struct Looked {
 /// A question from a view at a time, its answer, and the fingerprints that were consulted for it.
 #[derive(Drop)]
 pub struct KeptAnswer {
+    pub key: u64,
     pub target: Fpr,
     pub wanted: u32,
     pub uid: UserId,
@@ -145,17 +147,17 @@ pub fn look_at(
     Ok(looked)
 }
 
-type Table = BTreeMap<Fpr, KeptAnswer, Global>;
+type Table = BTreeMap<u64, KeptAnswer, Global>;
 
-/// Keeps an answer under its target, in place of an earlier one. Tells how many fingerprints that had.
+/// Keeps an answer under its key, in place of an earlier one. Tells how many fingerprints that had.
 fn replace(table: &mut Table, answer: KeptAnswer) -> Result<usize, Memory>
-    ensures entries { OnOk result (table.new.entries ≡ insert_entry fpr_cmp table.old.entries answer.target answer) }
-    ensures earlier { IfOk result (λ count. count ≡ looked_by (lookup (is_at (fpr_cmp answer.target)) table.old.entries)) }
-    ensures order { IsStrictlySortedBy fpr_cmp (keys_of table.old.entries) }
+    ensures entries { OnOk result (table.new.entries ≡ insert_entry nat_cmp table.old.entries answer.key answer) }
+    ensures earlier { IfOk result (λ count. count ≡ looked_by (lookup (is_at (nat_cmp answer.key)) table.old.entries)) }
+    ensures order { IsStrictlySortedBy nat_cmp (keys_of table.old.entries) }
     ensures kept { OnErr result (table.new.entries ≡ table.old.entries) }
 {
-    let target = answer.target;
-    match table.insert(target, answer) {
+    let key = answer.key;
+    match table.insert(key, answer) {
         Ok(Some(earlier)) => Ok(earlier.looked.len()),
         Ok(None) => Ok(0),
         Err(_) => Err(Memory),
@@ -211,14 +213,14 @@ fn give(
     ensures answer { IfSome result (λ a. IsAnswer (asked_of parts.now target.now uid.now) wanted a.paths) }
     ensures sum { IfSome result (λ a. a.sum ≡ amount_of a.paths) }
 {
-    match table.get_mut(target) {
+    match table.get_mut(&key_of(target, wanted, uid)) {
         Some(kept) => kept.give(parts, turn, target, wanted, uid),
         None => None,
     }
 }
 
-/// The answers of one view: for each target the one that was asked for last. Where one more answer, or its
-/// fingerprints, would be too many, all earlier ones go.
+/// The answers of one view, each under the key of its question. Where one more answer, or its fingerprints, would be too
+/// many, all earlier ones go.
 #[derive(Drop)]
 pub struct Answers {
     table: Table,

@@ -5,6 +5,7 @@ mod answers;
 mod ask;
 mod dump;
 mod engine;
+mod key;
 mod networks;
 mod parts;
 mod present;

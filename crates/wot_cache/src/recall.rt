@@ -8,6 +8,7 @@ ghost use Rattle.wot_cache.specs.Question.{asked_of, IsAnswerAround};
 ghost use Rattle.wot_cache.specs.Views.{is_name};
 
 use crate::answers::{Answers, KeptAnswer, look_at};
+use crate::key::key_of;
 use crate::parts::Parts;
 use std::alloc::Global;
 use std::collections::BTreeMap;
@@ -60,9 +61,11 @@ fn with_grounds(
     // That stamps are counts of changes.
     let _count = parts.keyring.len();
     let looked = look_at(alloc, consulted, parts.keyring, parts.roots)?;
+    let key = key_of(target, wanted, uid);
     let uid = UserId::new(alloc, uid)?;
     let answer = answer.duplicate()?;
     Ok(KeptAnswer {
+        key,
         target: *target,
         wanted,
         uid,

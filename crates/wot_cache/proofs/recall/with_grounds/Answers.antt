@@ -11,6 +11,7 @@ returns c =
     let p = c.args.parts.now in
     let set = c.args.consulted.now in
     let kept : KeptAnswer = record {
+      key = c.key_of-key.result;
       target = c.args.target.now;
       wanted = c.args.wanted;
       uid = c.in_ok-uid.uid;
