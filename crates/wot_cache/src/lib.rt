@@ -3,6 +3,7 @@
 
 mod answers;
 mod ask;
+mod budget;
 mod dump;
 mod engine;
 mod key;
