@@ -282,8 +282,8 @@ impl KeptReach {
     }
 }
 
-/// The answers of one view, each under the key of its question. Where one more answer, or its fingerprints, would be too
-/// many, all earlier ones go. Beside them a table of reach, within which more are found.
+/// The answers of one view, each under the key of its question. Where one more answer, or its fingerprints, would be
+/// too many, all earlier ones go. Beside them a table of reach, within which more are found.
 #[derive(Drop)]
 pub struct Answers {
     table: Table,
