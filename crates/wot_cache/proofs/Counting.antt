@@ -7,45 +7,44 @@ use Rattle.std.specs.BTreeMap.{insert_entry, is_at}
 use Rattle.std.specs.Map.{keys_of, lookup, set_value, values_of}
 use Rattle.std.proofs.lemmas.Map.{length-set_value}
 use Rattle.std.proofs.lemmas.Map.Entries.{sum_by-insert_entry, sum_by-set_value}
-use Rattle.wot_types.specs.declared.fpr.Fpr.{Fpr}
-use Rattle.wot_types.specs.Fpr.{fpr_cmp}
+use Rattle.std.specs.Ordering.{nat_cmp}
+use Rattle.std.proofs.lemmas.Cmp.{nat_cmp_total}
 use Rattle.wot_keyring.specs.Keyring.{Keyring}
 use Rattle.wot_cache.specs.declared.answers.KeptAnswer.{KeptAnswer}
 use Rattle.wot_cache.specs.Answers.{Amounts, AreFew, AreRight, Entries, IsGood, IsRight, IsSameBut, looked_by, looked_in}
-use Rattle.wot_types.specs.FprLaws.{fpr_total}
 use Rattle.wot_cache.proofs.Inside.{each_inserted, length_inserted}
 
 pub right_put : (k : Keyring) (roots : Amounts) (turn : ℕ) (entries : Entries) (a : KeptAnswer) → AreRight k roots turn entries → IsRight k a
-    → IsGood k roots turn a → AreRight k roots turn (insert_entry fpr_cmp entries a.target a)
+    → IsGood k roots turn a → AreRight k roots turn (insert_entry nat_cmp entries a.key a)
 right_put k roots turn entries a all right good =
-    each_inserted (λ (x : KeptAnswer). IsRight k x × IsGood k roots turn x) fpr_cmp entries a.target a all (right, good)
+    each_inserted (λ (x : KeptAnswer). IsRight k x × IsGood k roots turn x) nat_cmp entries a.key a all (right, good)
 
 by_option : (o : Option KeptAnswer) → looked_by o ≡ unwrap_or (option_map looked_in o) 0
 by_option None = refl
 by_option (Some a) = refl
 
 -- what all consulted with this answer in the place of an earlier one
-pub counted : (entries : Entries) (a : KeptAnswer) → IsStrictlySortedBy fpr_cmp (keys_of entries)
-    → sum_by looked_in (values_of (insert_entry fpr_cmp entries a.target a)) + looked_by (lookup (is_at (fpr_cmp a.target)) entries)
+pub counted : (entries : Entries) (a : KeptAnswer) → IsStrictlySortedBy nat_cmp (keys_of entries)
+    → sum_by looked_in (values_of (insert_entry nat_cmp entries a.key a)) + looked_by (lookup (is_at (nat_cmp a.key)) entries)
     ≡ sum_by looked_in (values_of entries) + looked_in a
 counted entries a sorted =
-    let same = by_option (lookup (is_at (fpr_cmp a.target)) entries) in
-    let sums = sum_by-insert_entry looked_in fpr_total entries a.target a sorted in
+    let same = by_option (lookup (is_at (nat_cmp a.key)) entries) in
+    let sums = sum_by-insert_entry looked_in nat_cmp_total entries a.key a sorted in
     omega (arith, same, sums)
 
 -- no more than what all consulted goes
-pub fewer : (entries : Entries) (a : KeptAnswer) (looked earlier : ℕ) → IsStrictlySortedBy fpr_cmp (keys_of entries) → AreFew entries looked
-    → earlier ≡ looked_by (lookup (is_at (fpr_cmp a.target)) entries) → earlier ≤ looked + looked_in a
+pub fewer : (entries : Entries) (a : KeptAnswer) (looked earlier : ℕ) → IsStrictlySortedBy nat_cmp (keys_of entries) → AreFew entries looked
+    → earlier ≡ looked_by (lookup (is_at (nat_cmp a.key)) entries) → earlier ≤ looked + looked_in a
 fewer entries a looked earlier sorted few e =
     let sums = counted entries a sorted in
     omega (arith, sums, e, few.counted)
 
-pub few_put : (entries : Entries) (a : KeptAnswer) (looked earlier : ℕ) → IsStrictlySortedBy fpr_cmp (keys_of entries) → AreFew entries looked
-    → earlier ≡ looked_by (lookup (is_at (fpr_cmp a.target)) entries) → length entries < 1024 → looked + looked_in a ≤ 1048576
-    → AreFew (insert_entry fpr_cmp entries a.target a) (looked + looked_in a - earlier)
+pub few_put : (entries : Entries) (a : KeptAnswer) (looked earlier : ℕ) → IsStrictlySortedBy nat_cmp (keys_of entries) → AreFew entries looked
+    → earlier ≡ looked_by (lookup (is_at (nat_cmp a.key)) entries) → length entries < 1024 → looked + looked_in a ≤ 1048576
+    → AreFew (insert_entry nat_cmp entries a.key a) (looked + looked_in a - earlier)
 few_put entries a looked earlier sorted few e room fits =
     let sums = counted entries a sorted in
-    let more = length_inserted fpr_cmp entries a.target a in
+    let more = length_inserted nat_cmp entries a.key a in
     record {
       few = omega (arith, room, more);
       counted = omega (arith, sums, e, few.counted);
@@ -53,13 +52,13 @@ few_put entries a looked earlier sorted few e room fits =
     }
 
 -- one that was found good again counts as before
-pub few_set : (entries : Entries) (target : Fpr) (old new : KeptAnswer) (looked : ℕ) → lookup (is_at (fpr_cmp target)) entries ≡ Some old → IsSameBut old new
-    → AreFew entries looked → AreFew (set_value (is_at (fpr_cmp target)) entries new) looked
-few_set entries target old new looked found same few =
-    let sums = sum_by-set_value looked_in (is_at (fpr_cmp target)) entries old new found in
+pub few_set : (entries : Entries) (key : ℕ) (old new : KeptAnswer) (looked : ℕ) → lookup (is_at (nat_cmp key)) entries ≡ Some old → IsSameBut old new
+    → AreFew entries looked → AreFew (set_value (is_at (nat_cmp key)) entries new) looked
+few_set entries key old new looked found same few =
+    let sums = sum_by-set_value looked_in (is_at (nat_cmp key)) entries old new found in
     let as_many : looked_in new ≡ looked_in old = ap looked_in same in
     record {
-      few = rw (length-set_value (is_at (fpr_cmp target)) entries new) few.few;
+      few = rw (length-set_value (is_at (nat_cmp key)) entries new) few.few;
       counted = omega (arith, sums, as_many, few.counted);
       bounded = few.bounded;
     }

@@ -1,5 +1,7 @@
 -- An answer is right for as long as what it rests on is found as it was.
 use Rattle.std.proofs.Common.{◌≡◌, inl, inr, ℕ, ◌<◌, ◌≤◌, List, [], ◌∷◌, map, Option, Some, None, refl, sym, ap, subst, ◌∙◌, arith}
+use Rattle.std.specs.Prelude.{Vec, IfSome}
+use Rattle.std.specs.declared.alloc.Global.{Global}
 use Rattle.std.specs.List.{AllByRecursion}
 use Rattle.std.specs.Map.{lookup}
 use Rattle.std.specs.Option.{option_map, option_map_or}
@@ -15,10 +17,13 @@ use Rattle.wot_keyring.specs.declared.kept.Kept.{Kept}
 use Rattle.wot_keyring.specs.Keyring.{Certificates, Keyring, certificates_in, is_fpr, kept_at, stamp_at}
 use Rattle.wot_keyring.specs.Kept.{AreStamped}
 use Rattle.wot_keyring.specs.Later.{IsLater, IsLaterAt, IsUnaltered, SaysSame}
+use Rattle.wot_search.specs.Reach.{IsReach, number_at}
 use Rattle.wot_network.specs.Local.{AgreeAt, IsLocal}
 use Rattle.wot_network.specs.Told.{record_of}
 use Rattle.wot_cache.specs.declared.answers.KeptAnswer.{KeptAnswer}
-use Rattle.wot_cache.specs.Answers.{Amounts, AreRight, AreStill, Entries, IsFound, IsGood, IsOf, IsRight, IsSameBut, IsStill, look, question_at}
+use Rattle.wot_cache.specs.declared.answers.KeptReach.{KeptReach}
+use Rattle.wot_cache.specs.declared.answers.Looked.{Looked}
+use Rattle.wot_cache.specs.Answers.{AllStill, Amounts, Answers, AreRight, AreStill, Entries, IsFound, IsGood, IsOf, IsReaching, IsRight, IsSameBut, IsStill, look, question_at}
 use Rattle.wot_cache.specs.Question.{IsAnswerAround}
 use Rattle.wot_cache.proofs.Inside.{each_found}
 
@@ -93,23 +98,29 @@ abbrev pub RecordsAgree : Type 0
 RecordsAgree = (certs : Certificates) (said : verdicts.Entries) (t : ℕ) → IsLocal certs said t (record_of certs said t)
 
 pub right_made : RecordsAgree → (k : Keyring) (roots : List (Fpr × ℕ)) (a : KeptAnswer) (set : List Fpr) → AreStamped k.changes k.certs
-    → a.looked.items ≡ map (look k roots) set → a.answer.sum ≡ amount_of a.answer.paths
+    → (kept : Vec Looked Global) → a.looked ≡ Some kept → kept.items ≡ map (look k roots) set → a.answer.sum ≡ amount_of a.answer.paths
     → IsAnswerAround (question_at k roots a) a.wanted a.answer.paths set → IsRight k a
-right_made law k roots a set stamped looked sum around = record {
+right_made law k roots a set stamped kept there looked sum around = record {
   sum = sum;
   answer = λ later amounts is still.
-      let found : AreStill later amounts (map (look k roots) set) = subst (AreStill later amounts) looked still in
+      let these : AllStill later amounts (Some kept) = subst (AllStill later amounts) there still in
+      let found : AreStill later amounts (map (look k roots) set) = subst (AreStill later amounts) looked these in
       around (question_at later amounts a) (law (certificates_in k) k.verdicts a.time (certificates_in later) later.verdicts a.uid roots amounts a.target set
       (λ fpr has. agrees_there k later fpr stamped (is.at fpr) (still_at k later roots amounts set fpr has found).stamp)
       (λ fpr has. sym (still_at k later roots amounts set fpr has found).amount));
 }
 
+-- one that rests on all that there is
+pub right_of_all : (k : Keyring) (a : KeptAnswer) → a.looked ≡ None → a.answer.sum ≡ amount_of a.answer.paths → IsRight k a
+right_of_all k a none sum = record { sum = sum; answer = λ later amounts is still. absurd (subst (AllStill later amounts) none still) }
+
 -- A right answer is the answer to its question now, where what it rests on is found as it was.
-pub right_now : ((k : Keyring) → IsLater k k) → (k : Keyring) (roots : List (Fpr × ℕ)) (a : KeptAnswer) (target : Fpr) (wanted : ℕ) (uid : List ℕ) (t : ℕ)
-    → IsRight k a → IsOf a target wanted uid t → AreStill k roots a.looked.items
-    → IsAnswer (asks (record_of (certificates_in k) k.verdicts t uid) roots target) wanted a.answer.paths
-right_now itself k roots a target wanted uid t right is still =
-    let here = right.answer k roots (itself k) still in
+pub right_now : ((k : Keyring) → IsLater k k) → (k : Keyring) (roots : Amounts) (a : KeptAnswer) → IsRight k a → AllStill k roots a.looked → Answers k roots a
+right_now itself k roots a right still = right.answer k roots (itself k) still
+
+pub of_question : (k : Keyring) (roots : List (Fpr × ℕ)) (a : KeptAnswer) (target : Fpr) (wanted : ℕ) (uid : List ℕ) (t : ℕ) → IsOf a target wanted uid t
+    → Answers k roots a → IsAnswer (asks (record_of (certificates_in k) k.verdicts t uid) roots target) wanted a.answer.paths
+of_question k roots a target wanted uid t is here =
     subst (λ (w : ℕ). IsAnswer (asks (record_of (certificates_in k) k.verdicts t uid) roots target) w a.answer.paths) is.wanted
     (subst (λ (f : Fpr). IsAnswer (asks (record_of (certificates_in k) k.verdicts t uid) roots f) a.wanted a.answer.paths) is.target
     (subst (λ (u : List ℕ). IsAnswer (asks (record_of (certificates_in k) k.verdicts t u) roots a.target) a.wanted a.answer.paths) is.uid
@@ -117,17 +128,21 @@ right_now itself k roots a target wanted uid t right is still =
 
 -- ---- when it was found good
 
--- what is looked at is found as it is
-found_still : (k : Keyring) (roots : Amounts) (set : List Fpr) → AreStill k roots (map (look k roots) set)
-found_still k roots [] = tt
-found_still k roots (x ∷ xs) = (record { stamp = refl; amount = refl }, found_still k roots xs)
+pub found_made : (k : Keyring) (roots : Amounts) (a : KeptAnswer) → a.count ≡ k.changes → Answers k roots a → IsFound k roots a
+found_made k roots a now here = record { counted = omega (arith, now); now = here }
 
-pub found_made : (k : Keyring) (roots : Amounts) (a : KeptAnswer) (set : List Fpr) → a.looked.items ≡ map (look k roots) set → a.count ≡ k.changes → IsFound k roots a
-found_made k roots a set looked now = record { counted = omega (arith, now); still = subst (AreStill k roots) (sym looked) (found_still k roots set) }
+-- one that is found good now
+pub good_now : (k : Keyring) (roots : Amounts) (turn : ℕ) (old new : KeptAnswer) → IsSameBut old new → new.count ≡ k.changes → new.turn ≡ turn → Answers k roots old
+    → IsGood k roots turn new
+good_now k roots turn old new same count now here = record {
+  counted = omega (arith, count);
+  turned = omega (arith, now);
+  now = λ e f. subst (Answers k roots) (sym same) here;
+}
 
 -- one that is found good at this turn of the roots
 pub good_at : (k : Keyring) (roots : Amounts) (turn : ℕ) (a : KeptAnswer) → IsFound k roots a → IsGood k roots turn (record a { turn = turn })
-good_at k roots turn a found = record { counted = found.counted; turned = omega arith; still = λ e f. found.still }
+good_at k roots turn a found = record { counted = found.counted; turned = omega arith; now = λ e f. found.now }
 
 -- what is right stays so, whenever it was found good
 pub right_again : (k : Keyring) (old new : KeptAnswer) → IsSameBut old new → IsRight k old → IsRight k new
@@ -139,6 +154,25 @@ pub right_turned : (k : Keyring) (roots others : Amounts) (turn next : ℕ) (ent
 right_turned k roots others turn next [] more all = tt
 right_turned k roots others turn next (e ∷ es) more all =
     let past : e.1.turn ≤ turn = all.0.1.turned in (
-      (all.0.0, record { counted = all.0.1.counted; turned = omega (arith, past, more); still = λ f g. absurd (omega (arith, past, more, g)) }),
+      (all.0.0, record { counted = all.0.1.counted; turned = omega (arith, past, more); now = λ f g. absurd (omega (arith, past, more, g)) }),
       right_turned k roots others turn next es more all.1,
     )
+
+-- nor was a table of reach made of them
+pub reaching_turned : (k : Keyring) (roots others : Amounts) (turn next : ℕ) (o : Option KeptReach) → turn < next → IfSome o (IsReaching k roots turn)
+    → IfSome o (IsReaching k others next)
+reaching_turned k roots others turn next None more is = is
+reaching_turned k roots others turn next (Some r) more is =
+    let past : r.turn ≤ turn = is.turned in
+    record { counted = is.counted; turned = omega (arith, past, more); now = λ e f. absurd (omega (arith, past, more, f)) }
+
+-- A table that is of now is the reach now.
+pub reaching_now : (k : Keyring) (roots amounts : Amounts) (turn t : ℕ) (r : KeptReach) → IsReaching k roots turn r → r.count ≡ k.changes → r.turn ≡ turn → r.time ≡ t
+    → roots ≡ amounts → IsReach (record_of (certificates_in k) k.verdicts t) amounts (number_at r.reach)
+reaching_now k roots amounts turn t r is count now time same =
+    subst (λ (rs : Amounts). IsReach (record_of (certificates_in k) k.verdicts t) rs (number_at r.reach)) same
+    (subst (λ (s : ℕ). IsReach (record_of (certificates_in k) k.verdicts s) roots (number_at r.reach)) time (is.now count now))
+
+pub reaching_made : (k : Keyring) (roots : Amounts) (turn : ℕ) (r : KeptReach) → r.count ≡ k.changes → r.turn ≡ turn
+    → IsReach (record_of (certificates_in k) k.verdicts r.time) roots (number_at r.reach) → IsReaching k roots turn r
+reaching_made k roots turn r count now here = record { counted = omega (arith, count); turned = omega (arith, now); now = λ e f. here }

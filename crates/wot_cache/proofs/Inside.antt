@@ -3,7 +3,7 @@ use Rattle.std.proofs.Common.{◌≡◌, inl, inr, ℕ, ◌+◌, ◌<◌, ◌≤
 use Rattle.std.specs.Prelude.{nat_lt, nat_le, ◌==◌}
 use Rattle.std.specs.declared.cmp.Ordering.{Ordering}
 use Rattle.std.specs.declared.cmp.Ordering.TheVariants.{Less, Equal, Greater}
-use Rattle.std.specs.Ordering.{match_ordering}
+use Rattle.std.specs.Ordering.{match_ordering, nat_cmp}
 use Rattle.std.specs.List.{AllByRecursion, sum_by}
 use Rattle.std.specs.Option.{unwrap_or, option_copied, option_map, MatchOption, IfSome}
 use Rattle.wot_types.specs.declared.memory.Memory.{Memory}
@@ -26,7 +26,8 @@ use Rattle.wot_keyring.specs.Later.{IsLater}
 use Rattle.wot_network.specs.Net.{Net, Fits}
 use Rattle.wot_cache.specs.declared.view.View.{View}
 use Rattle.wot_cache.specs.declared.answers.KeptAnswer.{KeptAnswer}
-use Rattle.wot_cache.specs.Answers.{AllAnswers, Amounts, AreAllRight, AreRight, AreRightIn, Entries, IsGood, IsRight, OfView}
+use Rattle.wot_cache.specs.declared.answers.KeptReach.{KeptReach}
+use Rattle.wot_cache.specs.Answers.{AllAnswers, Amounts, AreAllRight, AreRight, AreRightIn, Entries, IsGood, IsReaching, IsRight, OfView}
 use Rattle.wot_cache.specs.Inside.{IsEngine, AllFit, Networks}
 use Rattle.wot_cache.specs.Views.{Views, IsWithin, is_name, view_at, with_amount, amount_fault, root_fault, without_view}
 
@@ -173,7 +174,7 @@ good_later old new roots turn a (inl same) good = subst (λ (k : Keyring). IsGoo
 good_later old new roots turn a (inr more) good =
     let counted : new.changes ≡ old.changes + 1 = more.0 in
     let past = good.counted in
-    record { counted = omega (arith, counted, past); turned = good.turned; still = λ e f. absurd (omega (arith, counted, past, e)) }
+    record { counted = omega (arith, counted, past); turned = good.turned; now = λ e f. absurd (omega (arith, counted, past, e)) }
 
 are_right_later : LaterStill → (old new : Keyring) (roots : Amounts) (turn : ℕ) (entries : Entries) → IsLater old new → IsOneChange old new
     → AreRight old roots turn entries → AreRight new roots turn entries
@@ -181,10 +182,28 @@ are_right_later further old new roots turn [] later one all = tt
 are_right_later further old new roots turn (e ∷ es) later one all =
     ((right_later further old new e.1 later all.0.0, good_later old new roots turn e.1 one all.0.1), are_right_later further old new roots turn es later one all.1)
 
+-- nor is a table of reach that was made before it
+reaching_later : (old new : Keyring) (roots : Amounts) (turn : ℕ) (r : KeptReach) → IsOneChange old new → IsReaching old roots turn r → IsReaching new roots turn r
+reaching_later old new roots turn r (inl same) is = subst (λ (k : Keyring). IsReaching k roots turn r) (sym same) is
+reaching_later old new roots turn r (inr more) is =
+    let counted : new.changes ≡ old.changes + 1 = more.0 in
+    let past = is.counted in
+    record { counted = omega (arith, counted, past); turned = is.turned; now = λ e f. absurd (omega (arith, counted, past, e)) }
+
+some_reaching_later : (old new : Keyring) (roots : Amounts) (turn : ℕ) (o : Option KeptReach) → IsOneChange old new → IfSome o (IsReaching old roots turn)
+    → IfSome o (IsReaching new roots turn)
+some_reaching_later old new roots turn None one is = is
+some_reaching_later old new roots turn (Some r) one is = reaching_later old new roots turn r one is
+
 all_right_later : LaterStill → (old new : Keyring) (answers : AllAnswers) → IsLater old new → IsOneChange old new → AreAllRight old answers → AreAllRight new answers
 all_right_later further old new [] later one all = tt
-all_right_later further old new (e ∷ es) later one all =
-    (are_right_later further old new e.1.roots e.1.turn e.1.entries later one all.0, all_right_later further old new es later one all.1)
+all_right_later further old new (e ∷ es) later one all = (
+  record {
+    each = are_right_later further old new e.1.roots e.1.turn e.1.entries later one all.0.each;
+    reach = some_reaching_later old new e.1.roots e.1.turn e.1.reach one all.0.reach;
+  },
+  all_right_later further old new es later one all.1,
+)
 
 -- an engine after a change of its keyring
 pub engine_on : FitLater → LaterStill → (old new : Keyring) (views : Views) (networks : Networks) (answers : AllAnswers) → new.limits ≡ old.limits → IsLater old new
@@ -286,11 +305,11 @@ all_right_inserted k answers new name of_view (Err fault) put same all right = r
 abbrev RightAnd : Keyring → Amounts → ℕ → KeptAnswer → Type 0
 RightAnd k roots turn a = IsRight k a × IsGood k roots turn a
 
--- the answer that is kept for a target
-pub answer_found : (k : Keyring) (roots : Amounts) (turn : ℕ) (entries : Entries) (target : Fpr) (a : KeptAnswer) → AreRight k roots turn entries
-    → lookup (is_at (fpr_cmp target)) entries ≡ Some a → RightAnd k roots turn a
-answer_found k roots turn entries target a all e = each_found (RightAnd k roots turn) (is_at (fpr_cmp target)) entries a all e
+-- the answer that is kept under a key
+pub answer_found : (k : Keyring) (roots : Amounts) (turn : ℕ) (entries : Entries) (key : ℕ) (a : KeptAnswer) → AreRight k roots turn entries
+    → lookup (is_at (nat_cmp key)) entries ≡ Some a → RightAnd k roots turn a
+answer_found k roots turn entries key a all e = each_found (RightAnd k roots turn) (is_at (nat_cmp key)) entries a all e
 
-pub answer_set : (k : Keyring) (roots : Amounts) (turn : ℕ) (entries : Entries) (target : Fpr) (a : KeptAnswer) → AreRight k roots turn entries
-    → RightAnd k roots turn a → AreRight k roots turn (set_value (is_at (fpr_cmp target)) entries a)
-answer_set k roots turn entries target a all right = each_set (RightAnd k roots turn) (is_at (fpr_cmp target)) entries a all right
+pub answer_set : (k : Keyring) (roots : Amounts) (turn : ℕ) (entries : Entries) (key : ℕ) (a : KeptAnswer) → AreRight k roots turn entries
+    → RightAnd k roots turn a → AreRight k roots turn (set_value (is_at (nat_cmp key)) entries a)
+answer_set k roots turn entries key a all right = each_set (RightAnd k roots turn) (is_at (nat_cmp key)) entries a all right

@@ -1,5 +1,6 @@
 -- Answers that are kept: what each rests on, and that it is right for as long as that stays.
-use Rattle.std.specs.Prelude.{◌≡◌, ℕ, ◌≤◌, List, length, sum_by, Option}
+use Rattle.std.specs.Prelude.{◌≡◌, ℕ, ◌≤◌, List, length, sum_by, Option, IfSome, IsSomeAnd, Vec}
+use Rattle.std.specs.declared.alloc.Global.{Global}
 use Rattle.std.specs.List.{AllByRecursion}
 use Rattle.std.specs.Map.{values_of}
 use Rattle.std.specs.Option.{option_map_or}
@@ -10,7 +11,9 @@ use Rattle.wot_edge.specs.Roots.{root_amount}
 use Rattle.wot_keyring.specs.Keyring.{Keyring, certificates_in, stamp_at}
 use Rattle.wot_keyring.specs.Later.{IsLater}
 use Rattle.wot_network.specs.Told.{record_of}
+use Rattle.wot_search.specs.Reach.{IsReach, number_at}
 use Rattle.wot_cache.specs.declared.answers.KeptAnswer.{KeptAnswer}
+use Rattle.wot_cache.specs.declared.answers.KeptReach.{KeptReach}
 use Rattle.wot_cache.specs.declared.answers.Looked.{Looked}
 
 -- ---- what an answer rests on
@@ -31,6 +34,14 @@ pub record IsStill (k : Keyring) (roots : Amounts) (looked : Looked) : Type 0 wh
 abbrev pub AreStill : Keyring → Amounts → List Looked → Type 0
 AreStill k roots looked = AllByRecursion (IsStill k roots) looked
 
+-- An answer rests on these fingerprints; where there are none, on all that there is.
+abbrev pub Grounds : Type 0
+Grounds = Option (Vec Looked Global)
+
+-- The answer rests on a few fingerprints, and the same is found at each.
+abbrev pub AllStill : Keyring → Amounts → Grounds → Type 0
+AllStill k roots grounds = IsSomeAnd grounds (λ (looked : Vec Looked Global). AreStill k roots looked.items)
+
 -- ---- one answer
 
 -- This is its question.
@@ -44,60 +55,76 @@ pub record IsOf (a : KeptAnswer) (asked : Fpr) (most : ℕ) (text : List ℕ) (t
 abbrev pub question_at : Keyring → Amounts → KeptAnswer → Question
 question_at k roots a = asks (record_of (certificates_in k) k.verdicts a.time a.uid) roots a.target
 
--- It is the answer in this keyring and in every later one, from whatever roots, where what it rests on is found as it was.
+-- It is the answer to its question.
+abbrev pub Answers : Keyring → Amounts → KeptAnswer → Type 0
+Answers k roots a = IsAnswer (question_at k roots a) a.wanted a.answer.paths
+
+-- It is the answer in this keyring and in every later one, from whatever roots, where the few that it rests on are found as they
+-- were.
 pub record IsRight (k : Keyring) (a : KeptAnswer) : Type 0 where
   pub sum : a.answer.sum ≡ amount_of a.answer.paths
-  pub answer : (later : Keyring) (roots : Amounts) → IsLater k later → AreStill later roots a.looked.items
-      → IsAnswer (question_at later roots a) a.wanted a.answer.paths
+  pub answer : (later : Keyring) (roots : Amounts) → IsLater k later → AllStill later roots a.looked → Answers later roots a
 
--- Where it was last found good at the count of changes and by the roots that there are now, what it rests on is as it was.
+-- Where it was last found good at the count of changes and by the roots that there are now, it is the answer now.
 pub record IsGood (k : Keyring) (roots : Amounts) (turn : ℕ) (a : KeptAnswer) : Type 0 where
   pub counted : a.count ≤ k.changes
   pub turned : a.turn ≤ turn
-  pub still : a.count ≡ k.changes → a.turn ≡ turn → AreStill k roots a.looked.items
+  pub now : a.count ≡ k.changes → a.turn ≡ turn → Answers k roots a
 
--- It was found good by these roots, at the present count of changes.
+-- It is the answer by these roots, and was found good at the present count of changes.
 pub record IsFound (k : Keyring) (roots : Amounts) (a : KeptAnswer) : Type 0 where
   pub counted : a.count ≤ k.changes
-  pub still : AreStill k roots a.looked.items
+  pub now : Answers k roots a
 
 -- Nothing but when it was last found good is another.
 abbrev pub IsSameBut : KeptAnswer → KeptAnswer → Type 0
 IsSameBut old new = new ≡ record old { count = new.count; turn = new.turn }
 
--- ---- answers by target
+-- ---- answers by the keys of their questions
 
 abbrev pub Entries : Type 0
-Entries = List (Fpr × KeptAnswer)
+Entries = List (ℕ × KeptAnswer)
 
 -- They are right, and good by these roots where they were last found so by them.
 abbrev pub AreRight : Keyring → Amounts → ℕ → Entries → Type 0
-AreRight k roots turn entries = AllByRecursion (λ (e : Fpr × KeptAnswer). IsRight k e.1 × IsGood k roots turn e.1) entries
+AreRight k roots turn entries = AllByRecursion (λ (e : ℕ × KeptAnswer). IsRight k e.1 × IsGood k roots turn e.1) entries
 
--- how many fingerprints were consulted for an answer
+-- how many fingerprints are kept with an answer
 abbrev pub looked_in : KeptAnswer → ℕ
-looked_in a = length a.looked.items
+looked_in a = option_map_or (λ (looked : Vec Looked Global). length looked.items) a.looked 0
 
 -- for one that may be there
 abbrev pub looked_by : Option KeptAnswer → ℕ
 looked_by found = option_map_or looked_in found 0
 
--- There are few of them, and few fingerprints were consulted for all together, which are counted.
+-- There are few of them, and few fingerprints are kept with all together, which are counted.
 pub record AreFew (entries : Entries) (looked : ℕ) : Type 0 where
   pub few : length entries ≤ 1024
   pub counted : sum_by looked_in (values_of entries) ≡ looked
   pub bounded : looked ≤ 1048576
 
+-- ---- a table of reach
+
+-- Where the table was made at the count of changes and for the roots that there are now, its numbers are the reach from these
+-- roots, by what the certificates and verdicts tell at its time.
+pub record IsReaching (k : Keyring) (roots : Amounts) (turn : ℕ) (r : KeptReach) : Type 0 where
+  pub counted : r.count ≤ k.changes
+  pub turned : r.turn ≤ turn
+  pub now : r.count ≡ k.changes → r.turn ≡ turn → IsReach (record_of (certificates_in k) k.verdicts r.time) roots (number_at r.reach)
+
 -- ---- answers by view
 
--- the answers of a view, with the roots by which they were last found good, and how often these became others
+-- the answers of a view, with the roots by which they were last found good, how often these became others, and the table of reach,
+-- if there is one
 pub record OfView : Type 0 where
   pub entries : Entries
   pub roots : Amounts
   pub turn : ℕ
+  pub reach : Option KeptReach
 
-abbrev pub AreRightIn : Keyring → OfView → Type 0
-AreRightIn k of_view = AreRight k of_view.roots of_view.turn of_view.entries
+pub record AreRightIn (k : Keyring) (of_view : OfView) : Type 0 where
+  pub each : AreRight k of_view.roots of_view.turn of_view.entries
+  pub reach : IfSome of_view.reach (IsReaching k of_view.roots of_view.turn)
 
 -- answers by the names of views
 abbrev pub AllAnswers : Type 0

@@ -1,15 +1,19 @@
 //! The answers that a view keeps, each with its question and with what it rests on.
-ghost use Rattle.std.specs.Prelude.{◌≡◌, ◌≤◌, ◌<◌, ◌+◌, ℕ, [], true, map, length, IfOk, IfSome, OnOk, OnErr};
+ghost use Rattle.std.specs.Prelude.{◌≡◌, ◌≤◌, ◌<◌, ◌+◌, ℕ, [], true, map, length, IfOk, IfSome, OnOk, OnErr, None};
 ghost use Rattle.std.specs.BTreeMap.{insert_entry, is_at};
 ghost use Rattle.std.specs.List.Sorted.{IsStrictlySortedBy};
 ghost use Rattle.std.specs.Map.{keys_of, lookup};
-ghost use Rattle.wot_types.specs.Fpr.{fpr_cmp};
+ghost use Rattle.std.specs.Ordering.{nat_cmp};
 ghost use Rattle.wot_edge.specs.Answer.{IsAnswer, amount_of};
 ghost use Rattle.wot_keyring.specs.Keyring.{Keyring as Held};
-ghost use Rattle.wot_cache.specs.Answers.{AreFew, AreRight, AreRightIn, AreStill, IsGood, IsOf, IsRight, IsSameBut};
-ghost use Rattle.wot_cache.specs.Answers.{Amounts, IsFound, look, looked_by, looked_in};
-ghost use Rattle.wot_cache.specs.Question.{asked_of};
+ghost use Rattle.wot_search.specs.Reach.{IsReach, number_at};
+ghost use Rattle.wot_network.specs.Net.{told_of};
+ghost use Rattle.wot_cache.specs.Answers.{AreFew, AreRight, AreRightIn, AreStill, AllStill, IsGood, IsOf, IsReaching, IsRight, IsSameBut};
+ghost use Rattle.wot_cache.specs.Answers.{Amounts, Answers as IsTheAnswer, IsFound, look, looked_by, looked_in};
+ghost use Rattle.wot_cache.specs.Question.{asked_of, present_in};
 
+use crate::budget::Budget;
+use crate::key::key_of;
 use crate::parts::Parts;
 use crate::roots::{are_same, listed};
 use std::alloc::Global;
@@ -19,7 +23,7 @@ use wot_auth::Answer;
 use wot_edge::Roots;
 use wot_keyring::Keyring;
 use wot_keyring::laws::later_is_order;
-use wot_search::Consulted;
+use wot_search::{Consulted, Reach};
 use wot_types::{Fpr, Memory, UserId};
 
 /// How many answers a view keeps.
@@ -36,14 +40,16 @@ pub struct Looked {
     pub amount: u8,
 }
 
-/// A question from a view at a time, its answer, and the fingerprints that were consulted for it.
+/// A question from a view at a time, its answer, and the fingerprints that were consulted for it; none where it was
+/// found within a table of reach, which rests on all that there is.
 #[derive(Drop)]
 pub struct KeptAnswer {
+    pub key: u64,
     pub target: Fpr,
     pub wanted: u32,
     pub uid: UserId,
     pub time: u32,
-    pub looked: Vec<Looked>,
+    pub looked: Option<Vec<Looked>>,
     pub answer: Answer,
     /// The count of changes at which it was last found good.
     pub count: u64,
@@ -62,19 +68,21 @@ impl KeptAnswer {
             && self.uid.octets() == uid
     }
 
-    /// Whether the stamps and the root amounts are what they were. Nothing is compared where no change was counted
-    /// and no root became another one since this was last found so.
+    /// Whether it still stands: the stamps and the root amounts are what they were. Nothing is compared where no change
+    /// was counted and no root became another one since this was last found so.
     fn is_good(&mut self, keyring: &Keyring, roots: &Roots, turn: u64) -> bool
+        requires right { IsRight keyring.now self.old }
+        requires good { IsGood keyring.now roots.now turn self.old }
         ensures same { IsSameBut self.old self.new }
-        ensures good { IsGood keyring.now roots.now turn self.old → IsGood keyring.now roots.now turn self.new }
-        ensures still { IsGood keyring.now roots.now turn self.old → result ≡ true →
-            AreStill keyring.now roots.now self.old.looked.items }
+        ensures good { IsGood keyring.now roots.now turn self.new }
+        ensures now { result ≡ true → IsTheAnswer keyring.now roots.now self.old }
     {
+        later_is_order();
         let count = keyring.changes();
         if self.count == count && self.turn == turn {
             return true;
         }
-        if !are_still(self.looked.as_slice(), keyring, roots) {
+        if !all_still(&self.looked, keyring, roots) {
             return false;
         }
         self.count = count;
@@ -99,7 +107,6 @@ impl KeptAnswer {
         ensures answer { IfSome result (λ a. IsAnswer (asked_of parts.now target.now uid.now) wanted a.paths) }
         ensures sum { IfSome result (λ a. a.sum ≡ amount_of a.paths) }
     {
-        later_is_order();
         if !self.is_of(target, wanted, uid, parts.t) {
             return None;
         }
@@ -110,6 +117,16 @@ impl KeptAnswer {
             Ok(answer) => Some(answer),
             Err(Memory) => None,
         }
+    }
+}
+
+/// Whether there are such fingerprints, and their stamps and root amounts are what they were.
+fn all_still(grounds: &Option<Vec<Looked>>, keyring: &Keyring, roots: &Roots) -> bool
+    ensures still { result ≡ true → AllStill keyring.now roots.now grounds.now }
+{
+    match grounds {
+        Some(looked) => are_still(looked.as_slice(), keyring, roots),
+        None => false,
     }
 }
 
@@ -145,18 +162,28 @@ pub fn look_at(
     Ok(looked)
 }
 
-type Table = BTreeMap<Fpr, KeptAnswer, Global>;
+type Table = BTreeMap<u64, KeptAnswer, Global>;
 
-/// Keeps an answer under its target, in place of an earlier one. Tells how many fingerprints that had.
+/// How many fingerprints are kept with an answer.
+fn count_looked(answer: &KeptAnswer) -> usize
+    ensures count { result ≡ looked_in answer.now }
+{
+    match &answer.looked {
+        Some(looked) => looked.len(),
+        None => 0,
+    }
+}
+
+/// Keeps an answer under its key, in place of an earlier one. Tells how many fingerprints that had.
 fn replace(table: &mut Table, answer: KeptAnswer) -> Result<usize, Memory>
-    ensures entries { OnOk result (table.new.entries ≡ insert_entry fpr_cmp table.old.entries answer.target answer) }
-    ensures earlier { IfOk result (λ count. count ≡ looked_by (lookup (is_at (fpr_cmp answer.target)) table.old.entries)) }
-    ensures order { IsStrictlySortedBy fpr_cmp (keys_of table.old.entries) }
+    ensures entries { OnOk result (table.new.entries ≡ insert_entry nat_cmp table.old.entries answer.key answer) }
+    ensures earlier { IfOk result (λ count. count ≡ looked_by (lookup (is_at (nat_cmp answer.key)) table.old.entries)) }
+    ensures order { IsStrictlySortedBy nat_cmp (keys_of table.old.entries) }
     ensures kept { OnErr result (table.new.entries ≡ table.old.entries) }
 {
-    let target = answer.target;
-    match table.insert(target, answer) {
-        Ok(Some(earlier)) => Ok(earlier.looked.len()),
+    let key = answer.key;
+    match table.insert(key, answer) {
+        Ok(Some(earlier)) => Ok(count_looked(&earlier)),
         Ok(None) => Ok(0),
         Err(_) => Err(Memory),
     }
@@ -189,7 +216,7 @@ fn add(table: &mut Table, looked: usize, answer: KeptAnswer) -> usize
     ensures right { (k : Held) (roots : Amounts) (turn : ℕ) → AreRight k roots turn table.old.entries → IsRight k answer →
         IsGood k roots turn answer → AreRight k roots turn table.new.entries }
 {
-    let count = answer.looked.len();
+    let count = count_looked(&answer);
     match replace(table, answer) {
         Ok(earlier) => looked + count - earlier,
         Err(Memory) => looked,
@@ -211,14 +238,52 @@ fn give(
     ensures answer { IfSome result (λ a. IsAnswer (asked_of parts.now target.now uid.now) wanted a.paths) }
     ensures sum { IfSome result (λ a. a.sum ≡ amount_of a.paths) }
 {
-    match table.get_mut(target) {
+    match table.get_mut(&key_of(target, wanted, uid)) {
         Some(kept) => kept.give(parts, turn, target, wanted, uid),
         None => None,
     }
 }
 
-/// The answers of one view: for each target the one that was asked for last. Where one more answer, or its
-/// fingerprints, would be too many, all earlier ones go.
+/// A table of reach, and when it was made.
+#[derive(Drop)]
+pub struct KeptReach {
+    pub count: u64,
+    pub turn: u64,
+    pub time: u32,
+    pub reach: Reach,
+}
+
+impl KeptReach {
+    /// A table that is of now, for the roots of this turn.
+    fn new(parts: &Parts<'_>, turn: u64, reach: Reach) -> KeptReach
+        requires reach { IsReach (told_of (present_in parts.now)) parts.now.roots.now (number_at reach) }
+        ensures reaching { IsReaching parts.now.keyring.now parts.now.roots.now turn result }
+    {
+        KeptReach {
+            count: parts.keyring.changes(),
+            turn,
+            time: parts.t,
+            reach,
+        }
+    }
+
+    /// The table, where it is of now and these are the roots.
+    fn give(&self, parts: &Parts<'_>, roots: &[(Fpr, u8)], turn: u64) -> Option<&Reach>
+        requires reaching { IsReaching parts.now.keyring.now roots.now turn self.now }
+        ensures reach { IfSome result (λ reach. IsReach (told_of (present_in parts.now)) parts.now.roots.now (number_at reach.now)) }
+    {
+        if self.count != parts.keyring.changes() || self.turn != turn || self.time != parts.t {
+            return None;
+        }
+        if !are_same(roots, parts.roots) {
+            return None;
+        }
+        Some(&self.reach)
+    }
+}
+
+/// The answers of one view, each under the key of its question. Where one more answer, or its fingerprints, would be
+/// too many, all earlier ones go. Beside them a table of reach, within which more are found.
 #[derive(Drop)]
 pub struct Answers {
     table: Table,
@@ -227,6 +292,8 @@ pub struct Answers {
     // The roots by which answers were found good last, and how often they became others.
     roots: Vec<(Fpr, u8)>,
     turn: u64,
+    reach: Option<KeptReach>,
+    budget: Budget,
 }
 
 impl Model for Answers {
@@ -234,7 +301,7 @@ impl Model for Answers {
 
     ghost Value = { OfView };
 
-    ghost view = { λ a. record { entries = a.table.entries; roots = a.roots.items; turn = a.turn } };
+    ghost view = { λ a. record { entries = a.table.entries; roots = a.roots.items; turn = a.turn; reach = a.reach } };
 
     ghost invariant = { λ a. AreFew a.table.entries a.looked };
 }
@@ -243,12 +310,15 @@ impl Answers {
     /// No answers.
     pub fn new(alloc: Global) -> Answers
         ensures none { result.entries ≡ [] }
+        ensures no_reach { result.reach ≡ None }
     {
         Answers {
             table: BTreeMap::new(alloc),
             looked: 0,
             roots: Vec::new(alloc),
             turn: 0,
+            reach: None,
+            budget: Budget::new(),
         }
     }
 
@@ -297,7 +367,7 @@ impl Answers {
         ensures right { (k : Held) → AreRightIn k self.old → IsRight k answer → IsFound k roots.now answer →
             AreRightIn k self.new }
     {
-        let count = answer.looked.len();
+        let count = count_looked(&answer);
         if MOST_LOOKED < count {
             return;
         }
@@ -307,5 +377,42 @@ impl Answers {
         let turn = self.turn;
         self.looked = make_room(&mut self.table, self.looked, count);
         self.looked = add(&mut self.table, self.looked, KeptAnswer { turn, ..answer });
+    }
+
+    /// The table of reach, where it is of the keyring as it is, of these roots and of this time.
+    pub fn reach(&self, parts: &Parts<'_>) -> Option<&Reach>
+        requires right { AreRightIn parts.now.keyring.now self.now }
+        ensures reach { IfSome result (λ reach. IsReach (told_of (present_in parts.now)) parts.now.roots.now (number_at reach.now)) }
+    {
+        match &self.reach {
+            Some(kept) => kept.give(parts, self.roots.as_slice(), self.turn),
+            None => None,
+        }
+    }
+
+    /// Keeps a table of reach in place of an earlier one, if memory is found.
+    pub fn keep_reach(&mut self, alloc: Global, parts: &Parts<'_>, reach: Reach)
+        requires reach { IsReach (told_of (present_in parts.now)) parts.now.roots.now (number_at reach) }
+        requires right { AreRightIn parts.now.keyring.now self.old }
+        ensures right { AreRightIn parts.now.keyring.now self.new }
+    {
+        if !self.settle(alloc, parts.roots) {
+            return;
+        }
+        self.budget.learn(&reach);
+        self.reach = Some(KeptReach::new(parts, self.turn, reach));
+    }
+
+    /// How many looks searches may still take before a table of reach is made.
+    pub fn looks(&self, parts: &Parts<'_>) -> u64 {
+        self.budget.left(parts.keyring, self.turn, parts.t)
+    }
+
+    /// Notes how many looks are left after a search.
+    pub fn leave_looks(&mut self, parts: &Parts<'_>, left: u64)
+        ensures same { self.new ≡ self.old }
+    {
+        self.budget
+            .leave(parts.keyring.changes(), self.turn, parts.t, left);
     }
 }

@@ -1,23 +1,92 @@
 //! The answer over roads: one that is kept, or a new one.
-ghost use Rattle.std.specs.Prelude.{◌≡◌, ◌≤◌, ℕ, List, length, IfOk, OnErr};
+ghost use Rattle.std.specs.Prelude.{◌≡◌, ◌≤◌, ℕ, List, length, IfOk, IfSome, OnErr};
 ghost use Rattle.wot_edge.specs.Answer.{IsAnswer, amount_of};
 ghost use Rattle.wot_edge.specs.Record.{IsRecord};
 ghost use Rattle.wot_network.specs.Net.{told_of};
 ghost use Rattle.wot_network.specs.Roads.{present_of};
+ghost use Rattle.wot_search.specs.Reach.{IsReach, number_at};
 ghost use Rattle.wot_cache.specs.Answers.{AreAllRight};
 ghost use Rattle.wot_cache.specs.Question.{asked_of, present_in, IsTold};
 
 use crate::parts::Parts;
-use crate::recall::{AllAnswers, recall, remember};
+use crate::recall::{
+    AllAnswers, keep_reach, leave_looks, looks, reach_of, recall, remember, remember_now,
+};
 use crate::view::AskFault;
 use std::alloc::Global;
-use wot_auth::{Answer, authenticate};
+use wot_auth::{Answer, authenticate_metered, authenticate_within};
 use wot_edge::laws::{answer_is_one, paths_fit, zero_is_no_path};
-use wot_search::Consulted;
+use wot_keyring::Keyring;
+use wot_search::{Metered, Reach, make_reach};
 use wot_types::{Fpr, Memory, ViewName};
 
-/// The answer over these parts. It is kept for the view.
-fn search(
+/// The fingerprints of the kept certificates.
+fn fprs_of(alloc: Global, keyring: &Keyring) -> Result<Vec<Fpr>, Memory> {
+    let mut fprs = Vec::new(alloc);
+    for cert in keyring.certs() {
+        fprs.push(cert.fpr())?;
+    }
+    Ok(fprs)
+}
+
+/// How far issuers reach, over these parts.
+fn made_reach(alloc: Global, parts: &Parts<'_>) -> Result<Reach, Memory>
+    requires present { present_of parts.now.roads ≡ present_in parts.now }
+    ensures reach { IfOk result (λ reach. IsReach (told_of (present_in parts.now)) parts.now.roots.now (number_at reach)) }
+{
+    let fprs = fprs_of(alloc, parts.keyring)?;
+    make_reach(alloc, &parts.roads, parts.roots, &fprs)
+}
+
+/// The answer within a table of reach.
+fn search_within(
+    alloc: Global,
+    parts: &Parts<'_>,
+    reach: &Reach,
+    target: &Fpr,
+    wanted: u32,
+    uid: &[u8],
+) -> Result<Answer, Memory>
+    requires wanted { 1 ≤ wanted }
+    requires few { length parts.now.roots.now ≤ 64 }
+    requires present { present_of parts.now.roads ≡ present_in parts.now }
+    requires reach { IsReach (told_of (present_in parts.now)) parts.now.roots.now (number_at reach.now) }
+    ensures answer { IfOk result (λ a. IsAnswer (asked_of parts.now target.now uid.now) wanted a.paths) }
+    ensures sum { IfOk result (λ a. a.sum ≡ amount_of a.paths) }
+{
+    let answer = authenticate_within(alloc, &parts.roads, parts.roots, reach, target, uid, wanted)?;
+    Ok(answer)
+}
+
+/// The same within the table that is kept for the view. None where there is none that is of now, and where no memory is
+/// found.
+fn search_kept(
+    alloc: Global,
+    answers: &AllAnswers,
+    parts: &Parts<'_>,
+    view: &ViewName,
+    target: &Fpr,
+    wanted: u32,
+    uid: &[u8],
+) -> Option<Answer>
+    requires wanted { 1 ≤ wanted }
+    requires few { length parts.now.roots.now ≤ 64 }
+    requires present { present_of parts.now.roads ≡ present_in parts.now }
+    requires right { AreAllRight parts.now.keyring.now answers.now.entries }
+    ensures answer { IfSome result (λ a. IsAnswer (asked_of parts.now target.now uid.now) wanted a.paths) }
+    ensures sum { IfSome result (λ a. a.sum ≡ amount_of a.paths) }
+{
+    let Some(reach) = reach_of(answers, parts, view) else {
+        return None;
+    };
+    match search_within(alloc, parts, reach, target, wanted, uid) {
+        Ok(answer) => Some(answer),
+        Err(Memory) => None,
+    }
+}
+
+/// The answer within a table of reach that is made for it, and kept for the view with the answer.
+fn search_far(
     alloc: Global,
     answers: &mut AllAnswers,
     parts: &Parts<'_>,
@@ -35,23 +104,99 @@ fn search(
     ensures memory { OnErr result (result ≡ Err AskFault.Memory) }
     ensures right { AreAllRight parts.now.keyring.now answers.new.entries }
 {
-    let mut consulted = Consulted::new(alloc);
-    match authenticate(
+    let Ok(reach) = made_reach(alloc, parts) else {
+        return Err(AskFault::Memory);
+    };
+    let Ok(answer) = search_within(alloc, parts, &reach, target, wanted, uid) else {
+        return Err(AskFault::Memory);
+    };
+    keep_reach(alloc, answers, parts, view, reach);
+    remember_now(alloc, answers, parts, view, target, wanted, uid, &answer);
+    Ok(answer)
+}
+
+/// The answer over these parts, by a search that looks at what leads to the target alone; where so much was looked at
+/// since the last change that a table of reach pays, by such a table. It is kept for the view.
+fn search(
+    alloc: Global,
+    answers: &mut AllAnswers,
+    parts: &Parts<'_>,
+    view: &ViewName,
+    target: &Fpr,
+    wanted: u32,
+    uid: &[u8],
+    made: u64,
+) -> Result<Answer, AskFault>
+    requires wanted { 1 ≤ wanted }
+    requires few { length parts.now.roots.now ≤ 64 }
+    requires present { present_of parts.now.roads ≡ present_in parts.now }
+    requires right { AreAllRight parts.now.keyring.now answers.old.entries }
+    ensures answer { IfOk result (λ a. IsAnswer (asked_of parts.now target.now uid.now) wanted a.paths) }
+    ensures sum { IfOk result (λ a. a.sum ≡ amount_of a.paths) }
+    ensures memory { OnErr result (result ≡ Err AskFault.Memory) }
+    ensures right { AreAllRight parts.now.keyring.now answers.new.entries }
+{
+    let left = looks(answers, parts, view).saturating_sub(made);
+    let mut metered = Metered::new(alloc, left);
+    match authenticate_metered(
         alloc,
         &parts.roads,
         parts.roots,
         target,
         uid,
         wanted,
-        &mut consulted,
+        &mut metered,
     ) {
         Ok(answer) => {
             remember(
-                alloc, answers, parts, view, target, wanted, uid, &consulted, &answer,
+                alloc,
+                answers,
+                parts,
+                view,
+                target,
+                wanted,
+                uid,
+                &metered.consulted,
+                &answer,
             );
+            leave_looks(answers, parts, view, metered.left);
             Ok(answer)
         }
-        Err(Memory) => Err(AskFault::Memory),
+        Err(Memory) => {
+            if metered.left > 0 {
+                return Err(AskFault::Memory);
+            }
+            search_far(alloc, answers, parts, view, target, wanted, uid)
+        }
+    }
+}
+
+/// The same answer, within the table that is kept for the view where there is one.
+fn find_new(
+    alloc: Global,
+    answers: &mut AllAnswers,
+    parts: &Parts<'_>,
+    view: &ViewName,
+    target: &Fpr,
+    wanted: u32,
+    uid: &[u8],
+    made: u64,
+) -> Result<Answer, AskFault>
+    requires wanted { 1 ≤ wanted }
+    requires few { length parts.now.roots.now ≤ 64 }
+    requires present { present_of parts.now.roads ≡ present_in parts.now }
+    requires right { AreAllRight parts.now.keyring.now answers.old.entries }
+    ensures answer { IfOk result (λ a. IsAnswer (asked_of parts.now target.now uid.now) wanted a.paths) }
+    ensures sum { IfOk result (λ a. a.sum ≡ amount_of a.paths) }
+    ensures memory { OnErr result (result ≡ Err AskFault.Memory) }
+    ensures right { AreAllRight parts.now.keyring.now answers.new.entries }
+{
+    match search_kept(alloc, answers, parts, view, target, wanted, uid) {
+        Some(answer) => {
+            remember_now(alloc, answers, parts, view, target, wanted, uid, &answer);
+            Ok(answer)
+        }
+        None => search(alloc, answers, parts, view, target, wanted, uid, made),
     }
 }
 
@@ -64,6 +209,7 @@ fn find(
     target: &Fpr,
     wanted: u32,
     uid: &[u8],
+    made: u64,
 ) -> Result<Answer, AskFault>
     requires wanted { 1 ≤ wanted }
     requires few { length parts.now.roots.now ≤ 64 }
@@ -76,11 +222,11 @@ fn find(
 {
     match recall(alloc, answers, parts, view, target, wanted, uid) {
         Some(answer) => Ok(answer),
-        None => search(alloc, answers, parts, view, target, wanted, uid),
+        None => find_new(alloc, answers, parts, view, target, wanted, uid, made),
     }
 }
 
-/// The answer from a view, over the parts that are seen from it.
+/// The answer from a view, over the parts that are seen from it. So many edges were made for it.
 pub fn answer(
     alloc: Global,
     answers: &mut AllAnswers,
@@ -89,6 +235,7 @@ pub fn answer(
     target: &Fpr,
     wanted: u32,
     uid: &[u8],
+    made: u64,
 ) -> Result<Answer, AskFault>
     requires wanted { 1 ≤ wanted }
     requires few { length parts.now.roots.now ≤ 64 }
@@ -102,5 +249,5 @@ pub fn answer(
     answer_is_one();
     zero_is_no_path();
     paths_fit();
-    find(alloc, answers, parts, view, target, wanted, uid)
+    find(alloc, answers, parts, view, target, wanted, uid, made)
 }

@@ -320,7 +320,9 @@ impl Engine {
         ensures made_most { steps.new.made ≤ steps.old.made + signatures_in self.old.keyring }
         ensures never_less { steps.old.made ≤ steps.new.made }
     {
+        let before = steps.made;
         self.networked.refresh(self.alloc, view, steps)?;
+        let made = steps.made.saturating_sub(before);
         let parts = self.networked.parts(view);
         answer(
             self.alloc,
@@ -330,6 +332,7 @@ impl Engine {
             target,
             wanted,
             uid,
+            made,
         )
     }
 

@@ -3,8 +3,10 @@
 
 mod answers;
 mod ask;
+mod budget;
 mod dump;
 mod engine;
+mod key;
 mod networks;
 mod parts;
 mod present;

@@ -4,17 +4,21 @@ ghost use Rattle.std.specs.Map.{remove_entry};
 ghost use Rattle.wot_edge.specs.Answer.{IsAnswer, amount_of};
 ghost use Rattle.wot_keyring.specs.Keyring.{Keyring as Held};
 ghost use Rattle.wot_cache.specs.Answers.{AreAllRight, AreRightIn, IsFound, IsRight};
-ghost use Rattle.wot_cache.specs.Question.{asked_of, IsAnswerAround};
+ghost use Rattle.wot_cache.specs.Question.{asked_of, present_in, IsAnswerAround};
+ghost use Rattle.wot_network.specs.Net.{told_of};
+ghost use Rattle.wot_search.specs.Reach.{IsReach, number_at};
 ghost use Rattle.wot_cache.specs.Views.{is_name};
 
 use crate::answers::{Answers, KeptAnswer, look_at};
+use crate::budget::Budget;
+use crate::key::key_of;
 use crate::parts::Parts;
 use std::alloc::Global;
 use std::collections::BTreeMap;
 use wot_auth::Answer;
 use wot_edge::Roots;
 use wot_network::laws::records_agree;
-use wot_search::Consulted;
+use wot_search::{Consulted, Reach};
 use wot_types::{Fpr, Memory, UserId, ViewName};
 
 pub type AllAnswers = BTreeMap<ViewName, Answers, Global>;
@@ -52,6 +56,7 @@ fn with_grounds(
     answer: &Answer,
 ) -> Result<KeptAnswer, Memory>
     requires sum { answer.now.sum ≡ amount_of answer.now.paths }
+    requires answer { IsAnswer (asked_of parts.now target.now uid.now) wanted answer.now.paths }
     requires local { IsAnswerAround (asked_of parts.now target.now uid.now) wanted answer.now.paths consulted.now }
     ensures right { IfOk result (λ kept. IsRight parts.now.keyring.now kept) }
     ensures found { IfOk result (λ kept. IsFound parts.now.keyring.now parts.now.roots.now kept) }
@@ -60,14 +65,46 @@ fn with_grounds(
     // That stamps are counts of changes.
     let _count = parts.keyring.len();
     let looked = look_at(alloc, consulted, parts.keyring, parts.roots)?;
+    let key = key_of(target, wanted, uid);
     let uid = UserId::new(alloc, uid)?;
     let answer = answer.duplicate()?;
     Ok(KeptAnswer {
+        key,
         target: *target,
         wanted,
         uid,
         time: parts.t,
-        looked,
+        looked: Some(looked),
+        answer,
+        count: parts.keyring.changes(),
+        turn: 0,
+    })
+}
+
+/// An answer with its question, which rests on all that there is.
+fn without_grounds(
+    alloc: Global,
+    parts: &Parts<'_>,
+    target: &Fpr,
+    wanted: u32,
+    uid: &[u8],
+    answer: &Answer,
+) -> Result<KeptAnswer, Memory>
+    requires sum { answer.now.sum ≡ amount_of answer.now.paths }
+    requires answer { IsAnswer (asked_of parts.now target.now uid.now) wanted answer.now.paths }
+    ensures right { IfOk result (λ kept. IsRight parts.now.keyring.now kept) }
+    ensures found { IfOk result (λ kept. IsFound parts.now.keyring.now parts.now.roots.now kept) }
+{
+    let key = key_of(target, wanted, uid);
+    let uid = UserId::new(alloc, uid)?;
+    let answer = answer.duplicate()?;
+    Ok(KeptAnswer {
+        key,
+        target: *target,
+        wanted,
+        uid,
+        time: parts.t,
+        looked: None,
         answer,
         count: parts.keyring.changes(),
         turn: 0,
@@ -117,6 +154,7 @@ pub fn remember(
     answer: &Answer,
 )
     requires sum { answer.now.sum ≡ amount_of answer.now.paths }
+    requires answer { IsAnswer (asked_of parts.now target.now uid.now) wanted answer.now.paths }
     requires local { IsAnswerAround (asked_of parts.now target.now uid.now) wanted answer.now.paths consulted.now }
     requires right { AreAllRight parts.now.keyring.now answers.old.entries }
     ensures right { AreAllRight parts.now.keyring.now answers.new.entries }
@@ -124,6 +162,100 @@ pub fn remember(
     match with_grounds(alloc, parts, target, wanted, uid, consulted, answer) {
         Ok(kept) => keep(alloc, answers, view, parts.roots, kept),
         Err(Memory) => {}
+    }
+}
+
+/// Keeps the answer to a question until the next change, if memory is found for it.
+pub fn remember_now(
+    alloc: Global,
+    answers: &mut AllAnswers,
+    parts: &Parts<'_>,
+    view: &ViewName,
+    target: &Fpr,
+    wanted: u32,
+    uid: &[u8],
+    answer: &Answer,
+)
+    requires sum { answer.now.sum ≡ amount_of answer.now.paths }
+    requires answer { IsAnswer (asked_of parts.now target.now uid.now) wanted answer.now.paths }
+    requires right { AreAllRight parts.now.keyring.now answers.old.entries }
+    ensures right { AreAllRight parts.now.keyring.now answers.new.entries }
+{
+    match without_grounds(alloc, parts, target, wanted, uid, answer) {
+        Ok(kept) => keep(alloc, answers, view, parts.roots, kept),
+        Err(Memory) => {}
+    }
+}
+
+/// The table of reach that is kept for a view, where it is of the keyring as it is, of these roots and of this time.
+pub fn reach_of<'a>(
+    answers: &'a AllAnswers,
+    parts: &Parts<'_>,
+    view: &ViewName,
+) -> Option<&'a Reach>
+    requires right { AreAllRight parts.now.keyring.now answers.now.entries }
+    ensures reach { IfSome result (λ reach. IsReach (told_of (present_in parts.now)) parts.now.roots.now (number_at reach.now)) }
+{
+    match answers.get(view) {
+        Some(of_view) => of_view.reach(parts),
+        None => None,
+    }
+}
+
+/// Keeps the first table of reach of a view.
+fn begin_reach(
+    alloc: Global,
+    answers: &mut AllAnswers,
+    parts: &Parts<'_>,
+    view: &ViewName,
+    reach: Reach,
+)
+    requires reach { IsReach (told_of (present_in parts.now)) parts.now.roots.now (number_at reach) }
+    requires right { AreAllRight parts.now.keyring.now answers.old.entries }
+    ensures right { AreAllRight parts.now.keyring.now answers.new.entries }
+{
+    let mut of_view = Answers::new(alloc);
+    of_view.keep_reach(alloc, parts, reach);
+    match view.duplicate(alloc) {
+        Ok(name) => put(answers, name, of_view),
+        Err(Memory) => {}
+    }
+}
+
+/// Keeps a table of reach for a view, if memory is found for it.
+pub fn keep_reach(
+    alloc: Global,
+    answers: &mut AllAnswers,
+    parts: &Parts<'_>,
+    view: &ViewName,
+    reach: Reach,
+)
+    requires reach { IsReach (told_of (present_in parts.now)) parts.now.roots.now (number_at reach) }
+    requires right { AreAllRight parts.now.keyring.now answers.old.entries }
+    ensures right { AreAllRight parts.now.keyring.now answers.new.entries }
+{
+    match answers.get_mut(view) {
+        Some(of_view) => of_view.keep_reach(alloc, parts, reach),
+        None => begin_reach(alloc, answers, parts, view, reach),
+    }
+}
+
+/// How many looks searches from a view may still take before a table of reach is made.
+pub fn looks(answers: &AllAnswers, parts: &Parts<'_>, view: &ViewName) -> u64 {
+    match answers.get(view) {
+        Some(of_view) => of_view.looks(parts),
+        None => Budget::new().left(parts.keyring, 1, parts.t),
+    }
+}
+
+/// Notes how many looks are left after a search.
+pub fn leave_looks(answers: &mut AllAnswers, parts: &Parts<'_>, view: &ViewName, left: u64)
+    requires right { AreAllRight parts.now.keyring.now answers.old.entries }
+    ensures right { AreAllRight parts.now.keyring.now answers.new.entries }
+{
+    match answers.get_mut(view) {
+        Some(of_view) => of_view.leave_looks(parts, left),
+        None => {}
     }
 }
 

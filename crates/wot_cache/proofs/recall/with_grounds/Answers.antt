@@ -1,5 +1,5 @@
-use Rattle.std.proofs.Common.{◌≡◌, ℕ, List, sym, subst}
-use Rattle.wot_edge.specs.Answer.{amount_of}
+use Rattle.std.proofs.Common.{◌≡◌, ℕ, List, Some, refl, sym, subst}
+use Rattle.wot_edge.specs.Answer.{IsAnswer, amount_of}
 use Rattle.wot_auth.specs.declared.answer.Answer.{Answer}
 use Rattle.wot_cache.specs.declared.answers.KeptAnswer.{KeptAnswer}
 use Rattle.wot_cache.specs.Question.{IsAnswerAround, asked_of}
@@ -11,19 +11,22 @@ returns c =
     let p = c.args.parts.now in
     let set = c.args.consulted.now in
     let kept : KeptAnswer = record {
+      key = c.key_of-key.result;
       target = c.args.target.now;
       wanted = c.args.wanted;
       uid = c.in_ok-uid.uid;
       time = p.t;
-      looked = c.in_ok-looked.looked;
+      looked = Some c.in_ok-looked.looked;
       answer = c.in_ok-answer.answer;
       count = c.changes.result;
       turn = 0;
     } in
     let around = subst (λ (a : Answer). IsAnswerAround (asked_of p c.args.target.now c.in_ok-uid.uid) c.args.wanted a.paths set) (sym c.in_ok-answer.ensures.same)
     (subst (λ (u : List ℕ). IsAnswerAround (asked_of p c.args.target.now u) c.args.wanted c.args.answer.now.paths set) (sym c.in_ok-uid.ensures.copied) c.requires.local) in
+    let here = subst (λ (a : Answer). IsAnswer (asked_of p c.args.target.now c.in_ok-uid.uid) c.args.wanted a.paths) (sym c.in_ok-answer.ensures.same)
+    (subst (λ (u : List ℕ). IsAnswer (asked_of p c.args.target.now u) c.args.wanted c.args.answer.now.paths) (sym c.in_ok-uid.ensures.copied) c.requires.answer) in
     let sum = subst (λ (a : Answer). a.sum ≡ amount_of a.paths) (sym c.in_ok-answer.ensures.same) c.requires.sum in
     record {
-      right = right_made c.records_agree.ensures.local p.keyring.now p.roots.now kept set c.len-count.ensures.stamped c.in_ok-looked.ensures.looked sum around;
-      found = found_made p.keyring.now p.roots.now kept set c.in_ok-looked.ensures.looked c.changes.ensures.changes;
+      right = right_made c.records_agree.ensures.local p.keyring.now p.roots.now kept set c.len-count.ensures.stamped c.in_ok-looked.looked refl c.in_ok-looked.ensures.looked sum around;
+      found = found_made p.keyring.now p.roots.now kept c.changes.ensures.changes here;
     }

@@ -12,5 +12,5 @@ give-requires c =
     let same = ap (λ (v : OfView). v.roots) c.self.view_is ∙ c.settle.ensures.roots c.if-not-settle.false in
     record {
       right = subst (λ (roots : Amounts). AreRight k roots c.self.inside.turn c.self.inside.table.entries) same
-          (subst (λ (v : OfView). AreRightIn k v) (sym c.self.view_is) settled);
+          (subst (λ (v : OfView). AreRightIn k v) (sym c.self.view_is) settled).each;
     }

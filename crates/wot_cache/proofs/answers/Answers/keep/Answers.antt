@@ -15,6 +15,9 @@ returns c = record {
       let same = ap (λ (v : OfView). v.roots) c.self.view_is ∙ c.settle.ensures.roots c.if-not-settle.false in
       let here = subst (λ (amounts : Amounts). IsFound k amounts c.args.answer) (sym same) found in
       let settled = subst (λ (v : OfView). AreRightIn k v) (sym c.self.view_is) (c.settle.ensures.right k all) in
-      c.add-self-inside.ensures.right k roots turn (c.make_room-self-inside.ensures.right k roots turn settled) (right_again k c.args.answer answer refl right)
-      (good_at k roots turn c.args.answer here);
+      record {
+        each = c.add-self-inside.ensures.right k roots turn (c.make_room-self-inside.ensures.right k roots turn settled.each)
+            (right_again k c.args.answer answer refl right) (good_at k roots turn c.args.answer here);
+        reach = settled.reach;
+      };
 }

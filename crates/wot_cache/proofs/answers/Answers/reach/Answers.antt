@@ -1,0 +1,13 @@
+use Rattle.std.specs.Prelude.{IfSome}
+use Rattle.std.proofs.Common.{Option, sym, subst}
+use Rattle.wot_cache.specs.declared.answers.KeptReach.{KeptReach}
+use Rattle.wot_cache.specs.Answers.{Amounts, AreRightIn, IsReaching, OfView}
+use Rattle.wot_cache.proofs.answers.Answers.reach.Goals as goal
+
+pub give-requires : goal.give-requires
+give-requires c =
+    let k = c.args.parts.now.keyring.now in
+    let turn = c.self.inside.turn in
+    let before = subst (λ (v : OfView). AreRightIn k v) (sym c.self.view_is) c.requires.right in
+    let there = subst (λ (o : Option KeptReach). IfSome o (IsReaching k c.self.inside.roots.items turn)) c.in-Some.is before.reach in
+    record { reaching = subst (λ (roots : Amounts). IsReaching k roots turn c.in-Some.kept) (sym c.as_slice.ensures.value) there }

@@ -1,0 +1,10 @@
+use Rattle.std.proofs.Common.{refl}
+use Rattle.wot_cache.specs.declared.answers.KeptReach.{KeptReach}
+use Rattle.wot_cache.proofs.Grounds.{reaching_made}
+use Rattle.wot_cache.proofs.answers.KeptReach.new.Goals as goal
+
+pub returns : goal.returns
+returns c =
+    let p = c.args.parts.now in
+    let made : KeptReach = record { count = c.changes.result; turn = c.args.turn; time = p.t; reach = c.args.reach } in
+    record { reaching = reaching_made p.keyring.now p.roots.now c.args.turn made c.changes.ensures.changes refl c.requires.reach }

@@ -1,0 +1,17 @@
+//! The keys of questions.
+use wot_types::Fpr;
+
+/// The key under which an answer is kept: two questions that have one key take each other's place. It is Fowler, Noll
+/// and Vo's hash (1a, of 64 bits) of what is wanted, the target and the user ID.
+pub fn key_of(target: &Fpr, wanted: u32, uid: &[u8]) -> u64 {
+    let key: u64 = 0xcbf29ce484222325 ^ (wanted as u64);
+    mixed(mixed(key, target.octets()), uid)
+}
+
+fn mixed(key: u64, octets: &[u8]) -> u64 {
+    let mut key = key;
+    for octet in octets {
+        key = (key ^ (*octet as u64)).wrapping_mul(0x100000001b3);
+    }
+    key
+}
