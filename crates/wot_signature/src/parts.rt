@@ -1,4 +1,4 @@
-ghost use Rattle.std.specs.Prelude.{◌≡◌, IfSome, MatchOption, None, Some};
+ghost use Rattle.std.specs.Prelude.{IfSome};
 ghost use Rattle.wot_subpacket.specs.Slice.{IsSliceOf};
 ghost use Rattle.wot_signature.specs.Body.{
   areas_v4 as areas_v4_spec,
@@ -7,7 +7,7 @@ ghost use Rattle.wot_signature.specs.Body.{
   short_field_at,
   parts_of as parts_of_spec,
 };
-ghost use Rattle.wot_signature.specs.Lent.{lent_parts};
+ghost use Rattle.wot_signature.specs.Lent.{Lends, lent_parts};
 
 /// The parts of a signature body that say something.
 #[derive(Clone, Copy)]
@@ -20,7 +20,7 @@ pub(crate) struct Parts<'a> {
 
 /// The parts of a body; `None` where a part is missing, and for a version other than 4 and 6.
 pub(crate) fn parts_of(body: &[u8]) -> Option<Parts<'_>>
-    ensures parts { MatchOption result (parts_of_spec body.now ≡ None) (λ parts. parts_of_spec body.now ≡ Some (lent_parts parts)) }
+    ensures parts { Lends (parts_of_spec body.now) result lent_parts }
     ensures slice { IfSome result (λ parts. IsSliceOf parts.hashed.now body.now) }
 {
     if body.len() < 4 {
@@ -35,8 +35,7 @@ pub(crate) fn parts_of(body: &[u8]) -> Option<Parts<'_>>
 
 /// The areas of version 4, before two octets of the hash and the material.
 fn areas_v4(kind: u8, hash: u8, octets: &[u8]) -> Option<Parts<'_>>
-    ensures parts { MatchOption result (areas_v4_spec kind hash octets.now ≡ None)
-        (λ parts. areas_v4_spec kind hash octets.now ≡ Some (lent_parts parts)) }
+    ensures parts { Lends (areas_v4_spec kind hash octets.now) result lent_parts }
     ensures slice { IfSome result (λ parts. IsSliceOf parts.hashed.now octets.now) }
 {
     let (hashed, rest) = short_field(octets)?;
@@ -54,8 +53,7 @@ fn areas_v4(kind: u8, hash: u8, octets: &[u8]) -> Option<Parts<'_>>
 
 /// The areas of version 6, before two octets of the hash, an octet with the salt's length, the salt and the material.
 fn areas_v6(kind: u8, hash: u8, octets: &[u8]) -> Option<Parts<'_>>
-    ensures parts { MatchOption result (areas_v6_spec kind hash octets.now ≡ None)
-        (λ parts. areas_v6_spec kind hash octets.now ≡ Some (lent_parts parts)) }
+    ensures parts { Lends (areas_v6_spec kind hash octets.now) result lent_parts }
     ensures slice { IfSome result (λ parts. IsSliceOf parts.hashed.now octets.now) }
 {
     let (hashed, rest) = long_field(octets)?;
@@ -73,8 +71,7 @@ fn areas_v6(kind: u8, hash: u8, octets: &[u8]) -> Option<Parts<'_>>
 
 /// The octets behind two octets that say how many they are, and what is behind those.
 fn short_field(octets: &[u8]) -> Option<(&[u8], &[u8])>
-    ensures found { MatchOption result (short_field_at octets.now ≡ None)
-        (λ found. short_field_at octets.now ≡ Some (found.0.now, found.1.now)) }
+    ensures found { Lends (short_field_at octets.now) result (λ found. (found.0.now, found.1.now)) }
     ensures slice { IfSome result (λ found. IsSliceOf found.0.now octets.now) }
 {
     if octets.len() < 2 {
@@ -90,8 +87,7 @@ fn short_field(octets: &[u8]) -> Option<(&[u8], &[u8])>
 
 /// The octets behind four octets that say how many they are, and what is behind those.
 fn long_field(octets: &[u8]) -> Option<(&[u8], &[u8])>
-    ensures found { MatchOption result (long_field_at octets.now ≡ None)
-        (λ found. long_field_at octets.now ≡ Some (found.0.now, found.1.now)) }
+    ensures found { Lends (long_field_at octets.now) result (λ found. (found.0.now, found.1.now)) }
     ensures slice { IfSome result (λ found. IsSliceOf found.0.now octets.now) }
 {
     if octets.len() < 4 {

@@ -1,6 +1,6 @@
-ghost use Rattle.std.specs.Prelude.{◌≡◌, IfSome, MatchOption, None, Some};
+ghost use Rattle.std.specs.Prelude.{IfSome};
 ghost use Rattle.wot_subpacket.specs.Slice.{HaveSlicesOf};
-ghost use Rattle.wot_signature.specs.Lent.{lent_body};
+ghost use Rattle.wot_signature.specs.Lent.{Lends, lent_body};
 ghost use Rattle.wot_signature.specs.Signature.{read_body_of as read_body_of_spec};
 
 use crate::parts::parts_of;
@@ -18,8 +18,7 @@ pub(crate) struct ReadBody<'a> {
 /// `None` where the body isn't readable.
 #[tactic(auto, unfolding(crate::specs::Signature::read_body_of))]
 pub(crate) fn read_body_of(body: &[u8]) -> Option<ReadBody<'_>>
-    ensures reading { MatchOption result (read_body_of_spec body.now ≡ None) (λ reading. read_body_of_spec body.now
-        ≡ Some (lent_body reading)) }
+    ensures reading { Lends (read_body_of_spec body.now) result lent_body }
     ensures slices { IfSome result (λ reading. HaveSlicesOf body.now reading.hashed) }
 {
     let parts = parts_of(body)?;
