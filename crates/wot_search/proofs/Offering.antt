@@ -171,9 +171,9 @@ module _ (roots : List (Fpr × ℕ)) (q : Question) (used : Use) (n a : ℕ) (po
   offers_from (path ∷ paths) each order now past met = (
     λ later l le left. is_next path paths each order now past met later l le left,
     λ later l lt. offers_from paths (λ x h. each x (inr h)) order.1 later (later_trans used now later past l) (λ other o long enough.
-    let f = amount_falls q now later l other in
-    let x = met other (open_before q now later l other o) long (omega (arith, f, enough)) in
-    rest later lt other enough x.0 x.1 x.2 x.3),
+        let f = amount_falls q now later l other in
+        let x = met other (open_before q now later l other o) long (omega (arith, f, enough)) in
+        rest later lt other enough x.0 x.1 x.2 x.3),
   )
     where
       rest : (later : Use) → left_at roots later path.root < path.amount → (other : List Step) → a ≤ path_amount q later other → (x : Path) → Has (path ∷ paths) x → x.root ≡ start q.target other → steps_cmp other x.steps ≢ Less
@@ -183,7 +183,7 @@ module _ (roots : List (Fpr × ℕ)) (q : Question) (used : Use) (n a : ℕ) (po
           let one = each path (inl refl) in
           let amount = one.0.amount in
           let same : root_left q later (start q.target other) ≡ left_at roots later path.root =
-              ap (root_left q later) (sym r ∙ ap (λ (p : Path). p.root) e ∙ one.0.root) ∙ sym (left_root path one.0 one.1 later) in
+          ap (root_left q later) (sym r ∙ ap (λ (p : Path). p.root) e ∙ one.0.root) ∙ sym (left_root path one.0 one.1 later) in
           let m = least_most later (root_left q later (start q.target other)) other in
           absurd (omega (arith, lt, enough, amount, same, m))
 
@@ -226,15 +226,15 @@ module _ (reach : Fpr → ℕ) (all : (fpr : Fpr) → reach fpr ≡ 255) (q othe
       | inr le ↦ le
     ];
     widest = λ steps o long.
-    let h = open_here reach all q other used n set agree looked steps (omega (arith, long)) o in
-    let e = open_amount reach all q other used n set agree looked steps (omega (arith, long)) h in
-    let m = f.widest steps h long in
-    omega (arith, e, m);
+        let h = open_here reach all q other used n set agree looked steps (omega (arith, long)) o in
+        let e = open_amount reach all q other used n set agree looked steps (omega (arith, long)) h in
+        let m = f.widest steps h long in
+        omega (arith, e, m);
     met = λ steps o long enough.
-    let h = open_here reach all q other used n set agree looked steps (omega (arith, long)) o in
-    let e = open_amount reach all q other used n set agree looked steps (omega (arith, long)) h in
-    let x = f.met steps h long (omega (arith, e, enough)) in
-    (x.0, x.1, x.2 ∙ start_there reach all q other used n set agree looked steps o.0.some, x.3);
+        let h = open_here reach all q other used n set agree looked steps (omega (arith, long)) o in
+        let e = open_amount reach all q other used n set agree looked steps (omega (arith, long)) h in
+        let x = f.met steps h long (omega (arith, e, enough)) in
+        (x.0, x.1, x.2 ∙ start_there reach all q other used n set agree looked steps o.0.some, x.3);
   }
 
   -- their roots have the same amounts
