@@ -1,5 +1,5 @@
 use crate::Says;
-use crate::signature::signature;
+use crate::signature::{signature, signature_v6};
 use std::alloc::Global;
 
 /// One packet of a certificate.
@@ -7,17 +7,21 @@ use std::alloc::Global;
 pub enum Packet {
     /// A public key of version 4, made at 1000, of public key algorithm 27 and with this one octet of material.
     Key(u8),
+    /// The same of version 6.
+    KeyV6(u8),
     /// A user ID.
     UserId(&'static [u8]),
     /// A signature of this kind by SHA2-256, and what its hashed subpackets say, in order.
     Signature(u8, &'static [Says]),
     /// The same by the hash algorithm of this number, which stands first.
     SignatureByHash(u8, u8, &'static [Says]),
+    /// A signature of version 6 of this kind by SHA2-256, what its hashed subpackets say, and its salt.
+    SignatureV6(u8, &'static [Says], &'static [u8]),
     /// Any other packet: its type and its body.
     Other(u8, &'static [u8]),
 }
 
-/// The octets of these packets, in the OpenPGP format. `None` where no memory is found, or a body has 192 octets or
+/// The octets of these packets, in the OpenPGP format. `None` where no memory is found, or a body has 8,384 octets or
 /// more.
 pub fn text(alloc: Global, packets: &[Packet]) -> Option<Vec<u8>> {
     let mut out = Vec::new(alloc);
@@ -30,6 +34,7 @@ pub fn text(alloc: Global, packets: &[Packet]) -> Option<Vec<u8>> {
 fn put_packet(alloc: Global, packet: &Packet, out: &mut Vec<u8>) -> Option<()> {
     match packet {
         Packet::Key(material) => put(6, &[4, 0, 0, 3, 232, 27, *material], out),
+        Packet::KeyV6(material) => put(6, &[6, 0, 0, 3, 232, 27, 0, 0, 0, 1, *material], out),
         Packet::UserId(body) => put(13, body, out),
         Packet::Signature(kind, says) => put(2, &signature(alloc, *kind, 8, says)?, out),
         Packet::SignatureByHash(hash, kind, says) => put(
@@ -37,14 +42,30 @@ fn put_packet(alloc: Global, packet: &Packet, out: &mut Vec<u8>) -> Option<()> {
             &signature(alloc, *kind, *hash, says)?,
             out,
         ),
+        Packet::SignatureV6(kind, says, salt) => {
+            put(2, &signature_v6(alloc, *kind, says, salt)?, out)
+        }
         Packet::Other(kind, body) => put(*kind, body, out),
     }
 }
 
 fn put(kind: u8, body: &[u8], out: &mut Vec<u8>) -> Option<()> {
-    if kind >= 64 || body.len() >= 192 {
+    if kind >= 64 {
         return None;
     }
-    out.extend_from_slice(&[192 + kind, body.len() as u8]).ok()?;
+    out.push(192 + kind).ok()?;
+    put_length(body.len(), out)?;
     out.extend_from_slice(body).ok()
+}
+
+/// Appends a length of a new-format packet, in one octet or in two (RFC 9580, section 4.2.1).
+fn put_length(length: usize, out: &mut Vec<u8>) -> Option<()> {
+    if length < 192 {
+        return out.push(length as u8).ok();
+    }
+    if length >= 8384 {
+        return None;
+    }
+    let [high, low] = u16::try_from(length - 192).ok()?.to_be_bytes();
+    out.extend_from_slice(&[high.wrapping_add(192), low]).ok()
 }
