@@ -35,3 +35,4 @@ pub mod Later
 pub mod Restamping
 pub mod Logged
 pub mod Since
+pub mod InPlace

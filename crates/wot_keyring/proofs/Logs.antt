@@ -12,17 +12,18 @@ use Rattle.wot_types.specs.declared.fpr.Fpr.{Fpr}
 use Rattle.wot_types.specs.Fpr.{fpr_cmp}
 use Rattle.wot_types.specs.FprLaws.{fpr_total}
 use Rattle.wot_keyring.specs.declared.kept.Kept.{Kept}
-use Rattle.wot_keyring.specs.declared.staging.Was.{Was}
+use Rattle.wot_keyring.specs.declared.staging.Before.TheVariants.{Was}
+use Rattle.wot_keyring.specs.declared.staging.Was.{Was as TheWas}
 use Rattle.wot_keyring.specs.Keyring.{Entries, is_fpr}
 use Rattle.wot_keyring.specs.Kept.{AreSortedByFpr}
 use Rattle.wot_keyring.specs.Staging.{back, LeadsBack, IsLog, StillLeadsBack}
 
 -- the last step of a log
-pub log_more : (first : Entries) (ws : List Was) (w : Was) (es es' : Entries) → IsLog first ws es → LeadsBack es w es' → IsLog first (ws ++ w ∷ []) es'
+pub log_more : (first : Entries) (ws : List TheWas) (w : TheWas) (es es' : Entries) → IsLog first ws es → LeadsBack es w es' → IsLog first (ws ++ w ∷ []) es'
 log_more first [] w es es' log step = (es', subst (λ (x : Entries). LeadsBack x w es') log step, refl)
 log_more first (v ∷ ws) w es es' log step = (log.0, log.1, log_more log.0 ws w es es' log.2 step)
 
-pub log_less : (first : Entries) (ws : List Was) (w : Was) (es' : Entries) → IsLog first (ws ++ w ∷ []) es' → (es : Entries) × LeadsBack es w es' × IsLog first ws es
+pub log_less : (first : Entries) (ws : List TheWas) (w : TheWas) (es' : Entries) → IsLog first (ws ++ w ∷ []) es' → (es : Entries) × LeadsBack es w es' × IsLog first ws es
 log_less first [] w es' log = (first, subst (λ (x : Entries). LeadsBack first w x) (sym log.2) log.1, refl)
 log_less first (v ∷ ws) w es' log =
     let found = log_less log.0 ws w es' log.2 in
@@ -76,23 +77,24 @@ place_again (e ∷ es) fpr kept old sorted found =
     none_some o x p q = cc
 
 -- What was kept under a fingerprint leads back from what was put in its place.
-pub leads_back : (es : Entries) (fpr : Fpr) (kept : Kept) → AreSortedByFpr es → LeadsBack es (record { fpr = fpr; kept = lookup (is_fpr fpr) es }) (insert_entry fpr_cmp es fpr kept)
+pub leads_back : (es : Entries) (fpr : Fpr) (kept : Kept) → AreSortedByFpr es → LeadsBack es (record { fpr = fpr; before = Was (lookup (is_fpr fpr) es) }) (insert_entry fpr_cmp es fpr kept)
 leads_back es fpr kept sorted = record {
-  entries = (elim (lookup (is_fpr fpr) es) as (λ (o : Option Kept). lookup (is_fpr fpr) es ≡ o → back (insert_entry fpr_cmp es fpr kept) fpr o ≡ es) [
+  entries = (elim (lookup (is_fpr fpr) es) as (λ (o : Option Kept). lookup (is_fpr fpr) es ≡ o → back (insert_entry fpr_cmp es fpr kept) fpr (Was o) ≡ es) [
     | None ↦ λ absent. out_again es fpr kept absent
     | Some old ↦ λ found. place_again es fpr kept old sorted found
   ]) refl;
   present = put_found es fpr kept;
+  may = tt;
 }
 
 -- The log goes on.
-pub log_goes_on : (es new : Entries) (log log' : List Was) (fpr : Fpr) (kept : Kept) (was : Option Kept) → AreSortedByFpr es → was ≡ lookup (is_fpr fpr) es → new ≡ insert_entry fpr_cmp es fpr kept → log' ≡ log ++ record { fpr = fpr; kept = was } ∷ [] → StillLeadsBack log es log' new
+pub log_goes_on : (es new : Entries) (log log' : List TheWas) (fpr : Fpr) (kept : Kept) (was : Option Kept) → AreSortedByFpr es → was ≡ lookup (is_fpr fpr) es → new ≡ insert_entry fpr_cmp es fpr kept → log' ≡ log ++ record { fpr = fpr; before = Was was } ∷ [] → StillLeadsBack log es log' new
 log_goes_on es new log log' fpr kept was sorted w n l first leads =
-    let step : LeadsBack es (record { fpr = fpr; kept = was }) new =
-    subst (λ (o : Option Kept). LeadsBack es (record { fpr = fpr; kept = o }) new) (sym w) (subst (λ (x : Entries). LeadsBack es (record { fpr = fpr; kept = lookup (is_fpr fpr) es }) x) (sym n) (leads_back es fpr kept sorted)) in
-    subst (λ (x : List Was). IsLog first x new) (sym l) (log_more first log (record { fpr = fpr; kept = was }) es new leads step)
+    let step : LeadsBack es (record { fpr = fpr; before = Was was }) new =
+    subst (λ (o : Option Kept). LeadsBack es (record { fpr = fpr; before = Was o }) new) (sym w) (subst (λ (x : Entries). LeadsBack es (record { fpr = fpr; before = Was (lookup (is_fpr fpr) es) }) x) (sym n) (leads_back es fpr kept sorted)) in
+    subst (λ (x : List TheWas). IsLog first x new) (sym l) (log_more first log (record { fpr = fpr; before = Was was }) es new leads step)
 
-pub led_back : (first es mid : Entries) (ws log : List Was) (w : Was) → log ≡ ws ++ w ∷ [] → IsLog first log es → ((start : Entries) → LeadsBack start w es → mid ≡ start) → IsLog first ws mid
+pub led_back : (first es mid : Entries) (ws log : List TheWas) (w : TheWas) → log ≡ ws ++ w ∷ [] → IsLog first log es → ((start : Entries) → LeadsBack start w es → mid ≡ start) → IsLog first ws mid
 led_back first es mid ws log w e leads step =
-    let found = log_less first ws w es (subst (λ (l : List Was). IsLog first l es) e leads) in
+    let found = log_less first ws w es (subst (λ (l : List TheWas). IsLog first l es) e leads) in
     subst (λ (x : Entries). IsLog first ws x) (sym (step found.0 found.1)) found.2

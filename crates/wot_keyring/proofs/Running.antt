@@ -17,7 +17,7 @@ use Rattle.wot_cert.specs.Certificate.{Certificate, unite}
 use Rattle.wot_cert.specs.Counts.{items_of}
 use Rattle.wot_cert.specs.Judged.{judged, sound_of}
 use Rattle.wot_keyring.specs.declared.kept.Kept.{Kept}
-use Rattle.wot_keyring.specs.declared.staging.Was.{Was}
+use Rattle.wot_keyring.specs.declared.staging.Was.{Was as TheWas}
 use Rattle.wot_keyring.specs.declared.staging.Fault.{Fault}
 use Rattle.wot_keyring.specs.declared.staging.Fault.TheVariants.{Clash, Memory}
 use Rattle.wot_keyring.specs.declared.tally.Tally.{Tally}
@@ -95,7 +95,7 @@ not_asked p = ap (λ n. record p { asked = n }) (none_more p.asked)
 -- ---- the steps
 
 -- What one step does, where it is done.
-pub record Put (rows : PolicyRows) (stamp limit : ℕ) (c : Certificate) (es es' : Entries) (log log' : List Was) (t t' : Tally) : Type 0 where
+pub record Put (rows : PolicyRows) (stamp limit : ℕ) (c : Certificate) (es es' : Entries) (log log' : List TheWas) (t t' : Tally) : Type 0 where
   pub put : es' ≡ kept_with rows stamp es c
   pub sorted : AreSortedByFpr es'
   pub leads : StillLeadsBack log es log' es'
@@ -105,7 +105,7 @@ pub record Put (rows : PolicyRows) (stamp limit : ℕ) (c : Certificate) (es es'
   pub judged : AreJudged rows es → AreJudged rows es'
 
 -- What the steps up to now did, of those that were to be done from the first entries on.
-pub record Run (rows : PolicyRows) (stamp limit : ℕ) (all : List Certificate) (first : Entries) (log : List Was) (t : Tally) (rest : List Certificate) (es : Entries) (log' : List Was) (t' : Tally) : Type 0 where
+pub record Run (rows : PolicyRows) (stamp limit : ℕ) (all : List Certificate) (first : Entries) (log : List TheWas) (t : Tally) (rest : List Certificate) (es : Entries) (log' : List TheWas) (t' : Tally) : Type 0 where
   pub same : kept_all rows stamp es rest ≡ kept_all rows stamp first all
   pub sorted : AreSortedByFpr es
   pub leads : StillLeadsBack log first log' es
@@ -117,7 +117,7 @@ pub record Run (rows : PolicyRows) (stamp limit : ℕ) (all : List Certificate) 
 further : (u t r a b c : ℕ) → t + a ≡ r + b → u + b ≡ t + c → u + a ≡ r + c
 further u t r a b c e f = omega arith
 
-pub run_on : (rows : PolicyRows) (stamp limit : ℕ) (all : List Certificate) (first : Entries) (log : List Was) (t : Tally) (left rest : List Certificate) (c : Certificate) (es es' : Entries) (log' log2 : List Was) (t' t2 : Tally)
+pub run_on : (rows : PolicyRows) (stamp limit : ℕ) (all : List Certificate) (first : Entries) (log : List TheWas) (t : Tally) (left rest : List Certificate) (c : Certificate) (es es' : Entries) (log' log2 : List TheWas) (t' t2 : Tally)
     → Run rows stamp limit all first log t left es log' t' → left ≡ c ∷ rest → Put rows stamp limit c es es' log' log2 t' t2 → Run rows stamp limit all first log t rest es' log2 t2
 run_on rows stamp limit all first log t left rest c es es' log' log2 t' t2 run split p =
     let before : kept_all rows stamp es (c ∷ rest) ≡ kept_all rows stamp first all = ap (kept_all rows stamp es) (sym split) ∙ run.same in
@@ -142,11 +142,11 @@ pub asked_on : (rows : PolicyRows) (stamp : ℕ) (a k j : ℕ) (es es' : Entries
 asked_on rows stamp a k j es es' c e f p = summed a k _ j _ e f ∙ ap (weigh_kept sound_of) (sym p)
 
 -- what was asked up to a fault
-at_most : (a k w j v u : ℕ) → a + k ≡ w → (j ≡ 0) ⊎ (w + j ≡ v) → w ≤ v → v ≤ u → a + (k + j) ≤ u
+at_most : (a k w j v u : ℕ) → a + k ≡ w → (j ≡ 0) ⊎ (w + j ≤ v) → w ≤ v → v ≤ u → a + (k + j) ≤ u
 at_most a k w j v u e (inl f) h m = omega arith
 at_most a k w j v u e (inr f) h m = omega arith
 
-pub asked_up_to : ((x y : Certificate) → sound_of x ≤ sound_of (unite x y)) → (rows : PolicyRows) (stamp limit : ℕ) (all : List Certificate) (first : Entries) (log : List Was) (t : Tally) (left rest : List Certificate) (c : Certificate) (es : Entries) (log' : List Was) (t' : Tally) (k j : ℕ) (fault : Fault)
+pub asked_up_to : ((x y : Certificate) → sound_of x ≤ sound_of (unite x y)) → (rows : PolicyRows) (stamp limit : ℕ) (all : List Certificate) (first : Entries) (log : List TheWas) (t : Tally) (left rest : List Certificate) (c : Certificate) (es : Entries) (log' : List TheWas) (t' : Tally) (k j : ℕ) (fault : Fault)
     → Run rows stamp limit all first log t left es log' t' → left ≡ c ∷ rest → weigh_kept sound_of first + k ≡ weigh_kept sound_of es
     → AskedOnFault fault (weigh_kept sound_of es) (weigh_kept sound_of (kept_with rows stamp es c)) j
     → AskedUpTo fault (weigh_kept sound_of first) (weigh_kept sound_of (kept_all rows stamp first all)) (k + j)
@@ -158,7 +158,7 @@ asked_up_to grows rows stamp limit all first log t left rest c es log' t' k j Me
     (more_in_all sound_of grows rows stamp (kept_with rows stamp es c) rest (sorted_insert es (fpr_of c.key) (kept_as rows stamp (found_for es c) c) run.sorted)))
 
 -- a clash is told where there is one
-pub clash_told : (rows : PolicyRows) (stamp limit : ℕ) (all : List Certificate) (first : Entries) (log : List Was) (t : Tally) (left rest : List Certificate) (c : Certificate) (es : Entries) (log' : List Was) (t' : Tally) (fault : Fault)
+pub clash_told : (rows : PolicyRows) (stamp limit : ℕ) (all : List Certificate) (first : Entries) (log : List TheWas) (t : Tally) (left rest : List Certificate) (c : Certificate) (es : Entries) (log' : List TheWas) (t' : Tally) (fault : Fault)
     → Run rows stamp limit all first log t left es log' t' → left ≡ c ∷ rest → IsClashTold fault (clash_at (found_for es c) c) → IsClashTold fault (clash_in rows stamp first all)
 clash_told rows stamp limit all first log t left rest c es log' t' Clash run split clashes =
     sym run.clash ∙ ap (clash_in rows stamp es) split ∙ ap (λ b. b || clash_in rows stamp (kept_with rows stamp es c) rest) clashes

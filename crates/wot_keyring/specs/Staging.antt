@@ -3,7 +3,7 @@ use Rattle.std.specs.Prelude.{◌≡◌, ◌≤◌, ◌⊎◌, ℕ, ◌+◌, Boo
 use Rattle.std.specs.Option.{option_map}
 use Rattle.std.specs.Cmp.Lexicographic.{pointwise}
 use Rattle.std.specs.BTreeMap.{insert_entry}
-use Rattle.std.specs.Map.{lookup, remove_entry}
+use Rattle.std.specs.Map.{lookup, remove_entry, set_value}
 use Rattle.wot_types.specs.declared.fpr.Fpr.{Fpr}
 use Rattle.wot_types.specs.declared.limits.Limits.{Limits}
 use Rattle.wot_types.specs.declared.limits.Limit.{Limit}
@@ -15,11 +15,17 @@ use Rattle.wot_policy.specs.declared.rows.PolicyRows.{PolicyRows}
 use Rattle.wot_policy.specs.Kept.{asked_more, rows_of}
 use Rattle.wot_cert.specs.Assembly.{bare}
 use Rattle.wot_cert.specs.Certificate.{Certificate}
+use Rattle.wot_cert.specs.declared.growth.Growth.{Growth}
+use Rattle.wot_cert.specs.Growing.{shrunk, LeadsBack as CertLeadsBack}
 use Rattle.wot_cert.specs.Counts.{sum_of, items_of, signatures_of}
 use Rattle.wot_cert.specs.Judged.{IsJudged, judged, sound_of}
 use Rattle.wot_cert.specs.Text.{size_of}
 use Rattle.wot_keyring.specs.declared.kept.Kept.{Kept}
-use Rattle.wot_keyring.specs.declared.staging.Was.{Was}
+use Rattle.wot_keyring.specs.declared.in_place.Leap.{Leap}
+use Rattle.wot_keyring.specs.declared.in_place.Step.{Step}
+use Rattle.wot_keyring.specs.declared.staging.Before.{Before}
+use Rattle.wot_keyring.specs.declared.staging.Before.TheVariants.{Was, Smaller}
+use Rattle.wot_keyring.specs.declared.staging.Was.{Was as TheWas}
 use Rattle.wot_keyring.specs.declared.staging.Fault.{Fault}
 use Rattle.wot_keyring.specs.declared.staging.Fault.TheVariants.{Clash, Memory}
 use Rattle.wot_keyring.specs.declared.staging.Staged.{Staged}
@@ -128,10 +134,9 @@ abbrev pub found_by : (Certificate → ℕ) → Option Kept → ℕ
 found_by measure None = 0
 found_by measure (Some kept) = measure kept.cert
 
--- How often the policy was asked: once for each signature that is sound and new, or never.
+-- How often the policy was asked: never, or at most once for each signature that is sound and new.
 abbrev pub AskedOnFault : Fault → ℕ → ℕ → ℕ → Type 0
-AskedOnFault Clash old new k = k ≡ 0
-AskedOnFault Memory old new k = (k ≡ 0) ⊎ (old + k ≡ new)
+AskedOnFault fault old new k = (k ≡ 0) ⊎ (old + k ≤ new)
 
 abbrev pub AskedFor : {T : Type 0} → Result T Fault → ℕ → ℕ → ℕ → Type 0
 AskedFor (Ok done) old new k = old + k ≡ new
@@ -200,21 +205,58 @@ IsStepOf rows stamp limit es c s = IsStaged rows stamp limit (found_for es c) c 
 
 -- ---- taking back
 
+-- what is kept, without what its certificate grew by
+abbrev pub smaller : Growth → ℕ → Kept → Kept
+smaller growth stamp x = record { cert = shrunk growth x.cert; stamp = stamp }
+
+abbrev pub shrunk_found : Option Kept → Entries → Fpr → Growth → ℕ → Entries
+shrunk_found None es fpr growth stamp = es
+shrunk_found (Some x) es fpr growth stamp = set_value (is_fpr fpr) es (smaller growth stamp x)
+
+-- the entries with a certificate without what it grew by
+abbrev pub shrunk_at : Entries → Fpr → Growth → ℕ → Entries
+shrunk_at es fpr growth stamp = shrunk_found (lookup (is_fpr fpr) es) es fpr growth stamp
+
+-- What was found can be made smaller so.
+abbrev pub MayShrink : Growth → Option Kept → Type 0
+MayShrink growth None = Unit {0}
+MayShrink growth (Some x) = (old : Certificate) × CertLeadsBack growth old x.cert
+
 -- the entries with what was kept under a fingerprint before
-abbrev pub back : Entries → Fpr → Option Kept → Entries
-back es fpr None = remove_entry (is_fpr fpr) es
-back es fpr (Some kept) = insert_entry fpr_cmp es fpr kept
+abbrev pub back : Entries → Fpr → Before → Entries
+back es fpr (Was None) = remove_entry (is_fpr fpr) es
+back es fpr (Was (Some kept)) = insert_entry fpr_cmp es fpr kept
+back es fpr (Smaller growth stamp) = shrunk_at es fpr growth stamp
+
+abbrev pub MayLead : Before → Option Kept → Type 0
+MayLead (Was o) found = Unit {0}
+MayLead (Smaller growth stamp) found = MayShrink growth found
 
 -- What this says was there leads back to the first entries, and takes no memory.
-pub record LeadsBack (first : Entries) (w : Was) (es : Entries) : Type 0 where
-  pub entries : back es w.fpr w.kept ≡ first
+pub record LeadsBack (first : Entries) (w : TheWas) (es : Entries) : Type 0 where
+  pub entries : back es w.fpr w.before ≡ first
   pub present : is_some (lookup (is_fpr w.fpr) es) ≡ true
+  pub may : MayLead w.before (lookup (is_fpr w.fpr) es)
 
 -- The log leads back to the first entries, from its end on.
-abbrev pub IsLog : Entries → List Was → Entries → Type 0
+abbrev pub IsLog : Entries → List TheWas → Entries → Type 0
 IsLog first [] es = es ≡ first
 IsLog first (w ∷ ws) es = (mid : Entries) × LeadsBack first w mid × IsLog mid ws es
 
 -- what the one log leads back to, the other does
-abbrev pub StillLeadsBack : List Was → Entries → List Was → Entries → Type 0
+abbrev pub StillLeadsBack : List TheWas → Entries → List TheWas → Entries → Type 0
 StillLeadsBack log es log' es' = (first : Entries) → IsLog first log es → IsLog first log' es'
+
+-- ---- growing in place
+
+-- What a kept certificate became by another that it was united with.
+pub record GrowsTo (rows : PolicyRows) (stamp limit : ℕ) (c : Certificate) (old new : Kept) (leap : Leap) : Type 0 where
+  pub staged : IsStaged rows stamp limit (Some old) c (record { kept = new; before = leap.before; after = leap.after; items = leap.items; keys = 0 })
+  pub back : CertLeadsBack leap.growth old.cert new.cert
+  pub was : leap.stamp ≡ old.stamp
+
+-- The same among the kept ones.
+pub record IsGrownAt (rows : PolicyRows) (stamp limit : ℕ) (c : Certificate) (es es' : Entries) (s : Step) : Type 0 where
+  pub kept : Kept
+  pub put : es' ≡ insert_entry fpr_cmp es (fpr_of c.key) kept
+  pub staged : IsStaged rows stamp limit (found_for es c) c (record { kept = kept; before = s.before; after = s.after; items = s.items; keys = 0 })

@@ -8,6 +8,7 @@ mod forgetting;
 mod gather;
 mod import;
 mod importing;
+mod in_place;
 mod index;
 mod kept;
 mod keyring;

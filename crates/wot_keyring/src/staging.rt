@@ -13,24 +13,34 @@ ghost use Rattle.wot_keyring.specs.Kept.{AreSortedByFpr, AreJudged};
 ghost use Rattle.wot_keyring.specs.declared.kept.Kept.{Kept as TheKept};
 ghost use Rattle.wot_keyring.specs.Keyring.{Entries, is_fpr};
 ghost use Rattle.wot_keyring.specs.Staging.{begun, found_for, sound_found, stamp_over, clash_at, kept_with, kept_all, clash_in};
-ghost use Rattle.wot_keyring.specs.Staging.{IsStepOf, IsTally, IsThere, Counts, TellsClash, Weighs, IsLog, LeadsBack, StillLeadsBack};
+ghost use Rattle.wot_keyring.specs.Staging.{IsStepOf, IsTally, IsThere, Counts, TellsClash, Weighs, IsLog, LeadsBack, StillLeadsBack, MayShrink, shrunk_at};
 ghost use Rattle.wot_keyring.specs.Staging.{AsksForOne, AsksForAll, AsksToBecome};
 
+use crate::in_place::{is_small_beside, put_in_place};
 use crate::kept::Kept;
 use crate::keyring::{find, take_out};
 use crate::tally::{NOTHING, Tally, Weight, are_held, count, weigh_cert};
 use std::alloc::Global;
 use std::collections::BTreeMap;
 use wot_cert::laws::{marks_weigh_nothing, united_grows, united_whole, united_with_nothing};
-use wot_cert::{Cert, MergeFault};
+use wot_cert::{Cert, Growth, MergeFault};
 use wot_policy::{Ask, Policy};
 use wot_types::{Fpr, Memory};
 
 /// What was kept under a fingerprint before it was altered.
 #[derive(Drop)]
+pub(crate) enum Before {
+    /// This, or nothing.
+    Was(Option<Kept>),
+    /// What is there now, without what it grew by, and its stamp.
+    Smaller(Growth, u64),
+}
+
+/// A fingerprint, and what was kept under it.
+#[derive(Drop)]
 pub(crate) struct Was {
     pub fpr: Fpr,
-    pub kept: Option<Kept>,
+    pub before: Before,
 }
 
 /// Why certificates were not put among the kept ones.
@@ -70,19 +80,33 @@ fn keep_again(certs: &mut BTreeMap<Fpr, Kept, Global>, fpr: Fpr, kept: Kept)
     };
 }
 
+/// Takes out what a certificate grew by, and gives it its stamp again. Takes no memory.
+fn shrink_at(certs: &mut BTreeMap<Fpr, Kept, Global>, fpr: &Fpr, growth: Growth, stamp: u64)
+    requires may { MayShrink growth (lookup (is_fpr fpr.now) certs.old.entries) }
+    ensures shrunk { certs.new.entries ≡ shrunk_at certs.old.entries fpr.now growth stamp }
+{
+    if let Some(kept) = certs.get_mut(fpr) {
+        kept.cert.shrink(growth);
+        kept.stamp = stamp;
+    }
+}
+
 /// Puts back what was kept under a fingerprint. Takes no memory.
 fn put_back(certs: &mut BTreeMap<Fpr, Kept, Global>, was: Was)
+    requires leads { (first : Entries) × LeadsBack first was certs.old.entries }
     ensures back { (first : Entries) → LeadsBack first was certs.old.entries → certs.new.entries ≡ first }
 {
-    let Was { fpr, kept } = was;
-    match kept {
-        Some(kept) => keep_again(certs, fpr, kept),
-        None => take_out(certs, &fpr),
+    let Was { fpr, before } = was;
+    match before {
+        Before::Was(Some(kept)) => keep_again(certs, fpr, kept),
+        Before::Was(None) => take_out(certs, &fpr),
+        Before::Smaller(growth, stamp) => shrink_at(certs, &fpr, growth, stamp),
     }
 }
 
 /// Takes back all that a log tells of, from its end on.
 pub(crate) fn take_back(certs: &mut BTreeMap<Fpr, Kept, Global>, mut log: Vec<Was>)
+    requires leads { (first : Entries) × IsLog first log.items certs.old.entries }
     ensures back { (first : Entries) → IsLog first log.items certs.old.entries → certs.new.entries ≡ first }
 {
     'log: while let Some(was) = log.pop() {
@@ -91,7 +115,7 @@ pub(crate) fn take_back(certs: &mut BTreeMap<Fpr, Kept, Global>, mut log: Vec<Wa
 }
 
 /// Notes what was kept, where there is room.
-fn note(log: &mut Vec<Was>, was: Was)
+pub(crate) fn note(log: &mut Vec<Was>, was: Was)
     requires room { vec_len log.old < vec_capacity log.old }
     ensures noted { log.new.items ≡ log.old.items ++ was ∷ [] }
 {
@@ -111,7 +135,13 @@ pub(crate) fn put(
 {
     log.reserve(1)?;
     let was = keep(certs, fpr, kept)?;
-    note(log, Was { fpr, kept: was });
+    note(
+        log,
+        Was {
+            fpr,
+            before: Before::Was(was),
+        },
+    );
     Ok(())
 }
 
@@ -211,7 +241,7 @@ pub(crate) struct Staged {
     pub keys: u64,
 }
 
-fn stamp_of(old: Option<u64>, items: u64, stamp: u64) -> u64
+pub(crate) fn stamp_of(old: Option<u64>, items: u64, stamp: u64) -> u64
     ensures { result ≡ stamp_over stamp old items }
 {
     match old {
@@ -276,8 +306,8 @@ fn take_step<F: Fn(Ask) -> bool>(
     }
 }
 
-/// Unites a certificate with the kept ones, by a policy, notes what was kept, and counts. After a fault the log still
-/// leads back.
+/// Unites a certificate with a copy of what is kept, by a policy, notes what was kept, and counts. After a fault the
+/// log still leads back.
 fn put_one<F: Fn(Ask) -> bool>(
     alloc: Global,
     certs: &mut BTreeMap<Fpr, Kept, Global>,
@@ -304,12 +334,43 @@ fn put_one<F: Fn(Ask) -> bool>(
         Ok(step) => step,
         Err(fault) => return Err(fault),
     };
-    let Ok(()) = count(tally, &step) else {
+    let Ok(()) = count(tally, &step.before, &step.after, step.items, step.keys) else {
         return Err(Fault::Memory);
     };
     match put(certs, log, cert.fpr(), step.kept) {
         Ok(()) => Ok(()),
         Err(Memory) => Err(Fault::Memory),
+    }
+}
+
+/// Unites a certificate with the kept ones, by a policy, notes what was kept, and counts: in place where it is small
+/// beside the kept one, by a copy else. After a fault the log still leads back.
+fn put_next<F: Fn(Ask) -> bool>(
+    alloc: Global,
+    certs: &mut BTreeMap<Fpr, Kept, Global>,
+    log: &mut Vec<Was>,
+    tally: &mut Tally,
+    cert: &Cert,
+    terms: &Terms,
+    policy: &mut Policy<F>,
+) -> Result<(), Fault>
+    requires faithful { IsFaithful F.Fn policy.old }
+    requires sorted { AreSortedByFpr certs.old.entries }
+    requires tallied { IsTally terms.now.limit certs.old.entries tally.old.total }
+    ensures put { OnOk result (certs.new.entries ≡ kept_with (rows_of policy.old) terms.now.stamp certs.old.entries cert.now) }
+    ensures sorted { OnOk result (AreSortedByFpr certs.new.entries) }
+    ensures log { StillLeadsBack log.old.items certs.old.entries log.new.items certs.new.entries }
+    ensures tallied { OnOk result (IsTally terms.now.limit certs.new.entries tally.new.total) }
+    ensures fresh { OnOk result (Counts certs.old.entries certs.new.entries tally.old tally.new) }
+    ensures clash { TellsClash result (clash_at (found_for certs.old.entries cert.now) cert.now) }
+    ensures asked { AsksForOne result policy.old policy.new terms.now.stamp certs.old.entries cert.now }
+    ensures judged { OnOk result (AreJudged (rows_of policy.old) certs.old.entries → AreJudged (rows_of policy.old) certs.new.entries) }
+    ensures faithful { IsFaithful F.Fn policy.new }
+{
+    if is_small_beside(certs, cert) {
+        put_in_place(alloc, certs, log, tally, cert, terms, policy)
+    } else {
+        put_one(alloc, certs, log, tally, cert, terms, policy)
     }
 }
 
@@ -340,7 +401,7 @@ pub(crate) fn put_all<F: Fn(Ask) -> bool>(
     united_grows();
     let mut left = list;
     'left: while let Some((cert, rest)) = left.split_first() {
-        match put_one(alloc, certs, log, tally, cert, terms, policy) {
+        match put_next(alloc, certs, log, tally, cert, terms, policy) {
             Ok(()) => {}
             Err(fault) => return Err(fault),
         }

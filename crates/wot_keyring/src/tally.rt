@@ -2,7 +2,6 @@ ghost use Rattle.std.specs.Prelude.{◌≡◌, ◌+◌, ◌≤◌, ◌<◌, ◌^
 ghost use Rattle.wot_cert.specs.Text.{size_of};
 ghost use Rattle.wot_keyring.specs.Staging.{CanMove, Moves, Weighs};
 
-use crate::staging::Staged;
 use wot_cert::Cert;
 use wot_types::Memory;
 
@@ -88,15 +87,21 @@ fn plus(count: u64, more: u64) -> Result<u64, Memory>
     }
 }
 
-/// Counts what a step did.
-pub(crate) fn count(tally: &mut Tally, step: &Staged) -> Result<(), Memory>
-    requires can { CanMove step.now.before step.now.after tally.old.total }
-    ensures moved { OnOk result (Moves step.now.before step.now.after tally.old.total tally.new.total) }
-    ensures fresh { OnOk result (tally.new.fresh ≡ tally.old.fresh + step.now.items + step.now.keys) }
+/// Counts what became of one certificate: what it weighed and weighs, and how many items and keys are new.
+pub(crate) fn count(
+    tally: &mut Tally,
+    before: &Weight,
+    after: &Weight,
+    items: u64,
+    keys: u64,
+) -> Result<(), Memory>
+    requires can { CanMove before.now after.now tally.old.total }
+    ensures moved { OnOk result (Moves before.now after.now tally.old.total tally.new.total) }
+    ensures fresh { OnOk result (tally.new.fresh ≡ tally.old.fresh + items + keys) }
 {
-    let total = moved_weight(&tally.total, &step.before, &step.after)?;
-    let more = plus(tally.fresh, step.items)?;
-    let fresh = plus(more, step.keys)?;
+    let total = moved_weight(&tally.total, before, after)?;
+    let more = plus(tally.fresh, items)?;
+    let fresh = plus(more, keys)?;
     tally.total = total;
     tally.fresh = fresh;
     Ok(())

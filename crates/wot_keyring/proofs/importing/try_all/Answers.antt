@@ -1,6 +1,6 @@
 use Rattle.std.proofs.Common.{List, sym, ◌∙◌, subst, refl}
 use Rattle.wot_policy.specs.Kept.{rows_of}
-use Rattle.wot_keyring.specs.declared.staging.Was.{Was}
+use Rattle.wot_keyring.specs.declared.staging.Was.{Was as TheWas}
 use Rattle.wot_keyring.specs.Staging.{IsLog, IsTally, IsClashTold}
 use Rattle.wot_keyring.proofs.Clashes.{clashes_told}
 use Rattle.wot_keyring.proofs.Trying.{tried_full}
@@ -17,7 +17,7 @@ returns-in-Ok-clause-full c = λ rows.
 pub returns-in-Ok-clause-same : goal.returns-in-Ok-clause-same
 returns-in-Ok-clause-same c =
     let es = c.args.certs.now.entries in
-    c.take_back.ensures.back es (c.put_all-tried.ensures.log es (subst (λ (ws : List Was). IsLog es ws es) (sym c.new-trial.ensures.items) refl))
+    c.take_back.ensures.back es (c.put_all-tried.ensures.log es (subst (λ (ws : List TheWas). IsLog es ws es) (sym c.new-trial.ensures.items) refl))
 
 pub returns-in-Ok-clause-clash : goal.returns-in-Ok-clause-clash
 returns-in-Ok-clause-clash c =
@@ -26,8 +26,13 @@ returns-in-Ok-clause-clash c =
 pub returns-in-Err-clause-same : goal.returns-in-Err-clause-same
 returns-in-Err-clause-same c =
     let es = c.args.certs.now.entries in
-    c.take_back.ensures.back es (c.put_all-tried.ensures.log es (subst (λ (ws : List Was). IsLog es ws es) (sym c.new-trial.ensures.items) refl))
+    c.take_back.ensures.back es (c.put_all-tried.ensures.log es (subst (λ (ws : List TheWas). IsLog es ws es) (sym c.new-trial.ensures.items) refl))
 
 pub returns-in-Err-clause-clash : goal.returns-in-Err-clause-clash
 returns-in-Err-clause-clash c =
     subst (IsClashTold c.in-Err.fault) (sym (clashes_told (rows_of c.new-policy.result) c.args.terms.now.stamp c.args.certs.now.entries c.args.list.now c.requires.named c.requires.sorted)) c.in-Err.ensures.clash
+
+pub take_back-requires : goal.take_back-requires
+take_back-requires c =
+    let es = c.args.certs.now.entries in
+    record { leads = (es, c.put_all-tried.ensures.log es (subst (λ (ws : List TheWas). IsLog es ws es) (sym c.new-trial.ensures.items) refl)) }

@@ -3,6 +3,7 @@ use Rattle.std.specs.BTreeMap.{insert_entry}
 use Rattle.wot_types.specs.declared.fpr.Fpr.{Fpr}
 use Rattle.wot_types.specs.Fpr.{fpr_cmp}
 use Rattle.wot_policy.specs.Kept.{rows_of}
+use Rattle.wot_keyring.proofs.InPlace.{no_more}
 use Rattle.wot_keyring.proofs.Steps.{may_move, tally_moved, fresh_moved, judged_moved, asked_moved}
 use Rattle.wot_keyring.proofs.staging.put_one.Goals as goal
 
@@ -13,7 +14,7 @@ count-requires g c =
 pub returns-in_default-clause-asked : goal.returns-in_default-clause-asked
 returns-in_default-clause-asked g c =
     let a = c.in-Ok.ensures.asked in
-    (a.0, a.1, inr (asked_moved (rows_of c.args.policy.now) c.args.terms.now.stamp c.args.terms.now.limit c.args.certs.now.entries c.args.certs.now.entries c.args.cert.now c.in-Ok.step c.in-Ok.ensures.step c.requires.sorted a.0 a.2))
+    (a.0, a.1, inr (no_more _ _ (asked_moved (rows_of c.args.policy.now) c.args.terms.now.stamp c.args.terms.now.limit c.args.certs.now.entries c.args.certs.now.entries c.args.cert.now c.in-Ok.step c.in-Ok.ensures.step c.requires.sorted a.0 a.2)))
 
 pub returns-in-Ok-put-clause-tallied : goal.returns-in-Ok-put-clause-tallied
 returns-in-Ok-put-clause-tallied g c =
@@ -40,4 +41,4 @@ returns-in-Ok-put-clause-judged g c =
 pub returns-in-Err-put-clause-asked : goal.returns-in-Err-put-clause-asked
 returns-in-Err-put-clause-asked g c =
     let a = c.in-Ok.ensures.asked in
-    (a.0, a.1, inr (asked_moved (rows_of c.args.policy.now) c.args.terms.now.stamp c.args.terms.now.limit c.args.certs.now.entries c.args.certs.now.entries c.args.cert.now c.in-Ok.step c.in-Ok.ensures.step c.requires.sorted a.0 a.2))
+    (a.0, a.1, inr (no_more _ _ (asked_moved (rows_of c.args.policy.now) c.args.terms.now.stamp c.args.terms.now.limit c.args.certs.now.entries c.args.certs.now.entries c.args.cert.now c.in-Ok.step c.in-Ok.ensures.step c.requires.sorted a.0 a.2)))

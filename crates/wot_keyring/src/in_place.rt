@@ -1,0 +1,177 @@
+//! Uniting a certificate with the kept one in place, so that it costs what it brings, however much is kept.
+ghost use Rattle.std.specs.Prelude.{◌≡◌, ◌<◌, vec_len, vec_capacity, IfOk, OnOk, OnErr, Some};
+ghost use Rattle.wot_policy.specs.Kept.{IsFaithful, rows_of};
+ghost use Rattle.wot_cert.specs.Certificate.{unite};
+ghost use Rattle.wot_cert.specs.Growing.{AsksUpTo};
+ghost use Rattle.wot_cert.specs.Judged.{judged, sound_of};
+ghost use Rattle.wot_keyring.specs.Kept.{AreSortedByFpr, AreJudged};
+ghost use Rattle.wot_keyring.specs.Staging.{clash_at, found_for, joined, kept_with, sound_found, AsksForOne, Counts, GrowsTo, IsGrownAt, IsTally, StillLeadsBack};
+ghost use Rattle.wot_keyring.specs.Staging.{TellsClash};
+
+use crate::kept::Kept;
+use crate::keyring::find;
+use crate::staging::{Before, Fault, Terms, Was, note, stamp_of};
+use crate::tally::{Tally, Weight, are_held, count, weigh_cert};
+use std::alloc::Global;
+use std::collections::BTreeMap;
+use wot_cert::laws::{marks_weigh_nothing, united_grows};
+use wot_cert::{Cert, Growth, MergeFault};
+use wot_policy::{Ask, Policy};
+use wot_types::Fpr;
+
+/// By how much a kept certificate has to be larger than what it is united with, to grow in place: what is put in place
+/// moves what stands behind it.
+const LARGER: u64 = 16;
+
+/// Whether a certificate is small beside the kept one of its fingerprint.
+pub(crate) fn is_small_beside(certs: &BTreeMap<Fpr, Kept, Global>, cert: &Cert) -> bool {
+    match find(certs, &cert.fpr()) {
+        Some(kept) => cert.size() < kept.cert.size() / LARGER,
+        None => false,
+    }
+}
+
+/// What a kept certificate grew by.
+#[derive(Drop)]
+pub(crate) struct Leap {
+    before: Weight,
+    after: Weight,
+    growth: Growth,
+    /// The components and signatures that are new.
+    items: u64,
+    /// The stamp that it had.
+    stamp: u64,
+}
+
+/// Unites a kept certificate with another, by a policy, and gives it the stamp where something was added.
+fn grow_kept<F: Fn(Ask) -> bool>(
+    alloc: Global,
+    kept: &mut Kept,
+    cert: &Cert,
+    terms: &Terms,
+    policy: &mut Policy<F>,
+) -> Result<Leap, Fault>
+    requires faithful { IsFaithful F.Fn policy.old }
+    ensures grows { IfOk result (GrowsTo (rows_of policy.old) terms.now.stamp terms.now.limit cert.now kept.old kept.new) }
+    ensures same { OnErr result (kept.new ≡ kept.old) }
+    ensures clash { TellsClash result (clash_at (Some kept.old) cert.now) }
+    ensures asked { AsksUpTo result policy.old policy.new (sound_of kept.old.cert) (sound_of (unite kept.old.cert (judged (rows_of policy.old) cert.now))) }
+    ensures faithful { IsFaithful F.Fn policy.new }
+{
+    united_grows();
+    marks_weigh_nothing();
+    if !are_held(&kept.cert, cert) {
+        return Err(Fault::Memory);
+    }
+    let before = weigh_cert(&kept.cert, terms.limit);
+    match kept.cert.grow(alloc, cert, policy) {
+        Ok(growth) => {
+            let items = growth.items;
+            let stamp = kept.stamp;
+            kept.stamp = stamp_of(Some(stamp), items, terms.stamp);
+            Ok(Leap {
+                before,
+                after: weigh_cert(&kept.cert, terms.limit),
+                growth,
+                items,
+                stamp,
+            })
+        }
+        Err(MergeFault::Clash) => Err(Fault::Clash),
+        Err(MergeFault::Memory) => Err(Fault::Memory),
+    }
+}
+
+/// What became of a kept certificate.
+#[derive(Clone, Copy)]
+struct Step {
+    before: Weight,
+    after: Weight,
+    items: u64,
+}
+
+/// Unites the kept certificate of a fingerprint with another, and notes what it grew by, where there is room.
+fn grow_at<F: Fn(Ask) -> bool>(
+    alloc: Global,
+    certs: &mut BTreeMap<Fpr, Kept, Global>,
+    log: &mut Vec<Was>,
+    cert: &Cert,
+    terms: &Terms,
+    policy: &mut Policy<F>,
+) -> Result<Step, Fault>
+    requires faithful { IsFaithful F.Fn policy.old }
+    requires sorted { AreSortedByFpr certs.old.entries }
+    requires room { vec_len log.old < vec_capacity log.old }
+    ensures grown { IfOk result (IsGrownAt (rows_of policy.old) terms.now.stamp terms.now.limit cert.now certs.old.entries certs.new.entries) }
+    ensures log { StillLeadsBack log.old.items certs.old.entries log.new.items certs.new.entries }
+    ensures clash { TellsClash result (clash_at (found_for certs.old.entries cert.now) cert.now) }
+    ensures asked { AsksUpTo result policy.old policy.new (sound_found certs.old.entries cert.now)
+        (sound_of (joined (rows_of policy.old) (found_for certs.old.entries cert.now) cert.now)) }
+    ensures faithful { IsFaithful F.Fn policy.new }
+{
+    let fpr = cert.fpr();
+    match certs.get_mut(&fpr) {
+        Some(kept) => match grow_kept(alloc, kept, cert, terms, policy) {
+            Ok(leap) => {
+                let Leap {
+                    before,
+                    after,
+                    growth,
+                    items,
+                    stamp,
+                } = leap;
+                note(
+                    log,
+                    Was {
+                        fpr,
+                        before: Before::Smaller(growth, stamp),
+                    },
+                );
+                Ok(Step {
+                    before,
+                    after,
+                    items,
+                })
+            }
+            Err(fault) => Err(fault),
+        },
+        None => Err(Fault::Memory),
+    }
+}
+
+/// Unites a certificate with the kept one of its fingerprint in place, by a policy, notes what it grew by, and counts.
+/// After a fault the log still leads back.
+pub(crate) fn put_in_place<F: Fn(Ask) -> bool>(
+    alloc: Global,
+    certs: &mut BTreeMap<Fpr, Kept, Global>,
+    log: &mut Vec<Was>,
+    tally: &mut Tally,
+    cert: &Cert,
+    terms: &Terms,
+    policy: &mut Policy<F>,
+) -> Result<(), Fault>
+    requires faithful { IsFaithful F.Fn policy.old }
+    requires sorted { AreSortedByFpr certs.old.entries }
+    requires tallied { IsTally terms.now.limit certs.old.entries tally.old.total }
+    ensures put { OnOk result (certs.new.entries ≡ kept_with (rows_of policy.old) terms.now.stamp certs.old.entries cert.now) }
+    ensures sorted { OnOk result (AreSortedByFpr certs.new.entries) }
+    ensures log { StillLeadsBack log.old.items certs.old.entries log.new.items certs.new.entries }
+    ensures tallied { OnOk result (IsTally terms.now.limit certs.new.entries tally.new.total) }
+    ensures fresh { OnOk result (Counts certs.old.entries certs.new.entries tally.old tally.new) }
+    ensures clash { TellsClash result (clash_at (found_for certs.old.entries cert.now) cert.now) }
+    ensures asked { AsksForOne result policy.old policy.new terms.now.stamp certs.old.entries cert.now }
+    ensures judged { OnOk result (AreJudged (rows_of policy.old) certs.old.entries → AreJudged (rows_of policy.old) certs.new.entries) }
+    ensures faithful { IsFaithful F.Fn policy.new }
+{
+    let Ok(()) = log.reserve(1) else {
+        return Err(Fault::Memory);
+    };
+    let step = match grow_at(alloc, certs, log, cert, terms, policy) {
+        Ok(step) => step,
+        Err(fault) => return Err(fault),
+    };
+    let Ok(()) = count(tally, &step.before, &step.after, step.items, 0) else {
+        return Err(Fault::Memory);
+    };
+    Ok(())
+}
