@@ -364,7 +364,8 @@ impl Cert {
         ensures judged { IsJudged (rows_of policy.old) self.old → IsJudged (rows_of policy.old) self.new }
         ensures back { IfOk result (λ growth. LeadsBack growth self.old self.new) }
         ensures items { IfOk result (λ growth. growth.items + items_of self.old ≡ items_of self.new) }
-        ensures asked { AsksUpTo result policy.old policy.new (sound_of self.old) (sound_of (unite self.old (judged (rows_of policy.old) other.now))) }
+        ensures asked { AsksUpTo result policy.old policy.new
+            (sound_of self.old) (sound_of (unite self.old (judged (rows_of policy.old) other.now))) }
         ensures clash { ClashesExactly self.old other.now result }
         ensures kept { OnErr result (self.new ≡ self.old) }
         ensures faithful { IsFaithful F.Fn policy.new }

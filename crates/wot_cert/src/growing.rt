@@ -87,7 +87,8 @@ fn put_sig<F: Fn(Ask) -> bool>(
     ensures same { OnErr result (sigs.new.items ≡ sigs.old.items) }
     ensures back { without_all log.new.items sigs.new.items ≡ without_all log.old.items sigs.old.items }
     ensures follow { OnOk result (FollowSigs totals.old totals.new sigs.old.items sigs.new.items) }
-    ensures asked { (k : ℕ) × (policy.new ≡ asked_more k policy.old) × (k + sum_of if_sound sigs.old.items ≡ sum_of if_sound sigs.new.items) }
+    ensures asked { (k : ℕ) × (policy.new ≡ asked_more k policy.old)
+        × (k + sum_of if_sound sigs.old.items ≡ sum_of if_sound sigs.new.items) }
     ensures faithful { IsFaithful F.Fn policy.new }
 {
     match find_sig(sigs, sig) {
@@ -179,7 +180,8 @@ fn grow_part<F: Fn(Ask) -> bool>(
     requires within { at < vec_len parts.old }
     requires log_room { vec_len log.old < vec_capacity log.old }
     requires there { (like : Component) → like.body ≡ part.now.body → TellsPlace part_cmp unite_part like parts.old.items (Ok at) }
-    ensures put { OnOk result (parts.new.items ≡ put part_cmp unite_part (part_with (judged_sig (rows_of policy.old)) part.now) parts.old.items) }
+    ensures put { OnOk result (parts.new.items
+        ≡ put part_cmp unite_part (part_with (judged_sig (rows_of policy.old)) part.now) parts.old.items) }
     ensures same { OnErr result (parts.new.items ≡ parts.old.items) }
     ensures back { parts_back log.new.items parts.new.items ≡ parts_back log.old.items parts.old.items }
     ensures follow { OnOk result (FollowParts totals.old totals.new parts.old.items parts.new.items) }
@@ -224,7 +226,8 @@ fn put_new_part<F: Fn(Ask) -> bool>(
     requires log_room { vec_len log.old < vec_capacity log.old }
     requires within { at ≤ vec_len parts.old }
     requires there { (like : Component) → like.body ≡ part.now.body → TellsPlace part_cmp unite_part like parts.old.items (Err at) }
-    ensures put { OnOk result (parts.new.items ≡ put part_cmp unite_part (part_with (judged_sig (rows_of policy.old)) part.now) parts.old.items) }
+    ensures put { OnOk result (parts.new.items
+        ≡ put part_cmp unite_part (part_with (judged_sig (rows_of policy.old)) part.now) parts.old.items) }
     ensures same { OnErr result (parts.new.items ≡ parts.old.items) }
     ensures back { parts_back log.new.items parts.new.items ≡ parts_back log.old.items parts.old.items }
     ensures follow { OnOk result (FollowParts totals.old totals.new parts.old.items parts.new.items) }
@@ -254,7 +257,8 @@ fn put_part<F: Fn(Ask) -> bool>(
     requires faithful { IsFaithful F.Fn policy.old }
     requires rises { IsRising part_cmp parts.old.items }
     requires fits { PartFits part.now }
-    ensures put { OnOk result (parts.new.items ≡ put part_cmp unite_part (part_with (judged_sig (rows_of policy.old)) part.now) parts.old.items) }
+    ensures put { OnOk result (parts.new.items
+        ≡ put part_cmp unite_part (part_with (judged_sig (rows_of policy.old)) part.now) parts.old.items) }
     ensures same { OnErr result (parts.new.items ≡ parts.old.items) }
     ensures back { parts_back log.new.items parts.new.items ≡ parts_back log.old.items parts.old.items }
     ensures follow { OnOk result (FollowParts totals.old totals.new parts.old.items parts.new.items) }
@@ -284,7 +288,8 @@ pub(crate) fn put_parts<F: Fn(Ask) -> bool>(
     requires faithful { IsFaithful F.Fn policy.old }
     requires rises { IsRising part_cmp parts.old.items }
     requires fit { AllByRecursion PartFits more.now }
-    ensures union { OnOk result (parts.new.items ≡ unite_parts parts.old.items (map (part_with (judged_sig (rows_of policy.old))) more.now)) }
+    ensures union { OnOk result (parts.new.items
+        ≡ unite_parts parts.old.items (map (part_with (judged_sig (rows_of policy.old))) more.now)) }
     ensures back { parts_back log.new.items parts.new.items ≡ parts_back log.old.items parts.old.items }
     ensures follow { OnOk result (FollowParts totals.old totals.new parts.old.items parts.new.items) }
     ensures asked { AsksUpTo result policy.old policy.new (sum_of sound_weight parts.old.items)

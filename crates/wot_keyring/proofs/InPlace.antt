@@ -71,7 +71,7 @@ grown_goes_on es new log log' fpr x y growth stamp found n leads s l first led =
     let there : lookup (is_fpr fpr) new ≡ Some y = ap (lookup (is_fpr fpr)) n ∙ set_found es fpr x y found in
     let small : smaller growth stamp y ≡ x = (λ i. record { cert = leads.shrunk i; stamp = s i }) in
     let back : shrunk_found (lookup (is_fpr fpr) new) new fpr growth stamp ≡ es =
-        ap (λ (o : Option Kept). shrunk_found o new fpr growth stamp) there ∙ (λ i. set_value (is_fpr fpr) (n i) (small i)) ∙ set_again es fpr x y found in
+    ap (λ (o : Option Kept). shrunk_found o new fpr growth stamp) there ∙ (λ i. set_value (is_fpr fpr) (n i) (small i)) ∙ set_again es fpr x y found in
     let step : LeadsBack es (record { fpr = fpr; before = Smaller growth stamp }) new = record {
       entries = back;
       present = some_found _ y there;

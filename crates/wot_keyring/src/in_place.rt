@@ -55,7 +55,8 @@ fn grow_kept<F: Fn(Ask) -> bool>(
     ensures grows { IfOk result (GrowsTo (rows_of policy.old) terms.now.stamp terms.now.limit cert.now kept.old kept.new) }
     ensures same { OnErr result (kept.new ≡ kept.old) }
     ensures clash { TellsClash result (clash_at (Some kept.old) cert.now) }
-    ensures asked { AsksUpTo result policy.old policy.new (sound_of kept.old.cert) (sound_of (unite kept.old.cert (judged (rows_of policy.old) cert.now))) }
+    ensures asked { AsksUpTo result policy.old policy.new
+        (sound_of kept.old.cert) (sound_of (unite kept.old.cert (judged (rows_of policy.old) cert.now))) }
     ensures faithful { IsFaithful F.Fn policy.new }
 {
     united_grows();
@@ -102,7 +103,8 @@ fn grow_at<F: Fn(Ask) -> bool>(
     requires faithful { IsFaithful F.Fn policy.old }
     requires sorted { AreSortedByFpr certs.old.entries }
     requires room { vec_len log.old < vec_capacity log.old }
-    ensures grown { IfOk result (IsGrownAt (rows_of policy.old) terms.now.stamp terms.now.limit cert.now certs.old.entries certs.new.entries) }
+    ensures grown { IfOk result
+        (IsGrownAt (rows_of policy.old) terms.now.stamp terms.now.limit cert.now certs.old.entries certs.new.entries) }
     ensures log { StillLeadsBack log.old.items certs.old.entries log.new.items certs.new.entries }
     ensures clash { TellsClash result (clash_at (found_for certs.old.entries cert.now) cert.now) }
     ensures asked { AsksUpTo result policy.old policy.new (sound_found certs.old.entries cert.now)

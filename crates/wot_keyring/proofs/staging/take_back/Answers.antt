@@ -15,7 +15,7 @@ pub log-preserved : goal.log-preserved
 log-preserved c =
     let led = c.log.invariant.some in
     let next : (first : Entries) → IsLog first c.log.log.items c.log.certs.entries → IsLog first c.pop.new.self.items c.put_back.new.certs.entries =
-        λ first leads. led_back first c.log.certs.entries c.put_back.new.certs.entries c.pop.new.self.items c.log.log.items c.in-Some.was c.in-Some.ensures.items leads c.put_back.ensures.back in
+    λ first leads. led_back first c.log.certs.entries c.put_back.new.certs.entries c.pop.new.self.items c.log.log.items c.in-Some.was c.in-Some.ensures.items leads c.put_back.ensures.back in
     record {
       some = (led.0, next led.0 led.1);
       still = λ first leads. next first (c.log.invariant.still first leads);
