@@ -6,7 +6,10 @@ use crate::roads::{A, B, C, Row, S, T, U, key, network, roots_of};
 use std::alloc::Global;
 use wot_edge::plain::PlainRoads;
 use wot_edge::{Path, Roads, Roots, Used};
-use wot_search::{Consulted, Reach, Unnoted, make_reach, next_path, next_path_within};
+use wot_search::{
+    Consulted, Reach, Unnoted, make_reach, next_offered, next_path, next_path_within,
+    next_paths_within,
+};
 use wot_types::Memory;
 
 /// A question about a user ID of the key 4, and its first two paths: the amount, 0 for none, and the
@@ -405,6 +408,69 @@ fn layers_are_searched(alloc: Global) -> Result<bool, Memory> {
 #[test]
 fn thirty_layers_of_two(rt: HostRuntime) {
     assert!(rt; layers_are_searched(rt.alloc()) == Ok(true));
+}
+
+// Three roots behind one key.
+static HUB: [Row; 4] = [
+    Row(1, 2, A, 1, 1),
+    Row(2, 4, T, 0, 120),
+    Row(3, 2, A, 1, 1),
+    Row(5, 2, A, 1, 1),
+];
+
+/// The next paths of three roots, and what is the first of no earlier offers.
+fn hub_offers(alloc: Global) -> Result<(Vec<Path>, Option<Path>), Memory> {
+    let roads = network(alloc, &HUB, 0, 0)?;
+    let roots = roots_of(alloc, &[(1, 1), (3, 1), (5, 1)])?;
+    let reach = reach_of(alloc, &roads, &roots)?;
+    offers_within(alloc, &roads, &roots, &reach)
+}
+
+fn offers_within<R: Roads>(
+    alloc: Global,
+    roads: &R,
+    roots: &Roots,
+    reach: &Reach,
+) -> Result<(Vec<Path>, Option<Path>), Memory>
+    requires reach { IsReach (R.told roads.now) roots.now (number_at reach.now) }
+{
+    let none = Used::new(alloc);
+    let all = next_paths_within(
+        alloc,
+        roads,
+        roots,
+        reach,
+        &none,
+        &key(4),
+        &[T],
+        &mut Unnoted,
+    )?;
+    let mut offers = Vec::new(alloc);
+    let first = next_offered(
+        alloc,
+        roads,
+        roots,
+        reach,
+        &none,
+        &key(4),
+        &[T],
+        &mut offers,
+        &mut Unnoted,
+    )?;
+    Ok((all, first))
+}
+
+#[test]
+fn roots_behind_one_key(rt: HostRuntime) {
+    let (all, first) = hub_offers(rt.alloc()).expect(&rt, "memory");
+    assert!(rt; all.len() == 3);
+    for (path, root) in all.iter().zip(&[1u8, 3, 5]) {
+        assert!(rt;
+            path.amount == 1 && has_steps(path, &[(*root, A), (2, T)]),
+            "{root}"
+        );
+    }
+    assert!(rt; is_found(&first, 1, &[(1, A), (2, T)]));
 }
 
 /// What a search for the user ID `t` of the key 4 looks at.
