@@ -19,9 +19,9 @@ use wot_policy::{Ask, Policy};
 /// Runs the program on the words after its name, and answers its exit status:
 /// 0 where the input was read to its end and every reply was written, 2 where the arguments are wrong,
 /// 3 after a failed read, 4 after a failed write, 5 for want of memory, and 6 where 2^30 octets were taken before the
-/// end. For each line the reply is written whole before more is read; the replies to the lines that one read brought are
-/// written together. The shelf is the certificate directory, from which `load` reads. The policy says which signatures
-/// are admitted; it is asked once for each sound signature that an import or a load adds.
+/// end. For each line the reply is written whole before more is read; the replies to the lines that one read brought
+/// are written together. The shelf is the certificate directory, from which `load` reads. The policy says which
+/// signatures are admitted; it is asked once for each sound signature that an import or a load adds.
 ///
 /// With `gen X N` neither input nor shelf is called. A script is made of X and N and answered over an empty shelf in
 /// memory, and three lines on it are written; the status is 0, 4 or 5.
