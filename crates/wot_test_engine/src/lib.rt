@@ -26,4 +26,6 @@ mod rows;
 #[cfg(test)]
 mod shelf;
 #[cfg(test)]
+mod together;
+#[cfg(test)]
 mod version_6;
