@@ -42,6 +42,13 @@ module _ {T : Type 0} where
   is_write (Err Memory) e = absurd (omega (arith, e))
   is_write (Err TooMuch) e = absurd (omega (arith, e))
 
+  pub is_memory : (r : Result T Stop) → status_at r ≡ 5 → IsErrOf r Memory
+  is_memory (Ok value) e = absurd (omega (arith, e))
+  is_memory (Err Read) e = absurd (omega (arith, e))
+  is_memory (Err Write) e = absurd (omega (arith, e))
+  is_memory (Err Memory) e = refl
+  is_memory (Err TooMuch) e = absurd (omega (arith, e))
+
   pub is_much : (r : Result T Stop) → status_at r ≡ 6 → IsErrOf r TooMuch
   is_much (Ok value) e = absurd (omega (arith, e))
   is_much (Err Read) e = absurd (omega (arith, e))

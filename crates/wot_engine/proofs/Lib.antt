@@ -15,6 +15,7 @@ pub mod Making
 mod Short
 mod Progress
 mod Turns
+mod Held
 mod Taking
 pub mod Unchanged
 mod Replying

@@ -4,14 +4,15 @@ use Rattle.std.proofs.lemmas.List.{append-nil, take_at, take-append-le, append_c
 use Rattle.std.proofs.Math.Seq.{take-append-add}
 use Rattle.std.proofs.lemmas.Grind.{flat_map-append}
 use Rattle.wot_io.specs.Input.{lines_of, whole_lines_of, HasNoFeed}
-use Rattle.wot_io.specs.Fill.{GivesOf, StopsOf}
+use Rattle.wot_io.specs.Fill.{GivesOf, StopsOf, Took}
+use Rattle.wot_io.specs.Source.{Loses, LosesOf}
 use Rattle.wot_script.specs.declared.reply.Reply.{Reply}
 use Rattle.wot_script.specs.Replies.{reply_text}
 use Rattle.wot_certd.specs.World.{World}
 use Rattle.wot_cache.specs.State.{State, start}
 use Rattle.wot_engine.specs.Law.{OneOutcome}
 use Rattle.wot_engine.specs.Scene.{Scene, Step, opening}
-use Rattle.wot_engine.specs.Transcript.{Run, RepliesTo, Answered, Begun, AnsweredWhole, AnsweredMost, listed, octets_of}
+use Rattle.wot_engine.specs.Transcript.{Run, RepliesTo, Answered, AnsweredFirst, Begun, AnsweredWhole, AnsweredMost, listed, octets_of}
 use Rattle.wot_engine.proofs.Giving.{IsNow, over}
 use Rattle.wot_engine.proofs.Runs.{Run-some, Run-append}
 use Rattle.wot_engine.proofs.CutLines.{lines_of-feed, whole_lines_of-feed, whole_lines_of-none, lines_of-last}
@@ -83,6 +84,32 @@ module _ (rows : PolicyRows) (origin : Option World) (world : World) where
   nil-both : (xs ys : List ℕ) → xs ++ ys ≡ [] → (xs ≡ []) × (ys ≡ [])
   nil-both [] ys e = (refl, e)
   nil-both (x ∷ xs) ys e = absurd cc
+
+  -- more octets were taken, and are held
+  pub took_on : (input before held : List ℕ) (taken : ℕ) (left written : Option (List ℕ)) (shelf : Option World) (state : State) (left' : Option (List ℕ)) (taken' : ℕ) → Stands input before held taken left written shelf state → (t : Took left taken left' taken')
+      → Stands input before (held ++ t.gone) taken' left' written shelf state
+  took_on input before held taken left written shelf state left' taken' s t =
+      let l : LosesOf s.rest left' t.gone = subst (λ (o : Option (List ℕ)). Loses o left' t.gone) s.left_is t.loses in
+      record {
+        gone = s.gone;
+        rest = l.rest;
+        done = s.done;
+        replies = s.replies;
+        now = s.now;
+        left_is = l.left_is;
+        count = omega (arith, s.count, t.count, ap length l.parts, length-append t.gone l.rest);
+        parts = s.parts ∙ ap (λ (x : List ℕ). s.gone ++ (held ++ x)) l.parts ∙ ap (λ (x : List ℕ). s.gone ++ x) (sym (append_assoc held t.gone l.rest));
+        is_now = s.is_now;
+        run = s.run;
+        written_is = s.written_is;
+        lines = elim s.lines [
+          | inl prefix ↦ inl prefix
+          | inr ended ↦
+              let none : s.rest ≡ [] = (nil-both held s.rest ended.1).1 in
+              let both = nil-both t.gone l.rest (sym l.parts ∙ none) in
+              inr (omega (arith, ended.0, t.count, ap length both.0), append_assoc held t.gone l.rest ∙ ap (λ (x : List ℕ). held ++ x) (sym l.parts) ∙ ended.1, ended.2)
+        ];
+      }
 
   -- the line that is given is the next of all
   pub comes_next : (input before held : List ℕ) (taken : ℕ) (left written : Option (List ℕ)) (shelf : Option World) (state : State) (held' : List ℕ) (taken' : ℕ) (left' : Option (List ℕ)) (line : List ℕ)
@@ -159,6 +186,19 @@ module _ (rows : PolicyRows) (origin : Option World) (world : World) where
 
   take-prefix : (lines done more : List (List ℕ)) → lines ≡ done ++ more → take (length done) lines ≡ done
   take-prefix lines done more e = ap (take (length done)) e ∙ take_at done more (length done) refl
+
+  -- the lines given are answered, and each reply is whole
+  pub at_first : (input before held : List ℕ) (taken : ℕ) (left written : Option (List ℕ)) (shelf : Option World) (state : State) → Stands input before held taken left written shelf state → AnsweredFirst rows world (lines_of input) before written
+  at_first input before held taken left written shelf state s =
+      let m = begins input before held taken left written shelf state s in
+      record {
+        count = length s.done;
+        answered = record {
+          replies = s.replies;
+          told = record { last = over state s.now; run = rw (take-prefix (lines_of input) s.done m.0 m.1) s.run };
+          written = s.written_is;
+        };
+      }
 
   -- The replies to the lines given, and to all others.
   told_all : OneOutcome rows → (lines done more : List (List ℕ)) (replies : List Reply) (last : Scene) → lines ≡ done ++ more → Run rows (opening world) done replies last → (others : List Reply) × RepliesTo rows world lines (replies ++ others)

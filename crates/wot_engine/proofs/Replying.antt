@@ -7,14 +7,14 @@ use Rattle.wot_io.specs.declared.lines.Line.{Line}
 use Rattle.wot_policy.specs.declared.rows.PolicyRows.{PolicyRows}
 use Rattle.wot_keyring.specs.Kept.{IsJudgedBy}
 use Rattle.wot_certd.specs.World.{World}
-use Rattle.wot_cache.specs.State.{State, Engine, empty, state_of}
-use Rattle.wot_engine.specs.Turn.{Replies}
-use Rattle.wot_engine.proofs.Turns.{Stood, Stood-init}
+use Rattle.wot_cache.specs.State.{State, Engine, empty, start, state_of}
+use Rattle.wot_engine.specs.Turn.{Replies, RepliesBehind}
+use Rattle.wot_engine.proofs.Held.{Held, Held-init}
 
-pub answered : (a b : PolicyRows) (line : Line) (text other : List ℕ) (old : State) (before : Option World) (reply : List ℕ) (new : State) (after : Option World) → a ≡ b → text ≡ other
-    → Replies a line text old before reply new after → Replies b line other old before reply new after
-answered a b line text other old before reply new after e f r =
-    subst (λ (x : List ℕ). Replies b line x old before reply new after) f (subst (λ (rows : PolicyRows). Replies rows line text old before reply new after) e r)
+pub answered : (a b : PolicyRows) (line : Line) (text other : List ℕ) (old : State) (before : Option World) (had : List ℕ) (new : State) (after : Option World) (has : List ℕ) → a ≡ b → text ≡ other
+    → RepliesBehind a line text old before had new after has → RepliesBehind b line other old before had new after has
+answered a b line text other old before had new after has e f r =
+    subst (λ (x : List ℕ). RepliesBehind b line x old before had new after has) f (subst (λ (rows : PolicyRows). RepliesBehind rows line text old before had new after has) e r)
 
 -- a line that has a reply isn't the end
 pub not_end : (rows : PolicyRows) (line : Line) (text : List ℕ) (old : State) (before : Option World) (reply : List ℕ) (new : State) (after : Option World) → Replies rows line text old before reply new after → line ≢ End
@@ -27,11 +27,12 @@ not_end rows line text old before reply new after r =
 abbrev pub fresh : ReaderState
 fresh = record { held = []; text = []; taken = 0; fault = None }
 
-pub begins : (rows : PolicyRows) (left written : Option (List ℕ)) (origin : Option World) (lines : ReaderState) (machine : Engine) → lines ≡ fresh → machine ≡ empty standard_limits
-    → Stood rows left written origin lines.held lines.taken left written origin (state_of machine)
-begins rows left written origin lines machine e m =
-    subst (λ (r : ReaderState). Stood rows left written origin r.held r.taken left written origin (state_of machine)) (sym e)
-    (subst (λ (x : Engine). Stood rows left written origin [] 0 left written origin (state_of x)) (sym m) (Stood-init rows left written origin))
+pub holds : (rows : PolicyRows) (left written : Option (List ℕ)) (origin : Option World) (lines : ReaderState) (machine : Engine) (out : List ℕ) → lines ≡ fresh → machine ≡ empty standard_limits → out ≡ []
+    → Held rows left written origin lines.held lines.taken left written out origin (state_of machine)
+holds rows left written origin lines machine out e m none =
+    subst (λ (r : ReaderState). Held rows left written origin r.held r.taken left written out origin (state_of machine)) (sym e)
+    (subst (λ (x : Engine). Held rows left written origin [] 0 left written out origin (state_of x)) (sym m)
+    (subst (λ (x : List ℕ). Held rows left written origin [] 0 left written x origin start) (sym none) (Held-init rows left written origin)))
 
 pub no_fault : (lines : ReaderState) → lines ≡ fresh → lines.fault ≡ None
 no_fault lines e = ap (λ (r : ReaderState). r.fault) e

@@ -1,4 +1,4 @@
-use Rattle.wot_engine.proofs.Taking.{takes_more, takes_nothing}
-use Rattle.wot_engine.proofs.Turns.{Stood-init, Turns-reply, Stood-write, Begun-cut, Begun-here, Begun-nothing, Answered-end, Answered-stop, Most-cut, Most-end, Most-stop}
+use Rattle.wot_engine.proofs.Taking.{takes_at_most, takes_more, takes_nothing}
+use Rattle.wot_engine.proofs.Turns.{Begun-nothing, First-nothing}
 
-pub ruleset turning = (Stood-init, Turns-reply, Stood-write, Begun-cut, Begun-here, Begun-nothing, Answered-end, Answered-stop, Most-end, takes_more, takes_nothing)
+pub ruleset turning = (Begun-nothing, First-nothing, takes_at_most, takes_more, takes_nothing)

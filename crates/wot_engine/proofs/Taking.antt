@@ -21,6 +21,10 @@ loses_both (Some octets) second third gone more a b =
       parts = a.parts ∙ ap (λ (x : List ℕ). gone ++ x) b'.parts ∙ sym (append_assoc gone more b'.rest);
     }
 
+-- no call
+pub took_none : (left : Option (List ℕ)) (taken : ℕ) → Took left taken left taken
+took_none left taken = record { gone = []; loses = loses_nothing left; count = omega arith }
+
 -- before the first line
 pub took_nothing : (left : Option (List ℕ)) (lines : ReaderState) → lines ≡ fresh → Took left 0 left lines.taken
 took_nothing left lines e = record { gone = []; loses = loses_nothing left; count = ap (λ (r : ReaderState). r.taken) e }

@@ -2,10 +2,8 @@
 use Rattle.std.proofs.Common.{◌≡◌, inl, inr, ℕ, ◌+◌, ◌<◌, ◌^◌, List, [], ◌++◌, length, take, Option, Some, None, refl, sym, ap, subst, ◌∙◌, append_assoc, arith, length-append}
 use Rattle.std.proofs.lemmas.List.{append_cancel_left, append_cancel_right, length-take}
 use Rattle.std.proofs.lemmas.Grind.{flat_map-append}
-use Rattle.std.specs.Prelude.{IfSome}
 use Rattle.wot_io.specs.Input.{lines_of, whole_lines_of}
 use Rattle.wot_io.specs.Fill.{GivesOf, Stops}
-use Rattle.wot_io.specs.Sink.{Becomes, GainsPrefix}
 use Rattle.wot_io.specs.ReaderState.{ReaderState}
 use Rattle.wot_io.specs.Given as given
 use Rattle.wot_io.specs.declared.lines.Line.{Line}
@@ -20,10 +18,10 @@ use Rattle.wot_engine.specs.Law.{OneOutcome}
 use Rattle.wot_engine.specs.LineStep.{LineStep}
 use Rattle.wot_engine.specs.Scene.{Step, opening}
 use Rattle.wot_engine.specs.Turn.{Replies}
-use Rattle.wot_engine.specs.Transcript.{Run, Answered, Begun, AnsweredWhole, AnsweredMost, AllTold, listed, octets_of}
+use Rattle.wot_engine.specs.Transcript.{Run, Answered, AnsweredFirst, Begun, AnsweredWhole, AnsweredMost, AllTold, listed, octets_of}
 use Rattle.wot_engine.proofs.Giving.{IsNow, IsUnread, all_told, all_weaker, goes, may_read, over}
 use Rattle.wot_engine.proofs.Runs.{Run-one, Run-prefix}
-use Rattle.wot_engine.proofs.Progress.{Stands, starts, goes_on, so_far, comes_next, at_end, at_stop, at_most, takes_more}
+use Rattle.wot_engine.proofs.Progress.{Stands, starts, goes_on, so_far, comes_next, at_end, at_first, at_stop, at_most}
 use Rattle.wot_engine.proofs.Stepping.{entry_long}
 use Rattle.wot_policy.specs.declared.rows.PolicyRows.{PolicyRows}
 
@@ -75,7 +73,7 @@ module _ (rows : PolicyRows) where
         octets_are = same;
       }
 
-  turned : (origin : Option World) (world : World) (input before : List ℕ) (old : ReaderState) (left written : Option (List ℕ)) (shelf : Option World) (state : State) (new : ReaderState) (left' : Option (List ℕ)) (shelf' : Option World) (state' : State) (line : Line) (octets : List ℕ)
+  pub turned : (origin : Option World) (world : World) (input before : List ℕ) (old : ReaderState) (left written : Option (List ℕ)) (shelf : Option World) (state : State) (new : ReaderState) (left' : Option (List ℕ)) (shelf' : Option World) (state' : State) (line : Line) (octets : List ℕ)
       → IsUnread origin input → Stands rows origin world input before old.held old.taken left written shelf state → given.Answers line old left new left' → Replies rows line new.text state shelf octets state' shelf'
       → Turned origin world input before new.held new.taken left' written octets shelf' state'
   turned origin world input before old left written shelf state new left' shelf' state' Text octets unread s a r =
@@ -86,17 +84,6 @@ module _ (rows : PolicyRows) where
       turned_by origin world input before old left written shelf state new left' shelf' state' a'.0 None r.given r.reply octets unread s a'.2 (entry_long a'.0 a'.1) r.asked r.world (r.does a'.0 a'.1) r.octets_are
   turned origin world input before old left written shelf state new left' shelf' state' End octets unread s a r = absurd r.does
 
-  pub Turns : Option (List ℕ) → Option (List ℕ) → Option World → List ℕ → ℕ → Option (List ℕ) → Option (List ℕ) → List ℕ → Option World → State → Type 0
-  Turns left0 written0 origin held' taken' left' written octets shelf' state' =
-      AllTold left0 written0 origin (λ input before world. Turned origin world input before held' taken' left' written octets shelf' state')
-
-  pub Turns-reply : (left0 written0 : Option (List ℕ)) (origin : Option World) (old : ReaderState) (left written : Option (List ℕ)) (shelf : Option World) (state : State) (new : ReaderState) (left' : Option (List ℕ)) (shelf' : Option World) (state' : State) (line : Line) (octets : List ℕ)
-      → Stood left0 written0 origin old.held old.taken left written shelf state → given.Answers line old left new left' → Replies rows line new.text state shelf octets state' shelf'
-      → Turns left0 written0 origin new.held new.taken left' written octets shelf' state'
-  unfolding Turns
-  Turns-reply left0 written0 origin old left written shelf state new left' shelf' state' line octets s a r =
-      all_weaker left0 written0 origin _ _ (λ input before world unread s. turned origin world input before old left written shelf state new left' shelf' state' line octets unread s a r) s
-
   -- the reply that was due is written
   pub wrote : (origin : Option World) (world : World) (input before : List ℕ) (held' : List ℕ) (taken' : ℕ) (left' written : Option (List ℕ)) (octets : List ℕ) (shelf' : Option World) (state' : State) (written' : Option (List ℕ))
       → (t : Turned origin world input before held' taken' left' written octets shelf' state') → written' ≡ Some ((before ++ octets_of t.stands.replies) ++ octets)
@@ -105,26 +92,15 @@ module _ (rows : PolicyRows) where
       goes_on rows origin world input before t.held t.taken t.left written t.shelf t.state held' taken' left' written' shelf' state' t.line t.reply t.stands t.gives t.next t.is_next t.step
       (w ∙ ap (λ (x : List ℕ). Some ((before ++ octets_of t.stands.replies) ++ x)) t.octets_are)
 
-  pub Stood-write : (left0 written0 : Option (List ℕ)) (origin : Option World) (held' : List ℕ) (taken' : ℕ) (left' written : Option (List ℕ)) (octets : List ℕ) (shelf' : Option World) (state' : State) (written' : Option (List ℕ))
-      → Turns left0 written0 origin held' taken' left' written octets shelf' state' → Becomes written (λ old. old ++ octets) written' → Stood left0 written0 origin held' taken' left' written' shelf' state'
-  unfolding Turns
-  Stood-write left0 written0 origin held' taken' left' written octets shelf' state' written' t b =
-      all_weaker left0 written0 origin _ _ (λ input before world unread t. wrote origin world input before held' taken' left' written octets shelf' state' written' t (rw t.stands.written_is at b)) t
-
-  pub Begun-cut : OneOutcome rows → (left0 written0 : Option (List ℕ)) (origin : Option World) (held' : List ℕ) (taken' : ℕ) (left' written : Option (List ℕ)) (octets : List ℕ) (shelf' : Option World) (state' : State) (written' : Option (List ℕ))
-      → Turns left0 written0 origin held' taken' left' written octets shelf' state' → IfSome written (λ old. GainsPrefix old written' octets)
-      → AllTold left0 written0 origin (λ input before world. Begun rows world (lines_of input) before written')
-  unfolding Turns
-  Begun-cut law left0 written0 origin held' taken' left' written octets shelf' state' written' t b =
-      all_weaker left0 written0 origin _ _ (λ input before world unread t.
-      let b' : GainsPrefix (before ++ octets_of t.stands.replies) written' octets = rw t.stands.written_is at b in
-      let whole = wrote origin world input before held' taken' left' written octets shelf' state' (Some ((before ++ octets_of t.stands.replies) ++ octets)) t refl in
-      takes_more rows origin world law input before held' taken' left' shelf' state' (octets_of t.stands.replies) octets b'.0 written' whole (omega (arith, b'.1)) b'.2) t
-
   pub Begun-here : OneOutcome rows → (left0 written0 : Option (List ℕ)) (origin : Option World) (held : List ℕ) (taken : ℕ) (left written : Option (List ℕ)) (shelf : Option World) (state : State) → Stood left0 written0 origin held taken left written shelf state
       → AllTold left0 written0 origin (λ input before world. Begun rows world (lines_of input) before written)
   Begun-here law left0 written0 origin held taken left written shelf state s =
       all_weaker left0 written0 origin _ _ (λ input before world unread s. so_far rows origin world law input before held taken left written shelf state s) s
+
+  pub First-here : (left0 written0 : Option (List ℕ)) (origin : Option World) (held : List ℕ) (taken : ℕ) (left written : Option (List ℕ)) (shelf : Option World) (state : State) → Stood left0 written0 origin held taken left written shelf state
+      → AllTold left0 written0 origin (λ input before world. AnsweredFirst rows world (lines_of input) before written)
+  First-here left0 written0 origin held taken left written shelf state s =
+      all_weaker left0 written0 origin _ _ (λ input before world unread s. at_first rows origin world input before held taken left written shelf state s) s
 
   pub Answered-end : (left0 written0 : Option (List ℕ)) (origin : Option World) (old : ReaderState) (left written : Option (List ℕ)) (shelf : Option World) (state : State) (new : ReaderState) (left' : Option (List ℕ))
       → Stood left0 written0 origin old.held old.taken left written shelf state → given.Answers End old left new left'
@@ -157,7 +133,7 @@ module _ (rows : PolicyRows) where
       absurd (omega (arith, lt, f, length-append (before ++ replies) (take n reply), length-append before replies, length-append before ((replies ++ reply) ++ others), length-append (replies ++ reply) others, length-append replies reply, length-take n reply))
 
   -- where a reply was cut, not all of them were written
-  cut_most : OneOutcome rows → (origin : Option World) (world : World) (input before held : List ℕ) (taken : ℕ) (left : Option (List ℕ)) (shelf : Option World) (state : State) (replies reply : List ℕ) (n : ℕ) (written : Option (List ℕ))
+  pub cut_most : OneOutcome rows → (origin : Option World) (world : World) (input before held : List ℕ) (taken : ℕ) (left : Option (List ℕ)) (shelf : Option World) (state : State) (replies reply : List ℕ) (n : ℕ) (written : Option (List ℕ))
       → (s : Stands rows origin world input before held taken left (Some ((before ++ replies) ++ reply)) shelf state) → n < length reply → written ≡ Some ((before ++ replies) ++ take n reply) → AnsweredMost rows world input before left written → ⊥
   cut_most law origin world input before held taken left shelf state replies reply n written s lt w a =
       let rests : s.rest ≡ a.taken.rest = some-is s.rest a.taken.rest (sym s.left_is ∙ a.taken.left_is) in
@@ -185,16 +161,6 @@ module _ (rows : PolicyRows) where
       let rests : rest ≡ a.taken.rest = some-is rest a.taken.rest (sym e ∙ a.taken.left_is) in
       omega (arith, n, s.count, a.size, ap length rests, ap length a.taken.input_is, length-append a.octets a.taken.rest)
 
-  pub Most-cut : OneOutcome rows → (left0 written0 : Option (List ℕ)) (origin : Option World) (held' : List ℕ) (taken' : ℕ) (left' written : Option (List ℕ)) (octets : List ℕ) (shelf' : Option World) (state' : State) (written' : Option (List ℕ))
-      → Turns left0 written0 origin held' taken' left' written octets shelf' state' → IfSome written (λ old. GainsPrefix old written' octets)
-      → AllTold left0 written0 origin (λ input before world. AnsweredMost rows world input before left' written' → ⊥)
-  unfolding Turns
-  Most-cut law left0 written0 origin held' taken' left' written octets shelf' state' written' t b =
-      all_weaker left0 written0 origin _ _ (λ input before world unread t.
-      let b' : GainsPrefix (before ++ octets_of t.stands.replies) written' octets = rw t.stands.written_is at b in
-      let whole = wrote origin world input before held' taken' left' written octets shelf' state' (Some ((before ++ octets_of t.stands.replies) ++ octets)) t refl in
-      cut_most law origin world input before held' taken' left' shelf' state' (octets_of t.stands.replies) octets b'.0 written' whole b'.1 b'.2) t
-
   pub Most-end : (left0 written0 : Option (List ℕ)) (origin : Option World) (old : ReaderState) (left written : Option (List ℕ)) (shelf : Option World) (state : State) (new : ReaderState) (left' : Option (List ℕ))
       → Stood left0 written0 origin old.held old.taken left written shelf state → given.Answers End old left new left' → AllTold left0 written0 origin (λ input before world. AnsweredMost rows world input before left' written → ⊥)
   Most-end left0 written0 origin old left written shelf state new left' s e =
@@ -219,3 +185,6 @@ module _ (rows : PolicyRows) where
   -- where nothing was taken and nothing written
   pub Begun-nothing : OneOutcome rows → (left0 written0 : Option (List ℕ)) (origin : Option World) → AllTold left0 written0 origin (λ input before world. Begun rows world (lines_of input) before written0)
   Begun-nothing law left0 written0 origin = Begun-here law left0 written0 origin [] 0 left0 written0 origin start (Stood-init left0 written0 origin)
+
+  pub First-nothing : (left0 written0 : Option (List ℕ)) (origin : Option World) → AllTold left0 written0 origin (λ input before world. AnsweredFirst rows world (lines_of input) before written0)
+  First-nothing left0 written0 origin = First-here left0 written0 origin [] 0 left0 written0 origin start (Stood-init left0 written0 origin)

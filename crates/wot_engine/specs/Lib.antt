@@ -14,6 +14,7 @@ pub mod Generated
 pub mod Played
 pub mod Ends
 pub mod Turn
+pub mod Held
 pub mod Ran
 pub mod Stepped
 pub mod Fresh

@@ -40,6 +40,11 @@ pub record Answered (rows : PolicyRows) (world : World) (lines : List (List ℕ)
   pub told : RepliesTo rows world lines replies
   pub written : after ≡ Some (before ++ octets_of replies)
 
+-- The octets of the replies to some first ones of these lines were written, and each reply is whole.
+pub record AnsweredFirst (rows : PolicyRows) (world : World) (lines : List (List ℕ)) (before : List ℕ) (after : Option (List ℕ)) : Type 0 where
+  pub count : ℕ
+  pub answered : Answered rows world (take count lines) before after
+
 -- What was written is a prefix of the octets of the replies to these lines.
 pub record Begun (rows : PolicyRows) (world : World) (lines : List (List ℕ)) (before : List ℕ) (after : Option (List ℕ)) : Type 0 where
   pub replies : List Reply

@@ -1,5 +1,5 @@
 -- The reply to a line that the reader of lines gave.
-use Rattle.std.specs.Prelude.{◌≡◌, ℕ, ◌<◌, List, length, Option, None}
+use Rattle.std.specs.Prelude.{◌≡◌, ℕ, ◌<◌, List, ◌++◌, length, Option, None}
 use Rattle.wot_io.specs.declared.lines.Line.{Line}
 use Rattle.wot_io.specs.declared.lines.Line.TheVariants.{Text, Long, End}
 use Rattle.wot_policy.specs.declared.rows.PolicyRows.{PolicyRows}
@@ -32,3 +32,9 @@ pub record Replies (rows : PolicyRows) (line : Line) (text : List ℕ) (old : St
   pub asked : WasGiven (entry_of line text) before given
   pub world : IsWorldAfter (entry_of line text) before after
   pub octets_are : octets ≡ octets_of (listed reply)
+
+-- The octets of the reply are behind those that were held before.
+pub record RepliesBehind (rows : PolicyRows) (line : Line) (text : List ℕ) (old : State) (before : Option World) (had : List ℕ) (new : State) (after : Option World) (has : List ℕ) : Type 0 where
+  pub octets : List ℕ
+  pub replies : Replies rows line text old before octets new after
+  pub behind : has ≡ had ++ octets

@@ -1,11 +1,13 @@
-ghost use Rattle.std.specs.Prelude.{◌≡◌, ◌≢◌, ◌⊎◌, ◌<◌, ◌≤◌, ◌+◌, ◌-◌, ◌^◌, [], Some, OnOk, IsErrOf};
+ghost use Rattle.std.specs.Prelude.{◌≡◌, ◌≢◌, ◌⊎◌, ◌<◌, ◌≤◌, ◌+◌, ◌-◌, ◌^◌, [], length, Some, IfSome, OnErr, OnOk, IsErrOf};
 ghost use Rattle.wot_policy.specs.Kept.{IsFaithful, rows_of};
 ghost use Rattle.wot_keyring.specs.Kept.{IsJudgedBy};
 ghost use Rattle.wot_cache.specs.State.{state_of};
 ghost use Rattle.wot_io.specs.Counts.{Rose};
-ghost use Rattle.wot_io.specs.Input.{lines_of};
-ghost use Rattle.wot_engine.specs.Transcript.{AllTold, TakesAtMost, Answered, Begun, AnsweredWhole, AnsweredMost, HasMost};
-ghost use Rattle.wot_engine.specs.Turn.{Replies};
+ghost use Rattle.wot_io.specs.Input.{HasNoFeed, lines_of};
+ghost use Rattle.wot_io.specs.Sink.{GainsPrefix};
+ghost use Rattle.wot_engine.specs.Transcript.{AllTold, TakesAtMost, Answered, AnsweredFirst, Begun, AnsweredWhole, AnsweredMost, HasMost};
+ghost use Rattle.wot_engine.specs.Held.{Moves};
+ghost use Rattle.wot_engine.specs.Turn.{RepliesBehind};
 ghost use Rattle.wot_engine.specs.declared.run.Stop.TheVariants as stops;
 
 use crate::laws::each_line_has_one_outcome;
@@ -46,7 +48,10 @@ impl From<Failed> for Stop {
     }
 }
 
-/// The reply to a line that was given.
+/// So many octets of replies are held back at most, but for the last reply.
+const MOST_HELD: usize = 65_536;
+
+/// Holds back the reply to a line that was given. After `Memory` what is held is as before.
 fn reply_to<D: Shelf, F: Fn(Ask) -> bool>(
     machine: &mut Machine,
     line: Line,
@@ -56,12 +61,12 @@ fn reply_to<D: Shelf, F: Fn(Ask) -> bool>(
     out: &mut Vec<u8>,
 ) -> Result<(), Memory>
     requires some { line ≢ Line.End }
-    requires empty { out.old.items ≡ [] }
     requires countable { machine.old.engine.keyring.changes < 2 ^ 64 - 1 }
     requires judged { IsJudgedBy (rows_of policy.old) machine.old.engine.keyring }
     requires faithful { IsFaithful F.Fn policy.old }
-    ensures replies { OnOk result (Replies (rows_of policy.old) line text.now
-        (state_of machine.old.engine) (D.world shelf.old) out.new.items (state_of machine.new.engine) (D.world shelf.new)) }
+    ensures replies { OnOk result (RepliesBehind (rows_of policy.old) line text.now (state_of machine.old.engine)
+        (D.world shelf.old) out.old.items (state_of machine.new.engine) (D.world shelf.new) out.new.items) }
+    ensures kept { OnErr result (out.new.items ≡ out.old.items) }
     ensures counted { machine.new.engine.keyring.changes ≤ machine.old.engine.keyring.changes + 1 }
     ensures judged { IsJudgedBy (rows_of policy.old) machine.new.engine.keyring }
     ensures faithful { IsFaithful F.Fn policy.new }
@@ -74,7 +79,25 @@ fn reply_to<D: Shelf, F: Fn(Ask) -> bool>(
     }
 }
 
-/// Answers the lines of an input. The reply to each is written before the next one is asked for.
+/// Writes what is held back, unless a further line is at hand, for which nothing has to be read, and little is held.
+fn flush<K: Sink>(lines: &Lines, output: &mut K, out: &mut Vec<u8>) -> Result<(), Failed>
+    ensures moves { OnOk result (Moves (K.written output.old) out.old.items (K.written output.new) out.new.items) }
+    ensures none { OnOk result (HasNoFeed lines.now.held → out.new.items ≡ []) }
+    ensures few { OnOk result (length out.new.items < 65536) }
+    ensures cut { OnErr result (IfSome (K.written output.old) (λ old. GainsPrefix old (K.written output.new) out.old.items)) }
+    ensures later { K.faults output.old ≤ K.faults output.new }
+    ensures cause { OnErr result (Rose (K.faults output.old) (K.faults output.new)) }
+{
+    if lines.has_line() && out.len() < MOST_HELD {
+        return Ok(());
+    }
+    write_all(output, out)?;
+    out.clear();
+    Ok(())
+}
+
+/// Answers the lines of an input. The replies to all whole lines that are at hand are written together, before more is
+/// read. Where no memory is found for a line, the replies to those before it are written.
 #[tactic(auto, using(crate::proofs::Rules::turning))]
 pub fn run<S: Source, K: Sink, D: Shelf, F: Fn(Ask) -> bool>(
     alloc: Global,
@@ -88,6 +111,8 @@ pub fn run<S: Source, K: Sink, D: Shelf, F: Fn(Ask) -> bool>(
         OnOk result (Answered (rows_of policy.old) world (lines_of octets) before (K.written output.new) × (S.left input.new ≡ Some []))) }
     ensures prefix { AllTold (S.left input.old) (K.written output.old) (D.world shelf.old) (λ octets before world.
         Begun (rows_of policy.old) world (lines_of octets) before (K.written output.new)) }
+    ensures first { AllTold (S.left input.old) (K.written output.old) (D.world shelf.old) (λ octets before world.
+        IsErrOf result Stop.Memory → AnsweredFirst (rows_of policy.old) world (lines_of octets) before (K.written output.new)) }
     ensures source { IsErrOf result Stop.Read → Rose (S.faults input.old) (S.faults input.new) }
     ensures taken { AllTold (S.left input.old) (K.written output.old) (D.world shelf.old) (λ octets before world.
         IsErrOf result Stop.Read → AnsweredWhole (rows_of policy.old) world octets before (S.left input.new) (K.written output.new)) }
@@ -107,14 +132,16 @@ pub fn run<S: Source, K: Sink, D: Shelf, F: Fn(Ask) -> bool>(
     let mut machine = Machine::new(alloc);
     let mut out = Vec::new(alloc);
     'lines: loop {
+        flush(&lines, output, &mut out)?;
         let line = match lines.next(input) {
             Ok(Line::End) => return Ok(()),
             Ok(line) => line,
             Err(LinesFault::ReadFault) => return Err(Stop::Read),
             Err(LinesFault::TooMuch) => return Err(Stop::TooMuch),
         };
-        reply_to(&mut machine, line, lines.text(), shelf, policy, &mut out)?;
-        write_all(output, &out)?;
-        out.clear();
+        let Ok(()) = reply_to(&mut machine, line, lines.text(), shelf, policy, &mut out) else {
+            write_all(output, &out)?;
+            return Err(Stop::Memory);
+        };
     }
 }

@@ -30,4 +30,6 @@ mod script;
 #[cfg(test)]
 mod shelf;
 #[cfg(test)]
+mod together;
+#[cfg(test)]
 mod version_6;

@@ -1,4 +1,4 @@
-use Rattle.std.proofs.Common.{◌≡◌, ℕ, List, [], ◌++◌, Option, Result, Ok, Err, Some, refl, sym, ap, subst, ◌∙◌}
+use Rattle.std.proofs.Common.{◌≡◌, ℕ, List, ◌++◌, Option, Result, Ok, Err, Some, refl, sym, subst}
 use Rattle.std.specs.Prelude.{OnOk}
 use Rattle.wot_io.specs.declared.lines.Line.{Line}
 use Rattle.wot_io.specs.declared.lines.Line.TheVariants.{Long, Text}
@@ -11,45 +11,46 @@ use Rattle.wot_cache.specs.State.{State, state_of}
 use Rattle.wot_engine.specs.Ran.{Seen}
 use Rattle.wot_engine.specs.Stepped.{Stepped}
 use Rattle.wot_engine.specs.Transcript.{listed, octets_of}
-use Rattle.wot_engine.specs.Turn.{Replies}
+use Rattle.wot_engine.specs.Turn.{RepliesBehind}
 use Rattle.wot_engine.proofs.Stepping.{one_reply, too_long}
 use Rattle.wot_engine.proofs.run.reply_to.Goals as goal
 
 -- the refusal of a line that is too long, where there is memory
 refused : {T E : Type 0} (r : Result T E) (rows : PolicyRows) (line : Line) (text : List ℕ) (old : State) (world : Option World) (before after : List ℕ)
-    → line ≡ Long → before ≡ [] → OnOk r (after ≡ before ++ reply_text replies.Long) → OnOk r (Replies rows line text old world after old world)
-refused (Ok a) rows line text old world before after is empty e =
-    subst (λ (l : Line). Replies rows l text old world after old world) (sym is) (record {
-      given = Answer.absent;
-      reply = Some replies.Long;
-      does = λ line long. too_long rows old line Answer.absent long;
-      asked = refl;
-      world = refl;
-      octets_are = e ∙ ap (λ (x : List ℕ). x ++ reply_text replies.Long) empty ∙ sym (one_reply replies.Long);
+    → line ≡ Long → OnOk r (after ≡ before ++ reply_text replies.Long) → OnOk r (RepliesBehind rows line text old world before old world after)
+refused (Ok a) rows line text old world before after is e =
+    subst (λ (l : Line). RepliesBehind rows l text old world before old world after) (sym is) (record {
+      octets = reply_text replies.Long;
+      replies = record {
+        given = Answer.absent;
+        reply = Some replies.Long;
+        does = λ line long. too_long rows old line Answer.absent long;
+        asked = refl;
+        world = refl;
+        octets_are = sym (one_reply replies.Long);
+      };
+      behind = e;
     })
-refused (Err x) rows line text old world before after is empty e = tt
+refused (Err x) rows line text old world before after is e = tt
 
 -- the reply to a line that was looked at, where there is memory
 answered : {T E : Type 0} (r : Result T E) (rows : PolicyRows) (line : Line) (text : List ℕ) (old new : State) (before after : Seen) (had has : List ℕ)
-    → line ≡ Text → had ≡ [] → OnOk r (Stepped rows text old before had new after has) → OnOk r (Replies rows line text old before.world has new after.world)
-answered (Ok a) rows line text old new before after had has is empty s =
-    subst (λ (l : Line). Replies rows l text old before.world has new after.world) (sym is) (record {
-      given = s.given;
-      reply = s.reply;
-      does = s.step;
-      asked = s.asked;
-      world = s.world;
-      octets_are = s.octets ∙ ap (λ (x : List ℕ). x ++ octets_of (listed s.reply)) empty;
+    → line ≡ Text → OnOk r (Stepped rows text old before had new after has) → OnOk r (RepliesBehind rows line text old before.world had new after.world has)
+answered (Ok a) rows line text old new before after had has is s =
+    subst (λ (l : Line). RepliesBehind rows l text old before.world had new after.world has) (sym is) (record {
+      octets = octets_of (listed s.reply);
+      replies = record { given = s.given; reply = s.reply; does = s.step; asked = s.asked; world = s.world; octets_are = refl };
+      behind = s.octets;
     })
-answered (Err x) rows line text old new before after had has is empty s = tt
+answered (Err x) rows line text old new before after had has is s = tt
 
 pub returns-in-Text-clause-replies : goal.returns-in-Text-clause-replies
 returns-in-Text-clause-replies g c =
     answered c.line.result (rows_of c.args.policy.now) c.args.line c.args.text.now (state_of c.args.machine.now.engine) (state_of c.line.new.self.engine)
     (record { world = g.D.Shelf.world c.args.shelf.now; faults = g.D.Shelf.faults c.args.shelf.now }) (record { world = g.D.Shelf.world c.line.new.shelf; faults = g.D.Shelf.faults c.line.new.shelf })
-    c.args.out.now.items c.line.new.out.items c.in-Text.is c.requires.empty c.line.ensures.step
+    c.args.out.now.items c.line.new.out.items c.in-Text.is c.line.ensures.step
 
 pub returns-in-Long-clause-replies : goal.returns-in-Long-clause-replies
 returns-in-Long-clause-replies g c =
     refused c.print_reply.result (rows_of c.args.policy.now) c.args.line c.args.text.now (state_of c.args.machine.now.engine) (g.D.Shelf.world c.args.shelf.now) c.args.out.now.items c.print_reply.new.out.items
-    c.in-Long.is c.requires.empty c.print_reply.ensures.appended
+    c.in-Long.is c.print_reply.ensures.appended

@@ -3,7 +3,7 @@ use Rattle.std.specs.String.{string_bytes}
 use Rattle.wot_policy.specs.Kept.{rows_of}
 use Rattle.wot_io.specs.Counts.{Rose}
 use Rattle.wot_engine.specs.Forms.{IsForm}
-use Rattle.wot_engine.proofs.Ending.{any_status, generated_begun, generated_complete, generated_ends, generated_whole, is_done, is_much, is_read, is_write, much_or_memory, never_much, never_read, not_two, run_complete}
+use Rattle.wot_engine.proofs.Ending.{any_status, generated_begun, generated_complete, generated_ends, generated_whole, is_done, is_memory, is_much, is_read, is_write, much_or_memory, never_much, never_read, not_two, run_complete}
 use Rattle.wot_engine.proofs.Forms.{one_form, script_bounds}
 use Rattle.wot_engine.proofs.Giving.{all_told}
 use Rattle.wot_engine.proofs.Taking.{takes_nothing}
@@ -34,6 +34,11 @@ pub returns-in-Some-Run-clause-prefix : goal.returns-in-Some-Run-clause-prefix
 returns-in-Some-Run-clause-prefix g c =
     AllTold-weaker (rows_of c.args.policy.now) (g.S.Source.left c.args.input.now) (g.K.Sink.written c.args.output.now) (g.D.Shelf.world c.args.shelf.now) _ _
     (λ input before world t form. t) c.run.ensures.prefix
+
+pub returns-in-Some-Run-clause-first : goal.returns-in-Some-Run-clause-first
+returns-in-Some-Run-clause-first g c =
+    AllTold-weaker (rows_of c.args.policy.now) (g.S.Source.left c.args.input.now) (g.K.Sink.written c.args.output.now) (g.D.Shelf.world c.args.shelf.now) _ _
+    (λ input before world t form e. t (is_memory c.run.result (sym c.status_of.ensures ∙ e))) c.run.ensures.first
 
 pub returns-in-Some-Run-clause-source : goal.returns-in-Some-Run-clause-source
 returns-in-Some-Run-clause-source g c e = c.run.ensures.source (is_read c.run.result (sym c.status_of.ensures ∙ e))
@@ -95,6 +100,11 @@ returns-in-Some-Generate-clause-whole g c =
 
 pub returns-in-Some-Generate-clause-prefix : goal.returns-in-Some-Generate-clause-prefix
 returns-in-Some-Generate-clause-prefix g c =
+    all_told (g.S.Source.left c.args.input.now) (g.K.Sink.written c.args.output.now) (g.D.Shelf.world c.args.shelf.now) _
+    (λ input before world e f is form. absurd (one_form (map string_bytes c.args.words.now) c.in-Some-Generate.start c.in-Some-Generate.count form (rw c.in-Some-Generate.field-0-is at c.in-Some-Generate.ensures.form)))
+
+pub returns-in-Some-Generate-clause-first : goal.returns-in-Some-Generate-clause-first
+returns-in-Some-Generate-clause-first g c =
     all_told (g.S.Source.left c.args.input.now) (g.K.Sink.written c.args.output.now) (g.D.Shelf.world c.args.shelf.now) _
     (λ input before world e f is form. absurd (one_form (map string_bytes c.args.words.now) c.in-Some-Generate.start c.in-Some-Generate.count form (rw c.in-Some-Generate.field-0-is at c.in-Some-Generate.ensures.form)))
 

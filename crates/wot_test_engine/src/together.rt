@@ -1,0 +1,120 @@
+//! The replies to the lines that one read brought are written together, and before the next read.
+ghost use Rattle.std.specs.Prelude.{None};
+
+use crate::engine::{owned, sink_of, status_of};
+use crate::shelf::shelf_of;
+use std::alloc::Global;
+use std::test::Fail;
+use wot_io::{Failed, MemorySource, Sink, Source};
+
+/// Takes all that it is offered, and keeps how many octets each write was offered.
+#[derive(Drop)]
+struct Counting {
+    offered: Vec<usize>,
+    faults: u64,
+}
+
+impl Sink for Counting {
+    ghost written = { λ _. None };
+
+    ghost faults = { λ s. s.faults };
+
+    fn write(&mut self, piece: &[u8]) -> Result<usize, Failed> {
+        match self.offered.push(piece.len()) {
+            Ok(()) => Ok(piece.len()),
+            Err(_) => {
+                self.faults = self.faults.saturating_add(1);
+                Err(Failed)
+            }
+        }
+    }
+}
+
+/// A source of so many lines `keys`, that gives so many octets a read, and fails in the reads with these numbers.
+fn lines_of(
+    alloc: Global,
+    count: usize,
+    piece: usize,
+    fails: &[u64],
+) -> Result<MemorySource, Fail> {
+    if piece == 0 {
+        return Err("piece".into());
+    }
+    let mut script = Vec::new(alloc);
+    for _ in 0..count {
+        script.extend_from_slice(b"keys\n")?;
+    }
+    Ok(MemorySource::new(script, piece, fails.to_vec(alloc)?))
+}
+
+/// The status of a run over an empty shelf.
+fn ran<S: Source, K: Sink>(alloc: Global, input: &mut S, output: &mut K) -> Result<u8, Fail> {
+    let words = owned(alloc, &["run"])?;
+    let mut shelf = shelf_of(alloc, &[], &[])?;
+    Ok(status_of(alloc, &words, input, output, &mut shelf))
+}
+
+/// How many lines there are, how many octets a read gives, and the writes in turn: so many of so many octets. The reply
+/// to each line has seven.
+type Case = (usize, usize, &'static [(usize, usize)]);
+
+static CASES: [Case; 5] = [
+    (1000, 65_536, &[(1, 7000)]),
+    (1000, 5, &[(1000, 7)]),
+    (1000, 1, &[(1000, 7)]),
+    (6, 7, &[(2, 7), (1, 14), (2, 7)]),
+    // 9,363 replies have more than 65,536 octets. They are written before the line behind theirs is answered.
+    (10_000, 65_536, &[(1, 65_541), (1, 4459)]),
+];
+
+/// Whether the writes of a run are those of the case.
+fn is_written(alloc: Global, case: &Case) -> Result<bool, Fail> {
+    let (count, piece, runs) = case;
+    let mut want = Vec::new(alloc);
+    for (times, size) in *runs {
+        for _ in 0..*times {
+            want.push(*size)?;
+        }
+    }
+    let mut input = lines_of(alloc, *count, *piece, &[])?;
+    let mut output = Counting {
+        offered: Vec::new(alloc),
+        faults: 0,
+    };
+    let status = ran(alloc, &mut input, &mut output)?;
+    Ok(status == 0 && output.offered.as_slice() == want.as_slice())
+}
+
+/// The reads and writes that fail, the status, and what is written. Of three lines the first read brings two whole ones,
+/// and the sink takes three octets a write.
+type Stop = (&'static [u64], &'static [u64], u8, &'static [u8]);
+
+static STOPS: [Stop; 9] = [
+    (&[], &[], 0, b"keys 0\nkeys 0\nkeys 0\n"),
+    (&[1], &[], 3, b""),
+    (&[2], &[], 3, b"keys 0\nkeys 0\n"),
+    (&[3], &[], 3, b"keys 0\nkeys 0\nkeys 0\n"),
+    (&[], &[1], 4, b""),
+    (&[], &[3], 4, b"keys 0"),
+    (&[2], &[5], 4, b"keys 0\nkeys "),
+    (&[2], &[6], 3, b"keys 0\nkeys 0\n"),
+    (&[3], &[6], 4, b"keys 0\nkeys 0\n"),
+];
+
+fn is_stopped(alloc: Global, stop: &Stop) -> Result<bool, Fail> {
+    let (reads, writes, status, written) = stop;
+    let mut input = lines_of(alloc, 3, 12, reads)?;
+    let mut output = sink_of(alloc, writes)?;
+    Ok(ran(alloc, &mut input, &mut output)? == *status && output.written() == *written)
+}
+
+#[test]
+fn replies_are_written_together(rt: HostRuntime) -> Result<(), Fail> {
+    for case in &CASES {
+        assert!(rt; is_written(rt.alloc(), case)?);
+    }
+    for stop in &STOPS {
+        assert!(rt; is_stopped(rt.alloc(), stop)?);
+    }
+    Ok(())
+}
