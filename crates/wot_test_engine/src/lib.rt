@@ -18,8 +18,6 @@ mod keyring;
 #[cfg(test)]
 mod layers;
 #[cfg(test)]
-mod made;
-#[cfg(test)]
 mod many;
 #[cfg(test)]
 mod policy;
