@@ -23,7 +23,7 @@ class Session:
             for _ in range(int(reply.split()[3])):
                 for _ in range(int(self.process.stdout.readline().split()[3])):
                     self.process.stdout.readline()
-        elif reply.startswith(b"list"):
+        elif reply.startswith((b"list", b"piece")):
             for _ in range(int(reply.split()[1])):
                 self.process.stdout.readline()
         passed = time.perf_counter() - before

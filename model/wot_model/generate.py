@@ -354,6 +354,14 @@ class Generator:
         view = b"p" if self.chance(0.6) else self.pick(self.views)
         return self.words(b"list", view, self.pick([120, 120, 60, 1, 30, 240, 4294967295]))
 
+    def cursor_line(self):
+        cursor = self.pick([b"c", b"c", b"d", b"p"])
+        if self.chance(0.2):
+            return self.words(b"cursor", cursor, b"over", self.pick(self.views), self.pick([120, 60, 1, 4294967295]))
+        if self.chance(0.05):
+            return self.words(b"cursor", cursor, b"close")
+        return self.words(b"cursor", cursor, b"next", self.pick([1, 1, 2, 3, 10, 4294967295]))
+
     def explain_line(self):
         target = self.pick(self.keys)
         user_ids = USER_IDS if self.chance(0.05) else target.user_ids
@@ -363,13 +371,14 @@ class Generator:
 
     def odd_line(self):
         """A line that is silent or malformed, or nearly so."""
-        asked = [self.ask_line, self.list_line, self.explain_line, self.absence_line, self.check_line]
+        asked = [self.ask_line, self.list_line, self.explain_line, self.absence_line, self.check_line, self.cursor_line]
         others = self.time_line, self.root_line, self.any_verdict_line, self.load_line, lambda: b"keys"
         line = self.pick([*asked, *others])()
         at = self.random.randrange(len(line) + 1)
         return self.pick([
             b"", b"# comment", b"#", b" ", b"\r", b"keys\r", b"#\r", b" #", b"lists", b"pending ", b"list p 01",
             b"list p 0", b"view p time 05", b"view p time +5", b"view p time 4294967296", b"view p time 42949672950",
+            b"cursor c next 0", b"cursor c over p 0", b"cursor c", b"cursor c close ",
             b"import", b"import ", b"import c", b"import 0g", b"load", b"load ", b"load trust-root ",
             b"load Trust-root", b"dump ", b"export", b"view " + b"a" * 33 + b" time 1",
             b"view  time 1", b"view P time 1",
@@ -383,6 +392,7 @@ class Generator:
         events = [
             (46, self.ask_line),
             (3, self.list_line),
+            (12, self.cursor_line),
             (12, self.explain_line),
             (6, self.absence_line),
             (4, self.check_line),

@@ -29,12 +29,27 @@ class Refused(Exception):
         self.words = words
 
 
+CURSORS = 16
+
+
 class View:
-    """An open view: its time, and the amounts of its roots by fingerprint."""
+    """An open view: its time, the amounts of its roots by fingerprint, and its turn."""
 
     def __init__(self, time):
         self.time = time
         self.roots = {}
+        self.turn = 0
+
+
+class Cursor:
+    """A listing in pieces: of which view, what is wanted, the counts at its beginning, and the last binding told."""
+
+    def __init__(self, view, wanted, changes, turn):
+        self.view = view
+        self.wanted = wanted
+        self.changes = changes
+        self.turn = turn
+        self.place = None
 
 
 class Machine:
@@ -44,6 +59,9 @@ class Machine:
         self.certificates = {}
         self.verdicts = {}
         self.views = {}
+        self.cursors = {}
+        self.changes = 0
+        self.turns = 0
         self.next_path = next_path
         self.limits = limits
         self.shelf = shelf or MemoryShelf()
@@ -73,6 +91,18 @@ class Machine:
         if name not in self.views:
             raise Refused("view")
         return self.views[name]
+
+    def cursor(self, name):
+        if name not in self.cursors:
+            raise Refused("cursor")
+        return self.cursors[name]
+
+    def count_change(self):
+        self.changes += 1
+
+    def count_turn(self, view):
+        self.turns += 1
+        view.turn = self.turns
 
     def check_limit(self, word, count):
         if count > self.limits[word]:
@@ -113,6 +143,7 @@ def take(machine, certificates, skipped):
     united, fresh = unite(machine.certificates, certificates)
     if fresh:
         check_keyring(machine, {**machine.certificates, **united})
+        machine.count_change()
     machine.certificates.update(united)
     return [words("ok taken", len(certificates), "skipped", skipped, "new", fresh)]
 
@@ -146,11 +177,14 @@ def check_keyring(machine, certificates):
 def drop(machine, fingerprint):
     if machine.certificates.pop(fingerprint, None) is None:
         raise Refused("absent")
+    machine.count_change()
     return ["ok"]
 
 
 def set_verdict(machine, number, verdict):
     machine.check_limit("verdicts", len(machine.verdicts.keys() | {number}))
+    if machine.verdicts.get(number) != verdict:
+        machine.count_change()
     machine.verdicts[number] = verdict
     return ["ok"]
 
@@ -162,25 +196,31 @@ def set_bad(machine, number):
 def clear_verdict(machine, number):
     if machine.verdicts.pop(number, None) is None:
         raise Refused("absent")
+    machine.count_change()
     return ["ok"]
 
 
 def view_time(machine, name, time):
-    if name in machine.views:
-        machine.views[name].time = time
-    else:
+    if name not in machine.views:
         machine.check_limit("views", len(machine.views) + 1)
         machine.views[name] = View(time)
+        machine.count_turn(machine.views[name])
+    elif machine.views[name].time != time:
+        machine.views[name].time = time
+        machine.count_turn(machine.views[name])
     return ["ok"]
 
 
 def view_root(machine, name, fingerprint, amount):
-    roots = machine.view(name).roots
+    view = machine.view(name)
+    before = view.roots.get(fingerprint, 0)
     if amount > 0:
-        machine.check_limit("roots", len(roots.keys() | {fingerprint}))
-        roots[fingerprint] = amount
-    elif roots.pop(fingerprint, None) is None:
+        machine.check_limit("roots", len(view.roots.keys() | {fingerprint}))
+        view.roots[fingerprint] = amount
+    elif view.roots.pop(fingerprint, None) is None:
         raise Refused("absent")
+    if amount != before:
+        machine.count_turn(view)
     return ["ok"]
 
 
@@ -230,17 +270,56 @@ def check(machine, name, fingerprint, claims, table, user_id):
     return [words("checked yes", sum(path.amount for path in paths))]
 
 
-def list_(machine, name, wanted):
-    view = machine.view(name)
+def bindings(machine, view, wanted):
+    """The bindings that reach what is wanted, in order: fingerprint, user ID and amount."""
     network = Network(machine.certificates, machine.verdicts, view.time)
-    lines = []
     for fingerprint, certificate in sorted(machine.certificates.items()):
         for user_id in sorted(certificate.user_ids):
             paths = answer(Question(network, view.roots, fingerprint, user_id), wanted, machine.next_path)
             amount = sum(path.amount for path in paths)
             if amount >= wanted:
-                lines.append(words("bind", amount, fingerprint, script.print_user_id(user_id)))
+                yield fingerprint, user_id, amount
+
+
+def bind_line(fingerprint, user_id, amount):
+    return words("bind", amount, fingerprint, script.print_user_id(user_id))
+
+
+def list_(machine, name, wanted):
+    lines = [bind_line(*binding) for binding in bindings(machine, machine.view(name), wanted)]
     return [words("list", len(lines)), *lines]
+
+
+def cursor_over(machine, name, view_name, wanted):
+    view = machine.view(view_name)
+    if name not in machine.cursors and len(machine.cursors) >= CURSORS:
+        raise Refused("full", "cursors")
+    machine.cursors[name] = Cursor(view_name, wanted, machine.changes, view.turn)
+    return ["ok"]
+
+
+def cursor_next(machine, name, count):
+    cursor = machine.cursor(name)
+    view = machine.view(cursor.view)
+    if cursor.changes != machine.changes:
+        return [words("stale keyring", cursor.changes, machine.changes)]
+    if cursor.turn != view.turn:
+        return [words("stale view", cursor.turn, view.turn)]
+    behind = [
+        binding
+        for binding in bindings(machine, view, cursor.wanted)
+        if cursor.place is None or binding[:2] > cursor.place
+    ]
+    piece = behind[:count]
+    if piece:
+        cursor.place = piece[-1][:2]
+    return [words("piece", len(piece)), *(bind_line(*binding) for binding in piece)]
+
+
+def cursor_close(machine, name):
+    machine.cursor(name)
+    del machine.cursors[name]
+    return ["ok"]
 
 
 def explain(machine, name, fingerprint, user_id):
@@ -321,4 +400,7 @@ COMMANDS = {
     "keys": keys,
     "export FPR": export,
     "dump": dump,
+    "cursor V over V N": cursor_over,
+    "cursor V next N": cursor_next,
+    "cursor V close": cursor_close,
 }

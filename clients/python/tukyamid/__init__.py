@@ -10,13 +10,13 @@ from .engine import Engine, Listing
 from .keyring import Keyring, VerifierFailed
 from .refusals import EngineEnded, ProtocolError, Refused, TukyamidError
 from .replies import (Accepted, Answer, Binding, Done, Explanation, Exported, Key, Missed, Path, PendingSignature,
-                      Reached, Reason, Rejected, Reply, Step, Taken)
+                      Reached, Reason, Rejected, Reply, Stale, Step, Taken)
 from .spelling import address, for_people, read_user_id, write_user_id
 from .store import Store
 
 __all__ = [
-    "Accepted", "Answer", "Binding", "Claim", "ClaimedStep", "Done", "Engine", "EngineEnded", "Explanation", "Exported",
-    "Key", "Keyring", "Label", "Listing", "Missed", "Path", "PendingSignature", "ProtocolError", "Reached", "Reason",
-    "Refused", "Rejected", "Reply", "Step", "Store", "Taken", "TukyamidError", "VerifierFailed", "address",
-    "for_people", "read_command", "read_user_id", "write_user_id",
+    "Accepted", "Answer", "Binding", "Claim", "ClaimedStep", "Done", "Engine", "EngineEnded", "Explanation",
+    "Exported", "Key", "Keyring", "Label", "Listing", "Missed", "Path", "PendingSignature", "ProtocolError", "Reached",
+    "Reason", "Refused", "Rejected", "Reply", "Stale", "Step", "Store", "Taken", "TukyamidError", "VerifierFailed",
+    "address", "for_people", "read_command", "read_user_id", "write_user_id",
 ]

@@ -18,9 +18,11 @@ _CHECKS = {
     "fpr": spelling.fingerprint,
     "number": spelling.number,
     "view": spelling.view_name,
+    "cursor": spelling.view_name,
     "time": lambda value: spelling.decimal(value, 0, MOST_TIME, "time"),
     "amount": lambda value: spelling.decimal(value, 0, 255, "amount"),
     "wanted": lambda value: spelling.decimal(value, 1, MOST_WANTED, "wanted amount"),
+    "count": lambda value: spelling.decimal(value, 1, MOST_WANTED, "count"),
     "user_id": spelling.user_id,
     "octets": bytes,
     "paths": claims.paths,
@@ -202,6 +204,33 @@ class Dump(Command):
         return "dump"
 
 
+@dataclass(frozen=True)
+class CursorOver(Command):
+    cursor: str
+    view: str
+    wanted: int
+
+    def text(self):
+        return f"cursor {self.cursor} over {self.view} {self.wanted}"
+
+
+@dataclass(frozen=True)
+class CursorNext(Command):
+    cursor: str
+    count: int
+
+    def text(self):
+        return f"cursor {self.cursor} next {self.count}"
+
+
+@dataclass(frozen=True)
+class CursorClose(Command):
+    cursor: str
+
+    def text(self):
+        return f"cursor {self.cursor} close"
+
+
 def _uid(text):
     return spelling.read_user_id(text.encode("latin-1"))
 
@@ -224,6 +253,14 @@ def _view(view, word, *rest):
     return {"close": Close}[word](view, *rest)
 
 
+def _cursor(cursor, word, *rest):
+    if word == "over":
+        return CursorOver(cursor, rest[0], int(rest[1]))
+    if word == "next":
+        return CursorNext(cursor, int(*rest))
+    return {"close": CursorClose}[word](cursor, *rest)
+
+
 _READ = {
     "import": lambda digits: Import(bytes.fromhex(digits)),
     "load": Load,
@@ -239,6 +276,7 @@ _READ = {
     "keys": Keys,
     "export": Export,
     "dump": Dump,
+    "cursor": _cursor,
 }
 _FIELDS = {"ask": 4, "explain": 3, "absence": 4, "check": 5}  # The last of them is the rest of the line.
 

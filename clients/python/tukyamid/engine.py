@@ -9,7 +9,7 @@ from pathlib import Path as FilePath
 
 from . import commands
 from .refusals import EngineEnded, ProtocolError, Refused
-from .replies import ListingHead, Reply, read_reply
+from .replies import ListingHead, Reply, Stale, read_reply
 
 LONGEST_LINE = 16_777_216
 _BATCH = 1 << 20
@@ -221,6 +221,33 @@ class Engine:
     def list(self, view, wanted):
         """The bindings whose answer reaches the wanted amount, by fingerprint and user ID: a `Listing` of `Binding`."""
         return self.do(commands.List(view, wanted))
+
+    def begin_cursor(self, cursor, view, wanted):
+        """Begins a cursor over the bindings of `list`, or begins it anew."""
+        self.do(commands.CursorOver(cursor, view, wanted))
+
+    def next_piece(self, cursor, count):
+        """The next bindings of a cursor, so many at most: a `Listing` of `Binding`; or `Stale`."""
+        return self.do(commands.CursorNext(cursor, count))
+
+    def close_cursor(self, cursor):
+        self.do(commands.CursorClose(cursor))
+
+    def list_in_pieces(self, cursor, view, wanted, count=1000):
+        """The bindings of `list`, in pieces of a cursor, between which other lines may be sent. Where the list went
+        stale, all bindings are given anew, from the first: what was given before is told by a `Stale` in between."""
+        self.begin_cursor(cursor, view, wanted)
+        while True:
+            piece = self.next_piece(cursor, count)
+            if isinstance(piece, Stale):
+                yield piece
+                self.begin_cursor(cursor, view, wanted)
+                continue
+            bindings = list(piece)
+            yield from bindings
+            if len(bindings) < count:
+                self.close_cursor(cursor)
+                return
 
     def explain(self, view, fpr, user_id):
         """What a user ID of a key comes to, and each certification on it: an `Explanation`. RefusedAbsent is raised

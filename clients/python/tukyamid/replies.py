@@ -5,7 +5,7 @@ A reply is one line, or a first line that says how many lines follow. The first 
 | first line | what follows |
 |---|---|
 | `amount SUM paths K` | K times a line `path AMOUNT steps L root FPR` and its L lines `step ..` |
-| `list K`, `pending K`, `keys K`, `dump K` | K lines |
+| `list K`, `piece K`, `pending K`, `keys K`, `dump K` | K lines |
 | `explain WORD K` | K lines `cert ..` |
 | `absence missed SUM` | a line `claim PATHS TABLE` |
 | any other | nothing |
@@ -133,6 +133,15 @@ class Exported(Reply):
     octets: bytes
 
 
+@dataclass(frozen=True)
+class Stale(Reply):
+    """The list of a cursor is no more the one of its beginning: `word` is what changed, `keyring` or `view`, and its
+    count was `then` at the beginning and is `now`."""
+    word: str
+    then: int
+    now: int
+
+
 _NUMBER = r"(0|[1-9][0-9]*)"
 _FPR = r"([0-9a-f]{40}|[0-9a-f]{64})"
 _NUM = r"([0-9a-f]{64})"
@@ -158,7 +167,8 @@ _CLAIM = _form("claim", "([^ ]+)", "([^ ]+)")
 _ACCEPTED = _form("checked yes", _NUMBER)
 _REJECTED = _form("checked no", "(paths|table)")
 _EXPORT = _form("export", "([0-9a-f]*)")
-_LISTING = _form("(list|pending|keys|dump)", _NUMBER)
+_STALE = _form("stale", "(keyring|view)", _NUMBER, _NUMBER)
+_LISTING = _form("(list|piece|pending|keys|dump)", _NUMBER)
 
 
 def _match(form, line):
@@ -193,7 +203,10 @@ def _read_key(line):
     return Key(fpr, int(user_ids), int(signatures))
 
 
-_ITEMS = {"list": _read_bind, "pending": _read_pending, "keys": _read_key, "dump": lambda line: line.encode("latin-1")}
+_ITEMS = {
+    "list": _read_bind, "piece": _read_bind, "pending": _read_pending, "keys": _read_key,
+    "dump": lambda line: line.encode("latin-1"),
+}
 
 
 def _read_step(line):
@@ -274,5 +287,8 @@ def read_reply(next_line):
         word, count = _match(_EXPLAIN, first)
         target = _read_word(TargetWord, word)
         return Explanation(target, tuple(_read_reason(next_line()) for _ in range(int(count))))
+    if word == "stale":
+        word, then, now = _match(_STALE, first)
+        return Stale(word, int(then), int(now))
     listing, count = _match(_LISTING, first)
     return ListingHead(int(count), _ITEMS[listing])

@@ -21,6 +21,7 @@ use Rattle.wot_cache.specs.Parts.{ArePartsOf}
 use Rattle.wot_cache.specs.Question.{IsLocalTo, IsTold, TellsSpent, asked_of, asked_over, present_in, question_in}
 use Rattle.wot_cache.specs.Dump.{engine_of}
 use Rattle.wot_cache.specs.State.{Engine, ViewMarks, state_of}
+use Rattle.wot_cache.specs.Turns.{Turns}
 use Rattle.wot_cache.specs.Views.{IsWithin, Views, view_at}
 use Rattle.wot_cache.proofs.Inside.{few_there}
 
@@ -29,7 +30,7 @@ if_ok (Ok a) P Q step p = step a p
 if_ok (Err e) P Q step p = tt
 
 -- keyring and views are those of an engine of which the networks alone became others
-pub same_engine : {marks : ViewMarks} (engine : Engine) (k new : Keyring) (views more : Views) → record { keyring = k; views = views; marks = marks } ≡ engine
+pub same_engine : {marks : ViewMarks} {turns : Turns} (engine : Engine) (k new : Keyring) (views more : Views) → record { keyring = k; views = views; marks = marks; turns = turns } ≡ engine
     → new ≡ k → more ≡ views → engine_of new more ≡ engine_of engine.keyring engine.views
 same_engine engine k new views more seen same equal =
     ap (λ (k : Keyring). engine_of k more) same ∙ ap (λ (vs : Views). engine_of k vs) equal ∙ ap (λ (e : Engine). engine_of e.keyring e.views) seen
@@ -53,8 +54,8 @@ as_asked P engine name p target uid seen holds =
     (subst (λ (roots : List (Fpr × ℕ)). P (asked_over (present_of p.roads) roots target uid)) are.roots holds)) seen
 
 -- The parts are seen from the view of an engine whose networks alone became others.
-pub seen_after : {marks : ViewMarks} (engine : Engine) (k new : Keyring) (views more : Views) (name : List ℕ) (p : Parts)
-    → record { keyring = k; views = views; marks = marks } ≡ engine → new ≡ k → more ≡ views → IsSomeAnd (view_at more name) (λ (v : View). ArePartsOf new v p) → AreSeen engine name p
+pub seen_after : {marks : ViewMarks} {turns : Turns} (engine : Engine) (k new : Keyring) (views more : Views) (name : List ℕ) (p : Parts)
+    → record { keyring = k; views = views; marks = marks; turns = turns } ≡ engine → new ≡ k → more ≡ views → IsSomeAnd (view_at more name) (λ (v : View). ArePartsOf new v p) → AreSeen engine name p
 seen_after engine k new views more name p is same equal seen =
     subst (λ (e : Engine). AreSeen e name p) (same_engine engine k new views more is same equal) seen
 
@@ -70,8 +71,8 @@ few_of limits k views name p within small seen = by (view_at views name) refl se
         omega (arith, few, small, same)
 
 -- there are few roots among them
-pub few_seen : {marks : ViewMarks} (engine : Engine) (k : Keyring) (views : Views) (networks : Networks) (answers : AllAnswers) (name : List ℕ) (p : Parts)
-    → record { keyring = k; views = views; marks = marks } ≡ engine → IsEngine k views networks answers → AreSeen engine name p → length p.roots.now ≤ 64
+pub few_seen : {marks : ViewMarks} {turns : Turns} (engine : Engine) (k : Keyring) (views : Views) (networks : Networks) (answers : AllAnswers) (name : List ℕ) (p : Parts)
+    → record { keyring = k; views = views; marks = marks; turns = turns } ≡ engine → IsEngine k views networks answers turns → AreSeen engine name p → length p.roots.now ≤ 64
 few_seen engine k views networks answers name p same inside seen =
     few_of k.limits engine.keyring engine.views name p (subst (λ (e : Engine). IsWithin k.limits e.views) same inside.within) inside.small.roots seen
 
@@ -110,7 +111,7 @@ present_seen engine name p = by (view_at engine.views name)
         are.roads ∙ sym (ap (λ (k : Keyring). record { keyring = k; time = p.t }) are.keyring ∙ ap (λ (t : ℕ). record { keyring = engine.keyring; time = t }) are.time)
 
 -- the kept answers are right from the keyring of the parts on
-pub right_seen : {marks : ViewMarks} (engine : Engine) (k : Keyring) (views : Views) (name : List ℕ) (p : Parts) (answers : AllAnswers) → record { keyring = k; views = views; marks = marks } ≡ engine
+pub right_seen : {marks : ViewMarks} {turns : Turns} (engine : Engine) (k : Keyring) (views : Views) (name : List ℕ) (p : Parts) (answers : AllAnswers) → record { keyring = k; views = views; marks = marks; turns = turns } ≡ engine
     → AreSeen engine name p → AreAllRight k answers → AreAllRight p.keyring.now answers
 right_seen engine k views name p answers same seen right = by (view_at engine.views name) seen
   where
@@ -119,7 +120,7 @@ right_seen engine k views name p answers same seen right = by (view_at engine.vi
     by (Some v) are = subst (λ (k : Keyring). AreAllRight k answers) (ap (λ (e : Engine). e.keyring) same ∙ sym are.keyring) right
 
 -- and the other way round
-pub right_kept : {marks : ViewMarks} (engine : Engine) (k new : Keyring) (views : Views) (name : List ℕ) (p : Parts) (answers : AllAnswers) → record { keyring = k; views = views; marks = marks } ≡ engine
+pub right_kept : {marks : ViewMarks} {turns : Turns} (engine : Engine) (k new : Keyring) (views : Views) (name : List ℕ) (p : Parts) (answers : AllAnswers) → record { keyring = k; views = views; marks = marks; turns = turns } ≡ engine
     → new ≡ k → AreSeen engine name p → AreAllRight p.keyring.now answers → AreAllRight new answers
 right_kept engine k new views name p answers same equal seen right = by (view_at engine.views name) seen
   where

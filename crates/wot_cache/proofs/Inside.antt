@@ -29,6 +29,7 @@ use Rattle.wot_cache.specs.declared.answers.KeptAnswer.{KeptAnswer}
 use Rattle.wot_cache.specs.declared.answers.KeptReach.{KeptReach}
 use Rattle.wot_cache.specs.Answers.{AllAnswers, Amounts, AreAllRight, AreRight, AreRightIn, Entries, IsGood, IsReaching, IsRight, OfView}
 use Rattle.wot_cache.specs.Inside.{IsEngine, AllFit, Networks}
+use Rattle.wot_cache.specs.Turns.{Turns}
 use Rattle.wot_cache.specs.Views.{Views, IsWithin, is_name, view_at, with_amount, amount_fault, root_fault, without_view}
 
 -- ---- entries of a map, where P holds of each value
@@ -206,14 +207,15 @@ all_right_later further old new (e ∷ es) later one all = (
 )
 
 -- an engine after a change of its keyring
-pub engine_on : FitLater → LaterStill → (old new : Keyring) (views : Views) (networks : Networks) (answers : AllAnswers) → new.limits ≡ old.limits → IsLater old new
-    → IsOneChange old new → IsEngine old views networks answers → IsEngine new views networks answers
+pub engine_on : {turns : Turns} → FitLater → LaterStill → (old new : Keyring) (views : Views) (networks : Networks) (answers : AllAnswers) → new.limits ≡ old.limits → IsLater old new
+    → IsOneChange old new → IsEngine old views networks answers turns → IsEngine new views networks answers turns
 engine_on law further old new views networks answers limits later one e = record {
   small = rw limits e.small;
   within = rw limits e.within;
   fit = all_fit law networks old new later e.fit;
   of_open = e.of_open;
   right = all_right_later further old new answers later one e.right;
+  turned = e.turned;
 }
 
 -- ---- the networks of an engine

@@ -2,6 +2,7 @@ mod Changes
 mod Inside
 mod Asking
 mod Marking
+pub mod Turning
 pub mod Lines
 pub mod Behind
 pub mod Replay

@@ -19,6 +19,7 @@ use Rattle.wot_cache.specs.Answers.{AllAnswers}
 use Rattle.wot_cache.specs.Inside.{AllFit, AreOfOpen, IsEngine, Networks, network_at}
 use Rattle.wot_cache.specs.Marks.{IsForgotten, IsMadeFor, IsRefreshed, OthersStay, marks_by, marks_in, marks_shown, shown}
 use Rattle.wot_cache.specs.State.{Engine, OtherMarksStay, marks_at}
+use Rattle.wot_cache.specs.Turns.{Turns}
 use Rattle.wot_cache.specs.Views.{MovesTime, SetsAmount, Views, is_name, view_at, with_amount}
 
 -- ---- names
@@ -127,16 +128,16 @@ shown_at networks name =
     by (Some n) = refl
 
 -- a view that isn't open has no marks, and none once it is opened
-pub unmarked : (engine : Engine) (k : Keyring) (views new : Views) (networks : Networks) (name : List ℕ) → shown k views networks ≡ engine
-    → AreOfOpen views networks → view_at engine.views name ≡ None → marks_at (shown k new networks) name ≡ []
-unmarked engine k views new networks name seen all =
-    subst (λ (e : Engine). view_at e.views name ≡ None → marks_at (shown k new networks) name ≡ []) seen
+pub unmarked : {turns : Turns} (next : Turns) (engine : Engine) (k : Keyring) (views new : Views) (networks : Networks) (name : List ℕ) → shown k views networks turns ≡ engine
+    → AreOfOpen views networks → view_at engine.views name ≡ None → marks_at (shown k new networks next) name ≡ []
+unmarked {turns} next engine k views new networks name seen all =
+    subst (λ (e : Engine). view_at e.views name ≡ None → marks_at (shown k new networks next) name ≡ []) seen
     (λ none. shown_at networks name ∙ ap marks_by (all name none))
 
-pub others_marked : (engine : Engine) (k new : Keyring) (views more : Views) (old rest : Networks) (name : List ℕ) → shown k views old ≡ engine
-    → OthersStay name old rest → OtherMarksStay name engine (shown new more rest)
-others_marked engine k new views more old rest name seen others =
-    subst (λ (e : Engine). OtherMarksStay name e (shown new more rest)) seen
+pub others_marked : {turns : Turns} (next : Turns) (engine : Engine) (k new : Keyring) (views more : Views) (old rest : Networks) (name : List ℕ) → shown k views old turns ≡ engine
+    → OthersStay name old rest → OtherMarksStay name engine (shown new more rest next)
+others_marked {turns} next engine k new views more old rest name seen others =
+    subst (λ (e : Engine). OtherMarksStay name e (shown new more rest next)) seen
     (λ other e. shown_at rest other ∙ ap marks_by (others other e) ∙ sym (shown_at old other))
 
 -- what was forgotten is gone, and the rest stays
@@ -148,8 +149,8 @@ pub gone_itself : (name : List ℕ) (old rest : Networks) → IsForgotten name o
 gone_itself name old rest forgotten =
     forgotten name ∙ ap (λ (o : Ordering). cond (is_eq o) None (network_at old name)) (tied_itself nat_list_cmp_total name)
 
-pub none_shown : (k : Keyring) (views : Views) (rest : Networks) (name : List ℕ) → network_at rest name ≡ None → marks_at (shown k views rest) name ≡ []
-none_shown k views rest name none = shown_at rest name ∙ ap marks_by none
+pub none_shown : (turns : Turns) (k : Keyring) (views : Views) (rest : Networks) (name : List ℕ) → network_at rest name ≡ None → marks_at (shown k views rest turns) name ≡ []
+none_shown turns k views rest name none = shown_at rest name ∙ ap marks_by none
 
 -- ---- questions
 
@@ -178,28 +179,29 @@ made_as (Some v) r s k old new before after less m = record {
   never_less = m.never_less;
 }
 
-pub left : {T E : Type 0} (s : Result T E) (engine : Engine) (k new : Keyring) (views more : Views) (old rest : Networks) (name : List ℕ) (before after : ℕ)
-    → shown k views old ≡ engine → new ≡ k → more ≡ views
+pub left : {T E : Type 0} {turns : Turns} (s : Result T E) (engine : Engine) (k new : Keyring) (views more : Views) (old rest : Networks) (name : List ℕ) (before after : ℕ)
+    → shown k views old turns ≡ engine → new ≡ k → more ≡ views
     → IfSome (view_at views name) (λ (v : View). IsMadeFor s k v.time (marks_in old name) (marks_in rest name) before after)
-    → OthersStay name old rest → (view_at views name ≡ None → (rest ≡ old) × (after ≡ before)) → IsRefreshed s name engine (shown new more rest) before after
-left s engine k new views more old rest name before after seen same equal made others closed =
-    subst (λ (e : Engine). IsRefreshed s name e (shown new more rest) before after) seen (record {
-      stays = record { keyring = same; views = equal };
-      made = subst (λ (m : Marks). IfSome (view_at views name) (λ (v : View). IsMadeFor s k v.time m (marks_at (shown new more rest) name) before after))
+    → OthersStay name old rest → (view_at views name ≡ None → (rest ≡ old) × (after ≡ before)) → IsRefreshed s name engine (shown new more rest turns) before after
+left {turns = turns} s engine k new views more old rest name before after seen same equal made others closed =
+    subst (λ (e : Engine). IsRefreshed s name e (shown new more rest turns) before after) seen (record {
+      stays = record { keyring = same; views = equal; turns = refl };
+      made = subst (λ (m : Marks). IfSome (view_at views name) (λ (v : View). IsMadeFor s k v.time m (marks_at (shown new more rest turns) name) before after))
           (sym (shown_at old name))
           (subst (λ (m : Marks). IfSome (view_at views name) (λ (v : View). IsMadeFor s k v.time (marks_in old name) m before after)) (sym (shown_at rest name)) made);
-      others = others_marked (shown k views old) k new views more old rest name refl others;
+      others = others_marked turns (shown k views old turns) k new views more old rest name refl others;
       closed = λ none. (shown_at rest name ∙ ap (λ (ns : Networks). marks_in ns name) (closed none).0 ∙ sym (shown_at old name), (closed none).1);
     })
 
 -- an engine after a refresh of the networks
-pub engine_after : (answers : AllAnswers) (k new : Keyring) (views more : Views) (old rest : Networks) (name : List ℕ) (before after : ℕ) → new ≡ k → more ≡ views → AllFit rest new
-    → OthersStay name old rest → (view_at views name ≡ None → (rest ≡ old) × (after ≡ before)) → IsEngine k views old answers → IsEngine new more rest answers
-engine_after answers k new views more old rest name before after same equal fit others closed e =
-    subst (λ (k : Keyring). IsEngine k more rest answers) (sym same) (subst (λ (vs : Views). IsEngine k vs rest answers) (sym equal) (record {
+pub engine_after : {turns : Turns} (answers : AllAnswers) (k new : Keyring) (views more : Views) (old rest : Networks) (name : List ℕ) (before after : ℕ) → new ≡ k → more ≡ views → AllFit rest new
+    → OthersStay name old rest → (view_at views name ≡ None → (rest ≡ old) × (after ≡ before)) → IsEngine k views old answers turns → IsEngine new more rest answers turns
+engine_after {turns} answers k new views more old rest name before after same equal fit others closed e =
+    subst (λ (k : Keyring). IsEngine k more rest answers turns) (sym same) (subst (λ (vs : Views). IsEngine k vs rest answers turns) (sym equal) (record {
       small = e.small;
       within = e.within;
       fit = subst (λ (x : Keyring). AllFit rest x) same fit;
       of_open = refreshed_open views old rest name others (λ none. (closed none).0) e.of_open;
       right = e.right;
+      turned = e.turned;
     }))

@@ -18,7 +18,7 @@ use Rattle.wot_types.specs.FprLaws.{fpr_total}
 use Rattle.wot_types.specs.ViewName.{view_name_cmp}
 use Rattle.wot_policy.specs.declared.rows.PolicyRows.{PolicyRows}
 use Rattle.wot_script.specs.declared.command.Command.{Command}
-use Rattle.wot_script.specs.declared.command.Command.TheVariants.{Import, Load, Remove, Good, Bad, Unjudge, Time, Root, Close, Ask, Explain, Pending, Keys, Export, Dump, Absence, Check}
+use Rattle.wot_script.specs.declared.command.Command.TheVariants.{Import, Load, Remove, Good, Bad, Unjudge, Time, Root, Close, Ask, Explain, Pending, Keys, Export, Dump, Absence, Check, CursorOver, CursorNext, CursorClose}
 use Rattle.wot_keyring.specs.Dump as keyrings
 use Rattle.wot_keyring.specs.Dump.{after_all, judged_by}
 use Rattle.wot_keyring.specs.Held.{Held, held_of, nothing}
@@ -60,6 +60,9 @@ one_over rows l views Pending held new e = cc e
 one_over rows l views Keys held new e = cc e
 one_over rows l views (Export fpr) held new e = cc e
 one_over rows l views Dump held new e = cc e
+one_over rows l views (CursorOver cursor view wanted) held new e = cc e
+one_over rows l views (CursorNext cursor count) held new e = cc e
+one_over rows l views (CursorClose cursor) held new e = cc e
 
 refused_stays : (rows : PolicyRows) (l : Limits) (commands : List Command) → after_all (keyrings.after rows l) commands None ≡ None
 refused_stays rows l [] = refl

@@ -16,6 +16,7 @@ use Rattle.wot_keyring.specs.Dump.{after_all, judged_by}
 use Rattle.wot_keyring.specs.Keyring.{Keyring}
 use Rattle.wot_cache.specs.declared.view.View.{View}
 use Rattle.wot_cache.specs.declared.view.ViewFault.{ViewFault}
+use Rattle.wot_cache.specs.Turns.{no_turns}
 use Rattle.wot_cache.specs.Views.{Views, IsWithin, root_fault, time_fault, view_at}
 use Rattle.wot_cache.specs.State.{Engine, State, start, state_of, with_held, rooting, timing}
 
@@ -49,7 +50,7 @@ pub record CarriesOver (rows : PolicyRows) (old new : State) : Type 0 where
 
 -- an engine with this keyring and these views, of which nothing was asked
 abbrev pub engine_of : Keyring → Views → Engine
-engine_of keyring views = record { keyring = keyring; views = views; marks = [] }
+engine_of keyring views = record { keyring = keyring; views = views; marks = []; turns = no_turns }
 
 -- the commands of an engine with this keyring and these views
 abbrev pub commands_over : Keyring → Views → List Command

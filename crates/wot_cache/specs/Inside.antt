@@ -7,6 +7,7 @@ use Rattle.wot_keyring.specs.Kept.{AreSmall}
 use Rattle.wot_network.specs.Net.{Net, Fits, IsRight}
 use Rattle.wot_cache.specs.declared.view.View.{View}
 use Rattle.wot_cache.specs.Answers.{AllAnswers, AreAllRight}
+use Rattle.wot_cache.specs.Turns.{Turns, AreTurnsOf}
 use Rattle.wot_cache.specs.Views.{Views, IsWithin, is_name, view_at}
 
 -- networks by the names of views
@@ -24,12 +25,13 @@ network_at networks name = lookup (is_name name) networks
 abbrev pub AreOfOpen : Views → Networks → Type 0
 AreOfOpen views networks = (name : List ℕ) → view_at views name ≡ None → network_at networks name ≡ None
 
-pub record IsEngine (k : Keyring) (views : Views) (networks : Networks) (answers : AllAnswers) : Type 0 where
+pub record IsEngine (k : Keyring) (views : Views) (networks : Networks) (answers : AllAnswers) (turns : Turns) : Type 0 where
   pub small : AreSmall k.limits
   pub within : IsWithin k.limits views
   pub fit : AllFit networks k
   pub of_open : AreOfOpen views networks
   pub right : AreAllRight k answers
+  pub turned : AreTurnsOf views turns
 
 -- There is one for an open view: that of the keyring as it is, at the view's time.
 abbrev pub IsReady : Keyring → Views → Networks → List ℕ → Type 0

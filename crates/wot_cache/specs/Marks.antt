@@ -7,6 +7,7 @@ use Rattle.wot_network.specs.Net.{Net, Marks, AreMarksOf, StayCurrent, marks_of,
 use Rattle.wot_cache.specs.declared.view.View.{View}
 use Rattle.wot_cache.specs.Inside.{Networks, network_at}
 use Rattle.wot_cache.specs.State.{Engine, StaysButMarks, OtherMarksStay, ViewMarks, marks_at}
+use Rattle.wot_cache.specs.Turns.{Turns}
 use Rattle.wot_cache.specs.Views.{Views, is_name, view_at}
 
 abbrev pub marks_by : Option Net → Marks
@@ -21,8 +22,8 @@ abbrev pub marks_shown : Networks → ViewMarks
 marks_shown networks = map (λ (e : List ℕ × Net). (e.0, marks_of e.1.lines)) networks
 
 -- what an engine that keeps these is seen as
-abbrev pub shown : Keyring → Views → Networks → Engine
-shown k views networks = record { keyring = k; views = views; marks = marks_shown networks }
+abbrev pub shown : Keyring → Views → Networks → Turns → Engine
+shown k views networks turns = record { keyring = k; views = views; marks = marks_shown networks; turns = turns }
 
 -- What is kept by that name is gone, and the rest is as it was.
 abbrev pub IsForgotten : {X : Type 0} → List ℕ → List (List ℕ × X) → List (List ℕ × X) → Type 0

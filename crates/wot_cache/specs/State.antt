@@ -11,6 +11,7 @@ use Rattle.wot_keyring.specs.Held.{Held, nothing, held_of}
 use Rattle.wot_keyring.specs.Keyring.{Keyring}
 use Rattle.wot_keyring.specs.Keyring as keyrings
 use Rattle.wot_network.specs.Net.{Marks}
+use Rattle.wot_cache.specs.Turns.{Turns, no_turns}
 use Rattle.wot_cache.specs.Views.{Views, is_name, with_time, with_root, without_view}
 
 -- What is held, and the open views by name. Stamps, counts of changes and kept rows are no part of it: no answer depends
@@ -51,15 +52,16 @@ closing view s = record s { views = without_view s.views view }
 abbrev pub ViewMarks : Type 0
 ViewMarks = List (List ℕ × Marks)
 
--- what an engine is seen as: its keyring, its views, and the marks of each view of which something was asked
+-- what an engine is seen as: its keyring, its views, the marks of each view of which something was asked, and the turns of views
 pub record Engine : Type 0 where
   pub keyring : Keyring
   pub views : Views
   pub marks : ViewMarks
+  pub turns : Turns
 
 -- an engine that holds nothing
 abbrev pub empty : Limits → Engine
-empty limits = record { keyring = keyrings.empty limits; views = []; marks = [] }
+empty limits = record { keyring = keyrings.empty limits; views = []; marks = []; turns = no_turns }
 
 -- the marks of a view
 abbrev pub marks_at : Engine → List ℕ → Marks
@@ -70,10 +72,11 @@ abbrev pub state_of : Engine → State
 state_of engine = record { held = held_of engine.keyring; views = engine.views }
 
 -- All but marks is as it was: the certificates with their marks of admission, the verdicts, stamps and the count of changes,
--- and the open views with their times and roots.
+-- and the open views with their times, roots and turns.
 pub record StaysButMarks (old new : Engine) : Type 0 where
   pub keyring : new.keyring ≡ old.keyring
   pub views : new.views ≡ old.views
+  pub turns : new.turns ≡ old.turns
 
 -- The marks of other views are as they were.
 abbrev pub OtherMarksStay : List ℕ → Engine → Engine → Type 0

@@ -1,4 +1,4 @@
-ghost use Rattle.std.specs.Prelude.{◌≡◌, ◌<◌, ◌≤◌, ◌+◌, ◌-◌, ◌^◌, ◌++◌, ℕ, List, [], length, IfOk, IfSome, IsSomeAnd, Some, None, is_ok, is_some};
+ghost use Rattle.std.specs.Prelude.{◌≡◌, ◌<◌, ◌≤◌, ◌+◌, ◌-◌, ◌^◌, ◌++◌, ℕ, List, [], length, IfOk, IfSome, IsSomeAnd, Some, None, Err, false, true, ◌≢◌, is_ok, is_some};
 ghost use Rattle.std.specs.Prelude.{OnOk, OnErr};
 ghost use Rattle.std.specs.Option.{option_copied, option_map};
 ghost use Rattle.wot_policy.specs.Kept.{IsFaithful, rows_of, asked_more};
@@ -12,7 +12,7 @@ ghost use Rattle.wot_edge.specs.Answer.{IsAnswer, amount_of};
 ghost use Rattle.wot_edge.specs.Capacity.{AllFit};
 ghost use Rattle.wot_edge.specs.Lawful.{AreEntries};
 ghost use Rattle.wot_edge.specs.Record.{IsRecord};
-ghost use Rattle.wot_edge.specs.Roots.{IsRoots};
+ghost use Rattle.wot_edge.specs.Roots.{IsRoots, root_amount};
 ghost use Rattle.wot_network.specs.Net.{signatures_in, told_of};
 ghost use Rattle.wot_network.specs.Roads.{present_of};
 ghost use Rattle.wot_keyring.specs.Dump.{lines_of, AreLines};
@@ -22,6 +22,7 @@ ghost use Rattle.wot_cache.specs.Marks.{IsRefreshed};
 ghost use Rattle.wot_cache.specs.Parts.{ArePartsOf};
 ghost use Rattle.wot_cache.specs.Question.{AreWithinRoots, IsLocalTo, IsOnlyAnswer, OfQuestion, TellsSpent};
 ghost use Rattle.wot_cache.specs.State.{empty, marks_at, state_of, IsStateAfter, OtherMarksStay};
+ghost use Rattle.wot_cache.specs.Turns.{turn_at, IsOneTurn, IsOneClosing};
 ghost use Rattle.wot_cache.specs.Views.{view_at, with_time, time_fault, with_root, root_fault, without_view, TellsFault, TellsOpen};
 
 mod load;
@@ -31,6 +32,7 @@ use crate::dump::put_engine;
 use crate::parts::Parts;
 use crate::present::Networked;
 use crate::recall::{self, AllAnswers};
+use crate::turns::Turns;
 use crate::view::{AskFault, NoView, View, ViewFault};
 use crate::{networks, views};
 use std::alloc::Global;
@@ -52,6 +54,7 @@ pub struct Engine {
     alloc: Global,
     networked: Networked,
     answers: AllAnswers,
+    turns: Turns,
 }
 
 impl Model for Engine {
@@ -61,9 +64,9 @@ impl Model for Engine {
 
     ghost Value = { TheEngine };
 
-    ghost view = { λ a. shown a.networked.keyring a.networked.views.entries a.networked.networks.entries };
+    ghost view = { λ a. shown a.networked.keyring a.networked.views.entries a.networked.networks.entries a.turns };
 
-    ghost invariant = { λ a. IsEngine a.networked.keyring a.networked.views.entries a.networked.networks.entries a.answers.entries };
+    ghost invariant = { λ a. IsEngine a.networked.keyring a.networked.views.entries a.networked.networks.entries a.answers.entries a.turns };
 }
 
 impl Engine {
@@ -83,6 +86,7 @@ impl Engine {
                 networks: BTreeMap::new(alloc),
             },
             answers: BTreeMap::new(alloc),
+            turns: Turns::new(alloc),
         }
     }
 
@@ -114,6 +118,7 @@ impl Engine {
         ensures limits { self.new.keyring.limits ≡ self.old.keyring.limits }
         ensures views { self.new.views ≡ self.old.views }
         ensures marks { self.new.marks ≡ self.old.marks }
+        ensures turns { self.new.turns ≡ self.old.turns }
     {
         fits_later();
         later_is_order();
@@ -132,6 +137,7 @@ impl Engine {
         ensures limits { self.new.keyring.limits ≡ self.old.keyring.limits }
         ensures views { self.new.views ≡ self.old.views }
         ensures marks { self.new.marks ≡ self.old.marks }
+        ensures turns { self.new.turns ≡ self.old.turns }
     {
         fits_later();
         later_is_order();
@@ -151,6 +157,7 @@ impl Engine {
         ensures limits { self.new.keyring.limits ≡ self.old.keyring.limits }
         ensures views { self.new.views ≡ self.old.views }
         ensures marks { self.new.marks ≡ self.old.marks }
+        ensures turns { self.new.turns ≡ self.old.turns }
     {
         fits_later();
         later_is_order();
@@ -169,15 +176,19 @@ impl Engine {
         ensures limits { self.new.keyring.limits ≡ self.old.keyring.limits }
         ensures views { self.new.views ≡ self.old.views }
         ensures marks { self.new.marks ≡ self.old.marks }
+        ensures turns { self.new.turns ≡ self.old.turns }
     {
         fits_later();
         later_is_order();
         self.networked.keyring.clear_verdict(number)
     }
 
-    /// Opens a view with this time and no roots, or moves the time of an open one, which keeps its roots.
+    /// Opens a view with this time and no roots, or moves the time of an open one, which keeps its roots. A view that
+    /// is opened, or whose time becomes another, has one turn more.
     pub fn view_time(&mut self, view: &ViewName, t: u32) -> Result<(), ViewFault>
+        requires turnable { self.old.turns.count < 2 ^ 64 - 1 }
         ensures timed { OnOk result (self.new.views ≡ with_time self.old.views view.now t) }
+        ensures turned { OnOk result (IsOneTurn view.now self.old.views self.old.turns self.new.views self.new.turns) }
         ensures fault { TellsFault result (time_fault self.old.keyring.limits self.old.views view.now) }
         ensures kept { OnErr result (self.new ≡ self.old) }
         ensures keyring { self.new.keyring ≡ self.old.keyring }
@@ -185,40 +196,50 @@ impl Engine {
         // A view that is opened has none.
         ensures unmarked { view_at self.old.views view.now ≡ None → marks_at self.new view.now ≡ [] }
     {
+        if self.time(view) == Some(t) {
+            return Ok(());
+        }
         if views::move_time(&mut self.networked.views, view, t) {
+            self.turns.raise(view);
             return Ok(());
         }
         if self.networked.keyring.limits().views <= self.networked.views.len() as u64 {
             return Err(ViewFault::Full(Limit::Views));
         }
-        match view.duplicate(self.alloc) {
-            Ok(name) => self.open(name, t),
-            Err(Memory) => Err(ViewFault::Memory),
-        }
+        self.open(view, t)
     }
 
-    fn open(&mut self, name: ViewName, t: u32) -> Result<(), ViewFault>
-        requires closed { view_at self.old.views name ≡ None }
+    fn open(&mut self, view: &ViewName, t: u32) -> Result<(), ViewFault>
+        requires turnable { self.old.turns.count < 2 ^ 64 - 1 }
+        requires closed { view_at self.old.views view.now ≡ None }
         requires room { length self.old.views < self.old.keyring.limits.views }
-        ensures opened { OnOk result (self.new.views ≡ with_time self.old.views name t) }
+        ensures opened { OnOk result (self.new.views ≡ with_time self.old.views view.now t) }
+        ensures turned { OnOk result (IsOneTurn view.now self.old.views self.old.turns self.new.views self.new.turns) }
         ensures fault { OnErr result (result ≡ Err ViewFault.Memory) }
         ensures kept { OnErr result (self.new ≡ self.old) }
         ensures keyring { self.new.keyring ≡ self.old.keyring }
         ensures marks { self.new.marks ≡ self.old.marks }
     {
-        let view = View {
+        let opened = View {
             time: t,
             roots: Roots::new(self.alloc),
         };
-        match views::open(&mut self.networked.views, name, view) {
+        self.turns.begin(view.duplicate(self.alloc)?)?;
+        match views::open(self.alloc, &mut self.networked.views, view, opened) {
             Ok(()) => Ok(()),
-            Err(Memory) => Err(ViewFault::Memory),
+            Err(Memory) => {
+                self.turns.take_back(view);
+                Err(ViewFault::Memory)
+            }
         }
     }
 
-    /// Sets the amount of a root in an open view; 0 takes the root away. A root needs no certificate in the keyring.
+    /// Sets the amount of a root in an open view; 0 takes the root away. A root needs no certificate in the keyring. A
+    /// view whose roots become others has one turn more.
     pub fn view_root(&mut self, view: &ViewName, fpr: &Fpr, amount: u8) -> Result<(), ViewFault>
+        requires turnable { self.old.turns.count < 2 ^ 64 - 1 }
         ensures rooted { OnOk result (self.new.views ≡ with_root self.old.views view.now fpr.now amount) }
+        ensures turned { OnOk result (IsOneTurn view.now self.old.views self.old.turns self.new.views self.new.turns) }
         ensures fault { TellsFault result (root_fault self.old.keyring.limits (view_at self.old.views view.now) fpr.now amount) }
         ensures kept { OnErr result (self.new ≡ self.old) }
         ensures keyring { self.new.keyring ≡ self.old.keyring }
@@ -227,9 +248,26 @@ impl Engine {
         if let Some(fault) = self.root_fault(view, fpr, amount) {
             return Err(fault);
         }
-        match views::set_amount(&mut self.networked.views, view, *fpr, amount) {
-            Ok(()) => Ok(()),
-            Err(Memory) => Err(ViewFault::Memory),
+        if self.has_root(view, fpr, amount) {
+            return Ok(());
+        }
+        views::set_amount(&mut self.networked.views, view, *fpr, amount)?;
+        self.turns.raise(view);
+        Ok(())
+    }
+
+    /// Whether a root has this amount in a view.
+    fn has_root(&self, view: &ViewName, fpr: &Fpr, amount: u8) -> bool
+        requires allowed { root_fault self.now.keyring.limits (view_at self.now.views view.now) fpr.now amount ≡ None }
+        ensures same { result ≡ true → with_root self.now.views view.now fpr.now amount ≡ self.now.views }
+        ensures other { result ≡ false → IfSome (view_at self.now.views view.now) (λ v. root_amount v.roots fpr.now ≢ amount) }
+    {
+        match views::find(&self.networked.views, view) {
+            Some(open) => {
+                let _count = open.roots.len();
+                open.roots.get(fpr) == amount
+            }
+            None => false,
         }
     }
 
@@ -254,9 +292,10 @@ impl Engine {
         None
     }
 
-    /// Closes a view and forgets its roots. Takes no memory.
+    /// Closes a view and forgets its roots. Takes no memory. The count of turns stays.
     pub fn view_close(&mut self, view: &ViewName) -> Result<(), NoView>
         ensures closed { OnOk result (self.new.views ≡ without_view self.old.views view.now) }
+        ensures turned { OnOk result (IsOneClosing view.now self.old.views self.old.turns self.new.views self.new.turns) }
         ensures absent { is_ok result ≡ is_some (view_at self.old.views view.now) }
         ensures kept { OnErr result (self.new ≡ self.old) }
         ensures keyring { self.new.keyring ≡ self.old.keyring }
@@ -269,7 +308,23 @@ impl Engine {
         views::close(&mut self.networked.views, view);
         networks::forget(&mut self.networked.networks, view);
         recall::forget(&mut self.answers, view);
+        self.turns.forget(view);
         Ok(())
+    }
+
+    /// How often views were opened, or their time or roots became others.
+    pub fn turns(&self) -> u64
+        ensures turns { result ≡ self.now.turns.count }
+    {
+        self.turns.count()
+    }
+
+    /// At which of these turns an open view was last opened or changed. `None` exactly where it isn't open.
+    pub fn turn(&self, view: &ViewName) -> Option<u64>
+        ensures turn { result ≡ turn_at self.now.turns view.now }
+        ensures open { is_some result ≡ is_some (view_at self.now.views view.now) }
+    {
+        self.turns.of(view)
     }
 
     /// The time of an open view.

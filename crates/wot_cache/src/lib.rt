@@ -12,6 +12,7 @@ mod parts;
 mod present;
 mod recall;
 mod roots;
+mod turns;
 mod view;
 mod views;
 

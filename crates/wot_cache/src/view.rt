@@ -1,5 +1,8 @@
+ghost use Rattle.std.specs.Prelude.{◌≡◌};
+ghost use Rattle.wot_cache.specs.declared.view.ViewFault.TheVariants as faults;
+
 use wot_edge::Roots;
-use wot_types::Limit;
+use wot_types::{Limit, Memory};
 
 /// From where and when is looked: a time in seconds since 1970, and trust roots with their amounts.
 #[derive(Drop)]
@@ -19,6 +22,14 @@ pub enum ViewFault {
     Full(Limit),
     /// No memory was found.
     Memory,
+}
+
+impl From<Memory> for ViewFault {
+    ghost from_gives = { λ _ e. e ≡ faults.Memory };
+
+    fn from(_: Memory) -> ViewFault {
+        ViewFault::Memory
+    }
 }
 
 /// The view isn't open.

@@ -22,11 +22,11 @@ pub fn find<'a>(views: &'a Views, name: &ViewName) -> Option<&'a View>
 }
 
 /// Opens a view that isn't open.
-pub fn open(views: &mut Views, name: ViewName, view: View) -> Result<(), Memory>
-    ensures opened { OnOk result (views.new.entries ≡ insert_entry view_name_cmp views.old.entries name view) }
+pub fn open(alloc: Global, views: &mut Views, name: &ViewName, view: View) -> Result<(), Memory>
+    ensures opened { OnOk result (views.new.entries ≡ insert_entry view_name_cmp views.old.entries name.now view) }
     ensures kept { OnErr result (views.new.entries ≡ views.old.entries) }
 {
-    views.insert(name, view)?;
+    views.insert(name.duplicate(alloc)?, view)?;
     Ok(())
 }
 

@@ -1,11 +1,11 @@
 -- An answer depends on certificates, verdicts and the asking view alone.
-use Rattle.std.proofs.Common.{◌≡◌, ℕ, Bool, true, false, List, [], ◌∷◌, length, map, Option, Some, None, refl, sym, ap, subst, ◌∙◌}
+use Rattle.std.proofs.Common.{◌≡◌, inl, ℕ, Bool, true, false, List, [], ◌∷◌, length, map, Option, Some, None, refl, sym, ap, subst, ◌∙◌}
 use Rattle.std.specs.Prelude.{MatchBool, nat_lt}
 use Rattle.wot_types.specs.declared.fpr.Fpr.{Fpr}
 use Rattle.wot_policy.specs.declared.rows.PolicyRows.{PolicyRows}
 use Rattle.wot_verdict.specs.Verdicts as verdicts
 use Rattle.wot_script.specs.declared.command.Command.{Command}
-use Rattle.wot_script.specs.declared.command.Command.TheVariants.{Import, Load, Remove, Good, Bad, Unjudge, Time, Root, Close, Ask, Explain, Pending, Keys, Export, Dump, Absence, Check}
+use Rattle.wot_script.specs.declared.command.Command.TheVariants.{Import, Load, Remove, Good, Bad, Unjudge, Time, Root, Close, Ask, Explain, Pending, Keys, Export, Dump, Absence, Check, CursorOver, CursorNext, CursorClose}
 use Rattle.wot_script.specs.declared.reply.Reply.{Reply}
 use Rattle.wot_script.specs.declared.reply.Reply.TheVariants as replies
 use Rattle.wot_script.specs.Grammar.{command_of}
@@ -23,9 +23,10 @@ use Rattle.wot_engine.specs.Answer.{Asks}
 use Rattle.wot_engine.specs.Depends.{AsksFrom, bare, IsAsk}
 use Rattle.wot_engine.specs.Law.{OneOutcome}
 use Rattle.wot_engine.specs.Lines.{is_silent, longest}
-use Rattle.wot_engine.specs.Outcome.{only}
 use Rattle.wot_engine.specs.Listing.{Lists, explained_from}
-use Rattle.wot_engine.specs.LineStep.{LineStep, HasReply, Answers, Does, Gives}
+use Rattle.wot_engine.specs.LineStep.{LineStep, HasReply, Answers, Does, Obeys, Stays}
+use Rattle.wot_engine.specs.Pacing.{Paces}
+use Rattle.wot_engine.specs.Whole.{IsTurnedBy, Whole}
 use Rattle.wot_engine.proofs.Named.{AreNamed, named_all, named_without}
 use Rattle.wot_engine.proofs.Stays.{run_stays}
 use Rattle.wot_engine.specs.Scene.{Scene, opening}
@@ -97,10 +98,38 @@ does_alike rows one other name Pending given told reply new c v w a does = absur
 does_alike rows one other name Keys given told reply new c v w a does = absurd a
 does_alike rows one other name (Export fpr) given told reply new c v w a does = absurd a
 does_alike rows one other name Dump given told reply new c v w a does = absurd a
+does_alike rows one other name (CursorOver cursor view wanted) given told reply new c v w a does = absurd a
+does_alike rows one other name (CursorNext cursor count) given told reply new c v w a does = absurd a
+does_alike rows one other name (CursorClose cursor) given told reply new c v w a does = absurd a
+
+-- Such a command leaves turns and cursors.
+asking : (name : List ℕ) (command : Command) (s : Whole) (reply : Reply) → AsksFrom name command
+    → IsTurnedBy command s.state.views s.turns s.state.views s.turns × Paces s command reply s.cursors
+asking name (Ask view target wanted uid) s reply a = (refl, refl)
+asking name (Command.List view wanted) s reply a = (refl, refl)
+asking name (Explain view fpr uid) s reply a = (refl, refl)
+asking name (Absence view target wanted uid) s reply a = (refl, refl)
+asking name (Check view target claims labels uid) s reply a = (refl, refl)
+asking name (Import octets) s reply a = absurd a
+asking name (Load entry) s reply a = absurd a
+asking name (Remove fpr) s reply a = absurd a
+asking name (Good number fpr) s reply a = absurd a
+asking name (Bad number) s reply a = absurd a
+asking name (Unjudge number) s reply a = absurd a
+asking name (Time view t) s reply a = absurd a
+asking name (Root view fpr amount) s reply a = absurd a
+asking name (Close view) s reply a = absurd a
+asking name Pending s reply a = absurd a
+asking name Keys s reply a = absurd a
+asking name (Export fpr) s reply a = absurd a
+asking name Dump s reply a = absurd a
+asking name (CursorOver cursor view wanted) s reply a = absurd a
+asking name (CursorNext cursor count) s reply a = absurd a
+asking name (CursorClose cursor) s reply a = absurd a
 
 -- A step of a question in the one state is one in the other.
-pub step_alike : (rows : PolicyRows) (one other : State) (name line : List ℕ) (given told : Answer) (reply : Option Reply) (new : State) → one.held.certs ≡ other.held.certs
-    → one.held.verdicts ≡ other.held.verdicts → view_at one.views name ≡ view_at other.views name → IsAsk name line
+pub step_alike : (rows : PolicyRows) (one other : Whole) (name line : List ℕ) (given told : Answer) (reply : Option Reply) (new : Whole) → one.state.held.certs ≡ other.state.held.certs
+    → one.state.held.verdicts ≡ other.state.held.verdicts → view_at one.state.views name ≡ view_at other.state.views name → IsAsk name line
     → LineStep rows one line given reply new → LineStep rows other line told reply other
 step_alike rows one other name line given told reply new c v w ask step = long (nat_lt longest (length line)) step
   where
@@ -108,10 +137,16 @@ step_alike rows one other name line given told reply new c v w ask step = long (
     answers o e None s = absurd s
     answers o e (Some r) s =
         let Told : Option Command → Type 0 = λ o. Answers rows other o told r other in
-        let s' : Does rows one ask.command given r new = subst (λ (o : Option Command). Answers rows one o given r new) e s in
-        subst Told (sym e) (does_alike rows one other name ask.command given told r new c v w ask.asks s')
+        let s' : Obeys rows one ask.command given r new = subst (λ (o : Option Command). Answers rows one o given r new) e s in
+        let rest = asking name ask.command other r ask.asks in
+        subst Told (sym e) (record {
+          does = does_alike rows one.state other.state name ask.command given told r new.state c v w ask.asks s'.does;
+          counted = inl (refl, refl);
+          turned = rest.0;
+          paces = rest.1;
+        })
 
-    refused : (r : Option Reply) → HasReply (Gives (only one replies.Long)) r new → HasReply (Gives (only other replies.Long)) r other
+    refused : (r : Option Reply) → HasReply (Stays one replies.Long) r new → HasReply (Stays other replies.Long) r other
     refused None g = absurd g
     refused (Some r) g = (g.0, refl)
 
@@ -121,17 +156,17 @@ step_alike rows one other name line given told reply new c v w ask step = long (
     silent false g = answers (command_of line) ask.read reply g
 
     long : (b : Bool)
-        → MatchBool b (HasReply (Gives (only one replies.Long)) reply new) (MatchBool (is_silent line) ((reply ≡ None) × (new ≡ one)) (HasReply (Answers rows one (command_of line) given) reply new))
-        → MatchBool b (HasReply (Gives (only other replies.Long)) reply other) (MatchBool (is_silent line) ((reply ≡ None) × (other ≡ other)) (HasReply (Answers rows other (command_of line) told) reply other))
+        → MatchBool b (HasReply (Stays one replies.Long) reply new) (MatchBool (is_silent line) ((reply ≡ None) × (new ≡ one)) (HasReply (Answers rows one (command_of line) given) reply new))
+        → MatchBool b (HasReply (Stays other replies.Long) reply other) (MatchBool (is_silent line) ((reply ≡ None) × (other ≡ other)) (HasReply (Answers rows other (command_of line) told) reply other))
     long true g = refused reply g
     long false g = silent (is_silent line) g
 
 -- What is reached can be.
-pub reached_can_be : (rows : PolicyRows) (world : World) (lines : List (List ℕ)) (replies : List Reply) (s : Scene) → Run rows (opening world) lines replies s → AreNamed s.state.held.certs
+pub reached_can_be : (rows : PolicyRows) (world : World) (lines : List (List ℕ)) (replies : List Reply) (s : Scene) → Run rows (opening world) lines replies s → AreNamed s.whole.state.held.certs
 reached_can_be rows world lines replies s run = run_stays rows AreNamed (named_all rows) named_without lines (opening world) replies s tt run
 
-pub replied_alike : (rows : PolicyRows) → OneOutcome rows → (one other : State) (name line : List ℕ) → AreNamed other.held.certs → one.held.certs ≡ other.held.certs
-    → one.held.verdicts ≡ other.held.verdicts → view_at one.views name ≡ view_at other.views name → IsAsk name line → (given told : Answer)
-    → (reply second : Option Reply) (new third : State) → LineStep rows one line given reply new → LineStep rows other line told second third → reply ≡ second
+pub replied_alike : (rows : PolicyRows) → OneOutcome rows → (one other : Whole) (name line : List ℕ) → AreNamed other.state.held.certs → one.state.held.certs ≡ other.state.held.certs
+    → one.state.held.verdicts ≡ other.state.held.verdicts → view_at one.state.views name ≡ view_at other.state.views name → IsAsk name line → (given told : Answer)
+    → (reply second : Option Reply) (new third : Whole) → LineStep rows one line given reply new → LineStep rows other line told second third → reply ≡ second
 replied_alike rows law one other name line can c v w ask given told reply second new third p q =
     (law.one other line told reply second other third can (step_alike rows one other name line given told reply new c v w ask p) q).0

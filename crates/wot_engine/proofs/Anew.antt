@@ -12,7 +12,7 @@ use Rattle.wot_types.specs.Limits.{standard_limits}
 use Rattle.wot_io.specs.Input as inputs
 use Rattle.wot_policy.specs.declared.rows.PolicyRows.{PolicyRows}
 use Rattle.wot_script.specs.declared.command.Command.{Command}
-use Rattle.wot_script.specs.declared.command.Command.TheVariants.{Import, Load, Remove, Good, Bad, Unjudge, Time, Root, Close, Ask, Explain, Pending, Keys, Export, Dump, Absence, Check}
+use Rattle.wot_script.specs.declared.command.Command.TheVariants.{Import, Load, Remove, Good, Bad, Unjudge, Time, Root, Close, Ask, Explain, Pending, Keys, Export, Dump, Absence, Check, CursorOver, CursorNext, CursorClose}
 use Rattle.wot_script.specs.declared.reply.Reply.{Reply}
 use Rattle.wot_script.specs.declared.reply.Reply.TheVariants as replies
 use Rattle.wot_script.specs.Replies.{is_refusal}
@@ -34,13 +34,17 @@ use Rattle.wot_cache.specs.Dump.{CarriesOver, IsRestored, after, commands_of, un
 use Rattle.wot_engine.specs.Entry.{entry_for}
 use Rattle.wot_engine.specs.Lines.{is_silent}
 use Rattle.wot_engine.specs.Outcome.{Outcome, done, imports, set_verdict, only, unless}
-use Rattle.wot_engine.specs.LineStep.{Answers, Does, Gives}
+use Rattle.wot_engine.specs.LineStep.{Answers, Does, Gives, Obeys}
+use Rattle.wot_engine.specs.Pacing.{is_pacing}
+use Rattle.wot_engine.specs.Whole.{Whole, beginning}
 use Rattle.wot_engine.specs.Scene.{Step}
 use Rattle.wot_engine.specs.Transcript.{Run}
 use Rattle.wot_engine.specs.Fresh.{IsMadeAnew, dumped}
 use Rattle.wot_engine.proofs.CutLines.{lines_of-feed}
 use Rattle.wot_engine.proofs.Giving.{over, unread_step}
+use Rattle.wot_engine.proofs.Paced.{paces_plain}
 use Rattle.wot_engine.proofs.Stepping.{entry_heard, looked_at}
+use Rattle.wot_engine.proofs.Wholes.{counted_some, turned_some}
 
 -- a reply that is no refusal
 record Takes (P : Reply → State → Type 0) (new : State) : Type 0 where
@@ -91,6 +95,9 @@ accepted rows Pending s new e = absurd (cc e)
 accepted rows Keys s new e = absurd (cc e)
 accepted rows (Export fpr) s new e = absurd (cc e)
 accepted rows Dump s new e = absurd (cc e)
+accepted rows (CursorOver cursor view wanted) s new e = absurd (cc e)
+accepted rows (CursorNext cursor count) s new e = absurd (cc e)
+accepted rows (CursorClose cursor) s new e = absurd (cc e)
 
 -- nor does it read an entry
 unread : (rows : PolicyRows) (command : Command) (s new : State) → after rows standard_limits command s ≡ Some new → entry_for (Some command) ≡ None
@@ -112,6 +119,33 @@ unread rows Pending s new e = refl
 unread rows Keys s new e = refl
 unread rows (Export fpr) s new e = refl
 unread rows Dump s new e = refl
+unread rows (CursorOver cursor view wanted) s new e = refl
+unread rows (CursorNext cursor count) s new e = refl
+unread rows (CursorClose cursor) s new e = refl
+
+-- nor is it one of a cursor
+unpaced : (rows : PolicyRows) (command : Command) (s new : State) → after rows standard_limits command s ≡ Some new → is_pacing command ≡ false
+unpaced rows (Import octets) s new e = refl
+unpaced rows (Load name) s new e = refl
+unpaced rows (Remove fpr) s new e = refl
+unpaced rows (Good number fpr) s new e = refl
+unpaced rows (Bad number) s new e = refl
+unpaced rows (Unjudge number) s new e = refl
+unpaced rows (Time view t) s new e = refl
+unpaced rows (Root view fpr amount) s new e = refl
+unpaced rows (Close view) s new e = refl
+unpaced rows (Ask view target wanted uid) s new e = refl
+unpaced rows (Command.List view wanted) s new e = refl
+unpaced rows (Explain view fpr uid) s new e = refl
+unpaced rows (Absence view target wanted uid) s new e = refl
+unpaced rows (Check view target claims labels uid) s new e = refl
+unpaced rows Pending s new e = refl
+unpaced rows Keys s new e = refl
+unpaced rows (Export fpr) s new e = refl
+unpaced rows Dump s new e = refl
+unpaced rows (CursorOver cursor view wanted) s new e = absurd (cc e)
+unpaced rows (CursorNext cursor count) s new e = absurd (cc e)
+unpaced rows (CursorClose cursor) s new e = absurd (cc e)
 
 -- ---- lines
 
@@ -126,20 +160,43 @@ cut_lines (c ∷ commands) lines =
     ∙ lines_of-feed (spelling c) (lines_of commands) lines.0.no_feed
     ∙ ap (λ (rest : List (List ℕ)). spelling c ∷ rest) (cut_lines commands lines.1)
 
+-- ---- all that is kept
+
+-- After that command all that is kept has this state, and the same cursors.
+record Leads (rows : PolicyRows) (old : Whole) (c : Command) (reply : Reply) (new : State) : Type 0 where
+  whole : Whole
+  state : whole.state ≡ new
+  cursors : whole.cursors ≡ old.cursors
+  obeys : Obeys rows old c Answer.absent reply whole
+
+leads : (rows : PolicyRows) (old : Whole) (c : Command) (reply : Reply) (new : State) → is_pacing c ≡ false → Does rows old.state c Answer.absent reply new → Leads rows old c reply new
+leads rows old c reply new plain does =
+    let count = counted_some old new.held in
+    let turns = turned_some c old.state.views new.views old.turns in
+    record {
+      whole = record { state = new; changes = count.0; turns = turns.0; cursors = old.cursors };
+      state = refl;
+      cursors = refl;
+      obeys = record { does = does; counted = count.1; turned = turns.1; paces = paces_plain old c reply plain };
+    }
+
 -- the step of a command's line, over a shelf of any world
-stepped : (rows : PolicyRows) (c : Command) (s new : State) → IsLine c → entry_for (Some c) ≡ None → (t : Takes (Does rows s c Answer.absent) new) → (world : World)
-    → Step rows (over s world) (spelling c) (Some t.reply) (over new world)
-stepped rows c s new line none t world =
-    let Answered : Option Command → Type 0 = λ o. Answers rows s o Answer.absent t.reply new in
+stepped : (rows : PolicyRows) (c : Command) (s new : Whole) (reply : Reply) → IsLine c → entry_for (Some c) ≡ None → Obeys rows s c Answer.absent reply new → (world : World)
+    → Step rows (over s world) (spelling c) (Some reply) (over new world)
+stepped rows c s new reply line none obeys world =
+    let Answered : Option Command → Type 0 = λ o. Answers rows s o Answer.absent reply new in
     let is_heard : is_silent (spelling c) ≡ false = heard (spelling c) line.heard in
-    unread_step rows world s new (spelling c) (Some t.reply) (entry_heard (spelling c) line.short is_heard ∙ ap entry_for line.read ∙ none)
-    (looked_at rows s (spelling c) Answer.absent t.reply new line.short is_heard (subst Answered (sym line.read) t.does))
+    unread_step rows world s new (spelling c) (Some reply) (entry_heard (spelling c) line.short is_heard ∙ ap entry_for line.read ∙ none)
+    (looked_at rows s (spelling c) Answer.absent reply new line.short is_heard (subst Answered (sym line.read) obeys))
 
 -- ---- runs
 
-record Runs (rows : PolicyRows) (s : State) (commands : List Command) (new : State) : Type 0 where
+record Runs (rows : PolicyRows) (s : Whole) (commands : List Command) (new : State) : Type 0 where
   replies_are : List Reply
-  run : (world : World) → Run rows (over s world) (map spelling commands) replies_are (over new world)
+  whole : Whole
+  state : whole.state ≡ new
+  cursors : whole.cursors ≡ s.cursors
+  run : (world : World) → Run rows (over s world) (map spelling commands) replies_are (over whole world)
   each : length replies_are ≡ length (map spelling commands)
   well : AllByRecursion (λ reply. is_refusal reply ≡ false) replies_are
 
@@ -147,30 +204,37 @@ refused_stays : (rows : PolicyRows) (l : Limits) (commands : List Command) → a
 refused_stays rows l [] = refl
 refused_stays rows l (command ∷ commands) = refl
 
-further : (rows : PolicyRows) (c : Command) (commands : List Command) (s new : State) → IsLine c
-    → ((mid : State) → after_all (after rows standard_limits) commands (Some mid) ≡ Some new → Runs rows mid commands new)
-    → (o : Option State) → after rows standard_limits c s ≡ o → after_all (after rows standard_limits) commands o ≡ Some new → Runs rows s (c ∷ commands) new
+further : (rows : PolicyRows) (c : Command) (commands : List Command) (s : Whole) (new : State) → IsLine c
+    → ((mid : Whole) → after_all (after rows standard_limits) commands (Some mid.state) ≡ Some new → Runs rows mid commands new)
+    → (o : Option State) → after rows standard_limits c s.state ≡ o → after_all (after rows standard_limits) commands o ≡ Some new → Runs rows s (c ∷ commands) new
 further rows c commands s new line rest None was e = let none = refused_stays rows standard_limits commands in absurd (cc (none, e))
 further rows c commands s new line rest (Some mid) was e =
-    let t : Takes (Does rows s c Answer.absent) mid = accepted rows c s mid was in
-    let more : Runs rows mid commands new = rest mid e in
+    let t : Takes (Does rows s.state c Answer.absent) mid = accepted rows c s.state mid was in
+    let l : Leads rows s c t.reply mid = leads rows s c t.reply mid (unpaced rows c s.state mid was) t.does in
+    let more : Runs rows l.whole commands new = rest l.whole (ap (λ (x : State). after_all (after rows standard_limits) commands (Some x)) l.state ∙ e) in
     record {
       replies_are = t.reply ∷ more.replies_are;
-      run = λ world. (Some t.reply, over mid world, more.replies_are, stepped rows c s mid line (unread rows c s mid was) t world, more.run world, refl);
+      whole = more.whole;
+      state = more.state;
+      cursors = more.cursors ∙ l.cursors;
+      run = λ world. (Some t.reply, over l.whole world, more.replies_are, stepped rows c s l.whole t.reply line (unread rows c s.state mid was) l.obeys world, more.run world, refl);
       each = ap suc more.each;
       well = (t.well, more.well);
     }
 
-runs : (rows : PolicyRows) (commands : List Command) (s new : State) → AreLines commands
-    → after_all (after rows standard_limits) commands (Some s) ≡ Some new → Runs rows s commands new
+runs : (rows : PolicyRows) (commands : List Command) (s : Whole) (new : State) → AreLines commands
+    → after_all (after rows standard_limits) commands (Some s.state) ≡ Some new → Runs rows s commands new
 runs rows [] s new lines e = record {
   replies_are = [];
-  run = λ world. (refl, ap (λ (x : State). over x world) (sym (same_Some s new e)));
+  whole = s;
+  state = same_Some s.state new e;
+  cursors = refl;
+  run = λ world. (refl, refl);
   each = refl;
   well = tt;
 }
 runs rows (c ∷ commands) s new lines e =
-    further rows c commands s new lines.0 (λ mid. runs rows commands mid new lines.1) (after rows standard_limits c s) refl e
+    further rows c commands s new lines.0 (λ mid. runs rows commands mid new lines.1) (after rows standard_limits c s.state) refl e
 
 reached : (rows : PolicyRows) (l : Limits) (s : State) → IsSomeAnd (after_all (after rows l) (commands_of s) (Some start)) (CarriesOver rows s)
     → (new : State) × CarriesOver rows s new × (after_all (after rows l) (commands_of s) (Some start) ≡ Some new)
@@ -186,7 +250,15 @@ made_anew rows engine standard restored lines =
     let s : State = state_of engine in
     let From : Limits → Type 0 = λ l. IsSomeAnd (after_all (after rows l) (commands_of s) (Some start)) (CarriesOver rows s) in
     let there = reached rows standard_limits s (subst From standard restored) in
-    let all : Runs rows start (commands_of s) there.0 = runs rows (commands_of s) start there.0 lines there.2 in
+    let all : Runs rows beginning (commands_of s) there.0 = runs rows (commands_of s) beginning there.0 lines there.2 in
     let cut : map spelling (commands_of s) ≡ dumped s = sym (cut_lines (commands_of s) lines) in
-    let Ran : List (List ℕ) → Type 0 = λ lines. (world : World) → Run rows (over start world) lines all.replies_are (over there.0 world) in
-    record { replies = all.replies_are; new = there.0; same = there.1; run = subst Ran cut all.run; each = all.each ∙ ap length cut; well = all.well }
+    let Ran : List (List ℕ) → Type 0 = λ lines. (world : World) → Run rows (over beginning world) lines all.replies_are (over all.whole world) in
+    record {
+      replies = all.replies_are;
+      new = all.whole;
+      same = subst (λ (new : State). CarriesOver rows s new) (sym all.state) there.1;
+      cursors = all.cursors;
+      run = subst Ran cut all.run;
+      each = all.each ∙ ap length cut;
+      well = all.well;
+    }

@@ -5,15 +5,15 @@ use Rattle.wot_io.specs.Input.{lines_of}
 use Rattle.wot_policy.specs.declared.rows.PolicyRows.{PolicyRows}
 use Rattle.wot_script.specs.declared.reply.Reply.{Reply}
 use Rattle.wot_certd.specs.World.{Answer, World, called, read_answer}
-use Rattle.wot_cache.specs.State.{State}
+use Rattle.wot_engine.specs.Whole.{Whole}
 use Rattle.wot_engine.specs.Entry.{IsWorldAfter, ReadNothing, WasGiven, entry_in, given_by, world_after}
 use Rattle.wot_engine.specs.LineStep.{LineStep}
 use Rattle.wot_engine.specs.Scene.{Scene, Step}
 use Rattle.wot_engine.specs.Transcript.{AllTold}
 
--- this state, with a shelf of this world
-abbrev pub over : State → World → Scene
-over state world = record { state = state; world = world }
+-- all that is kept, with a shelf of this world
+abbrev pub over : Whole → World → Scene
+over whole world = record { whole = whole; world = world }
 
 -- By the world that the shelf told at first: this is its world now, where it tells it.
 abbrev pub IsNow : Option World → Option World → World → Type 0
@@ -41,7 +41,7 @@ may_read (Some origin) input done line more e unread = tt
 
 -- ---- steps
 
-step_by : (rows : PolicyRows) (now : World) (old new : State) (line : List ℕ) (reply : Option Reply) (entry : Option Name) (given : Answer) → entry_in line ≡ entry
+step_by : (rows : PolicyRows) (now : World) (old new : Whole) (line : List ℕ) (reply : Option Reply) (entry : Option Name) (given : Answer) → entry_in line ≡ entry
     → given ≡ given_by now entry → LineStep rows old line given reply new → Step rows (over old now) line reply (over new (world_after now entry))
 step_by rows now old new line reply entry given e g does =
     let there : LineStep rows old line (given_by now entry) reply new = subst (λ (x : Answer). LineStep rows old line x reply new) g does in
@@ -50,17 +50,17 @@ step_by rows now old new line reply entry given e g does =
     record { does = both.0; world = both.1 }
 
 -- a line that reads nothing
-pub unread_step : (rows : PolicyRows) (now : World) (old new : State) (line : List ℕ) (reply : Option Reply) → entry_in line ≡ None
+pub unread_step : (rows : PolicyRows) (now : World) (old new : Whole) (line : List ℕ) (reply : Option Reply) → entry_in line ≡ None
     → LineStep rows old line Answer.absent reply new → Step rows (over old now) line reply (over new now)
 unread_step rows now old new line reply e does = step_by rows now old new line reply None Answer.absent e refl does
 
 -- The line's step, and the world after it.
-pub record Goes (rows : PolicyRows) (origin after : Option World) (now : World) (old new : State) (line : List ℕ) (reply : Option Reply) : Type 0 where
+pub record Goes (rows : PolicyRows) (origin after : Option World) (now : World) (old new : Whole) (line : List ℕ) (reply : Option Reply) : Type 0 where
   pub next : World
   pub is_next : IsNow origin after next
   pub step : Step rows (over old now) line reply (over new next)
 
-pub goes : (rows : PolicyRows) (origin before after : Option World) (now : World) (old new : State) (line : List ℕ) (entry : Option Name) (given : Answer) (reply : Option Reply)
+pub goes : (rows : PolicyRows) (origin before after : Option World) (now : World) (old new : Whole) (line : List ℕ) (entry : Option Name) (given : Answer) (reply : Option Reply)
     → entry_in line ≡ entry → MayRead origin line → IsNow origin before now → WasGiven entry before given → IsWorldAfter entry before after
     → LineStep rows old line given reply new → Goes rows origin after now old new line reply
 goes rows None before after now old new line None given reply e may is asked world does = record {

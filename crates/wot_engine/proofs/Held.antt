@@ -12,7 +12,7 @@ use Rattle.wot_io.specs.Given as given
 use Rattle.wot_io.specs.declared.lines.Line.{Line}
 use Rattle.wot_policy.specs.declared.rows.PolicyRows.{PolicyRows}
 use Rattle.wot_certd.specs.World.{World}
-use Rattle.wot_cache.specs.State.{State, start}
+use Rattle.wot_engine.specs.Whole.{Whole, beginning}
 use Rattle.wot_engine.specs.Held.{Moves, MovesOf}
 use Rattle.wot_engine.specs.Law.{OneOutcome}
 use Rattle.wot_engine.specs.Turn.{Replies}
@@ -42,16 +42,16 @@ some_is x y e = cc
 
 module _ (rows : PolicyRows) where
   -- the replies to the lines given are those octets that were written, and those that are held
-  pub record IsHeld (origin : Option World) (world : World) (input before held : List ℕ) (taken : ℕ) (left written : Option (List ℕ)) (out : List ℕ) (shelf : Option World) (state : State) : Type 0 where
+  pub record IsHeld (origin : Option World) (world : World) (input before held : List ℕ) (taken : ℕ) (left written : Option (List ℕ)) (out : List ℕ) (shelf : Option World) (state : Whole) : Type 0 where
     pub done : List ℕ
     pub written_is : written ≡ Some (before ++ done)
     pub stands : Stands rows origin world input before held taken left (Some ((before ++ done) ++ out)) shelf state
 
-  abbrev pub Held : Option (List ℕ) → Option (List ℕ) → Option World → List ℕ → ℕ → Option (List ℕ) → Option (List ℕ) → List ℕ → Option World → State → Type 0
+  abbrev pub Held : Option (List ℕ) → Option (List ℕ) → Option World → List ℕ → ℕ → Option (List ℕ) → Option (List ℕ) → List ℕ → Option World → Whole → Type 0
   Held left0 written0 origin held taken left written out shelf state =
       AllTold left0 written0 origin (λ input before world. IsHeld origin world input before held taken left written out shelf state)
 
-  pub Held-init : (left written : Option (List ℕ)) (origin : Option World) → Held left written origin [] 0 left written [] origin start
+  pub Held-init : (left written : Option (List ℕ)) (origin : Option World) → Held left written origin [] 0 left written [] origin beginning
   Held-init left written origin =
       all_told left written origin _ (λ input before world e f is. record {
         done = [];
@@ -60,7 +60,7 @@ module _ (rows : PolicyRows) where
             (ap (λ (x : List ℕ). Some x) (append-nil (before ++ []) ∙ append-nil before)) is;
       })
 
-  pub Held-moves : (left0 written0 : Option (List ℕ)) (origin : Option World) (held : List ℕ) (taken : ℕ) (left written : Option (List ℕ)) (out : List ℕ) (shelf : Option World) (state : State) (after : Option (List ℕ)) (rest : List ℕ)
+  pub Held-moves : (left0 written0 : Option (List ℕ)) (origin : Option World) (held : List ℕ) (taken : ℕ) (left written : Option (List ℕ)) (out : List ℕ) (shelf : Option World) (state : Whole) (after : Option (List ℕ)) (rest : List ℕ)
       → Held left0 written0 origin held taken left written out shelf state → Moves written out after rest → Held left0 written0 origin held taken left after rest shelf state
   Held-moves left0 written0 origin held taken left written out shelf state after rest h m =
       all_weaker left0 written0 origin _ _ (λ input before world unread h.
@@ -73,7 +73,7 @@ module _ (rows : PolicyRows) where
       }) h
 
   -- where nothing is held
-  pub Held-none : (left0 written0 : Option (List ℕ)) (origin : Option World) (held : List ℕ) (taken : ℕ) (left written : Option (List ℕ)) (out : List ℕ) (shelf : Option World) (state : State)
+  pub Held-none : (left0 written0 : Option (List ℕ)) (origin : Option World) (held : List ℕ) (taken : ℕ) (left written : Option (List ℕ)) (out : List ℕ) (shelf : Option World) (state : Whole)
       → Held left0 written0 origin held taken left written out shelf state → out ≡ [] → Stood rows left0 written0 origin held taken left written shelf state
   Held-none left0 written0 origin held taken left written out shelf state h none =
       all_weaker left0 written0 origin _ _ (λ input before world unread h.
@@ -82,7 +82,7 @@ module _ (rows : PolicyRows) where
       subst (λ (w : Option (List ℕ)). Stands rows origin world input before held taken left w shelf state) same h.stands) h
 
   -- a line was given, and its reply is held behind the others
-  pub Held-reply : (left0 written0 : Option (List ℕ)) (origin : Option World) (old : ReaderState) (left written : Option (List ℕ)) (out : List ℕ) (shelf : Option World) (state : State) (new : ReaderState) (left' : Option (List ℕ)) (shelf' : Option World) (state' : State) (line : Line) (octets more : List ℕ)
+  pub Held-reply : (left0 written0 : Option (List ℕ)) (origin : Option World) (old : ReaderState) (left written : Option (List ℕ)) (out : List ℕ) (shelf : Option World) (state : Whole) (new : ReaderState) (left' : Option (List ℕ)) (shelf' : Option World) (state' : Whole) (line : Line) (octets more : List ℕ)
       → Held left0 written0 origin old.held old.taken left written out shelf state → given.Answers line old left new left' → Replies rows line new.text state shelf octets state' shelf' → more ≡ out ++ octets
       → Held left0 written0 origin new.held new.taken left' written more shelf' state'
   Held-reply left0 written0 origin old left written out shelf state new left' shelf' state' line octets more h a r behind =
@@ -100,13 +100,13 @@ module _ (rows : PolicyRows) where
       }) h
 
   -- all that was held is written
-  pub Held-written : (left0 written0 : Option (List ℕ)) (origin : Option World) (held : List ℕ) (taken : ℕ) (left written : Option (List ℕ)) (out : List ℕ) (shelf : Option World) (state : State) (after : Option (List ℕ))
+  pub Held-written : (left0 written0 : Option (List ℕ)) (origin : Option World) (held : List ℕ) (taken : ℕ) (left written : Option (List ℕ)) (out : List ℕ) (shelf : Option World) (state : Whole) (after : Option (List ℕ))
       → Held left0 written0 origin held taken left written out shelf state → Becomes written (λ old. old ++ out) after → Stood rows left0 written0 origin held taken left after shelf state
   Held-written left0 written0 origin held taken left written out shelf state after h b =
       Held-none left0 written0 origin held taken left after [] shelf state (Held-moves left0 written0 origin held taken left written out shelf state after [] h (moves_all written after out [] b refl)) refl
 
   -- what was written, whatever is held
-  pub Held-begun : OneOutcome rows → (left0 written0 : Option (List ℕ)) (origin : Option World) (held : List ℕ) (taken : ℕ) (left written : Option (List ℕ)) (out : List ℕ) (shelf : Option World) (state : State)
+  pub Held-begun : OneOutcome rows → (left0 written0 : Option (List ℕ)) (origin : Option World) (held : List ℕ) (taken : ℕ) (left written : Option (List ℕ)) (out : List ℕ) (shelf : Option World) (state : Whole)
       → Held left0 written0 origin held taken left written out shelf state → AllTold left0 written0 origin (λ input before world. Begun rows world (lines_of input) before written)
   Held-begun law left0 written0 origin held taken left written out shelf state h =
       all_weaker left0 written0 origin _ _ (λ input before world unread h.
@@ -114,7 +114,7 @@ module _ (rows : PolicyRows) where
       (h.written_is ∙ ap (λ (x : List ℕ). Some x) (sym (append-nil (before ++ h.done))))) h
 
   -- a write of what is held was cut short
-  pub Held-cut : OneOutcome rows → (left0 written0 : Option (List ℕ)) (origin : Option World) (held : List ℕ) (taken : ℕ) (left written : Option (List ℕ)) (out : List ℕ) (shelf : Option World) (state : State) (after : Option (List ℕ))
+  pub Held-cut : OneOutcome rows → (left0 written0 : Option (List ℕ)) (origin : Option World) (held : List ℕ) (taken : ℕ) (left written : Option (List ℕ)) (out : List ℕ) (shelf : Option World) (state : Whole) (after : Option (List ℕ))
       → Held left0 written0 origin held taken left written out shelf state → IfSome written (λ old. GainsPrefix old after out)
       → AllTold left0 written0 origin (λ input before world. Begun rows world (lines_of input) before after)
   Held-cut law left0 written0 origin held taken left written out shelf state after h g =
@@ -123,7 +123,7 @@ module _ (rows : PolicyRows) where
       takes_more rows origin world law input before held taken left shelf state h.done out g'.0 after h.stands (omega (arith, g'.1)) g'.2) h
 
   -- the same of 2 ^ 30 octets, also after more was taken
-  pub Held-most : OneOutcome rows → (left0 written0 : Option (List ℕ)) (origin : Option World) (held : List ℕ) (taken : ℕ) (left written : Option (List ℕ)) (out : List ℕ) (shelf : Option World) (state : State) (after left' : Option (List ℕ)) (taken' : ℕ)
+  pub Held-most : OneOutcome rows → (left0 written0 : Option (List ℕ)) (origin : Option World) (held : List ℕ) (taken : ℕ) (left written : Option (List ℕ)) (out : List ℕ) (shelf : Option World) (state : Whole) (after left' : Option (List ℕ)) (taken' : ℕ)
       → Held left0 written0 origin held taken left written out shelf state → IfSome written (λ old. GainsPrefix old after out) → Took left taken left' taken'
       → AllTold left0 written0 origin (λ input before world. AnsweredMost rows world input before left' after → ⊥)
   Held-most law left0 written0 origin held taken left written out shelf state after left' taken' h g t =
@@ -133,7 +133,7 @@ module _ (rows : PolicyRows) where
       cut_most rows law origin world input before (held ++ t.gone) taken' left' shelf state h.done out g'.0 after s g'.1 g'.2) h
 
   -- what is held was written at last
-  pub Held-first : (left0 written0 : Option (List ℕ)) (origin : Option World) (held : List ℕ) (taken : ℕ) (left written : Option (List ℕ)) (out : List ℕ) (shelf : Option World) (state : State) (after : Option (List ℕ))
+  pub Held-first : (left0 written0 : Option (List ℕ)) (origin : Option World) (held : List ℕ) (taken : ℕ) (left written : Option (List ℕ)) (out : List ℕ) (shelf : Option World) (state : Whole) (after : Option (List ℕ))
       → Held left0 written0 origin held taken left written out shelf state → Becomes written (λ old. old ++ out) after → AllTold left0 written0 origin (λ input before world. AnsweredFirst rows world (lines_of input) before after)
   Held-first left0 written0 origin held taken left written out shelf state after h b =
       First-here rows left0 written0 origin held taken left after shelf state (Held-written left0 written0 origin held taken left written out shelf state after h b)

@@ -1,4 +1,7 @@
 mod CutLines
+mod Known
+mod Wholes
+mod Paced
 mod Stays
 mod Named
 mod Marked
@@ -9,7 +12,7 @@ mod Runs
 mod Stepping
 mod Giving
 mod Refusing
-mod Running
+pub mod Running
 mod Keeping
 pub mod Making
 mod Short

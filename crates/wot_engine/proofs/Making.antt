@@ -1,25 +1,26 @@
 -- What a line makes, whatever comes of it: the bounds stand as soon as the view was refreshed.
-use Rattle.std.proofs.Common.{◌≡◌, ℕ, ◌<◌, ◌≤◌, Bool, List, length, true, false, Option, Some, None, Result, Ok, Err, OnOk, refl, sym, ap, subst, ◌∙◌, arith}
+use Rattle.std.proofs.Common.{◌≡◌, inl, inr, ℕ, ◌<◌, ◌≤◌, Bool, List, length, true, false, Option, Some, None, Result, Ok, Err, OnOk, refl, sym, ap, subst, ◌∙◌, arith}
 use Rattle.std.specs.Prelude.{IfSome, if◌then◌else◌, is_ok, nat_lt}
 use Rattle.std.proofs.lemmas.Bool.{lt-ltb, le-ltb}
 use Rattle.wot_keyring.specs.Held.{held_of}
 use Rattle.wot_keyring.specs.Keyring.{Keyring}
 use Rattle.wot_network.specs.Net.{Marks}
 use Rattle.wot_script.specs.declared.command.Command.{Command}
-use Rattle.wot_script.specs.declared.command.Command.TheVariants.{Import, Load, Remove, Good, Bad, Unjudge, Time, Root, Close, Ask, Explain, Pending, Keys, Export, Dump, Absence, Check}
+use Rattle.wot_script.specs.declared.command.Command.TheVariants.{Import, Load, Remove, Good, Bad, Unjudge, Time, Root, Close, Ask, Explain, Pending, Keys, Export, Dump, Absence, Check, CursorOver, CursorNext, CursorClose}
 use Rattle.wot_cache.specs.declared.view.View.{View}
 use Rattle.wot_cache.specs.Marks.{IsMadeFor, IsRefreshed}
 use Rattle.wot_cache.specs.State.{Engine, StaysButMarks, marks_at, state_of}
 use Rattle.wot_cache.specs.Views.{view_at}
 use Rattle.wot_script.specs.Grammar.{command_of}
 use Rattle.wot_engine.specs.Lines.{is_silent, longest}
-use Rattle.wot_engine.specs.Made.{LineMakes, Makes, heard}
+use Rattle.wot_cursor.specs.Cursors.{Cursor, Cursors, cursor_at}
+use Rattle.wot_engine.specs.Made.{LineMakes, Makes, PieceMakes, heard}
 
 pub same_state : (old new : Engine) → StaysButMarks old new → state_of new ≡ state_of old
 same_state old new s = λ i. record { held = held_of (s.keyring i); views = s.views i }
 
 pub stays : (old new : Engine) → new ≡ old → StaysButMarks old new
-stays old new same = record { keyring = ap (λ (e : Engine). e.keyring) same; views = ap (λ (e : Engine). e.views) same }
+stays old new same = record { keyring = ap (λ (e : Engine). e.keyring) same; views = ap (λ (e : Engine). e.views) same; turns = ap (λ (e : Engine). e.turns) same }
 
 -- ---- what was made for one result was made for another, which is Ok at most where that one is
 
@@ -70,11 +71,39 @@ module _ {A B T E : Type 0} (r : Result A B) (s : Result T E) (less : is_ok s �
   makes_as Keys old new before after m = m
   makes_as (Export fpr) old new before after m = m
   makes_as Dump old new before after m = m
+  makes_as (CursorOver cursor view wanted) old new before after m = m
+  makes_as (CursorNext cursor count) old new before after m = m
+  makes_as (CursorClose cursor) old new before after m = m
 
-  pub line_makes_as : (command : Option Command) (old new : Engine) (before after : ℕ) → LineMakes r command old new before after
-      → LineMakes s command old new before after
-  line_makes_as None old new before after m = m
-  line_makes_as (Some command) old new before after m = makes_as command old new before after m
+  piece_makes_as : (o : Option Cursor) (old new : Engine) (before after : ℕ) → PieceMakes r o old new before after → PieceMakes s o old new before after
+  piece_makes_as None old new before after m = m
+  piece_makes_as (Some cursor) old new before after (inl m) = inl (refreshed_as cursor.view old new before after m)
+  piece_makes_as (Some cursor) old new before after (inr m) = inr m
+
+  pub line_makes_as : (command : Option Command) (cursors : Cursors) (old new : Engine) (before after : ℕ) → LineMakes r command cursors old new before after
+      → LineMakes s command cursors old new before after
+  line_makes_as None cursors old new before after m = m
+  line_makes_as (Some (Import octets)) cursors old new before after m = makes_as (Import octets) old new before after m
+  line_makes_as (Some (Load name)) cursors old new before after m = makes_as (Load name) old new before after m
+  line_makes_as (Some (Remove fpr)) cursors old new before after m = makes_as (Remove fpr) old new before after m
+  line_makes_as (Some (Good number fpr)) cursors old new before after m = makes_as (Good number fpr) old new before after m
+  line_makes_as (Some (Bad number)) cursors old new before after m = makes_as (Bad number) old new before after m
+  line_makes_as (Some (Unjudge number)) cursors old new before after m = makes_as (Unjudge number) old new before after m
+  line_makes_as (Some (Time view t)) cursors old new before after m = makes_as (Time view t) old new before after m
+  line_makes_as (Some (Root view fpr amount)) cursors old new before after m = makes_as (Root view fpr amount) old new before after m
+  line_makes_as (Some (Close view)) cursors old new before after m = makes_as (Close view) old new before after m
+  line_makes_as (Some (Ask view target wanted uid)) cursors old new before after m = makes_as (Ask view target wanted uid) old new before after m
+  line_makes_as (Some (Command.List view wanted)) cursors old new before after m = makes_as (Command.List view wanted) old new before after m
+  line_makes_as (Some (Explain view fpr uid)) cursors old new before after m = makes_as (Explain view fpr uid) old new before after m
+  line_makes_as (Some (Absence view target wanted uid)) cursors old new before after m = makes_as (Absence view target wanted uid) old new before after m
+  line_makes_as (Some (Check view target claims labels uid)) cursors old new before after m = makes_as (Check view target claims labels uid) old new before after m
+  line_makes_as (Some Pending) cursors old new before after m = makes_as Pending old new before after m
+  line_makes_as (Some Keys) cursors old new before after m = makes_as Keys old new before after m
+  line_makes_as (Some (Export fpr)) cursors old new before after m = makes_as (Export fpr) old new before after m
+  line_makes_as (Some Dump) cursors old new before after m = makes_as Dump old new before after m
+  line_makes_as (Some (CursorOver cursor view wanted)) cursors old new before after m = makes_as (CursorOver cursor view wanted) old new before after m
+  line_makes_as (Some (CursorClose cursor)) cursors old new before after m = makes_as (CursorClose cursor) old new before after m
+  line_makes_as (Some (CursorNext cursor count)) cursors old new before after m = piece_makes_as (cursor_at cursors cursor) old new before after m
 
 -- where the view isn't open nothing is made, whatever is answered
 pub refreshed_unopened : {A B T E : Type 0} (r : Result A B) (s : Result T E) (name : List ℕ) (old new : Engine) (before after : ℕ)
@@ -102,7 +131,7 @@ module _ {T E : Type 0} (s : Result T E) (failed : is_ok s ≡ false) (engine : 
 
   refreshed_not : (name : List ℕ) → IsRefreshed s name engine engine made made
   refreshed_not name = record {
-    stays = record { keyring = refl; views = refl };
+    stays = record { keyring = refl; views = refl; turns = refl };
     made = by (view_at engine.views name);
     others = λ other apart. refl;
     closed = λ none. (refl, refl);
@@ -137,10 +166,37 @@ module _ {T E : Type 0} (s : Result T E) (failed : is_ok s ≡ false) (engine : 
   makes_not Keys = (refl, refl)
   makes_not (Export fpr) = (refl, refl)
   makes_not Dump = (refl, refl)
+  makes_not (CursorOver cursor view wanted) = (refl, refl)
+  makes_not (CursorNext cursor count) = (refl, refl)
+  makes_not (CursorClose cursor) = (refl, refl)
 
-  pub line_makes_not : (command : Option Command) → LineMakes s command engine engine made made
-  line_makes_not None = (refl, refl)
-  line_makes_not (Some command) = makes_not command
+  piece_makes_not : (o : Option Cursor) → PieceMakes s o engine engine made made
+  piece_makes_not None = (refl, refl)
+  piece_makes_not (Some cursor) = inr (refl, refl)
+
+  pub line_makes_not : (command : Option Command) (cursors : Cursors) → LineMakes s command cursors engine engine made made
+  line_makes_not None cursors = (refl, refl)
+  line_makes_not (Some (Import octets)) cursors = makes_not (Import octets)
+  line_makes_not (Some (Load name)) cursors = makes_not (Load name)
+  line_makes_not (Some (Remove fpr)) cursors = makes_not (Remove fpr)
+  line_makes_not (Some (Good number fpr)) cursors = makes_not (Good number fpr)
+  line_makes_not (Some (Bad number)) cursors = makes_not (Bad number)
+  line_makes_not (Some (Unjudge number)) cursors = makes_not (Unjudge number)
+  line_makes_not (Some (Time view t)) cursors = makes_not (Time view t)
+  line_makes_not (Some (Root view fpr amount)) cursors = makes_not (Root view fpr amount)
+  line_makes_not (Some (Close view)) cursors = makes_not (Close view)
+  line_makes_not (Some (Ask view target wanted uid)) cursors = makes_not (Ask view target wanted uid)
+  line_makes_not (Some (Command.List view wanted)) cursors = makes_not (Command.List view wanted)
+  line_makes_not (Some (Explain view fpr uid)) cursors = makes_not (Explain view fpr uid)
+  line_makes_not (Some (Absence view target wanted uid)) cursors = makes_not (Absence view target wanted uid)
+  line_makes_not (Some (Check view target claims labels uid)) cursors = makes_not (Check view target claims labels uid)
+  line_makes_not (Some Pending) cursors = makes_not Pending
+  line_makes_not (Some Keys) cursors = makes_not Keys
+  line_makes_not (Some (Export fpr)) cursors = makes_not (Export fpr)
+  line_makes_not (Some Dump) cursors = makes_not Dump
+  line_makes_not (Some (CursorOver cursor view wanted)) cursors = makes_not (CursorOver cursor view wanted)
+  line_makes_not (Some (CursorClose cursor)) cursors = makes_not (CursorClose cursor)
+  line_makes_not (Some (CursorNext cursor count)) cursors = piece_makes_not (cursor_at cursors cursor)
 
 -- ---- which lines are heard
 
@@ -160,10 +216,10 @@ heard_read line short loud =
     ∙ ap (λ (b : Bool). if b then None else command_of line) loud
 
 module _ {T E : Type 0} (s : Result T E) (line : List ℕ) where
-  pub makes_unheard : (engine : Engine) (made : ℕ) → heard line ≡ None → LineMakes s (heard line) engine engine made made
-  makes_unheard engine made none = subst (λ (o : Option Command). LineMakes s o engine engine made made) (sym none) (refl, refl)
+  pub makes_unheard : (cursors : Cursors) (engine : Engine) (made : ℕ) → heard line ≡ None → LineMakes s (heard line) cursors engine engine made made
+  makes_unheard cursors engine made none = subst (λ (o : Option Command). LineMakes s o cursors engine engine made made) (sym none) (refl, refl)
 
-  pub makes_heard : (old new : Engine) (before after : ℕ) → length line ≤ longest → is_silent line ≡ false → LineMakes s (command_of line) old new before after
-      → LineMakes s (heard line) old new before after
-  makes_heard old new before after short loud m =
-      subst (λ (o : Option Command). LineMakes s o old new before after) (sym (heard_read line short loud)) m
+  pub makes_heard : (cursors : Cursors) (old new : Engine) (before after : ℕ) → length line ≤ longest → is_silent line ≡ false
+      → LineMakes s (command_of line) cursors old new before after → LineMakes s (heard line) cursors old new before after
+  makes_heard cursors old new before after short loud m =
+      subst (λ (o : Option Command). LineMakes s o cursors old new before after) (sym (heard_read line short loud)) m

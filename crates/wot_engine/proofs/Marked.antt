@@ -74,7 +74,7 @@ module _
     without : (fpr : Fpr) (certs : Certificates) → AreMarked rows certs → AreMarked rows (remove_entry (is_fpr fpr) certs)
     without fpr certs all = all_without (λ (e : Fpr × Certificate). IsMarked rows e.1) (is_fpr fpr) certs all
 
-    pub reached_marked : (world : World) (lines : List (List ℕ)) (replies : List Reply) (last : Scene) → Run rows (opening world) lines replies last → judged_by rows last.state.held ≡ last.state.held
+    pub reached_marked : (world : World) (lines : List (List ℕ)) (replies : List Reply) (last : Scene) → Run rows (opening world) lines replies last → judged_by rows last.whole.state.held ≡ last.whole.state.held
     reached_marked world lines replies last run =
-        let all : AreMarked rows last.state.held.certs = run_stays rows (AreMarked rows) with_all without lines (opening world) replies last tt run in
-        ap (λ (certs : Certificates). record last.state.held { certs = certs }) (marked_anew rows last.state.held.certs all)
+        let all : AreMarked rows last.whole.state.held.certs = run_stays rows (AreMarked rows) with_all without lines (opening world) replies last tt run in
+        ap (λ (certs : Certificates). record last.whole.state.held { certs = certs }) (marked_anew rows last.whole.state.held.certs all)

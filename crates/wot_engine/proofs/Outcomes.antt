@@ -1,5 +1,5 @@
 -- Each line has exactly one outcome.
-use Rattle.std.proofs.Common.{◌≡◌, ℕ, ◌≤◌, Bool, true, false, List, length, Option, Some, None, refl, sym, ap, ◌∙◌, subst}
+use Rattle.std.proofs.Common.{◌≡◌, ℕ, ◌≤◌, Bool, true, false, List, length, Option, Some, None, refl, sym, ap, ◌∙◌, subst, inl}
 use Rattle.std.specs.Prelude.{MatchBool, map, nat_le, nat_lt}
 use Rattle.std.specs.List.{AllByRecursion}
 use Rattle.wot_types.specs.declared.fpr.Fpr.{Fpr}
@@ -18,7 +18,7 @@ use Rattle.wot_check.specs.Claim.{Claim}
 use Rattle.wot_check.specs.Table.{IsTable, Labels}
 use Rattle.wot_keyring.specs.Keyring.{Certificates}
 use Rattle.wot_script.specs.declared.command.Command.{Command}
-use Rattle.wot_script.specs.declared.command.Command.TheVariants.{Import, Load, Remove, Good, Bad, Unjudge, Time, Root, Close, Ask, Explain, Pending, Keys, Export, Dump, Absence, Check}
+use Rattle.wot_script.specs.declared.command.Command.TheVariants.{Import, Load, Remove, Good, Bad, Unjudge, Time, Root, Close, Ask, Explain, Pending, Keys, Export, Dump, Absence, Check, CursorOver, CursorNext, CursorClose}
 use Rattle.wot_script.specs.Claims.{IsClaimSpelled}
 use Rattle.wot_script.specs.declared.reply.ClaimLine.{ClaimLine}
 use Rattle.wot_script.specs.declared.reply.LabelLine.{LabelLine}
@@ -33,53 +33,64 @@ use Rattle.wot_explain.specs.Listing.{IsListed, Pair, pairs_in}
 use Rattle.wot_cache.specs.Question.{question_in}
 use Rattle.wot_certd.specs.World.{Answer}
 use Rattle.wot_cache.specs.State.{State, IsState}
-use Rattle.wot_cache.specs.Views.{view_at}
+use Rattle.wot_cache.specs.Turns.{Turns}
+use Rattle.wot_cache.specs.Views.{Views, view_at}
 use Rattle.wot_engine.specs.Lines.{is_silent, longest}
 use Rattle.wot_engine.specs.Outcome.{Outcome, only, load, remove, set_verdict, clear_verdict, time, root, close, keys, export, dump, import}
 use Rattle.wot_engine.specs.Absent.{Checks, Misses, TellsAbsence, claim_in, table_in, verdict_on}
 use Rattle.wot_engine.specs.Answer.{Asks, told}
 use Rattle.wot_engine.specs.Listing.{Lists, bindings, explain, pending}
-use Rattle.wot_engine.specs.LineStep.{LineStep, HasReply, Answers, Does, Gives}
+use Rattle.wot_engine.specs.LineStep.{LineStep, HasReply, Answers, Does, Gives, Obeys, Stays}
 use Rattle.wot_engine.proofs.Absences.{spelled_table, tells_one, tells_some}
+use Rattle.wot_engine.specs.Pacing.{is_pacing}
+use Rattle.wot_engine.specs.Whole.{IsTurnedBy, Whole}
 use Rattle.wot_engine.proofs.Named.{AreNamed, named_all, named_without}
+use Rattle.wot_engine.proofs.Paced.{paced_state, paces_one, paces_plain, paces_some, plain_paces, state_paced, turns_paced}
 use Rattle.wot_engine.proofs.Stays.{step_stays}
+use Rattle.wot_engine.proofs.Wholes.{counted_one, counted_some, turned_one, turned_some, whole_same}
 
 -- At most one reply and one state.
-abbrev pub IsOne : (R : Type 0) → (R → State → Type 0) → Type 0
-IsOne R P = (r s : R) (m n : State) → P r m → P s n → (r ≡ s) × (m ≡ n)
+abbrev pub IsOne : (R M : Type 0) → (R → M → Type 0) → Type 0
+IsOne R M P = (r s : R) (m n : M) → P r m → P s n → (r ≡ s) × (m ≡ n)
 
 -- Some reply and state.
-abbrev pub IsSome : (R : Type 0) → (R → State → Type 0) → Type 0
-IsSome R P = (r : R) × (m : State) × P r m
+abbrev pub IsSome : (R M : Type 0) → (R → M → Type 0) → Type 0
+IsSome R M P = (r : R) × (m : M) × P r m
 
-Gives-one : (outcome : Outcome) → IsOne Reply (Gives outcome)
+Gives-one : (outcome : Outcome) → IsOne Reply State (Gives outcome)
 Gives-one outcome r s m n p q = (p.0 ∙ sym q.0, p.1 ∙ sym q.1)
 
-Gives-some : (outcome : Outcome) → IsSome Reply (Gives outcome)
+Gives-some : (outcome : Outcome) → IsSome Reply State (Gives outcome)
 Gives-some outcome = (outcome.reply, outcome.state, (refl, refl))
 
-HasReply-one : (P : Reply → State → Type 0) → IsOne Reply P → IsOne (Option Reply) (HasReply P)
+Stays-one : (old : Whole) (told : Reply) → IsOne Reply Whole (Stays old told)
+Stays-one old told r s m n p q = (p.0 ∙ sym q.0, p.1 ∙ sym q.1)
+
+Stays-some : (old : Whole) (told : Reply) → IsSome Reply Whole (Stays old told)
+Stays-some old told = (told, old, (refl, refl))
+
+HasReply-one : (P : Reply → Whole → Type 0) → IsOne Reply Whole P → IsOne (Option Reply) Whole (HasReply P)
 HasReply-one P one None s m n p q = absurd p
 HasReply-one P one (Some r) None m n p q = absurd q
 HasReply-one P one (Some r) (Some s) m n p q = let both = one r s m n p q in (ap (λ (x : Reply). Some x) both.0, both.1)
 
-HasReply-some : (P : Reply → State → Type 0) → IsSome Reply P → IsSome (Option Reply) (HasReply P)
+HasReply-some : (P : Reply → Whole → Type 0) → IsSome Reply Whole P → IsSome (Option Reply) Whole (HasReply P)
 HasReply-some P some = (Some some.0, some.1, some.2)
 
-silent-one : (old : State) → IsOne (Option Reply) (λ r m. (r ≡ None) × (m ≡ old))
+silent-one : (old : Whole) → IsOne (Option Reply) Whole (λ r m. (r ≡ None) × (m ≡ old))
 silent-one old r s m n p q = (p.0 ∙ sym q.0, p.1 ∙ sym q.1)
 
-MatchBool-one : (b : Bool) (P Q : Option Reply → State → Type 0) → IsOne (Option Reply) P → IsOne (Option Reply) Q → IsOne (Option Reply) (λ r m. MatchBool b (P r m) (Q r m))
+MatchBool-one : (b : Bool) (P Q : Option Reply → Whole → Type 0) → IsOne (Option Reply) Whole P → IsOne (Option Reply) Whole Q → IsOne (Option Reply) Whole (λ r m. MatchBool b (P r m) (Q r m))
 MatchBool-one true P Q p q = p
 MatchBool-one false P Q p q = q
 
-MatchBool-some : (b : Bool) (P Q : Option Reply → State → Type 0) → IsSome (Option Reply) P → IsSome (Option Reply) Q → IsSome (Option Reply) (λ r m. MatchBool b (P r m) (Q r m))
+MatchBool-some : (b : Bool) (P Q : Option Reply → Whole → Type 0) → IsSome (Option Reply) Whole P → IsSome (Option Reply) Whole Q → IsSome (Option Reply) Whole (λ r m. MatchBool b (P r m) (Q r m))
 MatchBool-some true P Q p q = p
 MatchBool-some false P Q p q = q
 
 -- ---- states that can be
 
-pub LineStep-stays : (rows : PolicyRows) (old : State) (line : List ℕ) (given : Answer) (reply : Option Reply) (new : State) → IsState old → LineStep rows old line given reply new → IsState new
+pub LineStep-stays : (rows : PolicyRows) (old : Whole) (line : List ℕ) (given : Answer) (reply : Option Reply) (new : Whole) → IsState old.state → LineStep rows old line given reply new → IsState new.state
 LineStep-stays rows = step_stays rows AreNamed (named_all rows) named_without
 
 -- ---- questions
@@ -156,75 +167,131 @@ module _
             → (r : Reply) × Checks old (Some view) target claims labels uid r
         by checked = (verdict_on claims checked.0, (checked.0, checked.1, refl))
 
-    Does-one : (old : State) (command : Command) (given : Answer) → IsState old → IsOne Reply (Does rows old command given)
-    Does-one old (Import octets) given p = Gives-one (import rows old octets)
-    Does-one old (Load name) given p = Gives-one (load rows old name given)
-    Does-one old (Remove fpr) given p = Gives-one (remove old fpr)
-    Does-one old (Good number fpr) given p = Gives-one (set_verdict old number (verdicts.Good fpr))
-    Does-one old (Bad number) given p = Gives-one (set_verdict old number verdicts.Bad)
-    Does-one old (Unjudge number) given p = Gives-one (clear_verdict old number)
-    Does-one old (Time view t) given p = Gives-one (time old view t)
-    Does-one old (Root view fpr amount) given p = Gives-one (root old view fpr amount)
-    Does-one old (Close view) given p = Gives-one (close old view)
-    Does-one old (Ask view target wanted uid) given p = λ r s m n a b. (Asks-one old (view_at old.views view) target wanted uid r s p a.0 b.0, a.1 ∙ sym b.1)
-    Does-one old (Command.List view wanted) given p = λ r s m n a b. (Lists-one old (view_at old.views view) wanted r s p a.0 b.0, a.1 ∙ sym b.1)
-    Does-one old (Explain view fpr uid) given p = Gives-one (explain old view fpr uid)
-    Does-one old (Absence view target wanted uid) given p = λ r s m n a b. (Misses-one old (view_at old.views view) target wanted uid r s p a.0 b.0, a.1 ∙ sym b.1)
-    Does-one old (Check view target claims labels uid) given p = λ r s m n a b. (Checks-one old (view_at old.views view) target claims labels uid r s p a.0 b.0, a.1 ∙ sym b.1)
-    Does-one old Pending given p = Gives-one (pending old)
-    Does-one old Keys given p = Gives-one (keys old)
-    Does-one old (Export fpr) given p = Gives-one (export old fpr)
-    Does-one old Dump given p = Gives-one (dump old)
+    Does-one : (old : State) (command : Command) (given : Answer) → IsState old → is_pacing command ≡ false → IsOne Reply State (Does rows old command given)
+    Does-one old (Import octets) given p plain = Gives-one (import rows old octets)
+    Does-one old (Load name) given p plain = Gives-one (load rows old name given)
+    Does-one old (Remove fpr) given p plain = Gives-one (remove old fpr)
+    Does-one old (Good number fpr) given p plain = Gives-one (set_verdict old number (verdicts.Good fpr))
+    Does-one old (Bad number) given p plain = Gives-one (set_verdict old number verdicts.Bad)
+    Does-one old (Unjudge number) given p plain = Gives-one (clear_verdict old number)
+    Does-one old (Time view t) given p plain = Gives-one (time old view t)
+    Does-one old (Root view fpr amount) given p plain = Gives-one (root old view fpr amount)
+    Does-one old (Close view) given p plain = Gives-one (close old view)
+    Does-one old (Ask view target wanted uid) given p plain = λ r s m n a b. (Asks-one old (view_at old.views view) target wanted uid r s p a.0 b.0, a.1 ∙ sym b.1)
+    Does-one old (Command.List view wanted) given p plain = λ r s m n a b. (Lists-one old (view_at old.views view) wanted r s p a.0 b.0, a.1 ∙ sym b.1)
+    Does-one old (Explain view fpr uid) given p plain = Gives-one (explain old view fpr uid)
+    Does-one old (Absence view target wanted uid) given p plain = λ r s m n a b. (Misses-one old (view_at old.views view) target wanted uid r s p a.0 b.0, a.1 ∙ sym b.1)
+    Does-one old (Check view target claims labels uid) given p plain = λ r s m n a b. (Checks-one old (view_at old.views view) target claims labels uid r s p a.0 b.0, a.1 ∙ sym b.1)
+    Does-one old Pending given p plain = Gives-one (pending old)
+    Does-one old Keys given p plain = Gives-one (keys old)
+    Does-one old (Export fpr) given p plain = Gives-one (export old fpr)
+    Does-one old Dump given p plain = Gives-one (dump old)
+    Does-one old (CursorOver cursor view wanted) given p plain = absurd (cc plain)
+    Does-one old (CursorNext cursor count) given p plain = absurd (cc plain)
+    Does-one old (CursorClose cursor) given p plain = absurd (cc plain)
 
-    Does-some : (old : State) (command : Command) (given : Answer) → HasSpelling command → IsSome Reply (Does rows old command given)
-    Does-some old (Import octets) given h = Gives-some (import rows old octets)
-    Does-some old (Load name) given h = Gives-some (load rows old name given)
-    Does-some old (Remove fpr) given h = Gives-some (remove old fpr)
-    Does-some old (Good number fpr) given h = Gives-some (set_verdict old number (verdicts.Good fpr))
-    Does-some old (Bad number) given h = Gives-some (set_verdict old number verdicts.Bad)
-    Does-some old (Unjudge number) given h = Gives-some (clear_verdict old number)
-    Does-some old (Time view t) given h = Gives-some (time old view t)
-    Does-some old (Root view fpr amount) given h = Gives-some (root old view fpr amount)
-    Does-some old (Close view) given h = Gives-some (close old view)
-    Does-some old (Ask view target wanted uid) given h =
+    Does-some : (old : State) (command : Command) (given : Answer) → HasSpelling command → is_pacing command ≡ false → IsSome Reply State (Does rows old command given)
+    Does-some old (Import octets) given h plain = Gives-some (import rows old octets)
+    Does-some old (Load name) given h plain = Gives-some (load rows old name given)
+    Does-some old (Remove fpr) given h plain = Gives-some (remove old fpr)
+    Does-some old (Good number fpr) given h plain = Gives-some (set_verdict old number (verdicts.Good fpr))
+    Does-some old (Bad number) given h plain = Gives-some (set_verdict old number verdicts.Bad)
+    Does-some old (Unjudge number) given h plain = Gives-some (clear_verdict old number)
+    Does-some old (Time view t) given h plain = Gives-some (time old view t)
+    Does-some old (Root view fpr amount) given h plain = Gives-some (root old view fpr amount)
+    Does-some old (Close view) given h plain = Gives-some (close old view)
+    Does-some old (Ask view target wanted uid) given h plain =
         let asks = Asks-some old (view_at old.views view) target wanted uid h in
         (asks.0, old, (asks.1, refl))
-    Does-some old (Command.List view wanted) given h =
+    Does-some old (Command.List view wanted) given h plain =
         let lists = Lists-some old (view_at old.views view) wanted h in
         (lists.0, old, (lists.1, refl))
-    Does-some old (Explain view fpr uid) given h = Gives-some (explain old view fpr uid)
-    Does-some old (Absence view target wanted uid) given h =
+    Does-some old (Explain view fpr uid) given h plain = Gives-some (explain old view fpr uid)
+    Does-some old (Absence view target wanted uid) given h plain =
         let misses = Misses-some old (view_at old.views view) target wanted uid h in
         (misses.0, old, (misses.1, refl))
-    Does-some old (Check view target claims labels uid) given h =
+    Does-some old (Check view target claims labels uid) given h plain =
         let checks = Checks-some old (view_at old.views view) target claims labels uid h in
         (checks.0, old, (checks.1, refl))
-    Does-some old Pending given h = Gives-some (pending old)
-    Does-some old Keys given h = Gives-some (keys old)
-    Does-some old (Export fpr) given h = Gives-some (export old fpr)
-    Does-some old Dump given h = Gives-some (dump old)
+    Does-some old Pending given h plain = Gives-some (pending old)
+    Does-some old Keys given h plain = Gives-some (keys old)
+    Does-some old (Export fpr) given h plain = Gives-some (export old fpr)
+    Does-some old Dump given h plain = Gives-some (dump old)
+    Does-some old (CursorOver cursor view wanted) given h plain = absurd (cc plain)
+    Does-some old (CursorNext cursor count) given h plain = absurd (cc plain)
+    Does-some old (CursorClose cursor) given h plain = absurd (cc plain)
 
-    Answers-one : (old : State) (command : Option Command) (given : Answer) → IsState old → IsOne Reply (Answers rows old command given)
-    Answers-one old None given p = Gives-one (only old replies.Line)
-    Answers-one old (Some command) given p = Does-one old command given p
+    abbrev Lawful : Type 0
+    Lawful = (s : State) (t : ℕ) (u : List ℕ) → IsState s → IsRecord (record_of s.held.certs s.held.verdicts t u)
 
-    Answers-some : (old : State) (line : List ℕ) (given : Answer) → IsSome Reply (Answers rows old (command_of line) given)
+    lawful_state : Lawful
+    lawful_state s t u can = lawful s.held.certs s.held.verdicts t u can
+
+    -- by what is one of the reply, the state and the cursors
+    whole_one : (old : Whole) (command : Command) (given : Answer) (r s : Reply) (m n : Whole) → Obeys rows old command given r m → Obeys rows old command given s n
+        → (r ≡ s) × (m.state ≡ n.state) × (m.cursors ≡ n.cursors) → (r ≡ s) × (m ≡ n)
+    whole_one old command given r s m n p q same =
+        let held = counted_one old m n (ap (λ (x : State). x.held) same.1) p.counted q.counted in
+        let turns = turned_one command old.state.views m.state.views n.state.views old.turns m.turns n.turns (ap (λ (x : State). x.views) same.1) p.turned q.turned in
+        (same.0, whole_same m n same.1 held turns same.2)
+
+    Obeys-one : (old : Whole) (command : Command) (given : Answer) → IsState old.state → IsOne Reply Whole (Obeys rows old command given)
+    Obeys-one old command given can r s m n p q = whole_one old command given r s m n p q (by (is_pacing command) refl)
+      where
+        by : (b : Bool) → is_pacing command ≡ b → (r ≡ s) × (m.state ≡ n.state) × (m.cursors ≡ n.cursors)
+        by true e =
+            let both = paces_one lawful_state list_some list_one old command e can r s m.cursors n.cursors p.paces q.paces in
+            let first = paced_state rows old.state command given r m.state e p.does in
+            let second = paced_state rows old.state command given s n.state e q.does in
+            (both.0, first ∙ sym second, both.1)
+        by false e =
+            let both = Does-one old.state command given can e r s m.state n.state p.does q.does in
+            (both.0, both.1, plain_paces old command r m.cursors e p.paces ∙ sym (plain_paces old command s n.cursors e q.paces))
+
+    Obeys-some : (old : Whole) (command : Command) (given : Answer) → HasSpelling command → IsSome Reply Whole (Obeys rows old command given)
+    Obeys-some old command given h = by (is_pacing command) refl
+      where
+        by : (b : Bool) → is_pacing command ≡ b → IsSome Reply Whole (Obeys rows old command given)
+        by true e =
+            let there = paces_some lawful_state list_some list_one old command e in
+            (there.0, record old { cursors = there.1 }, record {
+              does = state_paced rows old.state command given there.0 e;
+              counted = inl (refl, refl);
+              turned = turns_paced command old.state.views old.state.views old.turns old.turns e refl;
+              paces = there.2;
+            })
+        by false e =
+            let there = Does-some old.state command given h e in
+            let count = counted_some old there.1.held in
+            let turns = turned_some command old.state.views there.1.views old.turns in
+            (there.0, record { state = there.1; changes = count.0; turns = turns.0; cursors = old.cursors }, record {
+              does = there.2;
+              counted = count.1;
+              turned = turns.1;
+              paces = paces_plain old command there.0 e;
+            })
+
+    Answers-one : (old : Whole) (command : Option Command) (given : Answer) → IsState old.state → IsOne Reply Whole (Answers rows old command given)
+    Answers-one old None given p = Stays-one old replies.Line
+    Answers-one old (Some command) given p = Obeys-one old command given p
+
+    Answers-some : (old : Whole) (line : List ℕ) (given : Answer) → IsSome Reply Whole (Answers rows old (command_of line) given)
     Answers-some old line given = by (command_of line) refl
       where
-        by : (command : Option Command) → command_of line ≡ command → IsSome Reply (Answers rows old command given)
-        by None e = Gives-some (only old replies.Line)
-        by (Some command) e = Does-some old command given (wants line command e)
+        by : (command : Option Command) → command_of line ≡ command → IsSome Reply Whole (Answers rows old command given)
+        by None e = Stays-some old replies.Line
+        by (Some command) e = Obeys-some old command given (wants line command e)
 
-    pub LineStep-one : (old : State) (line : List ℕ) (given : Answer) → IsState old → IsOne (Option Reply) (LineStep rows old line given)
+    pub LineStep-one : (old : Whole) (line : List ℕ) (given : Answer) → IsState old.state → IsOne (Option Reply) Whole (LineStep rows old line given)
     LineStep-one old line given p =
-        MatchBool-one (nat_lt longest (length line)) (HasReply (Gives (only old replies.Long))) (λ r m. MatchBool (is_silent line) ((r ≡ None) × (m ≡ old)) (HasReply (Answers rows old (command_of line) given) r m))
-        (HasReply-one (Gives (only old replies.Long)) (Gives-one (only old replies.Long)))
+        MatchBool-one (nat_lt longest (length line)) (HasReply (Stays old replies.Long)) (λ r m. MatchBool (is_silent line) ((r ≡ None) × (m ≡ old)) (HasReply (Answers rows old (command_of line) given) r m))
+        (HasReply-one (Stays old replies.Long) (Stays-one old replies.Long))
         (MatchBool-one (is_silent line) (λ r m. (r ≡ None) × (m ≡ old)) (HasReply (Answers rows old (command_of line) given)) (silent-one old)
         (HasReply-one (Answers rows old (command_of line) given) (Answers-one old (command_of line) given p)))
 
-    pub LineStep-some : (old : State) (line : List ℕ) (given : Answer) → IsSome (Option Reply) (LineStep rows old line given)
+    pub LineStep-some : (old : Whole) (line : List ℕ) (given : Answer) → IsSome (Option Reply) Whole (LineStep rows old line given)
     LineStep-some old line given =
-        MatchBool-some (nat_lt longest (length line)) (HasReply (Gives (only old replies.Long))) (λ r m. MatchBool (is_silent line) ((r ≡ None) × (m ≡ old)) (HasReply (Answers rows old (command_of line) given) r m))
-        (HasReply-some (Gives (only old replies.Long)) (Gives-some (only old replies.Long)))
+        MatchBool-some (nat_lt longest (length line)) (HasReply (Stays old replies.Long)) (λ r m. MatchBool (is_silent line) ((r ≡ None) × (m ≡ old)) (HasReply (Answers rows old (command_of line) given) r m))
+        (HasReply-some (Stays old replies.Long) (Stays-some old replies.Long))
         (MatchBool-some (is_silent line) (λ r m. (r ≡ None) × (m ≡ old)) (HasReply (Answers rows old (command_of line) given)) (None, old, (refl, refl))
         (HasReply-some (Answers rows old (command_of line) given) (Answers-some old line given)))

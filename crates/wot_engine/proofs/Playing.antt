@@ -7,7 +7,7 @@ use Rattle.wot_script.specs.declared.reply.Reply.{Reply}
 use Rattle.wot_certd.specs.World.{World}
 use Rattle.wot_gen.specs.declared.tally.Tally.{Tally}
 use Rattle.wot_gen.specs.Summary.{Tells}
-use Rattle.wot_cache.specs.State.{State}
+use Rattle.wot_engine.specs.Whole.{Whole}
 use Rattle.wot_engine.specs.Entry.{entry_in}
 use Rattle.wot_engine.specs.Generated.{no_entries}
 use Rattle.wot_engine.specs.Played.{Adds, IsPlayed}
@@ -21,7 +21,7 @@ module _ (rows : PolicyRows) where
   -- ---- one line
 
   -- what was replied over a shelf that tells its world is the line's step
-  pub step_over : (line : List ℕ) (old new : State) (before after : World) (faults later : ℕ) (reply : Option Reply)
+  pub step_over : (line : List ℕ) (old new : Whole) (before after : World) (faults later : ℕ) (reply : Option Reply)
       → Replied rows line old (record { world = Some before; faults = faults }) reply new (record { world = Some after; faults = later })
       → Step rows (over old before) line reply (over new after)
   step_over line old new before after faults later reply r =

@@ -9,7 +9,7 @@ use Rattle.wot_io.specs.Source.{Loses, LosesOf}
 use Rattle.wot_script.specs.declared.reply.Reply.{Reply}
 use Rattle.wot_script.specs.Replies.{reply_text}
 use Rattle.wot_certd.specs.World.{World}
-use Rattle.wot_cache.specs.State.{State, start}
+use Rattle.wot_engine.specs.Whole.{Whole, beginning}
 use Rattle.wot_engine.specs.Law.{OneOutcome}
 use Rattle.wot_engine.specs.Scene.{Scene, Step, opening}
 use Rattle.wot_engine.specs.Transcript.{Run, RepliesTo, Answered, AnsweredFirst, Begun, AnsweredWhole, AnsweredMost, listed, octets_of}
@@ -29,7 +29,7 @@ module _ (rows : PolicyRows) (origin : Option World) (world : World) where
     pub whole : (x : List ℕ) → whole_lines_of (gone ++ x) ≡ done ++ whole_lines_of x
 
   -- the lines were given, and their replies were written
-  pub record Stands (input before held : List ℕ) (taken : ℕ) (left written : Option (List ℕ)) (shelf : Option World) (state : State) : Type 0 where
+  pub record Stands (input before held : List ℕ) (taken : ℕ) (left written : Option (List ℕ)) (shelf : Option World) (state : Whole) : Type 0 where
     pub gone : List ℕ
     pub rest : List ℕ
     pub done : List (List ℕ)
@@ -44,7 +44,7 @@ module _ (rows : PolicyRows) (origin : Option World) (world : World) where
     pub lines : IsPrefix gone done ⊎ ((taken < 2 ^ 30) × (held ++ rest ≡ []) × (lines_of input ≡ done))
 
   pub starts : (input before : List ℕ) (left written : Option (List ℕ)) (shelf : Option World) → left ≡ Some input → written ≡ Some before → IsNow origin shelf world
-      → Stands input before [] 0 left written shelf start
+      → Stands input before [] 0 left written shelf beginning
   starts input before left written shelf e f is = record {
     gone = [];
     rest = input;
@@ -112,7 +112,7 @@ module _ (rows : PolicyRows) (origin : Option World) (world : World) where
       }
 
   -- the line that is given is the next of all
-  pub comes_next : (input before held : List ℕ) (taken : ℕ) (left written : Option (List ℕ)) (shelf : Option World) (state : State) (held' : List ℕ) (taken' : ℕ) (left' : Option (List ℕ)) (line : List ℕ)
+  pub comes_next : (input before held : List ℕ) (taken : ℕ) (left written : Option (List ℕ)) (shelf : Option World) (state : Whole) (held' : List ℕ) (taken' : ℕ) (left' : Option (List ℕ)) (line : List ℕ)
       → (s : Stands input before held taken left written shelf state) → GivesOf held s.rest taken held' left' taken' line → (more : List (List ℕ)) × (lines_of input ≡ s.done ++ line ∷ more)
   comes_next input before held taken left written shelf state held' taken' left' line s g =
       elim s.lines [
@@ -131,7 +131,7 @@ module _ (rows : PolicyRows) (origin : Option World) (world : World) where
       ]
 
   -- one line on
-  pub goes_on : (input before held : List ℕ) (taken : ℕ) (left written : Option (List ℕ)) (shelf : Option World) (state : State) (held' : List ℕ) (taken' : ℕ) (left' written' : Option (List ℕ)) (shelf' : Option World) (state' : State) (line : List ℕ) (reply : Option Reply)
+  pub goes_on : (input before held : List ℕ) (taken : ℕ) (left written : Option (List ℕ)) (shelf : Option World) (state : Whole) (held' : List ℕ) (taken' : ℕ) (left' written' : Option (List ℕ)) (shelf' : Option World) (state' : Whole) (line : List ℕ) (reply : Option Reply)
       → (s : Stands input before held taken left written shelf state) → GivesOf held s.rest taken held' left' taken' line → (next : World) → IsNow origin shelf' next
       → Step rows (over state s.now) line reply (over state' next) → written' ≡ Some ((before ++ octets_of s.replies) ++ octets_of (listed reply))
       → Stands input before held' taken' left' written' shelf' state'
@@ -177,7 +177,7 @@ module _ (rows : PolicyRows) (origin : Option World) (world : World) where
       regroup gone line x = simp append_assoc
 
   -- the lines given are first ones of all
-  pub begins : (input before held : List ℕ) (taken : ℕ) (left written : Option (List ℕ)) (shelf : Option World) (state : State) → (s : Stands input before held taken left written shelf state) → (more : List (List ℕ)) × (lines_of input ≡ s.done ++ more)
+  pub begins : (input before held : List ℕ) (taken : ℕ) (left written : Option (List ℕ)) (shelf : Option World) (state : Whole) → (s : Stands input before held taken left written shelf state) → (more : List (List ℕ)) × (lines_of input ≡ s.done ++ more)
   begins input before held taken left written shelf state s =
       elim s.lines [
         | inl prefix ↦ (lines_of (held ++ s.rest), ap lines_of s.parts ∙ prefix.lines (held ++ s.rest))
@@ -207,7 +207,7 @@ module _ (rows : PolicyRows) (origin : Option World) (world : World) where
       (others.0, record { last = others.1; run = rw e (Run-append rows done more (opening world) last others.1 replies others.0 r others.2) })
 
   -- all of the replies so far, and nothing else
-  pub so_far : OneOutcome rows → (input before held : List ℕ) (taken : ℕ) (left written : Option (List ℕ)) (shelf : Option World) (state : State) → Stands input before held taken left written shelf state → Begun rows world (lines_of input) before written
+  pub so_far : OneOutcome rows → (input before held : List ℕ) (taken : ℕ) (left written : Option (List ℕ)) (shelf : Option World) (state : Whole) → Stands input before held taken left written shelf state → Begun rows world (lines_of input) before written
   so_far law input before held taken left written shelf state s =
       let m = begins input before held taken left written shelf state s in
       let all = told_all law (lines_of input) s.done m.0 s.replies (over state s.now) m.1 s.run in
@@ -224,7 +224,7 @@ module _ (rows : PolicyRows) (origin : Option World) (world : World) where
           ∙ take_at (octets_of some) (octets_of others) (length (octets_of some)) refl
 
   -- the end
-  pub at_end : (input before held : List ℕ) (taken : ℕ) (left written : Option (List ℕ)) (shelf : Option World) (state : State) → (s : Stands input before held taken left written shelf state) → held ≡ [] → s.rest ≡ [] → Answered rows world (lines_of input) before written
+  pub at_end : (input before held : List ℕ) (taken : ℕ) (left written : Option (List ℕ)) (shelf : Option World) (state : Whole) → (s : Stands input before held taken left written shelf state) → held ≡ [] → s.rest ≡ [] → Answered rows world (lines_of input) before written
   at_end input before held taken left written shelf state s e f =
       let whole : lines_of input ≡ s.done = elim s.lines [
         | inl prefix ↦ ap lines_of s.parts ∙ prefix.lines (held ++ s.rest) ∙ rw (e, f) (append-nil s.done)
@@ -233,7 +233,7 @@ module _ (rows : PolicyRows) (origin : Option World) (world : World) where
       record { replies = s.replies; told = record { last = over state s.now; run = rw whole s.run }; written = s.written_is }
 
   -- the octets taken that are in no line given have no line feed
-  pub at_stop : (input before held : List ℕ) (taken : ℕ) (left written : Option (List ℕ)) (shelf : Option World) (state : State) (left' : Option (List ℕ)) (taken' : ℕ) → (s : Stands input before held taken left written shelf state) → StopsOf held s.rest taken left' taken'
+  pub at_stop : (input before held : List ℕ) (taken : ℕ) (left written : Option (List ℕ)) (shelf : Option World) (state : Whole) (left' : Option (List ℕ)) (taken' : ℕ) → (s : Stands input before held taken left written shelf state) → StopsOf held s.rest taken left' taken'
       → AnsweredWhole rows world input before left' written
   at_stop input before held taken left written shelf state left' taken' s t =
       elim s.lines [
@@ -254,7 +254,7 @@ module _ (rows : PolicyRows) (origin : Option World) (world : World) where
       whole : (gone passed : List ℕ) (done : List (List ℕ)) → IsPrefix gone done → HasNoFeed passed → whole_lines_of (gone ++ passed) ≡ done
       whole gone passed done f h = f.whole passed ∙ ap (λ (ls : List (List ℕ)). done ++ ls) (whole_lines_of-none passed h) ∙ append-nil done
 
-  pub at_most : (input before held : List ℕ) (taken : ℕ) (left written : Option (List ℕ)) (shelf : Option World) (state : State) (left' : Option (List ℕ)) (taken' : ℕ) → (s : Stands input before held taken left written shelf state) → StopsOf held s.rest taken left' taken'
+  pub at_most : (input before held : List ℕ) (taken : ℕ) (left written : Option (List ℕ)) (shelf : Option World) (state : Whole) (left' : Option (List ℕ)) (taken' : ℕ) → (s : Stands input before held taken left written shelf state) → StopsOf held s.rest taken left' taken'
       → taken' ≡ 2 ^ 30 → AnsweredMost rows world input before left' written
   at_most input before held taken left written shelf state left' taken' s t n =
       elim s.lines [
@@ -276,7 +276,7 @@ module _ (rows : PolicyRows) (origin : Option World) (world : World) where
       whole gone passed done f h = f.whole passed ∙ ap (λ (ls : List (List ℕ)). done ++ ls) (whole_lines_of-none passed h) ∙ append-nil done
 
   -- a part of the last reply
-  pub takes_more : OneOutcome rows → (input before held : List ℕ) (taken : ℕ) (left : Option (List ℕ)) (shelf : Option World) (state : State) (replies reply : List ℕ) (n : ℕ) (written : Option (List ℕ))
+  pub takes_more : OneOutcome rows → (input before held : List ℕ) (taken : ℕ) (left : Option (List ℕ)) (shelf : Option World) (state : Whole) (replies reply : List ℕ) (n : ℕ) (written : Option (List ℕ))
       → (s : Stands input before held taken left (Some ((before ++ replies) ++ reply)) shelf state) → n ≤ length reply → written ≡ Some ((before ++ replies) ++ take n reply) → Begun rows world (lines_of input) before written
   takes_more law input before held taken left shelf state replies reply n written s le w =
       let m = begins input before held taken left (Some ((before ++ replies) ++ reply)) shelf state s in

@@ -10,24 +10,24 @@ use Rattle.wot_engine.specs.Scene.{Scene, Step, opening}
 use Rattle.wot_engine.specs.Transcript.{Run, RepliesTo, listed}
 
 module _ (rows : PolicyRows) (law : OneOutcome rows) where
-  Step-one : (old : Scene) (line : List ℕ) → IsState old.state → (reply other : Option Reply) (new third : Scene) → Step rows old line reply new → Step rows old line other third
+  Step-one : (old : Scene) (line : List ℕ) → IsState old.whole.state → (reply other : Option Reply) (new third : Scene) → Step rows old line reply new → Step rows old line other third
       → (reply ≡ other) × (new ≡ third)
   Step-one old line can reply other new third p q =
-      let both = law.one old.state line (given_by old.world (entry_in line)) reply other new.state third.state can p.does q.does in
+      let both = law.one old.whole line (given_by old.world (entry_in line)) reply other new.whole third.whole can p.does q.does in
       let world : new.world ≡ third.world = p.world ∙ sym q.world in
-      (both.0, λ i. record { state = both.1 i; world = world i })
+      (both.0, λ i. record { whole = both.1 i; world = world i })
 
   Step-some : (old : Scene) (line : List ℕ) → (reply : Option Reply) × (new : Scene) × Step rows old line reply new
   Step-some old line =
-      let some = law.some old.state line (given_by old.world (entry_in line)) in
-      (some.0, record { state = some.1; world = world_after old.world (entry_in line) }, record { does = some.2; world = refl })
+      let some = law.some old.whole line (given_by old.world (entry_in line)) in
+      (some.0, record { whole = some.1; world = world_after old.world (entry_in line) }, record { does = some.2; world = refl })
 
-  pub Run-one : (lines : List (List ℕ)) (old : Scene) → IsState old.state → (r s : List Reply) (m n : Scene) → Run rows old lines r m → Run rows old lines s n → (r ≡ s) × (m ≡ n)
+  pub Run-one : (lines : List (List ℕ)) (old : Scene) → IsState old.whole.state → (r s : List Reply) (m n : Scene) → Run rows old lines r m → Run rows old lines s n → (r ≡ s) × (m ≡ n)
   Run-one [] old can r s m n p q = (p.0 ∙ sym q.0, p.1 ∙ sym q.1)
   Run-one (line ∷ lines) old can r s m n p q =
       let first = Step-one old line can p.0 q.0 p.1 q.1 p.3 q.3 in
       let q' : Run rows p.1 lines q.2 n = subst (λ (c : Scene). Run rows c lines q.2 n) (sym first.1) q.4 in
-      let others = Run-one lines p.1 (law.stays old.state line (given_by old.world (entry_in line)) p.0 p.1.state can p.3.does) p.2 q.2 m n p.4 q' in
+      let others = Run-one lines p.1 (law.stays old.whole line (given_by old.world (entry_in line)) p.0 p.1.whole can p.3.does) p.2 q.2 m n p.4 q' in
       (p.5 ∙ ap (λ (x : Option Reply). listed x ++ p.2) first.0 ∙ ap (λ (x : List Reply). listed q.0 ++ x) others.0 ∙ sym q.5, others.1)
 
   pub RepliesTo-one : (world : World) (lines : List (List ℕ)) (replies others : List Reply) → RepliesTo rows world lines replies → RepliesTo rows world lines others → replies ≡ others

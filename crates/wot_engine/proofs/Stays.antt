@@ -20,7 +20,7 @@ use Rattle.wot_keyring.specs.Held.{cert_in, is_said, verdict_set, removing, verd
 use Rattle.wot_keyring.specs.Import.{answer_to, answer_under, is_entry, spelled_in, with_certs}
 use Rattle.wot_keyring.specs.Verdict.{is_over}
 use Rattle.wot_script.specs.declared.command.Command.{Command}
-use Rattle.wot_script.specs.declared.command.Command.TheVariants.{Import, Load, Remove, Good, Bad, Unjudge, Time, Root, Close, Ask, Explain, Pending, Keys, Export, Dump, Absence, Check}
+use Rattle.wot_script.specs.declared.command.Command.TheVariants.{Import, Load, Remove, Good, Bad, Unjudge, Time, Root, Close, Ask, Explain, Pending, Keys, Export, Dump, Absence, Check, CursorOver, CursorNext, CursorClose}
 use Rattle.wot_script.specs.declared.reply.Reply.{Reply}
 use Rattle.wot_script.specs.declared.reply.Reply.TheVariants as replies
 use Rattle.wot_script.specs.Grammar.{command_of}
@@ -32,8 +32,9 @@ use Rattle.wot_engine.specs.Lines.{is_silent, longest}
 use Rattle.wot_engine.specs.Outcome.{Outcome, only, done, imports, load, remove, set_verdict, clear_verdict, time, root, close, unless, keys, export, dump, import}
 use Rattle.wot_engine.specs.Listing.{explain, pending}
 use Rattle.wot_engine.specs.Entry.{entry_in, given_by}
-use Rattle.wot_engine.specs.LineStep.{LineStep, HasReply, Answers, Does, Gives}
-use Rattle.wot_engine.specs.Scene.{Scene}
+use Rattle.wot_engine.specs.LineStep.{LineStep, HasReply, Answers, Does, Gives, Stays}
+use Rattle.wot_engine.specs.Scene.{Scene, Step}
+use Rattle.wot_engine.specs.Whole.{Whole}
 use Rattle.wot_engine.specs.Transcript.{Run}
 
 -- what is true of all entries is true of those that are left
@@ -108,27 +109,33 @@ module _
     does_stays old Keys answer r m p = given (keys old) r m p
     does_stays old (Export fpr) answer r m p = given (export old fpr) r m p
     does_stays old Dump answer r m p = given (dump old) r m p
+    does_stays old (CursorOver cursor view wanted) answer r m p = λ g. subst Holds (sym g) p
+    does_stays old (CursorNext cursor count) answer r m p = λ g. subst Holds (sym g) p
+    does_stays old (CursorClose cursor) answer r m p = λ g. subst Holds (sym g) p
 
-    answers_stays : (old : State) (command : Option Command) (answer : Answer) (r : Reply) (m : State) → Holds old → Answers rows old command answer r m → Holds m
-    answers_stays old None answer r m p = given (only old replies.Line) r m p
-    answers_stays old (Some command) answer r m p = does_stays old command answer r m p
+    abbrev KeepsIt : Whole → Type 0
+    KeepsIt w = Holds w.state
 
-    replied : (Q : Reply → State → Type 0) (reply : Option Reply) (m : State) → ((r : Reply) → Q r m → Holds m) → HasReply Q reply m → Holds m
+    answers_stays : (old : Whole) (command : Option Command) (answer : Answer) (r : Reply) (m : Whole) → KeepsIt old → Answers rows old command answer r m → KeepsIt m
+    answers_stays old None answer r m p g = subst KeepsIt (sym g.1) p
+    answers_stays old (Some command) answer r m p g = does_stays old.state command answer r m.state p g.does
+
+    replied : (Q : Reply → Whole → Type 0) (reply : Option Reply) (m : Whole) → ((r : Reply) → Q r m → KeepsIt m) → HasReply Q reply m → KeepsIt m
     replied Q None m f g = absurd g
     replied Q (Some r) m f g = f r g
 
-    pub step_stays : (old : State) (line : List ℕ) (answer : Answer) (reply : Option Reply) (new : State) → P old.held.certs → LineStep rows old line answer reply new → P new.held.certs
+    pub step_stays : (old : Whole) (line : List ℕ) (answer : Answer) (reply : Option Reply) (new : Whole) → P old.state.held.certs → LineStep rows old line answer reply new → P new.state.held.certs
     step_stays old line answer reply new p = long (nat_lt longest (length line))
       where
-        silent : (b : Bool) → MatchBool b ((reply ≡ None) × (new ≡ old)) (HasReply (Answers rows old (command_of line) answer) reply new) → Holds new
-        silent true g = subst Holds (sym g.1) p
+        silent : (b : Bool) → MatchBool b ((reply ≡ None) × (new ≡ old)) (HasReply (Answers rows old (command_of line) answer) reply new) → KeepsIt new
+        silent true g = subst KeepsIt (sym g.1) p
         silent false g = replied (Answers rows old (command_of line) answer) reply new (λ r. answers_stays old (command_of line) answer r new p) g
 
-        long : (b : Bool) → MatchBool b (HasReply (Gives (only old replies.Long)) reply new) (MatchBool (is_silent line) ((reply ≡ None) × (new ≡ old)) (HasReply (Answers rows old (command_of line) answer) reply new)) → Holds new
-        long true g = replied (Gives (only old replies.Long)) reply new (λ r. given (only old replies.Long) r new p) g
+        long : (b : Bool) → MatchBool b (HasReply (Stays old replies.Long) reply new) (MatchBool (is_silent line) ((reply ≡ None) × (new ≡ old)) (HasReply (Answers rows old (command_of line) answer) reply new)) → KeepsIt new
+        long true g = replied (Stays old replies.Long) reply new (λ r h. subst KeepsIt (sym h.1) p) g
         long false g = silent (is_silent line) g
 
-    pub run_stays : (lines : List (List ℕ)) (old : Scene) (replies : List Reply) (new : Scene) → P old.state.held.certs → Run rows old lines replies new → P new.state.held.certs
-    run_stays [] old replies new p r = subst (λ (s : Scene). P s.state.held.certs) (sym r.1) p
+    pub run_stays : (lines : List (List ℕ)) (old : Scene) (replies : List Reply) (new : Scene) → P old.whole.state.held.certs → Run rows old lines replies new → P new.whole.state.held.certs
+    run_stays [] old replies new p r = subst (λ (s : Scene). P s.whole.state.held.certs) (sym r.1) p
     run_stays (line ∷ lines) old replies new p r =
-        run_stays lines r.1 r.2 new (step_stays old.state line (given_by old.world (entry_in line)) r.0 r.1.state p r.3.does) r.4
+        run_stays lines r.1 r.2 new (step_stays old.whole line (given_by old.world (entry_in line)) r.0 r.1.whole p r.3.does) r.4

@@ -9,7 +9,7 @@ use Rattle.wot_script.specs.declared.reply.Reply.TheVariants as replies
 use Rattle.wot_script.specs.Grammar.{command_of}
 use Rattle.wot_script.specs.Replies.{reply_text}
 use Rattle.wot_certd.specs.World.{Answer}
-use Rattle.wot_cache.specs.State.{State}
+use Rattle.wot_engine.specs.Whole.{Whole}
 use Rattle.wot_engine.specs.Entry.{entry_for, entry_in}
 use Rattle.wot_engine.specs.Lines.{is_silent, longest}
 use Rattle.wot_engine.specs.LineStep.{Answers, LineStep}
@@ -21,15 +21,15 @@ first b P Q h p = subst (λ (b : Bool). MatchBool b P Q) (sym h) p
 second : (b : Bool) (P Q : Type 0) → b ≡ false → Q → MatchBool b P Q
 second b P Q h q = subst (λ (b : Bool). MatchBool b P Q) (sym h) q
 
-pub too_long : (rows : PolicyRows) (s : State) (line : List ℕ) (given : Answer) → longest < length line → LineStep rows s line given (Some replies.Long) s
+pub too_long : (rows : PolicyRows) (s : Whole) (line : List ℕ) (given : Answer) → longest < length line → LineStep rows s line given (Some replies.Long) s
 too_long rows s line given long = first (nat_lt longest (length line)) _ _ (lt-ltb longest (length line) long) (refl, refl)
 
-pub looked_at : (rows : PolicyRows) (old : State) (line : List ℕ) (given : Answer) (reply : Reply) (new : State) → length line ≤ longest → is_silent line ≡ false
+pub looked_at : (rows : PolicyRows) (old : Whole) (line : List ℕ) (given : Answer) (reply : Reply) (new : Whole) → length line ≤ longest → is_silent line ≡ false
     → Answers rows old (command_of line) given reply new → LineStep rows old line given (Some reply) new
 looked_at rows old line given reply new short heard answers =
     second (nat_lt longest (length line)) _ _ (le-ltb longest (length line) short) (second (is_silent line) _ _ heard answers)
 
-pub passed_over : (rows : PolicyRows) (s : State) (line : List ℕ) (given : Answer) → length line ≤ longest → is_silent line ≡ true → LineStep rows s line given None s
+pub passed_over : (rows : PolicyRows) (s : Whole) (line : List ℕ) (given : Answer) → length line ≤ longest → is_silent line ≡ true → LineStep rows s line given None s
 passed_over rows s line given short silent =
     second (nat_lt longest (length line)) _ _ (le-ltb longest (length line) short) (first (is_silent line) _ _ silent (refl, refl))
 

@@ -11,7 +11,7 @@ use Rattle.wot_io.specs.declared.lines.Line.TheVariants.{Text, Long, End}
 use Rattle.wot_script.specs.declared.reply.Reply.{Reply}
 use Rattle.wot_script.specs.Replies.{reply_text}
 use Rattle.wot_certd.specs.World.{Answer, World}
-use Rattle.wot_cache.specs.State.{State, start}
+use Rattle.wot_engine.specs.Whole.{Whole, beginning}
 use Rattle.wot_types.specs.declared.name.Name.{Name}
 use Rattle.wot_engine.specs.Entry.{IsWorldAfter, WasGiven, entry_in}
 use Rattle.wot_engine.specs.Law.{OneOutcome}
@@ -26,20 +26,20 @@ use Rattle.wot_engine.proofs.Stepping.{entry_long}
 use Rattle.wot_policy.specs.declared.rows.PolicyRows.{PolicyRows}
 
 module _ (rows : PolicyRows) where
-  abbrev pub Stood : Option (List ℕ) → Option (List ℕ) → Option World → List ℕ → ℕ → Option (List ℕ) → Option (List ℕ) → Option World → State → Type 0
+  abbrev pub Stood : Option (List ℕ) → Option (List ℕ) → Option World → List ℕ → ℕ → Option (List ℕ) → Option (List ℕ) → Option World → Whole → Type 0
   Stood left0 written0 origin held taken left written shelf state =
       AllTold left0 written0 origin (λ input before world. Stands rows origin world input before held taken left written shelf state)
 
-  pub Stood-init : (left written : Option (List ℕ)) (origin : Option World) → Stood left written origin [] 0 left written origin start
+  pub Stood-init : (left written : Option (List ℕ)) (origin : Option World) → Stood left written origin [] 0 left written origin beginning
   Stood-init left written origin = all_told left written origin _ (λ input before world e f is. starts rows origin world input before left written origin e f is)
 
   -- a line was given, and its reply is there
-  pub record Turned (origin : Option World) (world : World) (input before : List ℕ) (held' : List ℕ) (taken' : ℕ) (left' written : Option (List ℕ)) (octets : List ℕ) (shelf' : Option World) (state' : State) : Type 0 where
+  pub record Turned (origin : Option World) (world : World) (input before : List ℕ) (held' : List ℕ) (taken' : ℕ) (left' written : Option (List ℕ)) (octets : List ℕ) (shelf' : Option World) (state' : Whole) : Type 0 where
     pub held : List ℕ
     pub taken : ℕ
     pub left : Option (List ℕ)
     pub shelf : Option World
-    pub state : State
+    pub state : Whole
     pub line : List ℕ
     pub stands : Stands rows origin world input before held taken left written shelf state
     pub gives : GivesOf held stands.rest taken held' left' taken' line
@@ -50,7 +50,7 @@ module _ (rows : PolicyRows) where
     pub octets_are : octets ≡ octets_of (listed reply)
 
   -- the line is known, and what it was given
-  turned_by : (origin : Option World) (world : World) (input before : List ℕ) (old : ReaderState) (left written : Option (List ℕ)) (shelf : Option World) (state : State) (new : ReaderState) (left' : Option (List ℕ)) (shelf' : Option World) (state' : State) (line : List ℕ) (entry : Option Name) (what : Answer) (reply : Option Reply) (octets : List ℕ)
+  turned_by : (origin : Option World) (world : World) (input before : List ℕ) (old : ReaderState) (left written : Option (List ℕ)) (shelf : Option World) (state : Whole) (new : ReaderState) (left' : Option (List ℕ)) (shelf' : Option World) (state' : Whole) (line : List ℕ) (entry : Option Name) (what : Answer) (reply : Option Reply) (octets : List ℕ)
       → IsUnread origin input → (s : Stands rows origin world input before old.held old.taken left written shelf state) → GivesOf old.held s.rest old.taken new.held left' new.taken line
       → entry_in line ≡ entry → WasGiven entry shelf what → IsWorldAfter entry shelf shelf' → LineStep rows state line what reply state' → octets ≡ octets_of (listed reply)
       → Turned origin world input before new.held new.taken left' written octets shelf' state'
@@ -73,7 +73,7 @@ module _ (rows : PolicyRows) where
         octets_are = same;
       }
 
-  pub turned : (origin : Option World) (world : World) (input before : List ℕ) (old : ReaderState) (left written : Option (List ℕ)) (shelf : Option World) (state : State) (new : ReaderState) (left' : Option (List ℕ)) (shelf' : Option World) (state' : State) (line : Line) (octets : List ℕ)
+  pub turned : (origin : Option World) (world : World) (input before : List ℕ) (old : ReaderState) (left written : Option (List ℕ)) (shelf : Option World) (state : Whole) (new : ReaderState) (left' : Option (List ℕ)) (shelf' : Option World) (state' : Whole) (line : Line) (octets : List ℕ)
       → IsUnread origin input → Stands rows origin world input before old.held old.taken left written shelf state → given.Answers line old left new left' → Replies rows line new.text state shelf octets state' shelf'
       → Turned origin world input before new.held new.taken left' written octets shelf' state'
   turned origin world input before old left written shelf state new left' shelf' state' Text octets unread s a r =
@@ -85,24 +85,24 @@ module _ (rows : PolicyRows) where
   turned origin world input before old left written shelf state new left' shelf' state' End octets unread s a r = absurd r.does
 
   -- the reply that was due is written
-  pub wrote : (origin : Option World) (world : World) (input before : List ℕ) (held' : List ℕ) (taken' : ℕ) (left' written : Option (List ℕ)) (octets : List ℕ) (shelf' : Option World) (state' : State) (written' : Option (List ℕ))
+  pub wrote : (origin : Option World) (world : World) (input before : List ℕ) (held' : List ℕ) (taken' : ℕ) (left' written : Option (List ℕ)) (octets : List ℕ) (shelf' : Option World) (state' : Whole) (written' : Option (List ℕ))
       → (t : Turned origin world input before held' taken' left' written octets shelf' state') → written' ≡ Some ((before ++ octets_of t.stands.replies) ++ octets)
       → Stands rows origin world input before held' taken' left' written' shelf' state'
   wrote origin world input before held' taken' left' written octets shelf' state' written' t w =
       goes_on rows origin world input before t.held t.taken t.left written t.shelf t.state held' taken' left' written' shelf' state' t.line t.reply t.stands t.gives t.next t.is_next t.step
       (w ∙ ap (λ (x : List ℕ). Some ((before ++ octets_of t.stands.replies) ++ x)) t.octets_are)
 
-  pub Begun-here : OneOutcome rows → (left0 written0 : Option (List ℕ)) (origin : Option World) (held : List ℕ) (taken : ℕ) (left written : Option (List ℕ)) (shelf : Option World) (state : State) → Stood left0 written0 origin held taken left written shelf state
+  pub Begun-here : OneOutcome rows → (left0 written0 : Option (List ℕ)) (origin : Option World) (held : List ℕ) (taken : ℕ) (left written : Option (List ℕ)) (shelf : Option World) (state : Whole) → Stood left0 written0 origin held taken left written shelf state
       → AllTold left0 written0 origin (λ input before world. Begun rows world (lines_of input) before written)
   Begun-here law left0 written0 origin held taken left written shelf state s =
       all_weaker left0 written0 origin _ _ (λ input before world unread s. so_far rows origin world law input before held taken left written shelf state s) s
 
-  pub First-here : (left0 written0 : Option (List ℕ)) (origin : Option World) (held : List ℕ) (taken : ℕ) (left written : Option (List ℕ)) (shelf : Option World) (state : State) → Stood left0 written0 origin held taken left written shelf state
+  pub First-here : (left0 written0 : Option (List ℕ)) (origin : Option World) (held : List ℕ) (taken : ℕ) (left written : Option (List ℕ)) (shelf : Option World) (state : Whole) → Stood left0 written0 origin held taken left written shelf state
       → AllTold left0 written0 origin (λ input before world. AnsweredFirst rows world (lines_of input) before written)
   First-here left0 written0 origin held taken left written shelf state s =
       all_weaker left0 written0 origin _ _ (λ input before world unread s. at_first rows origin world input before held taken left written shelf state s) s
 
-  pub Answered-end : (left0 written0 : Option (List ℕ)) (origin : Option World) (old : ReaderState) (left written : Option (List ℕ)) (shelf : Option World) (state : State) (new : ReaderState) (left' : Option (List ℕ))
+  pub Answered-end : (left0 written0 : Option (List ℕ)) (origin : Option World) (old : ReaderState) (left written : Option (List ℕ)) (shelf : Option World) (state : Whole) (new : ReaderState) (left' : Option (List ℕ))
       → Stood left0 written0 origin old.held old.taken left written shelf state → given.Answers End old left new left'
       → AllTold left0 written0 origin (λ input before world. Answered rows world (lines_of input) before written × (left' ≡ Some []))
   Answered-end left0 written0 origin old left written shelf state new left' s e =
@@ -110,7 +110,7 @@ module _ (rows : PolicyRows) where
       let e' = rw s.left_is at e in
       (at_end rows origin world input before old.held old.taken left written shelf state s e'.0.0 e'.0.1, e'.0.3)) s
 
-  pub Answered-stop : (left0 written0 : Option (List ℕ)) (origin : Option World) (held : List ℕ) (taken : ℕ) (left written : Option (List ℕ)) (shelf : Option World) (state : State) (left' : Option (List ℕ)) (taken' : ℕ)
+  pub Answered-stop : (left0 written0 : Option (List ℕ)) (origin : Option World) (held : List ℕ) (taken : ℕ) (left written : Option (List ℕ)) (shelf : Option World) (state : Whole) (left' : Option (List ℕ)) (taken' : ℕ)
       → Stood left0 written0 origin held taken left written shelf state → Stops held left taken left' taken'
       → AllTold left0 written0 origin (λ input before world. AnsweredWhole rows world input before left' written × (taken' ≡ 2 ^ 30 → AnsweredMost rows world input before left' written))
   Answered-stop left0 written0 origin held taken left written shelf state left' taken' s t =
@@ -133,7 +133,7 @@ module _ (rows : PolicyRows) where
       absurd (omega (arith, lt, f, length-append (before ++ replies) (take n reply), length-append before replies, length-append before ((replies ++ reply) ++ others), length-append (replies ++ reply) others, length-append replies reply, length-take n reply))
 
   -- where a reply was cut, not all of them were written
-  pub cut_most : OneOutcome rows → (origin : Option World) (world : World) (input before held : List ℕ) (taken : ℕ) (left : Option (List ℕ)) (shelf : Option World) (state : State) (replies reply : List ℕ) (n : ℕ) (written : Option (List ℕ))
+  pub cut_most : OneOutcome rows → (origin : Option World) (world : World) (input before held : List ℕ) (taken : ℕ) (left : Option (List ℕ)) (shelf : Option World) (state : Whole) (replies reply : List ℕ) (n : ℕ) (written : Option (List ℕ))
       → (s : Stands rows origin world input before held taken left (Some ((before ++ replies) ++ reply)) shelf state) → n < length reply → written ≡ Some ((before ++ replies) ++ take n reply) → AnsweredMost rows world input before left written → ⊥
   cut_most law origin world input before held taken left shelf state replies reply n written s lt w a =
       let rests : s.rest ≡ a.taken.rest = some-is s.rest a.taken.rest (sym s.left_is ∙ a.taken.left_is) in
@@ -155,20 +155,20 @@ module _ (rows : PolicyRows) where
       ]
 
   -- when 2 ^ 30 octets were taken
-  most_size : (origin : Option World) (world : World) (input before held : List ℕ) (taken : ℕ) (left written : Option (List ℕ)) (shelf : Option World) (state : State) (rest : List ℕ) (left' written' : Option (List ℕ)) (taken' : ℕ)
+  most_size : (origin : Option World) (world : World) (input before held : List ℕ) (taken : ℕ) (left written : Option (List ℕ)) (shelf : Option World) (state : Whole) (rest : List ℕ) (left' written' : Option (List ℕ)) (taken' : ℕ)
       → (s : Stands rows origin world input before held taken left written shelf state) → left' ≡ Some rest → taken' + length rest ≡ taken + length s.rest → AnsweredMost rows world input before left' written' → taken' ≡ 2 ^ 30
   most_size origin world input before held taken left written shelf state rest left' written' taken' s e n a =
       let rests : rest ≡ a.taken.rest = some-is rest a.taken.rest (sym e ∙ a.taken.left_is) in
       omega (arith, n, s.count, a.size, ap length rests, ap length a.taken.input_is, length-append a.octets a.taken.rest)
 
-  pub Most-end : (left0 written0 : Option (List ℕ)) (origin : Option World) (old : ReaderState) (left written : Option (List ℕ)) (shelf : Option World) (state : State) (new : ReaderState) (left' : Option (List ℕ))
+  pub Most-end : (left0 written0 : Option (List ℕ)) (origin : Option World) (old : ReaderState) (left written : Option (List ℕ)) (shelf : Option World) (state : Whole) (new : ReaderState) (left' : Option (List ℕ))
       → Stood left0 written0 origin old.held old.taken left written shelf state → given.Answers End old left new left' → AllTold left0 written0 origin (λ input before world. AnsweredMost rows world input before left' written → ⊥)
   Most-end left0 written0 origin old left written shelf state new left' s e =
       all_weaker left0 written0 origin _ _ (λ input before world unread s a.
       let e' = rw s.left_is at e in
       absurd (omega (arith, most_size origin world input before old.held old.taken left written shelf state [] left' written old.taken s e'.0.3 (ap (λ (x : List ℕ). old.taken + length x) (sym e'.0.1)) a, e'.1, e'.2))) s
 
-  pub Most-stop : (left0 written0 : Option (List ℕ)) (origin : Option World) (held : List ℕ) (taken : ℕ) (left written : Option (List ℕ)) (shelf : Option World) (state : State) (left' : Option (List ℕ)) (taken' : ℕ)
+  pub Most-stop : (left0 written0 : Option (List ℕ)) (origin : Option World) (held : List ℕ) (taken : ℕ) (left written : Option (List ℕ)) (shelf : Option World) (state : Whole) (left' : Option (List ℕ)) (taken' : ℕ)
       → Stood left0 written0 origin held taken left written shelf state → Stops held left taken left' taken' → taken' < 2 ^ 30 → AllTold left0 written0 origin (λ input before world. AnsweredMost rows world input before left' written → ⊥)
   Most-stop left0 written0 origin held taken left written shelf state left' taken' s t lt =
       all_weaker left0 written0 origin _ _ (λ input before world unread s a.

@@ -14,14 +14,15 @@ use Rattle.wot_cache.specs.Views.{view_at}
 use Rattle.wot_engine.specs.LineStep.{LineStep}
 use Rattle.wot_engine.specs.Scene.{opening}
 use Rattle.wot_engine.specs.Transcript.{Run}
+use Rattle.wot_engine.specs.Whole.{Whole}
 
 -- A history leads to the state: lines, answered from the start on, with a shelf of some world.
-pub record IsReached (rows : PolicyRows) (s : State) : Type 0 where
+pub record IsReached (rows : PolicyRows) (s : Whole) : Type 0 where
   pub world : World
   pub after : World
   pub lines : List (List ℕ)
   pub replies : List Reply
-  pub run : Run rows (opening world) lines replies (record { state = s; world = after })
+  pub run : Run rows (opening world) lines replies (record { whole = s; world = after })
 
 -- the certificates by fingerprint, without their signatures' marks of admission
 abbrev pub bare : Certificates → Certificates
@@ -50,14 +51,14 @@ pub record IsAsk (name line : List ℕ) : Type 0 where
   pub read : command_of line ≡ Some command
 
 -- The replies to this line are the same, whatever the shelf gives.
-abbrev pub AreRepliesAlike : PolicyRows → State → State → List ℕ → Type 0
+abbrev pub AreRepliesAlike : PolicyRows → Whole → Whole → List ℕ → Type 0
 AreRepliesAlike rows one other line =
-    (given told : Answer) (reply second : Option Reply) (new third : State)
+    (given told : Answer) (reply second : Option Reply) (new third : Whole)
     → LineStep rows one line given reply new → LineStep rows other line told second third → reply ≡ second
 
 -- An answer depends only on the certificates, the verdicts, and the roots and the time of the asking view then present:
 -- whatever histories lead to two states that are alike from a view, each question from it has the same reply in both.
 abbrev pub DependsOnWhatIsPresent : PolicyRows → Type 0
 DependsOnWhatIsPresent rows =
-    (name : List ℕ) (one other : State) → IsReached rows one → IsReached rows other → AreAlike name one other
+    (name : List ℕ) (one other : Whole) → IsReached rows one → IsReached rows other → AreAlike name one.state other.state
     → (line : List ℕ) → IsAsk name line → AreRepliesAlike rows one other line

@@ -1,5 +1,5 @@
 -- What a dump does in a fresh machine.
-use Rattle.std.specs.Prelude.{◌≡◌, false, List, ℕ, length, codes}
+use Rattle.std.specs.Prelude.{◌≡◌, false, List, [], ℕ, length, codes}
 use Rattle.std.specs.List.{AllByRecursion}
 use Rattle.wot_io.specs.Input as inputs
 use Rattle.wot_policy.specs.declared.rows.PolicyRows.{PolicyRows}
@@ -13,6 +13,7 @@ use Rattle.wot_cache.specs.State.{State}
 use Rattle.wot_cache.specs.Dump.{commands_of, CarriesOver}
 use Rattle.wot_engine.specs.Scene.{opening}
 use Rattle.wot_engine.specs.Transcript.{Run}
+use Rattle.wot_engine.specs.Whole.{Whole}
 
 -- the line of the command `dump`
 abbrev pub IsDump : List ℕ → Type 0
@@ -28,11 +29,12 @@ abbrev pub dumped : State → List (List ℕ)
 dumped s = inputs.lines_of (lines_of (commands_of s))
 
 -- The lines of a dump of this state, answered from the start on, lead to a state with all that a dump carries over, its
--- signatures judged by the rows. Each line has a reply, and none is a refusal. The shelf may be any, and no line reads it.
+-- signatures judged by the rows, and to no cursor. Each line has a reply, and none is a refusal. The shelf may be any, and no line reads it.
 pub record IsMadeAnew (rows : PolicyRows) (s : State) : Type 0 where
   pub replies : List Reply
-  pub new : State
-  pub same : CarriesOver rows s new
-  pub run : (world : World) → Run rows (opening world) (dumped s) replies (record { state = new; world = world })
+  pub new : Whole
+  pub same : CarriesOver rows s new.state
+  pub cursors : new.cursors ≡ []
+  pub run : (world : World) → Run rows (opening world) (dumped s) replies (record { whole = new; world = world })
   pub each : length replies ≡ length (dumped s)
   pub well : AllByRecursion (λ reply. is_refusal reply ≡ false) replies

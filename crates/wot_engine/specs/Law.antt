@@ -5,25 +5,26 @@ use Rattle.wot_script.specs.declared.reply.Reply.{Reply}
 use Rattle.wot_script.specs.declared.reply.Reply.TheVariants.{Shelf}
 use Rattle.wot_script.specs.Replies.{is_refusal}
 use Rattle.wot_certd.specs.World.{Answer}
-use Rattle.wot_cache.specs.State.{State, IsState}
+use Rattle.wot_cache.specs.State.{IsState}
 use Rattle.wot_engine.specs.LineStep.{LineStep}
+use Rattle.wot_engine.specs.Whole.{Whole}
 
--- Whatever the shelf gives, each line has a reply or none, and a state after it; in a state that can be, only one of each;
+-- Whatever the shelf gives, each line has a reply or none, and leads somewhere; from a state that can be, only one of each;
 -- and what comes after such a state can be.
 pub record OneOutcome (rows : PolicyRows) : Type 0 where
-  pub some : (old : State) (line : List ℕ) (given : Answer) → (reply : Option Reply) × (new : State) × LineStep rows old line given reply new
-  pub one : (old : State) (line : List ℕ) (given : Answer) (reply other : Option Reply) (new third : State) → IsState old
+  pub some : (old : Whole) (line : List ℕ) (given : Answer) → (reply : Option Reply) × (new : Whole) × LineStep rows old line given reply new
+  pub one : (old : Whole) (line : List ℕ) (given : Answer) (reply other : Option Reply) (new third : Whole) → IsState old.state
       → LineStep rows old line given reply new → LineStep rows old line given other third → (reply ≡ other) × (new ≡ third)
-  pub stays : (old : State) (line : List ℕ) (given : Answer) (reply : Option Reply) (new : State) → IsState old
-      → LineStep rows old line given reply new → IsState new
+  pub stays : (old : Whole) (line : List ℕ) (given : Answer) (reply : Option Reply) (new : Whole) → IsState old.state
+      → LineStep rows old line given reply new → IsState new.state
 
 -- The line is refused, or the shelf failed in it.
 abbrev pub is_refused : Reply → Bool
 is_refused Shelf = true
 is_refused reply = is_refusal reply
 
--- A line that is refused leaves certificates, verdicts and views.
+-- A line that is refused leaves all that is kept: certificates, verdicts and views, counts, and cursors.
 abbrev pub RefusalsLeaveAll : PolicyRows → Type 0
 RefusalsLeaveAll rows =
-    (old : State) (line : List ℕ) (given : Answer) (reply : Reply) (new : State) → LineStep rows old line given (Some reply) new
+    (old : Whole) (line : List ℕ) (given : Answer) (reply : Reply) (new : Whole) → LineStep rows old line given (Some reply) new
     → is_refused reply ≡ true → new ≡ old

@@ -4,6 +4,8 @@ pub mod Refused
 pub mod Answer
 pub mod Listing
 pub mod Absent
+pub mod Whole
+pub mod Pacing
 pub mod LineStep
 pub mod Entry
 pub mod Scene

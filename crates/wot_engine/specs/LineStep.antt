@@ -3,7 +3,7 @@ use Rattle.std.specs.Prelude.{◌≡◌, ℕ, nat_lt, List, length, Option, Some
 use Rattle.wot_policy.specs.declared.rows.PolicyRows.{PolicyRows}
 use Rattle.wot_verdict.specs.declared.verdict.Verdict.TheVariants as verdicts
 use Rattle.wot_script.specs.declared.command.Command.{Command}
-use Rattle.wot_script.specs.declared.command.Command.TheVariants.{Import, Load, Remove, Good, Bad, Unjudge, Time, Root, Close, Ask, Explain, Pending, Keys, Export, Dump, Absence, Check}
+use Rattle.wot_script.specs.declared.command.Command.TheVariants.{Import, Load, Remove, Good, Bad, Unjudge, Time, Root, Close, Ask, Explain, Pending, Keys, Export, Dump, Absence, Check, CursorOver, CursorNext, CursorClose}
 use Rattle.wot_script.specs.declared.reply.Reply.{Reply}
 use Rattle.wot_script.specs.declared.reply.Reply.TheVariants as replies
 use Rattle.wot_script.specs.Grammar.{command_of}
@@ -11,16 +11,19 @@ use Rattle.wot_certd.specs.World.{Answer}
 use Rattle.wot_cache.specs.State.{State}
 use Rattle.wot_cache.specs.Views.{view_at}
 use Rattle.wot_engine.specs.Lines.{longest, is_silent}
-use Rattle.wot_engine.specs.Outcome.{Outcome, only, import, load, remove, set_verdict, clear_verdict, time, root, close, keys, export, dump}
+use Rattle.wot_engine.specs.Outcome.{Outcome, import, load, remove, set_verdict, clear_verdict, time, root, close, keys, export, dump}
 use Rattle.wot_engine.specs.Answer.{Asks}
 use Rattle.wot_engine.specs.Absent.{Checks, Misses}
 use Rattle.wot_engine.specs.Listing.{Lists, explain, pending}
+use Rattle.wot_engine.specs.Pacing.{Paces}
+use Rattle.wot_engine.specs.Whole.{IsCounted, IsTurnedBy, Whole}
 
 -- This is the reply, and this is the state.
 abbrev pub Gives : Outcome → Reply → State → Type 0
 Gives outcome reply new = (reply ≡ outcome.reply) × (new ≡ outcome.state)
 
--- What a command does: from old to new, with this reply. What the shelf gives in this line matters for `load` alone.
+-- What a command does to the state: from old to new, with this reply. What the shelf gives in this line matters for `load`
+-- alone. The commands of cursors leave the state, and have their replies by `Paces`.
 abbrev pub Does : PolicyRows → State → Command → Answer → Reply → State → Type 0
 Does rows old (Import octets) given reply new = Gives (import rows old octets) reply new
 Does rows old (Load name) given reply new = Gives (load rows old name given) reply new
@@ -41,20 +44,34 @@ Does rows old Pending given reply new = Gives (pending old) reply new
 Does rows old Keys given reply new = Gives (keys old) reply new
 Does rows old (Export fpr) given reply new = Gives (export old fpr) reply new
 Does rows old Dump given reply new = Gives (dump old) reply new
+Does rows old (CursorOver name view wanted) given reply new = new ≡ old
+Does rows old (CursorNext name count) given reply new = new ≡ old
+Does rows old (CursorClose name) given reply new = new ≡ old
+
+-- The same with all that is kept: what is counted, and the cursors.
+pub record Obeys (rows : PolicyRows) (old : Whole) (command : Command) (given : Answer) (reply : Reply) (new : Whole) : Type 0 where
+  pub does : Does rows old.state command given reply new.state
+  pub counted : IsCounted old new
+  pub turned : IsTurnedBy command old.state.views old.turns new.state.views new.turns
+  pub paces : Paces old command reply new.cursors
+
+-- This is the reply, and nothing changes.
+abbrev pub Stays : Whole → Reply → Reply → Whole → Type 0
+Stays old told reply new = (reply ≡ told) × (new ≡ old)
 
 -- What a line does that is neither too long nor silent.
-abbrev pub Answers : PolicyRows → State → Option Command → Answer → Reply → State → Type 0
-Answers rows old None given reply new = Gives (only old replies.Line) reply new
-Answers rows old (Some command) given reply new = Does rows old command given reply new
+abbrev pub Answers : PolicyRows → Whole → Option Command → Answer → Reply → Whole → Type 0
+Answers rows old None given reply new = Stays old replies.Line reply new
+Answers rows old (Some command) given reply new = Obeys rows old command given reply new
 
 -- There is such a reply.
-abbrev pub HasReply : (Reply → State → Type 0) → Option Reply → State → Type 0
+abbrev pub HasReply : (Reply → Whole → Type 0) → Option Reply → Whole → Type 0
 HasReply P None new = ⊥
 HasReply P (Some reply) new = P reply new
 
 -- What a line does, in which the shelf gives this: from old to new, with this reply; a silent line has none. The rows are
 -- those of the policy.
-abbrev pub LineStep : PolicyRows → State → List ℕ → Answer → Option Reply → State → Type 0
+abbrev pub LineStep : PolicyRows → Whole → List ℕ → Answer → Option Reply → Whole → Type 0
 LineStep rows old line given reply new =
-    MatchBool (nat_lt longest (length line)) (HasReply (Gives (only old replies.Long)) reply new)
+    MatchBool (nat_lt longest (length line)) (HasReply (Stays old replies.Long) reply new)
     (MatchBool (is_silent line) ((reply ≡ None) × (new ≡ old)) (HasReply (Answers rows old (command_of line) given) reply new))

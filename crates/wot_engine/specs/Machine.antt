@@ -1,8 +1,15 @@
 -- What a machine is seen as.
 use Rattle.std.specs.Prelude.{ℕ}
 use Rattle.wot_cache.specs.State.{Engine}
+use Rattle.wot_cursor.specs.Cursors.{Cursors}
+use Rattle.wot_engine.specs.Whole.{Whole, whole_of}
 
--- its engine, and how many edges were made for all its questions
+-- its engine, its cursors, and how many edges were made for all its questions
 pub record Machine : Type 0 where
   pub engine : Engine
+  pub cursors : Cursors
   pub made : ℕ
+
+-- all that it keeps
+abbrev pub kept : Machine → Whole
+kept m = whole_of m.engine m.cursors

@@ -1,11 +1,12 @@
 -- How many edges a line makes, and whose marks it leaves. No reply depends on either.
-use Rattle.std.specs.Prelude.{◌≡◌, ℕ, nat_lt, if◌then◌else◌, List, [], length, Option, Some, None, Result, OnOk}
+use Rattle.std.specs.Prelude.{◌≡◌, ◌⊎◌, ℕ, nat_lt, if◌then◌else◌, List, [], length, Option, Some, None, Result, OnOk}
 use Rattle.wot_script.specs.declared.command.Command.{Command}
-use Rattle.wot_script.specs.declared.command.Command.TheVariants.{Ask, Explain, Absence, Check, Time, Close}
+use Rattle.wot_script.specs.declared.command.Command.TheVariants.{Ask, Explain, Absence, Check, Time, Close, CursorNext}
 use Rattle.wot_script.specs.Grammar.{command_of}
 use Rattle.wot_cache.specs.State.{Engine, OtherMarksStay, marks_at}
 use Rattle.wot_cache.specs.Marks.{IsRefreshed}
 use Rattle.wot_cache.specs.Views.{view_at}
+use Rattle.wot_cursor.specs.Cursors.{Cursor, Cursors, cursor_at}
 use Rattle.wot_engine.specs.Lines.{longest, is_silent}
 
 -- No edge is made, and all marks stay.
@@ -24,10 +25,16 @@ Makes result (Time view t) old new before after = MakesNothing old new before af
 Makes result (Close view) old new before after = (after ≡ before) × OtherMarksStay view old new
 Makes result _ old new before after = MakesNothing old new before after
 
--- the same of a line that is read as a command, or as none
-abbrev pub LineMakes : {T E : Type 0} → Result T E → Option Command → Engine → Engine → ℕ → ℕ → Type 0
-LineMakes result None old new before after = MakesNothing old new before after
-LineMakes result (Some command) old new before after = Makes result command old new before after
+-- A cursor's next piece makes edges as a question from its view does; or none, as where it isn't given.
+abbrev pub PieceMakes : {T E : Type 0} → Result T E → Option Cursor → Engine → Engine → ℕ → ℕ → Type 0
+PieceMakes result None old new before after = MakesNothing old new before after
+PieceMakes result (Some cursor) old new before after = IsRefreshed result cursor.view old new before after ⊎ MakesNothing old new before after
+
+-- the same of a line that is read as a command, or as none, with these cursors
+abbrev pub LineMakes : {T E : Type 0} → Result T E → Option Command → Cursors → Engine → Engine → ℕ → ℕ → Type 0
+LineMakes result None cursors old new before after = MakesNothing old new before after
+LineMakes result (Some (CursorNext name count)) cursors old new before after = PieceMakes result (cursor_at cursors name) old new before after
+LineMakes result (Some command) cursors old new before after = Makes result command old new before after
 
 -- the command of a line that is neither too long nor silent
 abbrev pub heard : List ℕ → Option Command

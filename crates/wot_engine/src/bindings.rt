@@ -52,7 +52,7 @@ fn list_from(alloc: Global, parts: &Parts<'_>, wanted: u32) -> Result<Reply, Mem
 }
 
 /// A line for each of these bindings.
-fn bind_lines(alloc: Global, binds: Vec<Bind>) -> Result<BindLines, Memory>
+pub fn bind_lines(alloc: Global, binds: Vec<Bind>) -> Result<BindLines, Memory>
     ensures lines { IfOk result (λ lines. lines ≡ map bind_line binds.items) }
 {
     let mut lines = BindLines::new(alloc);

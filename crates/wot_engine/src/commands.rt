@@ -6,6 +6,7 @@ ghost use Rattle.wot_keyring.specs.Kept.{IsJudgedBy, StaysJudged};
 ghost use Rattle.wot_keyring.specs.Import.{IsOneChange};
 ghost use Rattle.wot_script.specs.Replies.{is_short};
 ghost use Rattle.wot_cache.specs.State.{marks_at, state_of, OtherMarksStay};
+ghost use Rattle.wot_cache.specs.Turns.{IsOneClosing, IsOneTurn};
 ghost use Rattle.wot_cache.specs.Views.{view_at};
 ghost use Rattle.wot_engine.specs.Outcome.{import as import_of, remove as remove_of, set_verdict as set_verdict_of, clear_verdict as clear_verdict_of, time as time_of, root as root_of, close as close_of};
 ghost use Rattle.wot_engine.specs.LineStep.{Gives};
@@ -34,6 +35,7 @@ pub fn import<F: Fn(Ask) -> bool>(
     ensures short { IfOk result (λ reply. is_short reply ≡ true) }
     ensures kept { OnErr result (engine.new ≡ engine.old) }
     ensures marks { engine.new.marks ≡ engine.old.marks }
+    ensures turns { engine.new.turns ≡ engine.old.turns }
     ensures counted { IsOneChange engine.old.keyring engine.new.keyring }
     ensures standard { engine.new.keyring.limits ≡ standard_limits }
     ensures judged { IsJudgedBy (rows_of policy.old) engine.new.keyring }
@@ -59,6 +61,7 @@ pub fn remove(engine: &mut Engine, fpr: &Fpr) -> Reply
     ensures gives { Gives (remove_of (state_of engine.old) fpr.now) result (state_of engine.new) }
     ensures short { is_short result ≡ true }
     ensures marks { engine.new.marks ≡ engine.old.marks }
+    ensures turns { engine.new.turns ≡ engine.old.turns }
     ensures counted { IsOneChange engine.old.keyring engine.new.keyring }
     ensures standard { engine.new.keyring.limits ≡ standard_limits }
     ensures judged { StaysJudged engine.old.keyring engine.new.keyring }
@@ -81,6 +84,7 @@ pub fn set_verdict(
     ensures short { IfOk result (λ reply. is_short reply ≡ true) }
     ensures kept { OnErr result (engine.new ≡ engine.old) }
     ensures marks { engine.new.marks ≡ engine.old.marks }
+    ensures turns { engine.new.turns ≡ engine.old.turns }
     ensures counted { IsOneChange engine.old.keyring engine.new.keyring }
     ensures standard { engine.new.keyring.limits ≡ standard_limits }
     ensures judged { StaysJudged engine.old.keyring engine.new.keyring }
@@ -98,6 +102,7 @@ pub fn clear_verdict(engine: &mut Engine, number: &SigNumber) -> Reply
     ensures gives { Gives (clear_verdict_of (state_of engine.old) number.now) result (state_of engine.new) }
     ensures short { is_short result ≡ true }
     ensures marks { engine.new.marks ≡ engine.old.marks }
+    ensures turns { engine.new.turns ≡ engine.old.turns }
     ensures counted { IsOneChange engine.old.keyring engine.new.keyring }
     ensures standard { engine.new.keyring.limits ≡ standard_limits }
     ensures judged { StaysJudged engine.old.keyring engine.new.keyring }
@@ -111,7 +116,9 @@ pub fn clear_verdict(engine: &mut Engine, number: &SigNumber) -> Reply
 /// `view V time T`.
 pub fn time(engine: &mut Engine, view: &ViewName, t: u32) -> Result<Reply, Memory>
     requires standard { engine.old.keyring.limits ≡ standard_limits }
+    requires turnable { engine.old.turns.count < 2 ^ 64 - 1 }
     ensures gives { IfOk result (λ reply. Gives (time_of (state_of engine.old) view.now t) reply (state_of engine.new)) }
+    ensures turned { IsOneTurn view.now engine.old.views engine.old.turns engine.new.views engine.new.turns }
     ensures short { IfOk result (λ reply. is_short reply ≡ true) }
     ensures kept { OnErr result (engine.new ≡ engine.old) }
     ensures marks { engine.new.marks ≡ engine.old.marks }
@@ -127,7 +134,9 @@ pub fn time(engine: &mut Engine, view: &ViewName, t: u32) -> Result<Reply, Memor
 /// `view V root FPR A`.
 pub fn root(engine: &mut Engine, view: &ViewName, fpr: &Fpr, amount: u8) -> Result<Reply, Memory>
     requires standard { engine.old.keyring.limits ≡ standard_limits }
+    requires turnable { engine.old.turns.count < 2 ^ 64 - 1 }
     ensures gives { IfOk result (λ reply. Gives (root_of (state_of engine.old) view.now fpr.now amount) reply (state_of engine.new)) }
+    ensures turned { IsOneTurn view.now engine.old.views engine.old.turns engine.new.views engine.new.turns }
     ensures short { IfOk result (λ reply. is_short reply ≡ true) }
     ensures kept { OnErr result (engine.new ≡ engine.old) }
     ensures marks { engine.new.marks ≡ engine.old.marks }
@@ -142,6 +151,7 @@ pub fn root(engine: &mut Engine, view: &ViewName, fpr: &Fpr, amount: u8) -> Resu
 /// `view V close`.
 pub fn close(engine: &mut Engine, view: &ViewName) -> Reply
     ensures gives { Gives (close_of (state_of engine.old) view.now) result (state_of engine.new) }
+    ensures turned { IsOneClosing view.now engine.old.views engine.old.turns engine.new.views engine.new.turns }
     ensures short { is_short result ≡ true }
     ensures others { OtherMarksStay view.now engine.old engine.new }
     ensures keyring { engine.new.keyring ≡ engine.old.keyring }

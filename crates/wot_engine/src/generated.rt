@@ -4,13 +4,14 @@ ghost use Rattle.wot_io.specs.Counts.{Rose};
 ghost use Rattle.wot_io.specs.Input.{lines_of};
 ghost use Rattle.wot_policy.specs.Kept.{IsFaithful, rows_of};
 ghost use Rattle.wot_keyring.specs.Kept.{IsJudgedBy};
-ghost use Rattle.wot_cache.specs.State.{state_of};
 ghost use Rattle.wot_engine.specs.Generated.{IsSummary, SummaryBegun, Summarized};
+ghost use Rattle.wot_engine.specs.Machine.{kept};
 ghost use Rattle.wot_engine.specs.Played.{Adds, IsPlayed};
 
 use crate::laws::each_line_has_one_outcome;
 use crate::machine::Machine;
 use crate::run::Stop;
+use crate::told::Told;
 use std::alloc::Global;
 use wot_certd::MemoryShelf;
 use wot_gen::{Tally, put_summary, script};
@@ -103,19 +104,25 @@ fn add_line<F: Fn(Ask) -> bool>(
 ) -> Result<(), Memory>
     requires room { tally.old.amounts < 2 ^ 63 }
     requires countable { machine.old.engine.keyring.changes < 2 ^ 64 - 1 }
+    requires turnable { machine.old.engine.turns.count < 2 ^ 64 - 1 }
     requires judged { IsJudgedBy (rows_of policy.old) machine.old.engine.keyring }
     requires faithful { IsFaithful F.Fn policy.old }
     ensures added { OnOk result (Adds (rows_of policy.old) line.now
-        (record { state = state_of machine.old.engine; world = shelf.old.world }) tally.old
-        (record { state = state_of machine.new.engine; world = shelf.new.world }) tally.new) }
+        (record { whole = kept machine.old; world = shelf.old.world }) tally.old
+        (record { whole = kept machine.new; world = shelf.new.world }) tally.new) }
     ensures amounts { tally.new.amounts < tally.old.amounts + 2 ^ 32 }
     ensures counted { machine.new.engine.keyring.changes ≤ machine.old.engine.keyring.changes + 1 }
+    ensures turned { machine.new.engine.turns.count ≤ machine.old.engine.turns.count + 1 }
     ensures judged { IsJudgedBy (rows_of policy.old) machine.new.engine.keyring }
     ensures faithful { IsFaithful F.Fn policy.new }
     ensures rows { rows_of policy.new ≡ rows_of policy.old }
 {
     match machine.reply(line, shelf, policy)? {
-        Some(reply) => tally.add(&reply),
+        Some(Told { reply, moved }) => {
+            tally.add(&reply)?;
+            machine.settle(moved);
+            Ok(())
+        }
         None => Ok(()),
     }
 }

@@ -4,13 +4,14 @@ ghost use Rattle.wot_policy.specs.declared.rows.PolicyRows.{PolicyRows};
 ghost use Rattle.wot_script.specs.declared.reply.Reply.{Reply};
 ghost use Rattle.wot_keyring.specs.Dump.{judged_by};
 ghost use Rattle.wot_certd.specs.World.{Answer, World};
-ghost use Rattle.wot_cache.specs.State.{State, IsState};
+ghost use Rattle.wot_cache.specs.State.{IsState};
 ghost use Rattle.wot_engine.specs.Absent.{AreClaimsAccepted, DoClaimsLeaveNothing};
 ghost use Rattle.wot_engine.specs.Depends.{DependsOnWhatIsPresent};
 ghost use Rattle.wot_engine.specs.Law.{RefusalsLeaveAll};
 ghost use Rattle.wot_engine.specs.LineStep.{LineStep};
 ghost use Rattle.wot_engine.specs.Scene.{Scene, opening};
 ghost use Rattle.wot_engine.specs.Transcript.{Run, Transcript};
+ghost use Rattle.wot_engine.specs.Whole.{Whole};
 
 use wot_cert::laws::judging;
 use wot_check::laws::{
@@ -24,13 +25,13 @@ use wot_script::laws::lines_spell_commands;
 /// Whatever the shelf gives, each line has a reply or none, and a state after it, and in a state that can be only one of
 /// each. What comes after a state that can be, as the one before the first line, can be too.
 pub fn each_line_has_one_outcome()
-    ensures some { (rows : PolicyRows) (old : State) (line : List ℕ) (given : Answer)
-        → (reply : Option Reply) × (new : State) × LineStep rows old line given reply new }
-    ensures one { (rows : PolicyRows) (old : State) (line : List ℕ) (given : Answer) (reply other : Option Reply) (new third : State)
-        → IsState old → LineStep rows old line given reply new → LineStep rows old line given other third
+    ensures some { (rows : PolicyRows) (old : Whole) (line : List ℕ) (given : Answer)
+        → (reply : Option Reply) × (new : Whole) × LineStep rows old line given reply new }
+    ensures one { (rows : PolicyRows) (old : Whole) (line : List ℕ) (given : Answer) (reply other : Option Reply) (new third : Whole)
+        → IsState old.state → LineStep rows old line given reply new → LineStep rows old line given other third
         → (reply ≡ other) × (new ≡ third) }
-    ensures stays { (rows : PolicyRows) (old : State) (line : List ℕ) (given : Answer) (reply : Option Reply) (new : State)
-        → IsState old → LineStep rows old line given reply new → IsState new }
+    ensures stays { (rows : PolicyRows) (old : Whole) (line : List ℕ) (given : Answer) (reply : Option Reply) (new : Whole)
+        → IsState old.state → LineStep rows old line given reply new → IsState new.state }
 {
     answer_is_one();
     record_is_lawful();
@@ -40,7 +41,8 @@ pub fn each_line_has_one_outcome()
     lines_spell_commands();
 }
 
-/// A line that is refused, or in which the shelf failed, leaves certificates, verdicts and views as they were.
+/// A line that is refused, or in which the shelf failed, leaves certificates, verdicts, views, counts and cursors as they
+/// were.
 pub fn refused_lines_leave_the_state()
     ensures { (rows : PolicyRows) → RefusalsLeaveAll rows }
 {}
@@ -59,7 +61,7 @@ pub fn each_input_has_one_transcript()
 /// judging them anew changes nothing. So what the lines of a dump make anew there is this very state.
 pub fn reached_states_are_judged()
     ensures { (rows : PolicyRows) (world : World) (lines : List (List ℕ)) (replies : List Reply) (last : Scene)
-        → Run rows (opening world) lines replies last → judged_by rows last.state.held ≡ last.state.held }
+        → Run rows (opening world) lines replies last → judged_by rows last.whole.state.held ≡ last.whole.state.held }
 {
     judging();
 }

@@ -13,10 +13,12 @@ mod laws;
 mod listing;
 mod load;
 mod machine;
+mod pacing;
 mod pending;
 mod reasons;
 mod refusal;
 mod run;
+mod told;
 mod words;
 
 pub use fresh::dump_makes_the_state_anew;

@@ -1,5 +1,5 @@
 //! `load NAME`.
-ghost use Rattle.std.specs.Prelude.{◌≡◌, ◌≤◌, ◌<◌, ◌-◌, ◌^◌, Some, length, true, IfOk, OnErr};
+ghost use Rattle.std.specs.Prelude.{◌≡◌, ◌≤◌, ◌<◌, ◌-◌, ◌^◌, length, true, IfOk, OnErr};
 ghost use Rattle.wot_types.specs.Limits.{standard_limits};
 ghost use Rattle.wot_policy.specs.Kept.{IsFaithful, rows_of};
 ghost use Rattle.wot_keyring.specs.Kept.{IsJudgedBy};
@@ -10,7 +10,7 @@ ghost use Rattle.wot_certd.specs.World.{Answer};
 ghost use Rattle.wot_cache.specs.State.{state_of};
 ghost use Rattle.wot_engine.specs.LineStep.{Gives};
 ghost use Rattle.wot_engine.specs.Outcome.{load as load_of};
-ghost use Rattle.wot_engine.specs.Ran.{Ran};
+ghost use Rattle.wot_engine.specs.Ran.{Did};
 
 use crate::refusal::{Refused, reply_to};
 use wot_cache::Engine;
@@ -31,13 +31,14 @@ pub fn load<D: Shelf, F: Fn(Ask) -> bool>(
     requires countable { engine.old.keyring.changes < 2 ^ 64 - 1 }
     requires judged { IsJudgedBy (rows_of policy.old) engine.old.keyring }
     requires faithful { IsFaithful F.Fn policy.old }
-    ensures ran { IfOk result (λ reply. Ran (rows_of policy.old) (Some (commands.Load name.now))
+    ensures did { IfOk result (λ reply. Did (rows_of policy.old) (commands.Load name.now)
         (state_of engine.old) (record { world = D.world shelf.old; faults = D.faults shelf.old }) reply
         (state_of engine.new) (record { world = D.world shelf.new; faults = D.faults shelf.new })) }
     ensures later { D.faults shelf.old ≤ D.faults shelf.new }
     ensures short { IfOk result (λ reply. is_short reply ≡ true) }
     ensures kept { OnErr result (engine.new ≡ engine.old) }
     ensures marks { engine.new.marks ≡ engine.old.marks }
+    ensures turns { engine.new.turns ≡ engine.old.turns }
     ensures counted { IsOneChange engine.old.keyring engine.new.keyring }
     ensures standard { engine.new.keyring.limits ≡ standard_limits }
     ensures judged { IsJudgedBy (rows_of policy.old) engine.new.keyring }
@@ -70,6 +71,7 @@ fn enter<F: Fn(Ask) -> bool>(
     ensures short { IfOk result (λ reply. is_short reply ≡ true) }
     ensures kept { OnErr result (engine.new ≡ engine.old) }
     ensures marks { engine.new.marks ≡ engine.old.marks }
+    ensures turns { engine.new.turns ≡ engine.old.turns }
     ensures counted { IsOneChange engine.old.keyring engine.new.keyring }
     ensures standard { engine.new.keyring.limits ≡ standard_limits }
     ensures judged { IsJudgedBy (rows_of policy.old) engine.new.keyring }

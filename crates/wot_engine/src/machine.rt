@@ -1,4 +1,4 @@
-ghost use Rattle.std.specs.Prelude.{◌≡◌, ◌≤◌, ◌<◌, ◌+◌, ◌-◌, ◌^◌, Some, None, length, vec_len, vec_capacity, false, true, IfOk, IfSome, OnOk, OnErr};
+ghost use Rattle.std.specs.Prelude.{◌≡◌, ◌≤◌, ◌<◌, ◌+◌, ◌-◌, ◌^◌, [], ◌++◌, Some, None, length, vec_len, vec_capacity, false, true, IfOk, IfSome, IsOk, OnOk, OnErr};
 ghost use Rattle.wot_types.specs.Limits.{standard_limits};
 ghost use Rattle.wot_policy.specs.declared.rows.PolicyRows.{PolicyRows};
 ghost use Rattle.wot_policy.specs.Kept.{IsFaithful, rows_of};
@@ -6,16 +6,19 @@ ghost use Rattle.wot_keyring.specs.Kept.{IsJudgedBy};
 ghost use Rattle.wot_keyring.specs.Import.{IsOneChange};
 ghost use Rattle.wot_script.specs.Grammar.{command_of};
 ghost use Rattle.wot_script.specs.Spelling.{HasSpelling, IsWithin};
-ghost use Rattle.wot_script.specs.Replies.{HasWords, is_short};
+ghost use Rattle.wot_script.specs.Replies.{HasWords, is_short, reply_text};
 ghost use Rattle.wot_cache.specs.State.{empty, state_of, StaysButMarks};
 ghost use Rattle.wot_engine.specs.Lines.{is_silent};
 ghost use Rattle.wot_certd.specs.World.{Answer};
 ghost use Rattle.wot_engine.specs.Entry.{entry_for, entry_in};
 ghost use Rattle.wot_engine.specs.LineStep.{Does};
-ghost use Rattle.wot_engine.specs.Ran.{Ran};
+ghost use Rattle.wot_engine.specs.Ran.{Ran, Did};
 ghost use Rattle.wot_engine.specs.Stepped.{Replied, Stepped};
+ghost use Rattle.wot_engine.specs.Machine.{kept};
+ghost use Rattle.wot_engine.specs.Pacing.{is_pacing, left_by, reply_in, settled};
 ghost use Rattle.wot_engine.specs.Fresh.{IsDump, OnDump, IsMadeAnew};
 ghost use Rattle.wot_engine.specs.Made.{heard, LineMakes, Makes};
+ghost use Rattle.wot_engine.specs.Whole.{whole_of, IsTurnedBy};
 
 use crate::absence::absence;
 use crate::answer::ask;
@@ -24,12 +27,15 @@ use crate::checking::check;
 use crate::commands::{clear_verdict, close, import, remove, root, set_verdict, time};
 use crate::listing::{dump, export, keys};
 use crate::load::load;
+use crate::pacing::{close as close_cursor, next, over};
 use crate::pending::pending;
 use crate::reasons::explain;
+use crate::told::{Moved, Told, alone, plain, settle};
 use std::alloc::Global;
 use std::marker::Model;
 use wot_cache::Engine;
 use wot_certd::Shelf;
+use wot_cursor::Cursors;
 use wot_policy::{Ask, Policy};
 use wot_script::{Command, LineFault, Reply, print_reply, read_line};
 use wot_types::{Limits, Memory, Steps};
@@ -41,11 +47,13 @@ const LONGEST: usize = 16_777_216;
 /// The room that a reply of one line needs at most.
 const ROOM: usize = 128;
 
-/// The machine between two lines: one engine, with the standard limits, over which the lines of all clients go.
+/// The machine between two lines: one engine, with the standard limits, over which the lines of all clients go, and their
+/// cursors.
 #[derive(Drop)]
 pub struct Machine {
     alloc: Global,
     engine: Engine,
+    cursors: Cursors,
     steps: Steps,
 }
 
@@ -56,7 +64,7 @@ impl Model for Machine {
 
     ghost Value = { TheMachine };
 
-    ghost view = { λ a. record { engine = a.engine; made = a.steps.made } };
+    ghost view = { λ a. record { engine = a.engine; cursors = a.cursors; made = a.steps.made } };
 
     ghost invariant = { λ a. a.engine.keyring.limits ≡ standard_limits };
 }
@@ -65,11 +73,13 @@ impl Machine {
     /// A machine that keeps nothing yet.
     pub fn new(alloc: Global) -> Machine
         ensures start { result.engine ≡ empty standard_limits }
+        ensures cursors { result.cursors ≡ [] }
         ensures made { result.made ≡ 0 }
     {
         Machine {
             alloc,
             engine: Engine::new(alloc, Limits::standard()),
+            cursors: Cursors::new(alloc),
             steps: Steps::new(),
         }
     }
@@ -93,78 +103,110 @@ impl Machine {
         out: &mut Vec<u8>,
     ) -> Result<(), Memory>
         requires countable { self.old.engine.keyring.changes < 2 ^ 64 - 1 }
+        requires turnable { self.old.engine.turns.count < 2 ^ 64 - 1 }
         requires judged { IsJudgedBy (rows_of policy.old) self.old.engine.keyring }
         requires faithful { IsFaithful F.Fn policy.old }
         ensures step { OnOk result (Stepped (rows_of policy.old) line.now
-            (state_of self.old.engine) (record { world = D.world shelf.old; faults = D.faults shelf.old }) out.old.items
-            (state_of self.new.engine) (record { world = D.world shelf.new; faults = D.faults shelf.new }) out.new.items) }
+            (kept self.old) (record { world = D.world shelf.old; faults = D.faults shelf.old }) out.old.items
+            (kept self.new) (record { world = D.world shelf.new; faults = D.faults shelf.new }) out.new.items) }
         ensures untouched { entry_in line.now ≡ None → shelf.new ≡ shelf.old }
         ensures later { D.faults shelf.old ≤ D.faults shelf.new }
         // The lines that the reply to `dump` holds make the state anew in a fresh machine, by whatever rows it judges.
         ensures anew { OnOk result (IsDump line.now → (rows : PolicyRows) → IsMadeAnew rows (state_of self.old.engine)) }
-        ensures kept { OnErr result (StaysButMarks self.old.engine self.new.engine × (out.new.items ≡ out.old.items)) }
+        ensures kept { OnErr result (StaysButMarks self.old.engine self.new.engine × (self.new.cursors ≡ self.old.cursors)
+            × (out.new.items ≡ out.old.items)) }
         ensures room { OnOk result (is_silent line.now ≡ false → vec_len out.old + 128 ≤ vec_capacity out.new) }
         // A line that leaves the state, as one that is silent or refused, or asks or lists, leaves stamps and counts
         // too.
         ensures unchanged { state_of self.new.engine ≡ state_of self.old.engine → StaysButMarks self.old.engine self.new.engine }
         // A question makes edges of what is stale for its view, and each other line makes none.
-        ensures makes { LineMakes result (heard line.now) self.old.engine self.new.engine self.old.made self.new.made }
+        ensures makes { LineMakes result (heard line.now) self.old.cursors self.old.engine self.new.engine self.old.made self.new.made }
         ensures counted { IsOneChange self.old.engine.keyring self.new.engine.keyring }
+        ensures turned { self.new.engine.turns.count ≤ self.old.engine.turns.count + 1 }
         ensures judged { IsJudgedBy (rows_of policy.old) self.new.engine.keyring }
         ensures faithful { IsFaithful F.Fn policy.new }
         ensures rows { rows_of policy.new ≡ rows_of policy.old }
     {
         out.reserve(ROOM)?;
         match self.reply(line, shelf, policy)? {
-            Some(reply) => print_reply(&reply, out),
+            Some(told) => self.tell(told, out),
             None => Ok(()),
         }
     }
 
     /// The reply to a line, without its line feed; none to one that is passed over. After `Memory` the machine is as
-    /// before but for marks and the count of edges made.
+    /// before but for marks and the count of edges made. A cursor moves once its piece was told ([`Machine::settle`]).
     #[tactic(auto, using(crate::proofs::Unchanged::unchanged))]
     pub(crate) fn reply<D: Shelf, F: Fn(Ask) -> bool>(
         &mut self,
         line: &[u8],
         shelf: &mut D,
         policy: &mut Policy<F>,
-    ) -> Result<Option<Reply>, Memory>
+    ) -> Result<Option<Told>, Memory>
         requires countable { self.old.engine.keyring.changes < 2 ^ 64 - 1 }
+        requires turnable { self.old.engine.turns.count < 2 ^ 64 - 1 }
         requires judged { IsJudgedBy (rows_of policy.old) self.old.engine.keyring }
         requires faithful { IsFaithful F.Fn policy.old }
-        ensures replied { IfOk result (λ reply. Replied (rows_of policy.old) line.now
-            (state_of self.old.engine) (record { world = D.world shelf.old; faults = D.faults shelf.old }) reply
-            (state_of self.new.engine) (record { world = D.world shelf.new; faults = D.faults shelf.new })) }
+        ensures replied { IfOk result (λ told. Replied (rows_of policy.old) line.now
+            (kept self.old) (record { world = D.world shelf.old; faults = D.faults shelf.old }) (reply_in told)
+            (whole_of self.new.engine (left_by told self.new.cursors)) (record { world = D.world shelf.new; faults = D.faults shelf.new })) }
         ensures untouched { entry_in line.now ≡ None → shelf.new ≡ shelf.old }
         ensures later { D.faults shelf.old ≤ D.faults shelf.new }
-        ensures words { IfOk result (λ reply. IfSome reply HasWords) }
+        ensures words { IfOk result (λ told. IfSome told (λ told. HasWords told.reply)) }
         ensures anew { OnOk result (IsDump line.now → (rows : PolicyRows) → IsMadeAnew rows (state_of self.old.engine)) }
-        ensures quiet { IfOk result (λ reply. IfSome reply (λ reply.
-            is_short reply ≡ false → StaysButMarks self.old.engine self.new.engine)) }
-        ensures kept { OnErr result (StaysButMarks self.old.engine self.new.engine) }
+        ensures quiet { IfOk result (λ told. IfSome told (λ told. is_short told.reply ≡ false
+            → StaysButMarks self.old.engine self.new.engine × (self.new.cursors ≡ self.old.cursors))) }
+        ensures kept { OnErr result (StaysButMarks self.old.engine self.new.engine × (self.new.cursors ≡ self.old.cursors)) }
         ensures unchanged { state_of self.new.engine ≡ state_of self.old.engine → StaysButMarks self.old.engine self.new.engine }
-        ensures makes { LineMakes result (heard line.now) self.old.engine self.new.engine self.old.made self.new.made }
+        ensures makes { LineMakes result (heard line.now) self.old.cursors self.old.engine self.new.engine self.old.made self.new.made }
         ensures counted { IsOneChange self.old.engine.keyring self.new.engine.keyring }
+        ensures turned { self.new.engine.turns.count ≤ self.old.engine.turns.count + 1 }
         ensures judged { IsJudgedBy (rows_of policy.old) self.new.engine.keyring }
         ensures faithful { IsFaithful F.Fn policy.new }
         ensures rows { rows_of policy.new ≡ rows_of policy.old }
     {
         if line.len() > LONGEST {
-            return Ok(Some(Reply::Long));
+            return Ok(Some(alone(Reply::Long)));
         }
         if test_silent(line) {
             return Ok(None);
         }
-        let reply = answer(
+        let told = answer(
             self.alloc,
             &mut self.engine,
+            &mut self.cursors,
             &mut self.steps,
             line,
             shelf,
             policy,
         )?;
-        Ok(Some(reply))
+        Ok(Some(told))
+    }
+
+    /// Appends a reply, and moves the cursor of which it is a piece. After `Memory` all is as before.
+    fn tell(&mut self, told: Told, out: &mut Vec<u8>) -> Result<(), Memory>
+        requires words { HasWords told.reply }
+        ensures appended { OnOk result (out.new.items ≡ out.old.items ++ reply_text told.reply) }
+        ensures settled { OnOk result (self.new.cursors ≡ settled told.moved self.old.cursors) }
+        ensures kept { OnErr result ((self.new.cursors ≡ self.old.cursors) × (out.new.items ≡ out.old.items)) }
+        ensures sure { is_short told.reply ≡ true → vec_len out.old + 128 ≤ vec_capacity out.old → IsOk result }
+        ensures room { vec_capacity out.old ≤ vec_capacity out.new }
+        ensures engine { self.new.engine ≡ self.old.engine }
+        ensures made { self.new.made ≡ self.old.made }
+    {
+        let Told { reply, moved } = told;
+        print_reply(&reply, out)?;
+        self.settle(moved);
+        Ok(())
+    }
+
+    /// Moves the cursor that gave a piece which was told.
+    pub(crate) fn settle(&mut self, moved: Option<Moved>)
+        ensures settled { self.new.cursors ≡ settled moved self.old.cursors }
+        ensures engine { self.new.engine ≡ self.old.engine }
+        ensures made { self.new.made ≡ self.old.made }
+    {
+        settle(moved, &mut self.cursors);
     }
 }
 
@@ -178,40 +220,88 @@ fn test_silent(line: &[u8]) -> bool
     }
 }
 
-/// Does what a line asks for. A reply that may be long comes with no change.
+/// Does what a line asks for. A reply that may be long comes with no change but that a cursor moves once it was told.
 fn answer<D: Shelf, F: Fn(Ask) -> bool>(
     alloc: Global,
     engine: &mut Engine,
+    cursors: &mut Cursors,
     steps: &mut Steps,
     line: &[u8],
     shelf: &mut D,
     policy: &mut Policy<F>,
-) -> Result<Reply, Memory>
+) -> Result<Told, Memory>
     requires short { length line.now ≤ 16777216 }
     requires standard { engine.old.keyring.limits ≡ standard_limits }
     requires countable { engine.old.keyring.changes < 2 ^ 64 - 1 }
+    requires turnable { engine.old.turns.count < 2 ^ 64 - 1 }
     requires judged { IsJudgedBy (rows_of policy.old) engine.old.keyring }
     requires faithful { IsFaithful F.Fn policy.old }
-    ensures ran { IfOk result (λ reply. Ran (rows_of policy.old) (command_of line.now)
-        (state_of engine.old) (record { world = D.world shelf.old; faults = D.faults shelf.old }) reply
-        (state_of engine.new) (record { world = D.world shelf.new; faults = D.faults shelf.new })) }
+    ensures ran { IfOk result (λ told. Ran (rows_of policy.old) (command_of line.now)
+        (whole_of engine.old cursors.old) (record { world = D.world shelf.old; faults = D.faults shelf.old }) told.reply
+        (whole_of engine.new (settled told.moved cursors.new)) (record { world = D.world shelf.new; faults = D.faults shelf.new })) }
     ensures untouched { entry_for (command_of line.now) ≡ None → shelf.new ≡ shelf.old }
     ensures later { D.faults shelf.old ≤ D.faults shelf.new }
-    ensures words { IfOk result HasWords }
+    ensures words { IfOk result (λ told. HasWords told.reply) }
     ensures anew { OnOk result (IsDump line.now → (rows : PolicyRows) → IsMadeAnew rows (state_of engine.old)) }
-    ensures quiet { IfOk result (λ reply. is_short reply ≡ false → StaysButMarks engine.old engine.new) }
-    ensures kept { OnErr result (StaysButMarks engine.old engine.new) }
-    ensures makes { LineMakes result (command_of line.now) engine.old engine.new steps.old.made steps.new.made }
+    ensures quiet { IfOk result (λ told. is_short told.reply ≡ false → StaysButMarks engine.old engine.new × (cursors.new ≡ cursors.old)) }
+    ensures kept { OnErr result (StaysButMarks engine.old engine.new × (cursors.new ≡ cursors.old)) }
+    ensures makes { LineMakes result (command_of line.now) cursors.old engine.old engine.new steps.old.made steps.new.made }
     ensures standard { engine.new.keyring.limits ≡ standard_limits }
     ensures counted { IsOneChange engine.old.keyring engine.new.keyring }
+    ensures turned { engine.new.turns.count ≤ engine.old.turns.count + 1 }
+    ensures still { state_of engine.new ≡ state_of engine.old → engine.new.turns ≡ engine.old.turns }
     ensures judged { IsJudgedBy (rows_of policy.old) engine.new.keyring }
     ensures faithful { IsFaithful F.Fn policy.new }
     ensures rows { rows_of policy.new ≡ rows_of policy.old }
 {
     match read_line(alloc, line) {
-        Ok(command) => obey(alloc, engine, steps, &command, shelf, policy),
-        Err(LineFault::Line) => Ok(Reply::Line),
+        Ok(command) => act(alloc, engine, cursors, steps, &command, shelf, policy),
+        Err(LineFault::Line) => Ok(alone(Reply::Line)),
         Err(LineFault::Memory) => Err(Memory),
+    }
+}
+
+/// Runs a command, which may be one of a cursor.
+fn act<D: Shelf, F: Fn(Ask) -> bool>(
+    alloc: Global,
+    engine: &mut Engine,
+    cursors: &mut Cursors,
+    steps: &mut Steps,
+    command: &Command,
+    shelf: &mut D,
+    policy: &mut Policy<F>,
+) -> Result<Told, Memory>
+    requires within { IsWithin 16777216 command.now }
+    requires spelled { HasSpelling command.now }
+    requires standard { engine.old.keyring.limits ≡ standard_limits }
+    requires countable { engine.old.keyring.changes < 2 ^ 64 - 1 }
+    requires turnable { engine.old.turns.count < 2 ^ 64 - 1 }
+    requires judged { IsJudgedBy (rows_of policy.old) engine.old.keyring }
+    requires faithful { IsFaithful F.Fn policy.old }
+    ensures ran { IfOk result (λ told. Ran (rows_of policy.old) (Some command.now)
+        (whole_of engine.old cursors.old) (record { world = D.world shelf.old; faults = D.faults shelf.old }) told.reply
+        (whole_of engine.new (settled told.moved cursors.new)) (record { world = D.world shelf.new; faults = D.faults shelf.new })) }
+    ensures untouched { entry_for (Some command.now) ≡ None → shelf.new ≡ shelf.old }
+    ensures later { D.faults shelf.old ≤ D.faults shelf.new }
+    ensures anew { OnOk result (OnDump command.now ((rows : PolicyRows) → IsMadeAnew rows (state_of engine.old))) }
+    ensures quiet { IfOk result (λ told. is_short told.reply ≡ false → StaysButMarks engine.old engine.new × (cursors.new ≡ cursors.old)) }
+    ensures kept { OnErr result (StaysButMarks engine.old engine.new × (cursors.new ≡ cursors.old)) }
+    ensures makes { LineMakes result (Some command.now) cursors.old engine.old engine.new steps.old.made steps.new.made }
+    ensures standard { engine.new.keyring.limits ≡ standard_limits }
+    ensures counted { IsOneChange engine.old.keyring engine.new.keyring }
+    ensures turned { engine.new.turns.count ≤ engine.old.turns.count + 1 }
+    ensures still { state_of engine.new ≡ state_of engine.old → engine.new.turns ≡ engine.old.turns }
+    ensures judged { IsJudgedBy (rows_of policy.old) engine.new.keyring }
+    ensures faithful { IsFaithful F.Fn policy.new }
+    ensures rows { rows_of policy.new ≡ rows_of policy.old }
+{
+    match command {
+        Command::CursorOver(name, view, wanted) => {
+            over(alloc, engine, cursors, name, view, *wanted)
+        }
+        Command::CursorNext(name, count) => next(alloc, engine, steps, cursors, name, *count),
+        Command::CursorClose(name) => Ok(close_cursor(engine, cursors, name)),
+        _ => plain(obey(alloc, engine, steps, command, shelf, policy)),
     }
 }
 
@@ -224,13 +314,15 @@ fn obey<D: Shelf, F: Fn(Ask) -> bool>(
     shelf: &mut D,
     policy: &mut Policy<F>,
 ) -> Result<Reply, Memory>
+    requires plain { is_pacing command.now ≡ false }
     requires within { IsWithin 16777216 command.now }
     requires spelled { HasSpelling command.now }
     requires standard { engine.old.keyring.limits ≡ standard_limits }
     requires countable { engine.old.keyring.changes < 2 ^ 64 - 1 }
+    requires turnable { engine.old.turns.count < 2 ^ 64 - 1 }
     requires judged { IsJudgedBy (rows_of policy.old) engine.old.keyring }
     requires faithful { IsFaithful F.Fn policy.old }
-    ensures ran { IfOk result (λ reply. Ran (rows_of policy.old) (Some command.now)
+    ensures did { IfOk result (λ reply. Did (rows_of policy.old) command.now
         (state_of engine.old) (record { world = D.world shelf.old; faults = D.faults shelf.old }) reply
         (state_of engine.new) (record { world = D.world shelf.new; faults = D.faults shelf.new })) }
     ensures untouched { entry_for (Some command.now) ≡ None → shelf.new ≡ shelf.old }
@@ -241,6 +333,7 @@ fn obey<D: Shelf, F: Fn(Ask) -> bool>(
     ensures makes { Makes result command.now engine.old engine.new steps.old.made steps.new.made }
     ensures standard { engine.new.keyring.limits ≡ standard_limits }
     ensures counted { IsOneChange engine.old.keyring engine.new.keyring }
+    ensures turned { OnOk result (IsTurnedBy command.now engine.old.views engine.old.turns engine.new.views engine.new.turns) }
     ensures judged { IsJudgedBy (rows_of policy.old) engine.new.keyring }
     ensures faithful { IsFaithful F.Fn policy.new }
     ensures rows { rows_of policy.new ≡ rows_of policy.old }
@@ -260,10 +353,12 @@ fn run<F: Fn(Ask) -> bool>(
     policy: &mut Policy<F>,
 ) -> Result<Reply, Memory>
     requires alone { entry_for (Some command.now) ≡ None }
+    requires plain { is_pacing command.now ≡ false }
     requires within { IsWithin 16777216 command.now }
     requires spelled { HasSpelling command.now }
     requires standard { engine.old.keyring.limits ≡ standard_limits }
     requires countable { engine.old.keyring.changes < 2 ^ 64 - 1 }
+    requires turnable { engine.old.turns.count < 2 ^ 64 - 1 }
     requires judged { IsJudgedBy (rows_of policy.old) engine.old.keyring }
     requires faithful { IsFaithful F.Fn policy.old }
     ensures does { IfOk result (λ reply.
@@ -274,6 +369,7 @@ fn run<F: Fn(Ask) -> bool>(
     ensures makes { Makes result command.now engine.old engine.new steps.old.made steps.new.made }
     ensures standard { engine.new.keyring.limits ≡ standard_limits }
     ensures counted { IsOneChange engine.old.keyring engine.new.keyring }
+    ensures turned { OnOk result (IsTurnedBy command.now engine.old.views engine.old.turns engine.new.views engine.new.turns) }
     ensures judged { IsJudgedBy (rows_of policy.old) engine.new.keyring }
     ensures faithful { IsFaithful F.Fn policy.new }
     ensures rows { rows_of policy.new ≡ rows_of policy.old }
@@ -312,5 +408,8 @@ fn run<F: Fn(Ask) -> bool>(
         Command::Keys => keys(alloc, engine),
         Command::Export(fpr) => export(alloc, engine, fpr),
         Command::Dump => dump(alloc, engine),
+        Command::CursorOver(_, _, _) | Command::CursorNext(_, _) | Command::CursorClose(_) => {
+            unreachable!()
+        }
     }
 }

@@ -1,10 +1,10 @@
 ghost use Rattle.std.specs.Prelude.{◌≡◌, ◌≢◌, ◌⊎◌, ◌<◌, ◌≤◌, ◌+◌, ◌-◌, ◌^◌, [], length, Some, IfSome, OnErr, OnOk, IsErrOf};
 ghost use Rattle.wot_policy.specs.Kept.{IsFaithful, rows_of};
 ghost use Rattle.wot_keyring.specs.Kept.{IsJudgedBy};
-ghost use Rattle.wot_cache.specs.State.{state_of};
 ghost use Rattle.wot_io.specs.Counts.{Rose};
 ghost use Rattle.wot_io.specs.Input.{HasNoFeed, lines_of};
 ghost use Rattle.wot_io.specs.Sink.{GainsPrefix};
+ghost use Rattle.wot_engine.specs.Machine.{kept};
 ghost use Rattle.wot_engine.specs.Transcript.{AllTold, TakesAtMost, Answered, AnsweredFirst, Begun, AnsweredWhole, AnsweredMost, HasMost};
 ghost use Rattle.wot_engine.specs.Held.{Moves};
 ghost use Rattle.wot_engine.specs.Turn.{RepliesBehind};
@@ -62,12 +62,14 @@ fn reply_to<D: Shelf, F: Fn(Ask) -> bool>(
 ) -> Result<(), Memory>
     requires some { line ≢ Line.End }
     requires countable { machine.old.engine.keyring.changes < 2 ^ 64 - 1 }
+    requires turnable { machine.old.engine.turns.count < 2 ^ 64 - 1 }
     requires judged { IsJudgedBy (rows_of policy.old) machine.old.engine.keyring }
     requires faithful { IsFaithful F.Fn policy.old }
-    ensures replies { OnOk result (RepliesBehind (rows_of policy.old) line text.now (state_of machine.old.engine)
-        (D.world shelf.old) out.old.items (state_of machine.new.engine) (D.world shelf.new) out.new.items) }
+    ensures replies { OnOk result (RepliesBehind (rows_of policy.old) line text.now (kept machine.old)
+        (D.world shelf.old) out.old.items (kept machine.new) (D.world shelf.new) out.new.items) }
     ensures kept { OnErr result (out.new.items ≡ out.old.items) }
     ensures counted { machine.new.engine.keyring.changes ≤ machine.old.engine.keyring.changes + 1 }
+    ensures turned { machine.new.engine.turns.count ≤ machine.old.engine.turns.count + 1 }
     ensures judged { IsJudgedBy (rows_of policy.old) machine.new.engine.keyring }
     ensures faithful { IsFaithful F.Fn policy.new }
     ensures rows { rows_of policy.new ≡ rows_of policy.old }

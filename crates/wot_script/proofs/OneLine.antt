@@ -25,7 +25,7 @@ use Rattle.wot_script.specs.declared.reply.LabelLine.{LabelLine}
 use Rattle.wot_script.specs.Spelling.{IsLineFor, most_octets}
 use Rattle.wot_script.specs.Texts.{joined}
 use Rattle.wot_script.specs.declared.command.Command.{Command}
-use Rattle.wot_script.specs.declared.command.Command.TheVariants.{Import, Load, Remove, Good, Bad, Unjudge, Time, Root, Close, Ask, Explain, Pending, Keys, Export, Dump, Absence, Check}
+use Rattle.wot_script.specs.declared.command.Command.TheVariants.{Import, Load, Remove, Good, Bad, Unjudge, Time, Root, Close, Ask, Explain, Pending, Keys, Export, Dump, Absence, Check, CursorOver, CursorNext, CursorClose}
 use Rattle.wot_script.specs.Uid.{escape, escaped}
 use Rattle.wot_script.proofs.Spaceless.{Lacks, feedless_digits, lacks_from_test, lacks_decimal, lacks_test, lacks_view_name}
 
@@ -314,3 +314,24 @@ check_line view fpr claims labels uid ds cs ls name digits cf c lf l =
       ),
     )
     (omega (arith, name.size, digits.size, c, l, length-escaped uid))
+
+pub over_line : (name view : List ℕ) (wanted : ℕ) (ws : List ℕ) → IsName name → IsName view → IsNumeral ws
+    → IsLineFor (CursorOver name view wanted) (joined (codes "cursor " ∷ name ∷ codes " over " ∷ view ∷ codes " " ∷ ws ∷ []))
+unfolding lacks_test
+over_line name view wanted ws first second number =
+    one_line (CursorOver name view wanted) 99 (codes "ursor ") (name ∷ codes " over " ∷ view ∷ codes " " ∷ ws ∷ []) refl (λ e. omega arith)
+    (first.free, (word (codes " over ") refl, (second.free, (word (codes " ") refl, (number.free, tt)))))
+    (omega (arith, first.size, second.size, number.size))
+
+pub next_line : (name : List ℕ) (count : ℕ) (ns : List ℕ) → IsName name → IsNumeral ns
+    → IsLineFor (CursorNext name count) (joined (codes "cursor " ∷ name ∷ codes " next " ∷ ns ∷ []))
+unfolding lacks_test
+next_line name count ns first number =
+    one_line (CursorNext name count) 99 (codes "ursor ") (name ∷ codes " next " ∷ ns ∷ []) refl (λ e. omega arith)
+    (first.free, (word (codes " next ") refl, (number.free, tt))) (omega (arith, first.size, number.size))
+
+pub end_line : (name : List ℕ) → IsName name → IsLineFor (CursorClose name) (joined (codes "cursor " ∷ name ∷ codes " close" ∷ []))
+unfolding lacks_test
+end_line name first =
+    one_line (CursorClose name) 99 (codes "ursor ") (name ∷ codes " close" ∷ []) refl (λ e. omega arith)
+    (first.free, (word (codes " close") refl, tt)) (omega (arith, first.size))

@@ -13,13 +13,13 @@ use Rattle.wot_script.specs.declared.reply.ClaimLine.{ClaimLine}
 use Rattle.wot_script.specs.declared.reply.LabelLine.{LabelLine}
 use Rattle.wot_script.specs.Decimal.{decimal_up_to, positive_up_to}
 use Rattle.wot_script.specs.Fields.{◌>>=◌, cut, octets_of_hex}
-use Rattle.wot_script.specs.Grammar.{about_of, checked_of, command_of, drop_of, entry_of, explained_of, export_of, import_of, judgement_of, listed_of, load_of, question_of, root_of, setting_of, single_of, verdict_of, view_of}
+use Rattle.wot_script.specs.Grammar.{about_of, checked_of, command_of, drop_of, entry_of, explained_of, export_of, import_of, judgement_of, listed_of, load_of, question_of, root_of, setting_of, single_of, verdict_of, view_of, over_of, paced_of}
 use Rattle.wot_script.specs.Texts.{joined}
 use Rattle.wot_script.specs.Uid.{unescaped}
 use Rattle.wot_script.specs.declared.command.Command.{Command}
-use Rattle.wot_script.specs.declared.command.Command.TheVariants.{Import, Load, Remove, Good, Bad, Unjudge, Time, Root, Close, Ask, Explain, Pending, Keys, Export, Dump, Absence, Check}
+use Rattle.wot_script.specs.declared.command.Command.TheVariants.{Import, Load, Remove, Good, Bad, Unjudge, Time, Root, Close, Ask, Explain, Pending, Keys, Export, Dump, Absence, Check, CursorOver, CursorNext, CursorClose}
 use Rattle.wot_script.specs.declared.read.About.{About}
-use Rattle.wot_script.specs.declared.read.About.TheVariants.{Setting, Asked, Listed, Explained, Missed, Checked}
+use Rattle.wot_script.specs.declared.read.About.TheVariants.{Setting, Asked, Listed, Explained, Missed, Checked, Paced}
 use Rattle.wot_script.specs.declared.read.Question.{Question}
 use Rattle.wot_script.proofs.Spaceless.{Spaceless, cut_spaceless, spaceless_view_name}
 
@@ -240,3 +240,48 @@ unfolding command_of
 check_reads name ds cs ls us uid fpr claims labels h df d cf c lf l u =
     view_reads Checked name (ds ++ 32 ∷ (cs ++ 32 ∷ (ls ++ 32 ∷ (us ++ [])))) (Check name fpr claims labels uid) h
     (checked_reads name ds cs ls (us ++ []) uid fpr claims labels df d cf c lf l (ap unescaped (append-nil us) ∙ u))
+
+over_reads_of : (name view ws : List ℕ) (wanted : ℕ) → is_view_name view ≡ true → positive_up_to 4294967295 ws ≡ Some wanted
+    → over_of name (view ++ 32 ∷ ws) ≡ Some (CursorOver name view wanted)
+unfolding over_of
+over_reads_of name view ws wanted h e =
+    bound (cut (view ++ 32 ∷ ws)) (view, ws)
+    (λ first. view_name_of first.0 >>= (λ v. positive_up_to 4294967295 first.1 >>= (λ w. Some (CursorOver name v w))))
+    (cut_spaceless view ws (spaceless_view_name view h))
+    ∙ bound (view_name_of view) view (λ v. positive_up_to 4294967295 ws >>= (λ w. Some (CursorOver name v w))) (name_is view h)
+    ∙ bound (positive_up_to 4294967295 ws) wanted (λ w. Some (CursorOver name view w)) e
+
+paced_reads : (name text : List ℕ) (command : Command) → is_view_name name ≡ true → paced_of name text ≡ Some command
+    → command_of (codes "cursor " ++ (name ++ 32 ∷ text)) ≡ Some command
+unfolding command_of
+paced_reads name text command h e = view_reads Paced name text command h e
+
+over_paced : (name text : List ℕ) → paced_of name (codes "over " ++ text) ≡ over_of name text
+unfolding paced_of
+over_paced name text = refl
+
+pub over_reads : (name view ws : List ℕ) (wanted : ℕ) → is_view_name name ≡ true → is_view_name view ≡ true
+    → positive_up_to 4294967295 ws ≡ Some wanted
+    → command_of (joined (codes "cursor " ∷ name ∷ codes " over " ∷ view ∷ codes " " ∷ ws ∷ [])) ≡ Some (CursorOver name view wanted)
+over_reads name view ws wanted h k e =
+    paced_reads name (codes "over " ++ (view ++ 32 ∷ (ws ++ []))) (CursorOver name view wanted) h
+    (over_paced name (view ++ 32 ∷ (ws ++ []))
+    ∙ over_reads_of name view (ws ++ []) wanted k (ap (positive_up_to 4294967295) (append-nil ws) ∙ e))
+
+next_paced : (name digits : List ℕ) (count : ℕ) → positive_up_to 4294967295 digits ≡ Some count
+    → paced_of name (codes "next " ++ (digits ++ [])) ≡ Some (CursorNext name count)
+unfolding paced_of
+next_paced name digits count e =
+    ap (λ text. option_map (CursorNext name) (positive_up_to 4294967295 text)) (append-nil digits) ∙ ap (option_map (CursorNext name)) e
+
+pub next_reads : (name digits : List ℕ) (count : ℕ) → is_view_name name ≡ true → positive_up_to 4294967295 digits ≡ Some count
+    → command_of (joined (codes "cursor " ∷ name ∷ codes " next " ∷ digits ∷ [])) ≡ Some (CursorNext name count)
+next_reads name digits count h e = paced_reads name (codes "next " ++ (digits ++ [])) (CursorNext name count) h (next_paced name digits count e)
+
+end_paced : (name : List ℕ) → paced_of name (codes "close") ≡ Some (CursorClose name)
+unfolding paced_of
+end_paced name = refl
+
+pub end_reads : (name : List ℕ) → is_view_name name ≡ true
+    → command_of (joined (codes "cursor " ∷ name ∷ codes " close" ∷ [])) ≡ Some (CursorClose name)
+end_reads name h = paced_reads name (codes "close") (CursorClose name) h (end_paced name)

@@ -23,14 +23,14 @@ use Rattle.wot_script.specs.Decimal.{decimal_up_to, is_decimal, positive_up_to}
 use Rattle.wot_script.specs.Fields.{◌>>=◌, behind, cut, cut_at}
 use Rattle.wot_script.proofs.Cutting.{cut_short}
 use Rattle.wot_script.proofs.Items.{parts_of}
-use Rattle.wot_script.specs.Grammar.{about_of, asked_of, checked_of, command_of, drop_of, entry_of, explained_of, export_of, import_of, judgement_of, listed_of, load_of, missed_of, question_of, read_behind, root_of, setting_of, single_of, verdict_of, view_of}
+use Rattle.wot_script.specs.Grammar.{about_of, asked_of, checked_of, command_of, drop_of, entry_of, explained_of, export_of, import_of, judgement_of, listed_of, load_of, missed_of, question_of, read_behind, root_of, setting_of, single_of, verdict_of, view_of, over_of, paced_of}
 use Rattle.wot_script.specs.Spelling.{HasSpelling, IsWithin}
 use Rattle.wot_script.specs.Uid.{unescaped}
 use Rattle.wot_script.specs.declared.command.Command.{Command}
 use Rattle.wot_script.specs.declared.read.About.{About}
-use Rattle.wot_script.specs.declared.read.About.TheVariants.{Setting, Asked, Listed, Explained, Missed, Checked}
+use Rattle.wot_script.specs.declared.read.About.TheVariants.{Setting, Asked, Listed, Explained, Missed, Checked, Paced}
 use Rattle.wot_script.specs.declared.read.Question.{Question}
-use Rattle.wot_script.specs.declared.command.Command.TheVariants.{Import, Load, Remove, Good, Bad, Unjudge, Time, Root, Close, Ask, Explain, Pending, Keys, Export, Dump, Absence}
+use Rattle.wot_script.specs.declared.command.Command.TheVariants.{Import, Load, Remove, Good, Bad, Unjudge, Time, Root, Close, Ask, Explain, Pending, Keys, Export, Dump, Absence, CursorOver, CursorNext, CursorClose}
 
 behind_short : (prefix text rest : List ℕ) → behind prefix text ≡ Some rest → length rest ≤ length text
 behind_short [] text rest e = let same : text ≡ rest = cc in omega (arith, ap length same)
@@ -300,6 +300,25 @@ module _ (size : ℕ) where
       (λ second e. bound (fpr_of_digits second.0) (λ fpr. unescaped second.1 >>= (λ uid. Some (Explain view fpr uid)))
       (λ fpr f. bound (unescaped second.1) (λ uid. Some (Explain view fpr uid)) (λ uid u. (tt, tt))))
 
+  over_spelled : (cursor text : List ℕ) → Spelled (over_of cursor text)
+  unfolding over_of
+  over_spelled cursor text =
+      bound (cut text) (λ first. view_name_of first.0 >>= (λ view. positive_up_to 4294967295 first.1 >>= (λ wanted. Some (CursorOver cursor view wanted))))
+      (λ first e. bound (view_name_of first.0) (λ view. positive_up_to 4294967295 first.1 >>= (λ wanted. Some (CursorOver cursor view wanted)))
+      (λ view v. bound (positive_up_to 4294967295 first.1) (λ wanted. Some (CursorOver cursor view wanted))
+      (λ wanted w. (positive_wanted 4294967295 first.1 wanted w, tt))))
+
+  paced_spelled : (cursor text : List ℕ) → Spelled (paced_of cursor text)
+  unfolding paced_of
+  paced_spelled cursor text =
+      let next : List ℕ → Option Command = λ digits. option_map (CursorNext cursor) (positive_up_to 4294967295 digits) in
+      let close : Option Command = if bytes_eq text (codes "close") then Some (CursorClose cursor) else None in
+      behind_either (behind (codes "over ") text) (over_of cursor) (read_behind (behind (codes "next ") text) next close)
+      (over_spelled cursor)
+      (behind_either (behind (codes "next ") text) next close
+      (λ digits. mapped (CursorNext cursor) (positive_up_to 4294967295 digits) (λ count e. (positive_wanted 4294967295 digits count e, tt)))
+      (chosen (bytes_eq text (codes "close")) (CursorClose cursor) None (tt, tt) tt))
+
   about_spelled : (about : About) (view text : List ℕ) → length text ≤ size → Spelled (about_of about view text)
   about_spelled Setting view text short = setting_spelled view text
   about_spelled Asked view text short = asked_spelled view text
@@ -307,6 +326,7 @@ module _ (size : ℕ) where
   about_spelled Explained view text short = explained_spelled view text
   about_spelled Missed view text short = missed_spelled view text
   about_spelled Checked view text short = checked_spelled view text short
+  about_spelled Paced cursor text short = paced_spelled cursor text
 
   view_spelled : (about : About) (text : List ℕ) → length text ≤ size → Spelled (view_of about text)
   view_spelled about text short =
@@ -328,7 +348,8 @@ module _ (size : ℕ) where
   unfolding command_of
   spelled_of line short =
       let tail : Option Command = single_of line in
-      let export : Option Command = read_behind (behind (codes "export ") line) export_of tail in
+      let cursor : Option Command = read_behind (behind (codes "cursor ") line) (view_of Paced) tail in
+      let export : Option Command = read_behind (behind (codes "export ") line) export_of cursor in
       let check : Option Command = read_behind (behind (codes "check ") line) (view_of Checked) export in
       let absence : Option Command = read_behind (behind (codes "absence ") line) (view_of Missed) check in
       let explain : Option Command = read_behind (behind (codes "explain ") line) (view_of Explained) absence in
@@ -348,8 +369,9 @@ module _ (size : ℕ) where
       behind_word (codes "explain ") line (view_of Explained) absence short (view_spelled Explained) (
       behind_word (codes "absence ") line (view_of Missed) check short (view_spelled Missed) (
       behind_word (codes "check ") line (view_of Checked) export short (view_spelled Checked) (
-      behind_either (behind (codes "export ") line) export_of tail export_spelled (
-      single_spelled line)))))))))))
+      behind_either (behind (codes "export ") line) export_of cursor export_spelled (
+      behind_word (codes "cursor ") line (view_of Paced) tail short (view_spelled Paced) (
+      single_spelled line))))))))))))
 
 -- the same where the reading is known
 pub spelled_at : (line : List ℕ) (command : Command) → command_of line ≡ Some command → HasSpelling command × IsWithin (length line) command

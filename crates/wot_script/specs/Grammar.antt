@@ -15,10 +15,9 @@ use Rattle.wot_script.specs.Fields.{◌>>=◌, behind, cut, octets_of_hex}
 use Rattle.wot_script.specs.Uid.{unescaped}
 use Rattle.wot_script.specs.declared.command.Command.{Command}
 use Rattle.wot_script.specs.declared.read.About.{About}
-use Rattle.wot_script.specs.declared.read.About.TheVariants.{Setting, Asked, Listed, Explained, Missed, Checked}
+use Rattle.wot_script.specs.declared.read.About.TheVariants.{Setting, Asked, Listed, Explained, Missed, Checked, Paced}
 use Rattle.wot_script.specs.declared.read.Question.{Question}
-use Rattle.wot_script.specs.declared.command.Command.TheVariants.{Import, Load, Remove, Good, Bad, Unjudge, Time}
-use Rattle.wot_script.specs.declared.command.Command.TheVariants.{Root, Close, Ask, Explain, Pending, Keys, Export, Dump, Absence, Check}
+use Rattle.wot_script.specs.declared.command.Command.TheVariants.{Import, Load, Remove, Good, Bad, Unjudge, Time, Root, Close, Ask, Explain, Pending, Keys, Export, Dump, Absence, Check, CursorOver, CursorNext, CursorClose}
 
 -- A text with this prefix is read so, and another text otherwise.
 abbrev pub read_behind : Option (List ℕ) → (List ℕ → Option Command) → Option Command → Option Command
@@ -118,7 +117,22 @@ checked_of view text = do
   uid ← unescaped third.1
   Some (Check view fpr claims labels uid)
 
--- what is read behind the name of a view, by what the line is about
+-- behind `cursor C over `: V N
+unfoldable pub over_of : List ℕ → List ℕ → Option Command
+over_of cursor text = do
+  first ← cut text
+  view ← view_name_of first.0
+  wanted ← positive_up_to 4294967295 first.1
+  Some (CursorOver cursor view wanted)
+
+-- behind `cursor C `: `over V N`, `next K` or `close`
+unfoldable pub paced_of : List ℕ → List ℕ → Option Command
+paced_of cursor text =
+    read_behind (behind (codes "over ") text) (over_of cursor) (
+    read_behind (behind (codes "next ") text) (λ digits. option_map (CursorNext cursor) (positive_up_to 4294967295 digits)) (
+    if bytes_eq text (codes "close") then Some (CursorClose cursor) else None))
+
+-- what is read behind the name of a view or of a cursor, by what the line is about
 abbrev pub about_of : About → List ℕ → List ℕ → Option Command
 about_of Setting view text = setting_of view text
 about_of Asked view text = asked_of view text
@@ -126,8 +140,9 @@ about_of Listed view text = listed_of view text
 about_of Explained view text = explained_of view text
 about_of Missed view text = missed_of view text
 about_of Checked view text = checked_of view text
+about_of Paced cursor text = paced_of cursor text
 
--- V, and what is read behind its space
+-- V or C, and what is read behind its space
 abbrev pub view_of : About → List ℕ → Option Command
 view_of about text = do
   first ← cut text
@@ -160,4 +175,5 @@ command_of line =
     read_behind (behind (codes "absence ") line) (view_of Missed) (
     read_behind (behind (codes "check ") line) (view_of Checked) (
     read_behind (behind (codes "export ") line) export_of (
-    single_of line)))))))))))
+    read_behind (behind (codes "cursor ") line) (view_of Paced) (
+    single_of line))))))))))))

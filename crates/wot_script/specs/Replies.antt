@@ -22,7 +22,7 @@ use Rattle.wot_script.specs.declared.reply.KeyLine.{KeyLine}
 use Rattle.wot_script.specs.declared.reply.Reply.{Reply}
 use Rattle.wot_script.specs.declared.reply.Reply.TheVariants.{Taken, Done, Amount, Explained, Pending, Keys, Export, Dump, Long, Line, View, Shelf}
 use Rattle.wot_script.specs.declared.reply.Reply.TheVariants.{Packet, Compressed, Secret, Kind, Order, Empty, Misfiled, Clash, Absent, Full}
-use Rattle.wot_script.specs.declared.reply.Reply.TheVariants.{Reached, Missed, CheckedYes, CheckedNoPaths, CheckedNoTable}
+use Rattle.wot_script.specs.declared.reply.Reply.TheVariants.{Reached, Missed, CheckedYes, CheckedNoPaths, CheckedNoTable, Piece, StaleKeyring, StaleView, NoCursor, FullCursors}
 
 -- `path AMOUNT steps L root FPR`, or `step ISSUER TARGET DEPTH AMOUNT UID`
 abbrev pub answer_line : AnswerLine → List ℕ
@@ -63,6 +63,10 @@ key_line line = joined_line (codes "key " ∷ digits_of line.0 ∷ codes " " ∷
 abbrev pub refused : List (List ℕ) → List ℕ
 refused words = joined_line (codes "refused " ∷ words)
 
+-- what was compared, the number then and the number now
+abbrev pub stale : List ℕ → ℕ → ℕ → List ℕ
+stale word was now = joined_line (codes "stale " ∷ word ∷ decimal was ∷ codes " " ∷ decimal now ∷ [])
+
 -- the octets of a reply, with its line feeds
 unfoldable pub reply_text : Reply → List ℕ
 reply_text (Taken taken skipped new) =
@@ -98,6 +102,11 @@ reply_text Misfiled = refused (codes "misfiled" ∷ [])
 reply_text Clash = refused (codes "clash" ∷ [])
 reply_text Absent = refused (codes "absent" ∷ [])
 reply_text (Full limit) = refused (codes "full " ∷ limit_word limit ∷ [])
+reply_text (Piece count lines) = joined_line (codes "piece " ∷ decimal count ∷ []) ++ flat_map bind_line lines
+reply_text (StaleKeyring was now) = stale (codes "keyring ") was now
+reply_text (StaleView was now) = stale (codes "view ") was now
+reply_text NoCursor = refused (codes "cursor" ∷ [])
+reply_text FullCursors = refused (codes "full cursors" ∷ [])
 
 -- ---- words
 
@@ -128,6 +137,7 @@ is_short (Keys count lines) = is_empty lines
 is_short (Export octets) = false
 is_short (Dump count lines) = is_empty lines
 is_short (Missed sum claims labels) = false
+is_short (Piece count lines) = is_empty lines
 is_short _ = true
 
 -- a line that begins with `refused`
@@ -146,5 +156,8 @@ is_refusal (Missed sum claims labels) = false
 is_refusal (CheckedYes sum) = false
 is_refusal CheckedNoPaths = false
 is_refusal CheckedNoTable = false
+is_refusal (Piece count lines) = false
+is_refusal (StaleKeyring was now) = false
+is_refusal (StaleView was now) = false
 is_refusal Shelf = false
 is_refusal _ = true

@@ -13,15 +13,17 @@ use Rattle.wot_script.specs.Texts.{joined}
 use Rattle.wot_script.specs.Uid.{escaped}
 use Rattle.wot_script.specs.declared.command.Command.{Command}
 use Rattle.wot_script.specs.declared.command.Command.TheVariants.{Import, Load, Remove, Good, Bad, Unjudge, Time}
-use Rattle.wot_script.specs.declared.command.Command.TheVariants.{Root, Close, Ask, Explain, Pending, Keys, Export, Dump, Absence, Check}
+use Rattle.wot_script.specs.declared.command.Command.TheVariants.{Root, Close, Ask, Explain, Pending, Keys, Export, Dump, Absence, Check, CursorOver, CursorNext, CursorClose}
 
--- What wants a number has a spelling where it wants at least 1, and a claim where its paths and its table have one; every
--- other command has one.
+-- What wants a number has a spelling where it wants at least 1, so a piece where it has room for one, and a claim where its
+-- paths and its table have one; every other command has one.
 abbrev pub HasSpelling : Command → Type 0
 HasSpelling (Ask view fpr wanted uid) = 1 ≤ wanted
 HasSpelling (Command.List view wanted) = 1 ≤ wanted
 HasSpelling (Absence view fpr wanted uid) = 1 ≤ wanted
 HasSpelling (Check view fpr claims labels uid) = IsClaimSpelled claims labels
+HasSpelling (CursorOver cursor view wanted) = 1 ≤ wanted
+HasSpelling (CursorNext cursor count) = 1 ≤ count
 HasSpelling _ = Unit {0}
 
 -- The octets of an import are no more than half as many as the size of its line, and the paths of a claim are fewer.
@@ -67,6 +69,10 @@ spelling Pending = codes "pending"
 spelling Keys = codes "keys"
 spelling (Export fpr) = joined (codes "export " ∷ digits_of fpr ∷ [])
 spelling Dump = codes "dump"
+spelling (CursorOver cursor view wanted) =
+    joined (codes "cursor " ∷ cursor ∷ codes " over " ∷ view ∷ codes " " ∷ decimal wanted ∷ [])
+spelling (CursorNext cursor count) = joined (codes "cursor " ∷ cursor ∷ codes " next " ∷ decimal count ∷ [])
+spelling (CursorClose cursor) = joined (codes "cursor " ∷ cursor ∷ codes " close" ∷ [])
 
 -- ---- lines
 

@@ -40,4 +40,10 @@ pub enum Command {
     Export(Fpr),
     /// `dump`: the state as a script.
     Dump,
+    /// `cursor C over V N`: a cursor begins over the bindings that reach wanted N, at least 1, or begins anew.
+    CursorOver(ViewName, ViewName, u32),
+    /// `cursor C next K`: its next K bindings, at least 1.
+    CursorNext(ViewName, u32),
+    /// `cursor C close`: takes the cursor away.
+    CursorClose(ViewName),
 }

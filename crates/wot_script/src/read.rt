@@ -4,8 +4,8 @@ ghost use Rattle.wot_types.specs.Fpr.{fpr_of_digits};
 ghost use Rattle.wot_script.specs.Fields.{octets_of_hex};
 ghost use Rattle.wot_script.specs.Decimal.{decimal_up_to, positive_up_to};
 ghost use Rattle.wot_script.specs.Grammar.{about_of, asked_of, checked_of, command_of, drop_of, entry_of, explained_of, export_of};
-ghost use Rattle.wot_script.specs.Grammar.{import_of, judgement_of, listed_of, load_of, missed_of, question_of, root_of, setting_of};
-ghost use Rattle.wot_script.specs.Grammar.{single_of, verdict_of, view_of};
+ghost use Rattle.wot_script.specs.Grammar.{import_of, judgement_of, listed_of, load_of, missed_of, over_of, paced_of, question_of};
+ghost use Rattle.wot_script.specs.Grammar.{root_of, setting_of, single_of, verdict_of, view_of};
 ghost use Rattle.wot_script.specs.Spelling.{HasSpelling, IsWithin};
 
 use crate::claims::{read_claims, read_labels};
@@ -249,7 +249,46 @@ fn read_explained(alloc: Global, view: ViewName, text: &[u8]) -> Result<Option<C
     Ok(Some(Command::Explain(view, fpr, uid)))
 }
 
-/// What a line says of a view.
+#[tactic(auto, unfolding(crate::specs::Grammar::over_of))]
+fn read_over(alloc: Global, cursor: ViewName, text: &[u8]) -> Result<Option<Command>, Memory>
+    ensures { IfOk result (λ command. command ≡ over_of cursor text.now) }
+{
+    let Some(first) = cut_field(text) else {
+        return Ok(None);
+    };
+    let Some(view) = ViewName::read(alloc, first.field)? else {
+        return Ok(None);
+    };
+    let Some(wanted) = read_positive(u32::MAX, first.rest) else {
+        return Ok(None);
+    };
+    Ok(Some(Command::CursorOver(cursor, view, wanted)))
+}
+
+fn read_next(cursor: ViewName, digits: &[u8]) -> Option<Command>
+    ensures { result ≡ option_map (Command.CursorNext cursor) (positive_up_to 4294967295 digits.now) }
+{
+    let count = read_positive(u32::MAX, digits)?;
+    Some(Command::CursorNext(cursor, count))
+}
+
+#[tactic(auto, unfolding(crate::specs::Grammar::paced_of))]
+fn read_paced(alloc: Global, cursor: ViewName, text: &[u8]) -> Result<Option<Command>, Memory>
+    ensures { IfOk result (λ command. command ≡ paced_of cursor text.now) }
+{
+    if let Some(rest) = after_prefix(b"over ", text) {
+        return read_over(alloc, cursor, rest);
+    }
+    if let Some(digits) = after_prefix(b"next ", text) {
+        return Ok(read_next(cursor, digits));
+    }
+    if text == b"close".as_slice() {
+        return Ok(Some(Command::CursorClose(cursor)));
+    }
+    Ok(None)
+}
+
+/// What a line says of a view, or of a cursor.
 #[derive(Clone, Copy)]
 pub enum About {
     /// It sets it.
@@ -264,6 +303,8 @@ pub enum About {
     Missed,
     /// It claims why an amount is missed.
     Checked,
+    /// It is about a cursor.
+    Paced,
 }
 
 fn read_about(
@@ -281,6 +322,7 @@ fn read_about(
         About::Explained => read_explained(alloc, view, text),
         About::Missed => read_missed(alloc, view, text),
         About::Checked => read_checked(alloc, view, text),
+        About::Paced => read_paced(alloc, view, text),
     }
 }
 
@@ -349,6 +391,9 @@ fn read_command(alloc: Global, line: &[u8]) -> Result<Option<Command>, Memory>
     if let Some(rest) = after_prefix(b"export ", line) {
         return Ok(read_export(rest));
     }
+    if let Some(rest) = after_prefix(b"cursor ", line) {
+        return read_view(alloc, About::Paced, rest);
+    }
     Ok(read_single(line))
 }
 
@@ -357,7 +402,7 @@ fn read_command(alloc: Global, line: &[u8]) -> Result<Option<Command>, Memory>
 pub fn read_line(alloc: Global, line: &[u8]) -> Result<Command, LineFault>
     ensures read { IfOk result (λ command. command_of line.now ≡ Some command) }
     ensures line { IsErrOf result LineFault.Line → command_of line.now ≡ None }
-    // A question that was read wants at least 1.
+    // A question, a list and a cursor that were read want at least 1, and a piece has room for one.
     ensures spelled { IfOk result HasSpelling }
     // An import's octets are two digits each, and each path of a claim has some octet of its own.
     ensures within { IfOk result (IsWithin (length line.now)) }

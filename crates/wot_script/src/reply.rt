@@ -9,7 +9,7 @@ use wot_types::{Fpr, Limit, SigNumber, UserId};
 pub enum Reply {
     /// To `import`: readable key packets, unreadable ones, and what was not held before.
     Taken(u64, u64, u64),
-    /// To `drop`, `verdict` and `view`.
+    /// To `drop`, `verdict`, `view`, and `cursor` with `over` or `close`.
     Done,
     /// To `ask`: the sum of the amounts, the number of paths, and each path with its steps.
     Amount(u32, u64, AnswerLines),
@@ -63,6 +63,16 @@ pub enum Reply {
     Absent,
     /// The change would pass this limit.
     Full(Limit),
+    /// To `cursor` with `next`: the number of bindings, and a line of each.
+    Piece(u64, BindLines),
+    /// What is held has changed since the cursor began: the count of changes then, and now.
+    StaleKeyring(u64, u64),
+    /// The view has changed since the cursor began: its turn then, and now.
+    StaleView(u64, u64),
+    /// No such cursor is there.
+    NoCursor,
+    /// As many cursors as may be are there.
+    FullCursors,
 }
 
 /// A line of an answer.

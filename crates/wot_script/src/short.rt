@@ -40,7 +40,12 @@ pub fn short_replies_fit(reply: &Reply)
         Reply::List(count, _)
         | Reply::Pending(count, _)
         | Reply::Keys(count, _)
-        | Reply::Dump(count, _) => decimals_fit(*count),
+        | Reply::Dump(count, _)
+        | Reply::Piece(count, _) => decimals_fit(*count),
+        Reply::StaleKeyring(was, now) | Reply::StaleView(was, now) => {
+            decimals_fit(*was);
+            decimals_fit(*now);
+        }
         Reply::Packet(number, offset) | Reply::Kind(number, offset) => {
             decimals_fit(u64::from(*number));
             decimals_fit(*offset as u64);

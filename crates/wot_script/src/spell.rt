@@ -120,6 +120,40 @@ fn put_check<'a>(
     put_claimed(&head, claims, labels, &[Text(b" "), uid], out)
 }
 
+#[tactic(auto, unfolding(crate::specs::Spelling::spelling))]
+fn put_cursor_over<'a>(
+    cursor: &'a ViewName,
+    view: &'a ViewName,
+    wanted: u32,
+    out: &mut Vec<u8>,
+) -> Result<(), Memory>
+    ensures { Appends (spelling (Command.CursorOver cursor.now view.now wanted)) out.old out.new result }
+{
+    let cursor = Text(cursor.octets());
+    let view = Text(view.octets());
+    let wanted = Decimal(u64::from(wanted));
+    put_pieces(
+        &[
+            Text(b"cursor "),
+            cursor,
+            Text(b" over "),
+            view,
+            Text(b" "),
+            wanted,
+        ],
+        out,
+    )
+}
+
+#[tactic(auto, unfolding(crate::specs::Spelling::spelling))]
+fn put_cursor_next(cursor: &ViewName, count: u32, out: &mut Vec<u8>) -> Result<(), Memory>
+    ensures { Appends (spelling (Command.CursorNext cursor.now count)) out.old out.new result }
+{
+    let cursor = Text(cursor.octets());
+    let count = Decimal(u64::from(count));
+    put_pieces(&[Text(b"cursor "), cursor, Text(b" next "), count], out)
+}
+
 /// The piece that spells the name of an entry.
 fn entry_piece(name: &Name) -> Piece<'_>
     ensures { piece_text result ≡ entry_text name.now }
@@ -166,6 +200,12 @@ fn put_command(command: &Command, out: &mut Vec<u8>) -> Result<(), Memory>
         Command::Keys => put_pieces(&[Text(b"keys")], out),
         Command::Export(fpr) => put_pieces(&[Text(b"export "), Key(fpr)], out),
         Command::Dump => put_pieces(&[Text(b"dump")], out),
+        Command::CursorOver(cursor, view, wanted) => put_cursor_over(cursor, view, *wanted, out),
+        Command::CursorNext(cursor, count) => put_cursor_next(cursor, *count, out),
+        Command::CursorClose(cursor) => put_pieces(
+            &[Text(b"cursor "), Text(cursor.octets()), Text(b" close")],
+            out,
+        ),
     }
 }
 

@@ -123,5 +123,17 @@ pub fn spelling_is_read(command: &Command)
         Command::Keys => {}
         Command::Export(fpr) => fpr.printed_is_read(),
         Command::Dump => {}
+        Command::CursorOver(cursor, view, wanted) => {
+            let _cursor = cursor.octets();
+            let _name = view.octets();
+            positive_is_read(u32::MAX, *wanted);
+        }
+        Command::CursorNext(cursor, count) => {
+            let _cursor = cursor.octets();
+            positive_is_read(u32::MAX, *count);
+        }
+        Command::CursorClose(cursor) => {
+            let _cursor = cursor.octets();
+        }
     }
 }

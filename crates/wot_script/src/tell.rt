@@ -1,7 +1,7 @@
 ghost use Rattle.std.specs.Prelude.{◌≡◌, ◌<◌, ◌≤◌, ◌+◌, ◌∷◌, [], ◌++◌, codes, OnOk, OnErr, IsOk, length, vec_len, vec_capacity, true};
 ghost use Rattle.std.specs.Fmt.{decimal};
 ghost use Rattle.wot_script.specs.Appends.{Appends};
-ghost use Rattle.wot_script.specs.Replies.{HasWords, is_refusal, is_short, refused, reply_text};
+ghost use Rattle.wot_script.specs.Replies.{HasWords, is_refusal, is_short, refused, reply_text, stale};
 
 use crate::claims::put_claimed;
 use crate::lines::put_headed;
@@ -84,6 +84,31 @@ fn put_missed(
     put_claimed(&head, claims, labels, &[Text(b"\n")], out)
 }
 
+#[tactic(auto, unfolding(crate::specs::Replies::reply_text))]
+fn put_piece(count: u64, lines: &BindLines, out: &mut Vec<u8>) -> Result<(), Memory>
+    ensures { Appends (reply_text (Reply.Piece count lines.now)) out.old out.new result }
+{
+    use Piece::{Decimal, Text};
+    put_headed(&[Text(b"piece "), Decimal(count), Text(b"\n")], lines, out)
+}
+
+fn put_stale(word: &[u8], was: u64, now: u64, out: &mut Vec<u8>) -> Result<(), Memory>
+    ensures { Appends (stale word.now was now) out.old out.new result }
+{
+    use Piece::{Decimal, Text};
+    put_pieces(
+        &[
+            Text(b"stale "),
+            Text(word),
+            Decimal(was),
+            Text(b" "),
+            Decimal(now),
+            Text(b"\n"),
+        ],
+        out,
+    )
+}
+
 fn put_refused(word: &[u8], out: &mut Vec<u8>) -> Result<(), Memory>
     ensures { Appends (refused (word.now ∷ [])) out.old out.new result }
 {
@@ -150,6 +175,8 @@ fn put_refusal(reply: &Reply, out: &mut Vec<u8>) -> Result<(), Memory>
                 out,
             )
         }
+        Reply::NoCursor => put_refused(b"cursor", out),
+        Reply::FullCursors => put_refused(b"full cursors", out),
         _ => unreachable!(),
     }
 }
@@ -207,6 +234,9 @@ fn put_reply(reply: &Reply, out: &mut Vec<u8>) -> Result<(), Memory>
         Reply::CheckedNoPaths => put_pieces(&[Text(b"checked no paths\n")], out),
         Reply::CheckedNoTable => put_pieces(&[Text(b"checked no table\n")], out),
         Reply::Shelf => put_pieces(&[Text(b"fault shelf\n")], out),
+        Reply::Piece(count, lines) => put_piece(*count, lines, out),
+        Reply::StaleKeyring(was, now) => put_stale(b"keyring ", *was, *now, out),
+        Reply::StaleView(was, now) => put_stale(b"view ", *was, *now, out),
         _ => put_refusal(reply, out),
     }
 }

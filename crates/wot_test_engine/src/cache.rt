@@ -11,7 +11,7 @@ use wot_keyring::ExportFault;
 use wot_policy::{Ask, Policy, admits, standard_rows};
 use wot_sample::{A, R, T};
 use wot_script::Command;
-use wot_types::{Limit, Limits, Steps, ViewName};
+use wot_types::{Fpr, Limit, Limits, Steps, ViewName};
 use wot_verdict::Verdict;
 
 /// R and T, each with a direct key signature, T with the user ID t, which R certified; the verdicts; and two views.
@@ -59,7 +59,7 @@ pub(crate) fn run<F: Fn(Ask) -> bool>(
     ensures judged { IsJudgedBy (rows_of policy.new) engine.new.keyring }
     ensures faithful { IsFaithful F.Fn policy.new }
 {
-    if engine.keyring().changes() >= 10_000 {
+    if engine.keyring().changes() >= 10_000 || engine.turns() >= 10_000 {
         return false;
     }
     match command {
@@ -162,20 +162,36 @@ fn a_certificate_is_exported(rt: HostRuntime) {
     assert!(rt; is_exported(rt.alloc()) == Some(true));
 }
 
+/// Sets the time of a view, in an engine to which little was done.
+fn set_time(engine: &mut Engine, view: &ViewName, t: u32) -> Result<(), ViewFault> {
+    if engine.turns() >= 10_000 {
+        return Err(ViewFault::Memory);
+    }
+    engine.view_time(view, t)
+}
+
+/// Sets the amount of a root of a view, in such an engine.
+fn set_root(engine: &mut Engine, view: &ViewName, fpr: &Fpr, amount: u8) -> Result<(), ViewFault> {
+    if engine.turns() >= 10_000 {
+        return Err(ViewFault::Memory);
+    }
+    engine.view_root(view, fpr, amount)
+}
+
 /// At 5000, R's certification of 2000 is there: 120 by R. At 1500 and at 1999 it isn't. No edge is made twice.
 fn times_are_told(engine: &mut Engine, p: &ViewName, q: &ViewName) -> bool {
     amount_of(engine, p, 120) == Ok((120, 1, 1))
         && amount_of(engine, p, 120) == Ok((120, 1, 0))
         && amount_of(engine, q, 120) == Ok((0, 0, 0))
-        && engine.view_time(q, 2000).is_ok()
+        && set_time(engine, q, 2000).is_ok()
         && amount_of(engine, q, 120) == Ok((120, 1, 1))
-        && engine.view_time(q, 1999).is_ok()
+        && set_time(engine, q, 1999).is_ok()
         && amount_of(engine, q, 120) == Ok((0, 0, 0))
 }
 
 /// The amount of a root, and then a root's certificate dropped, after which no other edge is made anew.
 fn changes_are_told(engine: &mut Engine, p: &ViewName) -> bool {
-    if engine.view_root(p, &R, 50).is_err()
+    if set_root(engine, p, &R, 50).is_err()
         || amount_of(engine, p, 120) != Ok((50, 1, 0))
         || engine.keyring().changes() != 6
     {
@@ -234,14 +250,14 @@ fn roads_of_a_view(rt: HostRuntime) {
 }
 
 fn opens_within_limits(engine: &mut Engine, p: &ViewName, q: &ViewName) -> bool {
-    engine.view_root(p, &R, 5) == Err(ViewFault::View)
-        && engine.view_time(p, 5) == Ok(())
-        && engine.view_time(q, 5) == Err(ViewFault::Full(Limit::Views))
-        && engine.view_root(p, &R, 0) == Err(ViewFault::Absent)
-        && engine.view_root(p, &R, 5) == Ok(())
-        && engine.view_root(p, &A, 5) == Err(ViewFault::Full(Limit::Roots))
-        && engine.view_root(p, &R, 6) == Ok(())
-        && engine.view_time(p, 7) == Ok(())
+    set_root(engine, p, &R, 5) == Err(ViewFault::View)
+        && set_time(engine, p, 5) == Ok(())
+        && set_time(engine, q, 5) == Err(ViewFault::Full(Limit::Views))
+        && set_root(engine, p, &R, 0) == Err(ViewFault::Absent)
+        && set_root(engine, p, &R, 5) == Ok(())
+        && set_root(engine, p, &A, 5) == Err(ViewFault::Full(Limit::Roots))
+        && set_root(engine, p, &R, 6) == Ok(())
+        && set_time(engine, p, 7) == Ok(())
 }
 
 fn has_view(engine: &Engine, p: &ViewName, t: u32, amount: u8, count: usize) -> bool {
@@ -273,5 +289,7 @@ fn views_within_their_limits(rt: HostRuntime) {
     let q = view_name(rt.alloc(), b"q").expect(&rt, "q");
     assert!(rt; opens_within_limits(&mut engine, &p, &q) && has_view(&engine, &p, 7, 6, 1));
     assert!(rt; closes(&mut engine, &p, &q));
-    assert!(rt; engine.view_time(&p, 8) == Ok(()) && has_view(&engine, &p, 8, 0, 0));
+    assert!(rt; engine.turns() == 4 && engine.turn(&p).is_none());
+    assert!(rt; set_time(&mut engine, &p, 8) == Ok(()) && has_view(&engine, &p, 8, 0, 0));
+    assert!(rt; engine.turns() == 5 && engine.turn(&p) == Some(5));
 }

@@ -4,6 +4,8 @@
 #[cfg(test)]
 mod cache;
 #[cfg(test)]
+mod cursors;
+#[cfg(test)]
 mod engine;
 #[cfg(test)]
 mod explain;

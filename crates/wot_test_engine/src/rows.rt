@@ -127,6 +127,7 @@ fn first_other<F: Fn(Ask) -> bool>(
     policy: &mut Policy<F>,
 ) -> Option<(u32, u64, u64)>
     requires fresh { machine.old.engine.keyring.changes ≡ 0 }
+    requires unturned { machine.old.engine.turns.count ≡ 0 }
     requires judged { IsJudgedBy (rows_of policy.old) machine.old.engine.keyring }
     requires faithful { IsFaithful F.Fn policy.old }
 {

@@ -11,7 +11,7 @@ use wot_types::{Fpr, Limit, SigNumber, UserId, ViewName};
 
 /// Lines, and how the command that was read is printed; `None` where a line is no command. `$`
 /// stands for a fingerprint, `%` for a signature number.
-static LINES: [(&[u8], Option<&[u8]>); 101] = [
+static LINES: [(&[u8], Option<&[u8]>); 117] = [
     (b"import ", Some(b"import ")),
     (b"import c6", Some(b"import c6")),
     (b"import C6aB0f", Some(b"import c6ab0f")),
@@ -137,6 +137,28 @@ static LINES: [(&[u8], Option<&[u8]>); 101] = [
     (b"pending", Some(b"pending")),
     (b"pending ", None),
     (b"pending a", None),
+    (b"cursor a over b 1", Some(b"cursor a over b 1")),
+    (
+        b"cursor a over -_9 4294967295",
+        Some(b"cursor a over -_9 4294967295"),
+    ),
+    (b"cursor a over b 0", None),
+    (b"cursor a over b", None),
+    (b"cursor a over b 1 ", None),
+    (b"cursor A over b 1", None),
+    (b"cursor a over B 1", None),
+    (
+        b"cursor a next 4294967295",
+        Some(b"cursor a next 4294967295"),
+    ),
+    (b"cursor a next 4294967296", None),
+    (b"cursor a next 0", None),
+    (b"cursor a next 05", None),
+    (b"cursor a next", None),
+    (b"cursor a close", Some(b"cursor a close")),
+    (b"cursor a close ", None),
+    (b"cursor a", None),
+    (b"cursor  close", None),
 ];
 
 const FPR: &[u8] = b"c959bdbafa32a2f89a153b678cfde12197965a9a";
@@ -256,7 +278,7 @@ fn is_printed_without_words(alloc: Global, reply: &Reply, text: &[u8]) -> bool {
 }
 
 /// Replies of one line, and how they are printed.
-const SHORT: [(Reply, &[u8]); 18] = [
+const SHORT: [(Reply, &[u8]); 22] = [
     (Reply::Taken(2, 1, 20), b"ok taken 2 skipped 1 new 20\n"),
     (
         Reply::Taken(u64::MAX, 0, u64::MAX),
@@ -281,6 +303,13 @@ const SHORT: [(Reply, &[u8]); 18] = [
         Reply::Full(Limit::Certificates),
         b"refused full certificates\n",
     ),
+    (Reply::StaleKeyring(3, 4), b"stale keyring 3 4\n"),
+    (
+        Reply::StaleView(0, u64::MAX),
+        b"stale view 0 18446744073709551615\n",
+    ),
+    (Reply::NoCursor, b"refused cursor\n"),
+    (Reply::FullCursors, b"refused full cursors\n"),
 ];
 
 #[test]

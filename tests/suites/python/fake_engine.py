@@ -27,6 +27,10 @@ REPLIES = {
     f"check v {A} 40/{B}.0/{A}.1 {A}=2,{B}=1 Alice": ["checked yes 40"],
     f"check v {A} - {B}=1 Alice": ["checked no table"],
     f"check v {A} 255/{B}.4294967295 - Alice": ["checked no paths"],
+    "cursor c over v 120": ["ok"],
+    "cursor c close": ["ok"],
+    "cursor d over v 120": ["refused full cursors"],
+    "cursor d next 1": ["refused cursor"],
     "dump": ["dump 2", "import ", f"verdict {N} bad"],
     "import ": ["refused empty"],
     "import 01": ["refused packet 1 0"],
@@ -50,6 +54,8 @@ REASON_WORDS = ("unsound unjudged bad foreign policy early expired revoked older
                 "issuer-young issuer-ended issuer-hard issuer-soft").split()
 REPLIES |= {f"explain v {A} {word}": [f"explain {word} 0"] for word in TARGET_WORDS}
 REPLIES |= {f"explain v {A} {word}": ["explain ok 1", f"cert {N} {word}"] for word in REASON_WORDS}
+PIECES = iter([["piece 2", f"bind 120 {A} Alice", f"bind 120 {B} Bob"], ["stale keyring 3 4"], ["piece 1", f"bind 60 {B} Bob"],
+               ["stale view 5 18446744073709551615"]])
 REPLIES[f"explain v {A} edge"] = ["explain ok 1", f"cert {N} edge {B} 0 60"]
 
 
@@ -64,6 +70,8 @@ def main():
             print(line)
         elif line.startswith("verdict "):
             print("ok")
+        elif line == "cursor c next 2":
+            print("\n".join(next(PIECES)))
         elif line and not line.startswith("#"):
             print("\n".join(REPLIES.get(line, ["refused line"])))
         sys.stdout.flush()

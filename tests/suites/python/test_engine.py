@@ -8,8 +8,8 @@ import unittest
 
 from outside import FAKE_ENGINE
 from tukyamid import (Accepted, Answer, Binding, Claim, ClaimedStep, Done, Engine, EngineEnded, Explanation, Key, Label,
-                      Missed, Path, PendingSignature, ProtocolError, Reached, Reason, Rejected, Step, Taken, commands,
-                      refusals)
+                      Missed, Path, PendingSignature, ProtocolError, Reached, Reason, Rejected, Stale, Step, Taken,
+                      commands, refusals)
 from tukyamid.reasons import ReasonWord, TargetWord
 from tukyamid.replies import Exported
 
@@ -57,6 +57,12 @@ class Framing(unittest.TestCase):
             self.assertRaises(ValueError, engine.check, "v", A, *wrong, "Alice")
         self.assertRaises(ProtocolError, engine.absence, "v", A, 120, "no claim")
 
+    def test_a_list_in_pieces_begins_anew_where_it_went_stale(self):
+        alice, bob = Binding(120, A, b"Alice"), Binding(120, B, b"Bob")
+        told = list(self.engine.list_in_pieces("c", "v", 120, count=2))
+        self.assertEqual(told, [alice, bob, Stale("keyring", 3, 4), Binding(60, B, b"Bob")])
+        self.assertEqual(self.engine.next_piece("c", 2), Stale("view", 5, 2**64 - 1))
+
     def test_each_refusal_is_its_exception(self):
         engine = self.engine
         table = [
@@ -65,6 +71,8 @@ class Framing(unittest.TestCase):
             (lambda: engine.import_certificates(b"\2"), refusals.RefusedKind, {"type": 9, "at": 7}),
             (lambda: engine.import_certificates(b"\3"), refusals.RefusedOrder, {"at": 5}),
             (lambda: engine.import_certificates(b"\4"), refusals.RefusedFull, {"limit": "certificates"}),
+            (lambda: engine.begin_cursor("d", "v", 120), refusals.RefusedFull, {"limit": "cursors"}),
+            (lambda: engine.next_piece("d", 1), refusals.RefusedCursor, {}),
             (lambda: engine.import_certificates(b"\6"), refusals.RefusedClash, {}),
             (lambda: engine.import_certificates(b"\7"), refusals.RefusedSecret, {}),
             (lambda: engine.import_certificates(b"\x08"), refusals.RefusedCompressed, {}),

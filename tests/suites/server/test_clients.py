@@ -196,6 +196,11 @@ class OddClients(unittest.TestCase):
         self.assertEqual(self.other.tell(b"load trust-root"), b"refused line")
         self.assertEqual(self.other.tell(b"keys"), b"keys 12")
 
+    def test_a_cursor_is_begun_by_no_line(self):
+        """Its name would be known to one engine alone, and its list to the view of one client."""
+        self.assertEqual(self.other.tell(b"cursor c over p 120"), b"refused line")
+        self.assertEqual(self.other.tell(b"cursor c next 1"), b"refused line")
+
     def test_names_of_two_clients_never_meet(self):
         first = self.world.fprs[0]
         with Client(self.server.path) as client:

@@ -35,6 +35,7 @@ impl Engine {
         ensures limits { self.new.keyring.limits ≡ self.old.keyring.limits }
         ensures views { self.new.views ≡ self.old.views }
         ensures marks { self.new.marks ≡ self.old.marks }
+        ensures turns { self.new.turns ≡ self.old.turns }
     {
         fits_later();
         later_is_order();

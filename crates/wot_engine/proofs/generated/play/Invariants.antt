@@ -1,15 +1,16 @@
 use Rattle.std.proofs.Common.{◌≡◌, ◌+◌, ◌*◌, ◌<◌, ◌^◌, length}
 use Rattle.wot_policy.specs.Kept.{IsFaithful, rows_of}
 use Rattle.wot_keyring.specs.Kept.{IsJudgedBy}
-use Rattle.wot_cache.specs.State.{state_of}
+use Rattle.wot_engine.specs.Machine.{kept}
 use Rattle.wot_engine.proofs.Giving.{over}
 use Rattle.wot_engine.proofs.Playing.{Plays}
 use Rattle.wot_engine.proofs.generated.play.Given as goal
 
 abbrev pub invariant-lines : goal.invariant-lines
 invariant-lines g l = record {
-  plays : Plays (rows_of l.fn.policy) l.fn.text l.rest (over (state_of l.machine.engine) l.shelf.world) l.tally;
+  plays : Plays (rows_of l.fn.policy) l.fn.text l.rest (over (kept l.machine) l.shelf.world) l.tally;
   changes : l.machine.engine.keyring.changes + length l.rest < 2 ^ 30;
+  turns : l.machine.engine.turns.count + length l.rest < 2 ^ 30;
   amounts : l.tally.amounts + 4294967296 * length l.rest < 2 ^ 62;
   judged : IsJudgedBy (rows_of l.fn.policy) l.machine.engine.keyring;
   rows : rows_of l.policy ≡ rows_of l.fn.policy;

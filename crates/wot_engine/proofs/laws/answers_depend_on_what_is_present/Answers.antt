@@ -10,9 +10,9 @@ returns c = record {
         one = c.each_line_has_one_outcome.ensures.one rows;
         stays = c.each_line_has_one_outcome.ensures.stays rows;
       })
-      one other name line (reached_can_be rows second.world second.lines second.replies (record { state = other; world = second.after }) second.run)
-      (same_certs rows (c.judging.ensures.unmarked rows) one other
-      (c.reached_states_are_judged.ensures rows first.world first.lines first.replies (record { state = one; world = first.after }) first.run)
-      (c.reached_states_are_judged.ensures rows second.world second.lines second.replies (record { state = other; world = second.after }) second.run) alike.certs)
+      one other name line (reached_can_be rows second.world second.lines second.replies (record { whole = other; world = second.after }) second.run)
+      (same_certs rows (c.judging.ensures.unmarked rows) one.state other.state
+      (c.reached_states_are_judged.ensures rows first.world first.lines first.replies (record { whole = one; world = first.after }) first.run)
+      (c.reached_states_are_judged.ensures rows second.world second.lines second.replies (record { whole = other; world = second.after }) second.run) alike.certs)
       alike.verdicts alike.view ask;
 }

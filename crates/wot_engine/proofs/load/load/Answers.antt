@@ -4,8 +4,8 @@ use Rattle.wot_engine.proofs.Refusing.{if_ok}
 use Rattle.wot_engine.proofs.Running.{asked_so, world_so}
 use Rattle.wot_engine.proofs.load.load.Goals as goal
 
-pub returns-in-Ok-Bytes-clause-ran : goal.returns-in-Ok-Bytes-clause-ran
-returns-in-Ok-Bytes-clause-ran g c =
+pub returns-in-Ok-Bytes-clause-did : goal.returns-in-Ok-Bytes-clause-did
+returns-in-Ok-Bytes-clause-did g c =
     if_ok c.enter.result _ _ (λ reply gives. record {
       given = Answer.entry c.in-Ok-Bytes.octets.items;
       answers = gives;

@@ -10,8 +10,8 @@ use Rattle.wot_script.specs.Texts.{joined}
 use Rattle.wot_script.specs.declared.read.Question.{Question}
 use Rattle.wot_script.specs.Uid.{escaped}
 use Rattle.wot_script.proofs.Spaceless.{spaceless_digits}
-use Rattle.wot_script.proofs.Readings.{absence_reads, ask_reads, bad_reads, check_reads, close_reads, drop_reads, dump_reads, explain_reads, export_reads, good_reads, import_reads, keys_reads, list_reads, load_reads, none_reads, pending_reads, question, root_reads, time_reads}
-use Rattle.wot_script.proofs.OneLine.{absence_line, ask_line, bad_line, check_line, close_line, dump_line, explain_line, export_line, fpr_digits, good_line, import_line, keys_line, list_line, load_line, name_is, number_digits_are, numeral, pending_line, remove_line, root_line, time_line, unjudge_line}
+use Rattle.wot_script.proofs.Readings.{absence_reads, ask_reads, bad_reads, check_reads, close_reads, drop_reads, dump_reads, explain_reads, export_reads, good_reads, import_reads, keys_reads, list_reads, load_reads, none_reads, pending_reads, question, root_reads, time_reads, end_reads, next_reads, over_reads}
+use Rattle.wot_script.proofs.OneLine.{absence_line, ask_line, bad_line, check_line, close_line, dump_line, explain_line, export_line, fpr_digits, good_line, import_line, keys_line, list_line, load_line, name_is, number_digits_are, numeral, pending_line, remove_line, root_line, time_line, unjudge_line, end_line, next_line, over_line}
 use Rattle.wot_script.proofs.spelled.spelling_is_read.Goals as goal
 
 pub returns-in-Import : goal.returns-in-Import
@@ -147,3 +147,24 @@ returns-in-Check c =
       read = check_reads c.in-Check.view (digits_of c.in-Check.fpr) (field_text claim_text c.in-Check.claims) (field_text label_text c.in-Check.labels) (escaped c.in-Check.uid) c.in-Check.uid c.in-Check.fpr c.in-Check.claims c.in-Check.labels c.octets-name-in-Check.ensures.name (spaceless_digits (octets_of c.in-Check.fpr)) c.printed_is_read-in-Check.ensures.read_back claims.free claims.back labels.free labels.back (rw c.octets-in-Check.ensures.whole at c.uid_is_read-in-Check.ensures);
       line = check_line c.in-Check.view c.in-Check.fpr c.in-Check.claims c.in-Check.labels c.in-Check.uid (digits_of c.in-Check.fpr) (field_text claim_text c.in-Check.claims) (field_text label_text c.in-Check.labels) (name_is c.in-Check.view c.octets-name-in-Check.ensures.name) (fpr_digits c.in-Check.fpr c.printed_is_read-in-Check.ensures.read_back) claims.line claims.size labels.line labels.size;
     })
+
+pub returns-in-CursorOver : goal.returns-in-CursorOver
+unfolding spelling
+returns-in-CursorOver c = rw c.in-CursorOver.is (record {
+  read = over_reads c.in-CursorOver.cursor c.in-CursorOver.view (decimal c.in-CursorOver.wanted) c.in-CursorOver.wanted c.octets-cursor.ensures.name c.octets-name-in-CursorOver.ensures.name c.positive_is_read-in-CursorOver.ensures.read;
+  line = over_line c.in-CursorOver.cursor c.in-CursorOver.view c.in-CursorOver.wanted (decimal c.in-CursorOver.wanted) (name_is c.in-CursorOver.cursor c.octets-cursor.ensures.name) (name_is c.in-CursorOver.view c.octets-name-in-CursorOver.ensures.name) (numeral c.in-CursorOver.wanted (omega arith));
+})
+
+pub returns-in-CursorNext : goal.returns-in-CursorNext
+unfolding spelling
+returns-in-CursorNext c = rw c.in-CursorNext.is (record {
+  read = next_reads c.in-CursorNext.cursor (decimal c.in-CursorNext.count) c.in-CursorNext.count c.octets-cursor-in-CursorNext.ensures.name c.positive_is_read-in-CursorNext.ensures.read;
+  line = next_line c.in-CursorNext.cursor c.in-CursorNext.count (decimal c.in-CursorNext.count) (name_is c.in-CursorNext.cursor c.octets-cursor-in-CursorNext.ensures.name) (numeral c.in-CursorNext.count (omega arith));
+})
+
+pub returns-in-CursorClose : goal.returns-in-CursorClose
+unfolding spelling
+returns-in-CursorClose c = rw c.in-CursorClose.is (record {
+  read = end_reads c.in-CursorClose.cursor c.octets-cursor-in-CursorClose.ensures.name;
+  line = end_line c.in-CursorClose.cursor (name_is c.in-CursorClose.cursor c.octets-cursor-in-CursorClose.ensures.name);
+})

@@ -108,4 +108,5 @@ invariant_of-self-2 c =
       fit = after.fit;
       of_open = after.of_open;
       right = right_kept c.args.self.now k c.refresh.new.self.keyring views name p c.answer.new.answers.entries c.self.view_is c.refresh.ensures.keyring seen c.answer.ensures.right;
+      turned = after.turned;
     }

@@ -1,7 +1,7 @@
 use Rattle.std.proofs.Common.{rules, ◌≡◌, false, Option, Some, Result, Ok, refl, subst}
 use Rattle.wot_types.specs.declared.memory.Memory.{Memory}
-use Rattle.wot_script.specs.declared.reply.Reply.{Reply}
 use Rattle.wot_script.specs.Grammar.{command_of}
+use Rattle.wot_engine.specs.declared.told.Told.{Told}
 use Rattle.wot_engine.specs.Lines.{is_silent}
 use Rattle.wot_engine.specs.Machine.{Machine}
 use Rattle.wot_engine.specs.Made.{LineMakes, heard}
@@ -11,9 +11,9 @@ use Rattle.wot_engine.proofs.machine.Machine.reply.Goals as goal
 pub returns-clause-makes : goal.returns-clause-makes
 returns-clause-makes g c =
     let loud : is_silent c.args.line.now ≡ false = search rules in
-    let done : Result (Option Reply) Memory = Ok (Some c.in_ok-reply.reply) in
-    subst (λ (m : Machine). LineMakes done (heard c.args.line.now) m.engine c.answer.new.engine m.made c.answer.new.steps.made) c.self.view_is
-    (makes_heard done c.args.line.now c.self.inside.engine c.answer.new.engine c.self.inside.steps.made c.answer.new.steps.made
+    let done : Result (Option Told) Memory = Ok (Some c.in_ok-told.told) in
+    subst (λ (m : Machine). LineMakes done (heard c.args.line.now) m.cursors m.engine c.answer.new.engine m.made c.answer.new.steps.made) c.self.view_is
+    (makes_heard done c.args.line.now c.self.inside.cursors c.self.inside.engine c.answer.new.engine c.self.inside.steps.made c.answer.new.steps.made
     c.if-line-gt-LONGEST.false loud
-    (line_makes_as (Ok c.in_ok-reply.reply) done (λ ok. refl) (command_of c.args.line.now) c.self.inside.engine c.answer.new.engine
-    c.self.inside.steps.made c.answer.new.steps.made c.in_ok-reply.ensures.makes))
+    (line_makes_as (Ok c.in_ok-told.told) done (λ ok. refl) (command_of c.args.line.now) c.self.inside.cursors c.self.inside.engine c.answer.new.engine
+    c.self.inside.steps.made c.answer.new.steps.made c.in_ok-told.ensures.makes))

@@ -1,0 +1,51 @@
+-- All that is kept between two lines: the state, how often it changed, and how far listings have come.
+use Rattle.std.specs.Prelude.{◌≡◌, ◌≢◌, ◌⊎◌, ◌+◌, ℕ, List, []}
+use Rattle.wot_cache.specs.State.{Engine, State, start, state_of}
+use Rattle.wot_cache.specs.Turns.{IsOneClosing, IsOneTurn, Turns, no_turns}
+use Rattle.wot_cache.specs.Views.{Views}
+use Rattle.wot_cursor.specs.Cursors.{Cursors}
+use Rattle.wot_script.specs.declared.command.Command.{Command}
+use Rattle.wot_script.specs.declared.command.Command.TheVariants.{Time, Root, Close}
+
+-- the state, the count of changes, the turns of views, and the cursors by name
+pub record Whole : Type 0 where
+  pub state : State
+  pub changes : ℕ
+  pub turns : Turns
+  pub cursors : Cursors
+
+-- what is kept before the first line
+abbrev pub beginning : Whole
+beginning = record { state = start; changes = 0; turns = no_turns; cursors = [] }
+
+-- what is kept where this is the engine, and these are the cursors
+abbrev pub whole_of : Engine → Cursors → Whole
+whole_of engine cursors =
+    record { state = state_of engine; changes = engine.keyring.changes; turns = engine.turns; cursors = cursors }
+
+-- What is held is as it was, and so is the count of changes; or it isn't, and that is one change.
+abbrev pub IsCounted : Whole → Whole → Type 0
+IsCounted old new =
+    ((new.state.held ≡ old.state.held) × (new.changes ≡ old.changes))
+    ⊎ ((new.state.held ≢ old.state.held) × (new.changes ≡ old.changes + 1))
+
+-- What a command is to the turns of views: it changes or opens this one, it closes this one, or it is nothing to them.
+pub data Turning : Type 0 where
+  turning : List ℕ → Turning
+  closing : List ℕ → Turning
+  leaving : Turning
+
+abbrev pub turning_of : Command → Turning
+turning_of (Time view t) = turning view
+turning_of (Root view fpr amount) = turning view
+turning_of (Close view) = closing view
+turning_of _ = leaving
+
+-- What it does to them, by what it did to that view.
+abbrev pub AreTurned : Turning → Views → Turns → Views → Turns → Type 0
+AreTurned (turning view) old before new after = IsOneTurn view old before new after
+AreTurned (closing view) old before new after = IsOneClosing view old before new after
+AreTurned leaving old before new after = after ≡ before
+
+abbrev pub IsTurnedBy : Command → Views → Turns → Views → Turns → Type 0
+IsTurnedBy command old before new after = AreTurned (turning_of command) old before new after

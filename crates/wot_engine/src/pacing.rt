@@ -1,0 +1,167 @@
+//! `cursor C over V N`, `cursor C next K`, `cursor C close`.
+ghost use Rattle.std.specs.Prelude.{◌≡◌, ◌≢◌, ◌≤◌, ℕ, List, Some, None, true, length, IfOk, OnErr, is_some, IfSome};
+ghost use Rattle.wot_keyring.specs.Keyring.{certificates_in};
+ghost use Rattle.wot_network.specs.Net.{told_of};
+ghost use Rattle.wot_network.specs.Roads.{present_of};
+ghost use Rattle.wot_script.specs.Replies.{is_short};
+ghost use Rattle.wot_cache.specs.declared.view.View.{View as TheView};
+ghost use Rattle.wot_cache.specs.State.{state_of, StaysButMarks};
+ghost use Rattle.wot_cache.specs.Views.{view_at};
+ghost use Rattle.wot_cursor.specs.Cursors.{Cursor as TheCursor, Cursors as TheCursors, cursor_at};
+ghost use Rattle.wot_explain.specs.declared.bind.Bind.{Bind as TheBind};
+ghost use Rattle.wot_explain.specs.Listing.{pairs_in};
+ghost use Rattle.wot_explain.specs.Piece.{IsThePiece};
+ghost use Rattle.wot_engine.specs.Pacing.{Begins, Ends, GivesPiece, Goes, behind, piece as piece_reply, settled};
+ghost use Rattle.wot_engine.specs.Made.{PieceMakes};
+ghost use Rattle.wot_engine.specs.Whole.{whole_of};
+
+use crate::bindings::bind_lines;
+use crate::told::{Moved, Told, alone};
+use std::alloc::Global;
+use wot_cache::{AskFault, Engine, Parts};
+use wot_cursor::{Age, BeginFault, Cursor, Cursors, Stamps, age};
+use wot_explain::laws::list_is_one;
+use wot_explain::{Bind, list_after};
+use wot_script::{BindLines, Reply};
+use wot_types::{Memory, Place, Steps, UserId, ViewName};
+
+/// `cursor C over V N`.
+pub fn over(
+    alloc: Global,
+    engine: &Engine,
+    cursors: &mut Cursors,
+    name: &ViewName,
+    view: &ViewName,
+    wanted: u32,
+) -> Result<Told, Memory>
+    ensures begins { IfOk result (λ told. Begins (whole_of engine.now cursors.old) name.now view.now wanted
+        (view_at engine.now.views view.now) told.reply (settled told.moved cursors.new)) }
+    ensures short { IfOk result (λ told. is_short told.reply ≡ true) }
+    ensures kept { OnErr result (cursors.new ≡ cursors.old) }
+{
+    let Some(turn) = engine.turn(view) else {
+        return Ok(alone(Reply::View));
+    };
+    let stamps = Stamps {
+        keyring: engine.keyring().changes(),
+        view: turn,
+    };
+    let name = name.duplicate(alloc)?;
+    let view = view.duplicate(alloc)?;
+    match cursors.begin(name, view, wanted, stamps) {
+        Ok(()) => Ok(alone(Reply::Done)),
+        Err(BeginFault::Full) => Ok(alone(Reply::FullCursors)),
+        Err(BeginFault::Memory) => Err(Memory),
+    }
+}
+
+/// `cursor C close`. Takes no memory.
+pub fn close(engine: &Engine, cursors: &mut Cursors, name: &ViewName) -> Told
+    ensures ends { Ends (whole_of engine.now cursors.old) name.now result.reply (settled result.moved cursors.new) }
+    ensures short { is_short result.reply ≡ true }
+{
+    let _changes = engine.keyring().changes();
+    if cursors.get(name).is_none() {
+        return alone(Reply::NoCursor);
+    }
+    let _ = cursors.end(name);
+    alone(Reply::Done)
+}
+
+/// `cursor C next K`.
+pub fn next(
+    alloc: Global,
+    engine: &mut Engine,
+    steps: &mut Steps,
+    cursors: &Cursors,
+    name: &ViewName,
+    count: u32,
+) -> Result<Told, Memory>
+    ensures goes { IfOk result (λ told. Goes (cursor_at cursors.now name.now) (whole_of engine.old cursors.now) name.now count
+        told.reply (settled told.moved cursors.now)) }
+    ensures stays { StaysButMarks engine.old engine.new }
+    ensures makes { PieceMakes result (cursor_at cursors.now name.now) engine.old engine.new steps.old.made steps.new.made }
+{
+    let Some(cursor) = cursors.get(name) else {
+        return Ok(alone(Reply::NoCursor));
+    };
+    let Some(turn) = engine.turn(cursor.view()) else {
+        return Ok(alone(Reply::View));
+    };
+    let now = Stamps {
+        keyring: engine.keyring().changes(),
+        view: turn,
+    };
+    match age(cursor.stamps(), now) {
+        Age::Same => give(alloc, engine, steps, cursor, name, count),
+        Age::Keyring(was, now) => Ok(alone(Reply::StaleKeyring(was, now))),
+        Age::View(was, now) => Ok(alone(Reply::StaleView(was, now))),
+    }
+}
+
+/// The next piece of a cursor whose list is the one of its beginning.
+fn give(
+    alloc: Global,
+    engine: &mut Engine,
+    steps: &mut Steps,
+    cursor: &Cursor,
+    name: &ViewName,
+    count: u32,
+) -> Result<Told, Memory>
+    requires open { is_some (view_at engine.old.views cursor.now.view) ≡ true }
+    ensures gives { (cursors : TheCursors) → IfOk result (λ told. IfSome (view_at engine.old.views cursor.now.view) (λ view.
+        GivesPiece (whole_of engine.old cursors) name.now count cursor.now view told.reply (settled told.moved cursors))) }
+    ensures stays { StaysButMarks engine.old engine.new }
+    ensures makes { PieceMakes result (Some cursor.now) engine.old engine.new steps.old.made steps.new.made }
+{
+    // No line begins a cursor that wants nothing.
+    if cursor.wanted() == 0 {
+        return Ok(alone(Reply::Piece(0, BindLines::new(alloc))));
+    }
+    list_is_one();
+    match engine.parts(cursor.view(), steps) {
+        Ok(parts) => piece(alloc, &parts, cursor, name, count),
+        Err(AskFault::View) => Ok(alone(Reply::View)),
+        Err(AskFault::Memory) => Err(Memory),
+    }
+}
+
+/// The piece over the parts that are seen from the cursor's view.
+fn piece(
+    alloc: Global,
+    parts: &Parts<'_>,
+    cursor: &Cursor,
+    name: &ViewName,
+    count: u32,
+) -> Result<Told, Memory>
+    requires wanted { 1 ≤ cursor.now.wanted }
+    requires few { length parts.now.roots.now ≤ 64 }
+    ensures piece { IfOk result (λ told. (binds : List TheBind)
+        × IsThePiece (told_of (present_of parts.now.roads)) parts.now.roots.now cursor.now.wanted
+        (pairs_in (certificates_in parts.now.keyring.now)) cursor.now.place count binds
+        × (told.reply ≡ piece_reply binds)
+        × ((cursors : TheCursors) → settled told.moved cursors ≡ behind cursors name.now binds)) }
+{
+    let wanted = cursor.wanted();
+    let after = cursor.place();
+    let binds = list_after(alloc, parts.keyring, &parts.roads, parts.roots, wanted, after, count)?;
+    let moved = moved_behind(alloc, name, &binds)?;
+    let lines = bind_lines(alloc, binds)?;
+    let reply = Reply::Piece(lines.items().len() as u64, lines);
+    Ok(Told { reply, moved })
+}
+
+/// Where the cursor stands once these bindings were told.
+fn moved_behind(alloc: Global, name: &ViewName, binds: &[Bind]) -> Result<Option<Moved>, Memory>
+    ensures moved { IfOk result (λ moved. (cursors : TheCursors) → settled moved cursors ≡ behind cursors name.now binds.now) }
+{
+    let Some(last) = binds.last() else {
+        return Ok(None);
+    };
+    let place = Place {
+        fpr: last.fpr,
+        uid: UserId::new(alloc, last.uid.octets())?,
+    };
+    let cursor = name.duplicate(alloc)?;
+    Ok(Some(Moved { cursor, place }))
+}
