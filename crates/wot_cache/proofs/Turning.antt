@@ -209,7 +209,6 @@ pub other_there : (o : Option ℕ) (t : ℕ) → option_eq ◌==◌ o (Some t) �
 other_there None t h e = cc e
 other_there (Some x) t h e = not_from_Decides (x == t) (Decides-eqb x t) h (same_Some x t e)
 
-
 -- the time of an open view is what it was
 pub time_kept : (views : Views) (name : List ℕ) (t : ℕ) → option_map (λ (v : View). v.time) (view_at views name) ≡ Some t → with_time views name t ≡ views
 time_kept views name t h = by (view_at views name) refl h

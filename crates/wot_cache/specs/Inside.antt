@@ -25,7 +25,8 @@ network_at networks name = lookup (is_name name) networks
 abbrev pub AreOfOpen : Views → Networks → Type 0
 AreOfOpen views networks = (name : List ℕ) → view_at views name ≡ None → network_at networks name ≡ None
 
-pub record IsEngine (k : Keyring) (views : Views) (networks : Networks) (answers : AllAnswers) (turns : Turns) : Type 0 where
+pub record IsEngine (k : Keyring) (views : Views) (networks : Networks) (answers : AllAnswers) (turns : Turns)
+    : Type 0 where
   pub small : AreSmall k.limits
   pub within : IsWithin k.limits views
   pub fit : AllFit networks k

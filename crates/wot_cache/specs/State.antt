@@ -52,7 +52,7 @@ closing view s = record s { views = without_view s.views view }
 abbrev pub ViewMarks : Type 0
 ViewMarks = List (List ℕ × Marks)
 
--- what an engine is seen as: its keyring, its views, the marks of each view of which something was asked, and the turns of views
+-- what an engine is seen as: its keyring, its views, the marks of each view of which something was asked, and turns
 pub record Engine : Type 0 where
   pub keyring : Keyring
   pub views : Views

@@ -24,7 +24,8 @@ with_turn each name turn (Some old) = set_value (is_name name) each turn
 
 -- one turn more, which is this view's
 abbrev pub turned : List ℕ → Turns → Turns
-turned name turns = record { count = turns.count + 1; each = with_turn turns.each name (turns.count + 1) (turn_at turns name) }
+turned name turns =
+    record { count = turns.count + 1; each = with_turn turns.each name (turns.count + 1) (turn_at turns name) }
 
 -- without the turn of a view; none was taken back
 abbrev pub without_turn : List ℕ → Turns → Turns
@@ -33,7 +34,8 @@ without_turn name turns = record turns { each = remove_entry (is_name name) turn
 -- The view of this name is as it was, and so are the turns; or it isn't as it was, and these are the turns.
 abbrev pub AreTurnsBy : Turns → List ℕ → Views → Turns → Views → Turns → Type 0
 AreTurnsBy altered name old before new after =
-    ((view_at new name ≡ view_at old name) × (after ≡ before)) ⊎ ((view_at new name ≢ view_at old name) × (after ≡ altered))
+    ((view_at new name ≡ view_at old name) × (after ≡ before))
+    ⊎ ((view_at new name ≢ view_at old name) × (after ≡ altered))
 
 -- Where the view was opened, or its time or its roots are others, that is one turn, and the view's.
 abbrev pub IsOneTurn : List ℕ → Views → Turns → Views → Turns → Type 0

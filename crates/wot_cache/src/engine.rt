@@ -1,5 +1,5 @@
-ghost use Rattle.std.specs.Prelude.{◌≡◌, ◌<◌, ◌≤◌, ◌+◌, ◌-◌, ◌^◌, ◌++◌, ℕ, List, [], length, IfOk, IfSome, IsSomeAnd, Some, None, Err, false, true, ◌≢◌, is_ok, is_some};
-ghost use Rattle.std.specs.Prelude.{OnOk, OnErr};
+ghost use Rattle.std.specs.Prelude.{◌≡◌, ◌≢◌, ◌<◌, ◌≤◌, ◌+◌, ◌-◌, ◌^◌, ◌++◌, ℕ, List, [], length, false, true};
+ghost use Rattle.std.specs.Prelude.{Some, None, Err, is_ok, is_some, IfOk, IfSome, IsSomeAnd, OnOk, OnErr};
 ghost use Rattle.std.specs.Option.{option_copied, option_map};
 ghost use Rattle.wot_policy.specs.Kept.{IsFaithful, rows_of, asked_more};
 ghost use Rattle.wot_keyring.specs.Keyring.{verdict_on};
@@ -66,7 +66,8 @@ impl Model for Engine {
 
     ghost view = { λ a. shown a.networked.keyring a.networked.views.entries a.networked.networks.entries a.turns };
 
-    ghost invariant = { λ a. IsEngine a.networked.keyring a.networked.views.entries a.networked.networks.entries a.answers.entries a.turns };
+    ghost invariant = { λ a. IsEngine a.networked.keyring a.networked.views.entries a.networked.networks.entries
+        a.answers.entries a.turns };
 }
 
 impl Engine {
@@ -260,7 +261,8 @@ impl Engine {
     fn has_root(&self, view: &ViewName, fpr: &Fpr, amount: u8) -> bool
         requires allowed { root_fault self.now.keyring.limits (view_at self.now.views view.now) fpr.now amount ≡ None }
         ensures same { result ≡ true → with_root self.now.views view.now fpr.now amount ≡ self.now.views }
-        ensures other { result ≡ false → IfSome (view_at self.now.views view.now) (λ v. root_amount v.roots fpr.now ≢ amount) }
+        ensures other { result ≡ false →
+            IfSome (view_at self.now.views view.now) (λ v. root_amount v.roots fpr.now ≢ amount) }
     {
         match views::find(&self.networked.views, view) {
             Some(open) => {
@@ -295,7 +297,8 @@ impl Engine {
     /// Closes a view and forgets its roots. Takes no memory. The count of turns stays.
     pub fn view_close(&mut self, view: &ViewName) -> Result<(), NoView>
         ensures closed { OnOk result (self.new.views ≡ without_view self.old.views view.now) }
-        ensures turned { OnOk result (IsOneClosing view.now self.old.views self.old.turns self.new.views self.new.turns) }
+        ensures turned { OnOk result
+            (IsOneClosing view.now self.old.views self.old.turns self.new.views self.new.turns) }
         ensures absent { is_ok result ≡ is_some (view_at self.old.views view.now) }
         ensures kept { OnErr result (self.new ≡ self.old) }
         ensures keyring { self.new.keyring ≡ self.old.keyring }

@@ -66,7 +66,8 @@ impl Turns {
     /// Takes the turn back with which a view began.
     pub fn take_back(&mut self, view: &ViewName)
         requires some { 0 < self.old.count }
-        ensures back { (before : TheTurns) → turn_at before view.now ≡ None → self.old ≡ turned view.now before → self.new ≡ before }
+        ensures back { (before : TheTurns) → turn_at before view.now ≡ None → self.old ≡ turned view.now before →
+            self.new ≡ before }
     {
         let _ = self.each.remove(view);
         self.count -= 1;

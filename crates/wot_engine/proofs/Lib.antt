@@ -2,6 +2,7 @@ mod CutLines
 mod Known
 mod Wholes
 mod Paced
+pub mod Pieces
 mod Stays
 mod Named
 mod Marked

@@ -15,6 +15,7 @@ use Rattle.wot_script.specs.Grammar.{command_of}
 use Rattle.wot_engine.specs.Lines.{is_silent, longest}
 use Rattle.wot_cursor.specs.Cursors.{Cursor, Cursors, cursor_at}
 use Rattle.wot_engine.specs.Made.{LineMakes, Makes, PieceMakes, heard}
+use Rattle.wot_engine.specs.Pacing.{is_pacing}
 
 pub same_state : (old new : Engine) → StaysButMarks old new → state_of new ≡ state_of old
 same_state old new s = λ i. record { held = held_of (s.keyring i); views = s.views i }
@@ -104,6 +105,37 @@ module _ {A B T E : Type 0} (r : Result A B) (s : Result T E) (less : is_ok s �
   line_makes_as (Some (CursorOver cursor view wanted)) cursors old new before after m = makes_as (CursorOver cursor view wanted) old new before after m
   line_makes_as (Some (CursorClose cursor)) cursors old new before after m = makes_as (CursorClose cursor) old new before after m
   line_makes_as (Some (CursorNext cursor count)) cursors old new before after m = piece_makes_as (cursor_at cursors cursor) old new before after m
+
+-- ---- a command that isn't of a cursor
+
+plain_makes : {T E : Type 0} (r : Result T E) (command : Command) (cursors : Cursors) (old new : Engine) (before after : ℕ) → is_pacing command ≡ false
+    → Makes r command old new before after → LineMakes r (Some command) cursors old new before after
+plain_makes r (Import octets) cursors old new before after plain m = m
+plain_makes r (Load name) cursors old new before after plain m = m
+plain_makes r (Remove fpr) cursors old new before after plain m = m
+plain_makes r (Good number fpr) cursors old new before after plain m = m
+plain_makes r (Bad number) cursors old new before after plain m = m
+plain_makes r (Unjudge number) cursors old new before after plain m = m
+plain_makes r (Time view t) cursors old new before after plain m = m
+plain_makes r (Root view fpr amount) cursors old new before after plain m = m
+plain_makes r (Close view) cursors old new before after plain m = m
+plain_makes r (Ask view target wanted uid) cursors old new before after plain m = m
+plain_makes r (Command.List view wanted) cursors old new before after plain m = m
+plain_makes r (Explain view fpr uid) cursors old new before after plain m = m
+plain_makes r (Absence view target wanted uid) cursors old new before after plain m = m
+plain_makes r (Check view target claims labels uid) cursors old new before after plain m = m
+plain_makes r Pending cursors old new before after plain m = m
+plain_makes r Keys cursors old new before after plain m = m
+plain_makes r (Export fpr) cursors old new before after plain m = m
+plain_makes r Dump cursors old new before after plain m = m
+plain_makes r (CursorOver cursor view wanted) cursors old new before after plain m = absurd (cc plain)
+plain_makes r (CursorNext cursor count) cursors old new before after plain m = absurd (cc plain)
+plain_makes r (CursorClose cursor) cursors old new before after plain m = absurd (cc plain)
+
+pub line_makes_plain : {A B T E : Type 0} (r : Result A B) (s : Result T E) (command : Command) (cursors : Cursors) (old new : Engine) (before after : ℕ) → is_ok s ≡ is_ok r
+    → is_pacing command ≡ false → Makes r command old new before after → LineMakes s (Some command) cursors old new before after
+line_makes_plain r s command cursors old new before after ok plain m =
+    line_makes_as r s (λ done. sym ok ∙ done) (Some command) cursors old new before after (plain_makes r command cursors old new before after plain m)
 
 -- where the view isn't open nothing is made, whatever is answered
 pub refreshed_unopened : {A B T E : Type 0} (r : Result A B) (s : Result T E) (name : List ℕ) (old new : Engine) (before after : ℕ)

@@ -253,23 +253,29 @@ module _
       where
         by : (b : Bool) → is_pacing command ≡ b → IsSome Reply Whole (Obeys rows old command given)
         by true e =
-            let there = paces_some lawful_state list_some list_one old command e in
-            (there.0, record old { cursors = there.1 }, record {
-              does = state_paced rows old.state command given there.0 e;
-              counted = inl (refl, refl);
-              turned = turns_paced command old.state.views old.state.views old.turns old.turns e refl;
-              paces = there.2;
-            })
+            let there = paces_some lawful_state list_some list_one old command e in (
+              there.0,
+              record old { cursors = there.1 },
+              record {
+                does = state_paced rows old.state command given there.0 e;
+                counted = inl (refl, refl);
+                turned = turns_paced command old.state.views old.state.views old.turns old.turns e refl;
+                paces = there.2;
+              },
+            )
         by false e =
             let there = Does-some old.state command given h e in
             let count = counted_some old there.1.held in
-            let turns = turned_some command old.state.views there.1.views old.turns in
-            (there.0, record { state = there.1; changes = count.0; turns = turns.0; cursors = old.cursors }, record {
-              does = there.2;
-              counted = count.1;
-              turned = turns.1;
-              paces = paces_plain old command there.0 e;
-            })
+            let turns = turned_some command old.state.views there.1.views old.turns in (
+              there.0,
+              record { state = there.1; changes = count.0; turns = turns.0; cursors = old.cursors },
+              record {
+                does = there.2;
+                counted = count.1;
+                turned = turns.1;
+                paces = paces_plain old command there.0 e;
+              },
+            )
 
     Answers-one : (old : Whole) (command : Option Command) (given : Answer) → IsState old.state → IsOne Reply Whole (Answers rows old command given)
     Answers-one old None given p = Stays-one old replies.Line

@@ -201,9 +201,9 @@ module _
     gives_some : (name : List ℕ) (count : ℕ) (cursor : Cursor) (view : View) → IsSomeOf (GivesPiece s name count cursor view)
     gives_some name count cursor view =
         if_some (cursor.wanted == 0) (Leaves (piece []) s.cursors) _ (leaves_some (piece []) s.cursors) (λ some.
-          let other = eqb-false cursor.wanted 0 some in
-          let all = list_some (record_of s.state.held.certs s.state.held.verdicts view.time) view.roots cursor.wanted (pairs_in s.state.held.certs) (omega (arith, other)) in
-          (piece (piece_of cursor.place count all.0), behind s.cursors name (piece_of cursor.place count all.0), (all.0, all.1, (refl, refl))))
+        let other = eqb-false cursor.wanted 0 some in
+        let all = list_some (record_of s.state.held.certs s.state.held.verdicts view.time) view.roots cursor.wanted (pairs_in s.state.held.certs) (omega (arith, other)) in
+        (piece (piece_of cursor.place count all.0), behind s.cursors name (piece_of cursor.place count all.0), (all.0, all.1, (refl, refl))))
 
     by_one : (age : Age) (name : List ℕ) (count : ℕ) (cursor : Cursor) (view : View) → IsState s.state → IsOneOf (GoesBy age s name count cursor view)
     by_one ages.Same name count cursor view can = gives_one name count cursor view can

@@ -86,7 +86,7 @@ module _ (rows : PolicyRows) (origin : Option World) (world : World) where
   nil-both (x ∷ xs) ys e = absurd cc
 
   -- more octets were taken, and are held
-  pub took_on : (input before held : List ℕ) (taken : ℕ) (left written : Option (List ℕ)) (shelf : Option World) (state : State) (left' : Option (List ℕ)) (taken' : ℕ) → Stands input before held taken left written shelf state → (t : Took left taken left' taken')
+  pub took_on : (input before held : List ℕ) (taken : ℕ) (left written : Option (List ℕ)) (shelf : Option World) (state : Whole) (left' : Option (List ℕ)) (taken' : ℕ) → Stands input before held taken left written shelf state → (t : Took left taken left' taken')
       → Stands input before (held ++ t.gone) taken' left' written shelf state
   took_on input before held taken left written shelf state left' taken' s t =
       let l : LosesOf s.rest left' t.gone = subst (λ (o : Option (List ℕ)). Loses o left' t.gone) s.left_is t.loses in
@@ -188,7 +188,7 @@ module _ (rows : PolicyRows) (origin : Option World) (world : World) where
   take-prefix lines done more e = ap (take (length done)) e ∙ take_at done more (length done) refl
 
   -- the lines given are answered, and each reply is whole
-  pub at_first : (input before held : List ℕ) (taken : ℕ) (left written : Option (List ℕ)) (shelf : Option World) (state : State) → Stands input before held taken left written shelf state → AnsweredFirst rows world (lines_of input) before written
+  pub at_first : (input before held : List ℕ) (taken : ℕ) (left written : Option (List ℕ)) (shelf : Option World) (state : Whole) → Stands input before held taken left written shelf state → AnsweredFirst rows world (lines_of input) before written
   at_first input before held taken left written shelf state s =
       let m = begins input before held taken left written shelf state s in
       record {

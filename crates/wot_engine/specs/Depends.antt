@@ -60,5 +60,6 @@ AreRepliesAlike rows one other line =
 -- whatever histories lead to two states that are alike from a view, each question from it has the same reply in both.
 abbrev pub DependsOnWhatIsPresent : PolicyRows → Type 0
 DependsOnWhatIsPresent rows =
-    (name : List ℕ) (one other : Whole) → IsReached rows one → IsReached rows other → AreAlike name one.state other.state
+    (name : List ℕ) (one other : Whole) → IsReached rows one → IsReached rows other
+    → AreAlike name one.state other.state
     → (line : List ℕ) → IsAsk name line → AreRepliesAlike rows one other line

@@ -29,7 +29,8 @@ abbrev pub dumped : State → List (List ℕ)
 dumped s = inputs.lines_of (lines_of (commands_of s))
 
 -- The lines of a dump of this state, answered from the start on, lead to a state with all that a dump carries over, its
--- signatures judged by the rows, and to no cursor. Each line has a reply, and none is a refusal. The shelf may be any, and no line reads it.
+-- signatures judged by the rows, and to no cursor. Each line has a reply, and none is a refusal. The shelf may be any,
+-- and no line reads it.
 pub record IsMadeAnew (rows : PolicyRows) (s : State) : Type 0 where
   pub replies : List Reply
   pub new : Whole

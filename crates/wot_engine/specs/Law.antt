@@ -9,11 +9,13 @@ use Rattle.wot_cache.specs.State.{IsState}
 use Rattle.wot_engine.specs.LineStep.{LineStep}
 use Rattle.wot_engine.specs.Whole.{Whole}
 
--- Whatever the shelf gives, each line has a reply or none, and leads somewhere; from a state that can be, only one of each;
+-- Whatever the shelf gives, each line has a reply or none, and leads somewhere; from a state that can be, one of each;
 -- and what comes after such a state can be.
 pub record OneOutcome (rows : PolicyRows) : Type 0 where
-  pub some : (old : Whole) (line : List ℕ) (given : Answer) → (reply : Option Reply) × (new : Whole) × LineStep rows old line given reply new
-  pub one : (old : Whole) (line : List ℕ) (given : Answer) (reply other : Option Reply) (new third : Whole) → IsState old.state
+  pub some : (old : Whole) (line : List ℕ) (given : Answer)
+      → (reply : Option Reply) × (new : Whole) × LineStep rows old line given reply new
+  pub one : (old : Whole) (line : List ℕ) (given : Answer) (reply other : Option Reply) (new third : Whole)
+      → IsState old.state
       → LineStep rows old line given reply new → LineStep rows old line given other third → (reply ≡ other) × (new ≡ third)
   pub stays : (old : Whole) (line : List ℕ) (given : Answer) (reply : Option Reply) (new : Whole) → IsState old.state
       → LineStep rows old line given reply new → IsState new.state
@@ -26,5 +28,6 @@ is_refused reply = is_refusal reply
 -- A line that is refused leaves all that is kept: certificates, verdicts and views, counts, and cursors.
 abbrev pub RefusalsLeaveAll : PolicyRows → Type 0
 RefusalsLeaveAll rows =
-    (old : Whole) (line : List ℕ) (given : Answer) (reply : Reply) (new : Whole) → LineStep rows old line given (Some reply) new
+    (old : Whole) (line : List ℕ) (given : Answer) (reply : Reply) (new : Whole)
+    → LineStep rows old line given (Some reply) new
     → is_refused reply ≡ true → new ≡ old

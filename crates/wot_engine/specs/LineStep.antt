@@ -3,7 +3,10 @@ use Rattle.std.specs.Prelude.{◌≡◌, ℕ, nat_lt, List, length, Option, Some
 use Rattle.wot_policy.specs.declared.rows.PolicyRows.{PolicyRows}
 use Rattle.wot_verdict.specs.declared.verdict.Verdict.TheVariants as verdicts
 use Rattle.wot_script.specs.declared.command.Command.{Command}
-use Rattle.wot_script.specs.declared.command.Command.TheVariants.{Import, Load, Remove, Good, Bad, Unjudge, Time, Root, Close, Ask, Explain, Pending, Keys, Export, Dump, Absence, Check, CursorOver, CursorNext, CursorClose}
+use Rattle.wot_script.specs.declared.command.Command.TheVariants.{Import, Load, Remove, Good, Bad, Unjudge}
+use Rattle.wot_script.specs.declared.command.Command.TheVariants.{Time, Root, Close, Ask, Explain, Absence, Check}
+use Rattle.wot_script.specs.declared.command.Command.TheVariants.{Pending, Keys, Export, Dump}
+use Rattle.wot_script.specs.declared.command.Command.TheVariants.{CursorOver, CursorNext, CursorClose}
 use Rattle.wot_script.specs.declared.reply.Reply.{Reply}
 use Rattle.wot_script.specs.declared.reply.Reply.TheVariants as replies
 use Rattle.wot_script.specs.Grammar.{command_of}
@@ -11,7 +14,8 @@ use Rattle.wot_certd.specs.World.{Answer}
 use Rattle.wot_cache.specs.State.{State}
 use Rattle.wot_cache.specs.Views.{view_at}
 use Rattle.wot_engine.specs.Lines.{longest, is_silent}
-use Rattle.wot_engine.specs.Outcome.{Outcome, import, load, remove, set_verdict, clear_verdict, time, root, close, keys, export, dump}
+use Rattle.wot_engine.specs.Outcome.{Outcome, import, load, remove, set_verdict, clear_verdict, time, root, close}
+use Rattle.wot_engine.specs.Outcome.{keys, export, dump}
 use Rattle.wot_engine.specs.Answer.{Asks}
 use Rattle.wot_engine.specs.Absent.{Checks, Misses}
 use Rattle.wot_engine.specs.Listing.{Lists, explain, pending}
@@ -22,8 +26,8 @@ use Rattle.wot_engine.specs.Whole.{IsCounted, IsTurnedBy, Whole}
 abbrev pub Gives : Outcome → Reply → State → Type 0
 Gives outcome reply new = (reply ≡ outcome.reply) × (new ≡ outcome.state)
 
--- What a command does to the state: from old to new, with this reply. What the shelf gives in this line matters for `load`
--- alone. The commands of cursors leave the state, and have their replies by `Paces`.
+-- What a command does to the state: from old to new, with this reply. What the shelf gives in this line matters for
+-- `load` alone. The commands of cursors leave the state, and have their replies by `Paces`.
 abbrev pub Does : PolicyRows → State → Command → Answer → Reply → State → Type 0
 Does rows old (Import octets) given reply new = Gives (import rows old octets) reply new
 Does rows old (Load name) given reply new = Gives (load rows old name given) reply new
@@ -49,7 +53,8 @@ Does rows old (CursorNext name count) given reply new = new ≡ old
 Does rows old (CursorClose name) given reply new = new ≡ old
 
 -- The same with all that is kept: what is counted, and the cursors.
-pub record Obeys (rows : PolicyRows) (old : Whole) (command : Command) (given : Answer) (reply : Reply) (new : Whole) : Type 0 where
+pub record Obeys (rows : PolicyRows) (old : Whole) (command : Command) (given : Answer) (reply : Reply) (new : Whole)
+    : Type 0 where
   pub does : Does rows old.state command given reply new.state
   pub counted : IsCounted old new
   pub turned : IsTurnedBy command old.state.views old.turns new.state.views new.turns

@@ -1,6 +1,6 @@
 -- What a machine is seen as.
-use Rattle.std.specs.Prelude.{ℕ}
-use Rattle.wot_cache.specs.State.{Engine}
+use Rattle.std.specs.Prelude.{◌≡◌, ℕ}
+use Rattle.wot_cache.specs.State.{Engine, StaysButMarks}
 use Rattle.wot_cursor.specs.Cursors.{Cursors}
 use Rattle.wot_engine.specs.Whole.{Whole, whole_of}
 
@@ -13,3 +13,7 @@ pub record Machine : Type 0 where
 -- all that it keeps
 abbrev pub kept : Machine → Whole
 kept m = whole_of m.engine m.cursors
+
+-- All that it keeps is as it was, but for marks.
+abbrev pub StaysKept : Machine → Machine → Type 0
+StaysKept old new = StaysButMarks old.engine new.engine × (new.cursors ≡ old.cursors)

@@ -28,12 +28,14 @@ Makes result _ old new before after = MakesNothing old new before after
 -- A cursor's next piece makes edges as a question from its view does; or none, as where it isn't given.
 abbrev pub PieceMakes : {T E : Type 0} → Result T E → Option Cursor → Engine → Engine → ℕ → ℕ → Type 0
 PieceMakes result None old new before after = MakesNothing old new before after
-PieceMakes result (Some cursor) old new before after = IsRefreshed result cursor.view old new before after ⊎ MakesNothing old new before after
+PieceMakes result (Some cursor) old new before after =
+    IsRefreshed result cursor.view old new before after ⊎ MakesNothing old new before after
 
 -- the same of a line that is read as a command, or as none, with these cursors
 abbrev pub LineMakes : {T E : Type 0} → Result T E → Option Command → Cursors → Engine → Engine → ℕ → ℕ → Type 0
 LineMakes result None cursors old new before after = MakesNothing old new before after
-LineMakes result (Some (CursorNext name count)) cursors old new before after = PieceMakes result (cursor_at cursors name) old new before after
+LineMakes result (Some (CursorNext name count)) cursors old new before after =
+    PieceMakes result (cursor_at cursors name) old new before after
 LineMakes result (Some command) cursors old new before after = Makes result command old new before after
 
 -- the command of a line that is neither too long nor silent

@@ -16,7 +16,8 @@ pub record Seen : Type 0 where
   pub world : Option World
   pub faults : ℕ
 
--- The shelf gave this where that entry was read, and by it this is so. A fault was given only where the count of faults rose.
+-- The shelf gave this where that entry was read, and by it this is so. A fault was given only where the count of faults
+-- rose.
 pub record IsBy (P : Answer → Type 0) (entry : Option Name) (before after : Seen) : Type 0 where
   pub given : Answer
   pub answers : P given
@@ -26,8 +27,10 @@ pub record IsBy (P : Answer → Type 0) (entry : Option Name) (before after : Se
 
 -- By what the shelf gave the command has this reply, or the line that isn't read as one.
 abbrev pub Ran : PolicyRows → Option Command → Whole → Seen → Reply → Whole → Seen → Type 0
-Ran rows command old before reply new after = IsBy (λ given. Answers rows old command given reply new) (entry_for command) before after
+Ran rows command old before reply new after =
+    IsBy (λ given. Answers rows old command given reply new) (entry_for command) before after
 
 -- the same of the state alone
 abbrev pub Did : PolicyRows → Command → State → Seen → Reply → State → Seen → Type 0
-Did rows command old before reply new after = IsBy (λ given. Does rows old command given reply new) (entry_for (Some command)) before after
+Did rows command old before reply new after =
+    IsBy (λ given. Does rows old command given reply new) (entry_for (Some command)) before after

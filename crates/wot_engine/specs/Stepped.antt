@@ -11,7 +11,8 @@ use Rattle.wot_engine.specs.Ran.{Seen}
 use Rattle.wot_engine.specs.Transcript.{listed, octets_of}
 
 -- The shelf gave this, and by it the line had this reply, or none. A fault was given only where the count of faults rose.
-pub record Replied (rows : PolicyRows) (line : List ℕ) (old : Whole) (before : Seen) (reply : Option Reply) (new : Whole) (after : Seen) : Type 0 where
+pub record Replied (rows : PolicyRows) (line : List ℕ) (old : Whole) (before : Seen) (reply : Option Reply)
+    (new : Whole) (after : Seen) : Type 0 where
   pub given : Answer
   pub step : LineStep rows old line given reply new
   pub asked : WasGiven (entry_in line) before.world given
@@ -20,7 +21,8 @@ pub record Replied (rows : PolicyRows) (line : List ℕ) (old : Whole) (before :
 
 -- The shelf gave this, by it the line had its step, and the octets of the reply are behind those that were there. A fault was
 -- given only where the count of faults rose.
-pub record Stepped (rows : PolicyRows) (line : List ℕ) (old : Whole) (before : Seen) (had : List ℕ) (new : Whole) (after : Seen) (has : List ℕ) : Type 0 where
+pub record Stepped (rows : PolicyRows) (line : List ℕ) (old : Whole) (before : Seen) (had : List ℕ) (new : Whole)
+    (after : Seen) (has : List ℕ) : Type 0 where
   pub given : Answer
   pub reply : Option Reply
   pub step : LineStep rows old line given reply new

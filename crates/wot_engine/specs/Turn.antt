@@ -25,7 +25,8 @@ IsReply rows Long text old given reply new = (line : List ℕ) → longest < len
 IsReply rows End text old given reply new = ⊥
 
 -- These are the octets of the reply to the line that was given, and the shelf tells these worlds before and after it.
-pub record Replies (rows : PolicyRows) (line : Line) (text : List ℕ) (old : Whole) (before : Option World) (octets : List ℕ) (new : Whole) (after : Option World) : Type 0 where
+pub record Replies (rows : PolicyRows) (line : Line) (text : List ℕ) (old : Whole) (before : Option World)
+    (octets : List ℕ) (new : Whole) (after : Option World) : Type 0 where
   pub given : Answer
   pub reply : Option Reply
   pub does : IsReply rows line text old given reply new
@@ -34,7 +35,8 @@ pub record Replies (rows : PolicyRows) (line : Line) (text : List ℕ) (old : Wh
   pub octets_are : octets ≡ octets_of (listed reply)
 
 -- The octets of the reply are behind those that were held before.
-pub record RepliesBehind (rows : PolicyRows) (line : Line) (text : List ℕ) (old : Whole) (before : Option World) (had : List ℕ) (new : Whole) (after : Option World) (has : List ℕ) : Type 0 where
+pub record RepliesBehind (rows : PolicyRows) (line : Line) (text : List ℕ) (old : Whole) (before : Option World)
+    (had : List ℕ) (new : Whole) (after : Option World) (has : List ℕ) : Type 0 where
   pub octets : List ℕ
   pub replies : Replies rows line text old before octets new after
   pub behind : has ≡ had ++ octets

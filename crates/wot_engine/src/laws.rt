@@ -27,10 +27,12 @@ use wot_script::laws::lines_spell_commands;
 pub fn each_line_has_one_outcome()
     ensures some { (rows : PolicyRows) (old : Whole) (line : List ℕ) (given : Answer)
         → (reply : Option Reply) × (new : Whole) × LineStep rows old line given reply new }
-    ensures one { (rows : PolicyRows) (old : Whole) (line : List ℕ) (given : Answer) (reply other : Option Reply) (new third : Whole)
+    ensures one { (rows : PolicyRows) (old : Whole) (line : List ℕ) (given : Answer) (reply other : Option Reply)
+        (new third : Whole)
         → IsState old.state → LineStep rows old line given reply new → LineStep rows old line given other third
         → (reply ≡ other) × (new ≡ third) }
-    ensures stays { (rows : PolicyRows) (old : Whole) (line : List ℕ) (given : Answer) (reply : Option Reply) (new : Whole)
+    ensures stays { (rows : PolicyRows) (old : Whole) (line : List ℕ) (given : Answer) (reply : Option Reply)
+        (new : Whole)
         → IsState old.state → LineStep rows old line given reply new → IsState new.state }
 {
     answer_is_one();
@@ -41,7 +43,7 @@ pub fn each_line_has_one_outcome()
     lines_spell_commands();
 }
 
-/// A line that is refused, or in which the shelf failed, leaves certificates, verdicts, views, counts and cursors as they
+/// A line that is refused, or in which the shelf failed, leaves certificates, verdicts, views, counts, cursors as they
 /// were.
 pub fn refused_lines_leave_the_state()
     ensures { (rows : PolicyRows) → RefusalsLeaveAll rows }

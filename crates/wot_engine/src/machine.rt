@@ -1,4 +1,5 @@
-ghost use Rattle.std.specs.Prelude.{◌≡◌, ◌≤◌, ◌<◌, ◌+◌, ◌-◌, ◌^◌, [], ◌++◌, Some, None, length, vec_len, vec_capacity, false, true, IfOk, IfSome, IsOk, OnOk, OnErr};
+ghost use Rattle.std.specs.Prelude.{◌≡◌, ◌≤◌, ◌<◌, ◌+◌, ◌-◌, ◌^◌, [], ◌++◌, length, vec_len, vec_capacity};
+ghost use Rattle.std.specs.Prelude.{Some, None, false, true, IfOk, IfSome, IsOk, OnOk, OnErr};
 ghost use Rattle.wot_types.specs.Limits.{standard_limits};
 ghost use Rattle.wot_policy.specs.declared.rows.PolicyRows.{PolicyRows};
 ghost use Rattle.wot_policy.specs.Kept.{IsFaithful, rows_of};
@@ -14,7 +15,7 @@ ghost use Rattle.wot_engine.specs.Entry.{entry_for, entry_in};
 ghost use Rattle.wot_engine.specs.LineStep.{Does};
 ghost use Rattle.wot_engine.specs.Ran.{Ran, Did};
 ghost use Rattle.wot_engine.specs.Stepped.{Replied, Stepped};
-ghost use Rattle.wot_engine.specs.Machine.{kept};
+ghost use Rattle.wot_engine.specs.Machine.{kept, StaysKept};
 ghost use Rattle.wot_engine.specs.Pacing.{is_pacing, left_by, reply_in, settled};
 ghost use Rattle.wot_engine.specs.Fresh.{IsDump, OnDump, IsMadeAnew};
 ghost use Rattle.wot_engine.specs.Made.{heard, LineMakes, Makes};
@@ -47,8 +48,8 @@ const LONGEST: usize = 16_777_216;
 /// The room that a reply of one line needs at most.
 const ROOM: usize = 128;
 
-/// The machine between two lines: one engine, with the standard limits, over which the lines of all clients go, and their
-/// cursors.
+/// The machine between two lines: one engine, with the standard limits, over which the lines of all clients go, and
+/// their cursors.
 #[derive(Drop)]
 pub struct Machine {
     alloc: Global,
@@ -113,14 +114,14 @@ impl Machine {
         ensures later { D.faults shelf.old ≤ D.faults shelf.new }
         // The lines that the reply to `dump` holds make the state anew in a fresh machine, by whatever rows it judges.
         ensures anew { OnOk result (IsDump line.now → (rows : PolicyRows) → IsMadeAnew rows (state_of self.old.engine)) }
-        ensures kept { OnErr result (StaysButMarks self.old.engine self.new.engine × (self.new.cursors ≡ self.old.cursors)
-            × (out.new.items ≡ out.old.items)) }
+        ensures kept { OnErr result (StaysKept self.old self.new × (out.new.items ≡ out.old.items)) }
         ensures room { OnOk result (is_silent line.now ≡ false → vec_len out.old + 128 ≤ vec_capacity out.new) }
         // A line that leaves the state, as one that is silent or refused, or asks or lists, leaves stamps and counts
         // too.
         ensures unchanged { state_of self.new.engine ≡ state_of self.old.engine → StaysButMarks self.old.engine self.new.engine }
         // A question makes edges of what is stale for its view, and each other line makes none.
-        ensures makes { LineMakes result (heard line.now) self.old.cursors self.old.engine self.new.engine self.old.made self.new.made }
+        ensures makes { LineMakes result (heard line.now) self.old.cursors self.old.engine self.new.engine
+            self.old.made self.new.made }
         ensures counted { IsOneChange self.old.engine.keyring self.new.engine.keyring }
         ensures turned { self.new.engine.turns.count ≤ self.old.engine.turns.count + 1 }
         ensures judged { IsJudgedBy (rows_of policy.old) self.new.engine.keyring }
@@ -149,16 +150,18 @@ impl Machine {
         requires faithful { IsFaithful F.Fn policy.old }
         ensures replied { IfOk result (λ told. Replied (rows_of policy.old) line.now
             (kept self.old) (record { world = D.world shelf.old; faults = D.faults shelf.old }) (reply_in told)
-            (whole_of self.new.engine (left_by told self.new.cursors)) (record { world = D.world shelf.new; faults = D.faults shelf.new })) }
+            (whole_of self.new.engine (left_by told self.new.cursors))
+            (record { world = D.world shelf.new; faults = D.faults shelf.new })) }
         ensures untouched { entry_in line.now ≡ None → shelf.new ≡ shelf.old }
         ensures later { D.faults shelf.old ≤ D.faults shelf.new }
         ensures words { IfOk result (λ told. IfSome told (λ told. HasWords told.reply)) }
         ensures anew { OnOk result (IsDump line.now → (rows : PolicyRows) → IsMadeAnew rows (state_of self.old.engine)) }
-        ensures quiet { IfOk result (λ told. IfSome told (λ told. is_short told.reply ≡ false
-            → StaysButMarks self.old.engine self.new.engine × (self.new.cursors ≡ self.old.cursors))) }
-        ensures kept { OnErr result (StaysButMarks self.old.engine self.new.engine × (self.new.cursors ≡ self.old.cursors)) }
+        ensures quiet { IfOk result (λ told.
+            IfSome told (λ told. is_short told.reply ≡ false → StaysKept self.old self.new)) }
+        ensures kept { OnErr result (StaysKept self.old self.new) }
         ensures unchanged { state_of self.new.engine ≡ state_of self.old.engine → StaysButMarks self.old.engine self.new.engine }
-        ensures makes { LineMakes result (heard line.now) self.old.cursors self.old.engine self.new.engine self.old.made self.new.made }
+        ensures makes { LineMakes result (heard line.now) self.old.cursors self.old.engine self.new.engine
+            self.old.made self.new.made }
         ensures counted { IsOneChange self.old.engine.keyring self.new.engine.keyring }
         ensures turned { self.new.engine.turns.count ≤ self.old.engine.turns.count + 1 }
         ensures judged { IsJudgedBy (rows_of policy.old) self.new.engine.keyring }
@@ -238,14 +241,17 @@ fn answer<D: Shelf, F: Fn(Ask) -> bool>(
     requires faithful { IsFaithful F.Fn policy.old }
     ensures ran { IfOk result (λ told. Ran (rows_of policy.old) (command_of line.now)
         (whole_of engine.old cursors.old) (record { world = D.world shelf.old; faults = D.faults shelf.old }) told.reply
-        (whole_of engine.new (settled told.moved cursors.new)) (record { world = D.world shelf.new; faults = D.faults shelf.new })) }
+        (whole_of engine.new (settled told.moved cursors.new))
+        (record { world = D.world shelf.new; faults = D.faults shelf.new })) }
     ensures untouched { entry_for (command_of line.now) ≡ None → shelf.new ≡ shelf.old }
     ensures later { D.faults shelf.old ≤ D.faults shelf.new }
     ensures words { IfOk result (λ told. HasWords told.reply) }
     ensures anew { OnOk result (IsDump line.now → (rows : PolicyRows) → IsMadeAnew rows (state_of engine.old)) }
-    ensures quiet { IfOk result (λ told. is_short told.reply ≡ false → StaysButMarks engine.old engine.new × (cursors.new ≡ cursors.old)) }
+    ensures quiet { IfOk result (λ told. is_short told.reply ≡ false →
+        StaysButMarks engine.old engine.new × (cursors.new ≡ cursors.old)) }
     ensures kept { OnErr result (StaysButMarks engine.old engine.new × (cursors.new ≡ cursors.old)) }
-    ensures makes { LineMakes result (command_of line.now) cursors.old engine.old engine.new steps.old.made steps.new.made }
+    ensures makes { LineMakes result (command_of line.now) cursors.old engine.old engine.new
+        steps.old.made steps.new.made }
     ensures standard { engine.new.keyring.limits ≡ standard_limits }
     ensures counted { IsOneChange engine.old.keyring engine.new.keyring }
     ensures turned { engine.new.turns.count ≤ engine.old.turns.count + 1 }
@@ -280,13 +286,16 @@ fn act<D: Shelf, F: Fn(Ask) -> bool>(
     requires faithful { IsFaithful F.Fn policy.old }
     ensures ran { IfOk result (λ told. Ran (rows_of policy.old) (Some command.now)
         (whole_of engine.old cursors.old) (record { world = D.world shelf.old; faults = D.faults shelf.old }) told.reply
-        (whole_of engine.new (settled told.moved cursors.new)) (record { world = D.world shelf.new; faults = D.faults shelf.new })) }
+        (whole_of engine.new (settled told.moved cursors.new))
+        (record { world = D.world shelf.new; faults = D.faults shelf.new })) }
     ensures untouched { entry_for (Some command.now) ≡ None → shelf.new ≡ shelf.old }
     ensures later { D.faults shelf.old ≤ D.faults shelf.new }
     ensures anew { OnOk result (OnDump command.now ((rows : PolicyRows) → IsMadeAnew rows (state_of engine.old))) }
-    ensures quiet { IfOk result (λ told. is_short told.reply ≡ false → StaysButMarks engine.old engine.new × (cursors.new ≡ cursors.old)) }
+    ensures quiet { IfOk result (λ told. is_short told.reply ≡ false →
+        StaysButMarks engine.old engine.new × (cursors.new ≡ cursors.old)) }
     ensures kept { OnErr result (StaysButMarks engine.old engine.new × (cursors.new ≡ cursors.old)) }
-    ensures makes { LineMakes result (Some command.now) cursors.old engine.old engine.new steps.old.made steps.new.made }
+    ensures makes { LineMakes result (Some command.now) cursors.old engine.old engine.new
+        steps.old.made steps.new.made }
     ensures standard { engine.new.keyring.limits ≡ standard_limits }
     ensures counted { IsOneChange engine.old.keyring engine.new.keyring }
     ensures turned { engine.new.turns.count ≤ engine.old.turns.count + 1 }
@@ -333,7 +342,8 @@ fn obey<D: Shelf, F: Fn(Ask) -> bool>(
     ensures makes { Makes result command.now engine.old engine.new steps.old.made steps.new.made }
     ensures standard { engine.new.keyring.limits ≡ standard_limits }
     ensures counted { IsOneChange engine.old.keyring engine.new.keyring }
-    ensures turned { OnOk result (IsTurnedBy command.now engine.old.views engine.old.turns engine.new.views engine.new.turns) }
+    ensures turned { OnOk result
+        (IsTurnedBy command.now engine.old.views engine.old.turns engine.new.views engine.new.turns) }
     ensures judged { IsJudgedBy (rows_of policy.old) engine.new.keyring }
     ensures faithful { IsFaithful F.Fn policy.new }
     ensures rows { rows_of policy.new ≡ rows_of policy.old }
@@ -361,15 +371,16 @@ fn run<F: Fn(Ask) -> bool>(
     requires turnable { engine.old.turns.count < 2 ^ 64 - 1 }
     requires judged { IsJudgedBy (rows_of policy.old) engine.old.keyring }
     requires faithful { IsFaithful F.Fn policy.old }
-    ensures does { IfOk result (λ reply.
-        Does (rows_of policy.old) (state_of engine.old) command.now Answer.absent reply (state_of engine.new)) }
+    ensures does { IfOk result (λ told.
+        Does (rows_of policy.old) (state_of engine.old) command.now Answer.absent told (state_of engine.new)) }
     ensures anew { OnOk result (OnDump command.now ((rows : PolicyRows) → IsMadeAnew rows (state_of engine.old))) }
     ensures quiet { IfOk result (λ reply. is_short reply ≡ false → StaysButMarks engine.old engine.new) }
     ensures kept { OnErr result (StaysButMarks engine.old engine.new) }
     ensures makes { Makes result command.now engine.old engine.new steps.old.made steps.new.made }
     ensures standard { engine.new.keyring.limits ≡ standard_limits }
     ensures counted { IsOneChange engine.old.keyring engine.new.keyring }
-    ensures turned { OnOk result (IsTurnedBy command.now engine.old.views engine.old.turns engine.new.views engine.new.turns) }
+    ensures turned { OnOk result
+        (IsTurnedBy command.now engine.old.views engine.old.turns engine.new.views engine.new.turns) }
     ensures judged { IsJudgedBy (rows_of policy.old) engine.new.keyring }
     ensures faithful { IsFaithful F.Fn policy.new }
     ensures rows { rows_of policy.new ≡ rows_of policy.old }

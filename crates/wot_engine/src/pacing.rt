@@ -1,17 +1,11 @@
 //! `cursor C over V N`, `cursor C next K`, `cursor C close`.
-ghost use Rattle.std.specs.Prelude.{◌≡◌, ◌≢◌, ◌≤◌, ℕ, List, Some, None, true, length, IfOk, OnErr, is_some, IfSome};
-ghost use Rattle.wot_keyring.specs.Keyring.{certificates_in};
-ghost use Rattle.wot_network.specs.Net.{told_of};
-ghost use Rattle.wot_network.specs.Roads.{present_of};
+ghost use Rattle.std.specs.Prelude.{◌≡◌, ◌≤◌, Some, true, length, IfOk, OnErr, is_some};
+ghost use Rattle.wot_script.specs.declared.command.Command.TheVariants.{CursorOver, CursorNext, CursorClose};
 ghost use Rattle.wot_script.specs.Replies.{is_short};
-ghost use Rattle.wot_cache.specs.declared.view.View.{View as TheView};
-ghost use Rattle.wot_cache.specs.State.{state_of, StaysButMarks};
+ghost use Rattle.wot_cache.specs.State.{StaysButMarks};
 ghost use Rattle.wot_cache.specs.Views.{view_at};
-ghost use Rattle.wot_cursor.specs.Cursors.{Cursor as TheCursor, Cursors as TheCursors, cursor_at};
-ghost use Rattle.wot_explain.specs.declared.bind.Bind.{Bind as TheBind};
-ghost use Rattle.wot_explain.specs.Listing.{pairs_in};
-ghost use Rattle.wot_explain.specs.Piece.{IsThePiece};
-ghost use Rattle.wot_engine.specs.Pacing.{Begins, Ends, GivesPiece, Goes, behind, piece as piece_reply, settled};
+ghost use Rattle.wot_cursor.specs.Cursors.{Cursors as TheCursors, cursor_at};
+ghost use Rattle.wot_engine.specs.Pacing.{Gives, OnTold, Paces, TellsPiece, behind, settled};
 ghost use Rattle.wot_engine.specs.Made.{PieceMakes};
 ghost use Rattle.wot_engine.specs.Whole.{whole_of};
 
@@ -34,8 +28,8 @@ pub fn over(
     view: &ViewName,
     wanted: u32,
 ) -> Result<Told, Memory>
-    ensures begins { IfOk result (λ told. Begins (whole_of engine.now cursors.old) name.now view.now wanted
-        (view_at engine.now.views view.now) told.reply (settled told.moved cursors.new)) }
+    ensures begins { OnTold result cursors.new
+        (Paces (whole_of engine.now cursors.old) (CursorOver name.now view.now wanted)) }
     ensures short { IfOk result (λ told. is_short told.reply ≡ true) }
     ensures kept { OnErr result (cursors.new ≡ cursors.old) }
 {
@@ -57,7 +51,8 @@ pub fn over(
 
 /// `cursor C close`. Takes no memory.
 pub fn close(engine: &Engine, cursors: &mut Cursors, name: &ViewName) -> Told
-    ensures ends { Ends (whole_of engine.now cursors.old) name.now result.reply (settled result.moved cursors.new) }
+    ensures ends { Paces (whole_of engine.now cursors.old) (CursorClose name.now)
+        result.reply (settled result.moved cursors.new) }
     ensures short { is_short result.reply ≡ true }
 {
     let _changes = engine.keyring().changes();
@@ -77,10 +72,10 @@ pub fn next(
     name: &ViewName,
     count: u32,
 ) -> Result<Told, Memory>
-    ensures goes { IfOk result (λ told. Goes (cursor_at cursors.now name.now) (whole_of engine.old cursors.now) name.now count
-        told.reply (settled told.moved cursors.now)) }
+    ensures goes { OnTold result cursors.now (Paces (whole_of engine.old cursors.now) (CursorNext name.now count)) }
     ensures stays { StaysButMarks engine.old engine.new }
-    ensures makes { PieceMakes result (cursor_at cursors.now name.now) engine.old engine.new steps.old.made steps.new.made }
+    ensures makes { PieceMakes result (cursor_at cursors.now name.now) engine.old engine.new
+        steps.old.made steps.new.made }
 {
     let Some(cursor) = cursors.get(name) else {
         return Ok(alone(Reply::NoCursor));
@@ -109,8 +104,8 @@ fn give(
     count: u32,
 ) -> Result<Told, Memory>
     requires open { is_some (view_at engine.old.views cursor.now.view) ≡ true }
-    ensures gives { (cursors : TheCursors) → IfOk result (λ told. IfSome (view_at engine.old.views cursor.now.view) (λ view.
-        GivesPiece (whole_of engine.old cursors) name.now count cursor.now view told.reply (settled told.moved cursors))) }
+    ensures gives { (cursors : TheCursors) → OnTold result cursors
+        (Gives (whole_of engine.old cursors) name.now count cursor.now) }
     ensures stays { StaysButMarks engine.old engine.new }
     ensures makes { PieceMakes result (Some cursor.now) engine.old engine.new steps.old.made steps.new.made }
 {
@@ -136,15 +131,19 @@ fn piece(
 ) -> Result<Told, Memory>
     requires wanted { 1 ≤ cursor.now.wanted }
     requires few { length parts.now.roots.now ≤ 64 }
-    ensures piece { IfOk result (λ told. (binds : List TheBind)
-        × IsThePiece (told_of (present_of parts.now.roads)) parts.now.roots.now cursor.now.wanted
-        (pairs_in (certificates_in parts.now.keyring.now)) cursor.now.place count binds
-        × (told.reply ≡ piece_reply binds)
-        × ((cursors : TheCursors) → settled told.moved cursors ≡ behind cursors name.now binds)) }
+    ensures piece { IfOk result (λ told. TellsPiece parts.now name.now count cursor.now told) }
 {
     let wanted = cursor.wanted();
     let after = cursor.place();
-    let binds = list_after(alloc, parts.keyring, &parts.roads, parts.roots, wanted, after, count)?;
+    let binds = list_after(
+        alloc,
+        parts.keyring,
+        &parts.roads,
+        parts.roots,
+        wanted,
+        after,
+        count,
+    )?;
     let moved = moved_behind(alloc, name, &binds)?;
     let lines = bind_lines(alloc, binds)?;
     let reply = Reply::Piece(lines.items().len() as u64, lines);
@@ -153,7 +152,8 @@ fn piece(
 
 /// Where the cursor stands once these bindings were told.
 fn moved_behind(alloc: Global, name: &ViewName, binds: &[Bind]) -> Result<Option<Moved>, Memory>
-    ensures moved { IfOk result (λ moved. (cursors : TheCursors) → settled moved cursors ≡ behind cursors name.now binds.now) }
+    ensures moved { IfOk result (λ moved. (cursors : TheCursors) →
+        settled moved cursors ≡ behind cursors name.now binds.now) }
 {
     let Some(last) = binds.last() else {
         return Ok(None);

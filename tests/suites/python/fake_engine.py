@@ -54,8 +54,10 @@ REASON_WORDS = ("unsound unjudged bad foreign policy early expired revoked older
                 "issuer-young issuer-ended issuer-hard issuer-soft").split()
 REPLIES |= {f"explain v {A} {word}": [f"explain {word} 0"] for word in TARGET_WORDS}
 REPLIES |= {f"explain v {A} {word}": ["explain ok 1", f"cert {N} {word}"] for word in REASON_WORDS}
-PIECES = iter([["piece 2", f"bind 120 {A} Alice", f"bind 120 {B} Bob"], ["stale keyring 3 4"], ["piece 1", f"bind 60 {B} Bob"],
-               ["stale view 5 18446744073709551615"]])
+PIECES = iter([
+    ["piece 2", f"bind 120 {A} Alice", f"bind 120 {B} Bob"], ["stale keyring 3 4"], ["piece 1", f"bind 60 {B} Bob"],
+    ["stale view 5 18446744073709551615"],
+])
 REPLIES[f"explain v {A} edge"] = ["explain ok 1", f"cert {N} edge {B} 0 60"]
 
 
