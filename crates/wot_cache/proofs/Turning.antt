@@ -27,7 +27,7 @@ use Rattle.wot_cache.specs.declared.view.ViewFault.TheVariants.{Absent, Full}
 use Rattle.wot_cache.specs.Marks.{IsForgotten}
 use Rattle.wot_cache.specs.Turns.{AreTurnsBy, AreTurnsOf, Turns, turn_at, turned, with_turn, without_turn}
 use Rattle.wot_cache.specs.Views.{MovesTime, SetsAmount, Views, amount_fault, is_name, root_fault, rooted, timed, view_at, with_amount, with_root, with_time}
-use Rattle.wot_cache.proofs.Inside.{fpr_total}
+use Rattle.wot_types.specs.FprLaws.{fpr_total}
 
 -- ---- entries
 

@@ -7,7 +7,7 @@ use Rattle.wot_script.specs.declared.reply.Reply.{Reply}
 use Rattle.wot_script.specs.declared.reply.Reply.TheVariants as replies
 use Rattle.wot_edge.specs.Record.{Record}
 use Rattle.wot_keyring.specs.Keyring.{certificates_in}
-use Rattle.wot_network.specs.Net.{Present, told_of}
+use Rattle.wot_network.specs.Net.{told_of}
 use Rattle.wot_network.specs.Roads.{present_of}
 use Rattle.wot_cache.specs.declared.parts.Parts.{Parts}
 use Rattle.wot_cache.specs.declared.view.View.{View}
@@ -81,12 +81,12 @@ gives_nothing s name count cursor told none r m = by (view_at s.state.views curs
     by (Some view) = rw none (left s told (piece []) r m)
 
 -- what is given over the parts that are seen from a view is given from that view
-pub gives_piece : (engine : Engine) (cursors : Cursors) (name : List ℕ) (count : ℕ) (cursor : Cursor) (parts : Parts) {E : Type 0} (r : Result Told E)
+pub gives_piece : {E : Type 0} (r : Result Told E) (engine : Engine) (cursors : Cursors) (name : List ℕ) (count : ℕ) (cursor : Cursor) (parts : Parts)
     → (cursor.wanted == 0) ≡ false → IsSomeAnd (view_at engine.views cursor.view) (λ v. ArePartsOf engine.keyring v parts) → IsOfEachList HasList
     → IfOk r (λ told. TellsPiece parts name count cursor told)
     → OnTold r cursors (Gives (whole_of engine cursors) name count cursor)
-gives_piece engine cursors name count cursor parts (Err e) some are has gives = tt
-gives_piece engine cursors name count cursor parts (Ok told) some are has gives = by (view_at engine.views cursor.view) are
+gives_piece (Err e) engine cursors name count cursor parts some are has gives = tt
+gives_piece (Ok told) engine cursors name count cursor parts some are has gives = by (view_at engine.views cursor.view) are
   where
     by : (o : Option View) → IsSomeAnd o (λ v. ArePartsOf engine.keyring v parts)
         → IfSome o (λ view. GivesPiece (whole_of engine cursors) name count cursor view told.reply (settled told.moved cursors))
@@ -94,8 +94,11 @@ gives_piece engine cursors name count cursor parts (Ok told) some are has gives 
     by (Some view) are =
         let pairs = pairs_in (certificates_in engine.keyring) in
         let record_at : List ℕ → Record = told_of (present_from engine.keyring view) in
-        let the : IsThePiece record_at view.roots cursor.wanted pairs cursor.place count gives.0 =
-        subst (λ (P : Type 0). P) (λ i. IsThePiece (told_of (are.roads i)) (are.roots i) cursor.wanted (pairs_in (certificates_in (are.keyring i))) cursor.place count gives.0) gives.1 in
-        let all = has record_at view.roots cursor.wanted pairs (omega (arith, eqb-false cursor.wanted 0 some)) in
+        let here : IsThePiece (told_of (present_of parts.roads)) parts.roots.now cursor.wanted (pairs_in (certificates_in parts.keyring.now)) cursor.place count gives.0
+        ≡ IsThePiece record_at view.roots cursor.wanted pairs cursor.place count gives.0 =
+        λ i. IsThePiece (told_of (are.roads i)) (are.roots i) cursor.wanted (pairs_in (certificates_in (are.keyring i))) cursor.place count gives.0 in
+        let the : IsThePiece record_at view.roots cursor.wanted pairs cursor.place count gives.0 = subst (λ (P : Type 0). P) here gives.1 in
+        let other = eqb-false cursor.wanted 0 some in
+        let all = has record_at view.roots cursor.wanted pairs (omega (arith, other)) in
         let same : gives.0 ≡ piece_of cursor.place count all.0 = the all.0 all.1 in
         rw some (all.0, all.1, (gives.2 ∙ ap piece same, gives.3 cursors ∙ ap (λ (binds : List Bind). behind cursors name binds) same))

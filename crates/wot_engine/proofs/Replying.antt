@@ -7,7 +7,7 @@ use Rattle.wot_io.specs.declared.lines.Line.{Line}
 use Rattle.wot_policy.specs.declared.rows.PolicyRows.{PolicyRows}
 use Rattle.wot_keyring.specs.Kept.{IsJudgedBy}
 use Rattle.wot_certd.specs.World.{World}
-use Rattle.wot_cache.specs.Whole.{Engine, empty}
+use Rattle.wot_cache.specs.State.{Engine, empty}
 use Rattle.wot_cursor.specs.Cursors.{Cursors}
 use Rattle.wot_engine.specs.Machine.{Machine, kept}
 use Rattle.wot_engine.specs.Whole.{Whole, beginning, whole_of}

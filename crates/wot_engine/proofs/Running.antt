@@ -1,5 +1,5 @@
 -- Commands that were run, and the lines that hold them.
-use Rattle.std.proofs.Common.{◌≡◌, ℕ, List, ◌++◌, Option, Some, None, Result, Ok, Err, refl, sym, ap, subst, ◌∙◌, inl, true, false, []}
+use Rattle.std.proofs.Common.{◌≡◌, ℕ, List, ◌++◌, Option, Some, None, Result, Ok, Err, OnErr, refl, sym, ap, subst, ◌∙◌, inl, true, false, []}
 use Rattle.std.specs.Prelude.{IfOk, IfSome, OnOk, is_ok}
 use Rattle.std.proofs.lemmas.List.{append-nil}
 use Rattle.wot_types.specs.declared.name.Name.{Name}
@@ -100,6 +100,25 @@ ran_told (Err e) (Ok told) rows command old new before after cursors is ok plain
 ran_told (Ok reply) t rows command old new before after cursors is ok plain counted turned did =
     subst (λ (t : Result Told _). IfOk t (λ (told : Told). Ran rows (Some command) (whole_of old cursors) before told.reply (whole_of new (settled told.moved cursors)) after))
     (sym is) (ran_plain (Ok reply) rows command old new before after cursors plain counted turned did)
+
+-- what holds of a reply, and of its being there, holds of what is told by it
+pub told_as : {E : Type 0} (r : Result Reply E) (t : Result Told E) (P : Reply → Type 0) → IfOk r (λ reply. t ≡ Ok (record { reply = reply; moved = None })) → is_ok t ≡ is_ok r
+    → IfOk r P → IfOk t (λ (told : Told). P told.reply)
+told_as (Err e) (Err d) P is ok p = tt
+told_as (Err e) (Ok told) P is ok p = let never : true ≡ false = ok in absurd cc
+told_as (Ok reply) t P is ok p = subst (λ (t : Result Told _). IfOk t (λ (told : Told). P told.reply)) (sym is) p
+
+pub on_ok_told : {A B E F : Type 0} (r : Result A E) (t : Result B F) (P : Type 0) → is_ok t ≡ is_ok r → OnOk r P → OnOk t P
+on_ok_told (Ok a) (Ok b) P ok p = p
+on_ok_told (Err e) (Err d) P ok p = tt
+on_ok_told (Ok a) (Err d) P ok p = tt
+on_ok_told (Err e) (Ok b) P ok p = let never : true ≡ false = ok in absurd cc
+
+pub on_err_told : {A B E F : Type 0} (r : Result A E) (t : Result B F) (P : Type 0) → is_ok t ≡ is_ok r → OnErr r P → OnErr t P
+on_err_told (Ok a) (Ok b) P ok p = tt
+on_err_told (Err e) (Err d) P ok p = p
+on_err_told (Ok a) (Err d) P ok p = let never : false ≡ true = ok in absurd cc
+on_err_told (Err e) (Ok b) P ok p = tt
 
 pub ran_line : (rows : PolicyRows) (command : Option Command) (old : Whole) (seen : Seen) → command ≡ None → Ran rows command old seen replies.Line old seen
 ran_line rows command old seen e =
