@@ -13,7 +13,7 @@ use Rattle.wot_cert.specs.Whole.{IsCertificate}
 use Rattle.wot_cert.proofs.Same.{same_cert}
 use Rattle.wot_cert.proofs.TextSize.{some_octet, size_is}
 use Rattle.wot_cert.proofs.Uniting.{commutes}
-use Rattle.wot_cert.proofs.Weights.{put_more, united_more, unite_more}
+use Rattle.wot_cert.proofs.Weights.{put_more, united_more, unite_less, unite_more}
 use Rattle.wot_cert.proofs.Wholes.{marked_as}
 
 module _ {A : Type 0} (R : A → A → Ordering) (join : A → A → A) (m : A → ℕ) (some : (x : A) → 1 ≤ m x) (least : (x y : A) → m x ≤ m (join x y)) (stays : (x y : A) → m (join x y) ≡ m x → join x y ≡ x) where
@@ -119,6 +119,9 @@ items-more a b = more 1 _ _ (unite_more one one (λ x y. refl) a b)
 
 pub signatures-more : (a b : Certificate) → signatures_of a ≤ signatures_of (unite a b)
 signatures-more a b = unite_more one (λ _. 0) (λ x y. refl) a b
+
+pub signatures-less : (a b : Certificate) → signatures_of (unite a b) ≤ signatures_of a + signatures_of b
+signatures-less a b = unite_less one (λ _. 0) (λ x y. refl) a b
 
 pub sound-more : (a b : Certificate) → sound_of a ≤ sound_of (unite a b)
 sound-more a b = unite_more if_sound (λ _. 0) (λ x y. refl) a b

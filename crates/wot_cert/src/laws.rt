@@ -46,13 +46,14 @@ pub fn nothing_added()
     ensures sizes { (a b : Certificate) → size_of (unite a b) ≡ size_of a → unite a b ≡ a }
 {}
 
-/// A union has no less than its first part, and its text is no longer than both texts.
+/// A union has no less than its first part, and its text and its signatures are no more than those of both.
 pub fn united_grows()
     ensures items { (a b : Certificate) → items_of a ≤ items_of (unite a b) }
     ensures signatures { (a b : Certificate) → signatures_of a ≤ signatures_of (unite a b) }
     ensures sizes { (a b : Certificate) → size_of a ≤ size_of (unite a b) }
     ensures sound { (a b : Certificate) → sound_of a ≤ sound_of (unite a b) }
     ensures together { (a b : Certificate) → size_of (unite a b) ≤ size_of a + size_of b }
+    ensures signed { (a b : Certificate) → signatures_of (unite a b) ≤ signatures_of a + signatures_of b }
 {}
 
 /// A union has no less than its second part, where both are certificates of one key.

@@ -14,13 +14,20 @@ use wot_signature::{SigFacts, read_signature};
 use wot_types::{Memory, SigNumber};
 use wot_verdict::number_of;
 
-/// A signature of a certificate.
+/// What a signature holds.
 #[derive(Drop)]
-pub struct Sig {
+struct Held {
     body: Vec<u8>,
     number: SigNumber,
     facts: Option<SigFacts>,
     admitted: bool,
+}
+
+/// A signature of a certificate. It is small itself, since a list that is kept in order moves all that stand behind a
+/// new one.
+#[derive(Drop)]
+pub struct Sig {
+    held: Box<Held>,
 }
 
 impl Model for Sig {
@@ -30,9 +37,9 @@ impl Model for Sig {
 
     ghost Value = { Signature };
 
-    ghost view = { λ a. record { body = a.body.items; number = a.number; admitted = a.admitted } };
+    ghost view = { λ a. record { body = a.held.value.body.items; number = a.held.value.number; admitted = a.held.value.admitted } };
 
-    ghost invariant = { λ a. a.facts ≡ facts_of a.body.items };
+    ghost invariant = { λ a. a.held.value.facts ≡ facts_of a.held.value.body.items };
 }
 
 /// Whether copies keep their marks of admission.
@@ -47,28 +54,28 @@ impl Sig {
     pub fn body(&self) -> &[u8]
         ensures body { result.now ≡ self.now.body }
     {
-        &self.body
+        &self.held.body
     }
 
     /// Its number, by which a verdict on it is known.
     pub fn number(&self) -> SigNumber
         ensures number { result ≡ self.now.number }
     {
-        self.number
+        self.held.number
     }
 
     /// What it says; `None` where it isn't readable.
     pub fn facts(&self) -> Option<SigFacts>
         ensures said { result ≡ said_by self.now }
     {
-        self.facts
+        self.held.facts
     }
 
     /// Whether the policy admitted it.
     pub fn admitted(&self) -> bool
         ensures mark { result ≡ self.now.admitted }
     {
-        self.admitted
+        self.held.admitted
     }
 
     /// The signature of this body at its place, not judged.
@@ -87,25 +94,30 @@ impl Sig {
         let number = number_of(key, kind, component, body);
         let facts = read_signature(body);
         let body = Vec::from_slice(alloc, body)?;
-        Ok(Sig {
+        let held = Held {
             body,
             number,
             facts,
             admitted: false,
-        })
+        };
+        let held = Box::new(alloc, held)?;
+        Ok(Sig { held })
     }
 
     /// A copy with this mark.
     pub(crate) fn marked(&self, alloc: Global, mark: bool) -> Result<Sig, Memory>
         ensures marked { IfOk result (λ s. s ≡ record self.now { admitted = mark }) }
     {
-        let body = Vec::from_slice(alloc, &self.body)?;
-        Ok(Sig {
+        let here = &*self.held;
+        let body = Vec::from_slice(alloc, &here.body)?;
+        let held = Held {
             body,
-            number: self.number,
-            facts: self.facts,
+            number: here.number,
+            facts: here.facts,
             admitted: mark,
-        })
+        };
+        let held = Box::new(alloc, held)?;
+        Ok(Sig { held })
     }
 
     /// Takes the mark that the policy gives. It is asked of a sound signature alone.
@@ -115,7 +127,8 @@ impl Sig {
         ensures asked { policy.new ≡ asked_more (if_sound self.old) policy.old }
         ensures faithful { IsFaithful F.Fn policy.new }
     {
-        self.admitted = judge_facts(self.facts, policy);
+        let held = &mut *self.held;
+        held.admitted = judge_facts(held.facts, policy);
     }
 }
 

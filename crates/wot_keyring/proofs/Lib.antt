@@ -36,3 +36,4 @@ pub mod Restamping
 pub mod Logged
 pub mod Since
 pub mod InPlace
+pub mod SpareRoom

@@ -8,6 +8,7 @@ pub mod Dump
 pub mod Pending
 pub mod Staging
 pub mod Importing
+pub mod Room
 pub mod Gather
 pub mod Index
 pub mod Later

@@ -1,5 +1,5 @@
 ghost use Rattle.std.specs.Prelude.{◌≡◌, ◌≢◌, ◌<◌, ◌≤◌, ◌^◌, ◌+◌, ◌-◌, ◌++◌, ℕ, nat_lt, if◌then◌else◌, map, Some};
-ghost use Rattle.std.specs.Prelude.{Ok, is_ok, is_some, IsSomeAnd, length, IfOk, MatchBool, OnOk, OnErr};
+ghost use Rattle.std.specs.Prelude.{true, Ok, is_ok, is_some, IsSomeAnd, length, IfOk, MatchBool, OnOk, OnErr};
 ghost use Rattle.std.specs.Option.{option_copied, IfSome, MatchOption};
 ghost use Rattle.std.specs.Map.{lookup, remove_entry};
 ghost use Rattle.wot_types.specs.declared.fpr.Fpr.{Fpr as TheFpr};
@@ -37,13 +37,14 @@ use crate::kept::Kept;
 use crate::log::{self, Log};
 use crate::pending::{Pending, waiting};
 use crate::restamp::restamp_noted;
+use crate::room::{has_room, only};
 use crate::staging::{Fault, Terms};
 use crate::tally::Weight;
 use crate::{Absent, ExportFault, Imported, Refusal};
 use std::alloc::Global;
 use std::collections::BTreeMap;
 use std::marker::Model;
-use wot_cert::laws::{nothing_added, united_grows, united_whole};
+use wot_cert::laws::{marks_weigh_nothing, nothing_added, united_grows, united_whole};
 use wot_cert::{Assembled, Cert};
 use wot_policy::{Ask, Policy};
 use wot_types::{Fpr, Limit, Limits, Memory, SigNumber};
@@ -320,6 +321,18 @@ impl Keyring {
         }
     }
 
+    /// Whether these may be united with the kept ones even if all that they have is new: so it is told of one alone.
+    fn has_room_for(&self, list: &[Cert]) -> bool
+        ensures { result ≡ true → MayUnite self.now.limits (certificates_in self.now) list.now }
+    {
+        united_grows();
+        marks_weigh_nothing();
+        match only(list) {
+            Some(cert) => has_room(&self.certs, &self.total(), cert, &self.limits),
+            None => false,
+        }
+    }
+
     /// Why these certificates may not be united with the kept ones. All stays as it is, and no policy of others is
     /// asked.
     fn refusal(&mut self, alloc: Global, list: &[Cert]) -> Option<Refusal>
@@ -327,6 +340,9 @@ impl Keyring {
         ensures told { TellsUnion result self.old.limits (certificates_in self.old) list.now }
         ensures same { self.new ≡ self.old }
     {
+        if self.has_room_for(list) {
+            return None;
+        }
         let terms = self.terms();
         let total = self.total();
         match try_all(alloc, &mut self.certs, total, list, &terms, &self.limits) {
@@ -413,6 +429,7 @@ impl Keyring {
     fn total(&self) -> Weight
         ensures total { IsTally self.now.limits.certificate self.now.certs result }
         ensures keyring { IsKeyring self.now }
+        ensures none_long { result.long ≡ 0 }
     {
         Weight {
             octets: self.octets,

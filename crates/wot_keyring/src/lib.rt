@@ -18,6 +18,7 @@ mod noting;
 mod pending;
 mod refusal;
 mod restamp;
+mod room;
 mod staging;
 mod tally;
 

@@ -31,6 +31,13 @@ pub(crate) struct Tally {
     pub fresh: u64,
 }
 
+/// Whether memory can hold a certificate.
+pub(crate) fn is_held(cert: &Cert) -> bool
+    ensures { result ≡ true → size_of cert.now < 2 ^ 62 }
+{
+    cert.size() < MOST
+}
+
 /// Whether memory can hold the union of both.
 pub(crate) fn are_held(a: &Cert, b: &Cert) -> bool
     ensures { result ≡ true → size_of a.now + size_of b.now < 2 ^ 63 }
