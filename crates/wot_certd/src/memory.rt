@@ -1,9 +1,10 @@
 ghost use Rattle.std.specs.Prelude.{◌≡◌, ◌≤◌, [], Some, IfOk, IfErr, IfSome, OnOk, OnErr, IsErrOf};
 ghost use Rattle.std.specs.Option.{option_copied};
 ghost use Rattle.wot_io.specs.Counts.{Rose, next_count};
-ghost use Rattle.wot_certd.specs.World.{is_one_of, called, fails_next, late_next, entry_at, with_entry, put_by_call, entry_answer, read_answer};
+ghost use Rattle.wot_certd.specs.World.{is_one_of, called, fails_next, late_next, entry_at, with_entry, put_by_call};
+ghost use Rattle.wot_certd.specs.World.{entry_answer, read_answer};
 ghost use Rattle.wot_certd.specs.Shelf.{IsWithin, Gives, Answers, AnswersReplace, Becomes, Replaces};
-ghost use Rattle.wot_certd.specs.Memory.{faulted};
+ghost use Rattle.wot_certd.specs.Memory.{entered, faulted};
 
 use crate::shelf::LONGEST;
 use crate::{Given, Shelf, ShelfFault};
@@ -103,9 +104,7 @@ impl MemoryShelf {
 
     /// Sets an entry, by no call of the shelf. After `Memory` all is as before.
     pub fn put(&mut self, name: Name, bytes: Vec<u8>) -> Result<(), Memory>
-        ensures set { OnOk result (self.new ≡ record self.old {
-          world = record self.old.world { entries = with_entry self.old.world.entries name bytes.items };
-        }) }
+        ensures set { OnOk result (self.new ≡ entered self.old name bytes.items) }
         ensures kept { OnErr result (self.new ≡ self.old) }
     {
         put(&mut self.entries, name, bytes)
@@ -154,9 +153,7 @@ impl MemoryShelf {
 
     /// Puts a copy of these octets under a name.
     fn put_copy(&mut self, name: &Name, bytes: &[u8]) -> Result<(), Memory>
-        ensures set { OnOk result (self.new ≡ record self.old {
-          world = record self.old.world { entries = with_entry self.old.world.entries name.now bytes.now };
-        }) }
+        ensures set { OnOk result (self.new ≡ entered self.old name.now bytes.now) }
         ensures kept { OnErr result (self.new ≡ self.old) }
     {
         let copy = Vec::from_slice(self.alloc, bytes)?;
@@ -197,7 +194,8 @@ impl Shelf for MemoryShelf {
         // What the trait leaves open: the count rises in these calls alone, and "out of memory" leaves all entries.
         ensures counted { IsErrOf result ShelfFault.Failed → self.new.faults ≡ next_count self.old.faults }
         ensures done { OnOk result (self.new.faults ≡ self.old.faults) }
-        ensures wanting { IsErrOf result ShelfFault.Memory → self.new ≡ record self.old { world = called self.old.world } }
+        ensures wanting { IsErrOf result ShelfFault.Memory
+            → self.new ≡ record self.old { world = called self.old.world } }
     {
         let fails = self.call();
         if fails && !self.is_late() {

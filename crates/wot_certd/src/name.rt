@@ -1,4 +1,5 @@
-ghost use Rattle.std.specs.Prelude.{◌≡◌, ◌↔◌, ◌⊎◌, ◌+◌, ◌≤◌, ◌++◌, Some, take, drop, slice_index, codes, length, string_bytes, IsTrue, IfOk, IfSome};
+ghost use Rattle.std.specs.Prelude.{◌≡◌, ◌↔◌, ◌⊎◌, ◌+◌, ◌≤◌, ◌++◌, Some, take, drop, slice_index, codes, length};
+ghost use Rattle.std.specs.Prelude.{string_bytes, IsTrue, IfOk, IfSome};
 ghost use Rattle.hex.specs.Hex.{encode_lower};
 ghost use Rattle.wot_types.specs.declared.fpr.Fpr.{Fpr as FprOf};
 ghost use Rattle.wot_types.specs.declared.name.Name.{Name as NameOf};
@@ -31,7 +32,8 @@ fn split_text(alloc: Global, fpr: &Fpr) -> Result<String, Memory>
 
 /// The digits of octets and of others, with a slash between.
 fn joined_text(alloc: Global, first: &[u8], others: &[u8]) -> Result<String, Memory>
-    ensures { IfOk result (λ text. string_bytes text ≡ (encode_lower first.now ++ codes "/") ++ encode_lower others.now) }
+    ensures { IfOk result
+        (λ text. string_bytes text ≡ (encode_lower first.now ++ codes "/") ++ encode_lower others.now) }
 {
     let mut text = hex::encode(alloc, first)?;
     text.push_str("/")?;

@@ -2,11 +2,11 @@
 use Rattle.std.proofs.Common.{◌≡◌, ◌⊎◌, inl, inr, ℕ, ◌+◌, ◌<◌, true, false, List, [], ◌∷◌, length, sym, subst, arith}
 use Rattle.wot_types.specs.declared.fpr.Fpr.{Fpr}
 use Rattle.wot_edge.specs.declared.edge.EdgeFacts.{EdgeFacts}
-use Rattle.wot_edge.specs.Record.{Row, Has, rows_into, edges_into}
+use Rattle.wot_edge.specs.Record.{EachRow, Row, Has, rows_into, edges_into}
 use Rattle.wot_edge.specs.Path.{Question, Use}
 use Rattle.wot_check.specs.Table.{Labels, IsTable}
 use Rattle.wot_check.specs.Absence.{Excludes, OthersLabelled, RootsSpent}
-use Rattle.wot_check.specs.Demand.{Covers, EachRow, demand_of, is_covered}
+use Rattle.wot_check.specs.Demand.{Covers, demand_of, is_covered}
 use Rattle.wot_check.specs.Growth.{IsRooted}
 use Rattle.wot_check.proofs.Demands.{covers_at, at_covers, covers_last, last_covers}
 use Rattle.wot_check.proofs.Entries.{has_lookup, lookup_has, label_small}

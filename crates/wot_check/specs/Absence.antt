@@ -1,9 +1,12 @@
--- Tables of absence: labels that show, edge by edge, that no valid path of positive amount is left. A label says how many
--- edges lead at least from there to the target, as far as depth, scope and what is left of the edges go.
-use Rattle.std.specs.Prelude.{◌≡◌, ◌≢◌, ◌⊎◌, ℕ, ◌+◌, ◌<◌, ◌≤◌, Bool, true, false, List, [], map, Option, Some, None}
+-- Tables of absence: labels that show, edge by edge, that no valid path of positive amount is left. A label says how
+-- many edges lead at least from there to the target, as far as depth, scope and what is left of the edges go.
+use Rattle.std.specs.Prelude.{◌≡◌, ◌≢◌, ◌⊎◌, ◌↔◌, ℕ, ◌+◌, ◌<◌, ◌≤◌, Bool, true, false, List, [], map}
+use Rattle.std.specs.Prelude.{Option, Some, None, Result, IfOk}
 use Rattle.wot_types.specs.declared.fpr.Fpr.{Fpr}
+use Rattle.wot_types.specs.declared.memory.Memory.{Memory}
 use Rattle.wot_edge.specs.declared.path.Path.{Path}
 use Rattle.wot_edge.specs.declared.path.Step.{Step}
+use Rattle.wot_edge.specs.Answer.{IsAnswer, amount_of}
 use Rattle.wot_edge.specs.Record.{Row, Has, entry_at, rows_into}
 use Rattle.wot_edge.specs.Path.{Question, Use, use_of, step_of, step_left, root_left, IsOpen, IsSpent}
 use Rattle.wot_check.specs.declared.checking.Checked.{Checked}
@@ -59,7 +62,8 @@ IsAbsence q used table = (is_in_order q ≡ false) ⊎ Excludes q used table
 
 -- ---- the least table
 
--- It meets the first two points, and each of its labels is in each table that meets them, there with the same number or a smaller one.
+-- It meets the first two points, and each of its labels is in each table that meets them, there with the same number or
+-- a smaller one.
 pub record IsLeast (q : Question) (used : Use) (table : Labels) : Type 0 where
   pub closes : Closes q used table
   pub least : (other : Labels) → IsTable other → Closes q used other
@@ -104,7 +108,31 @@ IsChecked q claims table Yes = Accepts q claims table
 IsChecked q claims table BadPaths = AreGood q claims → ⊥
 IsChecked q claims table BadTable = Rejects q claims table
 
+-- if there is an answer of a check, it is this one exactly where a fact holds
+abbrev pub SaysIff : Result Checked Memory → Checked → Type 0 → Type 0
+SaysIff result answer fact = IfOk result (λ checked. (checked ≡ answer) ↔ fact)
+
+-- some answer is right; and two right ones are the same
+abbrev pub HasAnswer : Question → List Claim → Labels → Type 0
+HasAnswer q claims table = (checked : Checked) × IsChecked q claims table checked
+
+abbrev pub AreOne : Question → List Claim → Labels → Checked → Checked → Type 0
+AreOne q claims table a b = IsChecked q claims table a → IsChecked q claims table b → a ≡ b
+
 -- a table was made, and with these paths it is accepted
 abbrev pub IsAccepted : Question → List Path → Option Labels → Type 0
 IsAccepted q paths None = ⊥
 IsAccepted q paths (Some table) = Accepts q (map claim_of paths) table
+
+-- what is so where paths are an answer that missed its wanted amount
+abbrev pub IfMissed : Question → ℕ → List Path → Type 0 → Type 0
+IfMissed q wanted paths fact = IsAnswer q wanted paths → amount_of paths < wanted → fact
+
+-- what is told of an answer that missed, its paths and the least table after them, is accepted
+abbrev pub AcceptsLeast : Question → ℕ → List Path → Labels → Type 0
+AcceptsLeast q wanted paths table =
+    IfMissed q wanted paths (IsLeastTable q (use_of paths) table → Accepts q (map claim_of paths) table)
+
+-- what was made is accepted, where the paths are an answer that missed
+abbrev pub AcceptsMissed : Question → List Path → Option Labels → Type 0
+AcceptsMissed q paths made = (wanted : ℕ) → IfMissed q wanted paths (IsAccepted q paths made)

@@ -1,7 +1,10 @@
 -- What is asked, and what earlier paths use.
-use Rattle.std.specs.Prelude.{ℕ, List}
-use Rattle.wot_edge.specs.Record.{Record}
-use Rattle.wot_edge.specs.Path.{Question, Use, asks}
+use Rattle.std.specs.Prelude.{◌≡◌, ℕ, Bool, List}
+use Rattle.wot_types.specs.declared.fpr.Fpr.{Fpr}
+use Rattle.wot_edge.specs.declared.edge.EdgeFacts.{EdgeFacts}
+use Rattle.wot_edge.specs.declared.path.Step.{Step}
+use Rattle.wot_edge.specs.Record.{EachRow, Record, Row}
+use Rattle.wot_edge.specs.Path.{Question, Use, asks, path_amount}
 use Rattle.wot_edge.specs.Sums.{use_in}
 use Rattle.wot_check.specs.declared.asked.Asked.{Asked}
 
@@ -11,3 +14,19 @@ question_of told asked = asks (told asked.uid.now) asked.roots.now asked.target.
 
 abbrev pub used_in : Asked → Use
 used_in asked = use_in asked.used.now
+
+-- what is so of the program's question and of what is used
+abbrev pub Asking : (List ℕ → Record) → Asked → (Question → Use → Type 0) → Type 0
+Asking told asked fact = fact (question_of told asked) (used_in asked)
+
+-- what is so of each row of an edge, of the target and of what is used
+abbrev pub EachAsked : (List ℕ → Record) → Asked → EdgeFacts → (Fpr → Use → Row → Type 0) → Type 0
+EachAsked told asked edge fact = EachRow (told asked.uid.now) edge (fact asked.target.now (used_in asked))
+
+-- a test of each row of an edge comes to this
+abbrev pub TellsEach : (List ℕ → Record) → Asked → EdgeFacts → (Fpr → Use → Row → Bool) → Bool → Type 0
+TellsEach told asked edge test comes = EachAsked told asked edge (λ target used row. test target used row ≡ comes)
+
+-- the amount of a path by these steps
+abbrev pub amount_left : (List ℕ → Record) → Asked → List Step → ℕ
+amount_left told asked steps = path_amount (question_of told asked) (used_in asked) steps

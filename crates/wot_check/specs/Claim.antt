@@ -30,7 +30,8 @@ abbrev pub EachShows : Question → List Path → List Claim → List Path → T
 EachShows q earlier [] [] = Unit {0}
 EachShows q earlier [] (path ∷ paths) = ⊥
 EachShows q earlier (claim ∷ claims) [] = ⊥
-EachShows q earlier (claim ∷ claims) (path ∷ paths) = Shows q (use_of earlier) claim path × EachShows q (earlier ++ path ∷ []) claims paths
+EachShows q earlier (claim ∷ claims) (path ∷ paths) =
+    Shows q (use_of earlier) claim path × EachShows q (earlier ++ path ∷ []) claims paths
 
 -- The claims are good where they show paths, one after the other.
 abbrev pub AreGood : Question → List Claim → Type 0

@@ -1,9 +1,10 @@
 -- What is demanded of an edge into a fingerprint from which so many edges lead to the target.
-use Rattle.std.specs.Prelude.{◌≡◌, ℕ, ◌+◌, nat_le, nat_lt, nat_eq, ◌&&◌, ◌||◌, not, Bool, true, false, Option, Some, None, cond}
+use Rattle.std.specs.Prelude.{◌≡◌, ℕ, ◌+◌, ◌<◌, nat_le, nat_lt, nat_eq, ◌&&◌, ◌||◌, not, Bool, true, false, Option}
+use Rattle.std.specs.Prelude.{Some, None, cond}
 use Rattle.wot_types.specs.declared.fpr.Fpr.{Fpr}
 use Rattle.wot_types.specs.Fpr.{same_fpr}
 use Rattle.wot_edge.specs.declared.edge.EdgeFacts.{EdgeFacts}
-use Rattle.wot_edge.specs.Record.{Record, Row, Has, entry_at, rows_into}
+use Rattle.wot_edge.specs.Record.{Row, Has, entry_at, rows_into}
 use Rattle.wot_edge.specs.Path.{Question, Use, step_of, step_left}
 use Rattle.wot_check.specs.declared.demand.Demand.{Demand}
 use Rattle.wot_check.specs.declared.demand.Demand.TheVariants.{On, Before}
@@ -34,10 +35,6 @@ promises target used demand edge = is_met target demand edge && nat_lt 0 (step_l
 abbrev pub may_stand : Fpr → Use → Demand → Row → Bool
 may_stand target used demand row = promises target used demand row.edge && (row.usable && is_in_scope demand row)
 
--- what is so of each row of an edge
-abbrev pub EachRow : Record → EdgeFacts → (Row → Type 0) → Type 0
-EachRow told edge holds = (row : Row) → Has (rows_into told edge.target) row → row.edge ≡ edge → holds row
-
 -- ---- what a table owes to an edge
 
 abbrev pub is_within : ℕ → Option ℕ → Bool
@@ -49,7 +46,16 @@ abbrev pub is_covered : Fpr → Use → Demand → ℕ → Labels → Row → Bo
 is_covered target used demand most table row =
     is_within most (label_at table row.edge.issuer) || not (may_stand target used demand row)
 
+-- the same, for a target and what is used
+abbrev pub is_covered_by : Demand → ℕ → Labels → Fpr → Use → Row → Bool
+is_covered_by demand most table target used row = is_covered target used demand most table row
+
 -- so is each edge into a fingerprint from which so many edges lead to the target
 abbrev pub Covers : Question → Use → ℕ → Labels → Fpr → Type 0
 Covers q used size table at =
-    (row : Row) → Has (rows_into q.told at) row → is_covered q.target used (demand_of q size) (size + 1) table row ≡ true
+    (row : Row) → Has (rows_into q.told at) row
+    → is_covered q.target used (demand_of q size) (size + 1) table row ≡ true
+
+-- nothing is asked of the greatest label
+abbrev pub CoversBelow : ℕ → Labels → Fpr → Question → Use → Type 0
+CoversBelow label table at q used = label < 255 → Covers q used label table at

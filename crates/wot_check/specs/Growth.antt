@@ -8,7 +8,7 @@ use Rattle.wot_edge.specs.Record.{Row, Has}
 use Rattle.wot_edge.specs.Path.{Question, Use, Stands, start, step_left, root_left}
 use Rattle.wot_check.specs.declared.growth.Growth.{Growth}
 use Rattle.wot_check.specs.declared.demand.Demand.{Demand}
-use Rattle.wot_check.specs.Table.{Labels, label_at}
+use Rattle.wot_check.specs.Table.{GivesLabel, Labels, label_at}
 use Rattle.wot_check.specs.Absence.{Closes, RootsSpent}
 use Rattle.wot_check.specs.Demand.{Covers, may_stand}
 
@@ -16,7 +16,7 @@ use Rattle.wot_check.specs.Demand.{Covers, may_stand}
 
 -- a fingerprint is given a label, and is of the next layer
 pub record IsGiven (old new : Growth) (fpr : Fpr) (label : ℕ) : Type 0 where
-  pub labels : (other : Fpr) → label_at new.table other ≡ (if same_fpr fpr other then Some label else label_at old.table other)
+  pub labels : GivesLabel old.table new.table fpr label
   pub layer : new.layer.items ≡ old.layer.items ++ fpr ∷ []
 
 abbrev pub GivesIf : Bool → Growth → Growth → Fpr → ℕ → Type 0
@@ -27,14 +27,20 @@ GivesIf false old new fpr label = old ≡ new
 abbrev pub is_new : Fpr → Use → Demand → Labels → Row → Bool
 is_new target used demand table row = not (is_some (label_at table row.edge.issuer)) && may_stand target used demand row
 
+-- the issuer of such an edge is given a label
+abbrev pub GivesIfNew : Demand → ℕ → Growth → Growth → Fpr → Use → Row → Type 0
+GivesIfNew demand label old new target used row =
+    GivesIf (is_new target used demand old.table row) old new row.edge.issuer label
+
 -- ---- what is known
 
--- steps to the target that may be taken one after the other, of each of which something is left; each issuer has the number of
--- steps from there as its label
+-- steps to the target that may be taken one after the other, of each of which something is left; each issuer has the
+-- number of steps from there as its label
 abbrev pub Labelled : Question → Use → Labels → List Step → Type 0
 Labelled q used table [] = Unit {0}
 Labelled q used table (step ∷ rest) =
-    (label_at table step.issuer ≡ Some (length (step ∷ rest))) × Stands q step rest × (0 < step_left used step) × Labelled q used table rest
+    (label_at table step.issuer ≡ Some (length (step ∷ rest))) × Stands q step rest × (0 < step_left used step)
+    × Labelled q used table rest
 
 -- so many such steps lead from there
 pub record Leads (q : Question) (used : Use) (table : Labels) (size : ℕ) (fpr : Fpr) : Type 0 where
@@ -51,7 +57,8 @@ pub record IsLabel (q : Question) (used : Use) (most : ℕ) (table : Labels) (fp
 
 -- the labels are of at most so many steps, and the layer is where so many lead from
 pub record IsLayered (q : Question) (used : Use) (size : ℕ) (growth : Growth) : Type 0 where
-  pub labels : (fpr : Fpr) (label : ℕ) → label_at growth.table fpr ≡ Some label → IsLabel q used size growth.table fpr label
+  pub labels : (fpr : Fpr) (label : ℕ) → label_at growth.table fpr ≡ Some label
+      → IsLabel q used size growth.table fpr label
   pub each : (fpr : Fpr) → Has growth.layer.items fpr → Leads q used growth.table size fpr
   pub all : (fpr : Fpr) → Leads q used growth.table size fpr → Has growth.layer.items fpr
 
@@ -65,10 +72,12 @@ pub record Advances (q : Question) (used : Use) (size : ℕ) (old new : Growth) 
   pub layered : IsLayered q used (suc size) new
   pub extends : Extends size old.table new.table
 
--- After the edges into a fingerprint from which so many steps lead: the next layer grew, and the labels cover these edges.
+-- After the edges into a fingerprint from which so many steps lead: the next layer grew, and the labels cover these
+-- edges.
 abbrev pub GrowsInto : Question → Use → ℕ → Fpr → Growth → Growth → Type 0
 GrowsInto q used size at old new =
-    Leads q used old.table size at → IsLayered q used (suc size) old → Advances q used size old new × Covers q used size new.table at
+    Leads q used old.table size at → IsLayered q used (suc size) old → Advances q used size old new
+    × Covers q used size new.table at
 
 abbrev pub CoversLayer : Question → Use → ℕ → List Fpr → Labels → Type 0
 CoversLayer q used size layer table = (at : Fpr) → Has layer at → Covers q used size table at
@@ -85,7 +94,8 @@ GrowsByLayer q used size layer old new =
 -- what is known after a layer
 pub record IsAfter (q : Question) (used : Use) (size : ℕ) (growth : Growth) : Type 0 where
   pub layered : IsLayered q used size growth
-  pub covered : (fewer : ℕ) (at : Fpr) → fewer < size → Leads q used growth.table fewer at → Covers q used fewer growth.table at
+  pub covered : (fewer : ℕ) (at : Fpr) → fewer < size → Leads q used growth.table fewer at
+      → Covers q used fewer growth.table at
 
 abbrev pub GoesOn : Question → Use → ℕ → Growth → Growth → Type 0
 GoesOn q used size old new = IsAfter q used size old → IsAfter q used (suc size) new

@@ -1,11 +1,11 @@
 -- Tables: labels from 1 to 255 by fingerprint, as the list of their entries in order.
-use Rattle.std.specs.Prelude.{ℕ, ◌<◌, ◌≤◌, List, Option, Some, None}
+use Rattle.std.specs.Prelude.{◌≡◌, ℕ, ◌<◌, ◌≤◌, List, Option, Some, None, if◌then◌else◌}
 use Rattle.std.specs.Map.{lookup, keys_of}
 use Rattle.std.specs.BTreeMap.{is_at}
 use Rattle.std.specs.List.{AllByRecursion}
 use Rattle.std.specs.List.Sorted.{IsStrictlySortedBy}
 use Rattle.wot_types.specs.declared.fpr.Fpr.{Fpr}
-use Rattle.wot_types.specs.Fpr.{fpr_cmp}
+use Rattle.wot_types.specs.Fpr.{fpr_cmp, same_fpr}
 
 abbrev pub Labels : Type 0
 Labels = List (Fpr × ℕ)
@@ -13,6 +13,11 @@ Labels = List (Fpr × ℕ)
 -- the label of a fingerprint, if it has one
 abbrev pub label_at : Labels → Fpr → Option ℕ
 label_at table fpr = lookup (is_at (fpr_cmp fpr)) table
+
+-- this is the label of this fingerprint now; all others have what they had
+abbrev pub GivesLabel : Labels → Labels → Fpr → ℕ → Type 0
+GivesLabel old new fpr label =
+    (other : Fpr) → label_at new other ≡ (if same_fpr fpr other then Some label else label_at old other)
 
 -- a label is there, and at most so much
 abbrev pub IsWithin : ℕ → Option ℕ → Type 0

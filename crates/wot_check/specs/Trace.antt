@@ -20,7 +20,8 @@ begin_of target [] = target
 begin_of target (item ∷ later) = item.issuer
 
 -- a claimed step is this one, which may stand before the later ones
-pub record Follows (q : Question) (used : Use) (item : ClaimedStep) (later : List ClaimedStep) (step : Step) : Type 0 where
+pub record Follows (q : Question) (used : Use) (item : ClaimedStep) (later : List ClaimedStep)
+    (step : Step) : Type 0 where
   pub row : Row
   pub into : Has (rows_into q.told (begin_of q.target later)) row
   pub shown : step_of row.edge ≡ step
@@ -47,6 +48,13 @@ IsTrace q used items (Some steps) = Traces q used items steps.items
 abbrev pub IsNamed : ClaimedStep → EdgeFacts → Type 0
 IsNamed item edge = (edge.issuer ≡ item.issuer) × (edge.uid ≡ item.place)
 
+-- none of these edges is it; and one of these that is
+abbrev pub NoneNamed : ClaimedStep → List EdgeFacts → Type 0
+NoneNamed item edges = (edge : EdgeFacts) → Has edges edge → IsNamed item edge → ⊥
+
+abbrev pub IsFound : ClaimedStep → List EdgeFacts → EdgeFacts → Type 0
+IsFound item edges edge = Has edges edge × IsNamed item edge
+
 abbrev pub has_name : ClaimedStep → EdgeFacts → Bool
 has_name item edge = same_fpr edge.issuer item.issuer && nat_eq edge.uid item.place
 
@@ -59,7 +67,8 @@ IsShown q used claim (Some path) = Shows q used claim path
 abbrev pub IsPathBy : Question → Use → ℕ → List Step → Option Path → Type 0
 IsPathBy q used amount steps found =
     IsRecord q.told → is_in_order q ≡ true → length steps ≤ 255
-    → (items : List ClaimedStep) → Traces q used items steps → IsShown q used (record { amount = amount; steps = items }) found
+    → (items : List ClaimedStep) → Traces q used items steps
+    → IsShown q used (record { amount = amount; steps = items }) found
 
 -- what the paths use that claims show, if they are good
 abbrev pub AreUsedBy : Question → List Claim → Option Sums → Type 0

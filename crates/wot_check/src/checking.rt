@@ -1,8 +1,8 @@
-ghost use Rattle.std.specs.Prelude.{◌≡◌, ◌↔◌, ◌<◌, ◌^◌, length, IfOk};
+ghost use Rattle.std.specs.Prelude.{◌≡◌, ◌<◌, ◌^◌, length, IfOk};
 ghost use Rattle.wot_edge.specs.Path.{asks};
 ghost use Rattle.wot_edge.specs.Record.{IsRecord};
 ghost use Rattle.wot_check.specs.declared.checking.Checked.TheVariants as answers;
-ghost use Rattle.wot_check.specs.Absence.{Accepts, AreSpent, IsChecked, Rejects};
+ghost use Rattle.wot_check.specs.Absence.{Accepts, AreSpent, IsChecked, Rejects, SaysIff};
 ghost use Rattle.wot_check.specs.Claim.{AreGood};
 
 use crate::asked::Asked;
@@ -78,12 +78,12 @@ pub fn check<R: Roads>(
     requires few { length paths.now < 2 ^ 24 }
     ensures checked { IfOk result (λ checked.
         IsChecked (asks (R.told roads.now uid.now) roots.now target.now) paths.now table.now checked) }
-    ensures yes { IfOk result (λ checked. (checked ≡ answers.Yes)
-        ↔ Accepts (asks (R.told roads.now uid.now) roots.now target.now) paths.now table.now) }
-    ensures bad_paths { IfOk result (λ checked. (checked ≡ answers.BadPaths)
-        ↔ (AreGood (asks (R.told roads.now uid.now) roots.now target.now) paths.now → ⊥)) }
-    ensures bad_table { IfOk result (λ checked. (checked ≡ answers.BadTable)
-        ↔ Rejects (asks (R.told roads.now uid.now) roots.now target.now) paths.now table.now) }
+    ensures yes { SaysIff result answers.Yes
+        (Accepts (asks (R.told roads.now uid.now) roots.now target.now) paths.now table.now) }
+    ensures bad_paths { SaysIff result answers.BadPaths
+        (AreGood (asks (R.told roads.now uid.now) roots.now target.now) paths.now → ⊥) }
+    ensures bad_table { SaysIff result answers.BadTable
+        (Rejects (asks (R.told roads.now uid.now) roots.now target.now) paths.now table.now) }
 
     // No valid path of positive amount is left after paths and a table that are accepted.
     ensures spent { IfOk result (λ checked. checked ≡ answers.Yes

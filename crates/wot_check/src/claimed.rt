@@ -55,7 +55,8 @@ impl Claimed {
 
     /// One step more, at the end. After `Memory` the claim is as before.
     pub fn push(&mut self, issuer: Fpr, place: u32) -> Result<(), Memory>
-        ensures pushed { OnOk result (self.new.steps ≡ self.old.steps ++ record { issuer = issuer; place = place } ∷ []) }
+        ensures pushed { OnOk result
+            (self.new.steps ≡ self.old.steps ++ record { issuer = issuer; place = place } ∷ []) }
         ensures amount { self.new.amount ≡ self.old.amount }
         ensures kept { OnErr result (self.new ≡ self.old) }
     {

@@ -1,9 +1,9 @@
 ghost use Rattle.std.specs.Prelude.{◌≡◌, ◌≤◌, ℕ, List, IfOk};
-ghost use Rattle.wot_edge.specs.Record.{Has, edges_into};
+ghost use Rattle.wot_edge.specs.Record.{EachRow, Has, edges_into};
 ghost use Rattle.wot_edge.specs.Path.{step_of, step_left};
 ghost use Rattle.wot_edge.specs.Sums.{use_in};
-ghost use Rattle.wot_check.specs.Asked.{question_of, used_in};
-ghost use Rattle.wot_check.specs.Demand.{is_place, is_met, demand_of, is_in_scope, promises, may_stand, EachRow};
+ghost use Rattle.wot_check.specs.Asked.{TellsEach, question_of, used_in};
+ghost use Rattle.wot_check.specs.Demand.{is_place, is_met, demand_of, is_in_scope, promises, may_stand};
 
 use crate::asked::Asked;
 use crate::left::{left_of_step, step_from};
@@ -58,7 +58,8 @@ fn offers(asked: &Asked, demand: Demand, edge: &EdgeFacts) -> bool
 /// Whether the scope of an edge holds, where it has to.
 fn holds<R: Roads>(roads: &R, asked: &Asked, demand: Demand, edge: &Edge) -> Result<bool, Memory>
     requires row { (id : List ℕ) → Has (edges_into (R.told roads.now id) edge.now.target) edge.now }
-    ensures { IfOk result (λ holds. EachRow (R.told roads.now asked.now.uid.now) edge.now (λ row. is_in_scope demand row ≡ holds)) }
+    ensures { IfOk result (λ holds. EachRow (R.told roads.now asked.now.uid.now) edge.now
+        (λ row. is_in_scope demand row ≡ holds)) }
 {
     match demand {
         Demand::On(_) => Ok(true),
@@ -77,8 +78,8 @@ pub fn stands<R: Roads>(
     edge: &Edge,
 ) -> Result<bool, Memory>
     requires row { (id : List ℕ) → Has (edges_into (R.told roads.now id) edge.now.target) edge.now }
-    ensures { IfOk result (λ stands. EachRow (R.told roads.now asked.now.uid.now) edge.now
-        (λ row. may_stand asked.now.target.now (used_in asked.now) demand row ≡ stands)) }
+    ensures { IfOk result (λ stands. TellsEach (R.told roads.now) asked.now edge.now
+        (λ target used. may_stand target used demand) stands) }
 {
     if !offers(asked, demand, &edge.facts()) || !roads.usable(edge) {
         return Ok(false);

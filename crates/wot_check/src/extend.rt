@@ -1,8 +1,7 @@
 ghost use Rattle.std.specs.Prelude.{◌≡◌, ◌<◌, ◌+◌, ℕ, List, OnOk};
 ghost use Rattle.wot_edge.specs.Record.{Has, edges_into};
-ghost use Rattle.wot_check.specs.Asked.{question_of, used_in};
-ghost use Rattle.wot_check.specs.Demand.{EachRow};
-ghost use Rattle.wot_check.specs.Growth.{GivesIf, GoesOn, GrowsByLayer, GrowsInto, is_new};
+ghost use Rattle.wot_check.specs.Asked.{Asking, EachAsked};
+ghost use Rattle.wot_check.specs.Growth.{GivesIfNew, GoesOn, GrowsByLayer, GrowsInto};
 
 use crate::asked::Asked;
 use crate::demand::{Demand, demanded, stands};
@@ -23,9 +22,8 @@ fn consider<R: Roads>(
 ) -> Result<(), Memory>
     requires row { (id : List ℕ) → Has (edges_into (R.told roads.now id) edge.now.target) edge.now }
     requires size { size < 255 }
-    ensures given { OnOk result (EachRow (R.told roads.now asked.now.uid.now) edge.now
-        (λ row. GivesIf (is_new asked.now.target.now (used_in asked.now) demand growth.old.table row)
-        growth.old growth.new row.edge.issuer (size + 1))) }
+    ensures given { OnOk result (EachAsked (R.told roads.now) asked.now edge.now
+        (GivesIfNew demand (size + 1) growth.old growth.new)) }
 {
     let issuer = edge.facts().issuer;
     if growth.table.get(&issuer).is_some() {
@@ -47,7 +45,7 @@ fn extend<R: Roads>(
 ) -> Result<(), Memory>
     requires size { size < 255 }
     ensures grown { OnOk result
-        (GrowsInto (question_of (R.told roads.now) asked.now) (used_in asked.now) size at.now growth.old growth.new) }
+        (Asking (R.told roads.now) asked.now (λ q used. GrowsInto q used size at.now growth.old growth.new)) }
 {
     let demand = demanded(roads, asked, size);
     let mut rest = roads.rows(at);
@@ -68,7 +66,7 @@ fn extend_all<R: Roads>(
 ) -> Result<(), Memory>
     requires size { size < 255 }
     ensures grown { OnOk result
-        (GrowsByLayer (question_of (R.told roads.now) asked.now) (used_in asked.now) size layer.now growth.old growth.new) }
+        (Asking (R.told roads.now) asked.now (λ q used. GrowsByLayer q used size layer.now growth.old growth.new)) }
 {
     let mut rest = layer;
     'rest: while let Some((at, later)) = rest.split_first() {
@@ -87,7 +85,8 @@ pub fn advance<R: Roads>(
     growth: &mut Growth,
 ) -> Result<(), Memory>
     requires size { size < 255 }
-    ensures after { OnOk result (GoesOn (question_of (R.told roads.now) asked.now) (used_in asked.now) size growth.old growth.new) }
+    ensures after { OnOk result
+        (Asking (R.told roads.now) asked.now (λ q used. GoesOn q used size growth.old growth.new)) }
 {
     let layer = mem::replace(&mut growth.layer, Vec::new(alloc));
     extend_all(roads, asked, size, &layer, growth)?;

@@ -1,13 +1,13 @@
 //! Laws of the definitions. Each function does nothing: its contract is the law.
-ghost use Rattle.std.specs.Prelude.{◌≡◌, ◌≤◌, ◌<◌, ◌^◌, ℕ, List, [], length, map};
+ghost use Rattle.std.specs.Prelude.{◌≡◌, ◌≤◌, ◌<◌, ◌^◌, ℕ, List, [], length};
 ghost use Rattle.wot_edge.specs.declared.path.Path.{Path};
-ghost use Rattle.wot_edge.specs.Answer.{EachNext, IsAnswer, amount_of};
-ghost use Rattle.wot_edge.specs.Path.{Question, Use, use_of};
+ghost use Rattle.wot_edge.specs.Answer.{EachNext};
+ghost use Rattle.wot_edge.specs.Path.{Question, Use};
 ghost use Rattle.wot_edge.specs.Record.{IsRecord};
 ghost use Rattle.wot_edge.specs.Roots.{IsRoots};
 ghost use Rattle.wot_check.specs.declared.checking.Checked.{Checked};
-ghost use Rattle.wot_check.specs.Absence.{Accepts, AreSpent, IsChecked, IsLeastTable};
-ghost use Rattle.wot_check.specs.Claim.{Claim, claim_of};
+ghost use Rattle.wot_check.specs.Absence.{Accepts, AcceptsLeast, AreOne, AreSpent, HasAnswer, IsLeastTable};
+ghost use Rattle.wot_check.specs.Claim.{Claim};
 ghost use Rattle.wot_check.specs.Table.{IsTable, Labels};
 
 use wot_edge::laws::paths_fit;
@@ -21,16 +21,16 @@ pub fn least_table_is_one()
 
 /// What is told of an answer that missed its wanted amount, its paths and the least table after them, is accepted.
 pub fn least_tables_are_accepted()
-    ensures accepted { (q : Question) (wanted : ℕ) (paths : List Path) (table : Labels) → IsTable table → IsAnswer q wanted paths
-        → amount_of paths < wanted → IsLeastTable q (use_of paths) table → Accepts q (map claim_of paths) table }
+    ensures accepted { (q : Question) (wanted : ℕ) (paths : List Path) (table : Labels) → IsTable table
+        → AcceptsLeast q wanted paths table }
 {}
 
 /// Each check of claims and a table comes to something, and only to one thing.
 pub fn check_is_one()
     ensures some { (q : Question) (claims : List Claim) (table : Labels) → IsTable table
-        → (checked : Checked) × IsChecked q claims table checked }
+        → HasAnswer q claims table }
     ensures one { (q : Question) (claims : List Claim) (table : Labels) (a b : Checked) → IsRecord q.told
-        → IsChecked q claims table a → IsChecked q claims table b → a ≡ b }
+        → AreOne q claims table a b }
 {}
 
 /// The paths of an answer are fewer than `absence` and `check` take: each has an amount, and together they have no more

@@ -1,8 +1,8 @@
 ghost use Rattle.std.specs.Prelude.{◌≡◌, ◌-◌, ℕ, List};
 ghost use Rattle.wot_edge.specs.Record.{Record};
-ghost use Rattle.wot_edge.specs.Path.{least_left, path_amount, root_left, start, step_left, step_of};
+ghost use Rattle.wot_edge.specs.Path.{least_left, root_left, start, step_left, step_of};
 ghost use Rattle.wot_edge.specs.Sums.{use_in};
-ghost use Rattle.wot_check.specs.Asked.{question_of, used_in};
+ghost use Rattle.wot_check.specs.Asked.{amount_left, question_of, used_in};
 
 use crate::asked::Asked;
 use wot_edge::{EdgeFacts, Step, Used};
@@ -57,7 +57,7 @@ fn least(used: &Used, amount: u8, steps: &[Step]) -> u8
 /// The amount of a path from here by these steps.
 pub fn left_of_path(asked: &Asked, root: &Fpr, steps: &[Step]) -> u8
     ensures { (told : List ℕ → Record) → root.now ≡ start asked.now.target.now steps.now
-        → result ≡ path_amount (question_of told asked.now) (used_in asked.now) steps.now }
+        → result ≡ amount_left told asked.now steps.now }
 {
     least(asked.used, left_of_root(asked, root), steps)
 }

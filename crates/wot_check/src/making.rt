@@ -1,7 +1,6 @@
-ghost use Rattle.std.specs.Prelude.{◌≡◌, ◌↔◌, ◌<◌, ◌^◌, ℕ, [], ◌∷◌, None, length, IfOk};
-ghost use Rattle.wot_edge.specs.Answer.{IsAnswer, amount_of};
+ghost use Rattle.std.specs.Prelude.{◌≡◌, ◌↔◌, ◌<◌, ◌^◌, [], ◌∷◌, None, length, IfOk};
 ghost use Rattle.wot_edge.specs.Path.{asks, use_of};
-ghost use Rattle.wot_check.specs.Absence.{IsAccepted, IsLeft, IsMade};
+ghost use Rattle.wot_check.specs.Absence.{AcceptsMissed, IsLeft, IsMade};
 ghost use Rattle.wot_check.specs.Asked.{question_of, used_in};
 ghost use Rattle.wot_check.specs.Growth.{IsSettled};
 
@@ -31,7 +30,8 @@ fn begin(alloc: Global, target: &Fpr) -> Result<Growth, Memory>
 /// The labels of the least table: of each fingerprint, how many edges lead at least from there to
 /// the target.
 fn settle<R: Roads>(alloc: Global, roads: &R, asked: &Asked) -> Result<Table, Memory>
-    ensures settled { IfOk result (λ table. IsSettled (question_of (R.told roads.now) asked.now) (used_in asked.now) table) }
+    ensures settled { IfOk result
+        (λ table. IsSettled (question_of (R.told roads.now) asked.now) (used_in asked.now) table) }
 {
     let mut growth = begin(alloc, asked.target)?;
     'layers: for size in 0..255u8 {
@@ -55,13 +55,14 @@ pub fn absence<R: Roads>(
 ) -> Result<Option<Table>, Memory>
     requires few { length paths.now < 2 ^ 24 }
     // The least table, and nothing is left; or none, and something is.
-    ensures made { IfOk result (λ made. IsMade (asks (R.told roads.now uid.now) roots.now target.now) (use_of paths.now) made) }
-    ensures none { IfOk result (λ made. (made ≡ None) ↔ IsLeft (asks (R.told roads.now uid.now) roots.now target.now) (use_of paths.now)) }
+    ensures made { IfOk result
+        (λ made. IsMade (asks (R.told roads.now uid.now) roots.now target.now) (use_of paths.now) made) }
+    ensures none { IfOk result
+        (λ made. (made ≡ None) ↔ IsLeft (asks (R.told roads.now uid.now) roots.now target.now) (use_of paths.now)) }
 
     // For an answer that missed its wanted amount there is a table, and `check` accepts it.
-    ensures accepted { IfOk result (λ made. (wanted : ℕ)
-        → IsAnswer (asks (R.told roads.now uid.now) roots.now target.now) wanted paths.now → amount_of paths.now < wanted
-        → IsAccepted (asks (R.told roads.now uid.now) roots.now target.now) paths.now made) }
+    ensures accepted { IfOk result
+        (λ made. AcceptsMissed (asks (R.told roads.now uid.now) roots.now target.now) paths.now made) }
 {
     let used = used_by(alloc, paths)?;
     if !roads.in_order(target, uid) {

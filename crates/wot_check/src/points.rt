@@ -1,8 +1,8 @@
 ghost use Rattle.std.specs.Prelude.{◌≡◌, ◌↔◌, ◌≤◌, ◌<◌, ◌+◌, ℕ, List, Option, true, IfOk};
 ghost use Rattle.wot_edge.specs.Record.{Has, Record, edges_into};
 ghost use Rattle.wot_check.specs.Absence.{Excludes, OthersLabelled};
-ghost use Rattle.wot_check.specs.Asked.{question_of, used_in};
-ghost use Rattle.wot_check.specs.Demand.{Covers, EachRow, is_covered, is_within};
+ghost use Rattle.wot_check.specs.Asked.{Asking, TellsEach};
+ghost use Rattle.wot_check.specs.Demand.{Covers, CoversBelow, is_covered_by, is_within};
 ghost use Rattle.wot_check.specs.Growth.{AreRootsSpent};
 
 use crate::asked::Asked;
@@ -31,8 +31,8 @@ fn covers_edge<R: Roads>(
     edge: &Edge,
 ) -> Result<bool, Memory>
     requires row { (id : List ℕ) → Has (edges_into (R.told roads.now id) edge.now.target) edge.now }
-    ensures { IfOk result (λ covered. EachRow (R.told roads.now asked.now.uid.now) edge.now
-        (λ row. is_covered asked.now.target.now (used_in asked.now) demand most table.now row ≡ covered)) }
+    ensures { IfOk result (λ covered. TellsEach (R.told roads.now) asked.now edge.now
+        (is_covered_by demand most table.now) covered) }
 {
     if within(most, table.get(&edge.facts().issuer)) {
         return Ok(true);
@@ -51,7 +51,7 @@ fn covers<R: Roads>(
 ) -> Result<bool, Memory>
     requires size { size < 255 }
     ensures { IfOk result (λ covered. (covered ≡ true)
-        ↔ Covers (question_of (R.told roads.now) asked.now) (used_in asked.now) size table.now at.now) }
+        ↔ Asking (R.told roads.now) asked.now (λ q used. Covers q used size table.now at.now)) }
 {
     let demand = demanded(roads, asked, size);
     let mut rest = roads.rows(at);
@@ -73,7 +73,7 @@ fn covers_below<R: Roads>(
     at: &Fpr,
 ) -> Result<bool, Memory>
     ensures { IfOk result (λ covered. (covered ≡ true)
-        ↔ (label < 255 → Covers (question_of (R.told roads.now) asked.now) (used_in asked.now) label table.now at.now)) }
+        ↔ Asking (R.told roads.now) asked.now (CoversBelow label table.now at.now)) }
 {
     if label == 255 {
         return Ok(true);
@@ -85,7 +85,7 @@ fn covers_below<R: Roads>(
 /// Whether so is each edge into each labelled fingerprint.
 fn covers_all<R: Roads>(roads: &R, asked: &Asked, table: &Table) -> Result<bool, Memory>
     ensures { IfOk result (λ covered. (covered ≡ true)
-        ↔ OthersLabelled (question_of (R.told roads.now) asked.now) (used_in asked.now) table.now) }
+        ↔ Asking (R.told roads.now) asked.now (λ q used. OthersLabelled q used table.now)) }
 {
     let mut rest = table.iter();
     'rest: while let Some((fpr, label)) = rest.next() {
@@ -98,7 +98,7 @@ fn covers_all<R: Roads>(roads: &R, asked: &Asked, table: &Table) -> Result<bool,
 
 /// Whether of no labelled fingerprint anything is left as a root.
 pub fn roots_spent(asked: &Asked, table: &Table) -> bool
-    ensures { (told : List ℕ → Record) → AreRootsSpent result (question_of told asked.now) (used_in asked.now) table.now }
+    ensures { (told : List ℕ → Record) → Asking told asked.now (λ q used. AreRootsSpent result q used table.now) }
 {
     let mut rest = table.iter();
     'rest: while let Some((fpr, _)) = rest.next() {
@@ -111,7 +111,8 @@ pub fn roots_spent(asked: &Asked, table: &Table) -> bool
 
 /// Whether a table meets the three points.
 pub fn excludes<R: Roads>(roads: &R, asked: &Asked, table: &Table) -> Result<bool, Memory>
-    ensures { IfOk result (λ meets. (meets ≡ true) ↔ Excludes (question_of (R.told roads.now) asked.now) (used_in asked.now) table.now) }
+    ensures { IfOk result (λ meets. (meets ≡ true)
+        ↔ Asking (R.told roads.now) asked.now (λ q used. Excludes q used table.now)) }
 {
     // What every table is.
     let _labels = table.iter();

@@ -45,7 +45,8 @@ fn are_distinct(steps: &[Step]) -> bool
 
 /// The path by these steps, if no issuer occurs twice and this amount is left for it.
 fn path_by(asked: &Asked, amount: u8, steps: Vec<Step>) -> Option<Path>
-    ensures { (told : List ℕ → Record) → IsPathBy (question_of told asked.now) (used_in asked.now) amount steps.items result }
+    ensures { (told : List ℕ → Record)
+        → IsPathBy (question_of told asked.now) (used_in asked.now) amount steps.items result }
 {
     let root = match steps.split_first() {
         Some((step, _)) => step.issuer,
@@ -77,7 +78,8 @@ fn show<R: Roads>(
 ) -> Result<Option<Path>, Memory>
     requires in_order { is_in_order (question_of (R.told roads.now) asked.now) ≡ true }
     requires lawful { IsRecord (R.told roads.now asked.now.uid.now) }
-    ensures shown { IfOk result (λ found. IsShown (question_of (R.told roads.now) asked.now) (used_in asked.now) claim.now found) }
+    ensures shown { IfOk result
+        (λ found. IsShown (question_of (R.told roads.now) asked.now) (used_in asked.now) claim.now found) }
 {
     if claim.steps().is_empty() || claim.steps().len() > 255 {
         return Ok(None);
@@ -100,7 +102,8 @@ pub fn show_all<R: Roads>(
     requires few { length claims.now < 2 ^ 24 }
     requires in_order { is_in_order (asks (R.told roads.now uid.now) roots.now target.now) ≡ true }
     requires lawful { IsRecord (R.told roads.now uid.now) }
-    ensures used { IfOk result (λ used. AreUsedBy (asks (R.told roads.now uid.now) roots.now target.now) claims.now used) }
+    ensures used { IfOk result
+        (λ used. AreUsedBy (asks (R.told roads.now uid.now) roots.now target.now) claims.now used) }
 {
     let mut used = unused(alloc);
     let mut paths: Vec<Path> = Vec::new(alloc);

@@ -1,9 +1,8 @@
-ghost use Rattle.std.specs.Prelude.{◌≡◌, ◌≤◌, [], Some, OnOk, OnErr, if◌then◌else◌};
+ghost use Rattle.std.specs.Prelude.{◌≡◌, ◌≤◌, [], OnOk, OnErr};
 ghost use Rattle.std.specs.BTreeMap.{insert_entry};
 ghost use Rattle.std.specs.Iterator.{YieldsFirst, item_count};
-ghost use Rattle.wot_types.specs.declared.fpr.Fpr.{Fpr as Print};
-ghost use Rattle.wot_types.specs.Fpr.{fpr_cmp, same_fpr};
-ghost use Rattle.wot_check.specs.Table.{IsTable, label_at};
+ghost use Rattle.wot_types.specs.Fpr.{fpr_cmp};
+ghost use Rattle.wot_check.specs.Table.{GivesLabel, IsTable, label_at};
 
 use std::alloc::Global;
 use std::collections::BTreeMap;
@@ -44,8 +43,7 @@ impl Table {
     pub fn set(&mut self, fpr: Fpr, label: u8) -> Result<(), Memory>
         requires some { 1 ≤ label }
         ensures set { OnOk result (self.new ≡ insert_entry fpr_cmp self.old fpr label) }
-        ensures gets { OnOk result ((other : Print)
-            → label_at self.new other ≡ (if same_fpr fpr other then Some label else label_at self.old other)) }
+        ensures gets { OnOk result (GivesLabel self.old self.new fpr label) }
         ensures kept { OnErr result (self.new ≡ self.old) }
     {
         self.labels.insert(fpr, label)?;

@@ -1,8 +1,7 @@
 ghost use Rattle.std.specs.Prelude.{◌≡◌, ◌≤◌, ◌<◌, ℕ, List, length, IfOk, MatchOption};
-ghost use Rattle.wot_edge.specs.declared.edge.EdgeFacts.{EdgeFacts as Facts};
 ghost use Rattle.wot_edge.specs.Record.{Has, IsRecord};
 ghost use Rattle.wot_check.specs.Asked.{question_of, used_in};
-ghost use Rattle.wot_check.specs.Trace.{begin_of, IsFollower, IsNamed, IsTrace, has_name};
+ghost use Rattle.wot_check.specs.Trace.{IsFollower, IsFound, IsTrace, NoneNamed, begin_of, has_name};
 
 use crate::asked::Asked;
 use crate::claimed::ClaimedStep;
@@ -22,8 +21,7 @@ fn names(item: &ClaimedStep, edge: &Edge) -> bool
 
 /// The edge of this issuer on the user ID at this place.
 fn find<'a>(edges: &'a [Edge], item: &ClaimedStep) -> Option<&'a Edge>
-    ensures { MatchOption result ((edge : Facts) → Has edges.now edge → IsNamed item.now edge → ⊥)
-        (λ edge. Has edges.now edge.now × IsNamed item.now edge.now) }
+    ensures { MatchOption result (NoneNamed item.now edges.now) (λ edge. IsFound item.now edges.now edge.now) }
 {
     let mut rest = edges;
     'rest: while let Some((edge, later)) = rest.split_first() {
@@ -79,7 +77,8 @@ pub fn trace<R: Roads>(
 ) -> Result<Option<Vec<Step>>, Memory>
     requires few { length items.now ≤ 255 }
     requires lawful { IsRecord (R.told roads.now asked.now.uid.now) }
-    ensures traced { IfOk result (λ found. IsTrace (question_of (R.told roads.now) asked.now) (used_in asked.now) items.now found) }
+    ensures traced { IfOk result
+        (λ found. IsTrace (question_of (R.told roads.now) asked.now) (used_in asked.now) items.now found) }
 {
     let mut steps: Vec<Step> = Vec::new(alloc);
     let mut rest = items;

@@ -1,5 +1,5 @@
 -- The bodies of packets (RFC 9580, sections 5.2.3, 5.5.2 and 5.11).
-use Rattle.std.specs.Prelude.{ℕ, ◌+◌, List, [], ◌∷◌, ◌++◌, length, codes}
+use Rattle.std.specs.Prelude.{ℕ, ◌+◌, List, [], ◌∷◌, ◌++◌, length, slice_index, codes}
 use Rattle.std.specs.Int.{w16, w32, w64, to_be_bytes}
 use Rattle.std.specs.Fmt.{decimal}
 use Rattle.wot_types.specs.Fpr.{octets_in, octets_of, version_of}
@@ -13,6 +13,11 @@ created index = 1000000000 + index
 unfoldable pub key_body : ℕ → ℕ → ℕ → ℕ → ℕ → List ℕ
 key_body made a b c d =
     4 ∷ to_be_bytes w32 made ++ 27 ∷ to_be_bytes w64 a ++ to_be_bytes w64 b ++ to_be_bytes w64 c ++ to_be_bytes w64 d
+
+-- the same of four words in a row
+abbrev pub key_body_with : ℕ → List ℕ → List ℕ
+key_body_with made material =
+    key_body made (slice_index material 0) (slice_index material 1) (slice_index material 2) (slice_index material 3)
 
 -- the user ID of an index
 unfoldable pub user_id : ℕ → List ℕ

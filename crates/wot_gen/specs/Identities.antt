@@ -13,7 +13,8 @@ use Rattle.wot_gen.specs.declared.identity.Identity.{Identity}
 abbrev pub body_at : ℕ → ℕ → List ℕ
 body_at start index =
     let first = 4 * index in
-    key_body (created index) (word start first) (word start (first + 1)) (word start (first + 2)) (word start (first + 3))
+    key_body (created index) (word start first) (word start (first + 1)) (word start (first + 2))
+    (word start (first + 3))
 
 -- its fingerprint
 abbrev pub fpr_at : ℕ → ℕ → Fpr

@@ -1,15 +1,19 @@
 -- The script of a start and a count: a list of commands, and its text.
-use Rattle.std.specs.Prelude.{◌≡◌, ℕ, ◌+◌, ◌-◌, ◌*◌, ◌/◌, ◌%◌, List, [], ◌∷◌, ◌++◌, Some, map, codes}
+use Rattle.std.specs.Prelude.{◌≡◌, ℕ, ◌+◌, ◌-◌, ◌*◌, ◌/◌, ◌%◌, List, [], ◌∷◌, ◌++◌, Some, length, map, codes, Result}
+use Rattle.std.specs.Prelude.{OnOk}
 use Rattle.std.specs.List.{flat_map, range_with_len}
+use Rattle.wot_types.specs.declared.fpr.Fpr.{Fpr}
+use Rattle.wot_types.specs.declared.memory.Memory.{Memory}
 use Rattle.wot_script.specs.declared.command.Command.{Command}
 use Rattle.wot_script.specs.declared.command.Command.TheVariants.{Import, Good, Bad, Time, Root, Ask}
 use Rattle.wot_script.specs.Grammar.{command_of}
 use Rattle.wot_script.specs.Spelling.{IsLineFor, spelling}
 use Rattle.wot_gen.specs.Words.{word}
 use Rattle.wot_gen.specs.Bodies.{user_id}
-use Rattle.wot_gen.specs.Identities.{direct_number_at, fpr_at, packets_at}
+use Rattle.wot_gen.specs.Identities.{AreIdentities, IsIdentity, direct_number_at, fpr_at, packets_at}
 use Rattle.wot_gen.specs.Certifications.{certifications_at, drawn_before}
 use Rattle.wot_gen.specs.declared.certification.Certification.{Certification}
+use Rattle.wot_gen.specs.declared.identity.Identity.{Identity}
 use Rattle.wot_gen.specs.declared.commands.View.{View}
 use Rattle.wot_gen.specs.declared.commands.View.TheVariants.{A, B}
 
@@ -17,17 +21,28 @@ use Rattle.wot_gen.specs.declared.commands.View.TheVariants.{A, B}
 abbrev pub below : ℕ → (ℕ → List Command) → List Command
 below count commands = flat_map commands (range_with_len 0 count)
 
--- a certificate and the verdicts on its signatures, each good by its issuer
+-- the verdicts on certifications, each good by its issuer
+abbrev pub verdicts_on : List Certification → List Command
+verdicts_on certifications = map (λ (made : Certification). Good made.number made.issuer) certifications
+
+-- a certificate and the verdicts on its signatures
 unfoldable pub certificate_commands : ℕ → ℕ → List Certification → List Command
 certificate_commands start index certifications =
     Import (packets_at start index ++ flat_map (λ (made : Certification). made.packet) certifications)
     ∷ Good (direct_number_at start index) (fpr_at start index)
-    ∷ map (λ (made : Certification). Good made.number made.issuer) certifications
+    ∷ verdicts_on certifications
+
+abbrev pub certificate_with : List Certification → ℕ → ℕ → List Command
+certificate_with certifications start index = certificate_commands start index certifications
 
 -- the names of the views
 abbrev pub view_text : View → List ℕ
 view_text A = codes "a"
 view_text B = codes "b"
+
+-- the lines that open a view
+abbrev pub opening : View → Fpr → ℕ → List Command
+opening view fpr amount = Time (view_text view) 1200000000 ∷ Root (view_text view) fpr amount ∷ []
 
 -- the view `a` trusts the first key wholly; the view `b` half, and as much the key in the middle
 unfoldable pub view_commands : ℕ → ℕ → List Command
@@ -69,17 +84,29 @@ change_commands start changed index =
 abbrev pub changes : ℕ → ℕ → ℕ → List Command
 changes start count turn = change_commands start (changed_at start count turn) (10 * (turn + 1))
 
+-- those of all certificates, all questions, and all turns of changes
+abbrev pub all_certificates : ℕ → ℕ → List Command
+all_certificates start count =
+    below count (λ index. certificate_commands start index (certifications_at start count index))
+
+abbrev pub all_questions : ℕ → ℕ → List Command
+all_questions start count = below count (questions start)
+
+abbrev pub all_changes : ℕ → ℕ → List Command
+all_changes start count = below ((count - 1) / 10) (changes start count)
+
 -- The commands: the certificates with their verdicts; the views; the questions; and a turn of changes for each multiple
 -- of 10 from 10 to below the count.
 unfoldable pub commands_of : ℕ → ℕ → List Command
 commands_of start count =
-    below count (λ index. certificate_commands start index (certifications_at start count index))
+    all_certificates start count
     ++ view_commands start count
-    ++ below count (questions start)
-    ++ below ((count - 1) / 10) (changes start count)
+    ++ all_questions start count
+    ++ all_changes start count
 
--- How many these are: an import of each key and a verdict on its direct key signature; a verdict on three certifications
--- of each key but the first; five lines of views; two questions on each key; four lines for each turn of changes.
+-- How many these are: an import of each key and a verdict on its direct key signature; a verdict on three
+-- certifications of each key but the first; five lines of views; two questions on each key; four lines for each turn of
+-- changes.
 abbrev pub line_count : ℕ → ℕ
 line_count count = 2 * count + 3 * (count - 1) + 5 + 2 * count + 4 * ((count - 1) / 10)
 
@@ -95,3 +122,24 @@ text_of commands = flat_map line_of commands
 pub record IsReadBack (command : Command) : Type 0 where
   pub read : command_of (spelling command) ≡ Some command
   pub line : IsLineFor command (spelling command)
+
+-- ---- what is appended
+
+-- the commands of an identity, by its start and its index
+abbrev pub PutsFor : Identity → Result Unit Memory → List Command → List Command → (ℕ → ℕ → List Command) → Type 0
+PutsFor identity result old new commands =
+    (start index : ℕ) → IsIdentity start index identity → OnOk result (new ≡ old ++ commands start index)
+
+-- the commands of two
+abbrev pub PutsForTwo : Identity → Identity → Result Unit Memory → List Command → List Command
+    → (ℕ → ℕ → ℕ → List Command)
+    → Type 0
+PutsForTwo one other result old new commands =
+    (start i j : ℕ) → IsIdentity start i one → IsIdentity start j other → OnOk result (new ≡ old ++ commands start i j)
+
+-- the commands of all identities, by their start and their count
+abbrev pub PutsForAll : List Identity → Result Unit Memory → List Command → List Command → (ℕ → ℕ → List Command)
+    → Type 0
+PutsForAll identities result old new commands =
+    (start : ℕ) → AreIdentities start (length identities) identities
+    → OnOk result (new ≡ old ++ commands start (length identities))

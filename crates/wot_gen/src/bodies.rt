@@ -1,5 +1,6 @@
-ghost use Rattle.std.specs.Prelude.{◌≡◌, ◌+◌, ◌<◌, ◌≤◌, ◌++◌, ◌^◌, true, [], ◌∷◌, length, vec_len, slice_index, IfOk, OnOk};
-ghost use Rattle.wot_gen.specs.Bodies.{hashed_area, key_body as key_body_of, signature_over, signature_body as signature_of, user_id as user_id_of};
+ghost use Rattle.std.specs.Prelude.{◌≡◌, ◌+◌, ◌<◌, ◌≤◌, ◌++◌, ◌^◌, true, [], ◌∷◌, length, vec_len, IfOk, OnOk};
+ghost use Rattle.wot_gen.specs.Bodies.{hashed_area, key_body_with, signature_over};
+ghost use Rattle.wot_gen.specs.Bodies.{signature_body as signature_of, user_id as user_id_of};
 ghost use Rattle.wot_key.specs.Key.{is_readable};
 ghost use Rattle.wot_types.specs.Fpr.{octets_in, version_of};
 
@@ -9,8 +10,7 @@ use wot_types::{Fpr, Memory, UserId};
 /// The body of a version 4 key that was made then, whose material is four words.
 #[tactic(auto, using(crate::proofs::Shapes::key_is_readable), unfolding(crate::specs::Bodies::key_body))]
 pub fn key_body(alloc: Global, made: u32, material: [u64; 4]) -> Result<Vec<u8>, Memory>
-    ensures body { IfOk result (λ body. body.items ≡ key_body_of made (slice_index material 0) (slice_index material 1)
-        (slice_index material 2) (slice_index material 3)) }
+    ensures body { IfOk result (λ body. body.items ≡ key_body_with made material) }
     ensures readable { IfOk result (λ body. is_readable body.items ≡ true) }
     ensures size { IfOk result (λ body. vec_len body ≡ 38) }
 {

@@ -1,11 +1,14 @@
-ghost use Rattle.std.specs.Prelude.{◌≡◌, ℕ, ◌+◌, ◌-◌, ◌*◌, ◌/◌, ◌<◌, ◌≤◌, ◌^◌, ◌++◌, [], ◌∷◌, length, codes, map, IfOk, OnOk};
+ghost use Rattle.std.specs.Prelude.{◌≡◌, ℕ, ◌+◌, ◌-◌, ◌*◌, ◌/◌, ◌<◌, ◌≤◌, ◌^◌, ◌++◌, [], ◌∷◌, length, codes, map, IfOk};
+ghost use Rattle.std.specs.Prelude.{OnOk};
 ghost use Rattle.std.specs.List.{flat_map};
 ghost use Rattle.wot_gen.specs.Bodies.{user_id};
-ghost use Rattle.wot_gen.specs.Certifications.{certifications_at, drawn_before};
-ghost use Rattle.wot_gen.specs.Identities.{AreIdentities, IsIdentity};
-ghost use Rattle.wot_gen.specs.Script.{below, certificate_commands, change_commands, changes, commands_of, drawn_before_changes, questions, view_commands, view_text};
+ghost use Rattle.wot_gen.specs.Certifications.{drawn_before};
+ghost use Rattle.wot_gen.specs.Identities.{AreIdentities};
+ghost use Rattle.wot_gen.specs.Script.{PutsFor, PutsForAll, PutsForTwo, all_certificates, all_changes, all_questions};
+ghost use Rattle.wot_gen.specs.Script.{certificate_with, change_commands, commands_of, drawn_before_changes};
+ghost use Rattle.wot_gen.specs.Script.{opening, questions, verdicts_on, view_commands, view_text};
 ghost use Rattle.wot_gen.specs.declared.certification.Certification.{Certification};
-ghost use Rattle.wot_script.specs.declared.command.Command.TheVariants.{Ask, Good, Root, Time};
+ghost use Rattle.wot_script.specs.declared.command.Command.TheVariants.{Ask};
 
 use crate::certification::{Certification, certifications};
 use crate::identities::identities;
@@ -46,8 +49,8 @@ fn packets(
     identity: &Identity,
     certifications: &[Certification],
 ) -> Result<Octets, Memory>
-    ensures { IfOk result (λ packets. packets ≡
-        identity.now.packets ++ flat_map (λ (made : Certification). made.packet) certifications.now) }
+    ensures { IfOk result (λ packets. packets
+        ≡ identity.now.packets ++ flat_map (λ (made : Certification). made.packet) certifications.now) }
 {
     let mut text = Vec::from_slice(alloc, identity.packets.items())?;
     for made in certifications {
@@ -58,8 +61,7 @@ fn packets(
 
 /// Appends the verdicts on certifications, each good by its issuer.
 fn put_verdicts(certifications: &[Certification], commands: &mut Vec<Command>) -> Result<(), Memory>
-    ensures put { OnOk result (commands.new.items ≡
-        commands.old.items ++ map (λ (made : Certification). Good made.number made.issuer) certifications.now) }
+    ensures put { OnOk result (commands.new.items ≡ commands.old.items ++ verdicts_on certifications.now) }
 {
     for made in certifications {
         commands.push(Command::Good(made.number, made.issuer))?;
@@ -74,8 +76,8 @@ fn put_certificate(
     certifications: &[Certification],
     commands: &mut Vec<Command>,
 ) -> Result<(), Memory>
-    ensures put { (start index : ℕ) → IsIdentity start index identity.now →
-        OnOk result (commands.new.items ≡ commands.old.items ++ certificate_commands start index certifications.now) }
+    ensures put { PutsFor identity.now result commands.old.items commands.new.items
+        (certificate_with certifications.now) }
 {
     let packets = packets(alloc, identity, certifications)?;
     commands.push(Command::Import(packets))?;
@@ -93,8 +95,8 @@ fn put_certificates(
     requires few { length identities.now ≤ 2000 }
     requires identities { AreIdentities words.old.start (length identities.now) identities.now }
     requires drawn { words.old.drawn ≡ drawn_before (length identities.now) 0 }
-    ensures put { OnOk result (commands.new.items ≡ commands.old.items ++ below (length identities.now) (λ index.
-        certificate_commands words.old.start index (certifications_at words.old.start (length identities.now) index))) }
+    ensures put { OnOk result
+        (commands.new.items ≡ commands.old.items ++ all_certificates words.old.start (length identities.now)) }
     ensures start { words.new.start ≡ words.old.start }
     ensures drawn { OnOk result (words.new.drawn ≡ drawn_before (length identities.now) (length identities.now)) }
 {
@@ -113,8 +115,7 @@ fn put_view(
     amount: u8,
     commands: &mut Vec<Command>,
 ) -> Result<(), Memory>
-    ensures put { OnOk result (commands.new.items ≡
-        commands.old.items ++ Time (view_text view) 1200000000 ∷ Root (view_text view) fpr.now amount ∷ []) }
+    ensures put { OnOk result (commands.new.items ≡ commands.old.items ++ opening view fpr.now amount) }
 {
     commands.push(Command::Time(view.name(alloc)?, MOMENT))?;
     commands.push(Command::Root(view.name(alloc)?, *fpr, amount))?;
@@ -128,8 +129,7 @@ fn put_views(
     commands: &mut Vec<Command>,
 ) -> Result<(), Memory>
     requires some { 0 < length identities.now }
-    ensures put { (start : ℕ) → AreIdentities start (length identities.now) identities.now →
-        OnOk result (commands.new.items ≡ commands.old.items ++ view_commands start (length identities.now)) }
+    ensures put { PutsForAll identities.now result commands.old.items commands.new.items view_commands }
 {
     let first = &identities[0].fpr;
     put_view(alloc, View::A, first, 120, commands)?;
@@ -147,8 +147,8 @@ fn put_question(
     subject: &Identity,
     commands: &mut Vec<Command>,
 ) -> Result<(), Memory>
-    ensures put { OnOk result (commands.new.items ≡
-        commands.old.items ++ Ask (view_text view) subject.now.fpr wanted subject.now.uid ∷ []) }
+    ensures put { OnOk result (commands.new.items
+        ≡ commands.old.items ++ Ask (view_text view) subject.now.fpr wanted subject.now.uid ∷ []) }
 {
     let name = view.name(alloc)?;
     let uid = UserId::new(alloc, subject.uid.octets())?;
@@ -158,8 +158,7 @@ fn put_question(
 
 /// Appends the questions of both views on a key's user ID.
 fn put_both(alloc: Global, subject: &Identity, commands: &mut Vec<Command>) -> Result<(), Memory>
-    ensures put { (start index : ℕ) → IsIdentity start index subject.now →
-        OnOk result (commands.new.items ≡ commands.old.items ++ questions start index) }
+    ensures put { PutsFor subject.now result commands.old.items commands.new.items questions }
 {
     put_question(alloc, View::A, 120, subject, commands)?;
     put_question(alloc, View::B, 60, subject, commands)?;
@@ -172,8 +171,7 @@ fn put_questions(
     identities: &[Identity],
     commands: &mut Vec<Command>,
 ) -> Result<(), Memory>
-    ensures put { (start : ℕ) → AreIdentities start (length identities.now) identities.now →
-        OnOk result (commands.new.items ≡ commands.old.items ++ below (length identities.now) (questions start)) }
+    ensures put { PutsForAll identities.now result commands.old.items commands.new.items all_questions }
 {
     for index in 0..identities.len() {
         put_both(alloc, &identities[index], commands)?;
@@ -188,8 +186,7 @@ fn put_change(
     subject: &Identity,
     commands: &mut Vec<Command>,
 ) -> Result<(), Memory>
-    ensures put { (start i j : ℕ) → IsIdentity start i changed.now → IsIdentity start j subject.now →
-        OnOk result (commands.new.items ≡ commands.old.items ++ change_commands start i j) }
+    ensures put { PutsForTwo changed.now subject.now result commands.old.items commands.new.items change_commands }
 {
     commands.push(Command::Bad(changed.direct))?;
     put_question(alloc, View::A, 120, subject, commands)?;
@@ -209,8 +206,8 @@ fn put_changes(
     requires few { length identities.now ≤ 2000 }
     requires identities { AreIdentities words.old.start (length identities.now) identities.now }
     requires drawn { words.old.drawn ≡ drawn_before_changes (length identities.now) }
-    ensures put { OnOk result (commands.new.items ≡ commands.old.items
-        ++ below ((length identities.now - 1) / 10) (changes words.old.start (length identities.now))) }
+    ensures put { OnOk result
+        (commands.new.items ≡ commands.old.items ++ all_changes words.old.start (length identities.now)) }
 {
     let count = identities.len();
     for turn in 0..(count - 1) / 10 {

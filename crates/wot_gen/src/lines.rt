@@ -35,10 +35,10 @@ fn text(alloc: Global, commands: &[Command]) -> Result<Vec<u8>, Memory>
 /// Appends the generated script of a start and a count, and gives the number of its lines. After `Memory`, `out` is as
 /// before.
 ///
-/// The words are those of SplitMix64, whose seed is the start in eight little-endian octets. There are `count` keys with
-/// one user ID each, each but the first with three certifications by keys before it; then two views; a question of each
-/// view on each user ID; and for each tenth key a verdict that is turned to bad and back, with a question after each
-/// turn.
+/// The words are those of SplitMix64, whose seed is the start in eight little-endian octets. There are `count` keys
+/// with one user ID each, each but the first with three certifications by keys before it; then two views; a question of
+/// each view on each user ID; and for each tenth key a verdict that is turned to bad and back, with a question after
+/// each turn.
 pub fn script(alloc: Global, start: u64, count: u32, out: &mut Vec<u8>) -> Result<u64, Memory>
     requires some { 1 ≤ count }
     requires few { count ≤ 2000 }

@@ -5,7 +5,10 @@ use Rattle.wot_io.specs.declared.intake.Intake.TheInside as intake
 use Rattle.wot_io.specs.ReaderState.{Holding, Taking}
 
 abbrev pub holding_of : buffer.Inside → Holding
-holding_of a = record { held = drop a.start a.octets.items; text = take (a.text_end - a.text_start) (drop a.text_start a.octets.items) }
+holding_of a = record {
+  held = drop a.start a.octets.items;
+  text = take (a.text_end - a.text_start) (drop a.text_start a.octets.items);
+}
 
 pub record IsBuffer (a : buffer.Inside) : Type 0 where
   pub capacity : 16842752 ≤ vec_capacity a.octets

@@ -20,4 +20,5 @@ pub record Taking : Type 0 where
   pub piece : List ℕ
 
 abbrev pub reader_state : Holding → Taking → Option LinesFault → ReaderState
-reader_state holding taking fault = record { held = holding.held; text = holding.text; taken = taking.taken; fault = fault }
+reader_state holding taking fault =
+    record { held = holding.held; text = holding.text; taken = taking.taken; fault = fault }

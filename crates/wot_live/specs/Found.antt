@@ -1,5 +1,5 @@
 -- Edges that are found, kept by issuer and user ID.
-use Rattle.std.specs.Prelude.{ℕ, ◌<◌, ◌^◌, List, length, map, Option}
+use Rattle.std.specs.Prelude.{◌≡◌, ℕ, ◌<◌, ◌^◌, List, length, map, Option}
 use Rattle.std.specs.declared.cmp.Ordering.{Ordering}
 use Rattle.std.specs.List.{slice_get}
 use Rattle.std.specs.Option.{option_and_then}
@@ -35,6 +35,14 @@ with_edge = put edge_cmp one_of_both
 abbrev pub with_edges : List EdgeFacts → List EdgeFacts → List EdgeFacts
 with_edges = united edge_cmp one_of_both
 
+-- where edges in order were kept, what this makes of them is; or they and these others
+abbrev pub Becomes : (List EdgeFacts → List EdgeFacts) → List (EdgePlace × EdgeFacts) → List (EdgePlace × EdgeFacts)
+    → Type 0
+Becomes change old new = (edges : List EdgeFacts) → old ≡ by_place edges → new ≡ by_place (change edges)
+
+abbrev pub Gains : List EdgeFacts → List (EdgePlace × EdgeFacts) → List (EdgePlace × EdgeFacts) → Type 0
+Gains more = Becomes (λ edges. with_edges edges more)
+
 -- the edge of the signature that stands at this place on the user ID
 abbrev pub edge_at_place : Fpr → Fpr → ℕ → Component → ℕ → Option EdgeFacts
 edge_at_place issuer target uid p place = option_and_then (edge_by issuer target uid p.sigs) (slice_get p.sigs place)
@@ -42,7 +50,8 @@ edge_at_place issuer target uid p place = option_and_then (edge_by issuer target
 -- the edge that the issuer of a signature has by the places that are kept
 abbrev pub edge_kept : Entries → Fpr → ℕ → Component → List (Fpr × ℕ) → Signature → Option EdgeFacts
 edge_kept verdicts target uid p places s =
-    option_and_then (λ issuer. option_and_then (edge_by issuer target uid p.sigs) (kept_for places p.sigs issuer)) (issuer_of verdicts s)
+    option_and_then (λ issuer. option_and_then (edge_by issuer target uid p.sigs) (kept_for places p.sigs issuer))
+    (issuer_of verdicts s)
 
 -- few enough signatures that their places fit
 abbrev pub HasFew : Component → Type 0

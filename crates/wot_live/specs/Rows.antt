@@ -20,7 +20,8 @@ use Rattle.wot_live.specs.Edge.{edge_on, edge_of}
 
 -- the edge that the issuer of a signature has on the user ID
 abbrev pub edge_with : Entries → Fpr → ℕ → ℕ → Component → Signature → Option EdgeFacts
-edge_with verdicts target t uid p s = option_and_then (λ issuer. edge_on verdicts target t issuer uid p) (issuer_of verdicts s)
+edge_with verdicts target t uid p s =
+    option_and_then (λ issuer. edge_on verdicts target t issuer uid p) (issuer_of verdicts s)
 
 -- those of all signatures on the user ID; an issuer of several has its edge there several times
 abbrev pub edges_on : Entries → Fpr → ℕ → ℕ → Component → List EdgeFacts
@@ -29,7 +30,8 @@ edges_on verdicts target t uid p = filter_map (edge_with verdicts target t uid p
 -- those on these user IDs, the first of which stands at this place
 abbrev pub edges_from : Entries → Fpr → ℕ → ℕ → List Component → List EdgeFacts
 edges_from verdicts target t uid [] = []
-edges_from verdicts target t uid (p ∷ ps) = edges_on verdicts target t uid p ++ edges_from verdicts target t (uid + 1) ps
+edges_from verdicts target t uid (p ∷ ps) =
+    edges_on verdicts target t uid p ++ edges_from verdicts target t (uid + 1) ps
 
 -- Two edges of one issuer and user ID are the same: either will do.
 abbrev pub one_of_both : EdgeFacts → EdgeFacts → EdgeFacts
@@ -66,7 +68,8 @@ AreInto target edges = (edge : EdgeFacts) → Has edges edge → edge.target ≡
 -- the places, from this one on, where the test holds
 abbrev pub places_where : {A : Type 0} → (A → Bool) → ℕ → List A → List ℕ
 places_where test place [] = []
-places_where test place (x ∷ xs) = if test x then place ∷ places_where test (place + 1) xs else places_where test (place + 1) xs
+places_where test place (x ∷ xs) =
+    if test x then place ∷ places_where test (place + 1) xs else places_where test (place + 1) xs
 
 -- the places of the user IDs that are revoked by the certificate's own key at t
 abbrev pub revoked_of : Entries → Certificate → ℕ → List ℕ

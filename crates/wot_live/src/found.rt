@@ -1,8 +1,8 @@
 // The edges of all issuers into one certificate, in order.
-ghost use Rattle.std.specs.Prelude.{◌≡◌, ◌<◌, ◌^◌, List, [], length, OnOk, IfOk};
+ghost use Rattle.std.specs.Prelude.{◌≡◌, ◌<◌, ◌^◌, [], length, OnOk, IfOk};
 ghost use Rattle.std.specs.List.{AllByRecursion, cons_option};
-ghost use Rattle.wot_edge.specs.declared.edge.EdgeFacts.{EdgeFacts as Facts};
-ghost use Rattle.wot_live.specs.Found.{by_place, edge_at_place as edge_at_place_spec, edge_kept, with_edge, with_edges, HasFew};
+ghost use Rattle.wot_live.specs.Found.{Becomes, Gains, HasFew, by_place, edge_kept, with_edge};
+ghost use Rattle.wot_live.specs.Found.{edge_at_place as edge_at_place_spec};
 ghost use Rattle.wot_live.specs.Rows.{edges_of, edges_on};
 
 use crate::terms::terms;
@@ -24,8 +24,7 @@ pub(crate) struct EdgePlace {
 pub(crate) type Found = BTreeMap<EdgePlace, EdgeFacts, Global>;
 
 fn put_edge(found: &mut Found, edge: EdgeFacts) -> Result<(), Memory>
-    ensures { OnOk result ((edges : List Facts) → found.old.entries ≡ by_place edges →
-        found.new.entries ≡ by_place (with_edge edge edges)) }
+    ensures { OnOk result (Becomes (with_edge edge) found.old.entries found.new.entries) }
 {
     let place = EdgePlace {
         issuer: edge.issuer,
@@ -61,8 +60,7 @@ fn edge_with(
 }
 
 fn put_some(found: &mut Found, edge: Option<EdgeFacts>) -> Result<(), Memory>
-    ensures { OnOk result ((edges : List Facts) → found.old.entries ≡ by_place edges →
-        found.new.entries ≡ by_place (with_edges edges (cons_option edge []))) }
+    ensures { OnOk result (Gains (cons_option edge []) found.old.entries found.new.entries) }
 {
     match edge {
         Some(edge) => put_edge(found, edge),
@@ -81,8 +79,7 @@ fn put_edges_on(
     t: u32,
 ) -> Result<(), Memory>
     requires few { HasFew part.now }
-    ensures { OnOk result ((edges : List Facts) → found.old.entries ≡ by_place edges →
-        found.new.entries ≡ by_place (with_edges edges (edges_on verdicts.now target t uid part.now))) }
+    ensures { OnOk result (Gains (edges_on verdicts.now target t uid part.now) found.old.entries found.new.entries) }
 {
     let certifiers = Certifiers::new(alloc, part, verdicts, t)?;
     let mut rest = part.sigs();

@@ -59,8 +59,10 @@ pub fn rows(
     ensures revoked { IfOk result (λ done. done.0.revoked.items ≡ revoked_of verdicts.now cert.now t) }
     ensures span { IfOk result (λ done. done.1 ≡ span_of cert.now t) }
     ensures throughout { IfOk result (λ done. IsThroughout done.1 (edges_of verdicts.now cert.now) done.0.edges.items) }
-    ensures revoked_throughout { IfOk result (λ done. IsThroughout done.1 (revoked_of verdicts.now cert.now) done.0.revoked.items) }
-    ensures made_least { IfOk result (λ done. min (steps.old.made + length done.0.edges.items) u64.MAX ≤ steps.new.made) }
+    ensures revoked_throughout { IfOk result
+        (λ done. IsThroughout done.1 (revoked_of verdicts.now cert.now) done.0.revoked.items) }
+    ensures made_least { IfOk result
+        (λ done. min (steps.old.made + length done.0.edges.items) u64.MAX ≤ steps.new.made) }
     ensures made_most { steps.new.made ≤ steps.old.made + signatures_of cert.now }
     ensures never_less { steps.old.made ≤ steps.new.made }
 {

@@ -1,6 +1,7 @@
--- What a text says as a pattern, and whether that matches, as functions. By the laws in `laws` they are the relations `Says`
--- and `Matches`, so that a fact that rests on them can be told by true or false.
-use Rattle.std.specs.Prelude.{ℕ, zero, suc, Bool, true, false, ◌==◌, ◌||◌, nat_le, List, [], ◌∷◌, length, Option, Some, None, if◌then◌else◌, replicate}
+-- What a text says as a pattern, and whether that matches, as functions. By the laws in `laws` they are the relations
+-- `Says` and `Matches`, so that a fact that rests on them can be told by true or false.
+use Rattle.std.specs.Prelude.{ℕ, zero, suc, Bool, true, false, ◌==◌, ◌||◌, nat_le, List, [], ◌∷◌, length, Option, Some}
+use Rattle.std.specs.Prelude.{None, if◌then◌else◌, replicate}
 use Rattle.std.specs.Option.{option_map, option_and_then}
 use Rattle.wot_pattern.specs.declared.flow.Flow.{Flow}
 use Rattle.wot_pattern.specs.declared.item.Item.{Item}
@@ -12,7 +13,8 @@ use Rattle.wot_pattern.specs.Reading.{Reading, exactly, any, start, end, range, 
 use Rattle.wot_pattern.specs.Reading as r
 use Rattle.wot_pattern.specs.Tokens.{Token, tokens}
 use Rattle.wot_pattern.specs.Passes.{no_flow, top, settled, advanced}
-use Rattle.wot_pattern.specs.Steps.{Level, Last, none, atom, piece, State, with_atom, entered, left, barred, with_piece, level_so_far, fresh}
+use Rattle.wot_pattern.specs.Steps.{Level, Last, none, atom, piece, State, with_atom, entered, left, barred, with_piece}
+use Rattle.wot_pattern.specs.Steps.{level_so_far, fresh}
 
 -- ---- ranges
 
@@ -32,7 +34,9 @@ as_range negated items = (range negated items.0, items.1)
 
 abbrev pub range_of_items : Bool → List ℕ → Option (r.Atom × List ℕ)
 range_of_items negated text =
-    option_and_then (λ (x : Item × List ℕ). option_map (as_range negated) (behind_item x.0 (items_in (length x.1) x.1))) (first_item text)
+    option_and_then
+    (λ (x : Item × List ℕ). option_map (as_range negated) (behind_item x.0 (items_in (length x.1) x.1)))
+    (first_item text)
 
 -- the range after an opening bracket, and what is behind it
 abbrev pub range_in : List ℕ → Option (r.Atom × List ℕ)

@@ -1,10 +1,13 @@
 -- The grammar of patterns (RFC 9580, section 8). A text is the list of its characters' code points.
 -- Each form stands at the beginning of a text, and leaves a rest.
-use Rattle.std.specs.Prelude.{◌≡◌, ◌≢◌, ℕ, suc, ◌≤◌, ◌==◌, true, false, not, ◌&&◌, nat_le, List, [], ◌∷◌, length, Option, Some, None, if◌then◌else◌}
+use Rattle.std.specs.Prelude.{◌≡◌, ◌≢◌, ℕ, suc, ◌≤◌, ◌==◌, Bool, true, false, not, ◌&&◌, nat_le, if◌then◌else◌}
+use Rattle.std.specs.Prelude.{List, [], ◌∷◌, ◌++◌, length, Option, Some, None}
 use Rattle.wot_pattern.specs.declared.item.Item.{Item}
-use Rattle.wot_pattern.specs.declared.mark.Mark.TheVariants.{Escape, Bracket, Open, Close, Bar, Any, Start, End, Star, Plus, Optional, Plain}
+use Rattle.wot_pattern.specs.declared.mark.Mark.TheVariants.{Escape, Bracket, Open, Close, Bar, Any, Start, End, Star}
+use Rattle.wot_pattern.specs.declared.mark.Mark.TheVariants.{Plus, Optional, Plain}
 use Rattle.wot_pattern.specs.Marks.{mark_of}
-use Rattle.wot_pattern.specs.Reading.{Atom, exactly, any, start, end, range, Reading, nothing, single, sequence, either, star, plus, optional}
+use Rattle.wot_pattern.specs.Reading.{Atom, exactly, any, start, end, range, Reading, nothing, single, sequence, either}
+use Rattle.wot_pattern.specs.Reading.{star, plus, optional}
 
 abbrev pub dash : ℕ
 dash = 45
@@ -19,8 +22,9 @@ closing_bracket = 93
 abbrev pub from_to : ℕ → ℕ → Item
 from_to c d = record { from = c; to = d }
 
--- An item of a range, with any character at its beginning, and the rest. Where that character is followed by a dash and then by
--- another character than the closing bracket, the item goes from the one to the other, which isn't less. Else it stands for itself.
+-- An item of a range, with any character at its beginning, and the rest. Where that character is followed by a dash and
+-- then by another character than the closing bracket, the item goes from the one to the other, which isn't less. Else
+-- it stands for itself.
 abbrev pub item : List ℕ → Option (Item × List ℕ)
 item [] = None
 item (c ∷ []) = Some (from_to c c, [])
@@ -51,6 +55,20 @@ pub data Range : List ℕ → Atom → List ℕ → Type 0 where
       {c : ℕ} {t u rest : List ℕ} {x : Item} {xs : List Item}
       → c ≢ caret → first_item (c ∷ t) ≡ Some (x, u) → Items u xs rest → Range (c ∷ t) (range false (x ∷ xs)) rest
 
+-- behind the opening bracket and the mark of negation: items, which make this atom, and then this rest
+abbrev pub ReadsRange : Bool → List ℕ → Atom → List ℕ → Type 0
+ReadsRange turned text atom rest =
+    (x : Item) × (u : List ℕ) × (xs : List Item) × (first_item text ≡ Some (x, u)) × Items u xs rest
+    × (atom ≡ range turned (x ∷ xs))
+
+-- no items stand there
+abbrev pub NoItems : List ℕ → Type 0
+NoItems text = (x : Item) (u : List ℕ) (xs : List Item) (r : List ℕ) → first_item text ≡ Some (x, u) → Items u xs r → ⊥
+
+-- the items after the first have been added to these
+abbrev pub AddsItems : List Item → List Item → List ℕ → List ℕ → Type 0
+AddsItems old new text rest = (xs : List Item) × (new ≡ old ++ xs) × Items text xs rest
+
 pub data Part : Type 0 where
   pattern : Part
   branch : Part
@@ -72,9 +90,12 @@ pub data Reads : Part → ℕ → List ℕ → Reading → List ℕ → Type 0 w
       → Reads branch n t b u → Reads piece n u p r → Reads branch n t (sequence b p) r
   -- piece = atom [ "*" | "+" | "?" ]
   once : {n : ℕ} {t r : List ℕ} {a : Reading} → Reads atom n t a r → Reads piece n t a r
-  starred : {n c : ℕ} {t r : List ℕ} {a : Reading} → Reads atom n t a (c ∷ r) → mark_of c ≡ Star → Reads piece n t (star a) r
-  repeated : {n c : ℕ} {t r : List ℕ} {a : Reading} → Reads atom n t a (c ∷ r) → mark_of c ≡ Plus → Reads piece n t (plus a) r
-  optioned : {n c : ℕ} {t r : List ℕ} {a : Reading} → Reads atom n t a (c ∷ r) → mark_of c ≡ Optional → Reads piece n t (optional a) r
+  starred : {n c : ℕ} {t r : List ℕ} {a : Reading} → Reads atom n t a (c ∷ r) → mark_of c ≡ Star
+      → Reads piece n t (star a) r
+  repeated : {n c : ℕ} {t r : List ℕ} {a : Reading} → Reads atom n t a (c ∷ r) → mark_of c ≡ Plus
+      → Reads piece n t (plus a) r
+  optioned : {n c : ℕ} {t r : List ℕ} {a : Reading} → Reads atom n t a (c ∷ r) → mark_of c ≡ Optional
+      → Reads piece n t (optional a) r
   -- atom = "(" pattern ")" | range | "." | "^" | "$" | "\" any | plain
   group :
       {n c d : ℕ} {t r : List ℕ} {p : Reading}
@@ -86,7 +107,8 @@ pub data Reads : Part → ℕ → List ℕ → Reading → List ℕ → Type 0 w
   escaped : {n c d : ℕ} {r : List ℕ} → mark_of c ≡ Escape → Reads atom n (c ∷ d ∷ r) (single (exactly d)) r
   plain : {n c : ℕ} {r : List ℕ} → mark_of c ≡ Plain → Reads atom n (c ∷ r) (single (exactly c)) r
 
--- The text is a pattern that says this: it has at most 1,024 characters, and its parentheses are nested at most 64 deep.
+-- The text is a pattern that says this: it has at most 1,024 characters, and its parentheses are nested at most 64
+-- deep.
 pub record Says (text : List ℕ) (reading : Reading) : Type 0 where
   pub short : length text ≤ 1024
   pub whole : Reads pattern 64 text reading []

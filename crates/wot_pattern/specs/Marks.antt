@@ -1,7 +1,8 @@
 -- What a character of a pattern means where an atom or an operator may begin.
 use Rattle.std.specs.Prelude.{ℕ, ◌==◌, if◌then◌else◌}
 use Rattle.wot_pattern.specs.declared.mark.Mark.{Mark}
-use Rattle.wot_pattern.specs.declared.mark.Mark.TheVariants.{Escape, Bracket, Open, Close, Bar, Any, Start, End, Star, Plus, Optional, Plain}
+use Rattle.wot_pattern.specs.declared.mark.Mark.TheVariants.{Escape, Bracket, Open, Close, Bar, Any, Start, End, Star}
+use Rattle.wot_pattern.specs.declared.mark.Mark.TheVariants.{Plus, Optional, Plain}
 
 -- the eleven characters with a meaning of their own; every other one is plain
 abbrev pub mark_of : ℕ → Mark

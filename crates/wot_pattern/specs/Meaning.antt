@@ -2,7 +2,8 @@
 -- Place k stands before the text's character k, counted from 0.
 use Rattle.std.specs.Prelude.{◌≡◌, ℕ, zero, suc, ◌+◌, ◌≤◌, ◌⊎◌, true, false, List, [], ◌∷◌, length, Some, slice_get}
 use Rattle.wot_pattern.specs.declared.item.Item.{Item}
-use Rattle.wot_pattern.specs.Reading.{Atom, exactly, any, start, end, range, Reading, nothing, single, sequence, either, star, plus, optional}
+use Rattle.wot_pattern.specs.Reading.{Atom, exactly, any, start, end, range, Reading, nothing, single, sequence, either}
+use Rattle.wot_pattern.specs.Reading.{star, plus, optional}
 
 -- n turns, one after another
 abbrev pub Turns : (ℕ → ℕ → Type 0) → ℕ → ℕ → ℕ → Type 0

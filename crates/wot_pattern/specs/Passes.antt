@@ -1,5 +1,6 @@
--- The matcher's two passes over the nodes at one position of the text. Contracts of its private functions name this. `Deciding` rests on
--- it, and so do the public laws on what `Deciding` has, which lead to the meaning: a reader has to believe the meaning alone.
+-- The matcher's two passes over the nodes at one position of the text. Contracts of its private functions name this.
+-- `Deciding` rests on it, and so do the public laws on what `Deciding` has, which lead to the meaning: a reader has to
+-- believe the meaning alone.
 use Rattle.std.specs.Prelude.{ℕ, Bool, true, false, ◌&&◌, ◌||◌, not, List, [], ◌∷◌, ◌++◌, nat_le, ◌==◌}
 use Rattle.wot_pattern.specs.declared.item.Item.{Item}
 use Rattle.wot_pattern.specs.declared.flow.Flow.{Flow}
@@ -51,8 +52,11 @@ holds_empty first last a = false
 abbrev pub settled_one : Bool → Bool → Token → Flow → List Flow → Flow × List Flow
 settled_one first last nothing f st = (f, flow true false ∷ st)
 settled_one first last (single a) f st = (f, flow (holds_empty first last a) f.ended ∷ st)
-settled_one first last sequence f st =
-    (top (below st), flow ((top (below st)).empty && (top st).empty) ((top st).ended || ((top (below st)).ended && (top st).empty)) ∷ below (below st))
+settled_one first last sequence f st = (
+  top (below st),
+  flow ((top (below st)).empty && (top st).empty) ((top st).ended
+      || ((top (below st)).ended && (top st).empty)) ∷ below (below st),
+)
 settled_one first last either f st =
     (f, flow ((top (below st)).empty || (top st).empty) ((top (below st)).ended || (top st).ended) ∷ below (below st))
 settled_one first last star f st = (top st, flow true (top st).ended ∷ below st)

@@ -1,11 +1,14 @@
--- How far a pattern was read, level by level. Contracts of the parser's private functions name this. `Deciding` rests on it, and so do
--- the public laws on what `Deciding` has, which lead to the grammar: a reader has to believe the grammar alone.
-use Rattle.std.specs.Prelude.{◌≡◌, ℕ, suc, ◌+◌, Bool, List, [], ◌∷◌, ◌++◌, length, Option, Some, None, is_some}
+-- How far a pattern was read, level by level. Contracts of the parser's private functions name this. `Deciding` rests
+-- on it, and so do the public laws on what `Deciding` has, which lead to the grammar: a reader has to believe the
+-- grammar alone.
+use Rattle.std.specs.Prelude.{◌≡◌, ℕ, suc, ◌+◌, Bool, List, [], ◌∷◌, ◌++◌, length, drop, slice_index, Option, Some}
+use Rattle.std.specs.Prelude.{None, is_some}
 use Rattle.wot_pattern.specs.declared.mark.Mark.{Mark}
 use Rattle.wot_pattern.specs.declared.mark.Mark.TheVariants as m
 use Rattle.wot_pattern.specs.Marks.{mark_of}
 use Rattle.wot_pattern.specs.Reading as r
-use Rattle.wot_pattern.specs.Reading.{exactly, any, start, end, Reading, nothing, single, sequence, either, star, plus, optional}
+use Rattle.wot_pattern.specs.Reading.{exactly, any, start, end, Reading, nothing, single, sequence, either, star, plus}
+use Rattle.wot_pattern.specs.Reading.{optional}
 use Rattle.wot_pattern.specs.Grammar.{Range}
 use Rattle.wot_pattern.specs.Tokens.{Token, tokens}
 use Rattle.wot_pattern.specs.Nodes.{tokens_of}
@@ -138,3 +141,36 @@ applied o.Optional a = optional a
 
 abbrev pub fresh : ℕ → List Level → State
 fresh n fs = at n fs None nothing none
+
+-- ---- what a builder does, from each state that it has come to
+
+-- the branches of the present level are put together
+abbrev pub IsJoined : Builder → Builder → Type 0
+IsJoined old new =
+    (s : State) → Builds old s → tokens_of new.nodes.items ≡ outer_tokens s.outer ++ tokens (level_so_far s)
+
+-- a level is entered
+abbrev pub Enters : Builder → Builder → Type 0
+Enters old new = (s : State) → Builds old s → (n : ℕ) × (s.levels ≡ suc n) × Builds new (entered s n)
+
+-- a level is left
+abbrev pub Leaves : Builder → Builder → Type 0
+Leaves old new =
+    (s : State) → Builds old s → (f : Level) × (fs : List Level) × (s.outer ≡ f ∷ fs) × Builds new (left s f fs)
+
+-- an operator is applied to the atom that was read last
+abbrev pub Applies : Operator → Builder → Builder → Type 0
+Applies operator old new =
+    (s : State) → Builds old s → (a : Reading) × (s.last ≡ atom a) × Builds new (with_piece s (applied operator a))
+
+-- a step is taken by the character at i, which has this mark, and the rest of the text begins at j
+abbrev pub StepsTo : Mark → List ℕ → ℕ → ℕ → Builder → Builder → Type 0
+StepsTo mark text i j old new =
+    (s : State) → Builds old s
+    → (s' : State) × ParserStepBy mark s (slice_index text i) (drop (i + 1) text) s' (drop j text) × Builds new s'
+
+-- no step can be taken there
+abbrev pub NoStep : Mark → List ℕ → ℕ → Builder → Type 0
+NoStep mark text i old =
+    (s s' : State) (t : List ℕ) → Builds old s
+    → ParserStepBy mark s (slice_index text i) (drop (i + 1) text) s' t → ⊥

@@ -48,14 +48,19 @@ last_or_nothing (x ∷ ready) = x
 abbrev pub tree : List Token → Reading
 tree ts = last_or_nothing (all_grown ts [])
 
-pub all_grown-tokens : (x : Reading) (ts : List Token) (ready : List Reading) → all_grown (tokens x ++ ts) ready ≡ all_grown ts (x ∷ ready)
+pub all_grown-tokens : (x : Reading) (ts : List Token) (ready : List Reading)
+    → all_grown (tokens x ++ ts) ready ≡ all_grown ts (x ∷ ready)
 all_grown-tokens r.nothing ts ready = refl
 all_grown-tokens (r.single a) ts ready = refl
 all_grown-tokens (r.sequence p q) ts ready =
-    ap (λ l. all_grown l ready) (append_assoc (tokens p) (tokens q ++ sequence ∷ []) ts ∙ ap (λ l. tokens p ++ l) (append_assoc (tokens q) (sequence ∷ []) ts))
+    ap (λ l. all_grown l ready)
+    (append_assoc (tokens p) (tokens q ++ sequence ∷ []) ts ∙ ap (λ l. tokens p ++ l)
+    (append_assoc (tokens q) (sequence ∷ []) ts))
     ∙ all_grown-tokens p (tokens q ++ sequence ∷ ts) ready ∙ all_grown-tokens q (sequence ∷ ts) (p ∷ ready)
 all_grown-tokens (r.either p q) ts ready =
-    ap (λ l. all_grown l ready) (append_assoc (tokens p) (tokens q ++ either ∷ []) ts ∙ ap (λ l. tokens p ++ l) (append_assoc (tokens q) (either ∷ []) ts))
+    ap (λ l. all_grown l ready)
+    (append_assoc (tokens p) (tokens q ++ either ∷ []) ts ∙ ap (λ l. tokens p ++ l)
+    (append_assoc (tokens q) (either ∷ []) ts))
     ∙ all_grown-tokens p (tokens q ++ either ∷ ts) ready ∙ all_grown-tokens q (either ∷ ts) (p ∷ ready)
 all_grown-tokens (r.star p) ts ready =
     ap (λ l. all_grown l ready) (append_assoc (tokens p) (star ∷ []) ts) ∙ all_grown-tokens p (star ∷ ts) ready
@@ -118,10 +123,13 @@ token-numbers plus = refl
 token-numbers optional = refl
 
 abbrev pub item_code : Coded Item
-item_code = code_by (ℕ × ℕ) (coded× coded_ℕ coded_ℕ) (λ x. (x.from, x.to)) (λ p. record { from = p.0; to = p.1 }) (λ _. refl)
+item_code =
+    code_by (ℕ × ℕ) (coded× coded_ℕ coded_ℕ) (λ x. (x.from, x.to)) (λ p. record { from = p.0; to = p.1 }) (λ _. refl)
 
 abbrev pub token_code : Coded Token
-token_code = code_by Numbers (coded× coded_ℕ (coded× coded_ℕ (coded_list item_code))) numbers (λ n. token n.0 n.1.0 n.1.1) token-numbers
+token_code =
+    code_by Numbers (coded× coded_ℕ (coded× coded_ℕ (coded_list item_code))) numbers
+    (λ n. token n.0 n.1.0 n.1.1) token-numbers
 
 abbrev pub reading_code : Coded Reading
 reading_code = code_by (List Token) (coded_list token_code) tokens tree tree-tokens

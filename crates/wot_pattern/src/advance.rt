@@ -13,7 +13,8 @@ fn advance_one(node: &Node, slot: Flow, begins: &mut Vec<bool>, character: char)
     requires room { vec_len begins.old < vec_capacity begins.old }
     requires two { 2 ≤ vec_capacity begins.old }
     ensures slot { result ≡ (advanced_one character (token_of node.now) slot (reverse begins.old.items)).0 }
-    ensures begins { reverse begins.new.items ≡ (advanced_one character (token_of node.now) slot (reverse begins.old.items)).1 }
+    ensures begins { reverse begins.new.items ≡
+        (advanced_one character (token_of node.now) slot (reverse begins.old.items)).1 }
     ensures longer { vec_len begins.new ≤ max (vec_len begins.old) 1 + 1 }
     ensures room { vec_capacity begins.old ≤ vec_capacity begins.new }
 {

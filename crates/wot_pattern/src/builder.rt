@@ -2,7 +2,8 @@ ghost use Rattle.std.specs.Prelude.{◌≡◌, ℕ, suc, [], ◌∷◌, ◌++◌
 ghost use Rattle.wot_pattern.specs.Reading.{Reading, single};
 ghost use Rattle.wot_pattern.specs.Nodes.{atom_of, tokens_of};
 ghost use Rattle.wot_pattern.specs.Tokens.{tokens};
-ghost use Rattle.wot_pattern.specs.Steps.{State, Level, Builds, flat, fresh, with_atom, entered, left, barred, with_piece, applied, level_so_far, outer_tokens, atom};
+ghost use Rattle.wot_pattern.specs.Steps.{Applies, Builds, Enters, IsJoined, Leaves, State};
+ghost use Rattle.wot_pattern.specs.Steps.{atom, barred, flat, fresh, level_so_far, with_atom};
 ghost use Rattle.wot_pattern.specs.declared.fault.PatternFault.TheVariants.{Unreadable, Memory};
 
 use crate::fault::PatternFault;
@@ -75,8 +76,7 @@ impl Builder {
     /// Puts the branches of the present level together.
     fn join(&mut self) -> Result<(), PatternFault>
         ensures fault { IfErr result (λ e. e ≡ Memory) }
-        ensures joined { OnOk result ((s : State) → Builds self.old s →
-            tokens_of self.new.nodes.items ≡ outer_tokens s.outer ++ tokens (level_so_far s)) }
+        ensures joined { OnOk result (IsJoined self.old self.new) }
         ensures outer { OnOk result (self.new.outer.items ≡ self.old.outer.items) }
     {
         self.flush()?;
@@ -88,7 +88,8 @@ impl Builder {
 
     pub fn atom(&mut self, leaf: Leaf) -> Result<(), PatternFault>
         ensures fault { IfErr result (λ e. e ≡ Memory) }
-        ensures builds { OnOk result ((s : State) → Builds self.old s → Builds self.new (with_atom s (single (atom_of leaf)))) }
+        ensures builds { OnOk result ((s : State) → Builds self.old s
+            → Builds self.new (with_atom s (single (atom_of leaf)))) }
     {
         self.flush()?;
         self.nodes.push(Node::Single(leaf))?;
@@ -98,7 +99,7 @@ impl Builder {
 
     /// An opening parenthesis, which is unreadable where too many are open.
     pub fn open(&mut self) -> Result<(), PatternFault>
-        ensures builds { OnOk result ((s : State) → Builds self.old s → (n : ℕ) × (s.levels ≡ suc n) × Builds self.new (entered s n)) }
+        ensures builds { OnOk result (Enters self.old self.new) }
         ensures unreadable { IfErr result (λ e. e ≡ Unreadable → (s : State) → Builds self.old s → s.levels ≡ 0) }
     {
         if self.outer.len() >= LEVELS {
@@ -113,8 +114,7 @@ impl Builder {
 
     /// A closing parenthesis, which is unreadable where none is open.
     pub fn close(&mut self) -> Result<(), PatternFault>
-        ensures builds { OnOk result ((s : State) → Builds self.old s → (f : Level) × (fs : List Level)
-            × (s.outer ≡ f ∷ fs) × Builds self.new (left s f fs)) }
+        ensures builds { OnOk result (Leaves self.old self.new) }
         ensures unreadable { IfErr result (λ e. e ≡ Unreadable → (s : State) → Builds self.old s → s.outer ≡ []) }
     {
         self.join()?;
@@ -140,9 +140,9 @@ impl Builder {
 
     /// An operator, which is unreadable where no atom stands before it.
     pub fn repeat(&mut self, operator: Operator) -> Result<(), PatternFault>
-        ensures builds { OnOk result ((s : State) → Builds self.old s → (a : Reading) × (s.last ≡ atom a)
-            × Builds self.new (with_piece s (applied operator a))) }
-        ensures unreadable { IfErr result (λ e. e ≡ Unreadable → (s : State) (a : Reading) → Builds self.old s → s.last ≡ atom a → ⊥) }
+        ensures builds { OnOk result (Applies operator self.old self.new) }
+        ensures unreadable { IfErr result (λ e. e ≡ Unreadable → (s : State) (a : Reading) → Builds self.old s
+            → s.last ≡ atom a → ⊥) }
     {
         if self.last != LastRead::Atom {
             return Err(PatternFault::Unreadable);

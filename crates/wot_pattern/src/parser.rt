@@ -2,7 +2,7 @@ ghost use Rattle.std.specs.Prelude.{◌≡◌, ℕ, ◌+◌, ◌<◌, ◌≤◌,
 ghost use Rattle.std.specs.Str.{chars};
 ghost use Rattle.wot_pattern.specs.Reading.{Reading};
 ghost use Rattle.wot_pattern.specs.Grammar.{Reads, Says, pattern};
-ghost use Rattle.wot_pattern.specs.Steps.{State, Builds, ParserStep, ParserStepBy};
+ghost use Rattle.wot_pattern.specs.Steps.{NoStep, StepsTo};
 ghost use Rattle.wot_pattern.specs.declared.fault.PatternFault.TheVariants.{Unreadable};
 
 use crate::builder::{Builder, Operator};
@@ -71,12 +71,9 @@ fn step_by(
     mark: Mark,
 ) -> Result<usize, PatternFault>
     requires { at < length text.now }
-    ensures built { IfOk result (λ next. (s : State) → Builds builder.old s → (s' : State)
-        × ParserStepBy mark s (slice_index text.now at) (drop (at + 1) text.now) s' (drop next text.now)
-        × Builds builder.new s') }
+    ensures built { IfOk result (λ next. StepsTo mark text.now at next builder.old builder.new) }
     ensures within { IfOk result (λ next. (at < next) × (next ≤ length text.now)) }
-    ensures unreadable { IfErr result (λ e. e ≡ Unreadable → (s s' : State) (t : List ℕ) → Builds builder.old s →
-        ParserStepBy mark s (slice_index text.now at) (drop (at + 1) text.now) s' t → ⊥) }
+    ensures unreadable { IfErr result (λ e. e ≡ Unreadable → NoStep mark text.now at builder.old) }
 {
     let behind = at + 1;
     match mark {

@@ -1,7 +1,7 @@
-ghost use Rattle.std.specs.Prelude.{◌≡◌, ℕ, ◌+◌, ◌<◌, ◌≤◌, ◌∷◌, ◌++◌, List, Some, None, length, drop, IfOk, IfErr, IfSome, IsNone};
-ghost use Rattle.wot_pattern.specs.Reading.{Atom, range};
+ghost use Rattle.std.specs.Prelude.{◌≡◌, ℕ, ◌+◌, ◌<◌, ◌≤◌, List, Some, None, length, drop, IfOk, IfErr, IfSome, IsNone};
+ghost use Rattle.wot_pattern.specs.Reading.{Atom};
 ghost use Rattle.wot_pattern.specs.Nodes.{atom_of};
-ghost use Rattle.wot_pattern.specs.Grammar.{item, first_item, Items, Range};
+ghost use Rattle.wot_pattern.specs.Grammar.{AddsItems, Items, NoItems, Range, ReadsRange, first_item, item};
 ghost use Rattle.wot_pattern.specs.declared.item.Item.{Item};
 ghost use Rattle.wot_pattern.specs.declared.fault.PatternFault.TheVariants.{Unreadable, Memory};
 
@@ -66,10 +66,11 @@ fn read_first_item(text: &[char]) -> Option<(Item, usize)>
 /// Reads the items of a range after its first, up to the closing bracket, and gives the position behind that.
 fn read_items(items: &mut Vec<Item>, text: &[char], start: usize) -> Result<usize, PatternFault>
     requires { start ≤ length text.now }
-    ensures read { IfOk result (λ end. (xs : List Item) × (items.new.items ≡ items.old.items ++ xs)
-        × Items (drop start text.now) xs (drop end text.now)) }
+    ensures read { IfOk result (λ end.
+        AddsItems items.old.items items.new.items (drop start text.now) (drop end text.now)) }
     ensures within { IfOk result (λ end. (start < end) × (end ≤ length text.now)) }
-    ensures unreadable { IfErr result (λ e. e ≡ Unreadable → (xs : List Item) (r : List ℕ) → Items (drop start text.now) xs r → ⊥) }
+    ensures unreadable { IfErr result (λ e. e ≡ Unreadable → (xs : List Item) (r : List ℕ)
+        → Items (drop start text.now) xs r → ⊥) }
 {
     let mut at = start;
     'items: while at < text.len() {
@@ -93,12 +94,10 @@ fn read_all_items(
     negated: bool,
 ) -> Result<(Leaf, usize), PatternFault>
     requires { start ≤ length text.now }
-    ensures read { IfOk result (λ read. (x : Item) × (u : List ℕ) × (xs : List Item)
-        × (first_item (drop start text.now) ≡ Some (x, u)) × Items u xs (drop read.1 text.now)
-        × (atom_of read.0 ≡ range negated (x ∷ xs))) }
+    ensures read { IfOk result (λ read.
+        ReadsRange negated (drop start text.now) (atom_of read.0) (drop read.1 text.now)) }
     ensures within { IfOk result (λ read. (start < read.1) × (read.1 ≤ length text.now)) }
-    ensures unreadable { IfErr result (λ e. e ≡ Unreadable → (x : Item) (u : List ℕ) (xs : List Item) (r : List ℕ) →
-        first_item (drop start text.now) ≡ Some (x, u) → Items u xs r → ⊥) }
+    ensures unreadable { IfErr result (λ e. e ≡ Unreadable → NoItems (drop start text.now)) }
 {
     let Some((first, taken)) = read_first_item(&text[start..]) else {
         return Err(PatternFault::Unreadable);
@@ -114,7 +113,8 @@ pub fn read_range(alloc: Global, text: &[char], start: usize) -> Result<(Leaf, u
     requires { start ≤ length text.now }
     ensures read { IfOk result (λ read. Range (drop start text.now) (atom_of read.0) (drop read.1 text.now)) }
     ensures within { IfOk result (λ read. (start < read.1) × (read.1 ≤ length text.now)) }
-    ensures unreadable { IfErr result (λ e. e ≡ Unreadable → (a : Atom) (r : List ℕ) → Range (drop start text.now) a r → ⊥) }
+    ensures unreadable { IfErr result (λ e. e ≡ Unreadable → (a : Atom) (r : List ℕ) → Range (drop start text.now) a r
+        → ⊥) }
 {
     if start < text.len() && text[start] == '^' {
         let (leaf, end) = read_all_items(alloc, text, start + 1, true)?;

@@ -1,4 +1,4 @@
-ghost use Rattle.std.specs.Prelude.{◌≡◌, ◌+◌, ◌<◌, ◌≤◌, [], length, reverse, vec_len, vec_capacity};
+ghost use Rattle.std.specs.Prelude.{◌≡◌, ◌+◌, ◌<◌, ◌≤◌, true, [], ◌∷◌, length, reverse, vec_len, vec_capacity};
 ghost use Rattle.wot_pattern.specs.Nodes.{token_of, tokens_of};
 ghost use Rattle.wot_pattern.specs.Passes.{settled_one, settled, top};
 
@@ -7,35 +7,36 @@ use crate::leaf::holds_empty;
 use crate::node::Node;
 use crate::stack::{put, take_or};
 
+/// Puts a flow onto the stack that holds between the position and itself.
+fn put_empty(ready: &mut Vec<Flow>, ended: bool)
+    requires { vec_len ready.old < vec_capacity ready.old }
+    ensures items { reverse ready.new.items ≡ record { empty = true; ended = ended } ∷ reverse ready.old.items }
+    ensures longer { vec_len ready.new ≡ vec_len ready.old + 1 }
+    ensures room { vec_capacity ready.old ≤ vec_capacity ready.new }
+{
+    let empty = true;
+    put(ready, Flow { empty, ended });
+}
+
 /// Takes the flows of the trees in this node off the stack, puts the flow of its own tree there, and gives the node's
 /// slot.
 fn settle_one(node: &Node, slot: Flow, ready: &mut Vec<Flow>, first: bool, last: bool) -> Flow
     requires { vec_len ready.old < vec_capacity ready.old }
     ensures slot { result ≡ (settled_one first last (token_of node.now) slot (reverse ready.old.items)).0 }
-    ensures ready { reverse ready.new.items ≡ (settled_one first last (token_of node.now) slot (reverse ready.old.items)).1 }
+    ensures ready { reverse ready.new.items ≡
+        (settled_one first last (token_of node.now) slot (reverse ready.old.items)).1 }
     ensures longer { vec_len ready.new ≤ vec_len ready.old + 1 }
     ensures room { vec_capacity ready.old ≤ vec_capacity ready.new }
 {
     match node {
         Node::Nothing => {
-            put(
-                ready,
-                Flow {
-                    empty: true,
-                    ended: false,
-                },
-            );
+            put_empty(ready, false);
             slot
         }
         Node::Single(leaf) => {
             let empty = holds_empty(leaf, first, last);
-            put(
-                ready,
-                Flow {
-                    empty,
-                    ended: slot.ended,
-                },
-            );
+            let ended = slot.ended;
+            put(ready, Flow { empty, ended });
             slot
         }
         Node::Sequence => {
@@ -56,13 +57,7 @@ fn settle_one(node: &Node, slot: Flow, ready: &mut Vec<Flow>, first: bool, last:
         }
         Node::Star => {
             let inner = take_or(ready, Flow::NONE);
-            put(
-                ready,
-                Flow {
-                    empty: true,
-                    ended: inner.ended,
-                },
-            );
+            put_empty(ready, inner.ended);
             inner
         }
         Node::Plus => {
@@ -72,13 +67,7 @@ fn settle_one(node: &Node, slot: Flow, ready: &mut Vec<Flow>, first: bool, last:
         }
         Node::Optional => {
             let inner = take_or(ready, Flow::NONE);
-            put(
-                ready,
-                Flow {
-                    empty: true,
-                    ended: inner.ended,
-                },
-            );
+            put_empty(ready, inner.ended);
             slot
         }
     }

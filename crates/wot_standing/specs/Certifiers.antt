@@ -1,11 +1,11 @@
 -- The newest certification of each issuer on a user ID, known by its place there.
-use Rattle.std.specs.Prelude.{◌≡◌, ℕ, max, if◌then◌else◌, List, Option, Some}
+use Rattle.std.specs.Prelude.{◌≡◌, ℕ, max, cond, if◌then◌else◌, List, Option, Some}
 use Rattle.std.specs.BTreeMap.{is_at}
 use Rattle.std.specs.List.{slice_get}
 use Rattle.std.specs.Map.{lookup}
 use Rattle.std.specs.Option.{option_map_or, option_and_then}
 use Rattle.wot_types.specs.declared.fpr.Fpr.{Fpr}
-use Rattle.wot_types.specs.Fpr.{fpr_cmp}
+use Rattle.wot_types.specs.Fpr.{fpr_cmp, same_fpr}
 use Rattle.wot_verdict.specs.Verdicts.{Entries}
 use Rattle.wot_cert.specs.Certificate.{Signature, Component}
 use Rattle.wot_cert.specs.Ranked.{higher_of}
@@ -21,13 +21,19 @@ use Rattle.wot_standing.specs.Standing.{newest_certification}
 abbrev pub number_for : List (Fpr × ℕ) → Fpr → Option ℕ
 number_for numbers issuer = lookup (is_at (fpr_cmp issuer)) numbers
 
+-- this is the number for this issuer now; for all others there is what there was
+abbrev pub KeepsNumber : List (Fpr × ℕ) → List (Fpr × ℕ) → Fpr → ℕ → Type 0
+KeepsNumber old new issuer number =
+    (q : Fpr) → number_for new q ≡ cond (same_fpr issuer q) (Some number) (number_for old q)
+
 -- the signature at the place that is kept for an issuer
 abbrev pub kept_for : List (Fpr × ℕ) → List Signature → Fpr → Option Signature
 kept_for places sigs issuer = option_and_then (slice_get sigs) (number_for places issuer)
 
 -- The places are those of the newest certification of each issuer that is live and unrevoked.
 abbrev pub KeepsNewest : Entries → ℕ → Component → List (Fpr × ℕ) → Type 0
-KeepsNewest verdicts t uid places = (issuer : Fpr) → kept_for places uid.sigs issuer ≡ newest_certification verdicts issuer t uid
+KeepsNewest verdicts t uid places =
+    (issuer : Fpr) → kept_for places uid.sigs issuer ≡ newest_certification verdicts issuer t uid
 
 -- ---- one signature more, in front
 
@@ -43,4 +49,13 @@ later_by verdicts issuer t s best =
 -- what the newest valid certification by an issuer becomes with this signature
 abbrev pub newer_by : Entries → Fpr → ℕ → List Signature → Signature → Option Signature → Option Signature
 newer_by verdicts issuer t sigs s best =
-    if is_valid_after verdicts issuer t Certification (revoked_at verdicts issuer t sigs) s then higher_of newness s best else best
+    if is_valid_after verdicts issuer t Certification (revoked_at verdicts issuer t sigs) s
+    then higher_of newness s best else best
+
+-- the numbers have taken the signature in; and so have the places
+abbrev pub TakesLatest : Entries → ℕ → Signature → List (Fpr × ℕ) → List (Fpr × ℕ) → Type 0
+TakesLatest verdicts t s old new = (q : Fpr) → number_for new q ≡ later_by verdicts q t s (number_for old q)
+
+abbrev pub TakesNewest : Entries → ℕ → List Signature → Signature → List (Fpr × ℕ) → List (Fpr × ℕ) → Type 0
+TakesNewest verdicts t sigs s old new =
+    (q : Fpr) → kept_for new sigs q ≡ newer_by verdicts q t sigs s (kept_for old sigs q)

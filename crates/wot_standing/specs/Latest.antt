@@ -28,4 +28,5 @@ outlives (Some revoked) made = nat_lt revoked made
 -- valid, where the latest revocation was made then
 abbrev pub is_valid_after : Entries → Fpr → ℕ → Binding → Option ℕ → Signature → Bool
 is_valid_after verdicts fpr t binding revoked s =
-    is_binding binding s && (counts_by verdicts fpr s && (is_live t s && (not (is_revocable s) || outlives revoked (made_of s))))
+    is_binding binding s && (counts_by verdicts fpr s && (is_live t s
+    && (not (is_revocable s) || outlives revoked (made_of s))))

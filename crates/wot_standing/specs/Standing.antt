@@ -1,5 +1,6 @@
 -- Whether a key stands at a time, and what ends it.
-use Rattle.std.specs.Prelude.{ℕ, ◌+◌, ◌==◌, Bool, not, ◌&&◌, if◌then◌else◌, List, [], ◌∷◌, map, filter, Option, Some, None, is_some, min}
+use Rattle.std.specs.Prelude.{◌≡◌, ℕ, ◌+◌, ◌==◌, Bool, false, not, ◌&&◌, if◌then◌else◌}
+use Rattle.std.specs.Prelude.{List, [], ◌∷◌, map, filter, Option, Some, None, is_some, min}
 use Rattle.std.specs.declared.cmp.Ordering.{Ordering}
 use Rattle.std.specs.Ordering.{ordering_then, bool_cmp}
 use Rattle.std.specs.List.{list_any, filter_map}
@@ -31,6 +32,12 @@ primacy a b = ordering_then (bool_cmp (is_primary a) (is_primary b)) (newness a 
 -- the newest certification of a user ID by this one; by the user ID's own key it is its self-certification
 abbrev pub newest_certification : Entries → Fpr → ℕ → Component → Option Signature
 newest_certification verdicts fpr t uid = newest_valid verdicts fpr t Certification uid.sigs
+
+-- an issuer by which no signature on a user ID counts has no certification there
+abbrev pub OnlyCounted : Entries → ℕ → Type 0
+OnlyCounted verdicts t =
+    (issuer : Fpr) (uid : Component) → list_any (counts_by verdicts issuer) uid.sigs ≡ false
+    → newest_certification verdicts issuer t uid ≡ None
 
 -- the one that governs among the user IDs: each gives its newest self-certification
 abbrev pub primary_among : Entries → Fpr → ℕ → List Component → Option Signature

@@ -20,7 +20,11 @@ pub record IsSteady (c : Certificate) (t u : ℕ) : Type 0 where
   pub direct : AllByRecursion (Same t u) c.direct
   pub user_ids : AllByRecursion (SameOn t u) c.user_ids
 
--- The newest certification by this one on a user ID is the same at both times, and so is whether it revoked the user ID.
+-- The newest certification by this one on a user ID is the same at both times, and so is whether it revoked the user
+-- ID.
 pub record SameBy (verdicts : Entries) (issuer : Fpr) (t u : ℕ) (uid : Component) : Type 0 where
   pub certification : newest_certification verdicts issuer t uid ≡ newest_certification verdicts issuer u uid
   pub revoked : is_own_revoked verdicts issuer t uid ≡ is_own_revoked verdicts issuer u uid
+
+abbrev pub AreSameBy : Entries → Fpr → ℕ → ℕ → Certificate → Type 0
+AreSameBy verdicts issuer t u c = AllByRecursion (SameBy verdicts issuer t u) c.user_ids

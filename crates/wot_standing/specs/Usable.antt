@@ -12,11 +12,12 @@ use Rattle.wot_standing.specs.Standing.{own, standing_of}
 abbrev pub is_after : ℕ → Option ℕ → Bool
 is_after t moment = option_map_or (nat_lt t) moment true
 
--- An edge made then is usable at the time of its issuer's standing: the issuer stands, was there when the edge was made,
--- had not ended, isn't hard revoked, and wasn't soft revoked by then.
+-- An edge made then is usable at the time of its issuer's standing: the issuer stands, was there when the edge was
+-- made, had not ended, isn't hard revoked, and wasn't soft revoked by then.
 abbrev pub is_usable : Standing → ℕ → Bool
 is_usable issuer made =
-    issuer.has && (nat_le issuer.created made && (is_after made issuer.end && (not issuer.hard && is_after made issuer.soft)))
+    issuer.has && (nat_le issuer.created made
+    && (is_after made issuer.end && (not issuer.hard && is_after made issuer.soft)))
 
 -- A key is in order at t where it stands, was created, hasn't ended and isn't revoked.
 abbrev pub is_key_in_order : Standing → ℕ → Bool

@@ -1,14 +1,14 @@
 // The newest certifications of all issuers on a user ID, in one walk.
-ghost use Rattle.std.specs.Prelude.{◌≡◌, ◌<◌, ◌^◌, length, cond, Some, OnOk, IfOk, if◌then◌else◌};
+ghost use Rattle.std.specs.Prelude.{◌≡◌, ◌<◌, ◌^◌, length, Some, OnOk, IfOk, if◌then◌else◌};
 ghost use Rattle.std.specs.List.{slice_get};
 ghost use Rattle.std.specs.Option.{option_copied};
 ghost use Rattle.wot_types.specs.declared.fpr.Fpr.{Fpr as TheFpr};
 ghost use Rattle.wot_cert.specs.Ranked.{higher_of};
 ghost use Rattle.wot_cert.specs.Time.{newness};
-ghost use Rattle.wot_types.specs.Fpr.{same_fpr};
 ghost use Rattle.wot_standing.specs.declared.kinds.Binding.TheVariants.{Certification};
+ghost use Rattle.wot_standing.specs.Certifiers.{kept_for, number_for};
 ghost use Rattle.wot_standing.specs.Valid.{newest_valid};
-ghost use Rattle.wot_standing.specs.Certifiers.{KeepsLatest, KeepsNewest, kept_for, later_by, newer_by, number_for};
+ghost use Rattle.wot_standing.specs.Certifiers.{KeepsLatest, KeepsNewest, KeepsNumber, TakesLatest, TakesNewest};
 
 use crate::kinds::{Binding, made};
 use crate::latest::{later, revokes};
@@ -64,9 +64,7 @@ fn number(numbers: &Numbers, issuer: &Fpr) -> Option<u32>
 }
 
 fn keep(numbers: &mut Numbers, issuer: Fpr, number: u32) -> Result<(), Memory>
-    ensures { OnOk result ((q : TheFpr) →
-        number_for numbers.new.entries q
-        ≡ cond (same_fpr issuer q) (Some number) (number_for numbers.old.entries q)) }
+    ensures { OnOk result (KeepsNumber numbers.old.entries numbers.new.entries issuer number) }
 {
     numbers.insert(issuer, number)?;
     Ok(())
@@ -97,8 +95,7 @@ fn note_revocation(
     verdicts: &Verdicts,
     t: u32,
 ) -> Result<(), Memory>
-    ensures { OnOk result ((q : TheFpr) →
-        number_for latest.new.entries q ≡ later_by verdicts.now q t sig.now (number_for latest.old.entries q)) }
+    ensures { OnOk result (TakesLatest verdicts.now t sig.now latest.old.entries latest.new.entries) }
 {
     let Some(issuer) = issuer_of(sig, verdicts) else {
         return Ok(());
@@ -121,8 +118,8 @@ fn newest_places(
 ) -> Result<Numbers, Memory>
     requires few { length sigs.now < 2 ^ 32 }
     requires latest { KeepsLatest verdicts.now t sigs.now latest.now.entries }
-    ensures { IfOk result (λ places. (q : TheFpr) →
-        kept_for places.entries sigs.now q ≡ newest_valid verdicts.now q t Certification sigs.now) }
+    ensures { IfOk result (λ places. (q : TheFpr)
+        → kept_for places.entries sigs.now q ≡ newest_valid verdicts.now q t Certification sigs.now) }
 {
     let mut places = BTreeMap::new(alloc);
     let mut rest = sigs;
@@ -153,9 +150,7 @@ fn note_certification(
 ) -> Result<(), Memory>
     requires here { slice_get sigs.now at ≡ Some sig.now }
     requires latest { KeepsLatest verdicts.now t sigs.now latest.now.entries }
-    ensures { OnOk result ((q : TheFpr) →
-        kept_for places.new.entries sigs.now q
-        ≡ newer_by verdicts.now q t sigs.now sig.now (kept_for places.old.entries sigs.now q)) }
+    ensures { OnOk result (TakesNewest verdicts.now t sigs.now sig.now places.old.entries places.new.entries) }
 {
     let Some(issuer) = issuer_of(sig, verdicts) else {
         return Ok(());
@@ -182,7 +177,8 @@ fn kept<'a>(places: &Numbers, sigs: &'a [Sig], issuer: &Fpr) -> Option<&'a Sig>
 
 /// Whether it is newer than the other one, if there is one.
 fn is_newest(sig: &Sig, other: Option<&Sig>) -> bool
-    ensures { higher_of newness sig.now (option_copied other.entry) ≡ (if result then Some sig.now else option_copied other.entry) }
+    ensures { higher_of newness sig.now (option_copied other.entry)
+        ≡ (if result then Some sig.now else option_copied other.entry) }
 {
     match other {
         Some(other) => compare_newness(sig, other) != Ordering::Less,

@@ -2,7 +2,8 @@ ghost use Rattle.std.specs.Prelude.{◌≡◌, ◌==◌, ℕ, Bool, nat_le, ◌&
 ghost use Rattle.wot_cert.specs.Issuer.{counts_by};
 ghost use Rattle.wot_cert.specs.Revoked.{has_kind as has_kind_spec, is_revocable as is_revocable_spec};
 ghost use Rattle.wot_cert.specs.Time.{made_of, facts_live, is_live as is_live_spec};
-ghost use Rattle.wot_standing.specs.Kinds.{is_binding as is_binding_spec, is_soft as is_soft_spec, is_soft_reason as is_soft_reason_spec, is_primary as is_primary_spec};
+ghost use Rattle.wot_standing.specs.Kinds.{is_binding as is_binding_spec, is_soft as is_soft_spec};
+ghost use Rattle.wot_standing.specs.Kinds.{is_soft_reason as is_soft_reason_spec, is_primary as is_primary_spec};
 
 use std::cmp::Ordering;
 use wot_cert::{Sig, issuer_of};

@@ -73,7 +73,8 @@ fn newest_after<'a>(
     binding: Binding,
     revoked: Option<u32>,
 ) -> Option<&'a Sig>
-    ensures { option_copied result ≡ greatest newness (filter (is_valid_after_spec verdicts.now fpr.now t binding revoked) sigs.now) }
+    ensures { option_copied result ≡ greatest newness
+        (filter (is_valid_after_spec verdicts.now fpr.now t binding revoked) sigs.now) }
 {
     let mut best: Option<&'a Sig> = None;
     let mut rest = sigs;

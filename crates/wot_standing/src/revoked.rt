@@ -1,7 +1,9 @@
 ghost use Rattle.std.specs.Prelude.{◌≡◌, min};
 ghost use Rattle.std.specs.List.{list_any};
 ghost use Rattle.std.specs.Option.{option_map_or};
-ghost use Rattle.wot_standing.specs.Standing.{revokes_key as revokes_key_spec, is_hard_revocation as is_hard_spec, is_soft_revocation as is_soft_revocation_spec, soft_moment as soft_moment_spec};
+ghost use Rattle.wot_standing.specs.Standing.{revokes_key as revokes_key_spec, is_hard_revocation as is_hard_spec};
+ghost use Rattle.wot_standing.specs.Standing.{is_soft_revocation as is_soft_revocation_spec};
+ghost use Rattle.wot_standing.specs.Standing.{soft_moment as soft_moment_spec};
 
 use crate::kinds::{KEY_REVOCATION, counts, has_kind, is_live, is_soft, made};
 use wot_cert::Sig;

@@ -1,9 +1,8 @@
 ghost use Rattle.std.specs.Prelude.{ℕ, ◌≡◌};
-ghost use Rattle.std.specs.List.{AllByRecursion};
 ghost use Rattle.wot_types.specs.declared.fpr.Fpr.{Fpr};
 ghost use Rattle.wot_verdict.specs.Verdicts.{Entries};
 ghost use Rattle.wot_cert.specs.Span.{span_of, InSpan};
-ghost use Rattle.wot_standing.specs.Steady.{IsSteady, SameBy};
+ghost use Rattle.wot_standing.specs.Steady.{AreSameBy, IsSteady};
 
 use wot_cert::{Cert, Span, span};
 
@@ -11,8 +10,8 @@ use wot_cert::{Cert, Span, span};
 pub fn steady_span(cert: &Cert, t: u32) -> Span
     ensures span { result ≡ span_of cert.now t }
     ensures steady { (u : ℕ) → InSpan result u → IsSteady cert.now t u }
-    ensures certifications { (u : ℕ) → InSpan result u → (verdicts : Entries) (issuer : Fpr) →
-        AllByRecursion (SameBy verdicts issuer t u) cert.now.user_ids }
+    ensures certifications { (u : ℕ) → InSpan result u → (verdicts : Entries) (issuer : Fpr)
+        → AreSameBy verdicts issuer t u cert.now }
 {
     span(cert, t)
 }

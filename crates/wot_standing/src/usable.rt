@@ -1,6 +1,7 @@
 ghost use Rattle.std.specs.Prelude.{◌≡◌, true, nat_lt};
 ghost use Rattle.std.specs.Option.{option_map_or};
-ghost use Rattle.wot_standing.specs.Usable.{is_usable as is_usable_spec, is_key_in_order as is_key_in_order_spec, is_after as is_after_spec};
+ghost use Rattle.wot_standing.specs.Usable.{is_usable as is_usable_spec, is_key_in_order as is_key_in_order_spec};
+ghost use Rattle.wot_standing.specs.Usable.{is_after as is_after_spec};
 
 use crate::Standing;
 

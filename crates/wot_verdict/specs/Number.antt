@@ -8,8 +8,8 @@ use Rattle.wot_types.specs.declared.number.SigNumber.{SigNumber}
 abbrev pub field : List ℕ → List ℕ
 field octets = to_be_bytes w32 (length octets) ++ octets
 
--- Five fields: the text `wot1`, the key's body, one octet for the kind of place, the body of the component (empty where the
--- signature stands on the key), and the signature's body.
+-- Five fields: the text `wot1`, the key's body, one octet for the kind of place, the body of the component (empty where
+-- the signature stands on the key), and the signature's body.
 abbrev pub numbered_text : List ℕ → ℕ → List ℕ → List ℕ → List ℕ
 numbered_text key kind component signature =
     field (codes "wot1") ++ field key ++ field (kind ∷ []) ++ field component ++ field signature

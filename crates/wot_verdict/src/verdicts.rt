@@ -1,6 +1,7 @@
-ghost use Rattle.std.specs.Prelude.{◌≡◌, ◌≢◌, ◌<◌, ◌^◌, ◌↔◌, [], Bool, length, IsTrue, IfOk, OnOk, OnErr, Some, None, is_some, cond};
+ghost use Rattle.std.specs.Prelude.{◌≡◌, ◌≢◌, ◌<◌, ◌^◌, ◌↔◌, [], Bool, length, IsTrue, IfOk, OnOk, OnErr, Some, None};
+ghost use Rattle.std.specs.Prelude.{is_some, cond};
 ghost use Rattle.std.specs.Iterator.{YieldsFirst, item_count};
-ghost use Rattle.wot_types.specs.declared.number.SigNumber.{SigNumber as SigNumberOf};
+ghost use Rattle.wot_types.specs.declared.number.SigNumber.{SigNumber as Number};
 ghost use Rattle.wot_verdict.specs.Verdicts.{verdict_at, with_verdict, without_verdict, is_number, AreSortedByNumber};
 
 use crate::Verdict;
@@ -45,8 +46,8 @@ impl Verdicts {
     /// After `Memory` all is as before.
     pub fn set(&mut self, number: SigNumber, verdict: Verdict) -> Result<bool, Memory>
         ensures set { OnOk result (self.new ≡ with_verdict self.old number verdict) }
-        ensures at_each { OnOk result ((q : SigNumberOf) →
-            verdict_at self.new q ≡ cond (is_number number q) (Some verdict) (verdict_at self.old q)) }
+        ensures at_each { OnOk result ((q : Number)
+            → verdict_at self.new q ≡ cond (is_number number q) (Some verdict) (verdict_at self.old q)) }
         ensures changed { IfOk result (λ changed. IsTrue changed ↔ (verdict_at self.old number ≢ Some verdict)) }
         ensures kept { OnErr result (self.new ≡ self.old) }
         ensures was_absent { OnErr result (verdict_at self.old number ≡ None) }
@@ -58,7 +59,8 @@ impl Verdicts {
     /// Takes the verdict on a number away, and says whether there was one.
     pub fn clear(&mut self, number: &SigNumber) -> bool
         ensures cleared { self.new ≡ without_verdict self.old number.now }
-        ensures at_each { (q : SigNumberOf) → verdict_at self.new q ≡ cond (is_number number.now q) None (verdict_at self.old q) }
+        ensures at_each { (q : Number)
+            → verdict_at self.new q ≡ cond (is_number number.now q) None (verdict_at self.old q) }
         ensures was_there { result ≡ is_some (verdict_at self.old number.now) }
     {
         self.by_number.remove(number).is_some()

@@ -1,9 +1,9 @@
 use Rattle.std.proofs.Common.{◌≡◌, ◌+◌, inr, true, false, List, ℕ, refl, sym, subst, ◌∙◌}
 use Rattle.wot_edge.specs.declared.edge.EdgeFacts.{EdgeFacts}
-use Rattle.wot_edge.specs.Record.{Has, Row, edges_into}
+use Rattle.wot_edge.specs.Record.{EachRow, Has, Row, edges_into}
 use Rattle.wot_check.specs.declared.demand.Demand.{Demand}
 use Rattle.wot_check.specs.Asked.{question_of, used_in}
-use Rattle.wot_check.specs.Demand.{EachRow, is_covered}
+use Rattle.wot_check.specs.Demand.{is_covered}
 use Rattle.wot_check.proofs.Rows.{all_into, into_own, into_target, row_edge, within_first, within_later}
 use Rattle.wot_check.proofs.Testing.{covered_more, covered_fails, covered_all}
 use Rattle.wot_check.proofs.points.covers.Goals as goal
