@@ -33,3 +33,12 @@ mod Forms
 mod Ending
 mod Playing
 mod Summing
+mod Entries
+mod Rising
+mod Behind
+mod Viewed
+mod Hearing
+mod Joining
+mod Exchanges
+mod Begun
+mod StaleTold

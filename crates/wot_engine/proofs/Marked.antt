@@ -13,7 +13,7 @@ use Rattle.wot_cert.specs.Certificate.{Certificate, unite, unmarked}
 use Rattle.wot_cert.specs.Judged.{judged}
 use Rattle.wot_keyring.specs.Keyring.{Certificates, is_fpr}
 use Rattle.wot_keyring.specs.Dump.{judged_anew, judged_by}
-use Rattle.wot_keyring.specs.Import.{united_with, with_cert, with_certs}
+use Rattle.wot_keyring.specs.Import.{spelled_in, united_with, with_cert, with_certs}
 use Rattle.wot_script.specs.declared.reply.Reply.{Reply}
 use Rattle.wot_certd.specs.World.{World}
 use Rattle.wot_engine.specs.Scene.{Scene, opening}
@@ -71,10 +71,13 @@ module _
     with_all certs [] all = all
     with_all certs (c ∷ cs) all = with_all (with_cert rows certs c) cs (with_one certs c all)
 
+    with_spelled : (certs : Certificates) (octets : List ℕ) → AreMarked rows certs → AreMarked rows (with_certs rows certs (spelled_in octets))
+    with_spelled certs octets all = with_all certs (spelled_in octets) all
+
     without : (fpr : Fpr) (certs : Certificates) → AreMarked rows certs → AreMarked rows (remove_entry (is_fpr fpr) certs)
     without fpr certs all = all_without (λ (e : Fpr × Certificate). IsMarked rows e.1) (is_fpr fpr) certs all
 
     pub reached_marked : (world : World) (lines : List (List ℕ)) (replies : List Reply) (last : Scene) → Run rows (opening world) lines replies last → judged_by rows last.whole.state.held ≡ last.whole.state.held
     reached_marked world lines replies last run =
-        let all : AreMarked rows last.whole.state.held.certs = run_stays rows (AreMarked rows) with_all without lines (opening world) replies last tt run in
+        let all : AreMarked rows last.whole.state.held.certs = run_stays rows (AreMarked rows) with_spelled without lines (opening world) replies last tt run in
         ap (λ (certs : Certificates). record last.whole.state.held { certs = certs }) (marked_anew rows last.whole.state.held.certs all)

@@ -1,5 +1,5 @@
 -- Each certificate stands under the fingerprint of its key, also after an import or a removal.
-use Rattle.std.proofs.Common.{◌≡◌, Bool, true, false, cond, List, [], ◌∷◌, Option, Some, None, refl, sym, ap, ◌∙◌}
+use Rattle.std.proofs.Common.{◌≡◌, ℕ, Bool, true, false, cond, List, [], ◌∷◌, Option, Some, None, refl, sym, ap, ◌∙◌}
 use Rattle.std.specs.declared.cmp.Ordering.{Ordering}
 use Rattle.std.specs.declared.cmp.Ordering.TheVariants.{Less, Equal, Greater}
 use Rattle.std.specs.Ordering.{is_eq, match_ordering}
@@ -14,7 +14,7 @@ use Rattle.wot_policy.specs.declared.rows.PolicyRows.{PolicyRows}
 use Rattle.wot_cert.specs.Certificate.{Certificate}
 use Rattle.wot_cert.specs.Judged.{judged}
 use Rattle.wot_keyring.specs.Keyring.{Certificates, is_fpr}
-use Rattle.wot_keyring.specs.Import.{united_with, with_cert, with_certs}
+use Rattle.wot_keyring.specs.Import.{spelled_in, united_with, with_cert, with_certs}
 use Rattle.wot_engine.proofs.Stays.{all_without}
 
 abbrev pub AreNamed : Certificates → Type 0
@@ -57,6 +57,9 @@ named_one rows certs c all =
     named_with certs (fpr_of c.key) (united_with (lookup (is_fpr (fpr_of c.key)) certs) (judged rows c))
     (united_named certs (fpr_of c.key) (lookup (is_fpr (fpr_of c.key)) certs) (judged rows c) all refl refl) all
 
-pub named_all : (rows : PolicyRows) (certs : Certificates) (cs : List Certificate) → AreNamed certs → AreNamed (with_certs rows certs cs)
-named_all rows certs [] all = all
-named_all rows certs (c ∷ cs) all = named_all rows (with_cert rows certs c) cs (named_one rows certs c all)
+named_many : (rows : PolicyRows) (certs : Certificates) (cs : List Certificate) → AreNamed certs → AreNamed (with_certs rows certs cs)
+named_many rows certs [] all = all
+named_many rows certs (c ∷ cs) all = named_many rows (with_cert rows certs c) cs (named_one rows certs c all)
+
+pub named_all : (rows : PolicyRows) (certs : Certificates) (octets : List ℕ) → AreNamed certs → AreNamed (with_certs rows certs (spelled_in octets))
+named_all rows certs octets all = named_many rows certs (spelled_in octets) all

@@ -33,7 +33,7 @@ use Rattle.wot_engine.specs.Outcome.{Outcome, only, done, imports, load, remove,
 use Rattle.wot_engine.specs.Listing.{explain, pending}
 use Rattle.wot_engine.specs.Entry.{entry_in, given_by}
 use Rattle.wot_engine.specs.LineStep.{LineStep, HasReply, Answers, Does, Gives, Stays}
-use Rattle.wot_engine.specs.Scene.{Scene, Step}
+use Rattle.wot_engine.specs.Scene.{Scene}
 use Rattle.wot_engine.specs.Whole.{Whole}
 use Rattle.wot_engine.specs.Transcript.{Run}
 
@@ -48,7 +48,7 @@ all_without Q test (e ∷ es) all =
 
 module _
     (rows : PolicyRows) (P : Certificates → Type 0)
-    (imported : (certs : Certificates) (cs : List Certificate) → P certs → P (with_certs rows certs cs))
+    (imported : (certs : Certificates) (octets : List ℕ) → P certs → P (with_certs rows certs (spelled_in octets)))
     (removed : (fpr : Fpr) (certs : Certificates) → P certs → P (remove_entry (is_fpr fpr) certs))
   where
     abbrev Holds : State → Type 0
@@ -66,7 +66,7 @@ module _
     unless_stays s new (Some fault) p q = p
 
     imports_stays : (s : State) (octets : List ℕ) (answer : Result Imported Refusal) → Holds s → Holds (imports rows s octets answer).state
-    imports_stays s octets (Ok counts) p = imported s.held.certs (spelled_in octets) p
+    imports_stays s octets (Ok counts) p = imported s.held.certs octets p
     imports_stays s octets (Err fault) p = p
 
     load_stays : (s : State) (name : Name) (answer : Answer) → Holds s → Holds (load rows s name answer).state

@@ -23,3 +23,4 @@ pub mod Fresh
 pub mod Depends
 pub mod Machine
 pub mod Made
+pub mod Joined

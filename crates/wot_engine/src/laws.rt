@@ -7,6 +7,7 @@ ghost use Rattle.wot_certd.specs.World.{Answer, World};
 ghost use Rattle.wot_cache.specs.State.{IsState};
 ghost use Rattle.wot_engine.specs.Absent.{AreClaimsAccepted, DoClaimsLeaveNothing};
 ghost use Rattle.wot_engine.specs.Depends.{DependsOnWhatIsPresent};
+ghost use Rattle.wot_engine.specs.Joined.{NextsAreTold, PiecesJoin, RunsAreExchanges, StaleNumbersDiffer};
 ghost use Rattle.wot_engine.specs.Law.{RefusalsLeaveAll};
 ghost use Rattle.wot_engine.specs.LineStep.{LineStep};
 ghost use Rattle.wot_engine.specs.Scene.{Scene, opening};
@@ -87,4 +88,19 @@ pub fn claims_of_absence_hold()
     least_tables_are_accepted();
     accepted_paths_leave_nothing();
     record_is_lawful();
+}
+
+/// The pieces of a cursor join to the list. Whatever lines come between, by anyone, what a cursor gave since its
+/// beginning is, piece behind piece, what `list` replies in the state at its beginning, from the first binding on, and
+/// all of that once a piece was shorter than asked. Each other reply to its `next` says that its view isn't open, or
+/// that it is stale, with the number at its beginning and the present one. Such numbers differ, in every state.
+pub fn pieces_join_to_the_list()
+    ensures runs { (rows : PolicyRows) → RunsAreExchanges rows }
+    ensures join { (rows : PolicyRows) → PiecesJoin rows }
+    ensures next { (rows : PolicyRows) → NextsAreTold rows }
+    ensures differ { (rows : PolicyRows) → StaleNumbersDiffer rows }
+{
+    record_is_lawful();
+    list_is_one();
+    lines_spell_commands();
 }
