@@ -46,7 +46,8 @@ with_cursor cursors name cursor = insert_entry view_name_cmp cursors name cursor
 -- the cursors, with that one, which is there, after this binding
 abbrev pub with_place : Cursors → List ℕ → Place → Cursors
 with_place cursors name place =
-    option_map_or (λ cursor. set_value (is_name name) cursors (record cursor { place = Some place })) (cursor_at cursors name) cursors
+    option_map_or (λ cursor. set_value (is_name name) cursors (record cursor { place = Some place }))
+    (cursor_at cursors name) cursors
 
 -- the cursors without that one
 abbrev pub without_cursor : Cursors → List ℕ → Cursors

@@ -1,5 +1,6 @@
 -- Public keys of version 4 and of version 6 (RFC 9580, sections 5.5.2 and 5.5.4).
-use Rattle.std.specs.Prelude.{ℕ, ◌+◌, ◌^◌, ◌==◌, ◌&&◌, ◌||◌, nat_le, nat_lt, Bool, if◌then◌else◌, List, ◌∷◌, ◌++◌, length, take, drop, slice_index, Option, Some, None}
+use Rattle.std.specs.Prelude.{ℕ, ◌+◌, ◌^◌, ◌==◌, ◌&&◌, ◌||◌, nat_le, nat_lt, Bool, if◌then◌else◌, List, ◌∷◌, ◌++◌}
+use Rattle.std.specs.Prelude.{length, take, drop, slice_index, Option, Some, None}
 use Rattle.std.specs.Int.{w16, w32, to_be_bytes, from_be_bytes}
 use Rattle.sha1.specs.Sha1.{sha1}
 use Rattle.sha2.specs.Sha256.{sha256}
@@ -11,7 +12,8 @@ use Rattle.wot_key.specs.declared.key.Key.{Key}
 abbrev pub version_in : List ℕ → ℕ
 version_in body = slice_index body 0
 
--- A body of version 4: the octet 4, four octets of creation time, an algorithm octet and material, 65,535 octets at most.
+-- A body of version 4: the octet 4, four octets of creation time, an algorithm octet and material, 65,535 octets at
+-- most.
 abbrev pub is_v4 : List ℕ → Bool
 is_v4 body = nat_le 6 (length body) && nat_le (length body) 65535 && (version_in body == 4)
 
@@ -19,10 +21,12 @@ is_v4 body = nat_le 6 (length body) && nat_le (length body) 65535 && (version_in
 abbrev pub material_in : List ℕ → ℕ
 material_in body = from_be_bytes w32 (take 4 (drop 6 body))
 
--- A body of version 6: the octet 6, four octets of creation time, an algorithm octet, four octets that say how many octets of material
--- there are, and so many octets; fewer than 2^32 octets in all.
+-- A body of version 6: the octet 6, four octets of creation time, an algorithm octet, four octets that say how many
+-- octets of material there are, and so many octets; fewer than 2^32 octets in all.
 abbrev pub is_v6 : List ℕ → Bool
-is_v6 body = nat_le 10 (length body) && nat_lt (length body) (2 ^ 32) && (version_in body == 6) && (material_in body + 10 == length body)
+is_v6 body =
+    nat_le 10 (length body) && nat_lt (length body) (2 ^ 32) && (version_in body == 6)
+    && (material_in body + 10 == length body)
 
 abbrev pub is_readable : List ℕ → Bool
 is_readable body = is_v4 body || is_v6 body

@@ -14,3 +14,4 @@ pub mod Index
 pub mod Later
 pub mod Log
 pub mod From
+pub mod Parts

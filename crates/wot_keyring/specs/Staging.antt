@@ -16,7 +16,7 @@ use Rattle.wot_policy.specs.Kept.{asked_more, rows_of}
 use Rattle.wot_cert.specs.Assembly.{bare}
 use Rattle.wot_cert.specs.Certificate.{Certificate}
 use Rattle.wot_cert.specs.declared.growth.Growth.{Growth}
-use Rattle.wot_cert.specs.Growing.{shrunk, LeadsBack as CertLeadsBack}
+use Rattle.wot_cert.specs.Growing.{shrunk, AsksUpTo, LeadsBack as CertLeadsBack}
 use Rattle.wot_cert.specs.Counts.{sum_of, items_of, signatures_of}
 use Rattle.wot_cert.specs.Judged.{IsJudged, judged, sound_of}
 use Rattle.wot_cert.specs.Text.{size_of}
@@ -158,6 +158,12 @@ sound_in es = weigh_kept sound_of es
 -- how many sound signatures are kept of this certificate
 abbrev pub sound_found : Entries → Certificate → ℕ
 sound_found es c = found_by sound_of (found_for es c)
+
+-- The policy was asked for what is new of a certificate that what was found is united with; where no memory was found,
+-- for some of it.
+abbrev pub AsksToJoin : {F T : Type 0} → Result T Fault → Policy F → Policy F → Option Kept → Certificate → Type 0
+AsksToJoin result before after found c =
+    AsksUpTo result before after (found_by sound_of found) (sound_of (joined (rows_of before) found c))
 
 -- The policy was asked for what is new of a certificate that is put among the kept ones, and of several.
 abbrev pub AsksForOne : {F T : Type 0} → Result T Fault → Policy F → Policy F → ℕ → Entries → Certificate → Type 0

@@ -1,12 +1,9 @@
 //! Uniting a certificate with the kept one in place, so that it costs what it brings, however much is kept.
 ghost use Rattle.std.specs.Prelude.{◌≡◌, ◌<◌, vec_len, vec_capacity, IfOk, OnOk, OnErr, Some};
 ghost use Rattle.wot_policy.specs.Kept.{IsFaithful, rows_of};
-ghost use Rattle.wot_cert.specs.Certificate.{unite};
-ghost use Rattle.wot_cert.specs.Growing.{AsksUpTo};
-ghost use Rattle.wot_cert.specs.Judged.{judged, sound_of};
 ghost use Rattle.wot_keyring.specs.Kept.{AreSortedByFpr, AreJudged};
-ghost use Rattle.wot_keyring.specs.Staging.{clash_at, found_for, joined, kept_with, sound_found, AsksForOne, Counts, GrowsTo, IsGrownAt, IsTally, StillLeadsBack};
-ghost use Rattle.wot_keyring.specs.Staging.{TellsClash};
+ghost use Rattle.wot_keyring.specs.Staging.{clash_at, found_for, kept_with, AsksForOne, AsksToJoin, Counts, GrowsTo};
+ghost use Rattle.wot_keyring.specs.Staging.{IsGrownAt, IsTally, StillLeadsBack, TellsClash};
 
 use crate::kept::Kept;
 use crate::keyring::find;
@@ -55,8 +52,7 @@ fn grow_kept<F: Fn(Ask) -> bool>(
     ensures grows { IfOk result (GrowsTo (rows_of policy.old) terms.now.stamp terms.now.limit cert.now kept.old kept.new) }
     ensures same { OnErr result (kept.new ≡ kept.old) }
     ensures clash { TellsClash result (clash_at (Some kept.old) cert.now) }
-    ensures asked { AsksUpTo result policy.old policy.new
-        (sound_of kept.old.cert) (sound_of (unite kept.old.cert (judged (rows_of policy.old) cert.now))) }
+    ensures asked { AsksToJoin result policy.old policy.new (Some kept.old) cert.now }
     ensures faithful { IsFaithful F.Fn policy.new }
 {
     united_grows();
@@ -107,8 +103,7 @@ fn grow_at<F: Fn(Ask) -> bool>(
         (IsGrownAt (rows_of policy.old) terms.now.stamp terms.now.limit cert.now certs.old.entries certs.new.entries) }
     ensures log { StillLeadsBack log.old.items certs.old.entries log.new.items certs.new.entries }
     ensures clash { TellsClash result (clash_at (found_for certs.old.entries cert.now) cert.now) }
-    ensures asked { AsksUpTo result policy.old policy.new (sound_found certs.old.entries cert.now)
-        (sound_of (joined (rows_of policy.old) (found_for certs.old.entries cert.now) cert.now)) }
+    ensures asked { AsksToJoin result policy.old policy.new (found_for certs.old.entries cert.now) cert.now }
     ensures faithful { IsFaithful F.Fn policy.new }
 {
     let fpr = cert.fpr();

@@ -70,16 +70,14 @@ pub struct Keyring {
 
 impl Model for Keyring {
     ghost use Rattle.wot_keyring.specs.Keyring.{Keyring, of_parts};
-    ghost use Rattle.wot_keyring.specs.Index.{IsIndexOf};
-    ghost use Rattle.wot_keyring.specs.Kept.{IsKeyring, AreTotals};
-    ghost use Rattle.wot_keyring.specs.Log.{IsLogOf};
+    ghost use Rattle.wot_keyring.specs.Parts.{HoldTogether};
 
     ghost Value = { Keyring };
 
     ghost view = { λ a. of_parts a.limits a.certs.entries a.verdicts a.changes };
 
-    ghost invariant = { λ a. let k : Keyring = of_parts a.limits a.certs.entries a.verdicts a.changes in
-        IsKeyring k × AreTotals k a.octets a.signatures × IsIndexOf a.index k.certs × IsLogOf a.log k.certs k.changes };
+    ghost invariant = { λ a. HoldTogether (of_parts a.limits a.certs.entries a.verdicts a.changes)
+        a.octets a.signatures a.index a.log };
 }
 
 impl Keyring {

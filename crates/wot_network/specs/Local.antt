@@ -14,11 +14,13 @@ use Rattle.wot_keyring.specs.Keyring.{Certificates, is_fpr}
 use Rattle.wot_keyring.specs.Later.{SaysSame}
 use Rattle.wot_network.specs.Told.{record_of}
 
--- Both hold the same certificate under a fingerprint, with its marks of admission, or none; and the verdicts on the numbers
--- of its signatures are the same.
-pub record AgreeAt (certs : Certificates) (verdicts : Entries) (others : Certificates) (other : Entries) (fpr : Fpr) : Type 0 where
+-- Both hold the same certificate under a fingerprint, with its marks of admission, or none; and the verdicts on the
+-- numbers of its signatures are the same.
+pub record AgreeAt (certs : Certificates) (verdicts : Entries) (others : Certificates) (other : Entries)
+    (fpr : Fpr) : Type 0 where
   pub same : lookup (is_fpr fpr) certs ≡ lookup (is_fpr fpr) others
-  pub said : (c : Certificate) → lookup (is_fpr fpr) certs ≡ Some c → AllByRecursion (SaysSame verdicts other) (all_sigs c)
+  pub said : (c : Certificate) → lookup (is_fpr fpr) certs ≡ Some c
+      → AllByRecursion (SaysSame verdicts other) (all_sigs c)
 
 -- Both agree on a set of fingerprints.
 abbrev pub AgreeOn : Certificates → Entries → Certificates → Entries → List Fpr → Type 0
@@ -28,10 +30,11 @@ AgreeOn certs verdicts others other set = (fpr : Fpr) → Has set fpr → AgreeA
 abbrev pub SameAmounts : List (Fpr × ℕ) → List (Fpr × ℕ) → List Fpr → Type 0
 SameAmounts roots amounts set = (fpr : Fpr) → Has set fpr → root_amount roots fpr ≡ root_amount amounts fpr
 
--- What is told of each user ID rests on these certificates and verdicts locally: of a set of fingerprints on which others agree
--- with them, those tell the same at this time.
+-- What is told of each user ID rests on these certificates and verdicts locally: of a set of fingerprints on which
+-- others agree with them, those tell the same at this time.
 abbrev pub IsLocal : Certificates → Entries → ℕ → (List ℕ → Record) → Type 0
 IsLocal certs verdicts t told =
-    (others : Certificates) (other : Entries) (u : List ℕ) (roots amounts : List (Fpr × ℕ)) (target : Fpr) (set : List Fpr)
+    (others : Certificates) (other : Entries) (u : List ℕ) (roots amounts : List (Fpr × ℕ)) (target : Fpr)
+    (set : List Fpr)
     → AgreeOn certs verdicts others other set → SameAmounts roots amounts set
     → Agree (asks (told u) roots target) (asks (record_of others other t u) amounts target) set

@@ -1,5 +1,6 @@
 -- A network: what was made of the certificates of a keyring, so that it needn't be made again for each question.
-use Rattle.std.specs.Prelude.{◌≡◌, ℕ, ◌<◌, ◌≤◌, Bool, true, false, ◌&&◌, nat_eq, nat_le, if◌then◌else◌, List, map, length, Option, Some, None, is_some, IsSomeAnd}
+use Rattle.std.specs.Prelude.{◌≡◌, ℕ, ◌<◌, ◌≤◌, Bool, true, false, ◌&&◌, nat_eq, nat_le, if◌then◌else◌, List, map}
+use Rattle.std.specs.Prelude.{length, Option, Some, None, is_some, IsSomeAnd}
 use Rattle.std.specs.Option.{option_map_or, MatchOption}
 use Rattle.std.specs.Map.{lookup}
 use Rattle.wot_types.specs.declared.fpr.Fpr.{Fpr}
@@ -22,8 +23,8 @@ use Rattle.wot_network.specs.Told.{record_of}
 
 -- ---- lines
 
--- what was made of a certificate: its stamp then, the edges into it, its standing, the places of the user IDs that its own key
--- revoked, and the span through which these are the same
+-- what was made of a certificate: its stamp then, the edges into it, its standing, the places of the user IDs that its
+-- own key revoked, and the span through which these are the same
 pub record Line : Type 0 where
   pub stamp : ℕ
   pub edges : List EdgeFacts
@@ -78,12 +79,14 @@ has_current marks t fpr stamp = option_map_or (is_current t stamp) (lookup (is_f
 -- The marks are exactly those of the kept certificates, and all are current.
 abbrev pub AreMarksOf : Marks → Keyring → ℕ → Type 0
 AreMarksOf marks k t =
-    (fpr : Fpr) → MatchOption (kept_at k fpr) (lookup (is_fpr fpr) marks ≡ None) (λ (x : Kept). has_current marks t fpr x.stamp ≡ true)
+    (fpr : Fpr) → MatchOption (kept_at k fpr) (lookup (is_fpr fpr) marks ≡ None)
+    (λ (x : Kept). has_current marks t fpr x.stamp ≡ true)
 
 -- Each kept certificate that had a current mark has one.
 abbrev pub StayCurrent : Keyring → ℕ → Marks → Marks → Type 0
 StayCurrent k t old new =
-    (fpr : Fpr) (x : Kept) → kept_at k fpr ≡ Some x → has_current old t fpr x.stamp ≡ true → has_current new t fpr x.stamp ≡ true
+    (fpr : Fpr) (x : Kept) → kept_at k fpr ≡ Some x → has_current old t fpr x.stamp ≡ true
+    → has_current new t fpr x.stamp ≡ true
 
 -- ---- what is stale
 
@@ -130,7 +133,8 @@ HasStamp lines fpr stamp = IsSomeAnd (line_at lines fpr) (λ (line : Line). line
 
 -- What has a stamp up to the count has a line of that stamp.
 abbrev pub AreKnown : Keyring → ℕ → Lines → Type 0
-AreKnown k count lines = (fpr : Fpr) (x : Kept) → kept_at k fpr ≡ Some x → 0 < x.stamp → x.stamp ≤ count → HasStamp lines fpr x.stamp
+AreKnown k count lines =
+    (fpr : Fpr) (x : Kept) → kept_at k fpr ≡ Some x → 0 < x.stamp → x.stamp ≤ count → HasStamp lines fpr x.stamp
 
 -- The network fits the keyring: each line does, and what wasn't altered since the last refresh has its line.
 pub record Fits (n : Net) (k : Keyring) : Type 0 where
@@ -148,7 +152,8 @@ pub record IsLineNow (verdicts : Entries) (t : ℕ) (x : Kept) (line : Line) : T
 pub record IsRight (n : Net) (k : Keyring) (t : ℕ) : Type 0 where
   pub time : n.time ≡ t
   pub present : (fpr : Fpr) (x : Kept) → kept_at k fpr ≡ Some x → is_some (line_at n.lines fpr) ≡ true
-  pub tells : (fpr : Fpr) (x : Kept) (line : Line) → kept_at k fpr ≡ Some x → line_at n.lines fpr ≡ Some line → IsLineNow k.verdicts t x line
+  pub tells : (fpr : Fpr) (x : Kept) (line : Line) → kept_at k fpr ≡ Some x → line_at n.lines fpr ≡ Some line
+      → IsLineNow k.verdicts t x line
   pub absent : (fpr : Fpr) → kept_at k fpr ≡ None → line_at n.lines fpr ≡ None
 
 -- ---- roads

@@ -1,5 +1,6 @@
 -- The steps of a refresh.
-use Rattle.std.specs.Prelude.{◌≡◌, ◌≤◌, ◌<◌, ◌+◌, ◌-◌, ◌^◌, ◌⊎◌, ℕ, Bool, true, min, if◌then◌else◌, is_some, length, Option, Some, None}
+use Rattle.std.specs.Prelude.{◌≡◌, ◌≤◌, ◌<◌, ◌+◌, ◌-◌, ◌^◌, ◌⊎◌, ℕ, Bool, true, min, if◌then◌else◌, is_some, length}
+use Rattle.std.specs.Prelude.{Option, Some, None}
 use Rattle.wot_types.specs.declared.fpr.Fpr.{Fpr}
 use Rattle.wot_verdict.specs.Verdicts.{Entries}
 use Rattle.wot_cert.specs.Certificate.{Certificate}
@@ -10,7 +11,8 @@ use Rattle.wot_keyring.specs.declared.kept.Kept.{Kept}
 use Rattle.wot_keyring.specs.Keyring.{Keyring, kept_at}
 use Rattle.wot_live.specs.Rows.{edges_of}
 use Rattle.wot_standing.specs.Standing.{own}
-use Rattle.wot_network.specs.Net.{Line, Lines, line_at, AreFit, AreLawful, HasStamp, StayCurrent, TellsThroughout, has_current, marks_of, stale_edges, stale_signatures}
+use Rattle.wot_network.specs.Net.{Line, Lines, line_at, AreFit, AreLawful, HasStamp, StayCurrent, TellsThroughout}
+use Rattle.wot_network.specs.Net.{has_current, marks_of, stale_edges, stale_signatures}
 
 -- The one span is inside of the other.
 abbrev pub IsInside : Span → Span → Type 0
@@ -52,7 +54,8 @@ IsDone k t lines fpr = (x : Kept) → kept_at k fpr ≡ Some x → has_current (
 -- Each kept certificate has a current line, or is among those that are left.
 abbrev pub AreDoneBut : Keyring → ℕ → Lines → (Fpr → Bool) → Type 0
 AreDoneBut k t lines left =
-    (fpr : Fpr) (x : Kept) → kept_at k fpr ≡ Some x → (has_current (marks_of lines) t fpr x.stamp ≡ true) ⊎ (left fpr ≡ true)
+    (fpr : Fpr) (x : Kept) → kept_at k fpr ≡ Some x → (has_current (marks_of lines) t fpr x.stamp ≡ true)
+    ⊎ (left fpr ≡ true)
 
 abbrev pub AreDone : Keyring → ℕ → Lines → Type 0
 AreDone k t lines = (fpr : Fpr) → IsDone k t lines fpr

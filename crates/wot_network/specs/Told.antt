@@ -1,15 +1,18 @@
 -- The certification network: what certificates and verdicts tell of a user ID U at a time t.
-use Rattle.std.specs.Prelude.{ℕ, suc, Bool, false, not, ◌||◌, if◌then◌else◌, List, [], ◌∷◌, map, Option, Some, None}
-use Rattle.std.specs.List.{slice_get}
+use Rattle.std.specs.Prelude.{◌≡◌, ℕ, suc, Bool, false, not, ◌||◌, if◌then◌else◌, List, [], ◌∷◌, map, Option, Some}
+use Rattle.std.specs.Prelude.{None}
+use Rattle.std.specs.List.{AllByRecursion, slice_get}
 use Rattle.std.specs.Option.{option_map, option_map_or}
 use Rattle.std.specs.Map.{lookup}
 use Rattle.std.specs.Ordering.{is_eq, nat_cmp}
 use Rattle.std.specs.Cmp.Lexicographic.{slice_cmp}
 use Rattle.wot_types.specs.declared.fpr.Fpr.{Fpr}
+use Rattle.wot_key.specs.Key.{fpr_of}
 use Rattle.wot_verdict.specs.Verdicts.{Entries}
 use Rattle.wot_signature.specs.Signature.{scopes_of}
 use Rattle.wot_cert.specs.Certificate.{Signature, Component, Certificate}
 use Rattle.wot_edge.specs.declared.edge.EdgeFacts.{EdgeFacts}
+use Rattle.wot_edge.specs.Lawful.{AreEntries}
 use Rattle.wot_edge.specs.Record.{Row, Entry, Record}
 use Rattle.wot_keyring.specs.Keyring.{Certificates, is_fpr}
 use Rattle.wot_scope.specs.Deciding.{scope_holds}
@@ -25,8 +28,8 @@ is_usable_by verdicts certs t issuer made =
     option_map_or (λ (c : Certificate). is_usable (standing_of verdicts c t) made) (lookup (is_fpr issuer) certs) false
 
 -- ---- scope
--- What decides a scope is told by true or false here. By wot_scope's law `scope_is_told` it is the relation `ScopeHolds`, which says
--- what a scope means by the grammar and the meaning of patterns.
+-- What decides a scope is told by true or false here. By wot_scope's law `scope_is_told` it is the relation
+-- `ScopeHolds`, which says what a scope means by the grammar and the meaning of patterns.
 
 abbrev pub body_in : ℕ → Component → List ℕ
 body_in sig uid = option_map_or (λ (s : Signature). s.body) (slice_get uid.sigs sig) []
@@ -50,7 +53,8 @@ place_of u [] = None
 place_of u (uid ∷ uids) = if is_user_id u uid then Some 0 else option_map suc (place_of u uids)
 
 -- ---- the record
--- By wot_live's law `edges_are_rows` the list of edges has the newest certification that counts of each issuer and user ID, and no other.
+-- By wot_live's law `edges_are_rows` the list of edges has the newest certification that counts of each issuer and user
+-- ID, and no other.
 
 abbrev pub row_of : Entries → Certificates → ℕ → List ℕ → Certificate → EdgeFacts → Row
 row_of verdicts certs t u c edge = record {
@@ -70,3 +74,11 @@ entry_of verdicts certs t u c = record {
 -- the record of U
 abbrev pub record_of : Certificates → Entries → ℕ → List ℕ → Record
 record_of certs verdicts t u = map (λ (e : Fpr × Certificate). (e.0, entry_of verdicts certs t u e.1)) certs
+
+-- Certificates stand under their own fingerprints.
+abbrev pub AreOwn : Certificates → Type 0
+AreOwn certs = AllByRecursion (λ (e : Fpr × Certificate). e.0 ≡ fpr_of e.1.key) certs
+
+-- The rows into each fingerprint stand in the order of issuer and user ID.
+abbrev pub TellsRows : Certificates → Entries → ℕ → List ℕ → Type 0
+TellsRows certs verdicts t u = AreEntries (record_of certs verdicts t u)

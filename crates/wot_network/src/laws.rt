@@ -1,17 +1,12 @@
 //! Laws of the definitions. Each function does nothing: its contract is the law.
-ghost use Rattle.std.specs.Prelude.{◌≡◌, ◌≤◌, ℕ, List};
-ghost use Rattle.std.specs.List.{AllByRecursion};
-ghost use Rattle.wot_types.specs.declared.fpr.Fpr.{Fpr};
-ghost use Rattle.wot_key.specs.Key.{fpr_of};
+ghost use Rattle.std.specs.Prelude.{◌≤◌, ℕ, List};
 ghost use Rattle.wot_verdict.specs.Verdicts.{Entries};
-ghost use Rattle.wot_cert.specs.Certificate.{Certificate};
-ghost use Rattle.wot_edge.specs.Lawful.{AreEntries};
 ghost use Rattle.wot_edge.specs.Record.{IsRecord};
 ghost use Rattle.wot_keyring.specs.Keyring.{Certificates, Keyring};
 ghost use Rattle.wot_keyring.specs.Later.{IsLater};
 ghost use Rattle.wot_network.specs.Local.{IsLocal};
 ghost use Rattle.wot_network.specs.Net.{Marks, Net, Fits, signatures_in, stale_signatures};
-ghost use Rattle.wot_network.specs.Told.{record_of};
+ghost use Rattle.wot_network.specs.Told.{AreOwn, TellsRows, record_of};
 
 use wot_edge::laws::entries_are_record;
 use wot_live::laws::edges_are_rows;
@@ -29,10 +24,10 @@ pub fn stale_are_some()
 /// What certificates under their own fingerprints tell is a record, whose rows stand in the order of issuer and user
 /// ID.
 pub fn record_is_lawful()
-    ensures ordered { (certs : Certificates) (verdicts : Entries) (t : ℕ) (u : List ℕ) → AllByRecursion (λ (e : Fpr
-        × Certificate). e.0 ≡ fpr_of e.1.key) certs → AreEntries (record_of certs verdicts t u) }
-    ensures lawful { (certs : Certificates) (verdicts : Entries) (t : ℕ) (u : List ℕ) → AllByRecursion (λ (e : Fpr
-        × Certificate). e.0 ≡ fpr_of e.1.key) certs → IsRecord (record_of certs verdicts t u) }
+    ensures ordered { (certs : Certificates) (verdicts : Entries) (t : ℕ) (u : List ℕ) → AreOwn certs
+        → TellsRows certs verdicts t u }
+    ensures lawful { (certs : Certificates) (verdicts : Entries) (t : ℕ) (u : List ℕ) → AreOwn certs
+        → IsRecord (record_of certs verdicts t u) }
 {
     entries_are_record();
     edges_are_rows();
@@ -41,5 +36,6 @@ pub fn record_is_lawful()
 /// What certificates and verdicts tell of a set of fingerprints rests on the certificates of the set and on the
 /// verdicts on their signatures alone.
 pub fn records_agree()
-    ensures local { (certs : Certificates) (verdicts : Entries) (t : ℕ) → IsLocal certs verdicts t (record_of certs verdicts t) }
+    ensures local { (certs : Certificates) (verdicts : Entries) (t : ℕ)
+        → IsLocal certs verdicts t (record_of certs verdicts t) }
 {}

@@ -117,7 +117,8 @@ impl Network {
         ensures time { (present_of result).time ≡ self.now.time }
         ensures entries { (u : List ℕ) → AreEntries (told_of (present_of result) u) }
         ensures lawful { (u : List ℕ) → IsRecord (told_of (present_of result) u) }
-        ensures local { IsLocal (certificates_in keyring.now) keyring.now.verdicts self.now.time (told_of (present_of result)) }
+        ensures local { IsLocal (certificates_in keyring.now) keyring.now.verdicts self.now.time
+            (told_of (present_of result)) }
     {
         record_is_lawful();
         records_agree();

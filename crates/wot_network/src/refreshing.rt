@@ -5,7 +5,8 @@ ghost use Rattle.wot_cert.specs.Span.{InSpan};
 ghost use Rattle.wot_keyring.specs.Kept.{AreNamed, AreSortedByFpr, AreStamped};
 ghost use Rattle.wot_keyring.specs.Log.{HasChangedSince, is_listed};
 ghost use Rattle.wot_network.specs.Net.{AreKnown};
-ghost use Rattle.wot_network.specs.Refreshing.{Advances, AreDone, AreDoneBut, AreKept, IsDone, IsProgress, KeepsPresent};
+ghost use Rattle.wot_network.specs.Refreshing.{Advances, AreDone, AreDoneBut, AreKept, IsDone, IsProgress};
+ghost use Rattle.wot_network.specs.Refreshing.{KeepsPresent};
 
 use crate::making::make;
 use crate::table::{Table, forget, forget_absent, is_done, narrow, put, rises, window_of};
@@ -37,7 +38,8 @@ fn look_at(
     requires kept { AreKept keyring.now window.old lines.old.entries }
     ensures kept { AreKept keyring.now window.new lines.new.entries }
     ensures progress { IsProgress keyring.now t lines.old.entries lines.new.entries steps.old.made steps.new.made }
-    ensures advances { OnOk result (Advances keyring.now t lines.old.entries lines.new.entries steps.old.made steps.new.made) }
+    ensures advances { OnOk result
+        (Advances keyring.now t lines.old.entries lines.new.entries steps.old.made steps.new.made) }
     ensures done { OnOk result (IsDone keyring.now t lines.new.entries fpr.now) }
 {
     let stamp = keyring.stamp(fpr);
@@ -70,7 +72,8 @@ fn look_at_all(
     requires kept { AreKept keyring.now window.old lines.old.entries }
     ensures kept { AreKept keyring.now window.new lines.new.entries }
     ensures progress { IsProgress keyring.now t lines.old.entries lines.new.entries steps.old.made steps.new.made }
-    ensures advances { OnOk result (Advances keyring.now t lines.old.entries lines.new.entries steps.old.made steps.new.made) }
+    ensures advances { OnOk result
+        (Advances keyring.now t lines.old.entries lines.new.entries steps.old.made steps.new.made) }
     ensures done { OnOk result (AreDone keyring.now t lines.new.entries) }
 {
     'certs: for cert in keyring.certs() {
@@ -95,7 +98,8 @@ fn look_at_changed(
     requires others { AreDoneBut keyring.now t lines.old.entries (λ (q : TheFpr). is_listed q changed.now) }
     ensures kept { AreKept keyring.now window.new lines.new.entries }
     ensures progress { IsProgress keyring.now t lines.old.entries lines.new.entries steps.old.made steps.new.made }
-    ensures advances { OnOk result (Advances keyring.now t lines.old.entries lines.new.entries steps.old.made steps.new.made) }
+    ensures advances { OnOk result
+        (Advances keyring.now t lines.old.entries lines.new.entries steps.old.made steps.new.made) }
     ensures done { OnOk result (AreDone keyring.now t lines.new.entries) }
 {
     let mut left = changed;
@@ -139,7 +143,8 @@ pub(crate) fn look_at_stale(
     requires known { AreKnown keyring.now count lines.old.entries }
     ensures kept { AreKept keyring.now window.new lines.new.entries }
     ensures progress { IsProgress keyring.now t lines.old.entries lines.new.entries steps.old.made steps.new.made }
-    ensures advances { OnOk result (Advances keyring.now t lines.old.entries lines.new.entries steps.old.made steps.new.made) }
+    ensures advances { OnOk result
+        (Advances keyring.now t lines.old.entries lines.new.entries steps.old.made steps.new.made) }
     ensures done { OnOk result (AreDone keyring.now t lines.new.entries) }
 {
     match may_be_stale(keyring, window, count, t) {

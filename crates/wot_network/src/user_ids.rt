@@ -1,13 +1,9 @@
 // Looking among the user IDs of a certificate.
-ghost use Rattle.std.specs.Prelude.{◌≡◌, ◌<◌, ◌^◌, Bool, length, IfOk};
-ghost use Rattle.std.specs.List.{list_any};
-ghost use Rattle.wot_verdict.specs.Verdicts.{Entries};
-ghost use Rattle.wot_cert.specs.Certificate.{Certificate, Component};
-ghost use Rattle.wot_live.specs.Rows.{places_where, revoked_of};
-ghost use Rattle.wot_network.specs.Places.{is_first as is_first_spec, behind_first as behind_first_spec, is_unrevoked};
-ghost use Rattle.wot_standing.specs.Standing.{standing_of};
-ghost use Rattle.wot_standing.specs.Usable.{is_in_order as is_in_order_spec};
-ghost use Rattle.wot_network.specs.Told.{body_in as body_in_spec, body_at as body_at_spec, is_in_scope, is_user_id as is_user_id_spec, place_of as place_of_spec};
+ghost use Rattle.std.specs.Prelude.{◌≡◌, ◌<◌, ◌^◌, length, IfOk};
+ghost use Rattle.wot_network.specs.Places.{TellsInOrder, TellsUnrevoked};
+ghost use Rattle.wot_network.specs.Places.{is_first as is_first_spec, behind_first as behind_first_spec};
+ghost use Rattle.wot_network.specs.Told.{body_in as body_in_spec, body_at as body_at_spec, is_in_scope};
+ghost use Rattle.wot_network.specs.Told.{is_user_id as is_user_id_spec, place_of as place_of_spec};
 
 use std::alloc::Global;
 use wot_cert::Part;
@@ -96,8 +92,7 @@ fn behind_first(place: u32, places: &[u32]) -> &[u32]
 /// Whether it is among these, and not at one of the revoked places, which rise.
 fn has_unrevoked(user_ids: &[Part], revoked: &[u32], u: &[u8]) -> bool
     requires few { length user_ids.now < 2 ^ 32 }
-    ensures has { (is_revoked : Component → Bool) → revoked.now ≡ places_where is_revoked 0 user_ids.now →
-        result ≡ list_any (is_unrevoked u.now is_revoked) user_ids.now }
+    ensures has { TellsUnrevoked u.now user_ids.now revoked.now result }
 {
     let mut place = 0u32;
     let mut left = revoked;
@@ -123,9 +118,7 @@ pub(crate) fn is_in_order(
     u: &[u8],
 ) -> bool
     requires few { length user_ids.now < 2 ^ 32 }
-    ensures in_order { (verdicts : Entries) (c : Certificate) → standing.now ≡ standing_of verdicts c t →
-        revoked.now ≡ revoked_of verdicts c t → user_ids.now ≡ c.user_ids →
-        result ≡ is_in_order_spec verdicts c t (is_user_id_spec u.now) }
+    ensures in_order { TellsInOrder t u.now user_ids.now standing.now revoked.now result }
 {
     is_key_in_order(standing, t) && has_unrevoked(user_ids, revoked, u)
 }

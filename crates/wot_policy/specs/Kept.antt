@@ -7,7 +7,8 @@ use Rattle.wot_policy.specs.declared.policy.Policy.{Policy}
 use Rattle.wot_policy.specs.Admits.{admits, Fits}
 
 -- The closure may be asked whatever fits, and answers by these rows.
-pub record AnswersBy {F : Type 0} (calls : Shared F (Ask × Unit {0}) Bool) (judge : F) (rows : PolicyRows) : Type 0 where
+pub record AnswersBy {F : Type 0} (calls : Shared F (Ask × Unit {0}) Bool) (judge : F)
+    (rows : PolicyRows) : Type 0 where
   pub callable : (ask : Ask) → Fits ask → calls.pre judge (ask, tt)
   pub answers : (ask : Ask) (answer : Bool) → Fits ask → calls.post judge (ask, tt) answer → answer ≡ admits rows ask
 

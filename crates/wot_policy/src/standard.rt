@@ -7,9 +7,9 @@ use crate::{PolicyRows, Row};
 /// The first moment of 1 February 2013, in seconds from 1970 on.
 const FEBRUARY_2013: u32 = 1_359_676_800;
 
-/// The standard rows (RFC 9580, section 9.5, has the numbers). What has a hash number of SHA-2 or SHA-3 counts. What has
-/// one of SHA-1 or RIPEMD-160 counts where it was made before February 2013, and a revocation whenever it was made, so
-/// that none by an old key is lost. Nothing else counts.
+/// The standard rows (RFC 9580, section 9.5, has the numbers). What has a hash number of SHA-2 or SHA-3 counts. What
+/// has one of SHA-1 or RIPEMD-160 counts where it was made before February 2013, and a revocation whenever it was made,
+/// so that none by an old key is lost. Nothing else counts.
 pub fn standard_rows() -> PolicyRows
     ensures standard { IsStandard result }
 {

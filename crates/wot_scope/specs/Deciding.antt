@@ -1,4 +1,5 @@
--- Whether a scope holds, as a function. By the law in `laws` it is `ScopeHolds`, so that it can be told by true or false.
+-- Whether a scope holds, as a function. By the law in `laws` it is `ScopeHolds`, so that it can be told by true or
+-- false.
 use Rattle.std.specs.Prelude.{ℕ, Bool, true, false, ◌&&◌, List, [], ◌∷◌}
 use Rattle.std.specs.List.{list_any}
 use Rattle.std.specs.Option.{option_map_or}
@@ -8,7 +9,9 @@ use Rattle.wot_pattern.specs.Reading.{Reading}
 
 -- whether the octets are UTF-8 and a readable pattern, which matches this text
 unfoldable pub text_matches : List ℕ → List ℕ → Bool
-text_matches text octets = is_utf8 octets && option_map_or (λ (pattern : Reading). matches_in pattern (chars text)) (pattern_of (chars octets)) false
+text_matches text octets =
+    is_utf8 octets && option_map_or (λ (pattern : Reading). matches_in pattern (chars text))
+    (pattern_of (chars octets)) false
 
 -- whether the scope of these pattern texts holds for the user ID
 unfoldable pub scope_holds : List (List ℕ) → List ℕ → Bool

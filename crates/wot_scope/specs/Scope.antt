@@ -1,4 +1,5 @@
--- Whether the scope of a signature holds for a user ID: it has no pattern, or the user ID is text and a readable pattern matches it.
+-- Whether the scope of a signature holds for a user ID: it has no pattern, or the user ID is text and a readable
+-- pattern matches it.
 use Rattle.std.specs.Prelude.{ℕ, ◌⊎◌, List, [], ◌∷◌}
 use Rattle.std.specs.Str.{IsUtf8, chars}
 use Rattle.wot_pattern.specs.Reading.{Reading}
@@ -7,7 +8,8 @@ use Rattle.wot_pattern.specs.Meaning.{Matches}
 
 -- the octets are UTF-8 and a readable pattern, which matches this text
 abbrev pub TextMatches : List ℕ → List ℕ → Type 0
-TextMatches octets text = IsUtf8 octets × ((pattern : Reading) × Says (chars octets) pattern × Matches (chars text) pattern)
+TextMatches octets text =
+    IsUtf8 octets × ((pattern : Reading) × Says (chars octets) pattern × Matches (chars text) pattern)
 
 abbrev pub OneMatches : List (List ℕ) → List ℕ → Type 0
 OneMatches [] text = ⊥

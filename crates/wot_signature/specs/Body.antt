@@ -1,5 +1,6 @@
 -- The parts of a signature body (RFC 9580, section 5.2.3).
-use Rattle.std.specs.Prelude.{ℕ, Bool, false, nat_lt, nat_le, ◌==◌, if◌then◌else◌, List, [], ◌∷◌, length, take, drop, Option, Some, None}
+use Rattle.std.specs.Prelude.{ℕ, Bool, false, nat_lt, nat_le, ◌==◌, if◌then◌else◌, List, [], ◌∷◌, length, take, drop}
+use Rattle.std.specs.Prelude.{Option, Some, None}
 use Rattle.std.specs.Int.{w16, w32, from_be_bytes}
 
 -- the kind, the number of the hash algorithm, and the two areas
@@ -27,7 +28,8 @@ long_field_at _ = None
 abbrev pub ends_v4 : List ℕ → Bool
 ends_v4 rest = nat_le 2 (length rest)
 
--- Behind the areas of version 6 stand two octets of the hash, an octet that says how many octets the salt has, the salt, and the material, if any.
+-- Behind the areas of version 6 stand two octets of the hash, an octet that says how many octets the salt has, the
+-- salt, and the material, if any.
 abbrev pub ends_v6 : List ℕ → Bool
 ends_v6 (high ∷ low ∷ size ∷ rest) = nat_le size (length rest)
 ends_v6 _ = false
@@ -37,7 +39,8 @@ with_unhashed ends kind hash hashed None = None
 with_unhashed ends kind hash hashed (Some unhashed) =
     if ends unhashed.1 then Some (record { kind = kind; hash = hash; hashed = hashed; unhashed = unhashed.0 }) else None
 
-abbrev pub with_hashed : (List ℕ → Option (List ℕ × List ℕ)) → (List ℕ → Bool) → ℕ → ℕ → Option (List ℕ × List ℕ) → Option Parts
+abbrev pub with_hashed : (List ℕ → Option (List ℕ × List ℕ)) → (List ℕ → Bool) → ℕ → ℕ → Option (List ℕ × List ℕ)
+    → Option Parts
 with_hashed field_at ends kind hash None = None
 with_hashed field_at ends kind hash (Some hashed) = with_unhashed ends kind hash hashed.0 (field_at hashed.1)
 
@@ -49,8 +52,8 @@ areas_v4 kind hash rest = with_hashed short_field_at ends_v4 kind hash (short_fi
 abbrev pub areas_v6 : ℕ → ℕ → List ℕ → Option Parts
 areas_v6 kind hash rest = with_hashed long_field_at ends_v6 kind hash (long_field_at rest)
 
--- The parts of a body: the version, the kind, the key algorithm, the hash algorithm, and the areas of its version. None where a part is
--- missing, and for a version other than 4 and 6. The salt's length isn't compared with the hash.
+-- The parts of a body: the version, the kind, the key algorithm, the hash algorithm, and the areas of its version. None
+-- where a part is missing, and for a version other than 4 and 6. The salt's length isn't compared with the hash.
 abbrev pub parts_of : List ℕ → Option Parts
 parts_of (version ∷ kind ∷ algorithm ∷ hash ∷ rest) =
     if version == 4 then areas_v4 kind hash rest

@@ -1,17 +1,19 @@
 -- Which subpackets are known (RFC 9580, section 5.2.3.7 and those behind it).
-use Rattle.std.specs.Prelude.{ℕ, Bool, ◌&&◌, ◌||◌, ◌==◌, nat_le, if◌then◌else◌, List, [], ◌∷◌, length, slice_index, map, filter, Option, Some, None}
+use Rattle.std.specs.Prelude.{ℕ, Bool, ◌&&◌, ◌||◌, ◌==◌, nat_le, if◌then◌else◌, List, [], ◌∷◌, length, slice_index, map}
+use Rattle.std.specs.Prelude.{filter, Option, Some, None}
 use Rattle.std.specs.List.{list_any}
 use Rattle.wot_subpacket.specs.Subpacket.{Subpacket}
 
--- the known types that have no effect here: exportable certification, preferred ciphers, revocation key, preferred hashes, preferred compression,
--- key server preferences, preferred key server, policy URI, key flags, signer's user ID, features, signature target, embedded signature,
--- intended recipient, preferred AEAD ciphersuites
+-- the known types that have no effect here: exportable certification, preferred ciphers, revocation key, preferred
+-- hashes, preferred compression, key server preferences, preferred key server, policy URI, key flags, signer's user ID,
+-- features, signature target, embedded signature, intended recipient, preferred AEAD ciphersuites
 abbrev pub effectless : List ℕ
 effectless = 4 ∷ 11 ∷ 12 ∷ 21 ∷ 22 ∷ 23 ∷ 24 ∷ 26 ∷ 27 ∷ 28 ∷ 30 ∷ 31 ∷ 32 ∷ 35 ∷ 39 ∷ []
 
 -- an issuer fingerprint: the octet 4 and 20 octets, or the octet 6 and 32 octets
 abbrev pub is_issuer : List ℕ → Bool
-is_issuer body = ((length body == 21) && (slice_index body 0 == 4)) || ((length body == 33) && (slice_index body 0 == 6))
+is_issuer body =
+    ((length body == 21) && (slice_index body 0 == 4)) || ((length body == 33) && (slice_index body 0 == 6))
 
 -- The type is known, and has this body: as many octets as it says, and the version before an issuer fingerprint.
 abbrev pub fits : ℕ → List ℕ → Bool

@@ -1,5 +1,6 @@
 -- What was noted of the hashed subpackets so far.
-use Rattle.std.specs.Prelude.{ℕ, Bool, true, false, not, ◌||◌, ◌&&◌, ◌==◌, slice_index, List, Some, if◌then◌else◌, is_some}
+use Rattle.std.specs.Prelude.{ℕ, Bool, true, false, not, ◌||◌, ◌&&◌, ◌==◌, slice_index, List, Some, if◌then◌else◌}
+use Rattle.std.specs.Prelude.{is_some}
 use Rattle.std.specs.List.{list_any}
 use Rattle.wot_subpacket.specs.Subpacket.{Subpacket}
 use Rattle.wot_signature.specs.declared.facts.SigFacts.{SigFacts}

@@ -1,5 +1,6 @@
 -- What a signature body says (RFC 9580, section 5.2). Only the hashed area gives facts.
-use Rattle.std.specs.Prelude.{ℕ, Bool, ◌==◌, ◌&&◌, ◌-◌, nat_le, if◌then◌else◌, List, [], length, take, map, slice_index, Option, Some, None, Result, Ok, Err, is_some}
+use Rattle.std.specs.Prelude.{ℕ, Bool, ◌==◌, ◌&&◌, ◌-◌, nat_le, if◌then◌else◌, List, [], length, take, map, slice_index}
+use Rattle.std.specs.Prelude.{Option, Some, None, Result, Ok, Err, is_some}
 use Rattle.std.specs.Option.{option_map_or, option_and_then, option_map, option_or}
 use Rattle.wot_subpacket.specs.declared.fault.AreaFault.{AreaFault}
 use Rattle.wot_subpacket.specs.Subpacket.{Subpacket}
@@ -9,7 +10,8 @@ use Rattle.wot_signature.specs.Known.{bodies_of, last_body_of}
 use Rattle.wot_signature.specs.Facts.{facts_in}
 use Rattle.wot_signature.specs.Body.{Parts, parts_of}
 
--- a readable body: its kind, the number of its hash algorithm, its hashed subpackets and the octets of its unhashed area
+-- a readable body: its kind, the number of its hash algorithm, its hashed subpackets and the octets of its unhashed
+-- area
 pub record ReadBody : Type 0 where
   pub kind : ℕ
   pub hash : ℕ
@@ -17,7 +19,8 @@ pub record ReadBody : Type 0 where
   pub unhashed : List ℕ
 
 abbrev pub with_hashed_list : Parts → Result (List Subpacket) AreaFault → Option ReadBody
-with_hashed_list parts (Ok subpackets) = Some (record { kind = parts.kind; hash = parts.hash; hashed = subpackets; unhashed = parts.unhashed })
+with_hashed_list parts (Ok subpackets) =
+    Some (record { kind = parts.kind; hash = parts.hash; hashed = subpackets; unhashed = parts.unhashed })
 with_hashed_list parts (Err fault) = None
 
 -- A body is readable where its parts are there and the hashed area is a list of subpackets.
@@ -33,7 +36,8 @@ facts_of body = option_map (λ (r : ReadBody). facts_in r.kind r.hash r.hashed) 
 
 -- without one zero octet at the end
 abbrev pub trimmed : List ℕ → List ℕ
-trimmed text = if nat_le 1 (length text) && (slice_index text (length text - 1) == 0) then take (length text - 1) text else text
+trimmed text =
+    if nat_le 1 (length text) && (slice_index text (length text - 1) == 0) then take (length text - 1) text else text
 
 -- the pattern texts that subpackets give, in order
 abbrev pub texts_in : List Subpacket → List (List ℕ)

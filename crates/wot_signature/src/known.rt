@@ -1,7 +1,8 @@
 ghost use Rattle.std.specs.Prelude.{◌≡◌, ◌==◌};
 ghost use Rattle.std.specs.List.{list_any};
 ghost use Rattle.wot_subpacket.specs.Seen.{seen};
-ghost use Rattle.wot_signature.specs.Known.{effectless, is_known as is_known_spec, fits as fits_spec, is_issuer as is_issuer_spec};
+ghost use Rattle.wot_signature.specs.Known.{effectless, is_known as is_known_spec, fits as fits_spec};
+ghost use Rattle.wot_signature.specs.Known.{is_issuer as is_issuer_spec};
 
 use wot_subpacket::Sub;
 

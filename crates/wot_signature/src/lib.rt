@@ -1,4 +1,5 @@
-//! What a signature of version 4 or 6 says (RFC 9580, section 5.2), read from its body where it lies: no octet is copied.
+//! What a signature of version 4 or 6 says (RFC 9580, section 5.2), read from its body where it lies: no octet is
+//! copied.
 #![tactic(auto)]
 
 mod facts;

@@ -1,5 +1,6 @@
 -- Lists of subpackets (RFC 9580, section 5.2.3.7).
-use Rattle.std.specs.Prelude.{ℕ, zero, suc, nat_lt, ◌==◌, if◌then◌else◌, List, [], ◌∷◌, length, take, drop, Option, Some, None, Result, Ok, Err}
+use Rattle.std.specs.Prelude.{ℕ, zero, suc, nat_lt, ◌==◌, if◌then◌else◌, List, [], ◌∷◌, length, take, drop, Option}
+use Rattle.std.specs.Prelude.{Some, None, Result, Ok, Err}
 use Rattle.std.specs.Result.{result_unwrap_or}
 use Rattle.wot_subpacket.specs.declared.fault.AreaFault.{AreaFault}
 use Rattle.wot_subpacket.specs.declared.fault.AreaFault.TheVariants.{CutLength, Zero, CutBody}
@@ -27,7 +28,8 @@ before first (Ok others) = Ok (first ∷ others)
 before first (Err fault) = Err fault
 
 -- the first one, before those that are read behind it
-abbrev pub then_read : Result (Subpacket × List ℕ) AreaFault → (List ℕ → Result (List Subpacket) AreaFault) → Result (List Subpacket) AreaFault
+abbrev pub then_read : Result (Subpacket × List ℕ) AreaFault → (List ℕ → Result (List Subpacket) AreaFault)
+    → Result (List Subpacket) AreaFault
 then_read (Err fault) read = Err fault
 then_read (Ok found) read = before found.0 (read found.1)
 

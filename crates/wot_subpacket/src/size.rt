@@ -3,7 +3,8 @@ ghost use Rattle.wot_subpacket.specs.Length.{length_at, two_octets_at, four_octe
 
 /// The length at the beginning, and the octets behind it; `None` where octets of the length are missing.
 pub(crate) fn length_of(bytes: &[u8]) -> Option<(usize, &[u8])>
-    ensures { MatchOption result (length_at bytes.now ≡ None) (λ found. length_at bytes.now ≡ Some (found.0, found.1.now)) }
+    ensures { MatchOption result (length_at bytes.now ≡ None)
+        (λ found. length_at bytes.now ≡ Some (found.0, found.1.now)) }
 {
     let (first, rest) = bytes.split_first()?;
     match *first {
@@ -24,7 +25,8 @@ fn two_octets(first: u8, bytes: &[u8]) -> Option<(usize, &[u8])>
 }
 
 fn four_octets(bytes: &[u8]) -> Option<(usize, &[u8])>
-    ensures { MatchOption result (four_octets_at bytes.now ≡ None) (λ found. four_octets_at bytes.now ≡ Some (found.0, found.1.now)) }
+    ensures { MatchOption result (four_octets_at bytes.now ≡ None)
+        (λ found. four_octets_at bytes.now ≡ Some (found.0, found.1.now)) }
 {
     if bytes.len() < 4 {
         return None;

@@ -41,7 +41,8 @@ with_watch watches name watch = insert_entry view_name_cmp watches name watch
 -- the watches, with this amount told for that one, which is there
 abbrev pub with_told : Watches → List ℕ → ℕ → Watches
 with_told watches name amount =
-    option_map_or (λ watch. set_value (is_name name) watches (record watch { told = amount })) (watch_at watches name) watches
+    option_map_or (λ watch. set_value (is_name name) watches (record watch { told = amount }))
+    (watch_at watches name) watches
 
 -- the watches without that one
 abbrev pub without_watch : Watches → List ℕ → Watches

@@ -1,0 +1,13 @@
+-- How the parts of a keyring hold together.
+use Rattle.std.specs.Prelude.{ℕ}
+use Rattle.wot_keyring.specs.declared.index.Index.{Index}
+use Rattle.wot_keyring.specs.declared.log.Log.{Log}
+use Rattle.wot_keyring.specs.Index.{IsIndexOf}
+use Rattle.wot_keyring.specs.Keyring.{Keyring}
+use Rattle.wot_keyring.specs.Kept.{AreTotals, IsKeyring}
+use Rattle.wot_keyring.specs.Log.{IsLogOf}
+
+-- The sums are those of what is held, and so are the index and the log.
+abbrev pub HoldTogether : Keyring → ℕ → ℕ → Index → Log → Type 0
+HoldTogether k octets signatures index log =
+    IsKeyring k × AreTotals k octets signatures × IsIndexOf index k.certs × IsLogOf log k.certs k.changes
