@@ -8,7 +8,7 @@ ghost use Rattle.wot_edge.specs.Answer.{IsAnswer, amount_of};
 ghost use Rattle.wot_edge.specs.Capacity.{AllFit};
 ghost use Rattle.wot_edge.specs.Agree.{Agree};
 ghost use Rattle.wot_edge.specs.Leads.{Grows, GainsLeads};
-ghost use Rattle.wot_search.specs.Reach.{IsReach, number_at};
+ghost use Rattle.wot_search.specs.Reach.{IsReach};
 
 use crate::Answer;
 use crate::take::take;
@@ -92,7 +92,7 @@ pub fn authenticate_within<R: Roads>(
 ) -> Result<Answer, Memory>
     requires wanted { 1 ≤ wanted }
     requires few { length roots.now ≤ 64 }
-    requires reach { IsReach (R.told roads.now) roots.now (number_at reach.now) }
+    requires reach { IsReach (R.told roads.now) roots.now reach.now }
     ensures answer { IfOk result (λ answer. IsAnswer (asks (R.told roads.now uid.now) roots.now target.now) wanted answer.paths) }
     ensures one { IfOk result (λ answer. (paths : List ThePath)
         → IsAnswer (asks (R.told roads.now uid.now) roots.now target.now) wanted paths → paths ≡ answer.paths) }

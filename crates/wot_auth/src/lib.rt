@@ -3,7 +3,9 @@
 
 mod answer;
 mod ask;
+mod sum;
 mod take;
 
 pub use answer::Answer;
 pub use ask::{authenticate, authenticate_metered, authenticate_within};
+pub use sum::sum_within;

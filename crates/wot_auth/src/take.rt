@@ -28,7 +28,7 @@ pub fn take<R: Roads, N: Notes>(
 ) -> Result<Answer, Memory>
     requires wanted { 1 ≤ wanted }
     requires few { length roots.now ≤ 64 }
-    requires reach { IsReach (R.told roads.now) roots.now (number_at reach.now) }
+    requires reach { IsReach (R.told roads.now) roots.now reach.now }
     ensures answer { IfOk result (λ answer. IsAnswer (asks (R.told roads.now uid.now) roots.now target.now) wanted answer.paths) }
     ensures sum { IfOk result (λ answer. answer.sum ≡ amount_of answer.paths) }
     ensures lawful { IfOk result (λ answer. IsRecord (R.told roads.now uid.now)) }

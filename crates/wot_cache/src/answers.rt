@@ -6,7 +6,7 @@ ghost use Rattle.std.specs.Map.{keys_of, lookup};
 ghost use Rattle.std.specs.Ordering.{nat_cmp};
 ghost use Rattle.wot_edge.specs.Answer.{IsAnswer, amount_of};
 ghost use Rattle.wot_keyring.specs.Keyring.{Keyring as Held};
-ghost use Rattle.wot_search.specs.Reach.{IsReach, number_at};
+ghost use Rattle.wot_search.specs.Reach.{IsReach};
 ghost use Rattle.wot_network.specs.Net.{told_of};
 ghost use Rattle.wot_cache.specs.Answers.{AreFew, AreRight, AreRightIn, AreStill, AllStill, IsGood, IsOf, IsReaching, IsRight, IsSameBut};
 ghost use Rattle.wot_cache.specs.Answers.{Amounts, Answers as IsTheAnswer, IsFound, look, looked_by, looked_in};
@@ -256,7 +256,7 @@ pub struct KeptReach {
 impl KeptReach {
     /// A table that is of now, for the roots of this turn.
     fn new(parts: &Parts<'_>, turn: u64, reach: Reach) -> KeptReach
-        requires reach { IsReach (told_of (present_in parts.now)) parts.now.roots.now (number_at reach) }
+        requires reach { IsReach (told_of (present_in parts.now)) parts.now.roots.now reach }
         ensures reaching { IsReaching parts.now.keyring.now parts.now.roots.now turn result }
     {
         KeptReach {
@@ -270,7 +270,7 @@ impl KeptReach {
     /// The table, where it is of now and these are the roots.
     fn give(&self, parts: &Parts<'_>, roots: &[(Fpr, u8)], turn: u64) -> Option<&Reach>
         requires reaching { IsReaching parts.now.keyring.now roots.now turn self.now }
-        ensures reach { IfSome result (λ reach. IsReach (told_of (present_in parts.now)) parts.now.roots.now (number_at reach.now)) }
+        ensures reach { IfSome result (λ reach. IsReach (told_of (present_in parts.now)) parts.now.roots.now reach.now) }
     {
         if self.count != parts.keyring.changes() || self.turn != turn || self.time != parts.t {
             return None;
@@ -382,7 +382,7 @@ impl Answers {
     /// The table of reach, where it is of the keyring as it is, of these roots and of this time.
     pub fn reach(&self, parts: &Parts<'_>) -> Option<&Reach>
         requires right { AreRightIn parts.now.keyring.now self.now }
-        ensures reach { IfSome result (λ reach. IsReach (told_of (present_in parts.now)) parts.now.roots.now (number_at reach.now)) }
+        ensures reach { IfSome result (λ reach. IsReach (told_of (present_in parts.now)) parts.now.roots.now reach.now) }
     {
         match &self.reach {
             Some(kept) => kept.give(parts, self.roots.as_slice(), self.turn),
@@ -392,7 +392,7 @@ impl Answers {
 
     /// Keeps a table of reach in place of an earlier one, if memory is found.
     pub fn keep_reach(&mut self, alloc: Global, parts: &Parts<'_>, reach: Reach)
-        requires reach { IsReach (told_of (present_in parts.now)) parts.now.roots.now (number_at reach) }
+        requires reach { IsReach (told_of (present_in parts.now)) parts.now.roots.now reach }
         requires right { AreRightIn parts.now.keyring.now self.old }
         ensures right { AreRightIn parts.now.keyring.now self.new }
     {

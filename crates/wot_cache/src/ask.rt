@@ -4,7 +4,7 @@ ghost use Rattle.wot_edge.specs.Answer.{IsAnswer, amount_of};
 ghost use Rattle.wot_edge.specs.Record.{IsRecord};
 ghost use Rattle.wot_network.specs.Net.{told_of};
 ghost use Rattle.wot_network.specs.Roads.{present_of};
-ghost use Rattle.wot_search.specs.Reach.{IsReach, number_at};
+ghost use Rattle.wot_search.specs.Reach.{IsReach};
 ghost use Rattle.wot_cache.specs.Answers.{AreAllRight};
 ghost use Rattle.wot_cache.specs.Question.{asked_of, present_in, IsTold};
 
@@ -32,7 +32,7 @@ fn fprs_of(alloc: Global, keyring: &Keyring) -> Result<Vec<Fpr>, Memory> {
 /// How far issuers reach, over these parts.
 fn made_reach(alloc: Global, parts: &Parts<'_>) -> Result<Reach, Memory>
     requires present { present_of parts.now.roads ≡ present_in parts.now }
-    ensures reach { IfOk result (λ reach. IsReach (told_of (present_in parts.now)) parts.now.roots.now (number_at reach)) }
+    ensures reach { IfOk result (λ reach. IsReach (told_of (present_in parts.now)) parts.now.roots.now reach) }
 {
     let fprs = fprs_of(alloc, parts.keyring)?;
     make_reach(alloc, &parts.roads, parts.roots, &fprs)
@@ -50,7 +50,7 @@ fn search_within(
     requires wanted { 1 ≤ wanted }
     requires few { length parts.now.roots.now ≤ 64 }
     requires present { present_of parts.now.roads ≡ present_in parts.now }
-    requires reach { IsReach (told_of (present_in parts.now)) parts.now.roots.now (number_at reach.now) }
+    requires reach { IsReach (told_of (present_in parts.now)) parts.now.roots.now reach.now }
     ensures answer { IfOk result (λ a. IsAnswer (asked_of parts.now target.now uid.now) wanted a.paths) }
     ensures sum { IfOk result (λ a. a.sum ≡ amount_of a.paths) }
 {

@@ -6,7 +6,7 @@ ghost use Rattle.wot_keyring.specs.Keyring.{Keyring as Held};
 ghost use Rattle.wot_cache.specs.Answers.{AreAllRight, AreRightIn, IsFound, IsRight};
 ghost use Rattle.wot_cache.specs.Question.{asked_of, present_in, IsAnswerAround};
 ghost use Rattle.wot_network.specs.Net.{told_of};
-ghost use Rattle.wot_search.specs.Reach.{IsReach, number_at};
+ghost use Rattle.wot_search.specs.Reach.{IsReach};
 ghost use Rattle.wot_cache.specs.Views.{is_name};
 
 use crate::answers::{Answers, KeptAnswer, look_at};
@@ -194,7 +194,7 @@ pub fn reach_of<'a>(
     view: &ViewName,
 ) -> Option<&'a Reach>
     requires right { AreAllRight parts.now.keyring.now answers.now.entries }
-    ensures reach { IfSome result (λ reach. IsReach (told_of (present_in parts.now)) parts.now.roots.now (number_at reach.now)) }
+    ensures reach { IfSome result (λ reach. IsReach (told_of (present_in parts.now)) parts.now.roots.now reach.now) }
 {
     match answers.get(view) {
         Some(of_view) => of_view.reach(parts),
@@ -210,7 +210,7 @@ fn begin_reach(
     view: &ViewName,
     reach: Reach,
 )
-    requires reach { IsReach (told_of (present_in parts.now)) parts.now.roots.now (number_at reach) }
+    requires reach { IsReach (told_of (present_in parts.now)) parts.now.roots.now reach }
     requires right { AreAllRight parts.now.keyring.now answers.old.entries }
     ensures right { AreAllRight parts.now.keyring.now answers.new.entries }
 {
@@ -230,7 +230,7 @@ pub fn keep_reach(
     view: &ViewName,
     reach: Reach,
 )
-    requires reach { IsReach (told_of (present_in parts.now)) parts.now.roots.now (number_at reach) }
+    requires reach { IsReach (told_of (present_in parts.now)) parts.now.roots.now reach }
     requires right { AreAllRight parts.now.keyring.now answers.old.entries }
     ensures right { AreAllRight parts.now.keyring.now answers.new.entries }
 {

@@ -9,7 +9,7 @@ use Rattle.wot_edge.specs.Record.{IsRecord, Record}
 use Rattle.wot_edge.specs.declared.path.Path.{Path}
 use Rattle.wot_keyring.specs.Keyring.{Certificates}
 use Rattle.wot_network.specs.Told.{record_of}
-use Rattle.wot_search.specs.Reach.{IsReach, number_at}
+use Rattle.wot_search.specs.Reach.{IsReach}
 use Rattle.wot_standing.specs.Standing.{own}
 use Rattle.wot_explain.specs.declared.bind.Bind.{Bind}
 use Rattle.wot_explain.specs.declared.sought.Sought.{Sought}
@@ -75,7 +75,7 @@ IsListOf certs verdicts t roots wanted binds = IsTheList (record_of certs verdic
 pub record IsSought (told : List ℕ → Record) (sought : Sought) : Type 0 where
   pub wanted : 1 ≤ sought.wanted
   pub few : length sought.roots.now ≤ 64
-  pub reach : IsReach told sought.roots.now (number_at sought.reach.now)
+  pub reach : IsReach told sought.roots.now sought.reach.now
 
 -- ---- appending
 

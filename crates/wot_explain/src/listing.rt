@@ -6,7 +6,7 @@ ghost use Rattle.wot_keyring.specs.Keyring.{certificates_in};
 use crate::Bind;
 use crate::sought::Sought;
 use std::alloc::Global;
-use wot_auth::authenticate_within;
+use wot_auth::sum_within;
 use wot_cert::{Cert, Part};
 use wot_edge::{Roads, Roots};
 use wot_keyring::{CertsIter, Keyring};
@@ -26,7 +26,7 @@ pub(crate) fn list_pair<R: Roads>(
     ensures { OnOk result (AddsListed (R.told roads.now) sought.now.roots.now sought.now.wanted
         ((fpr.now, uid.now) ∷ []) out.old.items out.new.items) }
 {
-    let answer = authenticate_within(
+    let sum = sum_within(
         alloc,
         roads,
         sought.roots,
@@ -35,7 +35,6 @@ pub(crate) fn list_pair<R: Roads>(
         uid,
         sought.wanted,
     )?;
-    let sum = answer.sum;
     if sum < sought.wanted {
         return Ok(());
     }

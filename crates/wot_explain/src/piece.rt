@@ -4,7 +4,7 @@ ghost use Rattle.wot_explain.specs.Listing.{IsSought, pair_of, pairs_in, pairs_o
 ghost use Rattle.wot_explain.specs.Piece.{AddsPiece, IsPieceOf, IsThePiece, comes_after as comes_after_spec, fpr_at};
 ghost use Rattle.wot_explain.specs.Usable.{AreRoadsOf};
 ghost use Rattle.wot_keyring.specs.Keyring.{certificates_in};
-ghost use Rattle.wot_search.specs.Reach.{IsReach, number_at};
+ghost use Rattle.wot_search.specs.Reach.{IsReach};
 
 use crate::Bind;
 use crate::listing::list_pair;
@@ -169,7 +169,7 @@ pub fn list_after_within<R: Roads>(
 ) -> Result<Vec<Bind>, Memory>
     requires wanted { 1 ≤ wanted }
     requires few { length roots.now ≤ 64 }
-    requires reach { IsReach (R.told roads.now) roots.now (number_at reach.now) }
+    requires reach { IsReach (R.told roads.now) roots.now reach.now }
     ensures piece { IfOk result (λ binds. IsThePiece (R.told roads.now) roots.now wanted (pairs_in (certificates_in keyring.now))
         (option_copied after.entry) count binds.items) }
     ensures list { IfOk result (λ binds. (t : ℕ) → AreRoadsOf (R.told roads.now) keyring.now t

@@ -6,10 +6,13 @@ pub mod Choosing
 pub mod Layers
 pub mod Within
 pub mod Rooted
+pub mod Ahead
 pub mod Picking
 pub mod Local
 pub mod Considering
 pub mod Extending
+pub mod Leading
+pub mod Placing
 pub mod Growing
 pub mod Finding
 pub mod Nexting

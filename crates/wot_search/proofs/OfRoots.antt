@@ -23,8 +23,9 @@ use Rattle.wot_search.specs.declared.node.Node.{Node}
 use Rattle.wot_search.specs.Growth.{IsResult}
 use Rattle.wot_search.specs.Layer.{AtMost, IsComplete, IsEntry}
 use Rattle.wot_search.specs.Looked.{IsLooked}
-use Rattle.wot_search.specs.Offers.{AddsOffer, AreNext, AreOfferedBy, IsOfferIf, IsOfferOf, with_offer}
+use Rattle.wot_search.specs.Offers.{AddsOffer, AreFoundOffers, AreNext, AreOfferedBy, IsOfferIf, IsOfferOf, with_offer}
 use Rattle.wot_search.specs.Quest.{Quest}
+use Rattle.wot_search.specs.Reached.{look}
 use Rattle.wot_search.specs.Rooted.{Rooted, IsFirst}
 use Rattle.wot_search.specs.Suffix.{Suffix, Found, Kept, node_of}
 use Rattle.wot_search.proofs.Comparing.{AtMost-le}
@@ -229,3 +230,10 @@ module _ (reach : Fpr → ℕ) (q : Question) (good : IsRecord q.told) (used : U
           let f = subst (AreFirst q used (length wide.steps) wide.amount) e are_first in
           first_offers q.roots other used (length wide.steps) wide.amount p ps pos (first_there reach all q other used (length wide.steps) wide.amount set agree looked (p ∷ ps) f)
           (roots_there reach all q other used (length wide.steps) wide.amount set agree looked (p ∷ ps) f)
+
+-- what a search in as many layers as the widest path has edges found of the roots
+pub found_offers : (reach : Fpr → ℕ) (q : Question) → IsRecord q.told → (used : Use) → Holds reach q used → (entry_at q.told q.target).in_order ≡ true → (wide : Path) → IsResult (widest_quest reach q used) (Some wide)
+    → (n : ℕ) → n ≡ length wide.steps → (paths : List Path) → IsStrictlySortedBy fpr_cmp (keys_of q.roots) → AreFoundOffers (least_quest reach q used wide.amount) n q.roots paths → AreNext q.roots q used paths
+found_offers reach q good used holds ok wide f n same paths rise found =
+    let o = subst (λ (m : ℕ). AreFoundOffers (least_quest reach q used wide.amount) m q.roots paths) same found in
+    found_next reach q good used holds ok wide f (look o.reached.nodes) o.after.entries o.after.complete paths rise o.offered

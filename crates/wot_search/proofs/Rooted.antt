@@ -126,7 +126,7 @@ first_le quest steps other f r = by (f.first other r)
     by (inl lt) = omega (arith, lt)
     by (inr m) = let e = m.0 in omega (arith, e)
 
-first_open : (quest : Quest) (steps : List Step) → 0 < quest.least → (entry_at quest.question.told quest.question.target).in_order ≡ true → IsFirst quest steps → IsOpen quest.question quest.used steps
+pub first_open : (quest : Quest) (steps : List Step) → 0 < quest.least → (entry_at quest.question.told quest.question.target).in_order ≡ true → IsFirst quest steps → IsOpen quest.question quest.used steps
 first_open quest steps pos ok f = (
   record {
     some = f.rooted.some;

@@ -5,7 +5,9 @@ use Rattle.wot_edge.specs.declared.path.Step.{Step}
 use Rattle.wot_edge.specs.Record.{Record, Row, Has, IsRecord, rows_into}
 use Rattle.wot_edge.specs.Roots.{root_amount}
 use Rattle.wot_edge.specs.Path.{Question, Use, Chain, Reaches, Stands, start, step_of, step_left, least_left, root_left, asks, IsOpen}
-use Rattle.wot_search.specs.Reach.{HasEnough, IsReach}
+use Rattle.wot_search.specs.Reach.{HasEnough, HaveEnough, IsReach, Table, number_at}
+use Rattle.wot_search.specs.Onward.{AreOnward}
+use Rattle.wot_search.specs.declared.onward.Onward.{Onward}
 
 -- each issuer stands within its reach
 abbrev pub Within : (Fpr → ℕ) → List Step → Type 0
@@ -25,15 +27,21 @@ all_within reach all (step ∷ rest) few = (let e = all step.issuer in omega (ar
 pub open_within : (reach : Fpr → ℕ) → ((fpr : Fpr) → reach fpr ≡ 255) → (q : Question) (used : Use) → Holds reach q used
 open_within reach all q used steps o = all_within reach all steps o.0.few
 
-pub all_reach : (told : List ℕ → Record) (roots : List (Fpr × ℕ)) (reach : Fpr → ℕ) → ((fpr : Fpr) → reach fpr ≡ 255) → IsReach told roots reach
+pub all_reach : (told : List ℕ → Record) (roots : List (Fpr × ℕ)) (reach : Fpr → ℕ) → ((fpr : Fpr) → reach fpr ≡ 255) → HaveEnough told roots reach
 all_reach told roots reach all fpr = record {
   root = λ some. all fpr;
   edges = λ uid row has usable some. let e = all fpr in let f = all row.edge.issuer in omega (arith, e, f);
 }
 
+pub none_onward : (told : List ℕ → Record) (number : Fpr → ℕ) (onward : List Onward) → onward ≡ [] → AreOnward told number onward
+none_onward told number onward none = subst (AreOnward told number) (sym none) (λ i one lt. absurd (omega (arith, lt)))
+
+pub everywhere_reach : (told : List ℕ → Record) (roots : List (Fpr × ℕ)) (table : Table) → ((fpr : Fpr) → number_at table fpr ≡ 255) → table.onward ≡ [] → IsReach told roots table
+everywhere_reach told roots table all none = record { enough = all_reach told roots (number_at table) all; onward = none_onward told (number_at table) table.onward none }
+
 -- ---- by a table
 
-module _ (told : List ℕ → Record) (roots : List (Fpr × ℕ)) (reach : Fpr → ℕ) (is : IsReach told roots reach) (uid : List ℕ) (target : Fpr) (used : Use) where
+module _ (told : List ℕ → Record) (roots : List (Fpr × ℕ)) (reach : Fpr → ℕ) (is : HaveEnough told roots reach) (uid : List ℕ) (target : Fpr) (used : Use) where
   abbrev q : Question
   q = asks (told uid) roots target
 

@@ -1,4 +1,5 @@
 pub mod Slots
+pub mod Onward
 pub mod Reach
 pub mod Quest
 pub mod Suffix
@@ -11,3 +12,4 @@ pub mod Demand
 pub mod Reached
 pub mod Growth
 pub mod Offers
+pub mod Below

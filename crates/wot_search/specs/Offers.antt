@@ -10,9 +10,11 @@ use Rattle.wot_edge.specs.Path.{Question, Use, IsNextPath, IsSpent, root_left, s
 use Rattle.wot_edge.specs.Record.{Has}
 use Rattle.wot_edge.specs.Roots.{root_amount}
 use Rattle.wot_search.specs.declared.node.Node.{Node}
-use Rattle.wot_search.specs.Growth.{IsFoundFrom}
+use Rattle.wot_search.specs.Growth.{IsAfter, IsFoundFrom}
 use Rattle.wot_search.specs.Looked.{Widens}
 use Rattle.wot_search.specs.Quest.{Quest}
+use Rattle.wot_search.specs.Reached.{look}
+use Rattle.wot_search.specs.declared.reached.Reached.{Reached}
 use Rattle.wot_search.specs.Suffix.{Found}
 
 -- of each pair and of each root at least as much is used
@@ -103,3 +105,9 @@ AreOfferedBy quest found size [] paths = paths ≡ []
 AreOfferedBy quest found size (root ∷ roots) paths =
     (offer : Option Path) × (others : List Path) × IsOfferIf quest found size root.0 offer
     × AreOfferedBy quest found size roots others × (paths ≡ with_offer offer others)
+
+-- the same of what a search found in so many layers
+pub record AreFoundOffers (quest : Quest) (size : ℕ) (roots : List (Fpr × ℕ)) (paths : List Path) : Type 0 where
+  pub reached : Reached
+  pub after : IsAfter quest size reached (λ fpr. Unit {0})
+  pub offered : AreOfferedBy quest (look reached.nodes) size roots paths

@@ -4,6 +4,7 @@ use Rattle.wot_types.specs.declared.fpr.Fpr.{Fpr}
 use Rattle.wot_edge.specs.Record.{Record}
 use Rattle.wot_edge.specs.Path.{Question, Use, asks}
 use Rattle.wot_edge.specs.Sums.{use_in}
+use Rattle.wot_search.specs.Onward.{AreOnward}
 use Rattle.wot_search.specs.Reach.{number_at}
 use Rattle.wot_search.specs.declared.node.Goal.{Goal}
 use Rattle.wot_search.specs.declared.quest.Quest.{Quest as Told}
@@ -26,3 +27,7 @@ quest_of told quest = record {
   least = quest.least;
   goal = quest.goal;
 }
+
+-- the places of the quest's table are those of all edges that lead on
+abbrev pub LeadsOn : (List ℕ → Record) → Told → Type 0
+LeadsOn told quest = AreOnward told (number_at quest.reach.now) quest.reach.now.onward

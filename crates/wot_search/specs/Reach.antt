@@ -8,10 +8,20 @@ use Rattle.wot_types.specs.Fpr.{fpr_cmp}
 use Rattle.wot_edge.specs.declared.edge.EdgeFacts.{EdgeFacts}
 use Rattle.wot_edge.specs.Record.{Record, Row, Has, rows_into}
 use Rattle.wot_edge.specs.Roots.{root_amount}
+use Rattle.wot_search.specs.Onward.{AreOnward}
+use Rattle.wot_search.specs.declared.onward.Onward.{Onward}
 
 -- the number of a fingerprint, of at most 255; 255 where the table has none
-abbrev pub number_at : List (Fpr × ℕ) → Fpr → ℕ
-number_at numbers fpr = min 255 (unwrap_or (lookup (is_at (fpr_cmp fpr)) numbers) 255)
+abbrev pub number_of : List (Fpr × ℕ) → Fpr → ℕ
+number_of numbers fpr = min 255 (unwrap_or (lookup (is_at (fpr_cmp fpr)) numbers) 255)
+
+-- a table: the number of each fingerprint, and of some fingerprints the places of the edges into it that lead on
+pub record Table : Type 0 where
+  pub numbers : List (Fpr × ℕ)
+  pub onward : List Onward
+
+abbrev pub number_at : Table → Fpr → ℕ
+number_at table fpr = number_of table.numbers fpr
 
 -- A fingerprint has enough where it has 255 if it is a root, and the target of each usable edge of positive amount has
 -- at least the lesser of the edge's depth and one less than its issuer's number.
@@ -22,8 +32,13 @@ pub record HasEnough (told : List ℕ → Record) (roots : List (Fpr × ℕ)) (n
 
 -- These numbers are the reach of all records, scopes left aside, and of the roots: on a path from a root no issuer stands
 -- further before the target than its number.
-abbrev pub IsReach : (List ℕ → Record) → List (Fpr × ℕ) → (Fpr → ℕ) → Type 0
-IsReach told roots number = (fpr : Fpr) → HasEnough told roots number fpr
+abbrev pub HaveEnough : (List ℕ → Record) → List (Fpr × ℕ) → (Fpr → ℕ) → Type 0
+HaveEnough told roots number = (fpr : Fpr) → HasEnough told roots number fpr
+
+-- the same of the numbers of a table, whose places are those of all edges that lead on
+pub record IsReach (told : List ℕ → Record) (roots : List (Fpr × ℕ)) (table : Table) : Type 0 where
+  pub enough : HaveEnough told roots (number_at table)
+  pub onward : AreOnward told (number_at table) table.onward
 
 -- an edge asks no more than n of its target
 abbrev pub Allows : (List ℕ → Record) → (Fpr → ℕ) → ℕ → EdgeFacts → Type 0

@@ -2,12 +2,12 @@
 use Rattle.std.specs.Prelude.{◌≡◌, ℕ, List, Option, Some, None}
 use Rattle.std.specs.List.{All}
 use Rattle.wot_types.specs.declared.fpr.Fpr.{Fpr}
-use Rattle.wot_search.specs.Reach.{number_at}
+use Rattle.wot_search.specs.Reach.{number_of}
 use Rattle.wot_search.specs.declared.slots.Slot.{Slot}
 
 -- the table tells this number of the fingerprint
 abbrev pub Tells : List (Fpr × ℕ) → Fpr → ℕ → Type 0
-Tells numbers fpr number = number ≡ number_at numbers fpr
+Tells numbers fpr number = number ≡ number_of numbers fpr
 
 -- each slot has what the table tells
 abbrev pub AreSlots : List (Fpr × ℕ) → List Slot → Type 0

@@ -1,5 +1,7 @@
 ghost use Rattle.std.specs.Prelude.{◌<◌, OnOk};
-ghost use Rattle.wot_search.specs.Quest.{quest_of};
+ghost use Rattle.wot_search.specs.Onward.{Covers};
+ghost use Rattle.wot_search.specs.Quest.{LeadsOn, quest_of};
+ghost use Rattle.wot_search.specs.Reach.{number_at};
 ghost use Rattle.wot_search.specs.Looked.{Gains, IsNear, Widens};
 ghost use Rattle.wot_search.specs.Growth.{KeepsNoted, GrowsInto, TakesInto, SeesInto};
 
@@ -11,8 +13,36 @@ use crate::reached::{Reached, width_at};
 use wot_edge::Roads;
 use wot_types::{Fpr, Memory};
 
-/// Considers each edge into a fingerprint of the layer before.
+/// Considers each edge into a fingerprint of the layer before that may stand there.
 pub fn extend<R: Roads, N: Notes>(
+    roads: &R,
+    quest: &Quest,
+    size: u8,
+    at: &Fpr,
+    reached: &mut Reached,
+    notes: &mut N,
+) -> Result<(), Memory>
+    requires size { size < 255 }
+    requires onward { LeadsOn (R.told roads.now) quest.now }
+    ensures grown { OnOk result (GrowsInto (quest_of (R.told roads.now) quest.now) size at.now reached.old reached.new) }
+    ensures taken { OnOk result (TakesInto (quest_of (R.told roads.now) quest.now) size at.now reached.old reached.new) }
+    ensures noted { OnOk result (KeepsNoted reached.old reached.new (N.noted notes.old) (N.noted notes.new)) }
+    ensures seen { OnOk result (SeesInto (quest_of (R.told roads.now) quest.now) size at.now reached.old
+        (N.noted notes.old) (N.noted notes.new)) }
+    ensures grows { Widens (N.noted notes.old) (N.noted notes.new) }
+    ensures gains { Gains (IsNear (R.told roads.now quest.now.uid.now) at.now) (N.noted notes.old) (N.noted notes.new) }
+{
+    if size == 0 {
+        return extend_all(roads, quest, size, at, reached, notes);
+    }
+    match quest.reach.onward(at) {
+        Some(places) => extend_onward(roads, quest, size, at, places, reached, notes),
+        None => extend_all(roads, quest, size, at, reached, notes),
+    }
+}
+
+/// Considers each edge into a fingerprint.
+fn extend_all<R: Roads, N: Notes>(
     roads: &R,
     quest: &Quest,
     size: u8,
@@ -39,6 +69,45 @@ pub fn extend<R: Roads, N: Notes>(
             roads, quest, demand, size, width, place, edge, reached, notes,
         )?;
         place = place.saturating_add(1);
+    }
+    Ok(())
+}
+
+/// Considers the edges at these places, which are all that lead on.
+fn extend_onward<R: Roads, N: Notes>(
+    roads: &R,
+    quest: &Quest,
+    size: u8,
+    at: &Fpr,
+    places: &[usize],
+    reached: &mut Reached,
+    notes: &mut N,
+) -> Result<(), Memory>
+    requires some { 0 < size }
+    requires size { size < 255 }
+    requires covers { Covers (R.told roads.now) (number_at quest.now.reach.now) at.now places.now }
+    ensures grown { OnOk result (GrowsInto (quest_of (R.told roads.now) quest.now) size at.now reached.old reached.new) }
+    ensures taken { OnOk result (TakesInto (quest_of (R.told roads.now) quest.now) size at.now reached.old reached.new) }
+    ensures noted { OnOk result (KeepsNoted reached.old reached.new (N.noted notes.old) (N.noted notes.new)) }
+    ensures seen { OnOk result (SeesInto (quest_of (R.told roads.now) quest.now) size at.now reached.old
+        (N.noted notes.old) (N.noted notes.new)) }
+    ensures grows { Widens (N.noted notes.old) (N.noted notes.new) }
+    ensures gains { Gains (IsNear (R.told roads.now quest.now.uid.now) at.now) (N.noted notes.old) (N.noted notes.new) }
+{
+    let edges = roads.rows(at);
+    let demand = demand(roads, quest, size);
+    let width = width_at(reached, size, at);
+    let start = quest.reach.start(at);
+    notes.note(at)?;
+    'places: for place in places {
+        let i = *place;
+        if i < edges.len() {
+            let near = start.saturating_add(i);
+            let edge = &edges[i];
+            consider(
+                roads, quest, demand, size, width, near, edge, reached, notes,
+            )?;
+        }
     }
     Ok(())
 }

@@ -3,7 +3,7 @@ ghost use Rattle.wot_edge.specs.Leads.{Leads};
 ghost use Rattle.wot_edge.specs.Record.{IsRecord};
 ghost use Rattle.wot_search.specs.Growth.{IsSmall, IsResult, IsLookedBy};
 ghost use Rattle.wot_search.specs.Looked.{Gains, Widens};
-ghost use Rattle.wot_search.specs.Quest.{quest_of};
+ghost use Rattle.wot_search.specs.Quest.{LeadsOn, quest_of};
 
 use crate::grow::advance;
 use crate::notes::Notes;
@@ -37,6 +37,7 @@ pub fn first<R: Roads, N: Notes>(
     notes: &mut N,
 ) -> Result<Option<Path>, Memory>
     requires lawful { (id : List ℕ) → IsRecord (R.told roads.now id) }
+    requires onward { LeadsOn (R.told roads.now) quest.now }
     requires small { IsSmall (quest_of (R.told roads.now) quest.now) }
     ensures first { IfOk result (λ found. IsResult (quest_of (R.told roads.now) quest.now) found) }
     ensures looked { IfOk result (λ found. IsLookedBy (quest_of (R.told roads.now) quest.now) (N.noted notes.new) found) }

@@ -1,5 +1,5 @@
 ghost use Rattle.std.specs.Prelude.{◌<◌, OnOk};
-ghost use Rattle.wot_search.specs.Quest.{quest_of};
+ghost use Rattle.wot_search.specs.Quest.{LeadsOn, quest_of};
 ghost use Rattle.wot_search.specs.Looked.{Gains, IsNearOne, Widens};
 ghost use Rattle.wot_search.specs.Growth.{KeepsNoted, GrowsByLayer, TakesLayer, SeesLayer};
 ghost use Rattle.wot_search.specs.Growth.{GoesOn, StaysUnrooted, GainsAfter};
@@ -22,7 +22,8 @@ fn grow<R: Roads, N: Notes>(
     reached: &mut Reached,
     notes: &mut N,
 ) -> Result<(), Memory>
-    requires { size < 255 }
+    requires size { size < 255 }
+    requires onward { LeadsOn (R.told roads.now) quest.now }
     ensures grown { OnOk result (GrowsByLayer (quest_of (R.told roads.now) quest.now) size layer.now reached.old reached.new) }
     ensures taken { OnOk result (TakesLayer (quest_of (R.told roads.now) quest.now) size layer.now reached.old reached.new) }
     ensures noted { OnOk result (KeepsNoted reached.old reached.new (N.noted notes.old) (N.noted notes.new)) }
@@ -46,7 +47,8 @@ pub fn advance<R: Roads, N: Notes>(
     reached: &mut Reached,
     notes: &mut N,
 ) -> Result<(), Memory>
-    requires { size < 255 }
+    requires size { size < 255 }
+    requires onward { LeadsOn (R.told roads.now) quest.now }
     ensures after { OnOk result (GoesOn (quest_of (R.told roads.now) quest.now) size reached.old reached.new
         (N.noted notes.old) (N.noted notes.new)) }
     ensures unrooted { OnOk result (StaysUnrooted (quest_of (R.told roads.now) quest.now) size reached.old reached.new

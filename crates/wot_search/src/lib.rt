@@ -1,6 +1,7 @@
 //! The search for the next path: backwards from the target, in layers of shortest suffixes.
 #![tactic(auto)]
 
+mod below;
 mod choose;
 mod collect;
 mod consider;
@@ -16,6 +17,7 @@ mod node;
 mod notes;
 mod offered;
 mod offers;
+mod onward;
 mod quest;
 mod reach;
 mod reached;
@@ -24,6 +26,7 @@ mod rows;
 mod slots;
 mod turn;
 
+pub use below::{Next, next_below};
 pub use consulted::{Consulted, ConsultedIter};
 pub use metered::Metered;
 pub use next::{next_path, next_path_within};

@@ -68,7 +68,7 @@ pub fn next_path_within<R: Roads, N: Notes>(
     uid: &[u8],
     notes: &mut N,
 ) -> Result<Option<Path>, Memory>
-    requires reach { IsReach (R.told roads.now) roots.now (number_at reach.now) }
+    requires reach { IsReach (R.told roads.now) roots.now reach.now }
     ensures next { IfOk result (λ found. IsNextOrSpent (asks (R.told roads.now uid.now) roots.now target.now) (use_in used.now) found) }
     ensures grows { Widens (N.noted notes.old) (N.noted notes.new) }
     ensures leads { Gains (Leads (R.told roads.now uid.now) target.now) (N.noted notes.old) (N.noted notes.new) }

@@ -47,7 +47,7 @@ fn is_spent(roots: &Roots, used: &Used, offers: &[Path]) -> bool
 }
 
 /// Lets go of the first offers while less is left of their roots.
-fn drop_spent(roots: &Roots, used: &Used, offers: &mut Vec<Path>)
+pub(crate) fn drop_spent(roots: &Roots, used: &Used, offers: &mut Vec<Path>)
     ensures { (q : Question) → AreOffers roots.now q (use_in used.now) offers.old.items
         → AreOffers roots.now q (use_in used.now) offers.new.items }
 {
@@ -57,7 +57,7 @@ fn drop_spent(roots: &Roots, used: &Used, offers: &mut Vec<Path>)
 }
 
 /// The first offer.
-fn first_of(offers: &[Path]) -> Result<Option<Path>, Memory>
+pub(crate) fn first_of(offers: &[Path]) -> Result<Option<Path>, Memory>
     ensures { IfOk result (λ found. found ≡ first_path offers.now) }
 {
     match offers.first() {
@@ -70,7 +70,7 @@ fn first_of(offers: &[Path]) -> Result<Option<Path>, Memory>
 }
 
 /// The first offer, where its amount is left of its root and of its edges.
-fn open_offer(roots: &Roots, used: &Used, offers: &[Path]) -> Result<Option<Path>, Memory>
+pub(crate) fn open_offer(roots: &Roots, used: &Used, offers: &[Path]) -> Result<Option<Path>, Memory>
     ensures { IfOk result (λ found. (q : Question) → AreOffers roots.now q (use_in used.now) offers.now
         → IsNextIfSome q (use_in used.now) found) }
 {
@@ -99,7 +99,7 @@ pub fn next_offered<R: Roads, N: Notes>(
     offers: &mut Vec<Path>,
     notes: &mut N,
 ) -> Result<Option<Path>, Memory>
-    requires reach { IsReach (R.told roads.now) roots.now (number_at reach.now) }
+    requires reach { IsReach (R.told roads.now) roots.now reach.now }
     requires offers { AreOffers roots.now (asks (R.told roads.now uid.now) roots.now target.now) (use_in used.now) offers.old.items }
     ensures next { IfOk result (λ found. IsNextOrSpent (asks (R.told roads.now uid.now) roots.now target.now) (use_in used.now) found) }
     ensures offers { OnOk result (AreOffers roots.now (asks (R.told roads.now uid.now) roots.now target.now)

@@ -6,8 +6,8 @@ ghost use Rattle.wot_edge.specs.Record.{Record, IsRecord};
 ghost use Rattle.wot_edge.specs.Sums.{use_in};
 ghost use Rattle.wot_search.specs.Growth.{IsAfter};
 ghost use Rattle.wot_search.specs.Looked.{Gains, Widens};
-ghost use Rattle.wot_search.specs.Offers.{AddsOffer, AreNext, AreNextWhereAgreed, AreOfferedBy, IsOfferIf};
-ghost use Rattle.wot_search.specs.Quest.{quest_of};
+ghost use Rattle.wot_search.specs.Offers.{AddsOffer, AreFoundOffers, AreNext, AreNextWhereAgreed, AreOfferedBy, IsOfferIf};
+ghost use Rattle.wot_search.specs.Quest.{LeadsOn, quest_of};
 ghost use Rattle.wot_search.specs.Reach.{IsReach, number_at};
 ghost use Rattle.wot_search.specs.Reached.{look};
 
@@ -33,6 +33,7 @@ fn layers_of<R: Roads>(
     quest: &Quest,
     count: u8,
 ) -> Result<Reached, Memory>
+    requires onward { LeadsOn (R.told roads.now) quest.now }
     ensures after { IfOk result (λ reached. IsAfter (quest_of (R.told roads.now) quest.now) count reached (λ fpr. Unit {0})) }
 {
     let mut reached = begin(alloc, quest.target)?;
@@ -107,6 +108,21 @@ fn offers_of(
     Ok(paths)
 }
 
+/// The offers of all roots, by a search in so many layers.
+pub(crate) fn offers_by<R: Roads>(
+    alloc: Global,
+    roads: &R,
+    quest: &Quest,
+    size: u8,
+) -> Result<Vec<Path>, Memory>
+    requires onward { LeadsOn (R.told roads.now) quest.now }
+    ensures { IfOk result (λ paths. AreFoundOffers (quest_of (R.told roads.now) quest.now) size quest.now.roots.now paths.items) }
+{
+    let reached = layers_of(alloc, roads, quest, size)?;
+    let paths = offers_of(alloc, quest, &reached.nodes, size)?;
+    Ok(paths)
+}
+
 /// Next paths that one search finds: the next one, and after it, of each later root, the one that is next once less is
 /// left of the roots before it, while as much is left of its own root and of its edges. None where no valid path of
 /// positive amount is left. The search passes over each issuer where it would stand further before the target than its
@@ -121,7 +137,7 @@ pub fn next_paths_within<R: Roads, N: Notes>(
     uid: &[u8],
     notes: &mut N,
 ) -> Result<Vec<Path>, Memory>
-    requires reach { IsReach (R.told roads.now) roots.now (number_at reach.now) }
+    requires reach { IsReach (R.told roads.now) roots.now reach.now }
     ensures next { IfOk result (λ paths. AreNext roots.now (asks (R.told roads.now uid.now) roots.now target.now) (use_in used.now) paths.items) }
     ensures grows { Widens (N.noted notes.old) (N.noted notes.new) }
     ensures leads { Gains (Leads (R.told roads.now uid.now) target.now) (N.noted notes.old) (N.noted notes.new) }
@@ -160,8 +176,7 @@ pub fn next_paths_within<R: Roads, N: Notes>(
                 least: path.amount,
             };
             let size = path.steps.as_slice().len() as u8;
-            let reached = layers_of(alloc, roads, &least, size)?;
-            let paths = offers_of(alloc, &least, &reached.nodes, size)?;
+            let paths = offers_by(alloc, roads, &least, size)?;
             Ok(paths)
         }
     }

@@ -1,9 +1,11 @@
-ghost use Rattle.std.specs.Prelude.{◌≡◌, ◌<◌, ℕ, List, true, false};
+ghost use Rattle.std.specs.Prelude.{◌≡◌, ◌<◌, ℕ, List, true, false, IfOk, IfSome};
 ghost use Rattle.wot_types.specs.declared.fpr.Fpr.{Fpr as Print};
-ghost use Rattle.wot_edge.specs.Record.{Has, edges_into};
+ghost use Rattle.wot_edge.specs.Record.{Record, Has, edges_into};
 ghost use Rattle.wot_edge.specs.Roots.{root_amount};
-ghost use Rattle.wot_search.specs.Reach.{Allows, HasEnough, IsReach, number_at};
+ghost use Rattle.wot_search.specs.Onward.{AreOnward, Covers};
+ghost use Rattle.wot_search.specs.Reach.{Allows, HasEnough, HaveEnough, IsReach, number_at, number_of};
 
+use crate::onward::{Onward, make_onward, places_at};
 use crate::rows::Rows;
 use crate::slots::{Slots, number_in};
 use std::alloc::Global;
@@ -13,22 +15,23 @@ use wot_edge::{Edge, Roads, Roots};
 use wot_types::{Fpr, Memory};
 
 /// How far before a target an issuer may stand: a number of edges for each fingerprint. A search passes over an issuer
-/// that would stand further. One that has no number may stand anywhere.
+/// that would stand further. One that has no number may stand anywhere. Of the fingerprints with a number it has the
+/// places of the edges that lead on, so that a search needs to look at those alone.
 #[derive(Drop)]
 pub struct Reach {
     numbers: BTreeMap<Fpr, u8, Global>,
     slots: Slots,
     rows: Rows,
+    onward: Vec<Onward, Global>,
 }
 
 impl Model for Reach {
-    ghost use Rattle.std.specs.Prelude.{List, ℕ};
-    ghost use Rattle.wot_types.specs.declared.fpr.Fpr.{Fpr};
+    ghost use Rattle.wot_search.specs.Reach.{Table};
     ghost use Rattle.wot_search.specs.Slots.{AreSlots};
 
-    ghost Value = { List (Fpr × ℕ) };
+    ghost Value = { Table };
 
-    ghost view = { λ reach. reach.numbers.entries };
+    ghost view = { λ reach. record { numbers = reach.numbers.entries; onward = reach.onward.items } };
 
     ghost invariant = { λ reach. AreSlots reach.numbers.entries reach.slots.slots.items
         × AreSlots reach.numbers.entries reach.rows.slots.items };
@@ -38,11 +41,13 @@ impl Reach {
     /// Leaves nothing out.
     pub fn everywhere(alloc: Global) -> Reach
         ensures all { (fpr : Print) → number_at result fpr ≡ 255 }
+        ensures reach { (told : List ℕ → Record) (roots : List (Print × ℕ)) → IsReach told roots result }
     {
         Reach {
             numbers: BTreeMap::new(alloc),
             slots: Slots::none(alloc),
             rows: Rows::none(alloc),
+            onward: Vec::new(alloc),
         }
     }
 
@@ -74,6 +79,17 @@ impl Reach {
         }
     }
 
+    /// The places of the edges into a fingerprint that lead on, if they are known.
+    pub(crate) fn onward(&self, fpr: &Fpr) -> Option<&[usize]>
+        ensures covers { (told : List ℕ → Record) → AreOnward told (number_at self.now) self.now.onward
+            → IfSome result (λ places. Covers told (number_at self.now) fpr.now places.now) }
+    {
+        match self.slots.place(fpr) {
+            Some(place) => places_at(&self.onward, place, fpr),
+            None => None,
+        }
+    }
+
     /// How many edges were looked at when it was made: what it costs to make it again.
     pub fn edges(&self) -> usize {
         self.rows.slots.len()
@@ -85,23 +101,27 @@ impl Reach {
         roads: &R,
         fprs: &[Fpr],
         numbers: &[u8],
-    ) -> Result<Reach, Memory> {
+    ) -> Result<Reach, Memory>
+        ensures onward { IfOk result (λ reach. AreOnward (R.told roads.now) (number_at reach) reach.onward) }
+    {
         let mut table = BTreeMap::new(alloc);
         for (fpr, number) in fprs.iter().zip(numbers) {
             table.insert(*fpr, *number)?;
         }
         let slots = Slots::of(alloc, fprs, &table)?;
         let rows = Rows::of(alloc, roads, fprs, &slots, &table)?;
+        let onward = make_onward(alloc, roads, fprs, &slots, &table)?;
         Ok(Reach {
             numbers: table,
             slots,
             rows,
+            onward,
         })
     }
 
     /// Whether each fingerprint has enough.
     pub(crate) fn is_over<R: Roads>(&self, roads: &R, roots: &Roots) -> bool
-        ensures enough { result ≡ true → IsReach (R.told roads.now) roots.now (number_at self.now) }
+        ensures enough { result ≡ true → HaveEnough (R.told roads.now) roots.now (number_at self.now) }
     {
         have_enough(roads, roots, self, &self.numbers)
     }
@@ -114,8 +134,8 @@ fn have_enough<R: Roads>(
     reach: &Reach,
     numbers: &BTreeMap<Fpr, u8>,
 ) -> bool
-    requires { reach.now ≡ numbers.now.entries }
-    ensures enough { result ≡ true → IsReach (R.told roads.now) roots.now (number_at reach.now) }
+    requires { reach.now.numbers ≡ numbers.now.entries }
+    ensures enough { result ≡ true → HaveEnough (R.told roads.now) roots.now (number_at reach.now) }
 {
     'numbers: for (fpr, _number) in numbers.iter() {
         if !has_enough(roads, roots, reach, fpr) {

@@ -1,6 +1,6 @@
 ghost use Rattle.std.specs.Prelude.{ℕ, List, IfOk};
 ghost use Rattle.wot_edge.specs.Record.{Has, edges_into};
-ghost use Rattle.wot_search.specs.Reach.{IsReach, number_at};
+ghost use Rattle.wot_search.specs.Reach.{IsReach};
 
 use crate::reach::Reach;
 use std::alloc::Global;
@@ -116,7 +116,7 @@ pub fn make_reach<R: Roads>(
     roots: &Roots,
     fprs: &[Fpr],
 ) -> Result<Reach, Memory>
-    ensures reach { IfOk result (λ reach. IsReach (R.told roads.now) roots.now (number_at reach)) }
+    ensures reach { IfOk result (λ reach. IsReach (R.told roads.now) roots.now reach) }
 {
     let links = links_of(alloc, roads, fprs)?;
     let mut numbers = first_numbers(alloc, roots, fprs)?;

@@ -1,7 +1,7 @@
 // The numbers of a table once more, in a row: most are found by one look, and not by a walk through a tree.
 ghost use Rattle.std.specs.Prelude.{◌≡◌, ℕ, List, IfOk, OnOk};
 ghost use Rattle.wot_types.specs.declared.fpr.Fpr.{Fpr as Print};
-ghost use Rattle.wot_search.specs.Reach.{number_at};
+ghost use Rattle.wot_search.specs.Reach.{number_of};
 ghost use Rattle.wot_search.specs.Slots.{AreSlots, Tells, TellsIfSome};
 
 use std::alloc::Global;
@@ -94,7 +94,7 @@ fn begin_parts(starts: &mut Vec<u32>, part: usize, place: usize) -> Result<(), M
 
 /// The number of a fingerprint in a table.
 pub(crate) fn number_in(numbers: &BTreeMap<Fpr, u8>, fpr: &Fpr) -> u8
-    ensures number { result ≡ number_at numbers.now.entries fpr.now }
+    ensures number { result ≡ number_of numbers.now.entries fpr.now }
 {
     match numbers.get(fpr) {
         Some(number) => *number,
@@ -105,7 +105,7 @@ pub(crate) fn number_in(numbers: &BTreeMap<Fpr, u8>, fpr: &Fpr) -> u8
 /// The same, by the slots where it is found there.
 pub(crate) fn number_by(slots: &Slots, numbers: &BTreeMap<Fpr, u8>, fpr: &Fpr) -> u8
     requires slots { AreSlots numbers.now.entries slots.now.slots.items }
-    ensures number { result ≡ number_at numbers.now.entries fpr.now }
+    ensures number { result ≡ number_of numbers.now.entries fpr.now }
 {
     match slots.find(fpr) {
         Some(number) => number,

@@ -1,6 +1,6 @@
 ghost use Rattle.std.specs.Prelude.{IfOk};
 ghost use Rattle.wot_edge.specs.Plain.{told_of};
-ghost use Rattle.wot_search.specs.Reach.{IsReach, number_at};
+ghost use Rattle.wot_search.specs.Reach.{IsReach};
 
 use crate::roads::{A, B, C, Row, S, T, U, key, network, roots_of};
 use std::alloc::Global;
@@ -268,7 +268,7 @@ fn next_to(
 
 /// How far the keys reach.
 fn reach_of(alloc: Global, roads: &PlainRoads, roots: &Roots) -> Result<Reach, Memory>
-    ensures reach { IfOk result (λ reach. IsReach (told_of roads.now) roots.now (number_at reach)) }
+    ensures reach { IfOk result (λ reach. IsReach (told_of roads.now) roots.now reach) }
 {
     let mut fprs = Vec::new(alloc);
     for octet in 1..100u8 {
@@ -287,7 +287,7 @@ fn next_within<R: Roads>(
     used: &Used,
     uid: u8,
 ) -> Result<Option<Path>, Memory>
-    requires reach { IsReach (R.told roads.now) roots.now (number_at reach.now) }
+    requires reach { IsReach (R.told roads.now) roots.now reach.now }
 {
     next_path_within(
         alloc,
@@ -432,7 +432,7 @@ fn offers_within<R: Roads>(
     roots: &Roots,
     reach: &Reach,
 ) -> Result<(Vec<Path>, Option<Path>), Memory>
-    requires reach { IsReach (R.told roads.now) roots.now (number_at reach.now) }
+    requires reach { IsReach (R.told roads.now) roots.now reach.now }
 {
     let none = Used::new(alloc);
     let all = next_paths_within(

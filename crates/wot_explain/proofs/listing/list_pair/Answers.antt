@@ -29,17 +29,18 @@ without wanted pair sum other old e h =
 pub returns-then-sum-sought : goal.returns-then-sum-sought
 returns-then-sum-sought g c =
     let pair : Pair = (c.args.fpr.now, c.args.uid.now) in
-    let a = c.in_ok-answer.answer in
-    one_added (g.R.Roads.told c.args.roads.now) c.args.sought.now.roots.now c.args.sought.now.wanted pair a.paths c.args.out.now.items c.args.out.now.items c.in_ok-answer.ensures.answer c.in_ok-answer.ensures.one
-    (without c.args.sought.now.wanted pair a.sum (amount_of a.paths) c.args.out.now.items c.in_ok-answer.ensures.sum c.if-sum-sought.true)
+    let a = c.in_ok-sum.ensures.sum in
+    one_added (g.R.Roads.told c.args.roads.now) c.args.sought.now.roots.now c.args.sought.now.wanted pair a.paths c.args.out.now.items c.args.out.now.items a.answer a.one
+    (without c.args.sought.now.wanted pair c.in_ok-sum.sum (amount_of a.paths) c.args.out.now.items a.sum c.if-sum-sought.true)
 
 pub returns : goal.returns
 returns g c =
     let pair : Pair = (c.args.fpr.now, c.args.uid.now) in
-    let a = c.in_ok-answer.answer in
+    let a = c.in_ok-sum.ensures.sum in
+    let sum = c.in_ok-sum.sum in
     let old = c.args.out.now.items in
     let new = c.push.new.self.items in
-    let bind : Bind = record { sum = a.sum; fpr = c.args.fpr.now; uid = c.in_ok-uid.uid } in
-    let same : bind ≡ record { sum = a.sum; fpr = pair.0; uid = pair.1 } = ap (λ (u : List ℕ). (let b : Bind = record { sum = a.sum; fpr = c.args.fpr.now; uid = u } in b)) c.in_ok-uid.ensures.copied in
-    one_added (g.R.Roads.told c.args.roads.now) c.args.sought.now.roots.now c.args.sought.now.wanted pair a.paths old new c.in_ok-answer.ensures.answer c.in_ok-answer.ensures.one
-    (with_it c.args.sought.now.wanted pair a.sum (amount_of a.paths) old new bind c.in_ok-answer.ensures.sum c.if-sum-sought.false same c.in_ok-push.ensures.items)
+    let bind : Bind = record { sum = sum; fpr = c.args.fpr.now; uid = c.in_ok-uid.uid } in
+    let same : bind ≡ record { sum = sum; fpr = pair.0; uid = pair.1 } = ap (λ (u : List ℕ). (let b : Bind = record { sum = sum; fpr = c.args.fpr.now; uid = u } in b)) c.in_ok-uid.ensures.copied in
+    one_added (g.R.Roads.told c.args.roads.now) c.args.sought.now.roots.now c.args.sought.now.wanted pair a.paths old new a.answer a.one
+    (with_it c.args.sought.now.wanted pair sum (amount_of a.paths) old new bind a.sum c.if-sum-sought.false same c.in_ok-push.ensures.items)

@@ -16,7 +16,7 @@ returns-in-None-clause-next g c =
     let q = asks (g.R.Roads.told c.args.roads.now c.args.uid.now) c.args.roots.now c.args.target.now in
     let used = use_in c.args.used.now in
     let reach = number_at c.args.reach.now in
-    let holds = reach_holds (g.R.Roads.told c.args.roads.now) c.args.roots.now reach c.requires.reach c.args.uid.now c.args.target.now used in
+    let holds = reach_holds (g.R.Roads.told c.args.roads.now) c.args.roots.now reach c.requires.reach.enough c.args.uid.now c.args.target.now used in
     spent_next reach q used holds (subst (λ (o : Option Path). IsResult (widest_quest reach q used) o) c.in-None.is c.in_ok-first.ensures.first)
 
 pub returns-in-None-clause-local : goal.returns-in-None-clause-local
@@ -24,7 +24,7 @@ returns-in-None-clause-local g c all set has other a =
     let q = asks (g.R.Roads.told c.args.roads.now c.args.uid.now) c.args.roots.now c.args.target.now in
     let used = use_in c.args.used.now in
     let reach = number_at c.args.reach.now in
-    let holds = reach_holds (g.R.Roads.told c.args.roads.now) c.args.roots.now reach c.requires.reach c.args.uid.now c.args.target.now used in
+    let holds = reach_holds (g.R.Roads.told c.args.roads.now) c.args.roots.now reach c.requires.reach.enough c.args.uid.now c.args.target.now used in
     spent_local reach all q used holds set (subst (λ (o : Option Path). IsResult (widest_quest reach q used) o) c.in-None.is c.in_ok-first.ensures.first)
     (looked_grows (widest_quest reach q used) 255 (g.N.Notes.noted c.first.new.notes) (Has set) has
     (subst (λ (o : Option Path). IsLookedBy (widest_quest reach q used) (g.N.Notes.noted c.first.new.notes) o) c.in-None.is c.in_ok-first.ensures.looked)) other a
@@ -34,7 +34,7 @@ returns-clause-next g c =
     let q = asks (g.R.Roads.told c.args.roads.now c.args.uid.now) c.args.roots.now c.args.target.now in
     let used = use_in c.args.used.now in
     let reach = number_at c.args.reach.now in
-    let holds = reach_holds (g.R.Roads.told c.args.roads.now) c.args.roots.now reach c.requires.reach c.args.uid.now c.args.target.now used in
+    let holds = reach_holds (g.R.Roads.told c.args.roads.now) c.args.roots.now reach c.requires.reach.enough c.args.uid.now c.args.target.now used in
     let f = subst (λ (o : Option Path). IsResult (widest_quest reach q used) o) c.in-Some.is c.in_ok-first.ensures.first in
     both_next reach q used holds (sym c.in_order.ensures.in_order ∙ c.if-not-in_order.false) c.in-Some.path c.in_ok-found.found f c.in_ok-found.ensures.first
 
@@ -43,7 +43,7 @@ returns-clause-local g c all set has other a =
     let q = asks (g.R.Roads.told c.args.roads.now c.args.uid.now) c.args.roots.now c.args.target.now in
     let used = use_in c.args.used.now in
     let reach = number_at c.args.reach.now in
-    let holds = reach_holds (g.R.Roads.told c.args.roads.now) c.args.roots.now reach c.requires.reach c.args.uid.now c.args.target.now used in
+    let holds = reach_holds (g.R.Roads.told c.args.roads.now) c.args.roots.now reach c.requires.reach.enough c.args.uid.now c.args.target.now used in
     let f = subst (λ (o : Option Path). IsResult (widest_quest reach q used) o) c.in-Some.is c.in_ok-first.ensures.first in
     let l = subst (λ (o : Option Path). IsLookedBy (widest_quest reach q used) (g.N.Notes.noted c.first.new.notes) o) c.in-Some.is c.in_ok-first.ensures.looked in
     both_local reach q used holds (sym c.in_order.ensures.in_order ∙ c.if-not-in_order.false) all c.in-Some.path c.in_ok-found.found set f c.in_ok-found.ensures.first

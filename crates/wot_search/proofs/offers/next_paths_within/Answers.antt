@@ -3,8 +3,8 @@ use Rattle.wot_edge.specs.declared.path.Path.{Path}
 use Rattle.wot_edge.specs.Path.{asks}
 use Rattle.wot_edge.specs.Record.{Has}
 use Rattle.wot_edge.specs.Sums.{use_in}
-use Rattle.wot_search.specs.Growth.{IsAfter, IsResult, IsLookedBy}
-use Rattle.wot_search.specs.Offers.{AreNext, AreOfferedBy}
+use Rattle.wot_search.specs.Growth.{IsResult, IsLookedBy}
+use Rattle.wot_search.specs.Offers.{AreFoundOffers, AreNext}
 use Rattle.wot_search.specs.Reach.{number_at}
 use Rattle.wot_search.specs.Reached.{look}
 use Rattle.wot_search.proofs.Layers.{looked_grows}
@@ -19,7 +19,7 @@ returns-in-None-clause-next g c =
     let q = asks (g.R.Roads.told c.args.roads.now c.args.uid.now) c.args.roots.now c.args.target.now in
     let used = use_in c.args.used.now in
     let reach = number_at c.args.reach.now in
-    let holds = reach_holds (g.R.Roads.told c.args.roads.now) c.args.roots.now reach c.requires.reach c.args.uid.now c.args.target.now used in
+    let holds = reach_holds (g.R.Roads.told c.args.roads.now) c.args.roots.now reach c.requires.reach.enough c.args.uid.now c.args.target.now used in
     subst (AreNext c.args.roots.now q used) (sym c.new-in-None.ensures.items)
     (spent_next reach q used holds (subst (λ (o : Option Path). IsResult (widest_quest reach q used) o) c.in-None.is c.in_ok-first.ensures.first))
 
@@ -28,7 +28,7 @@ returns-in-None-clause-local g c all set has other a =
     let q = asks (g.R.Roads.told c.args.roads.now c.args.uid.now) c.args.roots.now c.args.target.now in
     let used = use_in c.args.used.now in
     let reach = number_at c.args.reach.now in
-    let holds = reach_holds (g.R.Roads.told c.args.roads.now) c.args.roots.now reach c.requires.reach c.args.uid.now c.args.target.now used in
+    let holds = reach_holds (g.R.Roads.told c.args.roads.now) c.args.roots.now reach c.requires.reach.enough c.args.uid.now c.args.target.now used in
     subst (AreNext c.args.roots.now other used) (sym c.new-in-None.ensures.items)
     (spent_local reach all q used holds set (subst (λ (o : Option Path). IsResult (widest_quest reach q used) o) c.in-None.is c.in_ok-first.ensures.first)
     (looked_grows (widest_quest reach q used) 255 (g.N.Notes.noted c.first.new.notes) (Has set) has
@@ -40,14 +40,13 @@ returns-in_ok-paths-in-Some-clause-next g c =
     let q = asks (told c.args.uid.now) c.args.roots.now c.args.target.now in
     let used = use_in c.args.used.now in
     let reach = number_at c.args.reach.now in
-    let holds = reach_holds told c.args.roots.now reach c.requires.reach c.args.uid.now c.args.target.now used in
+    let holds = reach_holds told c.args.roots.now reach c.requires.reach.enough c.args.uid.now c.args.target.now used in
     let wide = c.in-Some.path in
     let f = subst (λ (o : Option Path). IsResult (widest_quest reach q used) o) c.in-Some.is c.in_ok-first.ensures.first in
-    let found = look c.in_ok-reached-in-Some.reached.nodes in
     let size = ap length c.as_slice.ensures.items in
-    let after = subst (λ (n : ℕ). IsAfter (least_quest reach q used wide.amount) n c.in_ok-reached-in-Some.reached (λ fpr. Unit {0})) size c.in_ok-reached-in-Some.ensures.after in
-    let offered = subst (λ (n : ℕ). AreOfferedBy (least_quest reach q used wide.amount) found n c.args.roots.now c.in_ok-paths-in-Some.paths.items) size (c.in_ok-paths-in-Some.ensures told) in
-    found_next reach q (c.in_order.ensures.lawful c.args.uid.now) used holds (sym c.in_order.ensures.in_order ∙ c.if-not-in_order.false) wide f found after.entries after.complete c.in_ok-paths-in-Some.paths.items c.len-count.ensures.roots.order offered
+    let o = subst (λ (n : ℕ). AreFoundOffers (least_quest reach q used wide.amount) n c.args.roots.now c.in_ok-paths-in-Some.paths.items) size c.in_ok-paths-in-Some.ensures in
+    let found = look o.reached.nodes in
+    found_next reach q (c.in_order.ensures.lawful c.args.uid.now) used holds (sym c.in_order.ensures.in_order ∙ c.if-not-in_order.false) wide f found o.after.entries o.after.complete c.in_ok-paths-in-Some.paths.items c.len-count.ensures.roots.order o.offered
 
 pub returns-in_ok-paths-in-Some-clause-local : goal.returns-in_ok-paths-in-Some-clause-local
 returns-in_ok-paths-in-Some-clause-local g c all set has other a =
@@ -55,13 +54,12 @@ returns-in_ok-paths-in-Some-clause-local g c all set has other a =
     let q = asks (told c.args.uid.now) c.args.roots.now c.args.target.now in
     let used = use_in c.args.used.now in
     let reach = number_at c.args.reach.now in
-    let holds = reach_holds told c.args.roots.now reach c.requires.reach c.args.uid.now c.args.target.now used in
+    let holds = reach_holds told c.args.roots.now reach c.requires.reach.enough c.args.uid.now c.args.target.now used in
     let wide = c.in-Some.path in
     let f = subst (λ (o : Option Path). IsResult (widest_quest reach q used) o) c.in-Some.is c.in_ok-first.ensures.first in
-    let found = look c.in_ok-reached-in-Some.reached.nodes in
     let size = ap length c.as_slice.ensures.items in
-    let after = subst (λ (n : ℕ). IsAfter (least_quest reach q used wide.amount) n c.in_ok-reached-in-Some.reached (λ fpr. Unit {0})) size c.in_ok-reached-in-Some.ensures.after in
-    let offered = subst (λ (n : ℕ). AreOfferedBy (least_quest reach q used wide.amount) found n c.args.roots.now c.in_ok-paths-in-Some.paths.items) size (c.in_ok-paths-in-Some.ensures told) in
+    let o = subst (λ (n : ℕ). AreFoundOffers (least_quest reach q used wide.amount) n c.args.roots.now c.in_ok-paths-in-Some.paths.items) size c.in_ok-paths-in-Some.ensures in
+    let found = look o.reached.nodes in
     let l = subst (λ (o : Option Path). IsLookedBy (widest_quest reach q used) (g.N.Notes.noted c.first.new.notes) o) c.in-Some.is c.in_ok-first.ensures.looked in
-    found_there reach q (c.in_order.ensures.lawful c.args.uid.now) used holds (sym c.in_order.ensures.in_order ∙ c.if-not-in_order.false) wide f found after.entries after.complete c.in_ok-paths-in-Some.paths.items c.len-count.ensures.roots.order offered
+    found_there reach q (c.in_order.ensures.lawful c.args.uid.now) used holds (sym c.in_order.ensures.in_order ∙ c.if-not-in_order.false) wide f found o.after.entries o.after.complete c.in_ok-paths-in-Some.paths.items c.len-count.ensures.roots.order o.offered
     all other set a (looked_grows (widest_quest reach q used) (length wide.steps) (g.N.Notes.noted c.first.new.notes) (Has set) has l)

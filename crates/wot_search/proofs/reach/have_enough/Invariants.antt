@@ -5,4 +5,4 @@ abbrev pub invariant-numbers : goal.invariant-numbers
 invariant-numbers g l =
     (goal.iterator-numbers g).can_next l.fpr-iterator
     × (goal.iterator-numbers g).is_finite l.fpr-iterator
-    × EnoughFrom (g.R.Roads.told l.roads) l.roots l.reach l.fpr-iterator
+    × EnoughFrom (g.R.Roads.told l.roads) l.roots l.reach.numbers l.fpr-iterator

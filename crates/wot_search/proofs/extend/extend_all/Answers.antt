@@ -6,7 +6,7 @@ use Rattle.wot_search.specs.Quest.{quest_of}
 use Rattle.wot_search.specs.Looked.{IsNear}
 use Rattle.wot_search.specs.Reached.{look}
 use Rattle.wot_search.proofs.Extending.{has_at, edge_known, taken_more, taken_end, taken_all, rest_now, advances_trans, noted_more, noted_end, noted_all, near_issuer}
-use Rattle.wot_search.proofs.extend.extend.Goals as goal
+use Rattle.wot_search.proofs.extend.extend_all.Goals as goal
 
 pub consider-requires-clause-row : goal.consider-requires-clause-row
 consider-requires-clause-row g c id =

@@ -1,0 +1,85 @@
+use Rattle.std.proofs.Common.{◌≡◌, inl, inr, ◌+◌, ◌<◌, ◌≤◌, [], sym, ap, subst, ◌∙◌, arith, List, ℕ}
+use Rattle.wot_edge.specs.declared.path.Path.{Path}
+use Rattle.wot_edge.specs.Path.{asks, use_of, IsNextPath, IsSpent, Use}
+use Rattle.wot_edge.specs.Answer.{EachNext, amount_of, but_last}
+use Rattle.wot_edge.specs.Sums.{use_in}
+use Rattle.wot_search.specs.Below.{IsNextBelow, IsNextAmount}
+use Rattle.wot_search.specs.Offers.{AreOffers}
+use Rattle.wot_search.specs.declared.below.Next.{Next}
+use Rattle.wot_auth.proofs.Taking.{each_more, short_more, use_none, use_more, pair_fits, root_fits, amount_more, more_small, later_more, offers_later, root_small}
+use Rattle.wot_auth.proofs.Summing.{next_here, sum_of, enough_sum}
+use Rattle.wot_auth.proofs.sum.sum_within.Goals as goal
+
+pub paths-init : goal.paths-init
+paths-init g c =
+    let told = g.R.Roads.told c.args.roads.now c.args.uid.now in
+    let q = asks told c.args.roots.now c.args.target.now in
+    let none = sym c.new-paths.ensures.items in
+    record {
+      each = subst (EachNext q []) none tt;
+      short = subst (λ (paths : List Path). amount_of (but_last paths) < c.args.wanted) none (omega (arith, c.requires.wanted));
+      used = use_none c.new-used.result c.new-used.ensures.pairs c.new-used.ensures.roots ∙ ap use_of none;
+      sum = ap amount_of none;
+      offers = subst (AreOffers c.args.roots.now q (use_in c.new-used.result)) (sym c.new-offers.ensures.items) tt;
+    }
+
+pub returns-in-Spent : goal.returns-in-Spent
+returns-in-Spent g c =
+    let q = asks (g.R.Roads.told c.args.roads.now c.args.uid.now) c.args.roots.now c.args.target.now in
+    let inv = c.paths.invariant in
+    let next = subst (IsNextBelow q (use_in c.paths.used) c.sub-rest.result) c.in-Spent.is c.in_ok-next.ensures.next in
+    let spent = subst (λ (u : Use). IsSpent q u) inv.used next in
+    record {
+      sum =
+          sum_of q c.args.wanted (λ a b m n. c.answer_is_one.ensures.one q c.args.wanted a b (c.rows-rows.ensures.lawful c.args.uid.now) m n) c.paths.paths.items c.paths.sum
+          (record { each = inv.each; short = inv.short; ends = inr spent }) inv.sum;
+    }
+
+pub returns-in-Enough : goal.returns-in-Enough
+returns-in-Enough g c = ?
+
+pub add-requires-clause-pairs_fit : goal.add-requires-clause-pairs_fit
+add-requires-clause-pairs_fit g c issuer target =
+    let q = asks (g.R.Roads.told c.args.roads.now c.args.uid.now) c.args.roots.now c.args.target.now in
+    let next = next_here q c.paths.used c.paths.paths.items _ _ c.in-Path.path c.paths.invariant.used c.in_ok-next.ensures.next c.in-Path.is in
+    let small = more_small c.paths_fit.ensures.sum q c.paths.paths.items c.in-Path.path c.len-count.ensures.roots.amounts c.requires.few c.paths.invariant.each next in
+    let fits = pair_fits c.paths.used c.paths.paths.items c.in-Path.path issuer target c.paths.invariant.used in
+    omega (arith, fits, small)
+
+pub add-requires-clause-roots_fit : goal.add-requires-clause-roots_fit
+add-requires-clause-roots_fit g c fpr =
+    let q = asks (g.R.Roads.told c.args.roads.now c.args.uid.now) c.args.roots.now c.args.target.now in
+    let next = next_here q c.paths.used c.paths.paths.items _ _ c.in-Path.path c.paths.invariant.used c.in_ok-next.ensures.next c.in-Path.is in
+    let small = more_small c.paths_fit.ensures.sum q c.paths.paths.items c.in-Path.path c.len-count.ensures.roots.amounts c.requires.few c.paths.invariant.each next in
+    let fits = root_fits c.paths.used c.paths.paths.items c.in-Path.path fpr c.paths.invariant.used in
+    omega (arith, fits, small)
+
+pub overflow_add-sum-2 : goal.overflow_add-sum-2
+overflow_add-sum-2 g c =
+    let q = asks (g.R.Roads.told c.args.roads.now c.args.uid.now) c.args.roots.now c.args.target.now in
+    let next = next_here q c.paths.used c.paths.paths.items _ _ c.in-Path.path c.paths.invariant.used c.in_ok-next.ensures.next c.in-Path.is in
+    let small = more_small c.paths_fit.ensures.sum q c.paths.paths.items c.in-Path.path c.len-count.ensures.roots.amounts c.requires.few c.paths.invariant.each next in
+    let more = amount_more c.paths.paths.items c.in-Path.path in
+    let sum = c.paths.invariant.sum in
+    omega (arith, more, small, sum)
+
+pub paths-preserved : goal.paths-preserved
+paths-preserved g c =
+    let told = g.R.Roads.told c.args.roads.now c.args.uid.now in
+    let q = asks told c.args.roots.now c.args.target.now in
+    let old = c.paths.paths.items in
+    let path = c.in-Path.path in
+    let more = sym c.in_ok-push-in-Path.ensures.items in
+    let next = next_here q c.paths.used old _ _ path c.paths.invariant.used c.in_ok-next.ensures.next c.in-Path.is in
+    let later = later_more c.paths.used c.add.new.self path c.in_ok-add-in-Path.ensures.pairs c.in_ok-add-in-Path.ensures.roots in
+    let below : amount_of old < c.args.wanted = (let test = c.paths-test.true in let sum = c.paths.invariant.sum in omega (arith, test, sum)) in
+    record {
+      each = subst (EachNext q []) more (each_more q old path c.paths.invariant.each next);
+      short = subst (λ (paths : List Path). amount_of (but_last paths) < c.args.wanted) more (short_more c.args.wanted old path below);
+      used = use_more c.paths.used c.add.new.self old path c.paths.invariant.used c.in_ok-add-in-Path.ensures.pairs c.in_ok-add-in-Path.ensures.roots ∙ ap use_of more;
+      sum = ap (λ (n : ℕ). n + path.amount) c.paths.invariant.sum ∙ sym (amount_more old path) ∙ ap amount_of more;
+      offers = offers_later c.args.roots.now q (use_in c.paths.used) (use_in c.add.new.self) c.next_below.new.offers.items later c.in_ok-next.ensures.offers;
+    }
+
+pub returns : goal.returns
+returns g c = ?
