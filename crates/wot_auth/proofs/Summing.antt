@@ -16,7 +16,7 @@ amount_cons : (path : Path) (paths : List Path) → amount_of (path ∷ paths) �
 amount_cons path paths = sum_by-cons (λ p. p.amount) path paths
 
 amount_append : (xs ys : List Path) → amount_of (xs ++ ys) ≡ amount_of xs + amount_of ys
-amount_append [] ys = refl
+amount_append [] ys = let e : amount_of [] ≡ 0 = refl in omega (arith, e)
 amount_append (x ∷ xs) ys = let a = amount_cons x (xs ++ ys) in let b = amount_cons x xs in let ih = amount_append xs ys in omega (arith, a, b, ih)
 
 -- what comes before the last has the amounts of the first ones
@@ -75,7 +75,6 @@ module _ (q : Question) (one : (used : Use) (a b : Path) → IsNextPath q used a
           let b = long_but_last ps m n rest in
           let c = subst (λ (xs : List Path). amount_of (but_last xs) < wanted) same answer.short in
           absurd (omega (arith, a, b, c, e, le))
-
 
 pub next_here : (q : Question) (sums : Sums) (paths : List Path) (enough : ℕ) (next : Next) (path : Path) → use_in sums ≡ use_of paths → IsNextBelow q (use_in sums) enough next → next ≡ IsPath path → IsNextPath q (use_of paths) path
 next_here q sums paths enough next path e n f = subst (λ (u : Use). IsNextPath q u path) e (subst (IsNextBelow q (use_in sums) enough) f n)

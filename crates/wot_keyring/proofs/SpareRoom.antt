@@ -17,8 +17,8 @@ use Rattle.wot_keyring.specs.Import.{any_clash, clash, first_full, weigh, with_c
 use Rattle.wot_keyring.specs.Importing.{alone, MayUnite}
 use Rattle.wot_keyring.specs.Kept.{AreNamed, AreSortedByFpr, IsKeyring}
 use Rattle.wot_keyring.specs.Keyring.{Certificates, Entries, Keyring, certificates_in, stripped}
-use Rattle.wot_keyring.specs.Room.{BringsFew, FitsBeside, HasRoom}
-use Rattle.wot_keyring.specs.Staging.{clash_at, found_by, found_for, full_by, joined, kept_as, kept_with, long_of, weigh_kept, IsTally}
+use Rattle.wot_keyring.specs.Room.{FitsBeside, HasRoom}
+use Rattle.wot_keyring.specs.Staging.{clash_at, found_by, found_for, full_by, joined, kept_as, long_of, weigh_kept, IsTally}
 use Rattle.wot_keyring.proofs.Accepting.{weighs_all}
 use Rattle.wot_keyring.proofs.Clashes.{bodies_same, clash_kept}
 use Rattle.wot_keyring.proofs.Steps.{weighs_by}

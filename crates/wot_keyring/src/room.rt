@@ -34,9 +34,7 @@ fn fit(kept: &Cert, cert: &Cert, limit: u64) -> bool
     ensures key { result ≡ true → kept.now.key ≡ cert.now.key }
     ensures sizes { result ≡ true → size_of kept.now + size_of cert.now ≤ limit }
 {
-    kept.has_key_of(cert)
-        && are_held(kept, cert)
-        && within(kept.size(), cert.size(), limit)
+    kept.has_key_of(cert) && are_held(kept, cert) && within(kept.size(), cert.size(), limit)
 }
 
 /// Whether what is kept, if anything, and a certificate are of one key, and no longer than a limit.

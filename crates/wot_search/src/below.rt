@@ -110,5 +110,7 @@ pub fn next_below<R: Roads>(
     if let Some(path) = open_offer(roots, used, offers.as_slice())? {
         return Ok(Next::Path(path));
     }
-    search_below(alloc, roads, roots, reach, used, target, uid, enough, offers)
+    search_below(
+        alloc, roads, roots, reach, used, target, uid, enough, offers,
+    )
 }

@@ -70,7 +70,11 @@ pub(crate) fn first_of(offers: &[Path]) -> Result<Option<Path>, Memory>
 }
 
 /// The first offer, where its amount is left of its root and of its edges.
-pub(crate) fn open_offer(roots: &Roots, used: &Used, offers: &[Path]) -> Result<Option<Path>, Memory>
+pub(crate) fn open_offer(
+    roots: &Roots,
+    used: &Used,
+    offers: &[Path],
+) -> Result<Option<Path>, Memory>
     ensures { IfOk result (λ found. (q : Question) → AreOffers roots.now q (use_in used.now) offers.now
         → IsNextIfSome q (use_in used.now) found) }
 {

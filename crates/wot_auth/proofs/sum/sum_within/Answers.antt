@@ -27,7 +27,7 @@ pub returns-in-Spent : goal.returns-in-Spent
 returns-in-Spent g c =
     let q = asks (g.R.Roads.told c.args.roads.now c.args.uid.now) c.args.roots.now c.args.target.now in
     let inv = c.paths.invariant in
-    let next = subst (IsNextBelow q (use_in c.paths.used) c.sub-rest.result) c.in-Spent.is c.in_ok-next.ensures.next in
+    let next = subst (IsNextBelow q (use_in c.paths.used) _) c.in-Spent.is c.in_ok-next.ensures.next in
     let spent = subst (λ (u : Use). IsSpent q u) inv.used next in
     record {
       sum =
@@ -36,7 +36,35 @@ returns-in-Spent g c =
     }
 
 pub returns-in-Enough : goal.returns-in-Enough
-returns-in-Enough g c = ?
+returns-in-Enough g c =
+    let q = asks (g.R.Roads.told c.args.roads.now c.args.uid.now) c.args.roots.now c.args.target.now in
+    let good = c.rows-rows.ensures.lawful c.args.uid.now in
+    let inv = c.paths.invariant in
+    let amount = c.in-Enough.amount in
+    let next = subst (IsNextBelow q (use_in c.paths.used) _) c.in-Enough.is c.in_ok-next.ensures.next in
+    let le = next.0 in
+    let lt = c.paths-test.true in
+    let some = c.answer_is_one.ensures.some q c.args.wanted c.requires.wanted in
+    let total = enough_sum q (λ used a b m n. c.next_path_is_one.ensures.one q used a b good m n) c.args.wanted c.paths.paths.items c.paths.sum amount inv.each inv.sum lt (subst (λ (u : Use). IsNextAmount q u amount) inv.used next.1) (omega (arith, le, lt)) some.0 some.1 in
+    record {
+      sum = sum_of q c.args.wanted (λ a b m n. c.answer_is_one.ensures.one q c.args.wanted a b good m n) some.0 _ some.1 (ap (λ (n : ℕ). c.paths.sum + n) c.from.ensures ∙ total);
+    }
+
+pub overflow_add-result : goal.overflow_add-result
+overflow_add-result g c =
+    let q = asks (g.R.Roads.told c.args.roads.now c.args.uid.now) c.args.roots.now c.args.target.now in
+    let good = c.rows-rows.ensures.lawful c.args.uid.now in
+    let inv = c.paths.invariant in
+    let amount = c.in-Enough.amount in
+    let next = subst (IsNextBelow q (use_in c.paths.used) _) c.in-Enough.is c.in_ok-next.ensures.next in
+    let le = next.0 in
+    let lt = c.paths-test.true in
+    let some = c.answer_is_one.ensures.some q c.args.wanted c.requires.wanted in
+    let total = enough_sum q (λ used a b m n. c.next_path_is_one.ensures.one q used a b good m n) c.args.wanted c.paths.paths.items c.paths.sum amount inv.each inv.sum lt (subst (λ (u : Use). IsNextAmount q u amount) inv.used next.1) (omega (arith, le, lt)) some.0 some.1 in
+    let most = c.paths_fit.ensures.sum q some.0 some.1.each (λ fpr. root_small c.args.roots.now fpr c.len-count.ensures.roots.amounts) in
+    let few = c.requires.few in
+    let e = c.from.ensures in
+    omega (arith, e, total, most, few)
 
 pub add-requires-clause-pairs_fit : goal.add-requires-clause-pairs_fit
 add-requires-clause-pairs_fit g c issuer target =
@@ -54,8 +82,8 @@ add-requires-clause-roots_fit g c fpr =
     let fits = root_fits c.paths.used c.paths.paths.items c.in-Path.path fpr c.paths.invariant.used in
     omega (arith, fits, small)
 
-pub overflow_add-sum-2 : goal.overflow_add-sum-2
-overflow_add-sum-2 g c =
+pub overflow_add-sum : goal.overflow_add-sum
+overflow_add-sum g c =
     let q = asks (g.R.Roads.told c.args.roads.now c.args.uid.now) c.args.roots.now c.args.target.now in
     let next = next_here q c.paths.used c.paths.paths.items _ _ c.in-Path.path c.paths.invariant.used c.in_ok-next.ensures.next c.in-Path.is in
     let small = more_small c.paths_fit.ensures.sum q c.paths.paths.items c.in-Path.path c.len-count.ensures.roots.amounts c.requires.few c.paths.invariant.each next in
@@ -82,4 +110,13 @@ paths-preserved g c =
     }
 
 pub returns : goal.returns
-returns g c = ?
+returns g c =
+    let q = asks (g.R.Roads.told c.args.roads.now c.args.uid.now) c.args.roots.now c.args.target.now in
+    let inv = c.paths.invariant in
+    let full = c.paths-test.false in
+    let sum = inv.sum in
+    record {
+      sum =
+          sum_of q c.args.wanted (λ a b m n. c.answer_is_one.ensures.one q c.args.wanted a b (c.rows-rows.ensures.lawful c.args.uid.now) m n) c.paths.paths.items c.paths.sum
+          (record { each = inv.each; short = inv.short; ends = inl (omega (arith, full, sum)) }) inv.sum;
+    }
