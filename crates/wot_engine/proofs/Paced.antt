@@ -276,3 +276,9 @@ behind_last cursors name [] last e = absurd cc
 behind_last cursors name (bind ∷ binds) last e =
     let size : length (bind ∷ binds) - 1 ≡ length binds = omega arith in
     ap (with_place cursors name) (sym (last_is bind binds last (sym (ap (slice_get (bind ∷ binds)) size) ∙ e)))
+
+pub moved_to : (cursors : Cursors) (name other : List ℕ) (place : Place) (binds : List Bind) (last : Bind) → other ≡ name → place.fpr ≡ last.fpr → place.uid ≡ last.uid
+    → Some last ≡ slice_get binds (length binds - 1) → with_place cursors other place ≡ behind cursors name binds
+moved_to cursors name other place binds last n f u e =
+    let there : with_place cursors other place ≡ with_place cursors name (place_of last) = λ i. with_place cursors (n i) (record { fpr = f i; uid = u i }) in
+    there ∙ behind_last cursors name binds last (sym e)

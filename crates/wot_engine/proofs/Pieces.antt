@@ -1,8 +1,10 @@
 -- What a cursor's `next` gives: its piece, or why there is none.
-use Rattle.std.proofs.Common.{◌≡◌, ℕ, ◌≤◌, ◌==◌, Bool, true, false, List, [], Option, Some, None, Result, Ok, Err, refl, sym, ap, subst, ◌∙◌, arith}
+use Rattle.std.proofs.Common.{◌≡◌, ℕ, ◌≤◌, ◌==◌, Bool, true, false, List, [], length, map, Option, Some, None, Result, Ok, Err, refl, sym, ap, subst, ◌∙◌, arith}
 use Rattle.std.specs.Prelude.{IfOk, IfSome, IsSomeAnd, MatchBool, is_some}
 use Rattle.std.specs.Option.{unwrap_or}
-use Rattle.std.proofs.lemmas.Bool.{eqb-false}
+use Rattle.std.proofs.lemmas.Bool.{eqb-true}
+use Rattle.std.proofs.lemmas.List.{length-map}
+use Rattle.wot_script.specs.declared.reply.BindLine.{BindLine}
 use Rattle.wot_script.specs.declared.reply.Reply.{Reply}
 use Rattle.wot_script.specs.declared.reply.Reply.TheVariants as replies
 use Rattle.wot_edge.specs.Record.{Record}
@@ -25,6 +27,7 @@ use Rattle.wot_explain.specs.Listing.{HasList, IsListed, IsOfEachList, pairs_in}
 use Rattle.wot_explain.specs.Piece.{IsThePiece, piece_of}
 use Rattle.wot_engine.specs.declared.told.Moved.{Moved}
 use Rattle.wot_engine.specs.declared.told.Told.{Told}
+use Rattle.wot_engine.specs.Listing.{bind_line}
 use Rattle.wot_engine.specs.Pacing.{Gives, GivesPiece, Goes, GoesBy, GoesFrom, Leaves, OnTold, TellsPiece, behind, piece, settled, stamps_in}
 use Rattle.wot_engine.specs.Whole.{Whole, whole_of}
 use Rattle.wot_engine.proofs.Refusing.{if_ok}
@@ -80,9 +83,22 @@ gives_nothing s name count cursor told none r m = by (view_at s.state.views curs
     by None = tt
     by (Some view) = rw none (left s told (piece []) r m)
 
+positive : (n : ℕ) → 1 ≤ n → (n == 0) ≡ false
+positive n some = by (n == 0) refl
+  where
+    by : (b : Bool) → (n == 0) ≡ b → (n == 0) ≡ false
+    by true e = let zero : n ≡ 0 = eqb-true n 0 e in absurd (omega (arith, some, zero))
+    by false e = e
+
+-- the reply that tells them
+pub piece_is : (binds : List Bind) (lines items : List BindLine) → lines ≡ map bind_line binds → items ≡ lines → replies.Piece (length items) lines ≡ piece binds
+piece_is binds lines items l i =
+    let n : length items ≡ length binds = ap length (i ∙ l) ∙ length-map binds bind_line in
+    λ j. replies.Piece (n j) (l j)
+
 -- what is given over the parts that are seen from a view is given from that view
 pub gives_piece : {E : Type 0} (r : Result Told E) (engine : Engine) (cursors : Cursors) (name : List ℕ) (count : ℕ) (cursor : Cursor) (parts : Parts)
-    → (cursor.wanted == 0) ≡ false → IsSomeAnd (view_at engine.views cursor.view) (λ v. ArePartsOf engine.keyring v parts) → IsOfEachList HasList
+    → 1 ≤ cursor.wanted → IsSomeAnd (view_at engine.views cursor.view) (λ v. ArePartsOf engine.keyring v parts) → IsOfEachList HasList
     → IfOk r (λ told. TellsPiece parts name count cursor told)
     → OnTold r cursors (Gives (whole_of engine cursors) name count cursor)
 gives_piece (Err e) engine cursors name count cursor parts some are has gives = tt
@@ -98,7 +114,6 @@ gives_piece (Ok told) engine cursors name count cursor parts some are has gives 
         ≡ IsThePiece record_at view.roots cursor.wanted pairs cursor.place count gives.0 =
         λ i. IsThePiece (told_of (are.roads i)) (are.roots i) cursor.wanted (pairs_in (certificates_in (are.keyring i))) cursor.place count gives.0 in
         let the : IsThePiece record_at view.roots cursor.wanted pairs cursor.place count gives.0 = subst (λ (P : Type 0). P) here gives.1 in
-        let other = eqb-false cursor.wanted 0 some in
-        let all = has record_at view.roots cursor.wanted pairs (omega (arith, other)) in
+        let all = has record_at view.roots cursor.wanted pairs some in
         let same : gives.0 ≡ piece_of cursor.place count all.0 = the all.0 all.1 in
-        rw some (all.0, all.1, (gives.2 ∙ ap piece same, gives.3 cursors ∙ ap (λ (binds : List Bind). behind cursors name binds) same))
+        rw (positive cursor.wanted some) (all.0, all.1, (gives.2 ∙ ap piece same, gives.3 cursors ∙ ap (λ (binds : List Bind). behind cursors name binds) same))

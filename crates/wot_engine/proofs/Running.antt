@@ -1,5 +1,5 @@
 -- Commands that were run, and the lines that hold them.
-use Rattle.std.proofs.Common.{◌≡◌, ℕ, List, ◌++◌, Option, Some, None, Result, Ok, Err, OnErr, refl, sym, ap, subst, ◌∙◌, inl, true, false, []}
+use Rattle.std.proofs.Common.{◌≡◌, ℕ, ◌+◌, ◌≤◌, List, ◌++◌, Option, Some, None, Result, Ok, Err, OnErr, refl, sym, ap, subst, ◌∙◌, inl, true, false, []}
 use Rattle.std.specs.Prelude.{IfOk, IfSome, OnOk, is_ok}
 use Rattle.std.proofs.lemmas.List.{append-nil}
 use Rattle.wot_types.specs.declared.name.Name.{Name}
@@ -15,6 +15,7 @@ use Rattle.wot_cache.specs.State.{Engine, State, StaysButMarks, state_of}
 use Rattle.wot_cache.specs.Turns.{Turns}
 use Rattle.wot_cache.specs.Views.{Views}
 use Rattle.wot_keyring.specs.Keyring.{Keyring}
+use Rattle.wot_engine.specs.declared.told.Moved.{Moved}
 use Rattle.wot_engine.specs.declared.told.Told.{Told}
 use Rattle.wot_cursor.specs.Cursors.{Cursors}
 use Rattle.wot_keyring.specs.Import.{IsOneChange}
@@ -29,7 +30,7 @@ use Rattle.wot_engine.proofs.Refusing.{if_ok}
 use Rattle.wot_engine.proofs.Making.{same_state}
 use Rattle.wot_engine.proofs.Paced.{paces_plain, state_paced, turns_paced, unread_paced}
 use Rattle.wot_engine.proofs.Stepping.{one_reply}
-use Rattle.wot_engine.proofs.Wholes.{counted_by}
+use Rattle.wot_engine.proofs.Wholes.{counted_by, same_few, turned_few, turned_still}
 
 -- ---- commands that read nothing
 
@@ -91,15 +92,18 @@ ran_plain (Ok reply) rows command old new before after cursors plain counted tur
   cause = did.cause;
 }
 
-pub ran_told : {E : Type 0} (r : Result Reply E) (t : Result Told E) (rows : PolicyRows) (command : Command) (old new : Engine) (before after : Seen) (cursors : Cursors)
-    → IfOk r (λ reply. t ≡ Ok (record { reply = reply; moved = None })) → is_ok t ≡ is_ok r → is_pacing command ≡ false → IsOneChange old.keyring new.keyring
-    → OnOk r (IsTurnedBy command old.views old.turns new.views new.turns) → IfOk r (λ reply. Did rows command (state_of old) before reply (state_of new) after)
-    → IfOk t (λ (told : Told). Ran rows (Some command) (whole_of old cursors) before told.reply (whole_of new (settled told.moved cursors)) after)
-ran_told (Err e) (Err d) rows command old new before after cursors is ok plain counted turned did = tt
-ran_told (Err e) (Ok told) rows command old new before after cursors is ok plain counted turned did = let never : true ≡ false = ok in absurd cc
-ran_told (Ok reply) t rows command old new before after cursors is ok plain counted turned did =
-    subst (λ (t : Result Told _). IfOk t (λ (told : Told). Ran rows (Some command) (whole_of old cursors) before told.reply (whole_of new (settled told.moved cursors)) after))
-    (sym is) (ran_plain (Ok reply) rows command old new before after cursors plain counted turned did)
+module _ {E : Type 0} where
+  pub ran_told : (r : Result Reply E) (t : Result Told E) (rows : PolicyRows) (command : Command) (old new : Engine) (before after : Seen) (cursors : Cursors)
+      → IfOk r (λ reply. t ≡ Ok (record { reply = reply; moved = None })) → is_ok t ≡ is_ok r → is_pacing command ≡ false → IsOneChange old.keyring new.keyring
+      → OnOk r (IsTurnedBy command old.views old.turns new.views new.turns) → IfOk r (λ reply. Did rows command (state_of old) before reply (state_of new) after)
+      → IfOk t (λ (told : Told). Ran rows (Some command) (whole_of old cursors) before told.reply (whole_of new (settled told.moved cursors)) after)
+  ran_told (Err e) (Err d) rows command old new before after cursors is ok plain counted turned did = tt
+  ran_told (Err e) (Ok told) rows command old new before after cursors is ok plain counted turned did = let never : true ≡ false = ok in absurd cc
+  ran_told (Ok reply) t rows command old new before after cursors is ok plain counted turned did =
+      let ran : Ran rows (Some command) (whole_of old cursors) before reply (whole_of new cursors) after =
+      ran_plain {E = E} (Ok reply) rows command old new before after cursors plain counted turned did in
+      subst (λ (t : Result Told E). IfOk t (λ (told : Told). Ran rows (Some command) (whole_of old cursors) before told.reply (whole_of new (settled told.moved cursors)) after))
+      (sym is) ran
 
 -- what holds of a reply, and of its being there, holds of what is told by it
 pub told_as : {E : Type 0} (r : Result Reply E) (t : Result Told E) (P : Reply → Type 0) → IfOk r (λ reply. t ≡ Ok (record { reply = reply; moved = None })) → is_ok t ≡ is_ok r
@@ -114,15 +118,34 @@ on_ok_told (Err e) (Err d) P ok p = tt
 on_ok_told (Ok a) (Err d) P ok p = tt
 on_ok_told (Err e) (Ok b) P ok p = let never : true ≡ false = ok in absurd cc
 
-pub on_err_told : {A B E F : Type 0} (r : Result A E) (t : Result B F) (P : Type 0) → is_ok t ≡ is_ok r → OnErr r P → OnErr t P
-on_err_told (Ok a) (Ok b) P ok p = tt
-on_err_told (Err e) (Err d) P ok p = p
-on_err_told (Ok a) (Err d) P ok p = let never : false ≡ true = ok in absurd cc
-on_err_told (Err e) (Ok b) P ok p = tt
+pub kept_told : {A B E F : Type 0} (r : Result A E) (t : Result B F) (old new : Engine) (cursors : Cursors) → is_ok t ≡ is_ok r → OnErr r (StaysButMarks old new)
+    → OnErr t (StaysButMarks old new × (cursors ≡ cursors))
+kept_told (Ok a) (Ok b) old new cursors ok p = tt
+kept_told (Err e) (Err d) old new cursors ok p = (p, refl)
+kept_told (Ok a) (Err d) old new cursors ok p = let never : false ≡ true = ok in absurd cc
+kept_told (Err e) (Ok b) old new cursors ok p = tt
 
 pub ran_line : (rows : PolicyRows) (command : Option Command) (old : Whole) (seen : Seen) → command ≡ None → Ran rows command old seen replies.Line old seen
 ran_line rows command old seen e =
     subst (λ (c : Option Command). Ran rows c old seen replies.Line old seen) (sym e) (ran_unasked rows None old seen replies.Line old refl (refl, refl))
+
+pub ran_told_line : (told : Told) (rows : PolicyRows) (command : Option Command) (old : Engine) (cursors : Cursors) (seen : Seen) → told.reply ≡ replies.Line → told.moved ≡ None
+    → command ≡ None → Ran rows command (whole_of old cursors) seen told.reply (whole_of old (settled told.moved cursors)) seen
+ran_told_line told rows command old cursors seen r m e =
+    subst (λ (o : Option Moved). Ran rows command (whole_of old cursors) seen told.reply (whole_of old (settled o cursors)) seen) (sym m)
+    (subst (λ (x : Reply). Ran rows command (whole_of old cursors) seen x (whole_of old cursors) seen) (sym r) (ran_line rows command (whole_of old cursors) seen e))
+
+-- ---- turns
+
+pub few_turns : {T E : Type 0} (r : Result T E) (command : Command) (old new : Engine) → OnOk r (IsTurnedBy command old.views old.turns new.views new.turns)
+    → OnErr r (StaysButMarks old new) → new.turns.count ≤ old.turns.count + 1
+few_turns (Ok a) command old new turned kept = turned_few command old.views new.views old.turns new.turns turned
+few_turns (Err e) command old new turned kept = same_few old.turns new.turns kept.turns
+
+pub still_turns : {T E : Type 0} (r : Result T E) (command : Command) (old new : Engine) → OnOk r (IsTurnedBy command old.views old.turns new.views new.turns)
+    → OnErr r (StaysButMarks old new) → state_of new ≡ state_of old → new.turns ≡ old.turns
+still_turns (Ok a) command old new turned kept same = turned_still command old.views new.views old.turns new.turns (ap (λ (s : State). s.views) same) turned
+still_turns (Err e) command old new turned kept same = kept.turns
 
 -- ---- entries
 
@@ -182,11 +205,21 @@ passed rows line old before new after had has p same = record {
 }
 
 -- A reply that was told, and the cursor that moved then.
-pub told_step : {T E : Type 0} (r : Result T E) (rows : PolicyRows) (line : List ℕ) (old : Whole) (before : Seen) (mid : Engine) (at : Cursors) (new : Engine) (cursors : Cursors)
-    (after : Seen) (had kept has : List ℕ) (told : Told) → Replied rows line old before (Some told.reply) (whole_of mid (settled told.moved at)) after → new ≡ mid
-    → OnOk r (cursors ≡ settled told.moved at) → kept ≡ had → OnOk r (has ≡ kept ++ reply_text told.reply)
-    → OnOk r (Stepped rows line old before had (whole_of new cursors) after has)
-told_step (Err x) rows line old before mid at new cursors after had kept has told p e s same f = tt
-told_step (Ok a) rows line old before mid at new cursors after had kept has told p e s same f =
-    stepped (Ok a) rows line old before (whole_of new cursors) after had kept has told.reply
-    (subst (λ (w : Whole). Replied rows line old before (Some told.reply) w after) (λ i. whole_of (sym e i) (sym s i)) p) same f
+module _ {T E : Type 0} where
+  pub told_step : (r : Result T E) (rows : PolicyRows) (line : List ℕ) (old : Whole) (before : Seen) (mid : Engine) (at : Cursors) (new : Engine) (cursors : Cursors)
+      (after : Seen) (had kept has : List ℕ) (told : Told) → Replied rows line old before (Some told.reply) (whole_of mid (settled told.moved at)) after → new ≡ mid
+      → OnOk r (cursors ≡ settled told.moved at) → kept ≡ had → OnOk r (has ≡ kept ++ reply_text told.reply)
+      → OnOk r (Stepped rows line old before had (whole_of new cursors) after has)
+  told_step (Err x) rows line old before mid at new cursors after had kept has told p e s same f = tt
+  told_step (Ok a) rows line old before mid at new cursors after had kept has told p e s same f =
+      stepped {T = T} {E = E} (Ok a) rows line old before (whole_of new cursors) after had kept has told.reply
+      (subst (λ (w : Whole). Replied rows line old before (Some told.reply) w after) (λ i. whole_of (sym e i) (sym s i)) p) same f
+
+-- the same of the reply alone
+pub told_settled : (rows : PolicyRows) (line : List ℕ) (old : Whole) (before : Seen) (mid : Engine) (at : Cursors) (new : Engine) (cursors : Cursors) (after : Seen) (told : Told)
+    (reply : Reply) (moved : Option Moved) → told.reply ≡ reply → told.moved ≡ moved → Replied rows line old before (Some told.reply) (whole_of mid (settled told.moved at)) after
+    → new ≡ mid → cursors ≡ settled moved at → Replied rows line old before (Some reply) (whole_of new cursors) after
+told_settled rows line old before mid at new cursors after told reply moved r m p e s =
+    let there : cursors ≡ settled told.moved at = s ∙ ap (λ (o : Option Moved). settled o at) (sym m) in
+    subst (λ (x : Reply). Replied rows line old before (Some x) (whole_of new cursors) after) r
+    (subst (λ (w : Whole). Replied rows line old before (Some told.reply) w after) (λ i. whole_of (sym e i) (sym there i)) p)

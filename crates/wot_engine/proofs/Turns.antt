@@ -184,7 +184,7 @@ module _ (rows : PolicyRows) where
 
   -- where nothing was taken and nothing written
   pub Begun-nothing : OneOutcome rows → (left0 written0 : Option (List ℕ)) (origin : Option World) → AllTold left0 written0 origin (λ input before world. Begun rows world (lines_of input) before written0)
-  Begun-nothing law left0 written0 origin = Begun-here law left0 written0 origin [] 0 left0 written0 origin start (Stood-init left0 written0 origin)
+  Begun-nothing law left0 written0 origin = Begun-here law left0 written0 origin [] 0 left0 written0 origin beginning (Stood-init left0 written0 origin)
 
   pub First-nothing : (left0 written0 : Option (List ℕ)) (origin : Option World) → AllTold left0 written0 origin (λ input before world. AnsweredFirst rows world (lines_of input) before written0)
-  First-nothing left0 written0 origin = First-here left0 written0 origin [] 0 left0 written0 origin start (Stood-init left0 written0 origin)
+  First-nothing left0 written0 origin = First-here left0 written0 origin [] 0 left0 written0 origin beginning (Stood-init left0 written0 origin)

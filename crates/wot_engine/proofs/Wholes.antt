@@ -84,7 +84,7 @@ by_few : (altered : Turns) (name : List ℕ) (old new : Views) (before after : T
 by_few altered name old new before after few (inl p) = let same = ap (λ (t : Turns). t.count) p.1 in omega (arith, same)
 by_few altered name old new before after few (inr p) = let same = ap (λ (t : Turns). t.count) p.1 in omega (arith, same, few)
 
-same_few : (before after : Turns) → after ≡ before → after.count ≤ before.count + 1
+pub same_few : (before after : Turns) → after ≡ before → after.count ≤ before.count + 1
 same_few before after same = let count = ap (λ (t : Turns). t.count) same in omega (arith, count)
 
 turns_few : (turning : Turning) (old new : Views) (before after : Turns) → AreTurned turning old before new after → after.count ≤ before.count + 1

@@ -9,7 +9,7 @@ use Rattle.wot_engine.specs.Pacing.{settled}
 use Rattle.wot_engine.specs.Whole.{whole_of}
 use Rattle.wot_engine.proofs.Dumping.{on_dump, dump_is_read}
 use Rattle.wot_engine.proofs.Refusing.{if_ok}
-use Rattle.wot_engine.proofs.Running.{ran_line}
+use Rattle.wot_engine.proofs.Running.{ran_told_line}
 use Rattle.wot_engine.proofs.Worded.{obeys_worded}
 use Rattle.wot_engine.proofs.machine.answer.Goals as goal
 
@@ -34,5 +34,6 @@ returns-in-Ok-clause-untouched g c = rw c.in-Ok.ensures.read c.act.ensures.untou
 
 pub returns-in-Err-Line-clause-ran : goal.returns-in-Err-Line-clause-ran
 returns-in-Err-Line-clause-ran g c =
-    ran_line (rows_of c.args.policy.now) (command_of c.args.line.now) (whole_of c.args.engine.now c.args.cursors.now) (record { world = g.D.Shelf.world c.args.shelf.now; faults = g.D.Shelf.faults c.args.shelf.now })
+    ran_told_line c.alone.result (rows_of c.args.policy.now) (command_of c.args.line.now) c.args.engine.now c.args.cursors.now
+    (record { world = g.D.Shelf.world c.args.shelf.now; faults = g.D.Shelf.faults c.args.shelf.now }) c.alone.ensures.reply c.alone.ensures.moved
     ((rw c.in-Err-Line.field-0-is at c.in-Err-Line.ensures.line) refl)

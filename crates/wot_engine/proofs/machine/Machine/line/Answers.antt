@@ -13,16 +13,16 @@ returns-in-Some-clause-step g c =
     let after : Seen = record { world = g.D.Shelf.world c.reply.new.shelf; faults = g.D.Shelf.faults c.reply.new.shelf } in
     told_step c.tell.result (rows_of c.args.policy.now) c.args.line.now (kept c.args.self.now) before c.reply.new.self.engine c.reply.new.self.cursors
     c.tell.new.self.engine c.tell.new.self.cursors after c.args.out.now.items c.reserve.new.self.items c.tell.new.out.items c.in-Some.told
-    (rw c.in-Some.is at c.in_ok-reply.ensures.replied) c.tell.ensures.engine c.tell.ensures.settled c.reserve.ensures.items c.tell.ensures.appended
+    (rw c.in-Some.is at c.in_ok-told.ensures.replied) c.tell.ensures.engine c.tell.ensures.settled c.reserve.ensures.items c.tell.ensures.appended
 
 pub returns-in-None-clause-step : goal.returns-in-None-clause-step
 returns-in-None-clause-step g c =
     let before : Seen = record { world = g.D.Shelf.world c.args.shelf.now; faults = g.D.Shelf.faults c.args.shelf.now } in
     let after : Seen = record { world = g.D.Shelf.world c.reply.new.shelf; faults = g.D.Shelf.faults c.reply.new.shelf } in
     passed (rows_of c.args.policy.now) c.args.line.now (kept c.args.self.now) before (kept c.reply.new.self) after
-    c.args.out.now.items c.reserve.new.self.items (rw c.in-None.is at c.in_ok-reply.ensures.replied) c.reserve.ensures.items
+    c.args.out.now.items c.reserve.new.self.items (rw c.in-None.is at c.in_ok-told.ensures.replied) c.reserve.ensures.items
 
 pub returns-in-Some-clause-makes : goal.returns-in-Some-clause-makes
 returns-in-Some-clause-makes g c =
-    line_makes_as (Ok c.in_ok-reply.field-0) c.tell.result (λ ok. refl) (heard c.args.line.now) c.args.self.now.cursors c.args.self.now.engine c.tell.new.self.engine
-    c.args.self.now.made c.tell.new.self.made (rw c.tell.ensures.engine (rw c.tell.ensures.made c.in_ok-reply.ensures.makes))
+    line_makes_as (Ok c.in_ok-told.field-0) c.tell.result (λ ok. refl) (heard c.args.line.now) c.args.self.now.cursors c.args.self.now.engine c.tell.new.self.engine
+    c.args.self.now.made c.tell.new.self.made (rw c.tell.ensures.engine (rw c.tell.ensures.made c.in_ok-told.ensures.makes))
