@@ -3,7 +3,7 @@ use wot_keyring::Keyring;
 use wot_search::Reach;
 
 /// How many looks a table costs, for each certificate, where none was made yet.
-const LOOKS: u64 = 16;
+const LOOKS: u64 = 8;
 
 /// The looks that searches may take after a change, until a table of reach is made: as many as making it takes, so that
 /// no more than twice is spent.
