@@ -1,6 +1,7 @@
+use crate::types::name;
 use std::alloc::Global;
 use wot_cursor::{Age, BeginFault, Cursor, Cursors, Stamps, age};
-use wot_types::{Fpr, Place, UserId, ViewName};
+use wot_types::{Fpr, Place, UserId};
 
 const BEGUN: Stamps = Stamps {
     keyring: 7,
@@ -23,10 +24,6 @@ fn the_first_number_that_differs_is_told(rt: HostRuntime) {
         };
         assert!(rt; age(BEGUN, now) == *expected);
     }
-}
-
-fn name(alloc: Global, text: &[u8]) -> Option<ViewName> {
-    ViewName::read(alloc, text).ok()?
 }
 
 /// Begins a cursor over the view p; `Some(false)` where there are too many.

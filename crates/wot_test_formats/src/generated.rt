@@ -1,7 +1,7 @@
+use crate::script::is_read_as;
 use sha2::{Digest, Sha256};
 use std::alloc::Global;
 use wot_gen::script;
-use wot_script::{print_command, read_line};
 
 /// The script of the start 7 and of one key, in pieces, as a Python program with hashlib gives it.
 static SINGLE: [&str; 12] = [
@@ -43,13 +43,17 @@ static SCRIPTS: [(u64, u32, u64, &str); 3] = [
 
 /// Whether these lines are commands that are printed so again.
 fn are_printed_again(alloc: Global, text: &[u8]) -> Option<bool> {
-    let mut again = Vec::new(alloc);
-    for line in str::from_utf8(text).ok()?.lines() {
-        let command = read_line(alloc, line.as_bytes()).ok()?;
-        print_command(&command, &mut again).ok()?;
-        again.push(b'\n').ok()?;
+    let mut line = Vec::new(alloc);
+    for octet in text {
+        if *octet != b'\n' {
+            line.push(*octet).ok()?;
+        } else if is_read_as(alloc, &line, Some(&line)) == Some(true) {
+            line.clear();
+        } else {
+            return Some(false);
+        }
     }
-    Some(again.as_slice() == text)
+    Some(line.is_empty())
 }
 
 /// The script of one key stands behind what stood there.

@@ -9,12 +9,12 @@ use wot_io::{
     write_all,
 };
 
-/// What `next` answers up to the end, or up to the fourth fault, as text: a line is `t..|`, or
-/// `T` and its length where it is long; `l` is `Long`, `.` the end, `r` and `m` are the faults.
-/// A `!` follows where `text` gives something after another answer than `Text`.
-fn answers<S: Source>(alloc: Global, source: &mut S) -> Option<String> {
+/// What `next` answers up to the end, or up to the fourth fault, as text: a line is `t..|`, or `T|` where it is as long
+/// as a line may be; `l` is `Long`, `.` the end, `r` and `m` are the faults. A `!` follows where `text` gives something
+/// after another answer than `Text`.
+fn answers<S: Source>(alloc: Global, source: &mut S) -> Option<Vec<u8>> {
     let mut lines = Lines::new(alloc).ok()?;
-    let mut seen = String::new(alloc);
+    let mut seen = Vec::new(alloc);
     let mut faults = 0u8;
     for _ in 0..1000 {
         let answer = lines.next(source);
@@ -30,38 +30,38 @@ fn answers<S: Source>(alloc: Global, source: &mut S) -> Option<String> {
 }
 
 /// Whether that is what `next` answers.
-fn is_answered<S: Source>(alloc: Global, source: &mut S, want: &str) -> bool {
+fn is_answered<S: Source>(alloc: Global, source: &mut S, want: &[u8]) -> bool {
     match answers(alloc, source) {
-        Some(seen) => seen.as_str() == want,
+        Some(seen) => seen.as_slice() == want,
         None => false,
     }
 }
 
-fn tell(answer: Result<Line, LinesFault>, text: &[u8], seen: &mut String) -> Option<()> {
+fn tell(answer: Result<Line, LinesFault>, text: &[u8], seen: &mut Vec<u8>) -> Option<()> {
     let word = match answer {
         Ok(Line::Text) => return tell_text(text, seen),
-        Ok(Line::Long) => "l",
-        Ok(Line::End) => ".",
-        Err(LinesFault::ReadFault) => "r",
-        Err(LinesFault::TooMuch) => "m",
+        Ok(Line::Long) => b'l',
+        Ok(Line::End) => b'.',
+        Err(LinesFault::ReadFault) => b'r',
+        Err(LinesFault::TooMuch) => b'm',
     };
-    seen.push_str(word).ok()?;
+    seen.push(word).ok()?;
     if !text.is_empty() {
-        seen.push_str("!").ok()?;
+        seen.push(b'!').ok()?;
     }
     Some(())
 }
 
-fn tell_text(text: &[u8], seen: &mut String) -> Option<()> {
-    if text.len() < 100 {
-        seen.push_str("t").ok()?;
-        for octet in text {
-            seen.push(char::from(*octet)).ok()?;
-        }
-    } else {
-        write!(seen, "T{}", text.len()).ok()?;
+/// How long a line may be.
+const LONGEST: usize = 16_777_216;
+
+fn tell_text(text: &[u8], seen: &mut Vec<u8>) -> Option<()> {
+    if text.len() == LONGEST {
+        return seen.extend_from_slice(b"T|").ok();
     }
-    seen.push_str("|").ok()
+    seen.push(b't').ok()?;
+    seen.extend_from_slice(text).ok()?;
+    seen.push(b'|').ok()
 }
 
 /// The definitions of lines, worked out on "a", a carriage return alone, nothing, and "b".
@@ -73,23 +73,23 @@ fn rows()
     ensures feed_at_the_end { lines_of (codes "keys" ++ 10 ∷ []) ≡ codes "keys" ∷ [] }
 {}
 
-static PARTS: [(&[u8], &str); 9] = [
-    (b"", "."),
-    (b"\n", "t|."),
-    (b"keys", "tkeys|."),
-    (b"keys\n", "tkeys|."),
-    (b"\n\nab\n\n", "t|t|tab|t|."),
-    (b"a\r\n\rb\r", "ta\r|t\rb\r|."),
+static PARTS: [(&[u8], &[u8]); 9] = [
+    (b"", b"."),
+    (b"\n", b"t|."),
+    (b"keys", b"tkeys|."),
+    (b"keys\n", b"tkeys|."),
+    (b"\n\nab\n\n", b"t|t|tab|t|."),
+    (b"a\r\n\rb\r", b"ta\r|t\rb\r|."),
     (
         b"# a comment\nimport 00\nkeys",
-        "t# a comment|timport 00|tkeys|.",
+        b"t# a comment|timport 00|tkeys|.",
     ),
-    (b"12345\n1234\n123456\n", "t12345|t1234|t123456|."),
-    (b"\0\xff\n\x0b\n", "t\0\u{ff}|t\x0b|."),
+    (b"12345\n1234\n123456\n", b"t12345|t1234|t123456|."),
+    (b"\0\xff\n\x0b\n", b"t\0\xff|t\x0b|."),
 ];
 
 /// Whether the lines of these octets, in pieces of so many, are told so, where the read of this number fails.
-fn is_told(alloc: Global, input: &[u8], piece: usize, failing: u64, want: &str) -> Option<bool> {
+fn is_told(alloc: Global, input: &[u8], piece: usize, failing: u64, want: &[u8]) -> Option<bool> {
     let fails = [failing].to_vec(alloc).ok()?;
     let mut source = MemorySource::new(input.to_vec(alloc).ok()?, piece.max(1), fails);
     Some(is_answered(alloc, &mut source, want))
@@ -102,19 +102,19 @@ fn lines_are_the_parts_between_line_feeds(rt: HostRuntime) {
         for piece in [1, 5, 65536] {
             assert!(rt;
                 is_told(rt.alloc(), input, piece, 0, want) == Some(true),
-                "{want} in {piece}"
+                "{input:?} in {piece}"
             );
         }
     }
 }
 
 /// Octets, the read that fails, and what is answered.
-static FAULTS: [(&[u8], u64, &str); 5] = [
-    (b"ab\ncd\nef\n", 1, "rrrr"),
-    (b"ab\ncd\nef\n", 2, "tab|rrrr"),
-    (b"ab\ncd\nef\n", 3, "tab|tcd|tef|rrrr"),
-    (b"ab\ncd\nef", 3, "tab|tcd|rrrr"),
-    (b"ab\ncd\nef", 5, "tab|tcd|tef|."),
+static FAULTS: [(&[u8], u64, &[u8]); 5] = [
+    (b"ab\ncd\nef\n", 1, b"rrrr"),
+    (b"ab\ncd\nef\n", 2, b"tab|rrrr"),
+    (b"ab\ncd\nef\n", 3, b"tab|tcd|tef|rrrr"),
+    (b"ab\ncd\nef", 3, b"tab|tcd|rrrr"),
+    (b"ab\ncd\nef", 5, b"tab|tcd|tef|."),
 ];
 
 #[test]
@@ -168,20 +168,15 @@ impl Source for Long<'_> {
 const MOST: u64 = 1_073_741_824;
 
 /// A size, the places of line feeds, the size of pieces, and what is answered.
-static LONG_INPUTS: [(u64, &[u64], usize, &str); 8] = [
-    (
-        16_777_220,
-        &[16_777_216, 16_777_218],
-        65536,
-        "T16777216|tx|tx|.",
-    ),
-    (16_777_220, &[16_777_217, 16_777_219], 65536, "ltx|."),
-    (16_777_216, &[], 65535, "T16777216|."),
-    (16_777_217, &[], 65535, "l."),
-    (MOST - 1, &[MOST - 3], 65535, "ltx|."),
-    (MOST, &[MOST - 3], 65535, "lmmmm"),
-    (MOST, &[MOST - 3, MOST - 1], 65536, "ltx|mmmm"),
-    (MOST + 1, &[], 65536, "mmmm"),
+static LONG_INPUTS: [(u64, &[u64], usize, &[u8]); 8] = [
+    (16_777_220, &[16_777_216, 16_777_218], 65536, b"T|tx|tx|."),
+    (16_777_220, &[16_777_217, 16_777_219], 65536, b"ltx|."),
+    (16_777_216, &[], 65535, b"T|."),
+    (16_777_217, &[], 65535, b"l."),
+    (MOST - 1, &[MOST - 3], 65535, b"ltx|."),
+    (MOST, &[MOST - 3], 65535, b"lmmmm"),
+    (MOST, &[MOST - 3, MOST - 1], 65536, b"ltx|mmmm"),
+    (MOST + 1, &[], 65536, b"mmmm"),
 ];
 
 fn long_source<'a>(size: u64, feeds: &'a [u64], piece: usize) -> Long<'a> {
@@ -207,7 +202,7 @@ fn long_lines_and_many_octets(rt: HostRuntime) {
 #[test]
 fn each_read_offers_a_whole_piece_or_what_remains(rt: HostRuntime) {
     let mut source = long_source(MOST, &[], 65535);
-    assert!(rt; is_answered(rt.alloc(), &mut source, "mmmm"));
+    assert!(rt; is_answered(rt.alloc(), &mut source, b"mmmm"));
     assert!(rt; source.at == MOST && source.whole && source.offered == 16384);
 }
 

@@ -198,7 +198,7 @@ fn answers_as_another_program(rt: HostRuntime) {
     for (pattern, text, expected) in &ROWS {
         assert!(rt;
             answer_to(rt.alloc(), pattern, text) == *expected,
-            "{pattern:?} on {text:?}"
+            "{pattern} on {text}"
         );
     }
 }
@@ -232,7 +232,7 @@ fn bounds_are_exact(rt: HostRuntime) {
         let pattern = repeated(rt.alloc(), *count, first, second).expect(&rt, "memory");
         assert!(rt;
             answer_to(rt.alloc(), &pattern, "x") == *expected,
-            "{count} of {first:?}"
+            "{count} of {first}"
         );
     }
 }
@@ -267,7 +267,7 @@ fn nested_repetitions_take_no_turn_twice(rt: HostRuntime) {
     for (count, end, expected) in &NESTED {
         assert!(rt;
             answer_to_many(rt.alloc(), *count, end) == Some(*expected),
-            "{end:?}"
+            "{end}"
         );
     }
 }
@@ -277,6 +277,6 @@ fn matches_again(rt: HostRuntime) {
     one_reading();
     let mut matcher = matcher_of(rt.alloc(), "^(a|bc)+$").expect(&rt, "a matcher");
     for (text, expected) in &AGAIN {
-        assert!(rt; matcher.matches(text) == *expected, "{text:?}");
+        assert!(rt; matcher.matches(text) == *expected, "{text}");
     }
 }

@@ -1,30 +1,25 @@
 use crate::signature::bodies::{MADE_2000, certification};
-use std::alloc::{AllocError, Global};
+use std::alloc::Global;
 use wot_scope::in_scope;
 
-/// Appends the subpacket of a pattern, with a zero octet behind it (RFC 9580, section 5.2.3.22).
-fn push_pattern(area: &mut Vec<u8>, pattern: &[u8]) -> Result<(), AllocError> {
-    let size = u16::try_from(pattern.len()).unwrap_or(0).saturating_add(2);
-    if size < 192 {
-        area.push(size.to_be_bytes()[1])?;
-    } else {
-        let [high, low] = (size - 192).to_be_bytes();
-        area.push(high.saturating_add(192))?;
-        area.push(low)?;
-    }
-    area.push(6)?;
-    area.extend_from_slice(pattern)?;
-    area.push(0)?;
-    Ok(())
+/// Appends the subpacket of a pattern, its length by five octets, with a zero octet behind the pattern (RFC 9580,
+/// sections 5.2.3.7 and 5.2.3.22).
+fn push_pattern(area: &mut Vec<u8>, pattern: &[u8]) -> Option<()> {
+    let size = u32::try_from(pattern.len()).unwrap_or(0).saturating_add(2);
+    area.push(0xff).ok()?;
+    area.extend_from_slice(&size.to_be_bytes()).ok()?;
+    area.push(6).ok()?;
+    area.extend_from_slice(pattern).ok()?;
+    area.push(0).ok()
 }
 
 /// A certification with these patterns.
-fn scoped(alloc: Global, patterns: &[&[u8]]) -> Result<Vec<u8>, AllocError> {
-    let mut area = MADE_2000.to_vec(alloc)?;
+fn scoped(alloc: Global, patterns: &[&[u8]]) -> Option<Vec<u8>> {
+    let mut area = MADE_2000.to_vec(alloc).ok()?;
     for pattern in patterns {
         push_pattern(&mut area, pattern)?;
     }
-    certification(alloc, &area, &[])
+    certification(alloc, &area, &[]).ok()
 }
 
 /// Patterns, a user ID, and whether it is in scope.
@@ -58,7 +53,7 @@ static ROWS: [(&[&[u8]], &[u8], bool); 17] = [
 
 /// Whether a user ID is in the scope of a certification with these patterns.
 fn holds(alloc: Global, patterns: &[&[u8]], uid: &[u8]) -> Option<bool> {
-    let body = scoped(alloc, patterns).ok()?;
+    let body = scoped(alloc, patterns)?;
     in_scope(alloc, &body, uid).ok()
 }
 
@@ -80,7 +75,7 @@ fn scope_of_patterns(rt: HostRuntime) {
     for (patterns, uid, expected) in &ROWS {
         assert!(rt;
             holds(rt.alloc(), patterns, uid) == Some(*expected),
-            "{patterns:?} on {uid:?}"
+            "{uid:?}"
         );
     }
     // A body that isn't readable has no pattern.

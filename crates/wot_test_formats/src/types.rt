@@ -12,10 +12,10 @@ const UPPER: &[u8] = b"C959BDBAFA32A2F89A153B678CFDE12197965A9A";
 const DIGITS: &[u8] = b"0a0a0a0a0a0a0a0a0a0a0a0a0a0a0a0a0a0a0a0a0a0a0a0a0a0a0a0a0a0a0a0a";
 
 /// Texts that are neither a fingerprint nor a signature number.
-static MALFORMED: [&[u8]; 3] = [
-    b"c959bdbafa32a2f89a153b678cfde12197965a9",
-    b"c959bdbafa32a2f89a153b678cfde12197965a9g",
-    b"0a0a0a0a0a0a0a0a0a0a0a0a0a0a0a0a0a0a0a0a0a0a0a0a0a0a0a0a0a0a0a0",
+static MALFORMED: [&str; 3] = [
+    "c959bdbafa32a2f89a153b678cfde12197965a9",
+    "c959bdbafa32a2f89a153b678cfde12197965a9g",
+    "0a0a0a0a0a0a0a0a0a0a0a0a0a0a0a0a0a0a0a0a0a0a0a0a0a0a0a0a0a0a0a0",
 ];
 
 /// Whether the fingerprint is read from both spellings, and printed as the lower one.
@@ -41,7 +41,9 @@ fn fingerprints_and_numbers_are_read_and_printed(rt: HostRuntime) {
     assert!(rt; SigNumber::read(DIGITS) == Some(SigNumber([0x0a; 32])));
     assert!(rt; SigNumber::read(LOWER).is_none());
     for text in &MALFORMED {
-        assert!(rt; Fpr::read(text).is_none() && SigNumber::read(text).is_none());
+        assert!(rt;
+            Fpr::read(text.as_bytes()).is_none() && SigNumber::read(text.as_bytes()).is_none()
+        );
     }
 }
 
@@ -49,12 +51,12 @@ fn fingerprints_and_numbers_are_read_and_printed(rt: HostRuntime) {
 const SIX: &[u8] = b"CB186C4F0609A697E4D52DFA6C722B0C1F1E27C18A56708F6525EC27BAD9ACC9";
 
 /// Texts that are no fingerprint of version 6 either.
-static NO_SIX: [&[u8]; 5] = [
-    b"",
-    b"cb186c4f0609a697e4d52dfa6c722b0c1f1e27c18",
-    b"cb186c4f0609a697e4d52dfa6c722b0c1f1e27c18a56708f6525ec27bad9acc",
-    b"cb186c4f0609a697e4d52dfa6c722b0c1f1e27c18a56708f6525ec27bad9accg",
-    b"cb186c4f0609a697e4d52dfa6c722b0c1f1e27c18a56708f6525ec27bad9acc90",
+static NO_SIX: [&str; 5] = [
+    "",
+    "cb186c4f0609a697e4d52dfa6c722b0c1f1e27c18",
+    "cb186c4f0609a697e4d52dfa6c722b0c1f1e27c18a56708f6525ec27bad9acc",
+    "cb186c4f0609a697e4d52dfa6c722b0c1f1e27c18a56708f6525ec27bad9accg",
+    "cb186c4f0609a697e4d52dfa6c722b0c1f1e27c18a56708f6525ec27bad9acc90",
 ];
 
 /// Whether the fingerprint of version 6 is read, and printed in lower case.
@@ -72,7 +74,7 @@ fn is_version_6(alloc: Global) -> Option<bool> {
 fn version_6_fingerprints_are_read_and_printed(rt: HostRuntime) {
     assert!(rt; is_version_6(rt.alloc()) == Some(true));
     for text in &NO_SIX {
-        assert!(rt; Fpr::read(text).is_none());
+        assert!(rt; Fpr::read(text.as_bytes()).is_none());
     }
 }
 
@@ -126,7 +128,8 @@ static OTHERS: [&[u8]; 8] = [
     b"\xc3\xa9",
 ];
 
-fn name(alloc: Global, text: &[u8]) -> Option<ViewName> {
+/// The name of a view that is spelled so.
+pub(crate) fn name(alloc: Global, text: &[u8]) -> Option<ViewName> {
     ViewName::read(alloc, text).ok()?
 }
 

@@ -1,10 +1,7 @@
+use crate::types::name;
 use std::alloc::Global;
-use wot_types::{Fpr, UserId, ViewName};
+use wot_types::{Fpr, UserId};
 use wot_watch::{PutFault, Watch, Watches};
-
-fn name(alloc: Global, text: &[u8]) -> Option<ViewName> {
-    ViewName::read(alloc, text).ok()?
-}
 
 fn watch(alloc: Global, told: u32) -> Option<Watch> {
     let target = Fpr::V4([1; 20]);
