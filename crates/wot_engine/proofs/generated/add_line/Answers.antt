@@ -1,4 +1,4 @@
-use Rattle.std.proofs.Common.{rules, ◌≡◌, Some}
+use Rattle.std.proofs.Common.{Some, refl}
 use Rattle.wot_policy.specs.Kept.{rows_of}
 use Rattle.wot_engine.specs.Machine.{kept}
 use Rattle.wot_engine.specs.Ran.{Seen}
@@ -12,11 +12,11 @@ returns-in_ok-add-in-Some-clause-added g c =
     let before : Seen = record { world = Some c.args.shelf.now.world; faults = c.args.shelf.now.faults } in
     let after : Seen = record { world = Some c.reply.new.shelf.world; faults = c.reply.new.shelf.faults } in
     let replied = told_settled rows c.args.line.now (kept c.args.machine.now) before c.reply.new.self.engine c.reply.new.self.cursors c.settle.new.self.engine c.settle.new.self.cursors after
-    c.in-Some.field-0 c.in-Some.reply c.in-Some.moved (search rules) (search rules) (rw c.in-Some.is at c.in_ok-reply.ensures.replied)
+    c.in-Some.field-0 c.in-Some.field-0.reply c.in-Some.field-0.moved refl refl (rw c.in-Some.is at c.in_ok-reply.ensures.replied)
     c.settle.ensures.engine c.settle.ensures.settled in
     record {
-      reply = Some c.in-Some.reply;
+      reply = Some c.in-Some.field-0.reply;
       step = step_over rows c.args.line.now (kept c.args.machine.now) (kept c.settle.new.self) c.args.shelf.now.world c.reply.new.shelf.world
-          c.args.shelf.now.faults c.reply.new.shelf.faults (Some c.in-Some.reply) replied;
+          c.args.shelf.now.faults c.reply.new.shelf.faults (Some c.in-Some.field-0.reply) replied;
       tells = c.in_ok-add-in-Some.ensures.added;
     }

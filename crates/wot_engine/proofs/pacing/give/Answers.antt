@@ -1,7 +1,7 @@
-use Rattle.std.proofs.Common.{rules, ◌≡◌, ◌≤◌, inl, arith}
-use Rattle.wot_types.specs.declared.memory.Memory.{Memory}
+use Rattle.std.proofs.Common.{rules, ◌≡◌, ◌≤◌, ap, inl, arith}
+use Rattle.std.specs.Prelude.{is_ok}
 use Rattle.wot_cache.specs.Marks.{IsRefreshed}
-use Rattle.wot_engine.specs.declared.told.Told.{Told}
+use Rattle.wot_engine.proofs.Making.{refreshed_as}
 use Rattle.wot_engine.proofs.Pieces.{gives_piece}
 use Rattle.wot_engine.proofs.pacing.give.Goals as goal
 
@@ -13,6 +13,6 @@ returns-in-Ok-clause-gives c cursors =
 
 pub returns-in-Ok-clause-makes : goal.returns-in-Ok-clause-makes
 returns-in-Ok-clause-makes c =
-    let made : IsRefreshed {T = Told} {E = Memory} c.piece.result c.args.cursor.now.view c.args.engine.now c.parts.follows.lender-at-none c.args.steps.now.made c.parts.new.steps.made =
-    search rules in
-    inl made
+    let made : IsRefreshed c.parts.result c.view.result.now c.args.engine.now c.parts.follows.lender-at-none c.args.steps.now.made c.parts.new.steps.made = search rules in
+    inl (refreshed_as c.parts.result c.piece.result (λ ok. ap is_ok c.in-Ok.is) c.args.cursor.now.view c.args.engine.now c.parts.follows.lender-at-none c.args.steps.now.made c.parts.new.steps.made
+    (rw c.view.ensures.view at made))

@@ -1,7 +1,10 @@
-use Rattle.std.proofs.Common.{Ok, refl}
+use Rattle.std.proofs.Common.{◌≡◌, ℕ, Option, Result, Ok, refl, subst, sym}
+use Rattle.wot_types.specs.declared.memory.Memory.{Memory}
 use Rattle.wot_policy.specs.Kept.{rows_of}
 use Rattle.wot_engine.specs.Machine.{kept}
-use Rattle.wot_engine.specs.Made.{heard}
+use Rattle.wot_cache.specs.State.{Engine}
+use Rattle.wot_engine.specs.declared.told.Told.{Told}
+use Rattle.wot_engine.specs.Made.{LineMakes, heard}
 use Rattle.wot_engine.specs.Ran.{Seen}
 use Rattle.wot_engine.proofs.Making.{line_makes_as}
 use Rattle.wot_engine.proofs.Running.{passed, told_step}
@@ -24,5 +27,9 @@ returns-in-None-clause-step g c =
 
 pub returns-in-Some-clause-makes : goal.returns-in-Some-clause-makes
 returns-in-Some-clause-makes g c =
-    line_makes_as (Ok c.in_ok-told.field-0) c.tell.result (λ ok. refl) (heard c.args.line.now) c.args.self.now.cursors c.args.self.now.engine c.tell.new.self.engine
-    c.args.self.now.made c.tell.new.self.made (rw c.tell.ensures.engine (rw c.tell.ensures.made c.in_ok-told.ensures.makes))
+    let done : Result (Option Told) Memory = Ok c.in_ok-told.field-0 in
+    let line = heard c.args.line.now in
+    let made : LineMakes done line c.args.self.now.cursors c.args.self.now.engine c.tell.new.self.engine c.args.self.now.made c.tell.new.self.made =
+    subst (λ (e : Engine). LineMakes done line c.args.self.now.cursors c.args.self.now.engine e c.args.self.now.made c.tell.new.self.made) (sym c.tell.ensures.engine)
+    (subst (λ (n : ℕ). LineMakes done line c.args.self.now.cursors c.args.self.now.engine c.reply.new.self.engine c.args.self.now.made n) (sym c.tell.ensures.made) c.in_ok-told.ensures.makes) in
+    line_makes_as done c.tell.result (λ ok. refl) line c.args.self.now.cursors c.args.self.now.engine c.tell.new.self.engine c.args.self.now.made c.tell.new.self.made made
