@@ -20,6 +20,8 @@ mod keyring;
 #[cfg(test)]
 mod layers;
 #[cfg(test)]
+mod made;
+#[cfg(test)]
 mod many;
 #[cfg(test)]
 mod policy;
