@@ -31,6 +31,15 @@ class Session:
             raise SystemExit(f"{line[:60]!r}: {reply!r}")
         return reply, passed * 1e6
 
+    def watched(self):
+        """The microseconds until all that watches were told behind the last line is there."""
+        before = time.perf_counter()
+        self.process.stdin.write(b"?\n")
+        self.process.stdin.flush()
+        while self.process.stdout.readline() != b"refused line\n":
+            pass
+        return (time.perf_counter() - before) * 1e6
+
     def end(self):
         self.process.stdin.close()
         self.process.wait()

@@ -265,6 +265,9 @@ class Generator:
             return b"load trust-root"
         return self.words(b"load", self.digits(self.name()))
 
+    def store_line(self):
+        return self.words(b"store", self.digits(self.name()))
+
     # Lines.
 
     def digits(self, octets):
@@ -362,6 +365,12 @@ class Generator:
             return self.words(b"cursor", cursor, b"close")
         return self.words(b"cursor", cursor, b"next", self.pick([1, 1, 2, 3, 10, 4294967295]))
 
+    def watch_line(self):
+        watch = self.pick([b"w", b"w", b"x", b"p"])
+        if self.chance(0.15):
+            return self.words(b"watch", watch, b"off")
+        return self.words(b"watch", watch, b"on", self.ask_line().split(b" ", 1)[1])
+
     def explain_line(self):
         target = self.pick(self.keys)
         user_ids = USER_IDS if self.chance(0.05) else target.user_ids
@@ -371,16 +380,18 @@ class Generator:
 
     def odd_line(self):
         """A line that is silent or malformed, or nearly so."""
-        asked = [self.ask_line, self.list_line, self.explain_line, self.absence_line, self.check_line, self.cursor_line]
-        others = self.time_line, self.root_line, self.any_verdict_line, self.load_line, lambda: b"keys"
+        asked = [self.ask_line, self.list_line, self.explain_line, self.absence_line, self.check_line]
+        asked += [self.cursor_line, self.watch_line]
+        others = self.time_line, self.root_line, self.any_verdict_line, self.load_line, self.store_line, lambda: b"keys"
         line = self.pick([*asked, *others])()
         at = self.random.randrange(len(line) + 1)
         return self.pick([
             b"", b"# comment", b"#", b" ", b"\r", b"keys\r", b"#\r", b" #", b"lists", b"pending ", b"list p 01",
             b"list p 0", b"view p time 05", b"view p time +5", b"view p time 4294967296", b"view p time 42949672950",
             b"cursor c next 0", b"cursor c over p 0", b"cursor c", b"cursor c close ",
+            b"watch w", b"watch w on", b"watch w on p", b"watch w off ", b"watch W off", b"watch w on p 00 0 ",
             b"import", b"import ", b"import c", b"import 0g", b"load", b"load ", b"load trust-root ",
-            b"load Trust-root", b"dump ", b"export", b"view " + b"a" * 33 + b" time 1",
+            b"load Trust-root", b"store ", b"store trust-root", b"dump ", b"export", b"view " + b"a" * 33 + b" time 1",
             b"view  time 1", b"view P time 1",
             b"\xff\0", line + b" ", b" " + line, line + b"\r", line[:at], line[:at] + b" " + line[at:],
             line[:at] + line[at + 1 :], line.replace(b" ", b"  ", 1), line.upper(), line.replace(b" ", b"\t", 1),
@@ -393,6 +404,7 @@ class Generator:
             (46, self.ask_line),
             (3, self.list_line),
             (12, self.cursor_line),
+            (6, self.watch_line),
             (12, self.explain_line),
             (6, self.absence_line),
             (4, self.check_line),
@@ -402,6 +414,7 @@ class Generator:
             (10, self.any_verdict_line),
             (4, lambda: self.import_line(self.certificate(key, 0.5))),
             (4, self.load_line),
+            (4, self.store_line),
             (2, lambda: self.words(b"drop", self.digits(self.name()))),
             (2, lambda: self.words(b"export", self.digits(self.name()))),
             (2, lambda: b"keys"),

@@ -30,6 +30,7 @@ class Refused(Exception):
 
 
 CURSORS = 16
+WATCHES = 64
 
 
 class View:
@@ -52,14 +53,26 @@ class Cursor:
         self.place = None
 
 
+class Watch:
+    """A question of a view whose amount is told again when it becomes another, and the amount last told."""
+
+    def __init__(self, view, fingerprint, wanted, user_id, told):
+        self.view = view
+        self.fingerprint = fingerprint
+        self.wanted = wanted
+        self.user_id = user_id
+        self.told = told
+
+
 class Machine:
-    """The state. `next_path` is the search that questions use; `shelf` is where `load` reads."""
+    """The state. `next_path` is the search that questions use; `load` reads the `shelf`, and `store` writes there."""
 
     def __init__(self, next_path=next_path_by_layers, limits=LIMITS, shelf=None):
         self.certificates = {}
         self.verdicts = {}
         self.views = {}
         self.cursors = {}
+        self.watches = {}
         self.changes = 0
         self.turns = 0
         self.next_path = next_path
@@ -67,9 +80,12 @@ class Machine:
         self.shelf = shelf or MemoryShelf()
 
     def line(self, line):
-        """One step: the lines of the reply, as text; none for a silent line."""
+        """One step: the lines of the reply and the watch lines behind it, as text; none for a silent line."""
         if script.is_silent(line):
             return []
+        return [*self.reply(line), *self.watch_lines()]
+
+    def reply(self, line):
         try:
             if len(line) > script.LONGEST_LINE:
                 raise Refused("long")
@@ -81,6 +97,19 @@ class Machine:
             return ["fault shelf"]
         except Refused as refusal:
             return [words("refused", *refusal.words)]
+
+    def watch_lines(self):
+        """A line for each watch whose amount has changed, which is told then, and for each whose view is closed, which
+        is taken away then."""
+        for name, watch in sorted(self.watches.items()):
+            if watch.view not in self.views:
+                del self.watches[name]
+                yield words("watch", name.decode("ascii"), "gone")
+                continue
+            amount = amount_of(self, self.views[watch.view], watch.fingerprint, watch.wanted, watch.user_id)
+            if amount != watch.told:
+                watch.told = amount
+                yield words("watch", name.decode("ascii"), "amount", amount)
 
     def transcript(self, octets):
         """The replies to all lines of an input, as octets."""
@@ -96,6 +125,11 @@ class Machine:
         if name not in self.cursors:
             raise Refused("cursor")
         return self.cursors[name]
+
+    def watch(self, name):
+        if name not in self.watches:
+            raise Refused("watch")
+        return self.watches[name]
 
     def count_change(self):
         self.changes += 1
@@ -128,15 +162,38 @@ def import_(machine, octets):
 
 
 def load(machine, name):
+    certificate = read_entry(machine, name)
+    if certificate is None:
+        raise Refused("absent")
+    return take(machine, [certificate], 0)
+
+
+def read_entry(machine, name):
+    """The one certificate of an entry, or None where there is no entry."""
     octets = machine.shelf.read(name)
     if octets is None:
-        raise Refused("absent")
+        return None
     if len(octets) > LONGEST_ENTRY:
         raise Refused("long")
     certificates, skipped = read_certificates(octets)
     if len(certificates) != 1 or skipped or name not in (TRUST_ROOT, certificates[0].fingerprint):
         raise Refused("misfiled")
-    return take(machine, certificates, skipped)
+    return certificates[0]
+
+
+def store(machine, fingerprint):
+    union = machine.certificates.get(fingerprint)
+    if union is None:
+        raise Refused("absent")
+    entry = read_entry(machine, fingerprint)
+    if entry is not None:
+        if entry.body != union.body:
+            raise Refused("clash")
+        union = union.united(entry)
+        machine.check_limit("certificate", union.size)
+    octets = union.export()
+    machine.shelf.replace(fingerprint, octets)
+    return [words("ok stored", len(octets))]
 
 
 def take(machine, certificates, skipped):
@@ -241,6 +298,12 @@ def ask(machine, name, fingerprint, wanted, user_id):
     return reply
 
 
+def amount_of(machine, view, fingerprint, wanted, user_id):
+    network = Network(machine.certificates, machine.verdicts, view.time)
+    paths = answer(Question(network, view.roots, fingerprint, user_id), wanted, machine.next_path)
+    return sum(path.amount for path in paths)
+
+
 def step_line(edge):
     return words("step", edge.issuer, edge.target, edge.depth, edge.amount, script.print_user_id(edge.user_id))
 
@@ -322,6 +385,21 @@ def cursor_close(machine, name):
     return ["ok"]
 
 
+def watch_on(machine, name, view_name, fingerprint, wanted, user_id):
+    view = machine.view(view_name)
+    if name not in machine.watches and len(machine.watches) >= WATCHES:
+        raise Refused("full", "watches")
+    amount = amount_of(machine, view, fingerprint, wanted, user_id)
+    machine.watches[name] = Watch(view_name, fingerprint, wanted, user_id, amount)
+    return [words("watch", name.decode("ascii"), "amount", amount)]
+
+
+def watch_off(machine, name):
+    machine.watch(name)
+    del machine.watches[name]
+    return ["ok"]
+
+
 def explain(machine, name, fingerprint, user_id):
     view = machine.view(name)
     certificate = machine.certificates.get(fingerprint)
@@ -384,6 +462,7 @@ def dump(machine):
 COMMANDS = {
     "import HEX": import_,
     "load NAME": load,
+    "store FPR": store,
     "drop FPR": drop,
     "verdict NUM good FPR": set_verdict,
     "verdict NUM bad": set_bad,
@@ -403,4 +482,6 @@ COMMANDS = {
     "cursor V over V N": cursor_over,
     "cursor V next N": cursor_next,
     "cursor V close": cursor_close,
+    "watch V on V FPR N UID": watch_on,
+    "watch V off": watch_off,
 }

@@ -16,11 +16,13 @@ def place_of(name):
 
 
 class MemoryShelf:
-    """Entries in memory; the calls with the numbers in `fails`, from 1, fail."""
+    """Entries in memory. The calls with the numbers in `fails`, from 1, fail; a replace whose number is in `late`, too,
+    puts its octets although it fails."""
 
-    def __init__(self, entries=None, fails=()):
+    def __init__(self, entries=None, fails=(), late=()):
         self.entries = dict(entries or {})
         self.fails = set(fails)
+        self.late = set(late)
         self.calls = 0
 
     def read(self, name):
@@ -29,6 +31,14 @@ class MemoryShelf:
         if self.calls in self.fails:
             raise ShelfFailed
         return self.entries.get(name)
+
+    def replace(self, name, octets):
+        """Puts the octets in place of the entry; raises ShelfFailed."""
+        self.calls += 1
+        if self.calls not in self.fails or self.calls in self.late:
+            self.entries[name] = octets
+        if self.calls in self.fails:
+            raise ShelfFailed
 
 
 class FolderShelf:
@@ -44,6 +54,18 @@ class FolderShelf:
             return None
         except OSError:
             raise ShelfFailed from None
+
+    def replace(self, name, octets):
+        try:
+            write_folder(self.folder, {name: octets})
+        except OSError:
+            raise ShelfFailed from None
+
+
+def read_folder(folder):
+    """The octets of all files below a folder, by their place."""
+    files = (path for path in Path(folder).rglob("*") if path.is_file())
+    return {path.relative_to(folder).as_posix(): path.read_bytes() for path in files}
 
 
 def write_folder(folder, entries):

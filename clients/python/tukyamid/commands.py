@@ -19,6 +19,7 @@ _CHECKS = {
     "number": spelling.number,
     "view": spelling.view_name,
     "cursor": spelling.view_name,
+    "watch": spelling.view_name,
     "time": lambda value: spelling.decimal(value, 0, MOST_TIME, "time"),
     "amount": lambda value: spelling.decimal(value, 0, 255, "amount"),
     "wanted": lambda value: spelling.decimal(value, 1, MOST_WANTED, "wanted amount"),
@@ -60,6 +61,15 @@ class Load(Command):
 
     def text(self):
         return f"load {self.name}"
+
+
+@dataclass(frozen=True)
+class Store(Command):
+    """Writes the union of a certificate and its entry in place of the entry of that directory."""
+    fpr: str
+
+    def text(self):
+        return f"store {self.fpr}"
 
 
 @dataclass(frozen=True)
@@ -231,6 +241,28 @@ class CursorClose(Command):
         return f"cursor {self.cursor} close"
 
 
+@dataclass(frozen=True)
+class WatchOn(Command):
+    """Has the answer's amount told now, and again whenever it becomes another."""
+    watch: str
+    view: str
+    fpr: str
+    wanted: int
+    user_id: bytes
+
+    def text(self):
+        user_id = spelling.write_user_id(self.user_id)
+        return f"watch {self.watch} on {self.view} {self.fpr} {self.wanted} {user_id}"
+
+
+@dataclass(frozen=True)
+class WatchOff(Command):
+    watch: str
+
+    def text(self):
+        return f"watch {self.watch} off"
+
+
 def _uid(text):
     return spelling.read_user_id(text.encode("latin-1"))
 
@@ -261,9 +293,17 @@ def _cursor(cursor, word, *rest):
     return {"close": CursorClose}[word](cursor, *rest)
 
 
+def _watch(watch, word, *rest):
+    if word == "on":
+        view, fpr, wanted, uid = rest
+        return WatchOn(watch, view, fpr, int(wanted), _uid(uid))
+    return {"off": WatchOff}[word](watch, *rest)
+
+
 _READ = {
     "import": lambda digits: Import(bytes.fromhex(digits)),
     "load": Load,
+    "store": Store,
     "drop": Drop,
     "verdict": _verdict,
     "view": _view,
@@ -277,8 +317,9 @@ _READ = {
     "export": Export,
     "dump": Dump,
     "cursor": _cursor,
+    "watch": _watch,
 }
-_FIELDS = {"ask": 4, "explain": 3, "absence": 4, "check": 5}  # The last of them is the rest of the line.
+_FIELDS = {"ask": 4, "explain": 3, "absence": 4, "check": 5, "watch": 6}  # The last of them is the rest of the line.
 
 
 def read_command(line):

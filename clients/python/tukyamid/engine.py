@@ -9,10 +9,11 @@ from pathlib import Path as FilePath
 
 from . import commands
 from .refusals import EngineEnded, ProtocolError, Refused
-from .replies import ListingHead, Reply, Stale, read_reply
+from .replies import Done, Gone, ListingHead, Reply, Stale, Taken, Watched, read_reply, read_watch
 
 LONGEST_LINE = 16_777_216
 _BATCH = 1 << 20
+_PROBE, _PROBED = b"?", "refused line"  # A line that is no command: behind its reply nothing is told.
 
 
 def find_program():
@@ -96,6 +97,8 @@ class Engine:
         self._open_listing = None
         self._in_exchange = False
         self._ended = None
+        self._watches = set()
+        self._told = []
 
     def __enter__(self):
         return self
@@ -129,7 +132,10 @@ class Engine:
         with self._lock:
             self._begin()
             self._write(line + b"\n")
-            reply = self._receive() if has_reply(line) else None
+            reply = self._receive_for(line) if has_reply(line) else None
+            self._note_watch(line, reply)
+            if self._watches and isinstance(reply, (Done, Taken)):
+                self._hear_watches()
             self._in_exchange = False
             return reply
 
@@ -151,8 +157,10 @@ class Engine:
 
     def restore(self, file):
         """Sends what a file has as it stands: lines `import` and `verdict`, as in a dump. This is the quickest way to
-        feed an engine. Gives whether each was answered with `ok`; where not, the engine is ended."""
+        feed an engine. Gives whether each was answered with `ok`; where not, the engine is ended. No watch may be
+        there."""
         with self._lock:
+            self._refuse_watches()
             self._begin()
             counts = queue.SimpleQueue()
             writer = threading.Thread(target=self._copy, args=(file, counts), daemon=True)
@@ -168,8 +176,10 @@ class Engine:
 
     def feed(self, lines):
         """Sends many lines without waiting for each reply: the quick way for imports and verdicts that are made
-        meanwhile. Gives the list of refusals; each has the number of its line, `position`."""
+        meanwhile. Gives the list of refusals; each has the number of its line, `position`. No watch may be there, and
+        none begins so."""
         with self._lock:
+            self._refuse_watches()
             self._begin()
             batches = queue.SimpleQueue()
             writer = threading.Thread(target=self._feed_writer, args=(lines, batches), daemon=True)
@@ -189,6 +199,10 @@ class Engine:
 
     def load(self, name):
         return self.do(commands.Load(name))
+
+    def store(self, fpr):
+        """Writes the union of a certificate and its entry in place of the entry; gives the size of what was written."""
+        return self.do(commands.Store(fpr)).size
 
     def drop(self, fpr):
         self.do(commands.Drop(fpr))
@@ -249,6 +263,26 @@ class Engine:
                 self.close_cursor(cursor)
                 return
 
+    def watch(self, watch, view, fpr, wanted, user_id):
+        """Begins a watch over the answer of `ask`, or begins it anew: its amount now. Whenever a later call makes it
+        another, `told` has that."""
+        return self.do(commands.WatchOn(watch, view, fpr, wanted, user_id)).amount
+
+    def unwatch(self, watch):
+        """Takes a watch away."""
+        self.do(commands.WatchOff(watch))
+
+    def told(self):
+        """What watches were told since the last call, in order: a list of `Watched` and `Gone`. Behind a server this is
+        also what the changes of others have told."""
+        with self._lock:
+            if self._watches:
+                self._begin()
+                self._hear_watches()
+                self._in_exchange = False
+            told, self._told = self._told, []
+            return told
+
     def explain(self, view, fpr, user_id):
         """What a user ID of a key comes to, and each certification on it: an `Explanation`. RefusedAbsent is raised
         where the key isn't held, or has no such user ID."""
@@ -286,6 +320,38 @@ class Engine:
         if self._open_listing is not None:
             self._open_listing._settle()
         self._in_exchange = True
+
+    def _note_watch(self, line, reply):
+        """Knows which watches are there."""
+        if isinstance(reply, Watched):
+            self._watches.add(reply.watch)
+        elif isinstance(reply, Done) and line.startswith(b"watch "):
+            self._watches.discard(line.split(b" ")[1].decode("ascii"))
+
+    def _hear_watches(self):
+        """Reads what watches are told, up to the reply to a line that changes nothing."""
+        self._write(_PROBE + b"\n")
+        while (line := self._next_line()) != _PROBED:
+            self._take_told(read_watch(line))
+
+    def _take_told(self, told):
+        if isinstance(told, Gone):
+            self._watches.discard(told.watch)
+        self._told.append(told)
+
+    def _receive_for(self, line):
+        """The reply to a line. A server tells watches at any time, so also before it."""
+        while True:
+            reply = self._receive()
+            if not isinstance(reply, (Watched, Gone)):
+                return reply
+            if isinstance(reply, Watched) and line.startswith(b"watch %s on " % reply.watch.encode("ascii")):
+                return reply
+            self._take_told(reply)
+
+    def _refuse_watches(self):
+        if self._watches:
+            raise ValueError("while watches are there, lines are sent one by one")
 
     def _write(self, octets):
         try:
@@ -362,6 +428,8 @@ class Engine:
                 line = line.removesuffix(b"\n")
                 batch.append(line)
                 size += len(line)
+                if line.startswith(b"watch "):
+                    raise ValueError("a watch begins by itself")
                 if has_reply(line):
                     places.append(place)
                 if size > _BATCH or len(batch) > 4096:

@@ -113,6 +113,10 @@ class RefusedCursor(Refused):
     """No such cursor is there."""
 
 
+class RefusedWatch(Refused):
+    """No such watch is there."""
+
+
 class ShelfFault(Refused):
     """The engine's directory couldn't be read."""
 
@@ -122,7 +126,7 @@ _REFUSED = {
     "compressed": (RefusedCompressed, 0), "secret": (RefusedSecret, 0), "kind": (RefusedKind, 2),
     "order": (RefusedOrder, 1), "empty": (RefusedEmpty, 0), "misfiled": (RefusedMisfiled, 0),
     "clash": (RefusedClash, 0), "absent": (RefusedAbsent, 0), "full": (RefusedFull, 1),
-    "cursor": (RefusedCursor, 0),
+    "cursor": (RefusedCursor, 0), "watch": (RefusedWatch, 0),
 }
 
 

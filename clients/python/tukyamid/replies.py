@@ -9,6 +9,8 @@ A reply is one line, or a first line that says how many lines follow. The first 
 | `explain WORD K` | K lines `cert ..` |
 | `absence missed SUM` | a line `claim PATHS TABLE` |
 | any other | nothing |
+
+Behind a reply may come what watches are told, one line each: `watch W amount SUM` or `watch W gone`.
 """
 
 import re
@@ -34,6 +36,12 @@ class Taken(Reply):
     taken: int
     skipped: int
     new: int
+
+
+@dataclass(frozen=True)
+class Stored(Reply):
+    """Of a store: the size of the entry that was written, in octets."""
+    size: int
 
 
 @dataclass(frozen=True)
@@ -142,6 +150,19 @@ class Stale(Reply):
     now: int
 
 
+@dataclass(frozen=True)
+class Watched(Reply):
+    """The amount of a watch's answer: at its beginning, and whenever it has become another."""
+    watch: str
+    amount: int
+
+
+@dataclass(frozen=True)
+class Gone(Reply):
+    """A watch whose view was closed; it is no more."""
+    watch: str
+
+
 _NUMBER = r"(0|[1-9][0-9]*)"
 _FPR = r"([0-9a-f]{40}|[0-9a-f]{64})"
 _NUM = r"([0-9a-f]{64})"
@@ -152,6 +173,7 @@ def _form(*parts):
 
 
 _TAKEN = _form("ok taken", _NUMBER, "skipped", _NUMBER, "new", _NUMBER)
+_STORED = _form("ok stored", _NUMBER)
 _AMOUNT = _form("amount", _NUMBER, "paths", _NUMBER)
 _PATH = _form("path", _NUMBER, "steps", _NUMBER, "root", _FPR)
 _STEP = _form("step", _FPR, _FPR, _NUMBER, _NUMBER, "(.*)")
@@ -168,6 +190,8 @@ _ACCEPTED = _form("checked yes", _NUMBER)
 _REJECTED = _form("checked no", "(paths|table)")
 _EXPORT = _form("export", "([0-9a-f]*)")
 _STALE = _form("stale", "(keyring|view)", _NUMBER, _NUMBER)
+_WATCHED = _form("watch", "([a-z0-9_-]{1,32})", "amount", _NUMBER)
+_GONE = _form("watch", "([a-z0-9_-]{1,32})", "gone")
 _LISTING = _form("(list|piece|pending|keys|dump)", _NUMBER)
 
 
@@ -248,6 +272,14 @@ def _read_checked(first):
     return Rejected(*_match(_REJECTED, first))
 
 
+def read_watch(line):
+    """What a watch is told."""
+    if _GONE.fullmatch(line):
+        return Gone(*_match(_GONE, line))
+    watch, amount = _match(_WATCHED, line)
+    return Watched(watch, int(amount))
+
+
 def _read_word(words, text):
     try:
         return words(text)
@@ -272,6 +304,8 @@ def read_reply(next_line):
     if refusal is not None:
         raise refusal
     word = first.partition(" ")[0]
+    if first.startswith("ok stored "):
+        return Stored(int(_match(_STORED, first)[0]))
     if word == "ok":
         return Taken(*map(int, _match(_TAKEN, first)))
     if word == "amount":
@@ -287,6 +321,8 @@ def read_reply(next_line):
         word, count = _match(_EXPLAIN, first)
         target = _read_word(TargetWord, word)
         return Explanation(target, tuple(_read_reason(next_line()) for _ in range(int(count))))
+    if word == "watch":
+        return read_watch(first)
     if word == "stale":
         word, then, now = _match(_STALE, first)
         return Stale(word, int(then), int(now))

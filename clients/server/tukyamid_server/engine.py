@@ -13,15 +13,29 @@ _LONGEST_PAUSE = 5.0
 _LONGEST_WAIT = 10.0
 
 
+_NO_COMMAND = b"?"
+
+
 class Sent:
     """A line that waits for its reply: `done` is called with it, or with None where the line was given up. `change` is
-    the change of the keyring that it makes, if any."""
-    __slots__ = ("line", "done", "change")
+    the change of the keyring that it makes, `watch` the watch that it begins, if any."""
+    __slots__ = ("line", "done", "change", "watch")
 
-    def __init__(self, line, done, change):
+    def __init__(self, line, done, change, watch):
         self.line = line
         self.done = done
         self.change = change
+        self.watch = watch
+
+
+class Watch:
+    """A watch of the program: its line, what it was last told, and who hears that."""
+    __slots__ = ("line", "told", "hear")
+
+    def __init__(self, line, hear):
+        self.line = line
+        self.told = b""
+        self.hear = hear
 
 
 class Engine:
@@ -38,6 +52,8 @@ class Engine:
         self._journal = journal
         self._hub = hub
         self._views = Views()
+        self._watches = {}
+        self._fed_watches = deque()
         self._process = None
         self._is_live = False
         self._closing = asyncio.Event()
@@ -45,8 +61,14 @@ class Engine:
         self._failures = 0
         self._task = asyncio.create_task(self._keep_running())
 
-    def send(self, line, done, change=None):
-        self.waiting.append(Sent(line, done, change))
+    def send_watch(self, line, done, hear):
+        """Sends a line `watch NAME on ..`. `hear` is called with each line that the watch is told behind later lines. A
+        line that is no command stands before it: so what is told behind earlier ones isn't taken for its reply."""
+        self.send(_NO_COMMAND, lambda reply: None)
+        self.send(line, done, watch=Watch(line, hear))
+
+    def send(self, line, done, change=None, watch=None):
+        self.waiting.append(Sent(line, done, change, watch))
         if self._is_live and not self._process.stdin.is_closing():
             self._process.stdin.write(line + b"\n")
 
@@ -99,7 +121,9 @@ class Engine:
 
     async def _run(self):
         """Runs one program to its end, and gives its status."""
-        lines = [*self._journal.lines(self.place), *self._views.lines()]
+        self._fed_watches = deque(self._watches)
+        watches = [watch.line for watch in self._watches.values()]
+        lines = [*self._journal.lines(self.place), *self._views.lines(), *watches]
         self._feed_left = len(lines)
         process = self._process = await asyncio.create_subprocess_exec(
             *self._program, stdin=asyncio.subprocess.PIPE, stdout=asyncio.subprocess.PIPE, limit=_PIECE)
@@ -146,17 +170,43 @@ class Engine:
     def _take(self, reply):
         if self._feed_left:
             self._feed_left -= 1
-            if not reply.startswith(b"ok") and not self.place:
+            if self._feed_left < len(self._fed_watches):
+                self._take_fed_watch(self._fed_watches.popleft(), reply)
+            elif not reply.startswith(b"ok") and not self.place:
                 self._fail(ValueError(f"a line of the dump was answered with {reply[:80]!r}"))
             self._become_ready()
+            return
+        if reply.startswith(b"watch ") and not (self.waiting and self.waiting[0].watch):
+            self._tell_watch(reply.split(b" ")[1], reply)
             return
         sent = self.waiting.popleft()
         self._failures, self.stuck = 0, None
         if sent.change is not None:
             self.place = sent.change.place
+        elif reply.startswith(b"watch "):
+            sent.watch.told = reply
+            self._watches[reply.split(b" ")[1]] = sent.watch
+        elif reply == b"ok\n" and sent.line.startswith(b"watch "):
+            self._watches.pop(sent.line.split(b" ")[1], None)
         elif reply == b"ok\n":
             self._views.take(sent.line)
         sent.done(reply)
+
+    def _take_fed_watch(self, name, reply):
+        """A watch has begun anew at the place where another program ended; what that one didn't tell is told."""
+        if name not in self._watches:
+            return
+        if not reply.startswith(b"watch "):
+            reply = b"watch %s gone\n" % name
+        if reply != self._watches[name].told:
+            self._tell_watch(name, reply)
+
+    def _tell_watch(self, name, reply):
+        watch = self._watches[name]
+        watch.told = reply
+        if reply.endswith(b" gone\n"):
+            del self._watches[name]
+        watch.hear(reply)
 
     def _become_ready(self):
         if self._is_live and not self._feed_left and not self.ready.done():

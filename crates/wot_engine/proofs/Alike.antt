@@ -5,7 +5,7 @@ use Rattle.wot_types.specs.declared.fpr.Fpr.{Fpr}
 use Rattle.wot_policy.specs.declared.rows.PolicyRows.{PolicyRows}
 use Rattle.wot_verdict.specs.Verdicts as verdicts
 use Rattle.wot_script.specs.declared.command.Command.{Command}
-use Rattle.wot_script.specs.declared.command.Command.TheVariants.{Import, Load, Remove, Good, Bad, Unjudge, Time, Root, Close, Ask, Explain, Pending, Keys, Export, Dump, Absence, Check, CursorOver, CursorNext, CursorClose}
+use Rattle.wot_script.specs.declared.command.Command.TheVariants.{Import, Load, Store, Remove, Good, Bad, Unjudge, Time, Root, Close, Ask, Explain, Pending, Keys, Export, Dump, Absence, Check, CursorOver, CursorNext, CursorClose, WatchOn, WatchOff}
 use Rattle.wot_script.specs.declared.reply.Reply.{Reply}
 use Rattle.wot_script.specs.declared.reply.Reply.TheVariants as replies
 use Rattle.wot_script.specs.Grammar.{command_of}
@@ -15,7 +15,7 @@ use Rattle.wot_keyring.specs.Keyring.{Certificates}
 use Rattle.wot_keyring.specs.Dump.{judged_anew, judged_by}
 use Rattle.wot_keyring.specs.Held.{Held}
 use Rattle.wot_cache.specs.declared.view.View.{View}
-use Rattle.wot_certd.specs.World.{Answer, World}
+use Rattle.wot_certd.specs.World.{World}
 use Rattle.wot_cache.specs.State.{State}
 use Rattle.wot_cache.specs.Views.{view_at}
 use Rattle.wot_engine.specs.Absent.{Checks, Misses}
@@ -26,10 +26,12 @@ use Rattle.wot_engine.specs.Lines.{is_silent, longest}
 use Rattle.wot_engine.specs.Listing.{Lists, explained_from}
 use Rattle.wot_engine.specs.LineStep.{LineStep, HasReply, Answers, Does, Obeys, Stays}
 use Rattle.wot_engine.specs.Pacing.{Paces}
+use Rattle.wot_engine.specs.Watching.{Watching}
 use Rattle.wot_engine.specs.Whole.{IsTurnedBy, Whole}
 use Rattle.wot_engine.proofs.Named.{AreNamed, named_all, named_without}
 use Rattle.wot_engine.proofs.Stays.{run_stays}
 use Rattle.wot_engine.specs.Scene.{Scene, opening}
+use Rattle.wot_engine.specs.Served.{Served}
 use Rattle.wot_engine.specs.Transcript.{Run}
 
 -- ---- marks
@@ -67,7 +69,7 @@ alike P one other name c v w asks =
     (subst (λ (certs : Certificates). P (held_alone certs one.held.verdicts) (view_at one.views name)) c asks))
 
 -- The views are no part of what decides a reply but the one that asks.
-does_alike : (rows : PolicyRows) (one other : State) (name : List ℕ) (command : Command) (given told : Answer) (reply : Reply) (new : State) → one.held.certs ≡ other.held.certs
+does_alike : (rows : PolicyRows) (one other : State) (name : List ℕ) (command : Command) (given told : Served) (reply : Reply) (new : State) → one.held.certs ≡ other.held.certs
     → one.held.verdicts ≡ other.held.verdicts → view_at one.views name ≡ view_at other.views name → AsksFrom name command
     → Does rows one command given reply new → Does rows other command told reply other
 does_alike rows one other name (Ask view target wanted uid) given told reply new c v w a does =
@@ -87,6 +89,7 @@ does_alike rows one other name (Check view target claims labels uid) given told 
     (alike (λ s shown. Checks s shown target claims labels uid reply) one other view c v W does.0, refl)
 does_alike rows one other name (Import octets) given told reply new c v w a does = absurd a
 does_alike rows one other name (Load entry) given told reply new c v w a does = absurd a
+does_alike rows one other name (Store fpr) given told reply new c v w a does = absurd a
 does_alike rows one other name (Remove fpr) given told reply new c v w a does = absurd a
 does_alike rows one other name (Good number fpr) given told reply new c v w a does = absurd a
 does_alike rows one other name (Bad number) given told reply new c v w a does = absurd a
@@ -101,17 +104,20 @@ does_alike rows one other name Dump given told reply new c v w a does = absurd a
 does_alike rows one other name (CursorOver cursor view wanted) given told reply new c v w a does = absurd a
 does_alike rows one other name (CursorNext cursor count) given told reply new c v w a does = absurd a
 does_alike rows one other name (CursorClose cursor) given told reply new c v w a does = absurd a
+does_alike rows one other name (WatchOn watch view target wanted uid) given told reply new c v w a does = absurd a
+does_alike rows one other name (WatchOff watch) given told reply new c v w a does = absurd a
 
--- Such a command leaves turns and cursors.
+-- Such a command leaves turns, cursors and watches.
 asking : (name : List ℕ) (command : Command) (s : Whole) (reply : Reply) → AsksFrom name command
-    → IsTurnedBy command s.state.views s.turns s.state.views s.turns × Paces s command reply s.cursors
-asking name (Ask view target wanted uid) s reply a = (refl, refl)
-asking name (Command.List view wanted) s reply a = (refl, refl)
-asking name (Explain view fpr uid) s reply a = (refl, refl)
-asking name (Absence view target wanted uid) s reply a = (refl, refl)
-asking name (Check view target claims labels uid) s reply a = (refl, refl)
+    → IsTurnedBy command s.state.views s.turns s.state.views s.turns × Paces s command reply s.cursors × Watching s command reply s.watches
+asking name (Ask view target wanted uid) s reply a = (refl, refl, refl)
+asking name (Command.List view wanted) s reply a = (refl, refl, refl)
+asking name (Explain view fpr uid) s reply a = (refl, refl, refl)
+asking name (Absence view target wanted uid) s reply a = (refl, refl, refl)
+asking name (Check view target claims labels uid) s reply a = (refl, refl, refl)
 asking name (Import octets) s reply a = absurd a
 asking name (Load entry) s reply a = absurd a
+asking name (Store fpr) s reply a = absurd a
 asking name (Remove fpr) s reply a = absurd a
 asking name (Good number fpr) s reply a = absurd a
 asking name (Bad number) s reply a = absurd a
@@ -126,9 +132,11 @@ asking name Dump s reply a = absurd a
 asking name (CursorOver cursor view wanted) s reply a = absurd a
 asking name (CursorNext cursor count) s reply a = absurd a
 asking name (CursorClose cursor) s reply a = absurd a
+asking name (WatchOn watch view target wanted uid) s reply a = absurd a
+asking name (WatchOff watch) s reply a = absurd a
 
 -- A step of a question in the one state is one in the other.
-pub step_alike : (rows : PolicyRows) (one other : Whole) (name line : List ℕ) (given told : Answer) (reply : Option Reply) (new : Whole) → one.state.held.certs ≡ other.state.held.certs
+pub step_alike : (rows : PolicyRows) (one other : Whole) (name line : List ℕ) (given told : Served) (reply : Option Reply) (new : Whole) → one.state.held.certs ≡ other.state.held.certs
     → one.state.held.verdicts ≡ other.state.held.verdicts → view_at one.state.views name ≡ view_at other.state.views name → IsAsk name line
     → LineStep rows one line given reply new → LineStep rows other line told reply other
 step_alike rows one other name line given told reply new c v w ask step = long (nat_lt longest (length line)) step
@@ -144,6 +152,7 @@ step_alike rows one other name line given told reply new c v w ask step = long (
           counted = inl (refl, refl);
           turned = rest.0;
           paces = rest.1;
+          watching = rest.2;
         })
 
     refused : (r : Option Reply) → HasReply (Stays one replies.Long) r new → HasReply (Stays other replies.Long) r other
@@ -166,7 +175,7 @@ pub reached_can_be : (rows : PolicyRows) (world : World) (lines : List (List ℕ
 reached_can_be rows world lines replies s run = run_stays rows AreNamed (named_all rows) named_without lines (opening world) replies s tt run
 
 pub replied_alike : (rows : PolicyRows) → OneOutcome rows → (one other : Whole) (name line : List ℕ) → AreNamed other.state.held.certs → one.state.held.certs ≡ other.state.held.certs
-    → one.state.held.verdicts ≡ other.state.held.verdicts → view_at one.state.views name ≡ view_at other.state.views name → IsAsk name line → (given told : Answer)
+    → one.state.held.verdicts ≡ other.state.held.verdicts → view_at one.state.views name ≡ view_at other.state.views name → IsAsk name line → (given told : Served)
     → (reply second : Option Reply) (new third : Whole) → LineStep rows one line given reply new → LineStep rows other line told second third → reply ≡ second
 replied_alike rows law one other name line can c v w ask given told reply second new third p q =
     (law.one other line told reply second other third can (step_alike rows one other name line given told reply new c v w ask p) q).0

@@ -21,26 +21,26 @@ use Rattle.wot_script.specs.declared.command.Command.TheVariants.{CursorNext, Cu
 use Rattle.wot_script.specs.declared.reply.BindLine.{BindLine}
 use Rattle.wot_script.specs.declared.reply.Reply.{Reply}
 use Rattle.wot_script.specs.declared.reply.Reply.TheVariants as replies
-use Rattle.wot_certd.specs.World.{Answer}
 use Rattle.wot_cache.specs.declared.view.View.{View}
 use Rattle.wot_cache.specs.Views.{view_at}
 use Rattle.wot_cursor.specs.Cursors.{Cursors, begun, cursor_at, is_full, with_cursor}
 use Rattle.wot_explain.specs.declared.bind.Bind.{Bind}
 use Rattle.wot_explain.specs.Listing.{HasList, HasOneList, IsOfEachList, pairs_in}
 use Rattle.wot_explain.specs.Piece.{binds_after}
-use Rattle.wot_engine.specs.Entry.{entry_in, given_by}
+use Rattle.wot_engine.specs.Entry.{use_of}
 use Rattle.wot_engine.specs.Joined.{AreOfList, Exchange, IsNext, Since, pieces_in}
+use Rattle.wot_engine.specs.Lines.{heard}
 use Rattle.wot_engine.specs.LineStep.{Obeys}
 use Rattle.wot_engine.specs.Listing.{Lists, bind_line}
-use Rattle.wot_engine.specs.Made.{heard}
 use Rattle.wot_engine.specs.Pacing.{Begins, Leaves, stamps_in}
-use Rattle.wot_engine.specs.Scene.{Scene, Step, opening}
+use Rattle.wot_engine.specs.Scene.{Scene, Step, opening, served_in}
+use Rattle.wot_engine.specs.Served.{Served}
 use Rattle.wot_engine.specs.Transcript.{Run}
 use Rattle.wot_engine.specs.Whole.{Whole}
 use Rattle.wot_engine.proofs.Alike.{reached_can_be}
 use Rattle.wot_engine.proofs.Entries.{found_put}
 use Rattle.wot_engine.proofs.Hearing.{Hears, heard_reads, hears, run_keeps}
-use Rattle.wot_engine.proofs.Joining.{Began, Stands, goes_own, later_itself, later_obeys, passes_on}
+use Rattle.wot_engine.proofs.Joining.{Began, Stands, goes_own, later_itself, later_obeys, passes_on, stands_told}
 use Rattle.wot_engine.proofs.Behind.{at_first}
 use Rattle.wot_engine.proofs.Rising.{ordered_binds, reached_ordered}
 use Rattle.wot_engine.proofs.Viewed.{AreSound, does_views, sound_by, turn_few}
@@ -55,6 +55,7 @@ reached_sound rows =
     run_keeps rows (λ (w : Whole). AreSound w.state.views w.turns)
     (λ old command answer reply new o s.
     sound_by (turning_of command) old.state.views old.turns new.state.views new.turns (does_views rows old.state command answer reply new.state o.does) o.turned s)
+    (λ s watches sound. sound)
 
 -- ---- the line that began it
 
@@ -77,7 +78,7 @@ began_from s name view wanted cursors (Some shown) e l = by (is_full s.cursors n
     by true l = let never : replies.Done ≡ replies.FullCursors = l.0 in absurd (cc never)
     by false l = record { shown = shown; seen = e; cursors_are = l.1 }
 
-heard_obeys : (rows : PolicyRows) (old : Whole) (o : Option Command) (command : Command) (answer : Answer) (reply : Reply) (new : Whole) → o ≡ Some command
+heard_obeys : (rows : PolicyRows) (old : Whole) (o : Option Command) (command : Command) (answer : Served) (reply : Reply) (new : Whole) → o ≡ Some command
     → Hears rows old o answer (Some reply) new → Obeys rows old command answer reply new
 heard_obeys rows old o command answer reply new e h = subst (λ (c : Option Command). Hears rows old c answer (Some reply) new) e h
 
@@ -96,10 +97,14 @@ module _
       began : Began name view wanted was.whole shown all
       stands : Stands name view wanted was.whole shown all began rows last.whole (pieces_in name exchanges)
 
-    obeys : Obeys rows was.whole (CursorOver name view wanted) (given_by was.world (entry_in since.line)) replies.Done since.mid.whole
+    answer : Served
+    answer = served_in was (use_of (heard since.line))
+
+    obeys : Obeys rows was.whole (CursorOver name view wanted) answer replies.Done since.begins.mid
+    unfolding answer
     obeys =
-        heard_obeys rows was.whole (heard since.line) (CursorOver name view wanted) (given_by was.world (entry_in since.line)) replies.Done since.mid.whole since.over
-        (hears rows was.whole since.line (given_by was.world (entry_in since.line)) (Some replies.Done) since.mid.whole since.begins.does)
+        heard_obeys rows was.whole (heard since.line) (CursorOver name view wanted) answer replies.Done since.begins.mid since.over
+        (hears rows was.whole since.line answer (Some replies.Done) since.begins.mid since.begins.does)
 
     wants : 1 ≤ wanted
     wants = spelled since.line (CursorOver name view wanted) (heard_reads since.line (CursorOver name view wanted) since.over)
@@ -107,7 +112,7 @@ module _
     found : Found
     found =
         let w = was.whole in
-        let from = began_from w name view wanted since.mid.whole.cursors (view_at w.state.views view) refl obeys.paces in
+        let from = began_from w name view wanted since.begins.mid.cursors (view_at w.state.views view) refl obeys.paces in
         let told = record_of w.state.held.certs w.state.held.verdicts from.shown.time in
         let pairs = pairs_in w.state.held.certs in
         let list = some told from.shown.roots wanted pairs wants in
@@ -128,10 +133,9 @@ module _
           began = began;
           stands =
               passes_on name view wanted w from.shown list.0 began rows exchanges since.mid last [] since.passes since.stays
-              (record {
+              (stands_told name view wanted w from.shown list.0 began rows since.begins.mid since.behind since.mid.whole [] since.begins.tells (record {
                 later =
-                    later_obeys rows view w w (CursorOver name view wanted) (given_by was.world (entry_in since.line)) replies.Done since.mid.whole obeys
-                    (later_itself view w sound.order);
+                    later_obeys rows view w w (CursorOver name view wanted) answer replies.Done since.begins.mid obeys (later_itself view w sound.order);
                 cursor = record {
                   place = None;
                   there =
@@ -139,7 +143,7 @@ module _
                       ∙ found_put view_name_cmp nat_list_cmp_total name (begun view wanted (stamps_in w view)) w.cursors;
                   come = at_first list.0;
                 };
-              });
+              }));
         }
 
     pub join : AreOfList was.whole.state view wanted (pieces_in name exchanges)
@@ -160,11 +164,11 @@ module _
           whole = λ e. ap (map bind_line) (come.whole e);
         }
 
-    pub next : (line : List ℕ) (count : ℕ) (reply : Reply) (new : Scene) → heard line ≡ Some (CursorNext name count)
-        → Step rows last line (Some reply) new
+    pub next : (line : List ℕ) (count : ℕ) (reply : Reply) (told : List Reply) (new : Scene)
+        → heard line ≡ Some (CursorNext name count) → Step rows last line (Some reply) told new
         → IsNext was.whole last.whole view count reply
-    next line count reply new e step =
-        let answer = given_by last.world (entry_in line) in
-        let o = heard_obeys rows last.whole (heard line) (CursorNext name count) answer reply new.whole e (hears rows last.whole line answer (Some reply) new.whole step.does) in
-        (goes_own name view wanted was.whole found.shown found.all found.began last.whole count reply new.whole.cursors (pieces_in name exchanges)
+    next line count reply told new e step =
+        let served = served_in last (use_of (heard line)) in
+        let o = heard_obeys rows last.whole (heard line) (CursorNext name count) served reply step.mid e (hears rows last.whole line served (Some reply) step.mid step.does) in
+        (goes_own name view wanted was.whole found.shown found.all found.began last.whole count reply step.mid.cursors (pieces_in name exchanges)
         found.stands.later found.stands.cursor o.paces).1

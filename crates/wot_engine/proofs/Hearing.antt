@@ -6,21 +6,22 @@ use Rattle.wot_script.specs.declared.command.Command.{Command}
 use Rattle.wot_script.specs.declared.reply.Reply.{Reply}
 use Rattle.wot_script.specs.declared.reply.Reply.TheVariants as replies
 use Rattle.wot_script.specs.Grammar.{command_of}
-use Rattle.wot_certd.specs.World.{Answer}
-use Rattle.wot_engine.specs.Entry.{entry_in, given_by}
-use Rattle.wot_engine.specs.Lines.{is_silent, longest}
+use Rattle.wot_watch.specs.Watches.{Watches}
+use Rattle.wot_engine.specs.Entry.{use_of}
+use Rattle.wot_engine.specs.Lines.{heard, is_silent, longest}
 use Rattle.wot_engine.specs.LineStep.{Answers, HasReply, LineStep, Obeys, Stays}
-use Rattle.wot_engine.specs.Made.{heard}
-use Rattle.wot_engine.specs.Scene.{Scene}
+use Rattle.wot_engine.specs.Scene.{Scene, served_in}
+use Rattle.wot_engine.specs.Served.{Served}
 use Rattle.wot_engine.specs.Transcript.{Run}
-use Rattle.wot_engine.specs.Whole.{Whole}
+use Rattle.wot_engine.specs.Watching.{told_all}
+use Rattle.wot_engine.specs.Whole.{Whole, watched}
 
 -- A line that is heard as no command leaves all; another has a reply, and does what its command does.
-abbrev pub Hears : PolicyRows → Whole → Option Command → Answer → Option Reply → Whole → Type 0
+abbrev pub Hears : PolicyRows → Whole → Option Command → Served → Option Reply → Whole → Type 0
 Hears rows old None given reply new = new ≡ old
 Hears rows old (Some command) given reply new = HasReply (Obeys rows old command given) reply new
 
-pub hears : (rows : PolicyRows) (old : Whole) (line : List ℕ) (given : Answer) (reply : Option Reply) (new : Whole)
+pub hears : (rows : PolicyRows) (old : Whole) (line : List ℕ) (given : Served) (reply : Option Reply) (new : Whole)
     → LineStep rows old line given reply new
     → Hears rows old (heard line) given reply new
 hears rows old line given reply new = long (nat_lt longest (length line))
@@ -62,9 +63,9 @@ heard_reads line command = long (nat_lt longest (length line))
 -- What every command that is answered keeps, each line keeps, and so each run.
 module _
     (rows : PolicyRows) (P : Whole → Type 0)
-    (kept : (old : Whole) (command : Command) (given : Answer) (reply : Reply) (new : Whole) → Obeys rows old command given reply new → P old → P new)
+    (kept : (old : Whole) (command : Command) (given : Served) (reply : Reply) (new : Whole) → Obeys rows old command given reply new → P old → P new)
   where
-    pub step_keeps : (old : Whole) (line : List ℕ) (given : Answer) (reply : Option Reply) (new : Whole)
+    pub step_keeps : (old : Whole) (line : List ℕ) (given : Served) (reply : Option Reply) (new : Whole)
         → LineStep rows old line given reply new → P old → P new
     step_keeps old line given reply new step p = by (heard line) reply (hears rows old line given reply new step)
       where
@@ -73,15 +74,17 @@ module _
         by (Some command) None g = absurd g
         by (Some command) (Some r) g = kept old command given r new g p
 
-    pub run_keeps : (lines : List (List ℕ)) (old : Scene) (told : List Reply) (new : Scene)
-        → Run rows old lines told new → P old.whole → P new.whole
-    run_keeps [] old told new r p = subst (λ (s : Scene). P s.whole) (sym r.1) p
-    run_keeps (line ∷ lines) old told new r p =
-        run_keeps lines r.1 r.2 new r.4 (step_keeps old.whole line (given_by old.world (entry_in line)) r.0 r.1.whole r.3.does p)
+    -- the watch lines behind a reply tell watches alone
+    pub run_keeps : ((s : Whole) (watches : Watches) → P s → P (watched s watches)) → (lines : List (List ℕ)) (old : Scene)
+        (told : List Reply) (new : Scene) → Run rows old lines told new → P old.whole → P new.whole
+    run_keeps still [] old told new r p = subst (λ (s : Scene). P s.whole) (sym r.1) p
+    run_keeps still (line ∷ lines) old told new r p =
+        let mid : P r.4.mid = step_keeps old.whole line (served_in old (use_of (heard line))) r.0 r.4.mid r.4.does p in
+        run_keeps still lines r.2 r.3 new r.5 (subst P (sym r.4.tells.left) (still r.4.mid (told_all r.4.mid.watches r.1) mid))
 
 -- What holds of the replies to lines that are too long or aren't read, and of each reply to a command, holds of each reply.
 pub told_by : (rows : PolicyRows) (D : Reply → Type 0) → D replies.Long → D replies.Line
-    → (old : Whole) (line : List ℕ) (given : Answer) (reply : Reply) (new : Whole)
+    → (old : Whole) (line : List ℕ) (given : Served) (reply : Reply) (new : Whole)
     → ((command : Command) → Obeys rows old command given reply new → D reply)
     → LineStep rows old line given (Some reply) new → D reply
 told_by rows D too_long unread old line given reply new obeys = long (nat_lt longest (length line))

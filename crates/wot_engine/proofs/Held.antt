@@ -63,7 +63,7 @@ module _ (rows : PolicyRows) where
   pub Held-moves : (left0 written0 : Option (List ℕ)) (origin : Option World) (held : List ℕ) (taken : ℕ) (left written : Option (List ℕ)) (out : List ℕ) (shelf : Option World) (state : Whole) (after : Option (List ℕ)) (rest : List ℕ)
       → Held left0 written0 origin held taken left written out shelf state → Moves written out after rest → Held left0 written0 origin held taken left after rest shelf state
   Held-moves left0 written0 origin held taken left written out shelf state after rest h m =
-      all_weaker left0 written0 origin _ _ (λ input before world unread h.
+      all_weaker left0 written0 origin _ _ (λ input before world uncalled h.
       let m' : MovesOf (before ++ h.done) out after rest = subst (λ (w : Option (List ℕ)). Moves w out after rest) h.written_is m in
       let same : (before ++ h.done) ++ out ≡ (before ++ (h.done ++ m'.more)) ++ rest = ap (λ (x : List ℕ). (before ++ h.done) ++ x) m'.parts ∙ simp append_assoc in
       record {
@@ -76,7 +76,7 @@ module _ (rows : PolicyRows) where
   pub Held-none : (left0 written0 : Option (List ℕ)) (origin : Option World) (held : List ℕ) (taken : ℕ) (left written : Option (List ℕ)) (out : List ℕ) (shelf : Option World) (state : Whole)
       → Held left0 written0 origin held taken left written out shelf state → out ≡ [] → Stood rows left0 written0 origin held taken left written shelf state
   Held-none left0 written0 origin held taken left written out shelf state h none =
-      all_weaker left0 written0 origin _ _ (λ input before world unread h.
+      all_weaker left0 written0 origin _ _ (λ input before world uncalled h.
       let same : Some ((before ++ h.done) ++ out) ≡ written =
       ap (λ (x : List ℕ). Some ((before ++ h.done) ++ x)) none ∙ ap (λ (x : List ℕ). Some x) (append-nil (before ++ h.done)) ∙ sym h.written_is in
       subst (λ (w : Option (List ℕ)). Stands rows origin world input before held taken left w shelf state) same h.stands) h
@@ -86,9 +86,9 @@ module _ (rows : PolicyRows) where
       → Held left0 written0 origin old.held old.taken left written out shelf state → given.Answers line old left new left' → Replies rows line new.text state shelf octets state' shelf' → more ≡ out ++ octets
       → Held left0 written0 origin new.held new.taken left' written more shelf' state'
   Held-reply left0 written0 origin old left written out shelf state new left' shelf' state' line octets more h a r behind =
-      all_weaker left0 written0 origin _ _ (λ input before world unread h.
+      all_weaker left0 written0 origin _ _ (λ input before world uncalled h.
       let t : Turned rows origin world input before new.held new.taken left' (Some ((before ++ h.done) ++ out)) octets shelf' state' =
-      turned rows origin world input before old left (Some ((before ++ h.done) ++ out)) shelf state new left' shelf' state' line octets unread h.stands a r in
+      turned rows origin world input before old left (Some ((before ++ h.done) ++ out)) shelf state new left' shelf' state' line octets uncalled h.stands a r in
       let now : (before ++ h.done) ++ out ≡ before ++ octets_of t.stands.replies = some_is ((before ++ h.done) ++ out) (before ++ octets_of t.stands.replies) t.stands.written_is in
       let same : (before ++ h.done) ++ more ≡ (before ++ octets_of t.stands.replies) ++ octets =
       ap (λ (x : List ℕ). (before ++ h.done) ++ x) behind ∙ sym (append_assoc (before ++ h.done) out octets) ∙ ap (λ (x : List ℕ). x ++ octets) now in
@@ -109,7 +109,7 @@ module _ (rows : PolicyRows) where
   pub Held-begun : OneOutcome rows → (left0 written0 : Option (List ℕ)) (origin : Option World) (held : List ℕ) (taken : ℕ) (left written : Option (List ℕ)) (out : List ℕ) (shelf : Option World) (state : Whole)
       → Held left0 written0 origin held taken left written out shelf state → AllTold left0 written0 origin (λ input before world. Begun rows world (lines_of input) before written)
   Held-begun law left0 written0 origin held taken left written out shelf state h =
-      all_weaker left0 written0 origin _ _ (λ input before world unread h.
+      all_weaker left0 written0 origin _ _ (λ input before world uncalled h.
       takes_more rows origin world law input before held taken left shelf state h.done out 0 written h.stands (omega arith)
       (h.written_is ∙ ap (λ (x : List ℕ). Some x) (sym (append-nil (before ++ h.done))))) h
 
@@ -118,7 +118,7 @@ module _ (rows : PolicyRows) where
       → Held left0 written0 origin held taken left written out shelf state → IfSome written (λ old. GainsPrefix old after out)
       → AllTold left0 written0 origin (λ input before world. Begun rows world (lines_of input) before after)
   Held-cut law left0 written0 origin held taken left written out shelf state after h g =
-      all_weaker left0 written0 origin _ _ (λ input before world unread h.
+      all_weaker left0 written0 origin _ _ (λ input before world uncalled h.
       let g' : GainsPrefix (before ++ h.done) after out = subst (λ (w : Option (List ℕ)). IfSome w (λ old. GainsPrefix old after out)) h.written_is g in
       takes_more rows origin world law input before held taken left shelf state h.done out g'.0 after h.stands (omega (arith, g'.1)) g'.2) h
 
@@ -127,7 +127,7 @@ module _ (rows : PolicyRows) where
       → Held left0 written0 origin held taken left written out shelf state → IfSome written (λ old. GainsPrefix old after out) → Took left taken left' taken'
       → AllTold left0 written0 origin (λ input before world. AnsweredMost rows world input before left' after → ⊥)
   Held-most law left0 written0 origin held taken left written out shelf state after left' taken' h g t =
-      all_weaker left0 written0 origin _ _ (λ input before world unread h.
+      all_weaker left0 written0 origin _ _ (λ input before world uncalled h.
       let g' : GainsPrefix (before ++ h.done) after out = subst (λ (w : Option (List ℕ)). IfSome w (λ old. GainsPrefix old after out)) h.written_is g in
       let s = took_on rows origin world input before held taken left (Some ((before ++ h.done) ++ out)) shelf state left' taken' h.stands t in
       cut_most rows law origin world input before (held ++ t.gone) taken' left' shelf state h.done out g'.0 after s g'.1 g'.2) h

@@ -17,12 +17,12 @@ use Rattle.wot_types.specs.declared.place.Place.{Place}
 use Rattle.wot_policy.specs.declared.rows.PolicyRows.{PolicyRows}
 use Rattle.wot_cert.specs.Ranked.{IsRising}
 use Rattle.wot_script.specs.declared.command.Command.{Command}
-use Rattle.wot_script.specs.declared.command.Command.TheVariants.{Import, Load, Remove, Good, Bad, Unjudge, Time, Root}
+use Rattle.wot_script.specs.declared.command.Command.TheVariants.{Import, Load, Store, Remove, Good, Bad, Unjudge}
+use Rattle.wot_script.specs.declared.command.Command.TheVariants.{Time, Root, WatchOn, WatchOff}
 use Rattle.wot_script.specs.declared.command.Command.TheVariants.{Close, Ask, Explain, Pending, Keys, Export, Dump}
 use Rattle.wot_script.specs.declared.command.Command.TheVariants.{Absence, Check, CursorOver, CursorNext, CursorClose}
 use Rattle.wot_script.specs.declared.reply.Reply.{Reply}
 use Rattle.wot_script.specs.declared.reply.Reply.TheVariants as replies
-use Rattle.wot_certd.specs.World.{Answer}
 use Rattle.wot_cache.specs.declared.view.View.{View}
 use Rattle.wot_cache.specs.Turns.{turn_at}
 use Rattle.wot_cache.specs.Views.{view_at}
@@ -36,17 +36,20 @@ use Rattle.wot_explain.specs.declared.bind.Bind.{Bind}
 use Rattle.wot_explain.specs.Piece.{binds_after, piece_of}
 use Rattle.wot_keyring.specs.Held.{Held}
 use Rattle.wot_network.specs.Told.{record_of}
+use Rattle.wot_watch.specs.Watches.{Watches}
 use Rattle.wot_explain.specs.Listing.{IsListed, pairs_in}
 use Rattle.wot_engine.specs.Joined.{Exchange, Given, IsNext, Passes, given_by, given_in, has_restart, is_done}
 use Rattle.wot_engine.specs.Joined.{is_restart, pieces_in}
-use Rattle.wot_engine.specs.Entry.{entry_in, given_by as world_gives}
+use Rattle.wot_engine.specs.Entry.{use_of}
+use Rattle.wot_engine.specs.Lines.{heard}
 use Rattle.wot_engine.specs.LineStep.{LineStep, Obeys}
 use Rattle.wot_engine.specs.Listing.{AreBindings, bind_line}
-use Rattle.wot_engine.specs.Made.{heard}
 use Rattle.wot_engine.specs.Pacing.{Begins, Ends, GivesPiece, Goes, GoesBy, GoesFrom, Leaves, Paces, behind, is_pacing}
 use Rattle.wot_engine.specs.Pacing.{last_place, piece, stamps_in}
-use Rattle.wot_engine.specs.Scene.{Scene}
-use Rattle.wot_engine.specs.Whole.{IsCounted, Whole, turning_of}
+use Rattle.wot_engine.specs.Scene.{Scene, served_in}
+use Rattle.wot_engine.specs.Served.{Served}
+use Rattle.wot_engine.specs.Watching.{Tells, told_all}
+use Rattle.wot_engine.specs.Whole.{IsCounted, Whole, turning_of, watched}
 use Rattle.wot_engine.proofs.Entries.{apart, found_set, other_put, other_set, other_without}
 use Rattle.wot_engine.proofs.Hearing.{Hears, hears, step_keeps}
 use Rattle.wot_engine.proofs.Paced.{paced_cases, plain_paces}
@@ -75,7 +78,12 @@ pub record IsLater (view : List ℕ) (was now : Whole) : Type 0 where
 pub later_itself : (view : List ℕ) (was : Whole) → AreViewsInOrder was.state.views → IsLater view was was
 later_itself view was order = record { order = order; turns = omega arith; held = inl (refl, refl); shown = inl (refl, refl) }
 
-pub later_obeys : (rows : PolicyRows) (view : List ℕ) (was old : Whole) (command : Command) (answer : Answer) (reply : Reply) (new : Whole)
+-- Watches are nothing to it.
+later_watched : (view : List ℕ) (was now : Whole) (watches : Watches) → IsLater view was now
+    → IsLater view was (watched now watches)
+later_watched view was now watches l = record { order = l.order; turns = l.turns; held = l.held; shown = l.shown }
+
+pub later_obeys : (rows : PolicyRows) (view : List ℕ) (was old : Whole) (command : Command) (answer : Served) (reply : Reply) (new : Whole)
     → Obeys rows old command answer reply new → IsLater view was old → IsLater view was new
 later_obeys rows view was old command answer reply new o l =
     let views = does_views rows old.state command answer reply new.state o.does in
@@ -188,6 +196,7 @@ plain_given : (name : List ℕ) (command : Command) (reply : Option Reply) → i
     → given_in name (Some command) reply ≡ []
 plain_given name (Import octets) reply e = refl
 plain_given name (Load entry) reply e = refl
+plain_given name (Store fpr) reply e = refl
 plain_given name (Remove fpr) reply e = refl
 plain_given name (Good number fpr) reply e = refl
 plain_given name (Bad number) reply e = refl
@@ -207,6 +216,8 @@ plain_given name Dump reply e = refl
 plain_given name (CursorOver cursor view wanted) reply e = absurd (cc e)
 plain_given name (CursorNext cursor count) reply e = absurd (cc e)
 plain_given name (CursorClose cursor) reply e = absurd (cc e)
+plain_given name (WatchOn watch view target wanted uid) reply e = refl
+plain_given name (WatchOff watch) reply e = refl
 
 -- ---- the cursor
 
@@ -387,12 +398,12 @@ module _ (name view : List ℕ) (wanted : ℕ) (was : Whole) (shown : View) (all
   -- ---- lines
 
   module _ (rows : PolicyRows) where
-    step_later : (old : Whole) (line : List ℕ) (answer : Answer) (reply : Option Reply) (new : Whole)
+    step_later : (old : Whole) (line : List ℕ) (answer : Served) (reply : Option Reply) (new : Whole)
         → LineStep rows old line answer reply new
         → IsLater view was old → IsLater view was new
     step_later = step_keeps rows (IsLater view was) (λ old command answer reply new. later_obeys rows view was old command answer reply new)
 
-    step_comes : (old : Whole) (line : List ℕ) (answer : Answer) (reply : Option Reply) (new : Whole) (given : List Given) → LineStep rows old line answer reply new
+    step_comes : (old : Whole) (line : List ℕ) (answer : Served) (reply : Option Reply) (new : Whole) (given : List Given) → LineStep rows old line answer reply new
         → is_restart name (heard line) reply ≡ false → IsLater view was old → HasCursor old.cursors given
         → HasCursor new.cursors (given ++ given_in name (heard line) reply)
     step_comes old line answer reply new given step fresh later h = by (heard line) reply fresh (hears rows old line answer reply new step)
@@ -407,6 +418,13 @@ module _ (name view : List ℕ) (wanted : ℕ) (was : Whole) (shown : View) (all
       pub later : IsLater view was now
       pub cursor : HasCursor now.cursors given
 
+    -- nor are the watch lines behind a reply
+    pub stands_told : (now : Whole) (told : List Reply) (new : Whole) (given : List Given) → Tells now told new
+        → Stands now given → Stands new given
+    stands_told now told new given t s =
+        subst (λ (w : Whole). Stands w given) (sym t.left)
+        (record { later = later_watched view was now (told_all now.watches told) s.later; cursor = s.cursor })
+
     pub passes_on : (exchanges : List Exchange) (old new : Scene) (given : List Given) → Passes rows old exchanges new
         → has_restart name exchanges ≡ false → Stands old.whole given
         → Stands new.whole (given ++ pieces_in name exchanges)
@@ -414,11 +432,12 @@ module _ (name view : List ℕ) (wanted : ℕ) (was : Whole) (shown : View) (all
         subst (λ (scene : Scene). Stands scene.whole (given ++ [])) (sym e) (subst (Stands old.whole) (sym (append-nil given)) s)
     passes_on (x ∷ exchanges) old new given p fresh s =
         let parts = or_parts (is_restart name (heard x.line) x.reply) (has_restart name exchanges) fresh in
-        let answer = world_gives old.world (entry_in x.line) in
+        let answer = served_in old (use_of (heard x.line)) in
         let more = given_in name (heard x.line) x.reply in
-        let after : Stands p.0.whole (given ++ more) = record {
-          later = step_later old.whole x.line answer x.reply p.0.whole p.1.does s.later;
-          cursor = step_comes old.whole x.line answer x.reply p.0.whole given p.1.does parts.0 s.later s.cursor;
+        let mid : Stands p.1.mid (given ++ more) = record {
+          later = step_later old.whole x.line answer x.reply p.1.mid p.1.does s.later;
+          cursor = step_comes old.whole x.line answer x.reply p.1.mid given p.1.does parts.0 s.later s.cursor;
         } in
+        let after : Stands p.0.whole (given ++ more) = stands_told p.1.mid x.told p.0.whole (given ++ more) p.1.tells mid in
         subst (Stands new.whole) (append_assoc given more (pieces_in name exchanges))
         (passes_on exchanges p.0 new (given ++ more) p.2 parts.1 after)

@@ -3,6 +3,7 @@ mod Known
 mod Wholes
 mod Paced
 pub mod Pieces
+mod Watched
 mod Stays
 mod Named
 mod Marked
@@ -11,7 +12,9 @@ mod Claiming
 mod Outcomes
 mod Runs
 mod Stepping
+mod Storing
 mod Giving
+pub mod Putting
 mod Refusing
 pub mod Running
 mod Keeping
@@ -42,3 +45,5 @@ mod Joining
 mod Exchanges
 mod Begun
 mod StaleTold
+mod Telling
+mod Worth

@@ -1,20 +1,20 @@
 -- What a line makes, whatever comes of it: the bounds stand as soon as the view was refreshed.
 use Rattle.std.proofs.Common.{◌≡◌, inl, inr, ℕ, ◌<◌, ◌≤◌, Bool, List, length, true, false, Option, Some, None, Result, Ok, Err, OnOk, refl, sym, ap, subst, ◌∙◌, arith}
-use Rattle.std.specs.Prelude.{IfSome, if◌then◌else◌, is_ok, nat_lt}
-use Rattle.std.proofs.lemmas.Bool.{lt-ltb, le-ltb}
+use Rattle.std.specs.Prelude.{IfSome, is_ok}
 use Rattle.wot_keyring.specs.Held.{held_of}
 use Rattle.wot_keyring.specs.Keyring.{Keyring}
 use Rattle.wot_network.specs.Net.{Marks}
 use Rattle.wot_script.specs.declared.command.Command.{Command}
-use Rattle.wot_script.specs.declared.command.Command.TheVariants.{Import, Load, Remove, Good, Bad, Unjudge, Time, Root, Close, Ask, Explain, Pending, Keys, Export, Dump, Absence, Check, CursorOver, CursorNext, CursorClose}
+use Rattle.wot_script.specs.declared.command.Command.TheVariants.{Import, Load, Store, Remove, Good, Bad, Unjudge, Time, Root, Close, Ask, Explain, Pending, Keys, Export, Dump, Absence, Check, CursorOver, CursorNext, CursorClose, WatchOn, WatchOff}
 use Rattle.wot_cache.specs.declared.view.View.{View}
 use Rattle.wot_cache.specs.Marks.{IsMadeFor, IsRefreshed}
 use Rattle.wot_cache.specs.State.{Engine, StaysButMarks, marks_at, state_of}
 use Rattle.wot_cache.specs.Views.{view_at}
 use Rattle.wot_script.specs.Grammar.{command_of}
-use Rattle.wot_engine.specs.Lines.{is_silent, longest}
+use Rattle.wot_engine.specs.Lines.{heard, is_silent, longest}
 use Rattle.wot_cursor.specs.Cursors.{Cursor, Cursors, cursor_at}
-use Rattle.wot_engine.specs.Made.{LineMakes, Makes, PieceMakes, heard}
+use Rattle.wot_engine.specs.Made.{LineMakes, Makes, PieceMakes}
+use Rattle.wot_engine.proofs.Stepping.{heard_read}
 use Rattle.wot_engine.specs.Pacing.{is_pacing}
 
 pub same_state : (old new : Engine) → StaysButMarks old new → state_of new ≡ state_of old
@@ -59,8 +59,10 @@ module _ {A B T E : Type 0} (r : Result A B) (s : Result T E) (less : is_ok s �
   makes_as (Explain view fpr uid) old new before after m = refreshed_as view old new before after m
   makes_as (Absence view target wanted uid) old new before after m = refreshed_as view old new before after m
   makes_as (Check view target claims labels uid) old new before after m = refreshed_as view old new before after m
+  makes_as (WatchOn watch view target wanted uid) old new before after m = refreshed_as view old new before after m
   makes_as (Import octets) old new before after m = m
   makes_as (Load name) old new before after m = m
+  makes_as (Store fpr) old new before after m = m
   makes_as (Remove fpr) old new before after m = m
   makes_as (Good number fpr) old new before after m = m
   makes_as (Bad number) old new before after m = m
@@ -75,6 +77,7 @@ module _ {A B T E : Type 0} (r : Result A B) (s : Result T E) (less : is_ok s �
   makes_as (CursorOver cursor view wanted) old new before after m = m
   makes_as (CursorNext cursor count) old new before after m = m
   makes_as (CursorClose cursor) old new before after m = m
+  makes_as (WatchOff watch) old new before after m = m
 
   piece_makes_as : (o : Option Cursor) (old new : Engine) (before after : ℕ) → PieceMakes r o old new before after → PieceMakes s o old new before after
   piece_makes_as None old new before after m = m
@@ -86,6 +89,7 @@ module _ {A B T E : Type 0} (r : Result A B) (s : Result T E) (less : is_ok s �
   line_makes_as None cursors old new before after m = m
   line_makes_as (Some (Import octets)) cursors old new before after m = makes_as (Import octets) old new before after m
   line_makes_as (Some (Load name)) cursors old new before after m = makes_as (Load name) old new before after m
+  line_makes_as (Some (Store fpr)) cursors old new before after m = makes_as (Store fpr) old new before after m
   line_makes_as (Some (Remove fpr)) cursors old new before after m = makes_as (Remove fpr) old new before after m
   line_makes_as (Some (Good number fpr)) cursors old new before after m = makes_as (Good number fpr) old new before after m
   line_makes_as (Some (Bad number)) cursors old new before after m = makes_as (Bad number) old new before after m
@@ -104,6 +108,8 @@ module _ {A B T E : Type 0} (r : Result A B) (s : Result T E) (less : is_ok s �
   line_makes_as (Some Dump) cursors old new before after m = makes_as Dump old new before after m
   line_makes_as (Some (CursorOver cursor view wanted)) cursors old new before after m = makes_as (CursorOver cursor view wanted) old new before after m
   line_makes_as (Some (CursorClose cursor)) cursors old new before after m = makes_as (CursorClose cursor) old new before after m
+  line_makes_as (Some (WatchOn watch view target wanted uid)) cursors old new before after m = makes_as (WatchOn watch view target wanted uid) old new before after m
+  line_makes_as (Some (WatchOff watch)) cursors old new before after m = makes_as (WatchOff watch) old new before after m
   line_makes_as (Some (CursorNext cursor count)) cursors old new before after m = piece_makes_as (cursor_at cursors cursor) old new before after m
 
 -- ---- a command that isn't of a cursor
@@ -112,6 +118,7 @@ plain_makes : {T E : Type 0} (r : Result T E) (command : Command) (cursors : Cur
     → Makes r command old new before after → LineMakes r (Some command) cursors old new before after
 plain_makes r (Import octets) cursors old new before after plain m = m
 plain_makes r (Load name) cursors old new before after plain m = m
+plain_makes r (Store fpr) cursors old new before after plain m = m
 plain_makes r (Remove fpr) cursors old new before after plain m = m
 plain_makes r (Good number fpr) cursors old new before after plain m = m
 plain_makes r (Bad number) cursors old new before after plain m = m
@@ -131,6 +138,8 @@ plain_makes r Dump cursors old new before after plain m = m
 plain_makes r (CursorOver cursor view wanted) cursors old new before after plain m = absurd (cc plain)
 plain_makes r (CursorNext cursor count) cursors old new before after plain m = absurd (cc plain)
 plain_makes r (CursorClose cursor) cursors old new before after plain m = absurd (cc plain)
+plain_makes r (WatchOn watch view target wanted uid) cursors old new before after plain m = m
+plain_makes r (WatchOff watch) cursors old new before after plain m = m
 
 pub line_makes_plain : {A B T E : Type 0} (r : Result A B) (s : Result T E) (command : Command) (cursors : Cursors) (old new : Engine) (before after : ℕ) → is_ok s ≡ is_ok r
     → is_pacing command ≡ false → Makes r command old new before after → LineMakes s (Some command) cursors old new before after
@@ -185,8 +194,10 @@ module _ {T E : Type 0} (s : Result T E) (failed : is_ok s ≡ false) (engine : 
   makes_not (Explain view fpr uid) = refreshed_not view
   makes_not (Absence view target wanted uid) = refreshed_not view
   makes_not (Check view target claims labels uid) = refreshed_not view
+  makes_not (WatchOn watch view target wanted uid) = refreshed_not view
   makes_not (Import octets) = (refl, refl)
   makes_not (Load name) = (refl, refl)
+  makes_not (Store fpr) = (refl, refl)
   makes_not (Remove fpr) = (refl, refl)
   makes_not (Good number fpr) = (refl, refl)
   makes_not (Bad number) = (refl, refl)
@@ -201,6 +212,7 @@ module _ {T E : Type 0} (s : Result T E) (failed : is_ok s ≡ false) (engine : 
   makes_not (CursorOver cursor view wanted) = (refl, refl)
   makes_not (CursorNext cursor count) = (refl, refl)
   makes_not (CursorClose cursor) = (refl, refl)
+  makes_not (WatchOff watch) = (refl, refl)
 
   piece_makes_not : (o : Option Cursor) → PieceMakes s o engine engine made made
   piece_makes_not None = (refl, refl)
@@ -210,6 +222,7 @@ module _ {T E : Type 0} (s : Result T E) (failed : is_ok s ≡ false) (engine : 
   line_makes_not None cursors = (refl, refl)
   line_makes_not (Some (Import octets)) cursors = makes_not (Import octets)
   line_makes_not (Some (Load name)) cursors = makes_not (Load name)
+  line_makes_not (Some (Store fpr)) cursors = makes_not (Store fpr)
   line_makes_not (Some (Remove fpr)) cursors = makes_not (Remove fpr)
   line_makes_not (Some (Good number fpr)) cursors = makes_not (Good number fpr)
   line_makes_not (Some (Bad number)) cursors = makes_not (Bad number)
@@ -228,24 +241,11 @@ module _ {T E : Type 0} (s : Result T E) (failed : is_ok s ≡ false) (engine : 
   line_makes_not (Some Dump) cursors = makes_not Dump
   line_makes_not (Some (CursorOver cursor view wanted)) cursors = makes_not (CursorOver cursor view wanted)
   line_makes_not (Some (CursorClose cursor)) cursors = makes_not (CursorClose cursor)
+  line_makes_not (Some (WatchOn watch view target wanted uid)) cursors = makes_not (WatchOn watch view target wanted uid)
+  line_makes_not (Some (WatchOff watch)) cursors = makes_not (WatchOff watch)
   line_makes_not (Some (CursorNext cursor count)) cursors = piece_makes_not (cursor_at cursors cursor)
 
--- ---- which lines are heard
-
-pub heard_long : (line : List ℕ) → longest < length line → heard line ≡ None
-heard_long line long = ap (λ (b : Bool). if b then None else if is_silent line then None else command_of line) (lt-ltb longest (length line) long)
-
-pub heard_silent : (line : List ℕ) → is_silent line ≡ true → heard line ≡ None
-heard_silent line silent = by (nat_lt longest (length line))
-  where
-    by : (b : Bool) → (if b then None else if is_silent line then None else command_of line) ≡ None
-    by true = refl
-    by false = ap (λ (b : Bool). if b then None else command_of line) silent
-
-heard_read : (line : List ℕ) → length line ≤ longest → is_silent line ≡ false → heard line ≡ command_of line
-heard_read line short loud =
-    ap (λ (b : Bool). if b then None else if is_silent line then None else command_of line) (le-ltb longest (length line) short)
-    ∙ ap (λ (b : Bool). if b then None else command_of line) loud
+-- ---- lines
 
 module _ {T E : Type 0} (s : Result T E) (line : List ℕ) where
   pub makes_unheard : (cursors : Cursors) (engine : Engine) (made : ℕ) → heard line ≡ None → LineMakes s (heard line) cursors engine engine made made

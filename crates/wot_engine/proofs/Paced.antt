@@ -8,7 +8,7 @@ use Rattle.std.proofs.lemmas.Bool.{eqb-false}
 use Rattle.wot_types.specs.declared.fpr.Fpr.{Fpr}
 use Rattle.wot_types.specs.declared.place.Place.{Place}
 use Rattle.wot_script.specs.declared.command.Command.{Command}
-use Rattle.wot_script.specs.declared.command.Command.TheVariants.{Import, Load, Remove, Good, Bad, Unjudge, Time, Root, Close, Ask, Explain, Absence, Check, Pending, Keys, Export, Dump, CursorOver, CursorNext, CursorClose}
+use Rattle.wot_script.specs.declared.command.Command.TheVariants.{Import, Load, Store, Remove, Good, Bad, Unjudge, Time, Root, Close, Ask, Explain, Absence, Check, Pending, Keys, Export, Dump, CursorOver, CursorNext, CursorClose, WatchOn, WatchOff}
 use Rattle.wot_script.specs.declared.reply.Reply.{Reply}
 use Rattle.wot_script.specs.declared.reply.Reply.TheVariants as replies
 use Rattle.wot_script.specs.Replies.{HasWords}
@@ -21,17 +21,18 @@ use Rattle.wot_cache.specs.Views.{Views, view_at}
 use Rattle.wot_cursor.specs.Age.{age_of}
 use Rattle.wot_cursor.specs.Cursors.{Cursor, Cursors, begun, cursor_at, is_full, with_cursor, with_place, without_cursor}
 use Rattle.wot_cursor.specs.declared.stamps.Age.{Age}
+use Rattle.wot_watch.specs.Watches.{Watches}
 use Rattle.wot_cursor.specs.declared.stamps.Age.TheVariants as ages
 use Rattle.wot_explain.specs.declared.bind.Bind.{Bind}
 use Rattle.wot_explain.specs.Listing.{IsListed, Pair, pairs_in}
 use Rattle.wot_explain.specs.Piece.{piece_of}
 use Rattle.wot_policy.specs.declared.rows.PolicyRows.{PolicyRows}
-use Rattle.wot_certd.specs.World.{Answer}
 use Rattle.wot_engine.specs.LineStep.{Does}
 use Rattle.wot_engine.specs.Listing.{AreBindings}
 use Rattle.wot_engine.specs.Pacing.{Begins, Ends, GivesPiece, Goes, GoesBy, GoesFrom, Leaves, Paces, behind, is_pacing, last_place, piece, place_of, stamps_in}
-use Rattle.wot_engine.specs.Entry.{entry_for}
-use Rattle.wot_engine.specs.Whole.{IsTurnedBy, Whole}
+use Rattle.wot_engine.specs.Entry.{unused, use_of}
+use Rattle.wot_engine.specs.Served.{Served}
+use Rattle.wot_engine.specs.Whole.{IsTurnedBy, Whole, watched}
 
 -- ---- commands that aren't of cursors
 
@@ -44,6 +45,7 @@ paced_cases P over next close (CursorNext name count) e = next name count
 paced_cases P over next close (CursorClose name) e = close name
 paced_cases P over next close (Import octets) e = absurd (cc e)
 paced_cases P over next close (Load name) e = absurd (cc e)
+paced_cases P over next close (Store fpr) e = absurd (cc e)
 paced_cases P over next close (Remove fpr) e = absurd (cc e)
 paced_cases P over next close (Good number fpr) e = absurd (cc e)
 paced_cases P over next close (Bad number) e = absurd (cc e)
@@ -60,11 +62,14 @@ paced_cases P over next close Pending e = absurd (cc e)
 paced_cases P over next close Keys e = absurd (cc e)
 paced_cases P over next close (Export fpr) e = absurd (cc e)
 paced_cases P over next close Dump e = absurd (cc e)
+paced_cases P over next close (WatchOn watch view target wanted uid) e = absurd (cc e)
+paced_cases P over next close (WatchOff watch) e = absurd (cc e)
 
 -- the other commands leave the cursors
 plain_is : (s : Whole) (command : Command) (reply : Reply) (cursors : Cursors) → is_pacing command ≡ false → Paces s command reply cursors ≡ (cursors ≡ s.cursors)
 plain_is s (Import octets) reply cursors e = refl
 plain_is s (Load name) reply cursors e = refl
+plain_is s (Store fpr) reply cursors e = refl
 plain_is s (Remove fpr) reply cursors e = refl
 plain_is s (Good number fpr) reply cursors e = refl
 plain_is s (Bad number) reply cursors e = refl
@@ -81,6 +86,8 @@ plain_is s Pending reply cursors e = refl
 plain_is s Keys reply cursors e = refl
 plain_is s (Export fpr) reply cursors e = refl
 plain_is s Dump reply cursors e = refl
+plain_is s (WatchOn watch view target wanted uid) reply cursors e = refl
+plain_is s (WatchOff watch) reply cursors e = refl
 plain_is s (CursorOver name view wanted) reply cursors e = absurd (cc e)
 plain_is s (CursorNext name count) reply cursors e = absurd (cc e)
 plain_is s (CursorClose name) reply cursors e = absurd (cc e)
@@ -91,13 +98,44 @@ paces_plain s command reply e = subst (λ (P : Type 0). P) (sym (plain_is s comm
 pub plain_paces : (s : Whole) (command : Command) (reply : Reply) (cursors : Cursors) → is_pacing command ≡ false → Paces s command reply cursors → cursors ≡ s.cursors
 plain_paces s command reply cursors e p = subst (λ (P : Type 0). P) (plain_is s command reply cursors e) p
 
--- ---- they leave the state, and the turns, and read no entry
+-- ---- watches don't matter to them
 
-pub state_paced : (rows : PolicyRows) (old : State) (command : Command) (given : Answer) (reply : Reply) → is_pacing command ≡ true → Does rows old command given reply old
+begins_watched : (s : Whole) (watches : Watches) (name view : List ℕ) (wanted : ℕ) (o : Option View) (reply : Reply) (cursors : Cursors) → Begins s name view wanted o reply cursors
+    → Begins (watched s watches) name view wanted o reply cursors
+begins_watched s watches name view wanted None reply cursors p = p
+begins_watched s watches name view wanted (Some there) reply cursors p = p
+
+by_watched : (s : Whole) (watches : Watches) (age : Age) (name : List ℕ) (count : ℕ) (cursor : Cursor) (view : View) (reply : Reply) (cursors : Cursors)
+    → GoesBy age s name count cursor view reply cursors → GoesBy age (watched s watches) name count cursor view reply cursors
+by_watched s watches ages.Same name count cursor view reply cursors p = p
+by_watched s watches (ages.Keyring was now) name count cursor view reply cursors p = p
+by_watched s watches (ages.View was now) name count cursor view reply cursors p = p
+
+from_watched : (s : Whole) (watches : Watches) (o : Option View) (name : List ℕ) (count : ℕ) (cursor : Cursor) (reply : Reply) (cursors : Cursors)
+    → GoesFrom o s name count cursor reply cursors → GoesFrom o (watched s watches) name count cursor reply cursors
+from_watched s watches None name count cursor reply cursors p = p
+from_watched s watches (Some view) name count cursor reply cursors p =
+    by_watched s watches (age_of cursor.stamps (stamps_in s cursor.view)) name count cursor view reply cursors p
+
+goes_watched : (s : Whole) (watches : Watches) (o : Option Cursor) (name : List ℕ) (count : ℕ) (reply : Reply) (cursors : Cursors) → Goes o s name count reply cursors
+    → Goes o (watched s watches) name count reply cursors
+goes_watched s watches None name count reply cursors p = p
+goes_watched s watches (Some cursor) name count reply cursors p = from_watched s watches (view_at s.state.views cursor.view) name count cursor reply cursors p
+
+pub paces_watched : (s : Whole) (watches : Watches) (command : Command) (reply : Reply) (cursors : Cursors) → is_pacing command ≡ true → Paces s command reply cursors
+    → Paces (watched s watches) command reply cursors
+paces_watched s watches command reply cursors e =
+    paced_cases (λ (c : Command). Paces s c reply cursors → Paces (watched s watches) c reply cursors)
+    (λ name view wanted. begins_watched s watches name view wanted (view_at s.state.views view) reply cursors)
+    (λ name count. goes_watched s watches (cursor_at s.cursors name) name count reply cursors) (λ name p. p) command e
+
+-- ---- they leave the state, the turns and the shelf
+
+pub state_paced : (rows : PolicyRows) (old : State) (command : Command) (given : Served) (reply : Reply) → is_pacing command ≡ true → Does rows old command given reply old
 state_paced rows old command given reply e =
     paced_cases (λ (c : Command). Does rows old c given reply old) (λ name view wanted. refl) (λ name count. refl) (λ name. refl) command e
 
-pub paced_state : (rows : PolicyRows) (old : State) (command : Command) (given : Answer) (reply : Reply) (new : State) → is_pacing command ≡ true → Does rows old command given reply new → new ≡ old
+pub paced_state : (rows : PolicyRows) (old : State) (command : Command) (given : Served) (reply : Reply) (new : State) → is_pacing command ≡ true → Does rows old command given reply new → new ≡ old
 paced_state rows old command given reply new e d =
     paced_cases (λ (c : Command). Does rows old c given reply new → new ≡ old) (λ name view wanted p. p) (λ name count p. p) (λ name p. p) command e d
 
@@ -105,9 +143,9 @@ pub turns_paced : (command : Command) (old new : Views) (before after : Turns) �
 turns_paced command old new before after e same =
     paced_cases (λ (c : Command). IsTurnedBy c old before new after) (λ name view wanted. same) (λ name count. same) (λ name. same) command e
 
-pub unread_paced : (command : Command) → is_pacing command ≡ true → entry_for (Some command) ≡ None
-unread_paced command e =
-    paced_cases (λ (c : Command). entry_for (Some c) ≡ None) (λ name view wanted. refl) (λ name count. refl) (λ name. refl) command e
+pub uncalled_paced : (command : Command) → is_pacing command ≡ true → use_of (Some command) ≡ unused
+uncalled_paced command e =
+    paced_cases (λ (c : Command). use_of (Some c) ≡ unused) (λ name view wanted. refl) (λ name count. refl) (λ name. refl) command e
 
 -- ---- words
 

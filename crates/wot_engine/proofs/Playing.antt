@@ -1,48 +1,96 @@
 -- The lines of a script, answered one after another.
-use Rattle.std.proofs.Common.{◌≡◌, ℕ, List, [], ◌∷◌, ◌++◌, length, Option, Some, None, Result, Ok, Err, OnOk, refl, sym, ap, subst, ◌∙◌, append_assoc, arith}
-use Rattle.std.proofs.lemmas.List.{append-nil}
+use Rattle.std.proofs.Common.{◌≡◌, ℕ, List, [], ◌∷◌, ◌++◌, length, Option, Some, None, Result, Ok, Err, OnOk, refl, sym, ap, subst, ◌∙◌, append_assoc, arith, inl, inr}
+use Rattle.std.specs.List.{AllByRecursion}
+use Rattle.std.proofs.lemmas.List.{append-nil, nil_from_length}
 use Rattle.wot_io.specs.Input.{lines_of}
 use Rattle.wot_policy.specs.declared.rows.PolicyRows.{PolicyRows}
 use Rattle.wot_script.specs.declared.reply.Reply.{Reply}
 use Rattle.wot_certd.specs.World.{World}
 use Rattle.wot_gen.specs.declared.tally.Tally.{Tally}
-use Rattle.wot_gen.specs.Summary.{Tells}
+use Rattle.wot_gen.specs.Summary.{Tells, amount_in}
 use Rattle.wot_engine.specs.Whole.{Whole}
-use Rattle.wot_engine.specs.Entry.{entry_in}
+use Rattle.wot_engine.specs.Entry.{use_of}
 use Rattle.wot_engine.specs.Generated.{no_entries}
-use Rattle.wot_engine.specs.Played.{Adds, IsPlayed}
+use Rattle.wot_engine.specs.Lines.{heard}
+use Rattle.wot_engine.specs.Played.{Adds, AddsReply, AddsTold, IsPlayed}
+use Rattle.wot_engine.specs.Ran.{Seen}
 use Rattle.wot_engine.specs.Scene.{Scene, Step, opening}
 use Rattle.wot_engine.specs.Stepped.{Replied}
 use Rattle.wot_engine.specs.Transcript.{Run, listed}
+use Rattle.wot_engine.specs.Watching as watching
 use Rattle.wot_engine.proofs.Giving.{Goes, goes, over}
 use Rattle.wot_engine.proofs.Runs.{Run-append}
+
+-- ---- watch lines
+
+-- Of all these the rest is still to be added.
+pub record AddsUpTo (first now : Tally) (all rest : List Reply) : Type 0 where
+  pub done : List Reply
+  pub parts : done ++ rest ≡ all
+  pub tells : (told : List Reply) → Tells first told → Tells now (told ++ done)
+
+pub adds_first : (tally : Tally) (all : List Reply) → AddsUpTo tally tally all all
+adds_first tally all = record { done = []; parts = refl; tells = λ told t. subst (Tells tally) (sym (append-nil told)) t }
+
+pub adds_next : (first old now : Tally) (all rest others : List Reply) (line : Reply) → AddsUpTo first old all rest → rest ≡ line ∷ others
+    → ((told : List Reply) → Tells old told → Tells now (told ++ line ∷ [])) → AddsUpTo first now all others
+adds_next first old now all rest others line s e add = record {
+  done = s.done ++ line ∷ [];
+  parts = append_assoc s.done (line ∷ []) others ∙ ap (λ (ls : List Reply). s.done ++ ls) (sym e) ∙ s.parts;
+  tells = λ told t. subst (Tells now) (append_assoc told s.done (line ∷ [])) (add (told ++ s.done) (s.tells told t));
+}
+
+pub adds_last : (first now : Tally) (all rest : List Reply) → AddsUpTo first now all rest → length rest ≡ 0 → (told : List Reply) → Tells first told
+    → Tells now (told ++ all)
+adds_last first now all rest s none told t =
+    let whole : s.done ≡ all = sym (append-nil s.done) ∙ ap (λ (ls : List Reply). s.done ++ ls) (sym (nil_from_length rest none)) ∙ s.parts in
+    subst (λ (ls : List Reply). Tells now (told ++ ls)) whole (s.tells told t)
+
+-- A watch line tells no answer's amount.
+pub nothing_told : (line : Reply) → watching.IsWatchLine line → amount_in line ≡ 0
+nothing_told line (inl is) = ap amount_in is.2
+nothing_told line (inr is) = ap amount_in is.1
 
 module _ (rows : PolicyRows) where
   -- ---- one line
 
-  -- what was replied over a shelf that tells its world is the line's step
-  pub step_over : (line : List ℕ) (old new : Whole) (before after : World) (faults later : ℕ) (reply : Option Reply)
-      → Replied rows line old (record { world = Some before; faults = faults }) reply new (record { world = Some after; faults = later })
-      → Step rows (over old before) line reply (over new after)
-  step_over line old new before after faults later reply r =
-      let g : Goes rows (Some before) (Some after) before old new line reply =
-      goes rows (Some before) (Some before) (Some after) before old new line (entry_in line) r.given reply refl tt refl r.asked r.world r.step in
+  -- what was replied over a shelf that tells its world, and the watch lines behind it, are the line's step
+  pub step_over : (line : List ℕ) (old mid new : Whole) (before after : World) (faults later : ℕ) (reply : Option Reply) (told : List Reply)
+      → Replied rows line old (record { world = Some before; faults = faults }) reply mid (record { world = Some after; faults = later }) → watching.Tells mid told new
+      → Step rows (over old before) line reply told (over new after)
+  step_over line old mid new before after faults later reply told r t =
+      let g : Goes rows (Some before) (Some after) before old new line reply told =
+      goes rows (Some before) (Some before) (Some after) before old mid new line (use_of (heard line)) r.given reply told refl tt refl r.served r.step t in
       let same : g.next ≡ after = some_is g.next after (sym g.is_next) in
-      subst (λ (w : World). Step rows (over old before) line reply (over new w)) same g.step
+      subst (λ (w : World). Step rows (over old before) line reply told (over new w)) same g.step
     where
       some_is : (x y : World) → Some x ≡ Some y → x ≡ y
       some_is x y e = cc
 
-  pub adds_some : {T E : Type 0} (r : Result T E) (line : List ℕ) (old new : Scene) (before after : Tally) (reply : Reply) → Step rows old line (Some reply) new
-      → ((replies : List Reply) → Tells before replies → OnOk r (Tells after (replies ++ reply ∷ []))) → OnOk r (Adds rows line old before new after)
-  adds_some (Ok value) line old new before after reply step tells = record { reply = Some reply; step = step; tells = tells }
-  adds_some (Err fault) line old new before after reply step tells = tt
+  -- the reply to a line was added
+  pub adds_some : {T E : Type 0} (r : Result T E) (line : List ℕ) (old new : Whole) (before after : Seen) (had has : Tally) (reply : Reply)
+      → Replied rows line old before (Some reply) new after → ((replies : List Reply) → Tells had replies → OnOk r (Tells has (replies ++ reply ∷ [])))
+      → OnOk r (AddsReply rows line old before had new after has)
+  adds_some (Ok value) line old new before after had has reply replied tells = record { reply = Some reply; replied = replied; tells = tells }
+  adds_some (Err fault) line old new before after had has reply replied tells = tt
 
-  pub adds_none : (line : List ℕ) (old new : Scene) (tally : Tally) → Step rows old line None new → Adds rows line old tally new tally
-  adds_none line old new tally step = record {
+  pub adds_none : (line : List ℕ) (old new : Whole) (before after : Seen) (tally : Tally) → Replied rows line old before None new after
+      → AddsReply rows line old before tally new after tally
+  adds_none line old new before after tally replied = record {
     reply = None;
-    step = step;
+    replied = replied;
     tells = λ replies t. subst (Tells tally) (sym (append-nil replies)) t;
+  }
+
+  -- the reply and the watch lines behind it were added
+  pub adds_both : (line : List ℕ) (old mid new : Whole) (before after : World) (faults later : ℕ) (had has total : Tally)
+      → AddsReply rows line old (record { world = Some before; faults = faults }) had mid (record { world = Some after; faults = later }) has → AddsTold mid has new total
+      → Adds rows line (over old before) had (over new after) total
+  adds_both line old mid new before after faults later had has total a t = record {
+    reply = a.reply;
+    told = t.told;
+    step = step_over line old mid new before after faults later a.reply t.told a.replied t.told_are;
+    tells = λ replies s. subst (Tells total) (append_assoc replies (listed a.reply) t.told) (t.tells (replies ++ listed a.reply) (a.tells replies s));
   }
 
   -- ---- so far
@@ -61,13 +109,14 @@ module _ (rows : PolicyRows) where
   pub goes_on : (text rest others line : List ℕ) (old new : Scene) (before after : Tally) → Plays text rest old before
       → lines_of rest ≡ line ∷ lines_of others → Adds rows line old before new after → Plays text others new after
   goes_on text rest others line old new before after p first a =
-      let one : Run rows old (line ∷ []) (listed a.reply ++ []) new = (a.reply, new, [], a.step, (refl, refl), refl) in
-      let both = Run-append rows p.done (line ∷ []) (opening no_entries) old new p.replies (listed a.reply ++ []) p.run one in
+      let here : List Reply = listed a.reply ++ a.told in
+      let one : Run rows old (line ∷ []) (here ++ []) new = (a.reply, a.told, new, [], a.step, (refl, refl), refl) in
+      let both = Run-append rows p.done (line ∷ []) (opening no_entries) old new p.replies (here ++ []) p.run one in
       record {
         done = p.done ++ line ∷ [];
-        replies = p.replies ++ listed a.reply;
+        replies = p.replies ++ here;
         lines = p.lines ∙ ap (λ (x : List (List ℕ)). p.done ++ x) first ∙ sym (append_assoc p.done (line ∷ []) (lines_of others));
-        run = subst (λ (x : List Reply). Run rows (opening no_entries) (p.done ++ line ∷ []) (p.replies ++ x) new) (append-nil (listed a.reply)) both;
+        run = subst (λ (x : List Reply). Run rows (opening no_entries) (p.done ++ line ∷ []) (p.replies ++ x) new) (append-nil here) both;
         tells = a.tells p.replies p.tells;
       }
 

@@ -12,13 +12,13 @@ use Rattle.wot_certd.specs.World.{World}
 use Rattle.wot_engine.specs.Whole.{Whole, beginning}
 use Rattle.wot_engine.specs.Law.{OneOutcome}
 use Rattle.wot_engine.specs.Scene.{Scene, Step, opening}
-use Rattle.wot_engine.specs.Transcript.{Run, RepliesTo, Answered, AnsweredFirst, Begun, AnsweredWhole, AnsweredMost, listed, octets_of}
-use Rattle.wot_engine.proofs.Giving.{IsNow, over}
+use Rattle.wot_engine.specs.Transcript.{Run, RepliesTo, Answered, AnsweredFirst, Begun, AnsweredWhole, AnsweredMost, IsNow, Leaves, listed, octets_of}
+use Rattle.wot_engine.proofs.Giving.{over}
 use Rattle.wot_engine.proofs.Runs.{Run-some, Run-append}
 use Rattle.wot_engine.proofs.CutLines.{lines_of-feed, whole_lines_of-feed, whole_lines_of-none, lines_of-last}
 use Rattle.wot_policy.specs.declared.rows.PolicyRows.{PolicyRows}
 
-joined : (before : List ℕ) (some others : List Reply) → (before ++ octets_of some) ++ octets_of others ≡ before ++ octets_of (some ++ others)
+pub joined : (before : List ℕ) (some others : List Reply) → (before ++ octets_of some) ++ octets_of others ≡ before ++ octets_of (some ++ others)
 joined before some others =
     append_assoc before (octets_of some) (octets_of others) ∙ ap (λ (x : List ℕ). before ++ x) (sym (flat_map-append reply_text some others))
 
@@ -60,13 +60,20 @@ module _ (rows : PolicyRows) (origin : Option World) (world : World) where
     lines = inl (record { lines = λ x. refl; whole = λ x. refl });
   }
 
-  Run-push : (lines : List (List ℕ)) (line : List ℕ) (replies : List Reply) (reply : Option Reply) (old mid new : Scene)
-      → Run rows old lines replies mid → Step rows mid line reply new → Run rows old (lines ++ line ∷ []) (replies ++ listed reply) new
-  Run-push [] line replies reply old mid new r s =
-      let s' : Step rows old line reply new = subst (λ (x : Scene). Step rows x line reply new) r.1 s in
-      (reply, new, [], s', (refl, refl), rw r.0 (sym (append-nil (listed reply))))
-  Run-push (first ∷ lines) line replies reply old mid new r s =
-      (r.0, r.1, r.2 ++ listed reply, r.3, Run-push lines line r.2 reply r.1 mid new r.4 s, rw r.5 (append_assoc (listed r.0) r.2 (listed reply)))
+  Run-push : (lines : List (List ℕ)) (line : List ℕ) (replies : List Reply) (reply : Option Reply) (told : List Reply) (old mid new : Scene)
+      → Run rows old lines replies mid → Step rows mid line reply told new → Run rows old (lines ++ line ∷ []) (replies ++ (listed reply ++ told)) new
+  Run-push [] line replies reply told old mid new r s =
+      let s' : Step rows old line reply told new = subst (λ (x : Scene). Step rows x line reply told new) r.1 s in
+      (reply, told, new, [], s', (refl, refl), rw r.0 (sym (append-nil (listed reply ++ told))))
+  Run-push (first ∷ lines) line replies reply told old mid new r s = (
+    r.0,
+    r.1,
+    r.2,
+    r.3 ++ (listed reply ++ told),
+    r.4,
+    Run-push lines line r.3 reply told r.2 mid new r.5 s,
+    rw r.6 (append_assoc (listed r.0 ++ r.1) r.3 (listed reply ++ told)),
+  )
 
   IsPrefix-push : (gone : List ℕ) (done : List (List ℕ)) (line : List ℕ) → HasNoFeed line → IsPrefix gone done → IsPrefix (gone ++ (line ++ 10 ∷ [])) (done ++ line ∷ [])
   IsPrefix-push gone done line h f = record {
@@ -131,39 +138,39 @@ module _ (rows : PolicyRows) (origin : Option World) (world : World) where
       ]
 
   -- one line on
-  pub goes_on : (input before held : List ℕ) (taken : ℕ) (left written : Option (List ℕ)) (shelf : Option World) (state : Whole) (held' : List ℕ) (taken' : ℕ) (left' written' : Option (List ℕ)) (shelf' : Option World) (state' : Whole) (line : List ℕ) (reply : Option Reply)
+  pub goes_on : (input before held : List ℕ) (taken : ℕ) (left written : Option (List ℕ)) (shelf : Option World) (state : Whole) (held' : List ℕ) (taken' : ℕ) (left' written' : Option (List ℕ)) (shelf' : Option World) (state' : Whole) (line : List ℕ) (reply : Option Reply) (told : List Reply)
       → (s : Stands input before held taken left written shelf state) → GivesOf held s.rest taken held' left' taken' line → (next : World) → IsNow origin shelf' next
-      → Step rows (over state s.now) line reply (over state' next) → written' ≡ Some ((before ++ octets_of s.replies) ++ octets_of (listed reply))
+      → Step rows (over state s.now) line reply told (over state' next) → written' ≡ Some ((before ++ octets_of s.replies) ++ octets_of (listed reply ++ told))
       → Stands input before held' taken' left' written' shelf' state'
-  goes_on input before held taken left written shelf state held' taken' left' written' shelf' state' line reply s g next is step w =
+  goes_on input before held taken left written shelf state held' taken' left' written' shelf' state' line reply told s g next is step w =
       elim s.lines [
         | inl prefix ↦ elim g.cuts.parts [
           | inl feed ↦ record {
             gone = s.gone ++ (line ++ 10 ∷ []);
             rest = g.rest;
             done = s.done ++ line ∷ [];
-            replies = s.replies ++ listed reply;
+            replies = s.replies ++ (listed reply ++ told);
             now = next;
             is_now = is;
             left_is = g.left_is;
             count = omega (arith, g.count, s.count);
             parts = s.parts ∙ ap (λ (x : List ℕ). s.gone ++ x) feed ∙ regroup s.gone line (held' ++ g.rest);
-            run = Run-push s.done line s.replies reply (opening world) (over state s.now) (over state' next) s.run step;
-            written_is = w ∙ ap (λ (x : List ℕ). Some x) (joined before s.replies (listed reply));
+            run = Run-push s.done line s.replies reply told (opening world) (over state s.now) (over state' next) s.run step;
+            written_is = w ∙ ap (λ (x : List ℕ). Some x) (joined before s.replies (listed reply ++ told));
             lines = inl (IsPrefix-push s.gone s.done line g.cuts.no_feed prefix);
           }
           | inr last ↦ record {
             gone = s.gone ++ line;
             rest = g.rest;
             done = s.done ++ line ∷ [];
-            replies = s.replies ++ listed reply;
+            replies = s.replies ++ (listed reply ++ told);
             now = next;
             is_now = is;
             left_is = g.left_is;
             count = omega (arith, g.count, s.count);
             parts = s.parts ∙ ap (λ (x : List ℕ). s.gone ++ x) last.1 ∙ sym (ap (λ (x : List ℕ). (s.gone ++ line) ++ x) last.2 ∙ append-nil (s.gone ++ line));
-            run = Run-push s.done line s.replies reply (opening world) (over state s.now) (over state' next) s.run step;
-            written_is = w ∙ ap (λ (x : List ℕ). Some x) (joined before s.replies (listed reply));
+            run = Run-push s.done line s.replies reply told (opening world) (over state s.now) (over state' next) s.run step;
+            written_is = w ∙ ap (λ (x : List ℕ). Some x) (joined before s.replies (listed reply ++ told));
             lines = inr (last.0, last.2, ap lines_of (s.parts ∙ ap (λ (x : List ℕ). s.gone ++ x) last.1) ∙ prefix.lines line ∙ ap (λ (ls : List (List ℕ)). s.done ++ ls) (lines_of-last line last.3 g.cuts.no_feed));
           }
         ]
@@ -224,13 +231,22 @@ module _ (rows : PolicyRows) (origin : Option World) (world : World) where
           ∙ take_at (octets_of some) (octets_of others) (length (octets_of some)) refl
 
   -- the end
-  pub at_end : (input before held : List ℕ) (taken : ℕ) (left written : Option (List ℕ)) (shelf : Option World) (state : Whole) → (s : Stands input before held taken left written shelf state) → held ≡ [] → s.rest ≡ [] → Answered rows world (lines_of input) before written
-  at_end input before held taken left written shelf state s e f =
-      let whole : lines_of input ≡ s.done = elim s.lines [
+  done_all : (input before held : List ℕ) (taken : ℕ) (left written : Option (List ℕ)) (shelf : Option World) (state : Whole) → (s : Stands input before held taken left written shelf state) → held ≡ [] → s.rest ≡ [] → lines_of input ≡ s.done
+  done_all input before held taken left written shelf state s e f =
+      elim s.lines [
         | inl prefix ↦ ap lines_of s.parts ∙ prefix.lines (held ++ s.rest) ∙ rw (e, f) (append-nil s.done)
         | inr ended ↦ ended.2
-      ] in
+      ]
+
+  pub at_end : (input before held : List ℕ) (taken : ℕ) (left written : Option (List ℕ)) (shelf : Option World) (state : Whole) → (s : Stands input before held taken left written shelf state) → held ≡ [] → s.rest ≡ [] → Answered rows world (lines_of input) before written
+  at_end input before held taken left written shelf state s e f =
+      let whole : lines_of input ≡ s.done = done_all input before held taken left written shelf state s e f in
       record { replies = s.replies; told = record { last = over state s.now; run = rw whole s.run }; written = s.written_is }
+
+  pub leaves : (input before held : List ℕ) (taken : ℕ) (left written : Option (List ℕ)) (shelf : Option World) (state : Whole) → (s : Stands input before held taken left written shelf state) → held ≡ [] → s.rest ≡ [] → Leaves rows world (lines_of input) origin shelf
+  leaves input before held taken left written shelf state s e f =
+      let whole : lines_of input ≡ s.done = done_all input before held taken left written shelf state s e f in
+      record { replies = s.replies; told = record { last = over state s.now; run = rw whole s.run }; left = s.is_now }
 
   -- the octets taken that are in no line given have no line feed
   pub at_stop : (input before held : List ℕ) (taken : ℕ) (left written : Option (List ℕ)) (shelf : Option World) (state : Whole) (left' : Option (List ℕ)) (taken' : ℕ) → (s : Stands input before held taken left written shelf state) → StopsOf held s.rest taken left' taken'

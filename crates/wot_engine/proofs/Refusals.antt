@@ -15,7 +15,7 @@ use Rattle.wot_keyring.specs.Held.{cert_in, verdict_set, removing, verdict_clear
 use Rattle.wot_keyring.specs.Import.{answer_to, answer_under, is_entry}
 use Rattle.wot_keyring.specs.Verdict.{is_over}
 use Rattle.wot_script.specs.declared.command.Command.{Command}
-use Rattle.wot_script.specs.declared.command.Command.TheVariants.{Import, Load, Remove, Good, Bad, Unjudge, Time, Root, Close, Ask, Explain, Absence, Check, Pending, Keys, Export, Dump, CursorOver, CursorNext, CursorClose}
+use Rattle.wot_script.specs.declared.command.Command.TheVariants.{Import, Load, Store, Remove, Good, Bad, Unjudge, Time, Root, Close, Ask, Explain, Absence, Check, Pending, Keys, Export, Dump, CursorOver, CursorNext, CursorClose, WatchOn, WatchOff}
 use Rattle.wot_script.specs.declared.reply.Reply.{Reply}
 use Rattle.wot_script.specs.declared.reply.Reply.TheVariants as replies
 use Rattle.wot_script.specs.Grammar.{command_of}
@@ -38,7 +38,11 @@ use Rattle.wot_engine.specs.Pacing as pacing
 use Rattle.wot_engine.specs.Pacing.{Begins, Ends, GivesPiece, Goes, GoesBy, GoesFrom, Paces, behind, is_pacing, piece, stamps_in}
 use Rattle.wot_engine.specs.Whole.{IsCounted, Whole}
 use Rattle.wot_engine.proofs.Paced.{paced_cases, plain_paces}
+use Rattle.wot_engine.specs.Watching.{is_watching}
+use Rattle.wot_engine.proofs.Watched.{plain_watching, watching_left}
 use Rattle.wot_engine.proofs.Wholes.{turned_still, whole_same}
+use Rattle.wot_engine.specs.Served.{Served}
+use Rattle.wot_engine.specs.Storing.{store}
 
 -- an outcome that leaves this state where it is refused
 abbrev Leaves : State → Outcome → Type 0
@@ -74,9 +78,10 @@ set_verdict_leaves s number v =
 given : (s : State) (outcome : Outcome) (r : Reply) (m : State) → Leaves s outcome → Gives outcome r m → is_refused r ≡ true → m ≡ s
 given s outcome r m leaves g e = g.1 ∙ leaves (ap is_refused (sym g.0) ∙ e)
 
-does : (rows : PolicyRows) (s : State) (command : Command) (answer : Answer) (r : Reply) (m : State) → Does rows s command answer r m → is_refused r ≡ true → m ≡ s
+does : (rows : PolicyRows) (s : State) (command : Command) (answer : Served) (r : Reply) (m : State) → Does rows s command answer r m → is_refused r ≡ true → m ≡ s
 does rows s (Import octets) answer r m = given s (import rows s octets) r m (imports_leaves rows s octets (answer_to rows standard_limits s.held.certs octets))
-does rows s (Load name) answer r m = given s (load rows s name answer) r m (load_leaves rows s name answer)
+does rows s (Load name) answer r m = given s (load rows s name answer.read) r m (load_leaves rows s name answer.read)
+does rows s (Store fpr) answer r m = given s (store s fpr answer) r m (λ _. refl)
 does rows s (Remove fpr) answer r m =
     given s (remove s fpr) r m
     (either (is_some (cert_in s.held fpr)) s (done (with_held s (removing fpr s.held))) (only s replies.Absent) (done_leaves s (with_held s (removing fpr s.held))) (λ _. refl))
@@ -102,6 +107,8 @@ does rows s Dump answer r m = given s (dump s) r m (λ _. refl)
 does rows s (CursorOver name view wanted) answer r m = λ g _. g
 does rows s (CursorNext name count) answer r m = λ g _. g
 does rows s (CursorClose name) answer r m = λ g _. g
+does rows s (WatchOn name view target wanted uid) answer r m = λ g _. g
+does rows s (WatchOff name) answer r m = λ g _. g
 
 -- ---- cursors
 
@@ -158,21 +165,26 @@ uncounted : (s m : Whole) → m.state ≡ s.state → IsCounted s m → m.change
 uncounted s m same (inl p) = p.1
 uncounted s m same (inr p) = absurd (p.0 (ap (λ (x : State). x.held) same))
 
-obeys : (rows : PolicyRows) (s : Whole) (command : Command) (answer : Answer) (r : Reply) (m : Whole) → Obeys rows s command answer r m → is_refused r ≡ true → m ≡ s
+obeys : (rows : PolicyRows) (s : Whole) (command : Command) (answer : Served) (r : Reply) (m : Whole) → Obeys rows s command answer r m → is_refused r ≡ true → m ≡ s
 obeys rows s command answer r m o e =
     let same = does rows s.state command answer r m.state o.does e in
     whole_same m s same (uncounted s m same o.counted)
     (turned_still command s.state.views m.state.views s.turns m.turns (ap (λ (x : State). x.views) same) o.turned) (by (is_pacing command) refl)
+    (watched (is_watching command) refl)
   where
+    watched : (b : Bool) → is_watching command ≡ b → m.watches ≡ s.watches
+    watched true k = watching_left s command r m.watches k o.watching e
+    watched false k = plain_watching s command r m.watches k o.watching
+
     by : (b : Bool) → is_pacing command ≡ b → m.cursors ≡ s.cursors
     by true k = paces_left s command r m.cursors k o.paces e
     by false k = plain_paces s command r m.cursors k o.paces
 
-answers : (rows : PolicyRows) (s : Whole) (command : Option Command) (answer : Answer) (r : Reply) (m : Whole) → Answers rows s command answer r m → is_refused r ≡ true → m ≡ s
+answers : (rows : PolicyRows) (s : Whole) (command : Option Command) (answer : Served) (r : Reply) (m : Whole) → Answers rows s command answer r m → is_refused r ≡ true → m ≡ s
 answers rows s None answer r m g e = g.1
 answers rows s (Some command) answer r m o e = obeys rows s command answer r m o e
 
-pub step_leaves : (rows : PolicyRows) (s : Whole) (line : List ℕ) (answer : Answer) (r : Reply) (m : Whole) → LineStep rows s line answer (Some r) m → is_refused r ≡ true → m ≡ s
+pub step_leaves : (rows : PolicyRows) (s : Whole) (line : List ℕ) (answer : Served) (r : Reply) (m : Whole) → LineStep rows s line answer (Some r) m → is_refused r ≡ true → m ≡ s
 step_leaves rows s line answer r m = long (nat_lt longest (length line))
   where
     silent : (b : Bool) → MatchBool b ((Some r ≡ None) × (m ≡ s)) (Answers rows s (command_of line) answer r m) → is_refused r ≡ true → m ≡ s

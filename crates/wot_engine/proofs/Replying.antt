@@ -9,8 +9,9 @@ use Rattle.wot_keyring.specs.Kept.{IsJudgedBy}
 use Rattle.wot_certd.specs.World.{World}
 use Rattle.wot_cache.specs.State.{Engine, empty}
 use Rattle.wot_cursor.specs.Cursors.{Cursors}
+use Rattle.wot_watch.specs.Watches.{Watches}
 use Rattle.wot_engine.specs.Machine.{Machine, kept}
-use Rattle.wot_engine.specs.Whole.{Whole, beginning, whole_of}
+use Rattle.wot_engine.specs.Whole.{Whole, beginning, watched, whole_of}
 use Rattle.wot_engine.specs.Turn.{Replies, RepliesBehind}
 use Rattle.wot_engine.proofs.Held.{Held, Held-init}
 
@@ -30,13 +31,14 @@ not_end rows line text old before reply new after r =
 abbrev pub fresh : ReaderState
 fresh = record { held = []; text = []; taken = 0; fault = None }
 
-pub holds : (rows : PolicyRows) (left written : Option (List ℕ)) (origin : Option World) (lines : ReaderState) (machine : Machine) (out : List ℕ) → lines ≡ fresh → machine.engine ≡ empty standard_limits → machine.cursors ≡ [] → out ≡ []
+pub holds : (rows : PolicyRows) (left written : Option (List ℕ)) (origin : Option World) (lines : ReaderState) (machine : Machine) (out : List ℕ) → lines ≡ fresh → machine.engine ≡ empty standard_limits → machine.cursors ≡ [] → machine.watches ≡ [] → out ≡ []
     → Held rows left written origin lines.held lines.taken left written out origin (kept machine)
-holds rows left written origin lines machine out e m k none =
+holds rows left written origin lines machine out e m k w none =
     subst (λ (r : ReaderState). Held rows left written origin r.held r.taken left written out origin (kept machine)) (sym e)
-    (subst (λ (x : Engine). Held rows left written origin [] 0 left written out origin (whole_of x machine.cursors)) (sym m)
-    (subst (λ (cs : Cursors). Held rows left written origin [] 0 left written out origin (whole_of (empty standard_limits) cs)) (sym k)
-    (subst (λ (x : List ℕ). Held rows left written origin [] 0 left written x origin beginning) (sym none) (Held-init rows left written origin))))
+    (subst (λ (x : Engine). Held rows left written origin [] 0 left written out origin (watched (whole_of x machine.cursors) machine.watches)) (sym m)
+    (subst (λ (cs : Cursors). Held rows left written origin [] 0 left written out origin (watched (whole_of (empty standard_limits) cs) machine.watches)) (sym k)
+    (subst (λ (ws : Watches). Held rows left written origin [] 0 left written out origin (watched (whole_of (empty standard_limits) []) ws)) (sym w)
+    (subst (λ (x : List ℕ). Held rows left written origin [] 0 left written x origin beginning) (sym none) (Held-init rows left written origin)))))
 
 pub no_fault : (lines : ReaderState) → lines ≡ fresh → lines.fault ≡ None
 no_fault lines e = ap (λ (r : ReaderState). r.fault) e

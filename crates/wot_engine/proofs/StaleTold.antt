@@ -1,10 +1,12 @@
--- Where a reply says that something is stale, its two numbers differ.
+-- Where a reply says that something is stale, its two numbers differ; and only commands of watches are replied the amount
+-- of a watch.
 use Rattle.std.proofs.Common.{◌≡◌, ℕ, Bool, true, false, cond, List, [], Option, Some, None, Result, Ok, Err, refl, sym}
 use Rattle.std.proofs.Common.{subst}
-use Rattle.std.specs.Prelude.{MatchBool, ◌==◌, is_some, nat_le}
+use Rattle.std.specs.Prelude.{IfErr, MatchBool, ◌==◌, is_some, nat_le}
 use Rattle.wot_types.specs.declared.fpr.Fpr.{Fpr}
 use Rattle.wot_types.specs.declared.limits.Limit.TheVariants as words
 use Rattle.wot_types.specs.declared.name.Name.{Name}
+use Rattle.wot_types.specs.declared.name.Name.TheVariants as names
 use Rattle.wot_types.specs.declared.number.SigNumber.{SigNumber}
 use Rattle.wot_types.specs.Limits.{standard_limits}
 use Rattle.wot_policy.specs.declared.rows.PolicyRows.{PolicyRows}
@@ -25,8 +27,12 @@ use Rattle.wot_keyring.specs.declared.refusal.Refusal.TheVariants as refusals
 use Rattle.wot_keyring.specs.Held.{cert_in, removing, verdict_cleared, verdict_set}
 use Rattle.wot_keyring.specs.Import.{answer_to, answer_under, is_entry}
 use Rattle.wot_keyring.specs.Verdict.{is_over}
+use Rattle.wot_keyring.specs.Entry.{entry_in}
+use Rattle.wot_watch.specs.Watches as watching
+use Rattle.wot_watch.specs.Watches.{Watches, watch_at, with_watch, without_watch}
 use Rattle.wot_script.specs.declared.command.Command.{Command}
-use Rattle.wot_script.specs.declared.command.Command.TheVariants.{Import, Load, Remove, Good, Bad, Unjudge, Time, Root}
+use Rattle.wot_script.specs.declared.command.Command.TheVariants.{Import, Load, Store, Remove, Good, Bad, Unjudge}
+use Rattle.wot_script.specs.declared.command.Command.TheVariants.{Time, Root, WatchOn, WatchOff}
 use Rattle.wot_script.specs.declared.command.Command.TheVariants.{Close, Ask, Explain, Pending, Keys, Export, Dump}
 use Rattle.wot_script.specs.declared.command.Command.TheVariants.{Absence, Check, CursorOver, CursorNext, CursorClose}
 use Rattle.wot_script.specs.declared.reply.ClaimLine.{ClaimLine}
@@ -57,15 +63,29 @@ use Rattle.wot_engine.specs.Outcome.{imports, keys, load, only, refusal, remove,
 use Rattle.wot_engine.specs.Outcome.{view_refusal}
 use Rattle.wot_engine.specs.Pacing.{Begins, Ends, GivesPiece, Goes, GoesBy, GoesFrom, Leaves, Paces, behind, is_pacing}
 use Rattle.wot_engine.specs.Pacing.{piece, stamps_in}
+use Rattle.wot_engine.specs.Served.{Served}
+use Rattle.wot_engine.specs.Storing.{store, stored, stored_from, text_unless, united_with, writing}
+use Rattle.wot_engine.specs.Watching.{LeavesWatches, Opens, TakesOff, Watching, is_watching, opened}
 use Rattle.wot_engine.specs.Whole.{Whole}
+use Rattle.wot_engine.specs.Worth.{amount_in}
 use Rattle.wot_engine.proofs.Hearing.{told_by}
 use Rattle.wot_engine.proofs.Joining.{Aged, aged}
 use Rattle.wot_engine.proofs.Paced.{paced_cases}
+use Rattle.wot_engine.proofs.Watched.{watched_cases}
 
 -- ---- outcomes
 
 abbrev D : Reply → Type 0
+D (replies.WatchAmount name amount) = ⊥
 D reply = DoNumbersDiffer reply
+
+differ : (reply : Reply) → D reply → DoNumbersDiffer reply
+differ (replies.WatchAmount name amount) d = tt
+differ reply d = d
+
+no_amount : (name : List ℕ) (reply : Reply) → D reply → amount_in name reply ≡ []
+no_amount name (replies.WatchAmount other amount) d = absurd d
+no_amount name reply d = refl
 
 cert_fault : (fault : CertFault) → D (cert_refusal fault)
 cert_fault certs.Compressed = tt
@@ -107,6 +127,25 @@ load_told rows s name Answer.fault = tt
 load_told rows s name Answer.absent = tt
 load_told rows s name Answer.long = tt
 load_told rows s name (Answer.entry octets) = imports_told rows s octets (answer_under (is_entry name) rows standard_limits s.held.certs octets)
+
+text_told : (r : Result Certificate Refusal) → IfErr (text_unless r) D
+text_told (Ok c) = tt
+text_told (Err told) = refused told
+
+writing_told : (fpr : Fpr) (kept : Certificate) (answer : Answer) → IfErr (writing fpr kept answer) D
+writing_told fpr kept Answer.fault = tt
+writing_told fpr kept Answer.absent = tt
+writing_told fpr kept Answer.long = tt
+writing_told fpr kept (Answer.entry octets) = text_told (united_with kept (entry_in (names.Cert fpr) octets))
+
+stored_told : (fails : Bool) (r : Result (List ℕ) Reply) → IfErr r D → D (stored fails r)
+stored_told fails (Err reply) d = d
+stored_told true (Ok octets) d = tt
+stored_told false (Ok octets) d = tt
+
+store_told : (kept : Option Certificate) (fpr : Fpr) (given : Served) → D (stored_from kept fpr given)
+store_told None fpr given = tt
+store_told (Some kept) fpr given = stored_told given.fails (writing fpr kept given.read) (writing_told fpr kept given.read)
 
 explained_told : (told : Option Explained) → D (explained told)
 explained_told None = tt
@@ -161,40 +200,43 @@ checks_told s (Some view) target claims labels uid reply c = subst D (sym c.2) (
 
 -- ---- commands that aren't of cursors
 
-does_told : (rows : PolicyRows) (s : State) (command : Command) (answer : Answer) (reply : Reply) (new : State)
-    → is_pacing command ≡ false
+does_told : (rows : PolicyRows) (s : State) (command : Command) (answer : Served) (reply : Reply) (new : State)
+    → is_pacing command ≡ false → is_watching command ≡ false
     → Does rows s command answer reply new → D reply
-does_told rows s (Import octets) answer reply new plain g =
+does_told rows s (Import octets) answer reply new plain still g =
     given (import rows s octets) reply new (imports_told rows s octets (answer_to rows standard_limits s.held.certs octets)) g
-does_told rows s (Load name) answer reply new plain g = given (load rows s name answer) reply new (load_told rows s name answer) g
-does_told rows s (Remove fpr) answer reply new plain g =
+does_told rows s (Load name) answer reply new plain still g = given (load rows s name answer.read) reply new (load_told rows s name answer.read) g
+does_told rows s (Store fpr) answer reply new plain still g = given (store s fpr answer) reply new (store_told (cert_in s.held fpr) fpr answer) g
+does_told rows s (Remove fpr) answer reply new plain still g =
     given (remove s fpr) reply new (either (is_some (cert_in s.held fpr)) (done (with_held s (removing fpr s.held))) (only s replies.Absent) tt tt) g
-does_told rows s (Good number fpr) answer reply new plain g = set_told s number (verdicts.Good fpr) reply new g
-does_told rows s (Bad number) answer reply new plain g = set_told s number verdicts.Bad reply new g
-does_told rows s (Unjudge number) answer reply new plain g =
+does_told rows s (Good number fpr) answer reply new plain still g = set_told s number (verdicts.Good fpr) reply new g
+does_told rows s (Bad number) answer reply new plain still g = set_told s number verdicts.Bad reply new g
+does_told rows s (Unjudge number) answer reply new plain still g =
     given (clear_verdict s number) reply new
     (either (is_some (verdict_at s.held.verdicts number)) (done (with_held s (verdict_cleared number s.held))) (only s replies.Absent) tt tt) g
-does_told rows s (Time view t) answer reply new plain g =
+does_told rows s (Time view t) answer reply new plain still g =
     given (time s view t) reply new (unless_told s (timing view t s) (time_fault standard_limits s.views view)) g
-does_told rows s (Root view fpr amount) answer reply new plain g =
+does_told rows s (Root view fpr amount) answer reply new plain still g =
     given (root s view fpr amount) reply new
     (unless_told s (rooting view fpr amount s) (root_fault standard_limits (view_at s.views view) fpr amount)) g
-does_told rows s (Close view) answer reply new plain g =
+does_told rows s (Close view) answer reply new plain still g =
     given (close s view) reply new (either (is_some (view_at s.views view)) (done (closing view s)) (only s replies.View) tt tt) g
-does_told rows s (Ask view target wanted uid) answer reply new plain g = asks_told s (view_at s.views view) target wanted uid reply g.0
-does_told rows s (Command.List view wanted) answer reply new plain g = lists_told s (view_at s.views view) wanted reply g.0
-does_told rows s (Absence view target wanted uid) answer reply new plain g = misses_told s (view_at s.views view) target wanted uid reply g.0
-does_told rows s (Check view target claims labels uid) answer reply new plain g =
+does_told rows s (Ask view target wanted uid) answer reply new plain still g = asks_told s (view_at s.views view) target wanted uid reply g.0
+does_told rows s (Command.List view wanted) answer reply new plain still g = lists_told s (view_at s.views view) wanted reply g.0
+does_told rows s (Absence view target wanted uid) answer reply new plain still g = misses_told s (view_at s.views view) target wanted uid reply g.0
+does_told rows s (Check view target claims labels uid) answer reply new plain still g =
     checks_told s (view_at s.views view) target claims labels uid reply g.0
-does_told rows s (Explain view fpr uid) answer reply new plain g =
+does_told rows s (Explain view fpr uid) answer reply new plain still g =
     given (explain s view fpr uid) reply new (explain_told s (view_at s.views view) fpr uid) g
-does_told rows s Pending answer reply new plain g = given (pending s) reply new tt g
-does_told rows s Keys answer reply new plain g = given (keys s) reply new tt g
-does_told rows s (Export fpr) answer reply new plain g = given (export s fpr) reply new (export_told (cert_in s.held fpr)) g
-does_told rows s Dump answer reply new plain g = given (dump s) reply new tt g
-does_told rows s (CursorOver cursor view wanted) answer reply new plain g = absurd (cc plain)
-does_told rows s (CursorNext cursor count) answer reply new plain g = absurd (cc plain)
-does_told rows s (CursorClose cursor) answer reply new plain g = absurd (cc plain)
+does_told rows s Pending answer reply new plain still g = given (pending s) reply new tt g
+does_told rows s Keys answer reply new plain still g = given (keys s) reply new tt g
+does_told rows s (Export fpr) answer reply new plain still g = given (export s fpr) reply new (export_told (cert_in s.held fpr)) g
+does_told rows s Dump answer reply new plain still g = given (dump s) reply new tt g
+does_told rows s (CursorOver cursor view wanted) answer reply new plain still g = absurd (cc plain)
+does_told rows s (CursorNext cursor count) answer reply new plain still g = absurd (cc plain)
+does_told rows s (CursorClose cursor) answer reply new plain still g = absurd (cc plain)
+does_told rows s (WatchOn watch view target wanted uid) answer reply new plain still g = absurd (cc still)
+does_told rows s (WatchOff watch) answer reply new plain still g = absurd (cc still)
 
 -- ---- cursors
 
@@ -247,17 +289,60 @@ paces_told s command reply cursors e p =
     (λ name view wanted. begins_told s name view wanted (view_at s.state.views view) reply cursors)
     (λ name count. goes_told s name count (cursor_at s.cursors name) reply cursors) (λ name. ends_told s name reply cursors) command e p
 
+-- ---- watches
+
+abbrev E : Reply → Type 0
+E reply = DoNumbersDiffer reply
+
+if_differ : (b : Bool) (P Q : Type 0) (reply : Reply) → (P → E reply) → (Q → E reply) → MatchBool b P Q → E reply
+if_differ true P Q reply f g p = f p
+if_differ false P Q reply f g q = g q
+
+watched_left : (told reply : Reply) (left watches : Watches) → E told → LeavesWatches told left reply watches → E reply
+watched_left told reply left watches d l = subst E (sym l.0) d
+
+opens_told : (s : Whole) (name view : List ℕ) (target : Fpr) (wanted : ℕ) (uid : List ℕ) (o : Option View) (reply : Reply) (watches : Watches)
+    → Opens s name view target wanted uid o reply watches → E reply
+opens_told s name view target wanted uid None reply watches l = watched_left replies.View reply s.watches watches tt l
+opens_told s name view target wanted uid (Some there) reply watches p =
+    if_differ (watching.is_full s.watches name) _ _ reply (watched_left replies.FullWatches reply s.watches watches tt)
+    (watched_left (replies.WatchAmount name p.0) reply (with_watch s.watches name (opened view target wanted uid p.0)) watches tt) p.2
+
+off_told : (s : Whole) (name : List ℕ) (reply : Reply) (watches : Watches) → TakesOff s name reply watches → E reply
+off_told s name reply watches l =
+    if_differ (is_some (watch_at s.watches name)) _ _ reply (watched_left replies.Done reply (without_watch s.watches name) watches tt)
+    (watched_left replies.NoWatch reply s.watches watches tt) l
+
+watching_told : (s : Whole) (command : Command) (reply : Reply) (watches : Watches) → is_watching command ≡ true
+    → Watching s command reply watches → E reply
+watching_told s command reply watches e p =
+    watched_cases (λ (c : Command). Watching s c reply watches → E reply)
+    (λ name view target wanted uid. opens_told s name view target wanted uid (view_at s.state.views view) reply watches)
+    (λ name. off_told s name reply watches) command e p
+
 -- ---- lines
 
-obeys_told : (rows : PolicyRows) (old : Whole) (command : Command) (answer : Answer) (reply : Reply) (new : Whole)
-    → Obeys rows old command answer reply new → D reply
-obeys_told rows old command answer reply new o = by (is_pacing command) refl
+unwatched_told : (rows : PolicyRows) (old : Whole) (command : Command) (answer : Served) (reply : Reply) (new : Whole)
+    → is_watching command ≡ false → Obeys rows old command answer reply new → D reply
+unwatched_told rows old command answer reply new f o = by (is_pacing command) refl
   where
     by : (b : Bool) → is_pacing command ≡ b → D reply
     by true e = paces_told old command reply new.cursors e o.paces
-    by false e = does_told rows old.state command answer reply new.state e o.does
+    by false e = does_told rows old.state command answer reply new.state e f o.does
 
-pub numbers_differ : (rows : PolicyRows) (old : Whole) (line : List ℕ) (answer : Answer) (reply : Reply) (new : Whole)
+obeys_told : (rows : PolicyRows) (old : Whole) (command : Command) (answer : Served) (reply : Reply) (new : Whole)
+    → Obeys rows old command answer reply new → E reply
+obeys_told rows old command answer reply new o = by (is_watching command) refl
+  where
+    by : (b : Bool) → is_watching command ≡ b → E reply
+    by true e = watching_told old command reply new.watches e o.watching
+    by false e = differ reply (unwatched_told rows old command answer reply new e o)
+
+pub numbers_differ : (rows : PolicyRows) (old : Whole) (line : List ℕ) (answer : Served) (reply : Reply) (new : Whole)
     → LineStep rows old line answer (Some reply) new → DoNumbersDiffer reply
 numbers_differ rows old line answer reply new step =
-    told_by rows D tt tt old line answer reply new (λ command o. obeys_told rows old command answer reply new o) step
+    told_by rows E tt tt old line answer reply new (λ command o. obeys_told rows old command answer reply new o) step
+
+pub untold : (rows : PolicyRows) (old : Whole) (command : Command) (answer : Served) (reply : Reply) (new : Whole)
+    → is_watching command ≡ false → Obeys rows old command answer reply new → (name : List ℕ) → amount_in name reply ≡ []
+untold rows old command answer reply new f o name = no_amount name reply (unwatched_told rows old command answer reply new f o)

@@ -1,5 +1,5 @@
 -- What stays true of the certificates, whatever a line does.
-use Rattle.std.proofs.Common.{◌≡◌, ℕ, Bool, true, false, cond, List, [], ◌∷◌, length, Option, Some, None, Result, Ok, Err, sym, subst}
+use Rattle.std.proofs.Common.{◌≡◌, ℕ, Bool, true, false, cond, List, [], ◌∷◌, length, Option, Some, None, Result, Ok, Err, ap, sym, subst}
 use Rattle.std.specs.Prelude.{MatchBool, nat_lt, is_some}
 use Rattle.std.specs.List.{AllByRecursion}
 use Rattle.std.specs.Map.{remove_entry}
@@ -20,7 +20,7 @@ use Rattle.wot_keyring.specs.Held.{cert_in, is_said, verdict_set, removing, verd
 use Rattle.wot_keyring.specs.Import.{answer_to, answer_under, is_entry, spelled_in, with_certs}
 use Rattle.wot_keyring.specs.Verdict.{is_over}
 use Rattle.wot_script.specs.declared.command.Command.{Command}
-use Rattle.wot_script.specs.declared.command.Command.TheVariants.{Import, Load, Remove, Good, Bad, Unjudge, Time, Root, Close, Ask, Explain, Pending, Keys, Export, Dump, Absence, Check, CursorOver, CursorNext, CursorClose}
+use Rattle.wot_script.specs.declared.command.Command.TheVariants.{Import, Load, Store, Remove, Good, Bad, Unjudge, Time, Root, Close, Ask, Explain, Pending, Keys, Export, Dump, Absence, Check, CursorOver, CursorNext, CursorClose, WatchOn, WatchOff}
 use Rattle.wot_script.specs.declared.reply.Reply.{Reply}
 use Rattle.wot_script.specs.declared.reply.Reply.TheVariants as replies
 use Rattle.wot_script.specs.Grammar.{command_of}
@@ -28,12 +28,14 @@ use Rattle.wot_cache.specs.declared.view.ViewFault.{ViewFault}
 use Rattle.wot_certd.specs.World.{Answer}
 use Rattle.wot_cache.specs.State.{State, with_held, rooting, timing, closing}
 use Rattle.wot_cache.specs.Views.{view_at, time_fault, root_fault}
-use Rattle.wot_engine.specs.Lines.{is_silent, longest}
+use Rattle.wot_engine.specs.Lines.{heard, is_silent, longest}
 use Rattle.wot_engine.specs.Outcome.{Outcome, only, done, imports, load, remove, set_verdict, clear_verdict, time, root, close, unless, keys, export, dump, import}
 use Rattle.wot_engine.specs.Listing.{explain, pending}
-use Rattle.wot_engine.specs.Entry.{entry_in, given_by}
+use Rattle.wot_engine.specs.Entry.{use_of}
 use Rattle.wot_engine.specs.LineStep.{LineStep, HasReply, Answers, Does, Gives, Stays}
-use Rattle.wot_engine.specs.Scene.{Scene}
+use Rattle.wot_engine.specs.Scene.{Scene, Step, served_in}
+use Rattle.wot_engine.specs.Served.{Served}
+use Rattle.wot_engine.specs.Storing.{store}
 use Rattle.wot_engine.specs.Whole.{Whole}
 use Rattle.wot_engine.specs.Transcript.{Run}
 
@@ -87,9 +89,10 @@ module _
         given (set_verdict s number v) r m
         (either (is_over standard_limits s.held.verdicts number) (only s (replies.Full words.Verdicts)) (done (with_held s (verdict_set number v s.held))) p (verdict_set_stays s number v p))
 
-    does_stays : (old : State) (command : Command) (answer : Answer) (r : Reply) (m : State) → Holds old → Does rows old command answer r m → Holds m
+    does_stays : (old : State) (command : Command) (answer : Served) (r : Reply) (m : State) → Holds old → Does rows old command answer r m → Holds m
     does_stays old (Import octets) answer r m p = given (import rows old octets) r m (imports_stays old octets (answer_to rows standard_limits old.held.certs octets) p)
-    does_stays old (Load name) answer r m p = given (load rows old name answer) r m (load_stays old name answer p)
+    does_stays old (Load name) answer r m p = given (load rows old name answer.read) r m (load_stays old name answer.read p)
+    does_stays old (Store fpr) answer r m p = given (store old fpr answer) r m p
     does_stays old (Remove fpr) answer r m p =
         given (remove old fpr) r m (either (is_some (cert_in old.held fpr)) (done (with_held old (removing fpr old.held))) (only old replies.Absent) (removed fpr old.held.certs p) p)
     does_stays old (Good number fpr) answer r m p = set_verdict_stays old number (verdicts.Good fpr) r m p
@@ -112,11 +115,13 @@ module _
     does_stays old (CursorOver cursor view wanted) answer r m p = λ g. subst Holds (sym g) p
     does_stays old (CursorNext cursor count) answer r m p = λ g. subst Holds (sym g) p
     does_stays old (CursorClose cursor) answer r m p = λ g. subst Holds (sym g) p
+    does_stays old (WatchOn watch view target wanted uid) answer r m p = λ g. subst Holds (sym g) p
+    does_stays old (WatchOff watch) answer r m p = λ g. subst Holds (sym g) p
 
     abbrev KeepsIt : Whole → Type 0
     KeepsIt w = Holds w.state
 
-    answers_stays : (old : Whole) (command : Option Command) (answer : Answer) (r : Reply) (m : Whole) → KeepsIt old → Answers rows old command answer r m → KeepsIt m
+    answers_stays : (old : Whole) (command : Option Command) (answer : Served) (r : Reply) (m : Whole) → KeepsIt old → Answers rows old command answer r m → KeepsIt m
     answers_stays old None answer r m p g = subst KeepsIt (sym g.1) p
     answers_stays old (Some command) answer r m p g = does_stays old.state command answer r m.state p g.does
 
@@ -124,7 +129,7 @@ module _
     replied Q None m f g = absurd g
     replied Q (Some r) m f g = f r g
 
-    pub step_stays : (old : Whole) (line : List ℕ) (answer : Answer) (reply : Option Reply) (new : Whole) → P old.state.held.certs → LineStep rows old line answer reply new → P new.state.held.certs
+    pub step_stays : (old : Whole) (line : List ℕ) (answer : Served) (reply : Option Reply) (new : Whole) → P old.state.held.certs → LineStep rows old line answer reply new → P new.state.held.certs
     step_stays old line answer reply new p = long (nat_lt longest (length line))
       where
         silent : (b : Bool) → MatchBool b ((reply ≡ None) × (new ≡ old)) (HasReply (Answers rows old (command_of line) answer) reply new) → KeepsIt new
@@ -138,4 +143,6 @@ module _
     pub run_stays : (lines : List (List ℕ)) (old : Scene) (replies : List Reply) (new : Scene) → P old.whole.state.held.certs → Run rows old lines replies new → P new.whole.state.held.certs
     run_stays [] old replies new p r = subst (λ (s : Scene). P s.whole.state.held.certs) (sym r.1) p
     run_stays (line ∷ lines) old replies new p r =
-        run_stays lines r.1 r.2 new (step_stays old.whole line (given_by old.world (entry_in line)) r.0 r.1.whole p r.3.does) r.4
+        run_stays lines r.2 r.3 new
+        (subst (λ (x : State). P x.held.certs) (sym (ap (λ (w : Whole). w.state) r.4.tells.left))
+        (step_stays old.whole line (served_in old (use_of (heard line))) r.0 r.4.mid p r.4.does)) r.5

@@ -10,19 +10,21 @@ use Rattle.wot_io.specs.declared.lines.Line.{Line}
 use Rattle.wot_io.specs.declared.lines.Line.TheVariants.{Text, Long, End}
 use Rattle.wot_script.specs.declared.reply.Reply.{Reply}
 use Rattle.wot_script.specs.Replies.{reply_text}
-use Rattle.wot_certd.specs.World.{Answer, World}
+use Rattle.wot_certd.specs.World.{World}
 use Rattle.wot_engine.specs.Whole.{Whole, beginning}
-use Rattle.wot_types.specs.declared.name.Name.{Name}
-use Rattle.wot_engine.specs.Entry.{IsWorldAfter, WasGiven, entry_in}
+use Rattle.wot_engine.specs.Entry.{IsServed, Use, unused, use_of}
 use Rattle.wot_engine.specs.Law.{OneOutcome}
+use Rattle.wot_engine.specs.Lines.{heard}
 use Rattle.wot_engine.specs.LineStep.{LineStep}
 use Rattle.wot_engine.specs.Scene.{Step, opening}
+use Rattle.wot_engine.specs.Served.{Served}
 use Rattle.wot_engine.specs.Turn.{Replies}
-use Rattle.wot_engine.specs.Transcript.{Run, Answered, AnsweredFirst, Begun, AnsweredWhole, AnsweredMost, AllTold, listed, octets_of}
-use Rattle.wot_engine.proofs.Giving.{IsNow, IsUnread, all_told, all_weaker, goes, may_read, over}
+use Rattle.wot_engine.specs.Watching.{Tells}
+use Rattle.wot_engine.specs.Transcript.{Run, Answered, AnsweredFirst, Begun, AnsweredWhole, AnsweredMost, AllTold, IsNow, Leaves, listed, octets_of}
+use Rattle.wot_engine.proofs.Giving.{IsUncalled, all_told, all_weaker, goes, may_call, over}
 use Rattle.wot_engine.proofs.Runs.{Run-one, Run-prefix}
-use Rattle.wot_engine.proofs.Progress.{Stands, starts, goes_on, so_far, comes_next, at_end, at_first, at_stop, at_most}
-use Rattle.wot_engine.proofs.Stepping.{entry_long}
+use Rattle.wot_engine.proofs.Progress.{Stands, starts, goes_on, so_far, comes_next, at_end, leaves, at_first, at_stop, at_most}
+use Rattle.wot_engine.proofs.Stepping.{heard_long}
 use Rattle.wot_policy.specs.declared.rows.PolicyRows.{PolicyRows}
 
 module _ (rows : PolicyRows) where
@@ -44,19 +46,20 @@ module _ (rows : PolicyRows) where
     pub stands : Stands rows origin world input before held taken left written shelf state
     pub gives : GivesOf held stands.rest taken held' left' taken' line
     pub reply : Option Reply
+    pub told : List Reply
     pub next : World
     pub is_next : IsNow origin shelf' next
-    pub step : Step rows (over state stands.now) line reply (over state' next)
-    pub octets_are : octets ≡ octets_of (listed reply)
+    pub step : Step rows (over state stands.now) line reply told (over state' next)
+    pub octets_are : octets ≡ octets_of (listed reply ++ told)
 
   -- the line is known, and what it was given
-  turned_by : (origin : Option World) (world : World) (input before : List ℕ) (old : ReaderState) (left written : Option (List ℕ)) (shelf : Option World) (state : Whole) (new : ReaderState) (left' : Option (List ℕ)) (shelf' : Option World) (state' : Whole) (line : List ℕ) (entry : Option Name) (what : Answer) (reply : Option Reply) (octets : List ℕ)
-      → IsUnread origin input → (s : Stands rows origin world input before old.held old.taken left written shelf state) → GivesOf old.held s.rest old.taken new.held left' new.taken line
-      → entry_in line ≡ entry → WasGiven entry shelf what → IsWorldAfter entry shelf shelf' → LineStep rows state line what reply state' → octets ≡ octets_of (listed reply)
-      → Turned origin world input before new.held new.taken left' written octets shelf' state'
-  turned_by origin world input before old left written shelf state new left' shelf' state' line entry what reply octets unread s g e asked after does same =
+  turned_by : (origin : Option World) (world : World) (input before : List ℕ) (old : ReaderState) (left written : Option (List ℕ)) (shelf : Option World) (state : Whole) (new : ReaderState) (left' : Option (List ℕ)) (shelf' : Option World) (state' : Whole) (line : List ℕ) (use_ : Use) (what : Served) (reply : Option Reply) (mid : Whole) (told : List Reply) (octets : List ℕ)
+      → IsUncalled origin input → (s : Stands rows origin world input before old.held old.taken left written shelf state) → GivesOf old.held s.rest old.taken new.held left' new.taken line
+      → use_of (heard line) ≡ use_ → IsServed state.state use_ shelf what shelf' → LineStep rows state line what reply mid → Tells mid told state'
+      → octets ≡ octets_of (listed reply ++ told) → Turned origin world input before new.held new.taken left' written octets shelf' state'
+  turned_by origin world input before old left written shelf state new left' shelf' state' line use_ what reply mid told octets uncalled s g e served does tells same =
       let next = comes_next rows origin world input before old.held old.taken left written shelf state new.held new.taken left' line s g in
-      let went = goes rows origin shelf shelf' s.now state state' line entry what reply e (may_read origin input s.done line next.0 next.1 unread) s.is_now asked after does in
+      let went = goes rows origin shelf shelf' s.now state mid state' line use_ what reply told e (may_call origin input s.done line next.0 next.1 uncalled) s.is_now served does tells in
       record {
         held = old.held;
         taken = old.taken;
@@ -67,6 +70,7 @@ module _ (rows : PolicyRows) where
         stands = s;
         gives = g;
         reply = reply;
+        told = told;
         next = went.next;
         is_next = went.is_next;
         step = went.step;
@@ -74,47 +78,55 @@ module _ (rows : PolicyRows) where
       }
 
   pub turned : (origin : Option World) (world : World) (input before : List ℕ) (old : ReaderState) (left written : Option (List ℕ)) (shelf : Option World) (state : Whole) (new : ReaderState) (left' : Option (List ℕ)) (shelf' : Option World) (state' : Whole) (line : Line) (octets : List ℕ)
-      → IsUnread origin input → Stands rows origin world input before old.held old.taken left written shelf state → given.Answers line old left new left' → Replies rows line new.text state shelf octets state' shelf'
+      → IsUncalled origin input → Stands rows origin world input before old.held old.taken left written shelf state → given.Answers line old left new left' → Replies rows line new.text state shelf octets state' shelf'
       → Turned origin world input before new.held new.taken left' written octets shelf' state'
-  turned origin world input before old left written shelf state new left' shelf' state' Text octets unread s a r =
+  turned origin world input before old left written shelf state new left' shelf' state' Text octets uncalled s a r =
       let a' = rw s.left_is at a in
-      turned_by origin world input before old left written shelf state new left' shelf' state' new.text (entry_in new.text) r.given r.reply octets unread s a'.0 refl r.asked r.world r.does r.octets_are
-  turned origin world input before old left written shelf state new left' shelf' state' Long octets unread s a r =
+      turned_by origin world input before old left written shelf state new left' shelf' state' new.text (use_of (heard new.text)) r.given r.reply r.mid r.told octets uncalled s a'.0 refl r.served r.does r.tells r.octets_are
+  turned origin world input before old left written shelf state new left' shelf' state' Long octets uncalled s a r =
       let a' = rw s.left_is at a in
-      turned_by origin world input before old left written shelf state new left' shelf' state' a'.0 None r.given r.reply octets unread s a'.2 (entry_long a'.0 a'.1) r.asked r.world (r.does a'.0 a'.1) r.octets_are
-  turned origin world input before old left written shelf state new left' shelf' state' End octets unread s a r = absurd r.does
+      turned_by origin world input before old left written shelf state new left' shelf' state' a'.0 unused r.given r.reply r.mid r.told octets uncalled s a'.2 (ap use_of (heard_long a'.0 a'.1)) r.served (r.does a'.0 a'.1) r.tells r.octets_are
+  turned origin world input before old left written shelf state new left' shelf' state' End octets uncalled s a r = absurd r.does
 
   -- the reply that was due is written
   pub wrote : (origin : Option World) (world : World) (input before : List ℕ) (held' : List ℕ) (taken' : ℕ) (left' written : Option (List ℕ)) (octets : List ℕ) (shelf' : Option World) (state' : Whole) (written' : Option (List ℕ))
       → (t : Turned origin world input before held' taken' left' written octets shelf' state') → written' ≡ Some ((before ++ octets_of t.stands.replies) ++ octets)
       → Stands rows origin world input before held' taken' left' written' shelf' state'
   wrote origin world input before held' taken' left' written octets shelf' state' written' t w =
-      goes_on rows origin world input before t.held t.taken t.left written t.shelf t.state held' taken' left' written' shelf' state' t.line t.reply t.stands t.gives t.next t.is_next t.step
+      goes_on rows origin world input before t.held t.taken t.left written t.shelf t.state held' taken' left' written' shelf' state' t.line t.reply t.told t.stands t.gives t.next t.is_next t.step
       (w ∙ ap (λ (x : List ℕ). Some ((before ++ octets_of t.stands.replies) ++ x)) t.octets_are)
 
   pub Begun-here : OneOutcome rows → (left0 written0 : Option (List ℕ)) (origin : Option World) (held : List ℕ) (taken : ℕ) (left written : Option (List ℕ)) (shelf : Option World) (state : Whole) → Stood left0 written0 origin held taken left written shelf state
       → AllTold left0 written0 origin (λ input before world. Begun rows world (lines_of input) before written)
   Begun-here law left0 written0 origin held taken left written shelf state s =
-      all_weaker left0 written0 origin _ _ (λ input before world unread s. so_far rows origin world law input before held taken left written shelf state s) s
+      all_weaker left0 written0 origin _ _ (λ input before world uncalled s. so_far rows origin world law input before held taken left written shelf state s) s
 
   pub First-here : (left0 written0 : Option (List ℕ)) (origin : Option World) (held : List ℕ) (taken : ℕ) (left written : Option (List ℕ)) (shelf : Option World) (state : Whole) → Stood left0 written0 origin held taken left written shelf state
       → AllTold left0 written0 origin (λ input before world. AnsweredFirst rows world (lines_of input) before written)
   First-here left0 written0 origin held taken left written shelf state s =
-      all_weaker left0 written0 origin _ _ (λ input before world unread s. at_first rows origin world input before held taken left written shelf state s) s
+      all_weaker left0 written0 origin _ _ (λ input before world uncalled s. at_first rows origin world input before held taken left written shelf state s) s
 
   pub Answered-end : (left0 written0 : Option (List ℕ)) (origin : Option World) (old : ReaderState) (left written : Option (List ℕ)) (shelf : Option World) (state : Whole) (new : ReaderState) (left' : Option (List ℕ))
       → Stood left0 written0 origin old.held old.taken left written shelf state → given.Answers End old left new left'
       → AllTold left0 written0 origin (λ input before world. Answered rows world (lines_of input) before written × (left' ≡ Some []))
   Answered-end left0 written0 origin old left written shelf state new left' s e =
-      all_weaker left0 written0 origin _ _ (λ input before world unread s.
+      all_weaker left0 written0 origin _ _ (λ input before world uncalled s.
       let e' = rw s.left_is at e in
       (at_end rows origin world input before old.held old.taken left written shelf state s e'.0.0 e'.0.1, e'.0.3)) s
+
+  pub Left-end : (left0 written0 : Option (List ℕ)) (origin : Option World) (old : ReaderState) (left written : Option (List ℕ)) (shelf : Option World) (state : Whole) (new : ReaderState) (left' : Option (List ℕ))
+      → Stood left0 written0 origin old.held old.taken left written shelf state → given.Answers End old left new left'
+      → AllTold left0 written0 origin (λ input before world. Leaves rows world (lines_of input) origin shelf)
+  Left-end left0 written0 origin old left written shelf state new left' s e =
+      all_weaker left0 written0 origin _ _ (λ input before world uncalled s.
+      let e' = rw s.left_is at e in
+      leaves rows origin world input before old.held old.taken left written shelf state s e'.0.0 e'.0.1) s
 
   pub Answered-stop : (left0 written0 : Option (List ℕ)) (origin : Option World) (held : List ℕ) (taken : ℕ) (left written : Option (List ℕ)) (shelf : Option World) (state : Whole) (left' : Option (List ℕ)) (taken' : ℕ)
       → Stood left0 written0 origin held taken left written shelf state → Stops held left taken left' taken'
       → AllTold left0 written0 origin (λ input before world. AnsweredWhole rows world input before left' written × (taken' ≡ 2 ^ 30 → AnsweredMost rows world input before left' written))
   Answered-stop left0 written0 origin held taken left written shelf state left' taken' s t =
-      all_weaker left0 written0 origin _ _ (λ input before world unread s.
+      all_weaker left0 written0 origin _ _ (λ input before world uncalled s.
       let t' = rw s.left_is at t in (
         at_stop rows origin world input before held taken left written shelf state left' taken' s t',
         λ n. at_most rows origin world input before held taken left written shelf state left' taken' s t' n,
@@ -122,7 +134,7 @@ module _ (rows : PolicyRows) where
 
   pub AllTold-weaker : (left0 written0 : Option (List ℕ)) (origin : Option World) (P Q : List ℕ → List ℕ → World → Type 0) → ((input before : List ℕ) (world : World) → P input before world → Q input before world)
       → AllTold left0 written0 origin P → AllTold left0 written0 origin Q
-  AllTold-weaker left0 written0 origin P Q f t = all_weaker left0 written0 origin P Q (λ input before world unread. f input before world) t
+  AllTold-weaker left0 written0 origin P Q f t = all_weaker left0 written0 origin P Q (λ input before world uncalled. f input before world) t
 
   some-is : (x y : List ℕ) → Some x ≡ Some y → x ≡ y
   some-is x y e = cc
@@ -164,14 +176,14 @@ module _ (rows : PolicyRows) where
   pub Most-end : (left0 written0 : Option (List ℕ)) (origin : Option World) (old : ReaderState) (left written : Option (List ℕ)) (shelf : Option World) (state : Whole) (new : ReaderState) (left' : Option (List ℕ))
       → Stood left0 written0 origin old.held old.taken left written shelf state → given.Answers End old left new left' → AllTold left0 written0 origin (λ input before world. AnsweredMost rows world input before left' written → ⊥)
   Most-end left0 written0 origin old left written shelf state new left' s e =
-      all_weaker left0 written0 origin _ _ (λ input before world unread s a.
+      all_weaker left0 written0 origin _ _ (λ input before world uncalled s a.
       let e' = rw s.left_is at e in
       absurd (omega (arith, most_size origin world input before old.held old.taken left written shelf state [] left' written old.taken s e'.0.3 (ap (λ (x : List ℕ). old.taken + length x) (sym e'.0.1)) a, e'.1, e'.2))) s
 
   pub Most-stop : (left0 written0 : Option (List ℕ)) (origin : Option World) (held : List ℕ) (taken : ℕ) (left written : Option (List ℕ)) (shelf : Option World) (state : Whole) (left' : Option (List ℕ)) (taken' : ℕ)
       → Stood left0 written0 origin held taken left written shelf state → Stops held left taken left' taken' → taken' < 2 ^ 30 → AllTold left0 written0 origin (λ input before world. AnsweredMost rows world input before left' written → ⊥)
   Most-stop left0 written0 origin held taken left written shelf state left' taken' s t lt =
-      all_weaker left0 written0 origin _ _ (λ input before world unread s a.
+      all_weaker left0 written0 origin _ _ (λ input before world uncalled s a.
       let t' = rw s.left_is at t in
       absurd (omega (arith, most_size origin world input before held taken left written shelf state t'.rest left' written taken' s t'.left_is t'.count a, lt))) s
 

@@ -24,7 +24,8 @@ use Rattle.wot_keyring.specs.Verdict.{is_over}
 use Rattle.wot_types.specs.declared.limits.Limit.TheVariants as words
 use Rattle.wot_types.specs.declared.name.Name.{Name}
 use Rattle.wot_script.specs.declared.command.Command.{Command}
-use Rattle.wot_script.specs.declared.command.Command.TheVariants.{Import, Load, Remove, Good, Bad, Unjudge, Time, Root}
+use Rattle.wot_script.specs.declared.command.Command.TheVariants.{Import, Load, Store, Remove, Good, Bad, Unjudge}
+use Rattle.wot_script.specs.declared.command.Command.TheVariants.{Time, Root, WatchOn, WatchOff}
 use Rattle.wot_script.specs.declared.command.Command.TheVariants.{Close, Ask, Explain, Pending, Keys, Export, Dump}
 use Rattle.wot_script.specs.declared.command.Command.TheVariants.{Absence, Check, CursorOver, CursorNext, CursorClose}
 use Rattle.wot_script.specs.declared.reply.Reply.{Reply}
@@ -37,6 +38,8 @@ use Rattle.wot_cache.specs.Turns.{AreTurnsBy, Turns, turn_at, turned, with_turn,
 use Rattle.wot_cache.specs.Views.{Views, is_name, root_fault, rooted, time_fault, timed, view_at, with_amount}
 use Rattle.wot_cache.specs.Views.{with_root, with_time, without_view}
 use Rattle.wot_engine.specs.LineStep.{Does, Gives}
+use Rattle.wot_engine.specs.Served.{Served}
+use Rattle.wot_engine.specs.Storing.{store}
 use Rattle.wot_engine.specs.Listing.{explain, pending}
 use Rattle.wot_engine.specs.Outcome.{Outcome, clear_verdict, close, done, dump, export, import, imports, keys, load}
 use Rattle.wot_engine.specs.Outcome.{only, remove, root, set_verdict, time, unless}
@@ -144,12 +147,13 @@ given how s outcome r m v g = subst (λ (x : State). AreViewsBy how s.views x.vi
 same : (s m : State) → m ≡ s → m.views ≡ s.views
 same s m e = ap (λ (x : State). x.views) e
 
-pub does_views : (rows : PolicyRows) (s : State) (command : Command) (answer : Answer) (r : Reply) (m : State)
+pub does_views : (rows : PolicyRows) (s : State) (command : Command) (answer : Served) (r : Reply) (m : State)
     → Does rows s command answer r m
     → AreViewsBy (turning_of command) s.views m.views
 does_views rows s (Import octets) answer r m =
     given Turning.leaving s (import rows s octets) r m (imports_keeps rows s octets (answer_to rows standard_limits s.held.certs octets))
-does_views rows s (Load name) answer r m = given Turning.leaving s (load rows s name answer) r m (load_keeps rows s name answer)
+does_views rows s (Load name) answer r m = given Turning.leaving s (load rows s name answer.read) r m (load_keeps rows s name answer.read)
+does_views rows s (Store fpr) answer r m = given Turning.leaving s (store s fpr answer) r m refl
 does_views rows s (Remove fpr) answer r m =
     given Turning.leaving s (remove s fpr) r m (either (is_some (cert_in s.held fpr)) s (done (with_held s (removing fpr s.held))) (only s replies.Absent) refl refl)
 does_views rows s (Good number fpr) answer r m =
@@ -176,6 +180,8 @@ does_views rows s Dump answer r m = given Turning.leaving s (dump s) r m refl
 does_views rows s (CursorOver name view wanted) answer r m = λ g. same s m g
 does_views rows s (CursorNext name count) answer r m = λ g. same s m g
 does_views rows s (CursorClose name) answer r m = λ g. same s m g
+does_views rows s (WatchOn name view target wanted uid) answer r m = λ g. same s m g
+does_views rows s (WatchOff name) answer r m = λ g. same s m g
 
 -- ---- turns
 

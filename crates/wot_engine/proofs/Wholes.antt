@@ -97,5 +97,5 @@ turned_few command old new before after p = turns_few (turning_of command) old n
 
 -- ---- all of it
 
-pub whole_same : (m n : Whole) → m.state ≡ n.state → m.changes ≡ n.changes → m.turns ≡ n.turns → m.cursors ≡ n.cursors → m ≡ n
-whole_same m n s c t k = λ i. record { state = s i; changes = c i; turns = t i; cursors = k i }
+pub whole_same : (m n : Whole) → m.state ≡ n.state → m.changes ≡ n.changes → m.turns ≡ n.turns → m.cursors ≡ n.cursors → m.watches ≡ n.watches → m ≡ n
+whole_same m n s c t k w = λ i. record { state = s i; changes = c i; turns = t i; cursors = k i; watches = w i }

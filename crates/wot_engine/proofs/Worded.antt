@@ -1,12 +1,13 @@
 -- Each word of an explanation is in its table.
 use Rattle.std.proofs.Common.{ℕ, ◌<◌, Bool, true, false, cond, List, [], ◌∷◌, map, Option, Some, None, Result, Ok, Err, sym, subst, arith, ◌≡◌, refl}
-use Rattle.std.specs.Prelude.{filter, is_some, nat_le}
+use Rattle.std.specs.Prelude.{IfErr, filter, is_some, nat_le}
 use Rattle.std.specs.List.{AllByRecursion, slice_get}
 use Rattle.std.specs.Map.{lookup}
 use Rattle.std.specs.Option.{option_and_then, option_map}
 use Rattle.wot_types.specs.declared.fpr.Fpr.{Fpr}
 use Rattle.wot_types.specs.declared.limits.Limit.TheVariants as limits
 use Rattle.wot_types.specs.declared.name.Name.{Name}
+use Rattle.wot_types.specs.declared.name.Name.TheVariants as names
 use Rattle.wot_types.specs.declared.number.SigNumber.{SigNumber}
 use Rattle.wot_types.specs.Limits.{standard_limits}
 use Rattle.wot_policy.specs.declared.rows.PolicyRows.{PolicyRows}
@@ -21,6 +22,7 @@ use Rattle.wot_edge.specs.Answer.{amount_of}
 use Rattle.wot_keyring.specs.declared.import.Imported.{Imported}
 use Rattle.wot_keyring.specs.declared.refusal.Refusal.{Refusal}
 use Rattle.wot_keyring.specs.declared.refusal.Refusal.TheVariants as refusals
+use Rattle.wot_keyring.specs.Entry.{entry_in}
 use Rattle.wot_keyring.specs.Held.{cert_in, removing, verdict_set, verdict_cleared}
 use Rattle.wot_keyring.specs.Import.{answer_to, answer_under, is_entry}
 use Rattle.wot_keyring.specs.Keyring.{Certificates, is_fpr}
@@ -31,7 +33,7 @@ use Rattle.wot_standing.specs.Kinds.{is_certification}
 use Rattle.wot_standing.specs.Own.{is_own_revoked}
 use Rattle.wot_standing.specs.Standing.{own, standing_of}
 use Rattle.wot_script.specs.declared.command.Command.{Command}
-use Rattle.wot_script.specs.declared.command.Command.TheVariants.{Import, Load, Remove, Good, Bad, Unjudge, Time, Root, Close, Ask, Explain, Pending, Keys, Export, Dump, Absence, Check, CursorOver, CursorNext, CursorClose}
+use Rattle.wot_script.specs.declared.command.Command.TheVariants.{Import, Load, Store, Remove, Good, Bad, Unjudge, Time, Root, Close, Ask, Explain, Pending, Keys, Export, Dump, Absence, Check, CursorOver, CursorNext, CursorClose, WatchOn, WatchOff}
 use Rattle.wot_script.specs.declared.reply.ClaimLine.{ClaimLine}
 use Rattle.wot_script.specs.declared.reply.LabelLine.{LabelLine}
 use Rattle.wot_script.specs.declared.reply.Reply.{Reply}
@@ -53,9 +55,13 @@ use Rattle.wot_engine.specs.Answer.{Asks}
 use Rattle.wot_engine.specs.Listing.{Lists, explain, explained, explained_from, pending, reason_by, reason_line}
 use Rattle.wot_engine.specs.Pacing.{is_pacing}
 use Rattle.wot_engine.specs.Whole.{Whole}
+use Rattle.wot_engine.specs.Watching.{is_watching}
 use Rattle.wot_engine.proofs.Paced.{paces_worded}
+use Rattle.wot_engine.proofs.Watched.{watching_worded}
 use Rattle.wot_engine.specs.LineStep.{Obeys, Does, Gives}
 use Rattle.wot_engine.specs.Outcome.{Outcome, cert_refusal, clear_verdict, close, done, dump, export, exported, import, imports, keys, load, only, refusal, remove, root, set_verdict, time, unless, view_refusal}
+use Rattle.wot_engine.specs.Served.{Served}
+use Rattle.wot_engine.specs.Storing.{store, stored, stored_from, text_unless, united_with, writing}
 use Rattle.wot_engine.proofs.Absences.{tells_worded, verdicts_worded}
 
 -- ---- explanations
@@ -165,6 +171,25 @@ load_worded rows s name Answer.absent = tt
 load_worded rows s name Answer.long = tt
 load_worded rows s name (Answer.entry octets) = imports_worded rows s octets (answer_under (is_entry name) rows standard_limits s.held.certs octets)
 
+stored_worded : (fails : Bool) (r : Result (List ℕ) Reply) → IfErr r HasWords → HasWords (stored fails r)
+stored_worded fails (Err reply) h = h
+stored_worded true (Ok octets) h = tt
+stored_worded false (Ok octets) h = tt
+
+text_worded : (r : Result Certificate Refusal) → IfErr (text_unless r) HasWords
+text_worded (Ok c) = tt
+text_worded (Err told) = refused_worded told
+
+writing_worded : (fpr : Fpr) (kept : Certificate) (answer : Answer) → IfErr (writing fpr kept answer) HasWords
+writing_worded fpr kept Answer.fault = tt
+writing_worded fpr kept Answer.absent = tt
+writing_worded fpr kept Answer.long = tt
+writing_worded fpr kept (Answer.entry octets) = text_worded (united_with kept (entry_in (names.Cert fpr) octets))
+
+store_worded : (kept : Option Certificate) (fpr : Fpr) (given : Served) → HasWords (stored_from kept fpr given)
+store_worded None fpr given = tt
+store_worded (Some kept) fpr given = stored_worded given.fails (writing fpr kept given.read) (writing_worded fpr kept given.read)
+
 either : (b : Bool) (a c : Outcome) → HasWords a.reply → HasWords c.reply → HasWords (cond b a c).reply
 either true a c p q = p
 either false a c p q = q
@@ -209,39 +234,44 @@ check_worded : (s : State) (view : Option View) (target : Fpr) (claims : List Cl
 check_worded s None target claims labels uid reply checks = subst HasWords (sym checks) tt
 check_worded s (Some view) target claims labels uid reply checks = subst HasWords (sym checks.2) (verdicts_worded claims checks.0)
 
-does_worded : (rows : PolicyRows) (old : State) (command : Command) (answer : Answer) (reply : Reply) (new : State) → is_pacing command ≡ false → Does rows old command answer reply new → HasWords reply
-does_worded rows old (Import octets) answer reply new plain g =
+does_worded : (rows : PolicyRows) (old : State) (command : Command) (answer : Served) (reply : Reply) (new : State) → is_pacing command ≡ false → is_watching command ≡ false
+    → Does rows old command answer reply new → HasWords reply
+does_worded rows old (Import octets) answer reply new plain still g =
     given (import rows old octets) reply new (imports_worded rows old octets (answer_to rows standard_limits old.held.certs octets)) g
-does_worded rows old (Load name) answer reply new plain g = given (load rows old name answer) reply new (load_worded rows old name answer) g
-does_worded rows old (Remove fpr) answer reply new plain g =
+does_worded rows old (Load name) answer reply new plain still g = given (load rows old name answer.read) reply new (load_worded rows old name answer.read) g
+does_worded rows old (Store fpr) answer reply new plain still g = given (store old fpr answer) reply new (store_worded (cert_in old.held fpr) fpr answer) g
+does_worded rows old (Remove fpr) answer reply new plain still g =
     given (remove old fpr) reply new (either (is_some (cert_in old.held fpr)) (done (with_held old (removing fpr old.held))) (only old replies.Absent) tt tt) g
-does_worded rows old (Good number fpr) answer reply new plain g = set_worded old number (verdicts.Good fpr) reply new g
-does_worded rows old (Bad number) answer reply new plain g = set_worded old number verdicts.Bad reply new g
-does_worded rows old (Unjudge number) answer reply new plain g =
+does_worded rows old (Good number fpr) answer reply new plain still g = set_worded old number (verdicts.Good fpr) reply new g
+does_worded rows old (Bad number) answer reply new plain still g = set_worded old number verdicts.Bad reply new g
+does_worded rows old (Unjudge number) answer reply new plain still g =
     given (clear_verdict old number) reply new
     (either (is_some (verdict_at old.held.verdicts number)) (done (with_held old (verdict_cleared number old.held))) (only old replies.Absent) tt tt) g
-does_worded rows old (Time view t) answer reply new plain g =
+does_worded rows old (Time view t) answer reply new plain still g =
     given (time old view t) reply new (unless_worded old (timing view t old) (time_fault standard_limits old.views view)) g
-does_worded rows old (Root view fpr amount) answer reply new plain g =
+does_worded rows old (Root view fpr amount) answer reply new plain still g =
     given (root old view fpr amount) reply new (unless_worded old (rooting view fpr amount old) (root_fault standard_limits (view_at old.views view) fpr amount)) g
-does_worded rows old (Close view) answer reply new plain g =
+does_worded rows old (Close view) answer reply new plain still g =
     given (close old view) reply new (either (is_some (view_at old.views view)) (done (closing view old)) (only old replies.View) tt tt) g
-does_worded rows old (Ask view target wanted uid) answer reply new plain g = ask_worded old (view_at old.views view) target wanted uid reply g.0
-does_worded rows old (Command.List view wanted) answer reply new plain g = list_worded old (view_at old.views view) wanted reply g.0
-does_worded rows old (Explain view fpr uid) answer reply new plain g = given (explain old view fpr uid) reply new (explain_worded old (view_at old.views view) fpr uid) g
-does_worded rows old (Absence view target wanted uid) answer reply new plain g = absence_worded old (view_at old.views view) target wanted uid reply g.0
-does_worded rows old (Check view target claims labels uid) answer reply new plain g = check_worded old (view_at old.views view) target claims labels uid reply g.0
-does_worded rows old Pending answer reply new plain g = given (pending old) reply new tt g
-does_worded rows old Keys answer reply new plain g = given (keys old) reply new tt g
-does_worded rows old (Export fpr) answer reply new plain g = given (export old fpr) reply new (export_worded (cert_in old.held fpr)) g
-does_worded rows old Dump answer reply new plain g = given (dump old) reply new tt g
-does_worded rows old (CursorOver cursor view wanted) answer reply new plain g = absurd (cc plain)
-does_worded rows old (CursorNext cursor count) answer reply new plain g = absurd (cc plain)
-does_worded rows old (CursorClose cursor) answer reply new plain g = absurd (cc plain)
+does_worded rows old (Ask view target wanted uid) answer reply new plain still g = ask_worded old (view_at old.views view) target wanted uid reply g.0
+does_worded rows old (Command.List view wanted) answer reply new plain still g = list_worded old (view_at old.views view) wanted reply g.0
+does_worded rows old (Explain view fpr uid) answer reply new plain still g = given (explain old view fpr uid) reply new (explain_worded old (view_at old.views view) fpr uid) g
+does_worded rows old (Absence view target wanted uid) answer reply new plain still g = absence_worded old (view_at old.views view) target wanted uid reply g.0
+does_worded rows old (Check view target claims labels uid) answer reply new plain still g = check_worded old (view_at old.views view) target claims labels uid reply g.0
+does_worded rows old Pending answer reply new plain still g = given (pending old) reply new tt g
+does_worded rows old Keys answer reply new plain still g = given (keys old) reply new tt g
+does_worded rows old (Export fpr) answer reply new plain still g = given (export old fpr) reply new (export_worded (cert_in old.held fpr)) g
+does_worded rows old Dump answer reply new plain still g = given (dump old) reply new tt g
+does_worded rows old (CursorOver cursor view wanted) answer reply new plain still g = absurd (cc plain)
+does_worded rows old (CursorNext cursor count) answer reply new plain still g = absurd (cc plain)
+does_worded rows old (CursorClose cursor) answer reply new plain still g = absurd (cc plain)
+does_worded rows old (WatchOn watch view target wanted uid) answer reply new plain still g = absurd (cc still)
+does_worded rows old (WatchOff watch) answer reply new plain still g = absurd (cc still)
 
-pub obeys_worded : (rows : PolicyRows) (old : Whole) (command : Command) (answer : Answer) (reply : Reply) (new : Whole) → Obeys rows old command answer reply new → HasWords reply
-obeys_worded rows old command answer reply new o = by (is_pacing command) refl
+pub obeys_worded : (rows : PolicyRows) (old : Whole) (command : Command) (answer : Served) (reply : Reply) (new : Whole) → Obeys rows old command answer reply new → HasWords reply
+obeys_worded rows old command answer reply new o = by (is_pacing command) refl (is_watching command) refl
   where
-    by : (b : Bool) → is_pacing command ≡ b → HasWords reply
-    by true e = paces_worded old command reply new.cursors e o.paces
-    by false e = does_worded rows old.state command answer reply new.state e o.does
+    by : (b : Bool) → is_pacing command ≡ b → (w : Bool) → is_watching command ≡ w → HasWords reply
+    by true e w f = paces_worded old command reply new.cursors e o.paces
+    by false e true f = watching_worded old command reply new.watches f o.watching
+    by false e false f = does_worded rows old.state command answer reply new.state e f o.does

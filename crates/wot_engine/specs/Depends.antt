@@ -7,12 +7,13 @@ use Rattle.wot_script.specs.declared.command.Command.TheVariants.{Ask, Explain, 
 use Rattle.wot_script.specs.declared.reply.Reply.{Reply}
 use Rattle.wot_script.specs.Grammar.{command_of}
 use Rattle.wot_cert.specs.Certificate.{Certificate, unmarked}
-use Rattle.wot_certd.specs.World.{Answer, World}
+use Rattle.wot_certd.specs.World.{World}
 use Rattle.wot_keyring.specs.Keyring.{Certificates}
 use Rattle.wot_cache.specs.State.{State}
 use Rattle.wot_cache.specs.Views.{view_at}
 use Rattle.wot_engine.specs.LineStep.{LineStep}
 use Rattle.wot_engine.specs.Scene.{opening}
+use Rattle.wot_engine.specs.Served.{Served}
 use Rattle.wot_engine.specs.Transcript.{Run}
 use Rattle.wot_engine.specs.Whole.{Whole}
 
@@ -53,7 +54,7 @@ pub record IsAsk (name line : List ℕ) : Type 0 where
 -- The replies to this line are the same, whatever the shelf gives.
 abbrev pub AreRepliesAlike : PolicyRows → Whole → Whole → List ℕ → Type 0
 AreRepliesAlike rows one other line =
-    (given told : Answer) (reply second : Option Reply) (new third : Whole)
+    (given told : Served) (reply second : Option Reply) (new third : Whole)
     → LineStep rows one line given reply new → LineStep rows other line told second third → reply ≡ second
 
 -- An answer depends only on the certificates, the verdicts, and the roots and the time of the asking view then present:

@@ -36,6 +36,7 @@ pub record IsMadeAnew (rows : PolicyRows) (s : State) : Type 0 where
   pub new : Whole
   pub same : CarriesOver rows s new.state
   pub cursors : new.cursors ≡ []
+  pub watches : new.watches ≡ []
   pub run : (world : World) → Run rows (opening world) (dumped s) replies (record { whole = new; world = world })
   pub each : length replies ≡ length (dumped s)
   pub well : AllByRecursion (λ reply. is_refusal reply ≡ false) replies

@@ -8,35 +8,37 @@ use Rattle.wot_script.specs.declared.command.Command.TheVariants.{CursorOver, Cu
 use Rattle.wot_script.specs.declared.reply.BindLine.{BindLine}
 use Rattle.wot_script.specs.declared.reply.Reply.{Reply}
 use Rattle.wot_script.specs.declared.reply.Reply.TheVariants as replies
-use Rattle.wot_certd.specs.World.{Answer, World}
+use Rattle.wot_certd.specs.World.{World}
 use Rattle.wot_cache.specs.State.{State}
 use Rattle.wot_cache.specs.Views.{view_at}
 use Rattle.wot_cursor.specs.Cursors.{is_name}
+use Rattle.wot_engine.specs.Lines.{heard}
 use Rattle.wot_engine.specs.LineStep.{LineStep}
 use Rattle.wot_engine.specs.Listing.{Lists}
-use Rattle.wot_engine.specs.Made.{heard}
 use Rattle.wot_engine.specs.Pacing.{stamps_in}
 use Rattle.wot_engine.specs.Scene.{Scene, Step, opening}
+use Rattle.wot_engine.specs.Served.{Served}
 use Rattle.wot_engine.specs.Transcript.{Run, listed}
 use Rattle.wot_engine.specs.Whole.{Whole}
 
 -- ---- runs, told line by line
 
--- a line, and the reply to it if it has one
+-- a line, the reply to it if it has one, and the watch lines behind it
 pub record Exchange : Type 0 where
   pub line : List ℕ
   pub reply : Option Reply
+  pub told : List Reply
 
 abbrev pub lines_in : List Exchange → List (List ℕ)
 lines_in exchanges = map (λ (e : Exchange). e.line) exchanges
 
 abbrev pub replies_in : List Exchange → List Reply
-replies_in exchanges = flat_map (λ (e : Exchange). listed e.reply) exchanges
+replies_in exchanges = flat_map (λ (e : Exchange). listed e.reply ++ e.told) exchanges
 
 -- These lines, one after another, have these replies, and lead from old to new.
 abbrev pub Passes : PolicyRows → Scene → List Exchange → Scene → Type 0
 Passes rows old [] new = new ≡ old
-Passes rows old (e ∷ exchanges) new = (mid : Scene) × Step rows old e.line e.reply mid × Passes rows mid exchanges new
+Passes rows old (e ∷ exchanges) new = (mid : Scene) × Step rows old e.line e.reply e.told mid × Passes rows mid exchanges new
 
 -- the exchanges of a run
 pub record AreOfRun (rows : PolicyRows) (old : Scene) (lines : List (List ℕ)) (told : List Reply) (new : Scene)
@@ -99,7 +101,8 @@ pub record Since
   pub line : List ℕ
   pub over : heard line ≡ Some (CursorOver name view wanted)
   pub mid : Scene
-  pub begins : Step rows begun line (Some replies.Done) mid
+  pub behind : List Reply
+  pub begins : Step rows begun line (Some replies.Done) behind mid
   pub passes : Passes rows mid exchanges last
   pub stays : has_restart name exchanges ≡ false
 
@@ -150,8 +153,8 @@ IsNext begun now view count _ = ⊥
 abbrev pub NextsAreTold : PolicyRows → Type 0
 NextsAreTold rows =
     (name view : List ℕ) (wanted : ℕ) (begun : Scene) (exchanges : List Exchange) (last : Scene)
-    → Since rows name view wanted begun exchanges last → (line : List ℕ) (count : ℕ) (reply : Reply) (new : Scene)
-    → heard line ≡ Some (CursorNext name count) → Step rows last line (Some reply) new
+    → Since rows name view wanted begun exchanges last → (line : List ℕ) (count : ℕ) (reply : Reply) (told : List Reply)
+    (new : Scene) → heard line ≡ Some (CursorNext name count) → Step rows last line (Some reply) told new
     → IsNext begun.whole last.whole view count reply
 
 -- The two numbers of this reply differ, where it says that something is stale.
@@ -163,5 +166,5 @@ DoNumbersDiffer reply = Unit {0}
 -- That is so of each reply to each line, in whatever state.
 abbrev pub StaleNumbersDiffer : PolicyRows → Type 0
 StaleNumbersDiffer rows =
-    (old : Whole) (line : List ℕ) (given : Answer) (reply : Reply) (new : Whole)
+    (old : Whole) (line : List ℕ) (given : Served) (reply : Reply) (new : Whole)
     → LineStep rows old line given (Some reply) new → DoNumbersDiffer reply

@@ -6,6 +6,9 @@ pub mod Listing
 pub mod Absent
 pub mod Whole
 pub mod Pacing
+pub mod Watching
+pub mod Served
+pub mod Storing
 pub mod LineStep
 pub mod Entry
 pub mod Scene
@@ -13,14 +16,16 @@ pub mod Law
 pub mod Transcript
 pub mod Forms
 pub mod Generated
-pub mod Played
 pub mod Ends
 pub mod Turn
 pub mod Held
 pub mod Ran
+pub mod Stored
 pub mod Stepped
+pub mod Played
 pub mod Fresh
 pub mod Depends
 pub mod Machine
 pub mod Made
 pub mod Joined
+pub mod Worth

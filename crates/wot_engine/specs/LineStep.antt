@@ -3,14 +3,14 @@ use Rattle.std.specs.Prelude.{◌≡◌, ℕ, nat_lt, List, length, Option, Some
 use Rattle.wot_policy.specs.declared.rows.PolicyRows.{PolicyRows}
 use Rattle.wot_verdict.specs.declared.verdict.Verdict.TheVariants as verdicts
 use Rattle.wot_script.specs.declared.command.Command.{Command}
-use Rattle.wot_script.specs.declared.command.Command.TheVariants.{Import, Load, Remove, Good, Bad, Unjudge}
+use Rattle.wot_script.specs.declared.command.Command.TheVariants.{Import, Load, Store, Remove, Good, Bad, Unjudge}
 use Rattle.wot_script.specs.declared.command.Command.TheVariants.{Time, Root, Close, Ask, Explain, Absence, Check}
 use Rattle.wot_script.specs.declared.command.Command.TheVariants.{Pending, Keys, Export, Dump}
 use Rattle.wot_script.specs.declared.command.Command.TheVariants.{CursorOver, CursorNext, CursorClose}
+use Rattle.wot_script.specs.declared.command.Command.TheVariants.{WatchOn, WatchOff}
 use Rattle.wot_script.specs.declared.reply.Reply.{Reply}
 use Rattle.wot_script.specs.declared.reply.Reply.TheVariants as replies
 use Rattle.wot_script.specs.Grammar.{command_of}
-use Rattle.wot_certd.specs.World.{Answer}
 use Rattle.wot_cache.specs.State.{State}
 use Rattle.wot_cache.specs.Views.{view_at}
 use Rattle.wot_engine.specs.Lines.{longest, is_silent}
@@ -19,7 +19,10 @@ use Rattle.wot_engine.specs.Outcome.{keys, export, dump}
 use Rattle.wot_engine.specs.Answer.{Asks}
 use Rattle.wot_engine.specs.Absent.{Checks, Misses}
 use Rattle.wot_engine.specs.Listing.{Lists, explain, pending}
+use Rattle.wot_engine.specs.Served.{Served}
+use Rattle.wot_engine.specs.Storing.{store}
 use Rattle.wot_engine.specs.Pacing.{Paces}
+use Rattle.wot_engine.specs.Watching.{Watching}
 use Rattle.wot_engine.specs.Whole.{IsCounted, IsTurnedBy, Whole}
 
 -- This is the reply, and this is the state.
@@ -27,10 +30,12 @@ abbrev pub Gives : Outcome → Reply → State → Type 0
 Gives outcome reply new = (reply ≡ outcome.reply) × (new ≡ outcome.state)
 
 -- What a command does to the state: from old to new, with this reply. What the shelf gives in this line matters for
--- `load` alone. The commands of cursors leave the state, and have their replies by `Paces`.
-abbrev pub Does : PolicyRows → State → Command → Answer → Reply → State → Type 0
+-- `load` and `store` alone. The commands of cursors and of watches leave the state, and have their replies by `Paces` and
+-- by `Watching`.
+abbrev pub Does : PolicyRows → State → Command → Served → Reply → State → Type 0
 Does rows old (Import octets) given reply new = Gives (import rows old octets) reply new
-Does rows old (Load name) given reply new = Gives (load rows old name given) reply new
+Does rows old (Load name) given reply new = Gives (load rows old name given.read) reply new
+Does rows old (Store fpr) given reply new = Gives (store old fpr given) reply new
 Does rows old (Remove fpr) given reply new = Gives (remove old fpr) reply new
 Does rows old (Good number fpr) given reply new = Gives (set_verdict old number (verdicts.Good fpr)) reply new
 Does rows old (Bad number) given reply new = Gives (set_verdict old number verdicts.Bad) reply new
@@ -51,21 +56,24 @@ Does rows old Dump given reply new = Gives (dump old) reply new
 Does rows old (CursorOver name view wanted) given reply new = new ≡ old
 Does rows old (CursorNext name count) given reply new = new ≡ old
 Does rows old (CursorClose name) given reply new = new ≡ old
+Does rows old (WatchOn name view target wanted uid) given reply new = new ≡ old
+Does rows old (WatchOff name) given reply new = new ≡ old
 
--- The same with all that is kept: what is counted, and the cursors.
-pub record Obeys (rows : PolicyRows) (old : Whole) (command : Command) (given : Answer) (reply : Reply) (new : Whole)
+-- The same with all that is kept: what is counted, the cursors, and the watches.
+pub record Obeys (rows : PolicyRows) (old : Whole) (command : Command) (given : Served) (reply : Reply) (new : Whole)
     : Type 0 where
   pub does : Does rows old.state command given reply new.state
   pub counted : IsCounted old new
   pub turned : IsTurnedBy command old.state.views old.turns new.state.views new.turns
   pub paces : Paces old command reply new.cursors
+  pub watching : Watching old command reply new.watches
 
 -- This is the reply, and nothing changes.
 abbrev pub Stays : Whole → Reply → Reply → Whole → Type 0
 Stays old told reply new = (reply ≡ told) × (new ≡ old)
 
 -- What a line does that is neither too long nor silent.
-abbrev pub Answers : PolicyRows → Whole → Option Command → Answer → Reply → Whole → Type 0
+abbrev pub Answers : PolicyRows → Whole → Option Command → Served → Reply → Whole → Type 0
 Answers rows old None given reply new = Stays old replies.Line reply new
 Answers rows old (Some command) given reply new = Obeys rows old command given reply new
 
@@ -76,7 +84,7 @@ HasReply P (Some reply) new = P reply new
 
 -- What a line does, in which the shelf gives this: from old to new, with this reply; a silent line has none. The rows are
 -- those of the policy.
-abbrev pub LineStep : PolicyRows → Whole → List ℕ → Answer → Option Reply → Whole → Type 0
+abbrev pub LineStep : PolicyRows → Whole → List ℕ → Served → Option Reply → Whole → Type 0
 LineStep rows old line given reply new =
     MatchBool (nat_lt longest (length line)) (HasReply (Stays old replies.Long) reply new)
     (MatchBool (is_silent line) ((reply ≡ None) × (new ≡ old)) (HasReply (Answers rows old (command_of line) given) reply new))

@@ -1,5 +1,7 @@
 -- Which lines are looked at.
-use Rattle.std.specs.Prelude.{ℕ, ◌==◌, Bool, true, List, [], ◌∷◌}
+use Rattle.std.specs.Prelude.{ℕ, ◌==◌, if◌then◌else◌, nat_lt, Bool, true, List, [], ◌∷◌, length, Option, None}
+use Rattle.wot_script.specs.declared.command.Command.{Command}
+use Rattle.wot_script.specs.Grammar.{command_of}
 
 -- the most octets of a line, without its line feed
 abbrev pub longest : ℕ
@@ -9,3 +11,7 @@ longest = 16777216
 abbrev pub is_silent : List ℕ → Bool
 is_silent [] = true
 is_silent (octet ∷ octets) = octet == 35
+
+-- the command of a line that is neither too long nor silent
+abbrev pub heard : List ℕ → Option Command
+heard line = if nat_lt longest (length line) then None else if is_silent line then None else command_of line

@@ -1,13 +1,12 @@
 -- How many edges a line makes, and whose marks it leaves. No reply depends on either.
-use Rattle.std.specs.Prelude.{◌≡◌, ◌⊎◌, ℕ, nat_lt, if◌then◌else◌, List, [], length, Option, Some, None, Result, OnOk}
+use Rattle.std.specs.Prelude.{◌≡◌, ◌⊎◌, ℕ, [], Option, Some, None, Result, OnOk}
 use Rattle.wot_script.specs.declared.command.Command.{Command}
-use Rattle.wot_script.specs.declared.command.Command.TheVariants.{Ask, Explain, Absence, Check, Time, Close, CursorNext}
-use Rattle.wot_script.specs.Grammar.{command_of}
+use Rattle.wot_script.specs.declared.command.Command.TheVariants.{Ask, Explain, Absence, Check, Time, Close}
+use Rattle.wot_script.specs.declared.command.Command.TheVariants.{CursorNext, WatchOn}
 use Rattle.wot_cache.specs.State.{Engine, OtherMarksStay, marks_at}
 use Rattle.wot_cache.specs.Marks.{IsRefreshed}
 use Rattle.wot_cache.specs.Views.{view_at}
 use Rattle.wot_cursor.specs.Cursors.{Cursor, Cursors, cursor_at}
-use Rattle.wot_engine.specs.Lines.{longest, is_silent}
 
 -- No edge is made, and all marks stay.
 abbrev pub MakesNothing : Engine → Engine → ℕ → ℕ → Type 0
@@ -21,6 +20,7 @@ Makes result (Command.List view wanted) old new before after = IsRefreshed resul
 Makes result (Explain view fpr uid) old new before after = IsRefreshed result view old new before after
 Makes result (Absence view target wanted uid) old new before after = IsRefreshed result view old new before after
 Makes result (Check view target claims labels uid) old new before after = IsRefreshed result view old new before after
+Makes result (WatchOn name view target wanted uid) old new before after = IsRefreshed result view old new before after
 Makes result (Time view t) old new before after = MakesNothing old new before after × OnOk result (view_at old.views view ≡ None → marks_at new view ≡ [])
 Makes result (Close view) old new before after = (after ≡ before) × OtherMarksStay view old new
 Makes result _ old new before after = MakesNothing old new before after
@@ -37,7 +37,3 @@ LineMakes result None cursors old new before after = MakesNothing old new before
 LineMakes result (Some (CursorNext name count)) cursors old new before after =
     PieceMakes result (cursor_at cursors name) old new before after
 LineMakes result (Some command) cursors old new before after = Makes result command old new before after
-
--- the command of a line that is neither too long nor silent
-abbrev pub heard : List ℕ → Option Command
-heard line = if nat_lt longest (length line) then None else if is_silent line then None else command_of line

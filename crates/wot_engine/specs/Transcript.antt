@@ -6,7 +6,7 @@ use Rattle.wot_policy.specs.declared.rows.PolicyRows.{PolicyRows}
 use Rattle.wot_script.specs.declared.reply.Reply.{Reply}
 use Rattle.wot_script.specs.Replies.{reply_text}
 use Rattle.wot_certd.specs.World.{World}
-use Rattle.wot_engine.specs.Entry.{ReadNothing}
+use Rattle.wot_engine.specs.Entry.{CallNothing}
 use Rattle.wot_engine.specs.Scene.{Scene, Step, opening}
 
 -- the replies to one line: one, or none
@@ -18,12 +18,12 @@ listed (Some reply) = reply ∷ []
 abbrev pub octets_of : List Reply → List ℕ
 octets_of replies = flat_map reply_text replies
 
--- The lines, one after another, have these replies, and lead from old to new.
+-- The lines, one after another, have these replies, with the watch lines behind each, and lead from old to new.
 abbrev pub Run : PolicyRows → Scene → List (List ℕ) → List Reply → Scene → Type 0
 Run rows old [] replies new = (replies ≡ []) × (new ≡ old)
 Run rows old (line ∷ lines) replies new =
-    (reply : Option Reply) × (mid : Scene) × (others : List Reply)
-    × Step rows old line reply mid × Run rows mid lines others new × (replies ≡ listed reply ++ others)
+    (reply : Option Reply) × (told : List Reply) × (mid : Scene) × (others : List Reply)
+    × Step rows old line reply told mid × Run rows mid lines others new × (replies ≡ (listed reply ++ told) ++ others)
 
 -- the replies to these lines, from the start on, with a shelf of this world
 pub record RepliesTo (rows : PolicyRows) (world : World) (lines : List (List ℕ)) (replies : List Reply) : Type 0 where
@@ -39,6 +39,18 @@ pub record Answered (rows : PolicyRows) (world : World) (lines : List (List ℕ)
   pub replies : List Reply
   pub told : RepliesTo rows world lines replies
   pub written : after ≡ Some (before ++ octets_of replies)
+
+-- By the world that the shelf told at first: this is its world now, where it tells it.
+abbrev pub IsNow : Option World → Option World → World → Type 0
+IsNow None shelf now = Unit {0}
+IsNow (Some origin) shelf now = shelf ≡ Some now
+
+-- The shelf is left in the world to which these lines lead.
+pub record Leaves (rows : PolicyRows) (world : World) (lines : List (List ℕ))
+    (origin shelf : Option World) : Type 0 where
+  pub replies : List Reply
+  pub told : RepliesTo rows world lines replies
+  pub left : IsNow origin shelf told.last.world
 
 -- The octets of the replies to some first ones of these lines were written, and each reply is whole.
 pub record AnsweredFirst (rows : PolicyRows) (world : World) (lines : List (List ℕ)) (before : List ℕ) (after : Option (List ℕ)) : Type 0 where
@@ -93,9 +105,10 @@ Told None written P = Unit {0}
 Told (Some input) None P = Unit {0}
 Told (Some input) (Some before) P = P input before
 
--- The same with the world of the shelf. One that doesn't tell its world may be of any, where no line of the input reads it.
+-- The same with the world of the shelf. One that doesn't tell its world may be of any, where no line of the input calls
+-- it.
 abbrev pub AllTold : Option (List ℕ) → Option (List ℕ) → Option World → (List ℕ → List ℕ → World → Type 0) → Type 0
 AllTold None written world P = Unit {0}
 AllTold (Some input) None world P = Unit {0}
-AllTold (Some input) (Some before) None P = ReadNothing (lines_of input) → (world : World) → P input before world
+AllTold (Some input) (Some before) None P = CallNothing (lines_of input) → (world : World) → P input before world
 AllTold (Some input) (Some before) (Some world) P = P input before world

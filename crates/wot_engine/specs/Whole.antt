@@ -1,27 +1,38 @@
--- All that is kept between two lines: the state, how often it changed, and how far listings have come.
+-- All that is kept between two lines: the state, how often it changed, how far listings have come, and what is watched.
 use Rattle.std.specs.Prelude.{◌≡◌, ◌≢◌, ◌⊎◌, ◌+◌, ℕ, List, []}
 use Rattle.wot_cache.specs.State.{Engine, State, start, state_of}
 use Rattle.wot_cache.specs.Turns.{IsOneClosing, IsOneTurn, Turns, no_turns}
 use Rattle.wot_cache.specs.Views.{Views}
 use Rattle.wot_cursor.specs.Cursors.{Cursors}
+use Rattle.wot_watch.specs.Watches.{Watches}
 use Rattle.wot_script.specs.declared.command.Command.{Command}
 use Rattle.wot_script.specs.declared.command.Command.TheVariants.{Time, Root, Close}
 
--- the state, the count of changes, the turns of views, and the cursors by name
+-- the state, the count of changes, the turns of views, and cursors and watches by name
 pub record Whole : Type 0 where
   pub state : State
   pub changes : ℕ
   pub turns : Turns
   pub cursors : Cursors
+  pub watches : Watches
 
 -- what is kept before the first line
 abbrev pub beginning : Whole
-beginning = record { state = start; changes = 0; turns = no_turns; cursors = [] }
+beginning = record { state = start; changes = 0; turns = no_turns; cursors = []; watches = [] }
 
--- what is kept where this is the engine, and these are the cursors
+-- what is kept where this is the engine, these are the cursors, and nothing is watched
 abbrev pub whole_of : Engine → Cursors → Whole
-whole_of engine cursors =
-    record { state = state_of engine; changes = engine.keyring.changes; turns = engine.turns; cursors = cursors }
+whole_of engine cursors = record {
+  state = state_of engine;
+  changes = engine.keyring.changes;
+  turns = engine.turns;
+  cursors = cursors;
+  watches = [];
+}
+
+-- the same with these watches
+abbrev pub watched : Whole → Watches → Whole
+watched s watches = record s { watches = watches }
 
 -- What is held is as it was, and so is the count of changes; or it isn't, and that is one change.
 abbrev pub IsCounted : Whole → Whole → Type 0

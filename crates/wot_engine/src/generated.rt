@@ -1,12 +1,18 @@
 //! A generated run: a script that the program makes, answers and sums up.
-ghost use Rattle.std.specs.Prelude.{◌≡◌, ◌⊎◌, ◌≤◌, ◌<◌, ◌+◌, ◌-◌, ◌^◌, length, IfErr, IfOk, IfSome, OnOk, IsErrOf};
+ghost use Rattle.std.specs.Prelude.{◌≡◌, ◌⊎◌, ◌≤◌, ◌<◌, ◌+◌, ◌-◌, ◌++◌, ◌^◌, List, Some, length};
+ghost use Rattle.std.specs.Prelude.{IfErr, IfOk, IfSome, OnOk, IsErrOf};
+ghost use Rattle.std.specs.List.{AllByRecursion};
 ghost use Rattle.wot_io.specs.Counts.{Rose};
 ghost use Rattle.wot_io.specs.Input.{lines_of};
 ghost use Rattle.wot_policy.specs.Kept.{IsFaithful, rows_of};
 ghost use Rattle.wot_keyring.specs.Kept.{IsJudgedBy};
+ghost use Rattle.wot_cache.specs.State.{StaysButMarks};
 ghost use Rattle.wot_engine.specs.Generated.{IsSummary, SummaryBegun, Summarized};
 ghost use Rattle.wot_engine.specs.Machine.{kept};
-ghost use Rattle.wot_engine.specs.Played.{Adds, IsPlayed};
+ghost use Rattle.wot_engine.specs.Played.{Adds, AddsReply, AddsTold, IsPlayed};
+ghost use Rattle.wot_engine.specs.Watching.{IsWatchLine};
+ghost use Rattle.wot_gen.specs.Summary.{Tells};
+ghost use Rattle.wot_script.specs.declared.reply.Reply.{Reply as TheReply};
 
 use crate::laws::each_line_has_one_outcome;
 use crate::machine::Machine;
@@ -17,6 +23,7 @@ use wot_certd::MemoryShelf;
 use wot_gen::{Tally, put_summary, script};
 use wot_io::{Sink, first_line, write_all};
 use wot_policy::{Ask, Policy};
+use wot_script::Reply;
 use wot_types::Memory;
 
 /// Makes the script of a start and a count, answers its lines over an empty shelf in memory, and writes what that run
@@ -94,8 +101,35 @@ fn play<F: Fn(Ask) -> bool>(
     Ok(tally)
 }
 
-/// Answers a line, and adds its reply.
+/// Answers a line, and adds its reply and the watch lines behind it.
 fn add_line<F: Fn(Ask) -> bool>(
+    machine: &mut Machine,
+    line: &[u8],
+    shelf: &mut MemoryShelf,
+    policy: &mut Policy<F>,
+    tally: &mut Tally,
+) -> Result<(), Memory>
+    requires room { tally.old.amounts < 2 ^ 63 - 2 ^ 32 }
+    requires countable { machine.old.engine.keyring.changes < 2 ^ 64 - 1 }
+    requires turnable { machine.old.engine.turns.count < 2 ^ 64 - 1 }
+    requires judged { IsJudgedBy (rows_of policy.old) machine.old.engine.keyring }
+    requires faithful { IsFaithful F.Fn policy.old }
+    ensures added { OnOk result (Adds (rows_of policy.old) line.now
+        (record { whole = kept machine.old; world = shelf.old.world }) tally.old
+        (record { whole = kept machine.new; world = shelf.new.world }) tally.new) }
+    ensures amounts { tally.new.amounts < tally.old.amounts + 2 ^ 32 }
+    ensures counted { machine.new.engine.keyring.changes ≤ machine.old.engine.keyring.changes + 1 }
+    ensures turned { machine.new.engine.turns.count ≤ machine.old.engine.turns.count + 1 }
+    ensures judged { IsJudgedBy (rows_of policy.old) machine.new.engine.keyring }
+    ensures faithful { IsFaithful F.Fn policy.new }
+    ensures rows { rows_of policy.new ≡ rows_of policy.old }
+{
+    add_reply(machine, line, shelf, policy, tally)?;
+    add_told(machine, tally)
+}
+
+/// Answers a line, and adds its reply.
+fn add_reply<F: Fn(Ask) -> bool>(
     machine: &mut Machine,
     line: &[u8],
     shelf: &mut MemoryShelf,
@@ -107,9 +141,9 @@ fn add_line<F: Fn(Ask) -> bool>(
     requires turnable { machine.old.engine.turns.count < 2 ^ 64 - 1 }
     requires judged { IsJudgedBy (rows_of policy.old) machine.old.engine.keyring }
     requires faithful { IsFaithful F.Fn policy.old }
-    ensures added { OnOk result (Adds (rows_of policy.old) line.now
-        (record { whole = kept machine.old; world = shelf.old.world }) tally.old
-        (record { whole = kept machine.new; world = shelf.new.world }) tally.new) }
+    ensures added { OnOk result (AddsReply (rows_of policy.old) line.now
+        (kept machine.old) (record { world = Some shelf.old.world; faults = shelf.old.faults }) tally.old
+        (kept machine.new) (record { world = Some shelf.new.world; faults = shelf.new.faults }) tally.new) }
     ensures amounts { tally.new.amounts < tally.old.amounts + 2 ^ 32 }
     ensures counted { machine.new.engine.keyring.changes ≤ machine.old.engine.keyring.changes + 1 }
     ensures turned { machine.new.engine.turns.count ≤ machine.old.engine.turns.count + 1 }
@@ -125,4 +159,33 @@ fn add_line<F: Fn(Ask) -> bool>(
         }
         None => Ok(()),
     }
+}
+
+/// Tells the watch lines, and adds them.
+fn add_told(machine: &mut Machine, tally: &mut Tally) -> Result<(), Memory>
+    requires room { tally.old.amounts < 2 ^ 63 }
+    ensures added { OnOk result (AddsTold (kept machine.old) tally.old (kept machine.new) tally.new) }
+    ensures amounts { tally.new.amounts ≤ tally.old.amounts }
+    ensures stays { StaysButMarks machine.old.engine machine.new.engine }
+{
+    let lines = machine.watch_lines()?;
+    add_all(&lines, tally)?;
+    machine.told(&lines);
+    Ok(())
+}
+
+/// Adds watch lines, which tell no answer's amount.
+fn add_all(lines: &[Reply], tally: &mut Tally) -> Result<(), Memory>
+    requires each { AllByRecursion IsWatchLine lines.now }
+    requires room { tally.old.amounts < 2 ^ 63 }
+    ensures added { OnOk result ((replies : List TheReply) → Tells tally.old replies →
+        Tells tally.new (replies ++ lines.now)) }
+    ensures amounts { tally.new.amounts ≤ tally.old.amounts }
+{
+    let mut rest = lines;
+    'rest: while let Some((line, others)) = rest.split_first() {
+        tally.add(line)?;
+        rest = others;
+    }
+    Ok(())
 }

@@ -3,7 +3,7 @@ ghost use Rattle.std.specs.Prelude.{◌≡◌, ℕ, List, Option};
 ghost use Rattle.wot_policy.specs.declared.rows.PolicyRows.{PolicyRows};
 ghost use Rattle.wot_script.specs.declared.reply.Reply.{Reply};
 ghost use Rattle.wot_keyring.specs.Dump.{judged_by};
-ghost use Rattle.wot_certd.specs.World.{Answer, World};
+ghost use Rattle.wot_certd.specs.World.{World};
 ghost use Rattle.wot_cache.specs.State.{IsState};
 ghost use Rattle.wot_engine.specs.Absent.{AreClaimsAccepted, DoClaimsLeaveNothing};
 ghost use Rattle.wot_engine.specs.Depends.{DependsOnWhatIsPresent};
@@ -11,8 +11,11 @@ ghost use Rattle.wot_engine.specs.Joined.{NextsAreTold, PiecesJoin, RunsAreExcha
 ghost use Rattle.wot_engine.specs.Law.{RefusalsLeaveAll};
 ghost use Rattle.wot_engine.specs.LineStep.{LineStep};
 ghost use Rattle.wot_engine.specs.Scene.{Scene, opening};
+ghost use Rattle.wot_engine.specs.Served.{Served};
 ghost use Rattle.wot_engine.specs.Transcript.{Run, Transcript};
+ghost use Rattle.wot_engine.specs.Watching.{Tells};
 ghost use Rattle.wot_engine.specs.Whole.{Whole};
+ghost use Rattle.wot_engine.specs.Worth.{QuietLinesTellNothing, WatchLinesAreNews, WatchesAreTrue};
 
 use wot_cert::laws::judging;
 use wot_check::laws::{
@@ -24,17 +27,21 @@ use wot_network::laws::record_is_lawful;
 use wot_script::laws::lines_spell_commands;
 
 /// Whatever the shelf gives, each line has a reply or none, and a state after it, and in a state that can be only one of
-/// each. What comes after a state that can be, as the one before the first line, can be too.
+/// each. What comes after a state that can be, as the one before the first line, can be too. So it is with the watch
+/// lines of a state.
 pub fn each_line_has_one_outcome()
-    ensures some { (rows : PolicyRows) (old : Whole) (line : List ℕ) (given : Answer)
+    ensures some { (rows : PolicyRows) (old : Whole) (line : List ℕ) (given : Served)
         → (reply : Option Reply) × (new : Whole) × LineStep rows old line given reply new }
-    ensures one { (rows : PolicyRows) (old : Whole) (line : List ℕ) (given : Answer) (reply other : Option Reply)
+    ensures one { (rows : PolicyRows) (old : Whole) (line : List ℕ) (given : Served) (reply other : Option Reply)
         (new third : Whole)
         → IsState old.state → LineStep rows old line given reply new → LineStep rows old line given other third
         → (reply ≡ other) × (new ≡ third) }
-    ensures stays { (rows : PolicyRows) (old : Whole) (line : List ℕ) (given : Answer) (reply : Option Reply)
+    ensures stays { (rows : PolicyRows) (old : Whole) (line : List ℕ) (given : Served) (reply : Option Reply)
         (new : Whole)
         → IsState old.state → LineStep rows old line given reply new → IsState new.state }
+    ensures tells { (old : Whole) → (told : List Reply) × (new : Whole) × Tells old told new }
+    ensures tells_one { (old : Whole) (told others : List Reply) (new third : Whole) → IsState old.state
+        → Tells old told new → Tells old others third → (told ≡ others) × (new ≡ third) }
 {
     answer_is_one();
     record_is_lawful();
@@ -44,8 +51,8 @@ pub fn each_line_has_one_outcome()
     lines_spell_commands();
 }
 
-/// A line that is refused, or in which the shelf failed, leaves certificates, verdicts, views, counts, cursors as they
-/// were.
+/// A line that is refused, or in which the shelf failed, leaves certificates, verdicts, views, counts, cursors and
+/// watches as they were.
 pub fn refused_lines_leave_the_state()
     ensures { (rows : PolicyRows) → RefusalsLeaveAll rows }
 {}
@@ -102,5 +109,19 @@ pub fn pieces_join_to_the_list()
 {
     record_is_lawful();
     list_is_one();
+    lines_spell_commands();
+}
+
+/// Watches are true. After each line, whoever wrote it, the view of each watch that is there is open, and the amount
+/// last told of it, or its opening amount where none was told since, is that of the answer to its question as things
+/// are now. The watch lines behind a line stand in the order of the names; each tells an amount that is another than
+/// the one told last, or that the watch is gone. Behind a line that leaves all that is kept stands none.
+pub fn watches_are_true()
+    ensures now { (rows : PolicyRows) → WatchesAreTrue rows }
+    ensures news { (rows : PolicyRows) → WatchLinesAreNews rows }
+    ensures quiet { (rows : PolicyRows) → QuietLinesTellNothing rows }
+{
+    answer_is_one();
+    record_is_lawful();
     lines_spell_commands();
 }

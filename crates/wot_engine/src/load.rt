@@ -8,6 +8,7 @@ ghost use Rattle.wot_script.specs.Replies.{is_short};
 ghost use Rattle.wot_script.specs.declared.command.Command.TheVariants as commands;
 ghost use Rattle.wot_certd.specs.World.{Answer};
 ghost use Rattle.wot_cache.specs.State.{state_of};
+ghost use Rattle.wot_engine.specs.Entry.{MayPut, loads};
 ghost use Rattle.wot_engine.specs.LineStep.{Gives};
 ghost use Rattle.wot_engine.specs.Outcome.{load as load_of};
 ghost use Rattle.wot_engine.specs.Ran.{Did};
@@ -34,6 +35,8 @@ pub fn load<D: Shelf, F: Fn(Ask) -> bool>(
     ensures did { IfOk result (λ reply. Did (rows_of policy.old) (commands.Load name.now)
         (state_of engine.old) (record { world = D.world shelf.old; faults = D.faults shelf.old }) reply
         (state_of engine.new) (record { world = D.world shelf.new; faults = D.faults shelf.new })) }
+    ensures entries { OnErr result
+        (MayPut (state_of engine.old) (loads name.now) (D.world shelf.old) (D.world shelf.new)) }
     ensures later { D.faults shelf.old ≤ D.faults shelf.new }
     ensures short { IfOk result (λ reply. is_short reply ≡ true) }
     ensures kept { OnErr result (engine.new ≡ engine.old) }

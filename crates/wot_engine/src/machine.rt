@@ -1,5 +1,6 @@
 ghost use Rattle.std.specs.Prelude.{◌≡◌, ◌≤◌, ◌<◌, ◌+◌, ◌-◌, ◌^◌, [], ◌++◌, length, vec_len, vec_capacity};
 ghost use Rattle.std.specs.Prelude.{Some, None, false, true, IfOk, IfSome, IsOk, OnOk, OnErr};
+ghost use Rattle.std.specs.List.{AllByRecursion};
 ghost use Rattle.wot_types.specs.Limits.{standard_limits};
 ghost use Rattle.wot_policy.specs.declared.rows.PolicyRows.{PolicyRows};
 ghost use Rattle.wot_policy.specs.Kept.{IsFaithful, rows_of};
@@ -9,17 +10,19 @@ ghost use Rattle.wot_script.specs.Grammar.{command_of};
 ghost use Rattle.wot_script.specs.Spelling.{HasSpelling, IsWithin};
 ghost use Rattle.wot_script.specs.Replies.{HasWords, is_short, reply_text};
 ghost use Rattle.wot_cache.specs.State.{empty, state_of, StaysButMarks};
-ghost use Rattle.wot_engine.specs.Lines.{is_silent};
-ghost use Rattle.wot_certd.specs.World.{Answer};
-ghost use Rattle.wot_engine.specs.Entry.{entry_for, entry_in};
+ghost use Rattle.wot_engine.specs.Lines.{heard, is_silent};
+ghost use Rattle.wot_engine.specs.Entry.{MayPut, entry_for, unused, use_of};
 ghost use Rattle.wot_engine.specs.LineStep.{Does};
 ghost use Rattle.wot_engine.specs.Ran.{Ran, Did};
-ghost use Rattle.wot_engine.specs.Stepped.{Replied, Stepped};
+ghost use Rattle.wot_engine.specs.Stepped.{Replied, Stepped, TellsBehind};
+ghost use Rattle.wot_engine.specs.Transcript.{octets_of};
 ghost use Rattle.wot_engine.specs.Machine.{kept, StaysKept};
 ghost use Rattle.wot_engine.specs.Pacing.{is_pacing, left_by, reply_in, settled};
 ghost use Rattle.wot_engine.specs.Fresh.{IsDump, OnDump, IsMadeAnew};
-ghost use Rattle.wot_engine.specs.Made.{heard, LineMakes, Makes};
-ghost use Rattle.wot_engine.specs.Whole.{whole_of, IsTurnedBy};
+ghost use Rattle.wot_engine.specs.Made.{LineMakes, Makes};
+ghost use Rattle.wot_engine.specs.Served.{unserved};
+ghost use Rattle.wot_engine.specs.Watching.{AreLines, IsWatchLine, is_watching, told_all};
+ghost use Rattle.wot_engine.specs.Whole.{watched, whole_of, IsTurnedBy};
 
 use crate::absence::absence;
 use crate::answer::ask;
@@ -31,7 +34,9 @@ use crate::load::load;
 use crate::pacing::{close as close_cursor, next, over};
 use crate::pending::pending;
 use crate::reasons::explain;
+use crate::store::store;
 use crate::told::{Moved, Told, alone, plain, settle};
+use crate::watching::{off, on, tell_all, watch_lines};
 use std::alloc::Global;
 use std::marker::Model;
 use wot_cache::Engine;
@@ -41,6 +46,7 @@ use wot_policy::{Ask, Policy};
 use wot_script::{Command, LineFault, Reply, print_reply, read_line};
 use wot_types::{Limits, Memory, Steps};
 use wot_verdict::Verdict;
+use wot_watch::Watches;
 
 /// The most octets of a line, without its line feed.
 const LONGEST: usize = 16_777_216;
@@ -55,6 +61,7 @@ pub struct Machine {
     alloc: Global,
     engine: Engine,
     cursors: Cursors,
+    watches: Watches,
     steps: Steps,
 }
 
@@ -65,7 +72,7 @@ impl Model for Machine {
 
     ghost Value = { TheMachine };
 
-    ghost view = { λ a. record { engine = a.engine; cursors = a.cursors; made = a.steps.made } };
+    ghost view = { λ a. record { engine = a.engine; cursors = a.cursors; watches = a.watches; made = a.steps.made } };
 
     ghost invariant = { λ a. a.engine.keyring.limits ≡ standard_limits };
 }
@@ -75,12 +82,14 @@ impl Machine {
     pub fn new(alloc: Global) -> Machine
         ensures start { result.engine ≡ empty standard_limits }
         ensures cursors { result.cursors ≡ [] }
+        ensures watches { result.watches ≡ [] }
         ensures made { result.made ≡ 0 }
     {
         Machine {
             alloc,
             engine: Engine::new(alloc, Limits::standard()),
             cursors: Cursors::new(alloc),
+            watches: Watches::new(alloc),
             steps: Steps::new(),
         }
     }
@@ -94,7 +103,8 @@ impl Machine {
 
     /// One line, without its line feed; its reply is appended. After `Memory` `out` is as before, and so is the machine
     /// but for marks and the count of edges made. Room for 128 octets is taken in `out` before anything changes. A
-    /// `load` line calls the shelf once; no other does.
+    /// `load` line calls the shelf once, and a `store` line twice at most; no other calls it. After `Memory` an entry
+    /// that a `store` line puts may stand there already.
     #[tactic(auto, using(crate::proofs::Unchanged::unchanged))]
     pub fn line<D: Shelf, F: Fn(Ask) -> bool>(
         &mut self,
@@ -110,7 +120,10 @@ impl Machine {
         ensures step { OnOk result (Stepped (rows_of policy.old) line.now
             (kept self.old) (record { world = D.world shelf.old; faults = D.faults shelf.old }) out.old.items
             (kept self.new) (record { world = D.world shelf.new; faults = D.faults shelf.new }) out.new.items) }
-        ensures untouched { entry_in line.now ≡ None → shelf.new ≡ shelf.old }
+        ensures untouched { entry_for (state_of self.old.engine) (use_of (heard line.now)) ≡ None →
+            shelf.new ≡ shelf.old }
+        ensures entries { OnErr result (MayPut (state_of self.old.engine) (use_of (heard line.now))
+            (D.world shelf.old) (D.world shelf.new)) }
         ensures later { D.faults shelf.old ≤ D.faults shelf.new }
         // The lines that the reply to `dump` holds make the state anew in a fresh machine, by whatever rows it judges.
         ensures anew { OnOk result (IsDump line.now → (rows : PolicyRows) → IsMadeAnew rows (state_of self.old.engine)) }
@@ -130,7 +143,7 @@ impl Machine {
     {
         out.reserve(ROOM)?;
         match self.reply(line, shelf, policy)? {
-            Some(told) => self.tell(told, out),
+            Some(told) => self.put(told, out),
             None => Ok(()),
         }
     }
@@ -150,9 +163,12 @@ impl Machine {
         requires faithful { IsFaithful F.Fn policy.old }
         ensures replied { IfOk result (λ told. Replied (rows_of policy.old) line.now
             (kept self.old) (record { world = D.world shelf.old; faults = D.faults shelf.old }) (reply_in told)
-            (whole_of self.new.engine (left_by told self.new.cursors))
+            (watched (whole_of self.new.engine (left_by told self.new.cursors)) self.new.watches)
             (record { world = D.world shelf.new; faults = D.faults shelf.new })) }
-        ensures untouched { entry_in line.now ≡ None → shelf.new ≡ shelf.old }
+        ensures untouched { entry_for (state_of self.old.engine) (use_of (heard line.now)) ≡ None →
+            shelf.new ≡ shelf.old }
+        ensures entries { OnErr result (MayPut (state_of self.old.engine) (use_of (heard line.now))
+            (D.world shelf.old) (D.world shelf.new)) }
         ensures later { D.faults shelf.old ≤ D.faults shelf.new }
         ensures words { IfOk result (λ told. IfSome told (λ told. HasWords told.reply)) }
         ensures anew { OnOk result (IsDump line.now → (rows : PolicyRows) → IsMadeAnew rows (state_of self.old.engine)) }
@@ -178,6 +194,7 @@ impl Machine {
             self.alloc,
             &mut self.engine,
             &mut self.cursors,
+            &mut self.watches,
             &mut self.steps,
             line,
             shelf,
@@ -187,7 +204,7 @@ impl Machine {
     }
 
     /// Appends a reply, and moves the cursor of which it is a piece. After `Memory` all is as before.
-    fn tell(&mut self, told: Told, out: &mut Vec<u8>) -> Result<(), Memory>
+    fn put(&mut self, told: Told, out: &mut Vec<u8>) -> Result<(), Memory>
         requires words { HasWords told.reply }
         ensures appended { OnOk result (out.new.items ≡ out.old.items ++ reply_text told.reply) }
         ensures settled { OnOk result (self.new.cursors ≡ settled told.moved self.old.cursors) }
@@ -195,6 +212,7 @@ impl Machine {
         ensures sure { is_short told.reply ≡ true → vec_len out.old + 128 ≤ vec_capacity out.old → IsOk result }
         ensures room { vec_capacity out.old ≤ vec_capacity out.new }
         ensures engine { self.new.engine ≡ self.old.engine }
+        ensures watches { self.new.watches ≡ self.old.watches }
         ensures made { self.new.made ≡ self.old.made }
     {
         let Told { reply, moved } = told;
@@ -207,10 +225,64 @@ impl Machine {
     pub(crate) fn settle(&mut self, moved: Option<Moved>)
         ensures settled { self.new.cursors ≡ settled moved self.old.cursors }
         ensures engine { self.new.engine ≡ self.old.engine }
+        ensures watches { self.new.watches ≡ self.old.watches }
         ensures made { self.new.made ≡ self.old.made }
     {
         settle(moved, &mut self.cursors);
     }
+
+    /// Appends the watch lines of what is kept, by name of watch: one for each watch whose amount isn't the one last
+    /// told, and one for each whose view isn't open. They are told then, and the latter watches are taken away. After
+    /// `Memory` `out` is as before, and so is the machine but for marks and the count of edges made.
+    pub fn tell(&mut self, out: &mut Vec<u8>) -> Result<(), Memory>
+        ensures tells { OnOk result (TellsBehind (kept self.old) out.old.items (kept self.new) out.new.items) }
+        ensures kept { OnErr result (StaysKept self.old self.new × (out.new.items ≡ out.old.items)) }
+        ensures stays { StaysButMarks self.old.engine self.new.engine }
+        ensures never_less { self.old.made ≤ self.new.made }
+    {
+        let lines = self.watch_lines()?;
+        let text = text_of(self.alloc, &lines)?;
+        out.extend_from_slice(&text)?;
+        self.told(&lines);
+        Ok(())
+    }
+
+    /// The watch lines, none of which is told yet.
+    pub(crate) fn watch_lines(&mut self) -> Result<Vec<Reply>, Memory>
+        ensures lines { IfOk result (λ lines. AreLines (state_of self.old.engine) self.old.watches lines.items) }
+        ensures each { IfOk result (λ lines. AllByRecursion IsWatchLine lines.items) }
+        ensures stays { StaysButMarks self.old.engine self.new.engine }
+        ensures cursors { self.new.cursors ≡ self.old.cursors }
+        ensures watches { self.new.watches ≡ self.old.watches }
+        ensures never_less { self.old.made ≤ self.new.made }
+    {
+        let steps = &mut self.steps;
+        watch_lines(self.alloc, &mut self.engine, steps, &self.watches)
+    }
+
+    /// These watch lines were told.
+    pub(crate) fn told(&mut self, lines: &[Reply])
+        ensures told { self.new.watches ≡ told_all self.old.watches lines.now }
+        ensures engine { self.new.engine ≡ self.old.engine }
+        ensures cursors { self.new.cursors ≡ self.old.cursors }
+        ensures made { self.new.made ≡ self.old.made }
+    {
+        tell_all(&mut self.watches, lines);
+    }
+}
+
+/// The octets of watch lines.
+fn text_of(alloc: Global, lines: &[Reply]) -> Result<Vec<u8>, Memory>
+    requires each { AllByRecursion IsWatchLine lines.now }
+    ensures text { IfOk result (λ text. text.items ≡ octets_of lines.now) }
+{
+    let mut text = Vec::new(alloc);
+    let mut rest = lines;
+    'rest: while let Some((line, others)) = rest.split_first() {
+        print_reply(line, &mut text)?;
+        rest = others;
+    }
+    Ok(text)
 }
 
 /// Whether a line is empty or a comment.
@@ -228,6 +300,7 @@ fn answer<D: Shelf, F: Fn(Ask) -> bool>(
     alloc: Global,
     engine: &mut Engine,
     cursors: &mut Cursors,
+    watches: &mut Watches,
     steps: &mut Steps,
     line: &[u8],
     shelf: &mut D,
@@ -240,16 +313,20 @@ fn answer<D: Shelf, F: Fn(Ask) -> bool>(
     requires judged { IsJudgedBy (rows_of policy.old) engine.old.keyring }
     requires faithful { IsFaithful F.Fn policy.old }
     ensures ran { IfOk result (λ told. Ran (rows_of policy.old) (command_of line.now)
-        (whole_of engine.old cursors.old) (record { world = D.world shelf.old; faults = D.faults shelf.old }) told.reply
-        (whole_of engine.new (settled told.moved cursors.new))
+        (watched (whole_of engine.old cursors.old) watches.old)
+        (record { world = D.world shelf.old; faults = D.faults shelf.old }) told.reply
+        (watched (whole_of engine.new (settled told.moved cursors.new)) watches.new)
         (record { world = D.world shelf.new; faults = D.faults shelf.new })) }
-    ensures untouched { entry_for (command_of line.now) ≡ None → shelf.new ≡ shelf.old }
+    ensures untouched { entry_for (state_of engine.old) (use_of (command_of line.now)) ≡ None → shelf.new ≡ shelf.old }
+    ensures entries { OnErr result (MayPut (state_of engine.old) (use_of (command_of line.now))
+        (D.world shelf.old) (D.world shelf.new)) }
     ensures later { D.faults shelf.old ≤ D.faults shelf.new }
     ensures words { IfOk result (λ told. HasWords told.reply) }
     ensures anew { OnOk result (IsDump line.now → (rows : PolicyRows) → IsMadeAnew rows (state_of engine.old)) }
     ensures quiet { IfOk result (λ told. is_short told.reply ≡ false →
-        StaysButMarks engine.old engine.new × (cursors.new ≡ cursors.old)) }
-    ensures kept { OnErr result (StaysButMarks engine.old engine.new × (cursors.new ≡ cursors.old)) }
+        StaysButMarks engine.old engine.new × (cursors.new ≡ cursors.old) × (watches.new ≡ watches.old)) }
+    ensures kept { OnErr result
+        (StaysButMarks engine.old engine.new × (cursors.new ≡ cursors.old) × (watches.new ≡ watches.old)) }
     ensures makes { LineMakes result (command_of line.now) cursors.old engine.old engine.new
         steps.old.made steps.new.made }
     ensures standard { engine.new.keyring.limits ≡ standard_limits }
@@ -261,17 +338,20 @@ fn answer<D: Shelf, F: Fn(Ask) -> bool>(
     ensures rows { rows_of policy.new ≡ rows_of policy.old }
 {
     match read_line(alloc, line) {
-        Ok(command) => act(alloc, engine, cursors, steps, &command, shelf, policy),
+        Ok(command) => act(
+            alloc, engine, cursors, watches, steps, &command, shelf, policy,
+        ),
         Err(LineFault::Line) => Ok(alone(Reply::Line)),
         Err(LineFault::Memory) => Err(Memory),
     }
 }
 
-/// Runs a command, which may be one of a cursor.
+/// Runs a command, which may be one of a cursor or of a watch.
 fn act<D: Shelf, F: Fn(Ask) -> bool>(
     alloc: Global,
     engine: &mut Engine,
     cursors: &mut Cursors,
+    watches: &mut Watches,
     steps: &mut Steps,
     command: &Command,
     shelf: &mut D,
@@ -285,15 +365,19 @@ fn act<D: Shelf, F: Fn(Ask) -> bool>(
     requires judged { IsJudgedBy (rows_of policy.old) engine.old.keyring }
     requires faithful { IsFaithful F.Fn policy.old }
     ensures ran { IfOk result (λ told. Ran (rows_of policy.old) (Some command.now)
-        (whole_of engine.old cursors.old) (record { world = D.world shelf.old; faults = D.faults shelf.old }) told.reply
-        (whole_of engine.new (settled told.moved cursors.new))
+        (watched (whole_of engine.old cursors.old) watches.old)
+        (record { world = D.world shelf.old; faults = D.faults shelf.old }) told.reply
+        (watched (whole_of engine.new (settled told.moved cursors.new)) watches.new)
         (record { world = D.world shelf.new; faults = D.faults shelf.new })) }
-    ensures untouched { entry_for (Some command.now) ≡ None → shelf.new ≡ shelf.old }
+    ensures untouched { entry_for (state_of engine.old) (use_of (Some command.now)) ≡ None → shelf.new ≡ shelf.old }
+    ensures entries { OnErr result (MayPut (state_of engine.old) (use_of (Some command.now))
+        (D.world shelf.old) (D.world shelf.new)) }
     ensures later { D.faults shelf.old ≤ D.faults shelf.new }
     ensures anew { OnOk result (OnDump command.now ((rows : PolicyRows) → IsMadeAnew rows (state_of engine.old))) }
     ensures quiet { IfOk result (λ told. is_short told.reply ≡ false →
-        StaysButMarks engine.old engine.new × (cursors.new ≡ cursors.old)) }
-    ensures kept { OnErr result (StaysButMarks engine.old engine.new × (cursors.new ≡ cursors.old)) }
+        StaysButMarks engine.old engine.new × (cursors.new ≡ cursors.old) × (watches.new ≡ watches.old)) }
+    ensures kept { OnErr result
+        (StaysButMarks engine.old engine.new × (cursors.new ≡ cursors.old) × (watches.new ≡ watches.old)) }
     ensures makes { LineMakes result (Some command.now) cursors.old engine.old engine.new
         steps.old.made steps.new.made }
     ensures standard { engine.new.keyring.limits ≡ standard_limits }
@@ -310,11 +394,15 @@ fn act<D: Shelf, F: Fn(Ask) -> bool>(
         }
         Command::CursorNext(name, count) => next(alloc, engine, steps, cursors, name, *count),
         Command::CursorClose(name) => Ok(close_cursor(engine, cursors, name)),
+        Command::WatchOn(name, view, target, wanted, uid) => plain(on(
+            alloc, engine, steps, watches, name, view, target, *wanted, uid,
+        )),
+        Command::WatchOff(name) => Ok(alone(off(watches, name))),
         _ => plain(obey(alloc, engine, steps, command, shelf, policy)),
     }
 }
 
-/// Runs a command, which may read an entry of the shelf.
+/// Runs a command, which may call the shelf.
 fn obey<D: Shelf, F: Fn(Ask) -> bool>(
     alloc: Global,
     engine: &mut Engine,
@@ -324,6 +412,7 @@ fn obey<D: Shelf, F: Fn(Ask) -> bool>(
     policy: &mut Policy<F>,
 ) -> Result<Reply, Memory>
     requires plain { is_pacing command.now ≡ false }
+    requires unwatched { is_watching command.now ≡ false }
     requires within { IsWithin 16777216 command.now }
     requires spelled { HasSpelling command.now }
     requires standard { engine.old.keyring.limits ≡ standard_limits }
@@ -334,7 +423,9 @@ fn obey<D: Shelf, F: Fn(Ask) -> bool>(
     ensures did { IfOk result (λ reply. Did (rows_of policy.old) command.now
         (state_of engine.old) (record { world = D.world shelf.old; faults = D.faults shelf.old }) reply
         (state_of engine.new) (record { world = D.world shelf.new; faults = D.faults shelf.new })) }
-    ensures untouched { entry_for (Some command.now) ≡ None → shelf.new ≡ shelf.old }
+    ensures untouched { entry_for (state_of engine.old) (use_of (Some command.now)) ≡ None → shelf.new ≡ shelf.old }
+    ensures entries { OnErr result (MayPut (state_of engine.old) (use_of (Some command.now))
+        (D.world shelf.old) (D.world shelf.new)) }
     ensures later { D.faults shelf.old ≤ D.faults shelf.new }
     ensures anew { OnOk result (OnDump command.now ((rows : PolicyRows) → IsMadeAnew rows (state_of engine.old))) }
     ensures quiet { IfOk result (λ reply. is_short reply ≡ false → StaysButMarks engine.old engine.new) }
@@ -350,11 +441,12 @@ fn obey<D: Shelf, F: Fn(Ask) -> bool>(
 {
     match command {
         Command::Load(name) => load(engine, name, shelf, policy),
+        Command::Store(fpr) => store(alloc, engine, fpr, shelf),
         _ => run(alloc, engine, steps, command, policy),
     }
 }
 
-/// Runs a command that reads no entry.
+/// Runs a command that leaves the shelf alone.
 fn run<F: Fn(Ask) -> bool>(
     alloc: Global,
     engine: &mut Engine,
@@ -362,8 +454,9 @@ fn run<F: Fn(Ask) -> bool>(
     command: &Command,
     policy: &mut Policy<F>,
 ) -> Result<Reply, Memory>
-    requires alone { entry_for (Some command.now) ≡ None }
+    requires alone { use_of (Some command.now) ≡ unused }
     requires plain { is_pacing command.now ≡ false }
+    requires unwatched { is_watching command.now ≡ false }
     requires within { IsWithin 16777216 command.now }
     requires spelled { HasSpelling command.now }
     requires standard { engine.old.keyring.limits ≡ standard_limits }
@@ -372,7 +465,7 @@ fn run<F: Fn(Ask) -> bool>(
     requires judged { IsJudgedBy (rows_of policy.old) engine.old.keyring }
     requires faithful { IsFaithful F.Fn policy.old }
     ensures does { IfOk result (λ told.
-        Does (rows_of policy.old) (state_of engine.old) command.now Answer.absent told (state_of engine.new)) }
+        Does (rows_of policy.old) (state_of engine.old) command.now unserved told (state_of engine.new)) }
     ensures anew { OnOk result (OnDump command.now ((rows : PolicyRows) → IsMadeAnew rows (state_of engine.old))) }
     ensures quiet { IfOk result (λ reply. is_short reply ≡ false → StaysButMarks engine.old engine.new) }
     ensures kept { OnErr result (StaysButMarks engine.old engine.new) }
@@ -387,7 +480,7 @@ fn run<F: Fn(Ask) -> bool>(
 {
     match command {
         Command::Import(octets) => import(engine, octets.items(), policy),
-        Command::Load(_) => unreachable!(),
+        Command::Load(_) | Command::Store(_) => unreachable!(),
         Command::Remove(fpr) => Ok(remove(engine, fpr)),
         Command::Good(number, fpr) => set_verdict(engine, *number, Verdict::Good(*fpr)),
         Command::Bad(number) => set_verdict(engine, *number, Verdict::Bad),
@@ -419,8 +512,10 @@ fn run<F: Fn(Ask) -> bool>(
         Command::Keys => keys(alloc, engine),
         Command::Export(fpr) => export(alloc, engine, fpr),
         Command::Dump => dump(alloc, engine),
-        Command::CursorOver(_, _, _) | Command::CursorNext(_, _) | Command::CursorClose(_) => {
-            unreachable!()
-        }
+        Command::CursorOver(_, _, _)
+        | Command::CursorNext(_, _)
+        | Command::CursorClose(_)
+        | Command::WatchOn(_, _, _, _, _)
+        | Command::WatchOff(_) => unreachable!(),
     }
 }

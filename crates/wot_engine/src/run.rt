@@ -5,9 +5,10 @@ ghost use Rattle.wot_io.specs.Counts.{Rose};
 ghost use Rattle.wot_io.specs.Input.{HasNoFeed, lines_of};
 ghost use Rattle.wot_io.specs.Sink.{GainsPrefix};
 ghost use Rattle.wot_engine.specs.Machine.{kept};
-ghost use Rattle.wot_engine.specs.Transcript.{AllTold, TakesAtMost, Answered, AnsweredFirst, Begun, AnsweredWhole, AnsweredMost, HasMost};
+ghost use Rattle.wot_engine.specs.Transcript.{AllTold, TakesAtMost, Answered, AnsweredFirst, Begun, Leaves};
+ghost use Rattle.wot_engine.specs.Transcript.{AnsweredWhole, AnsweredMost, HasMost};
 ghost use Rattle.wot_engine.specs.Held.{Moves};
-ghost use Rattle.wot_engine.specs.Turn.{RepliesBehind};
+ghost use Rattle.wot_engine.specs.Turn.{RepliesBehind, SaidBehind};
 ghost use Rattle.wot_engine.specs.declared.run.Stop.TheVariants as stops;
 
 use crate::laws::each_line_has_one_outcome;
@@ -51,7 +52,38 @@ impl From<Failed> for Stop {
 /// So many octets of replies are held back at most, but for the last reply.
 const MOST_HELD: usize = 65_536;
 
-/// Holds back the reply to a line that was given. After `Memory` what is held is as before.
+/// Appends the reply to a line that was given. After `Memory` what is held is as before.
+fn say<D: Shelf, F: Fn(Ask) -> bool>(
+    machine: &mut Machine,
+    line: Line,
+    text: &[u8],
+    shelf: &mut D,
+    policy: &mut Policy<F>,
+    out: &mut Vec<u8>,
+) -> Result<(), Memory>
+    requires some { line ≢ Line.End }
+    requires countable { machine.old.engine.keyring.changes < 2 ^ 64 - 1 }
+    requires turnable { machine.old.engine.turns.count < 2 ^ 64 - 1 }
+    requires judged { IsJudgedBy (rows_of policy.old) machine.old.engine.keyring }
+    requires faithful { IsFaithful F.Fn policy.old }
+    ensures said { OnOk result (SaidBehind (rows_of policy.old) line text.now (kept machine.old)
+        (D.world shelf.old) out.old.items (kept machine.new) (D.world shelf.new) out.new.items) }
+    ensures kept { OnErr result (out.new.items ≡ out.old.items) }
+    ensures counted { machine.new.engine.keyring.changes ≤ machine.old.engine.keyring.changes + 1 }
+    ensures turned { machine.new.engine.turns.count ≤ machine.old.engine.turns.count + 1 }
+    ensures judged { IsJudgedBy (rows_of policy.old) machine.new.engine.keyring }
+    ensures faithful { IsFaithful F.Fn policy.new }
+    ensures rows { rows_of policy.new ≡ rows_of policy.old }
+{
+    match line {
+        Line::Text => machine.line(text, shelf, policy, out),
+        Line::Long => print_reply(&Reply::Long, out),
+        Line::End => unreachable!(),
+    }
+}
+
+/// Holds back the reply to a line that was given, and the watch lines behind it. After `Memory` what is held is as
+/// before.
 fn reply_to<D: Shelf, F: Fn(Ask) -> bool>(
     machine: &mut Machine,
     line: Line,
@@ -74,11 +106,13 @@ fn reply_to<D: Shelf, F: Fn(Ask) -> bool>(
     ensures faithful { IsFaithful F.Fn policy.new }
     ensures rows { rows_of policy.new ≡ rows_of policy.old }
 {
-    match line {
-        Line::Text => machine.line(text, shelf, policy, out),
-        Line::Long => print_reply(&Reply::Long, out),
-        Line::End => unreachable!(),
+    let start = out.len();
+    say(machine, line, text, shelf, policy, out)?;
+    if let Err(Memory) = machine.tell(out) {
+        out.truncate(start);
+        return Err(Memory);
     }
+    Ok(())
 }
 
 /// Writes what is held back, unless a further line is at hand, for which nothing has to be read, and little is held.
@@ -111,6 +145,8 @@ pub fn run<S: Source, K: Sink, D: Shelf, F: Fn(Ask) -> bool>(
     requires faithful { IsFaithful F.Fn policy.old }
     ensures whole { AllTold (S.left input.old) (K.written output.old) (D.world shelf.old) (λ octets before world.
         OnOk result (Answered (rows_of policy.old) world (lines_of octets) before (K.written output.new) × (S.left input.new ≡ Some []))) }
+    ensures shelf { AllTold (S.left input.old) (K.written output.old) (D.world shelf.old) (λ octets before world.
+        OnOk result (Leaves (rows_of policy.old) world (lines_of octets) (D.world shelf.old) (D.world shelf.new))) }
     ensures prefix { AllTold (S.left input.old) (K.written output.old) (D.world shelf.old) (λ octets before world.
         Begun (rows_of policy.old) world (lines_of octets) before (K.written output.new)) }
     ensures first { AllTold (S.left input.old) (K.written output.old) (D.world shelf.old) (λ octets before world.

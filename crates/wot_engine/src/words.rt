@@ -5,7 +5,8 @@ ghost use Rattle.wot_io.specs.Input.{lines_of};
 ghost use Rattle.wot_engine.specs.Ends.{status_at};
 ghost use Rattle.wot_engine.specs.Forms.{IsForm, IsRun, OnGenerated};
 ghost use Rattle.wot_engine.specs.Generated.{SummaryBegun, Summarized};
-ghost use Rattle.wot_engine.specs.Transcript.{Told, AllTold, TakesAtMost, Answered, AnsweredFirst, Begun, AnsweredWhole, AnsweredMost};
+ghost use Rattle.wot_engine.specs.Transcript.{Told, AllTold, TakesAtMost, Answered, AnsweredFirst, Begun, Leaves};
+ghost use Rattle.wot_engine.specs.Transcript.{AnsweredWhole, AnsweredMost};
 
 use crate::form::{Form, form_of};
 use crate::generated::generate;
@@ -20,8 +21,8 @@ use wot_policy::{Ask, Policy};
 /// 0 where the input was read to its end and every reply was written, 2 where the arguments are wrong,
 /// 3 after a failed read, 4 after a failed write, 5 for want of memory, and 6 where 2^30 octets were taken before the
 /// end. For each line the reply is written whole before more is read; the replies to the lines that one read brought
-/// are written together. The shelf is the certificate directory, from which `load` reads. The policy says which
-/// signatures are admitted; it is asked once for each sound signature that an import or a load adds.
+/// are written together. The shelf is the certificate directory, from which `load` reads and where `store` writes. The
+/// policy says which signatures are admitted; it is asked once for each sound signature that an import or a load adds.
 ///
 /// With `gen X N` neither input nor shelf is called. A script is made of X and N and answered over an empty shelf in
 /// memory, and three lines on it are written; the status is 0, 4 or 5.
@@ -39,6 +40,11 @@ pub fn run_words<S: Source, K: Sink, D: Shelf, F: Fn(Ask) -> bool>(
     ensures whole { AllTold (S.left input.old) (K.written output.old) (D.world shelf.old) (λ octets before world.
         IsRun (map string_bytes words.now) → result ≡ 0 →
         Answered (rows_of policy.old) world (lines_of octets) before (K.written output.new) × (S.left input.new ≡ Some [])) }
+
+    // The shelf is left as the lines of the input leave it.
+    ensures shelf { AllTold (S.left input.old) (K.written output.old) (D.world shelf.old) (λ octets before world.
+        IsRun (map string_bytes words.now) → result ≡ 0 →
+        Leaves (rows_of policy.old) world (lines_of octets) (D.world shelf.old) (D.world shelf.new)) }
 
     // Whatever the status, what was written is a prefix of the transcript.
     ensures prefix { AllTold (S.left input.old) (K.written output.old) (D.world shelf.old) (λ octets before world.

@@ -37,6 +37,7 @@ impl Tally {
         ensures added { (replies : List TheReply) → Tells self.old replies →
             OnOk result (Tells self.new (replies ++ reply.now ∷ [])) }
         ensures amounts { self.new.amounts < self.old.amounts + 2 ^ 32 }
+        ensures within { self.new.amounts ≤ self.old.amounts + amount_of reply.now }
     {
         self.octets.clear();
         print_reply(reply, &mut self.octets)?;

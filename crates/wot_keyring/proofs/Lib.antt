@@ -36,4 +36,5 @@ pub mod Restamping
 pub mod Logged
 pub mod Since
 pub mod InPlace
+pub mod Entry
 pub mod SpareRoom

@@ -3,6 +3,7 @@ pub mod Held
 pub mod Verdict
 pub mod Removal
 pub mod Import
+pub mod Entry
 pub mod Kept
 pub mod Dump
 pub mod Pending

@@ -2,6 +2,7 @@ ghost use Rattle.std.specs.Prelude.{◌≡◌, ◌<◌, ◌^◌, ◌+◌, length
 ghost use Rattle.wot_policy.specs.Kept.{IsFaithful, rows_of};
 ghost use Rattle.wot_cert.specs.Counts.{items_of};
 ghost use Rattle.wot_keyring.specs.Import.{any_clash, is_entry, stands_under};
+ghost use Rattle.wot_keyring.specs.Entry.{TellsEntry, TellsParts};
 ghost use Rattle.wot_keyring.specs.Importing.{alone, IsFirstFull, TellsRead};
 ghost use Rattle.wot_keyring.specs.Index.{stands_among, Notes, NotesNothing};
 ghost use Rattle.wot_keyring.specs.Kept.{AreSortedByFpr, AreJudged, AreNamed};
@@ -27,6 +28,7 @@ use wot_types::{Fpr, Limit, Limits, Memory, Name, compare_fprs};
 pub(crate) fn read_certs(alloc: Global, bytes: &[u8]) -> Result<Assembled, Refusal>
     requires short { length bytes.now < 2 ^ 29 }
     ensures read { TellsRead result bytes.now }
+    ensures parts { TellsParts result bytes.now }
 {
     assembled();
     let packets = match read_packets(alloc, bytes) {
@@ -58,6 +60,26 @@ pub(crate) fn is_entry(name: &Name, read: &Assembled) -> bool
     match read.certs.as_slice() {
         [cert] => read.skipped == 0 && stands_under(name, cert),
         _ => false,
+    }
+}
+
+/// The one certificate of the entry of a directory that has this name, not judged. `Misfiled` is told where the octets
+/// spell more or less than one certificate, or another key beside it, or where the name is the fingerprint of another.
+pub fn read_entry(alloc: Global, name: &Name, octets: &[u8]) -> Result<Cert, Refusal>
+    requires short { length octets.now < 2 ^ 29 }
+    ensures entry { TellsEntry result name.now octets.now }
+{
+    let found = match read_certs(alloc, octets) {
+        Ok(found) => found,
+        Err(refusal) => return Err(refusal),
+    };
+    if !is_entry(name, &found) {
+        return Err(Refusal::Misfiled);
+    }
+    let mut certs = found.certs.into_vec();
+    match certs.pop() {
+        Some(cert) => Ok(cert),
+        None => Err(Refusal::Misfiled),
     }
 }
 

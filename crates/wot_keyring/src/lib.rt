@@ -26,6 +26,7 @@ pub use certs::CertsIter;
 pub use certs_from::CertsFrom;
 pub use dump::put_line;
 pub use import::Imported;
+pub use importing::read_entry;
 pub use keyring::Keyring;
 pub use pending::Pending;
 pub use refusal::{Absent, ExportFault, Refusal};

@@ -25,7 +25,7 @@ use Rattle.wot_script.specs.declared.reply.LabelLine.{LabelLine}
 use Rattle.wot_script.specs.Spelling.{IsLineFor, most_octets}
 use Rattle.wot_script.specs.Texts.{joined}
 use Rattle.wot_script.specs.declared.command.Command.{Command}
-use Rattle.wot_script.specs.declared.command.Command.TheVariants.{Import, Load, Remove, Good, Bad, Unjudge, Time, Root, Close, Ask, Explain, Pending, Keys, Export, Dump, Absence, Check, CursorOver, CursorNext, CursorClose}
+use Rattle.wot_script.specs.declared.command.Command.TheVariants.{Import, Load, Store, Remove, Good, Bad, Unjudge, Time, Root, Close, Ask, Explain, Pending, Keys, Export, Dump, Absence, Check, CursorOver, CursorNext, CursorClose, WatchOn, WatchOff}
 use Rattle.wot_script.specs.Uid.{escape, escaped}
 use Rattle.wot_script.proofs.Spaceless.{Lacks, feedless_digits, lacks_from_test, lacks_decimal, lacks_test, lacks_view_name}
 
@@ -177,6 +177,11 @@ pub load_line : (name : Name) (text : List ℕ) → Lacks 10 text → length tex
 unfolding lacks_test
 load_line name text free size =
     one_line (Load name) 108 (codes "oad ") (text ∷ []) refl (λ e. omega arith) (free, tt) (omega (arith, size))
+
+pub store_line : (fpr : Fpr) (ds : List ℕ) → AreDigits ds → IsLineFor (Store fpr) (joined (codes "store " ∷ ds ∷ []))
+unfolding lacks_test
+store_line fpr ds digits =
+    one_line (Store fpr) 115 (codes "tore ") (ds ∷ []) refl (λ e. omega arith) (digits.free, tt) (omega (arith, digits.size))
 
 pub remove_line : (fpr : Fpr) (ds : List ℕ) → AreDigits ds → IsLineFor (Remove fpr) (joined (codes "drop " ∷ ds ∷ []))
 unfolding lacks_test
@@ -335,3 +340,36 @@ unfolding lacks_test
 end_line name first =
     one_line (CursorClose name) 99 (codes "ursor ") (name ∷ codes " close" ∷ []) refl (λ e. omega arith)
     (first.free, (word (codes " close") refl, tt)) (omega (arith, first.size))
+
+pub on_line : (name view : List ℕ) (fpr : Fpr) (wanted : ℕ) (uid ds ws : List ℕ) → IsName name → IsName view → AreDigits ds → IsNumeral ws
+    → IsLineFor (WatchOn name view fpr wanted uid)
+    (joined (codes "watch " ∷ name ∷ codes " on " ∷ view ∷ codes " " ∷ ds ∷ codes " " ∷ ws ∷ codes " " ∷ escaped uid ∷ []))
+unfolding lacks_test
+on_line name view fpr wanted uid ds ws first second digits number =
+    one_line (WatchOn name view fpr wanted uid) 119 (codes "atch ")
+    (name ∷ codes " on " ∷ view ∷ codes " " ∷ ds ∷ codes " " ∷ ws ∷ codes " " ∷ escaped uid ∷ []) refl (λ e. omega arith) (
+      first.free,
+      (
+        word (codes " on ") refl,
+        (
+          second.free,
+          (
+            word (codes " ") refl,
+            (
+              digits.free,
+              (
+                word (codes " ") refl,
+                (number.free, (word (codes " ") refl, (feedless_escaped uid, tt))),
+              ),
+            ),
+          ),
+        ),
+      ),
+    )
+    (omega (arith, first.size, second.size, digits.size, number.size, length-escaped uid))
+
+pub off_line : (name : List ℕ) → IsName name → IsLineFor (WatchOff name) (joined (codes "watch " ∷ name ∷ codes " off" ∷ []))
+unfolding lacks_test
+off_line name first =
+    one_line (WatchOff name) 119 (codes "atch ") (name ∷ codes " off" ∷ []) refl (λ e. omega arith)
+    (first.free, (word (codes " off") refl, tt)) (omega (arith, first.size))

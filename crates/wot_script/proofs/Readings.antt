@@ -13,13 +13,13 @@ use Rattle.wot_script.specs.declared.reply.ClaimLine.{ClaimLine}
 use Rattle.wot_script.specs.declared.reply.LabelLine.{LabelLine}
 use Rattle.wot_script.specs.Decimal.{decimal_up_to, positive_up_to}
 use Rattle.wot_script.specs.Fields.{◌>>=◌, cut, octets_of_hex}
-use Rattle.wot_script.specs.Grammar.{about_of, checked_of, command_of, drop_of, entry_of, explained_of, export_of, import_of, judgement_of, listed_of, load_of, question_of, root_of, setting_of, single_of, verdict_of, view_of, over_of, paced_of}
+use Rattle.wot_script.specs.Grammar.{about_of, checked_of, command_of, drop_of, entry_of, explained_of, export_of, import_of, judgement_of, listed_of, load_of, question_of, root_of, setting_of, single_of, store_of, verdict_of, view_of, over_of, paced_of, watch_of, watched_of}
 use Rattle.wot_script.specs.Texts.{joined}
 use Rattle.wot_script.specs.Uid.{unescaped}
 use Rattle.wot_script.specs.declared.command.Command.{Command}
-use Rattle.wot_script.specs.declared.command.Command.TheVariants.{Import, Load, Remove, Good, Bad, Unjudge, Time, Root, Close, Ask, Explain, Pending, Keys, Export, Dump, Absence, Check, CursorOver, CursorNext, CursorClose}
+use Rattle.wot_script.specs.declared.command.Command.TheVariants.{Import, Load, Store, Remove, Good, Bad, Unjudge, Time, Root, Close, Ask, Explain, Pending, Keys, Export, Dump, Absence, Check, CursorOver, CursorNext, CursorClose, WatchOn, WatchOff}
 use Rattle.wot_script.specs.declared.read.About.{About}
-use Rattle.wot_script.specs.declared.read.About.TheVariants.{Setting, Asked, Listed, Explained, Missed, Checked, Paced}
+use Rattle.wot_script.specs.declared.read.About.TheVariants.{Setting, Asked, Listed, Explained, Missed, Checked, Paced, Watched}
 use Rattle.wot_script.specs.declared.read.Question.{Question}
 use Rattle.wot_script.proofs.Spaceless.{Spaceless, cut_spaceless, spaceless_view_name}
 
@@ -36,6 +36,11 @@ pub load_reads : (text : List ℕ) (name : Name) → entry_of text ≡ Some name
     → command_of (joined (codes "load " ∷ text ∷ [])) ≡ Some (Load name)
 unfolding command_of load_of
 load_reads text name e = ap (λ rest. option_map Load (entry_of rest)) (append-nil text) ∙ ap (option_map Load) e
+
+pub store_reads : (digits : List ℕ) (fpr : Fpr) → fpr_of_digits digits ≡ Some fpr
+    → command_of (joined (codes "store " ∷ digits ∷ [])) ≡ Some (Store fpr)
+unfolding command_of store_of
+store_reads digits fpr e = ap (λ text. option_map Store (fpr_of_digits text)) (append-nil digits) ∙ ap (option_map Store) e
 
 pub drop_reads : (digits : List ℕ) (fpr : Fpr) → fpr_of_digits digits ≡ Some fpr
     → command_of (joined (codes "drop " ∷ digits ∷ [])) ≡ Some (Remove fpr)
@@ -285,3 +290,36 @@ end_paced name = refl
 pub end_reads : (name : List ℕ) → is_view_name name ≡ true
     → command_of (joined (codes "cursor " ∷ name ∷ codes " close" ∷ [])) ≡ Some (CursorClose name)
 end_reads name h = paced_reads name (codes "close") (CursorClose name) h (end_paced name)
+
+watch_reads : (name view text : List ℕ) (q : Question) → is_view_name view ≡ true → question_of text ≡ Some q
+    → watch_of name (view ++ 32 ∷ text) ≡ Some (WatchOn name view q.fpr q.wanted q.uid)
+unfolding watch_of
+watch_reads name view text q h e =
+    bound (cut (view ++ 32 ∷ text)) (view, text)
+    (λ first. view_name_of first.0 >>= (λ v. question_of first.1 >>= (λ (o : Question). Some (WatchOn name v o.fpr o.wanted o.uid))))
+    (cut_spaceless view text (spaceless_view_name view h))
+    ∙ bound (view_name_of view) view (λ v. question_of text >>= (λ (o : Question). Some (WatchOn name v o.fpr o.wanted o.uid))) (name_is view h)
+    ∙ bound (question_of text) q (λ (o : Question). Some (WatchOn name view o.fpr o.wanted o.uid)) e
+
+watched_reads : (name text : List ℕ) (command : Command) → is_view_name name ≡ true → watched_of name text ≡ Some command
+    → command_of (codes "watch " ++ (name ++ 32 ∷ text)) ≡ Some command
+unfolding command_of
+watched_reads name text command h e = view_reads Watched name text command h e
+
+on_watched : (name text : List ℕ) → watched_of name (codes "on " ++ text) ≡ watch_of name text
+unfolding watched_of
+on_watched name text = refl
+
+pub on_reads : (name view text : List ℕ) (q : Question) → is_view_name name ≡ true → is_view_name view ≡ true → question_of text ≡ Some q
+    → command_of (codes "watch " ++ (name ++ 32 ∷ (codes "on " ++ (view ++ 32 ∷ text)))) ≡ Some (WatchOn name view q.fpr q.wanted q.uid)
+on_reads name view text q h k e =
+    watched_reads name (codes "on " ++ (view ++ 32 ∷ text)) (WatchOn name view q.fpr q.wanted q.uid) h
+    (on_watched name (view ++ 32 ∷ text) ∙ watch_reads name view text q k e)
+
+off_watched : (name : List ℕ) → watched_of name (codes "off") ≡ Some (WatchOff name)
+unfolding watched_of
+off_watched name = refl
+
+pub off_reads : (name : List ℕ) → is_view_name name ≡ true
+    → command_of (joined (codes "watch " ∷ name ∷ codes " off" ∷ [])) ≡ Some (WatchOff name)
+off_reads name h = watched_reads name (codes "off") (WatchOff name) h (off_watched name)

@@ -23,14 +23,14 @@ use Rattle.wot_script.specs.Decimal.{decimal_up_to, is_decimal, positive_up_to}
 use Rattle.wot_script.specs.Fields.{◌>>=◌, behind, cut, cut_at}
 use Rattle.wot_script.proofs.Cutting.{cut_short}
 use Rattle.wot_script.proofs.Items.{parts_of}
-use Rattle.wot_script.specs.Grammar.{about_of, asked_of, checked_of, command_of, drop_of, entry_of, explained_of, export_of, import_of, judgement_of, listed_of, load_of, missed_of, question_of, read_behind, root_of, setting_of, single_of, verdict_of, view_of, over_of, paced_of}
+use Rattle.wot_script.specs.Grammar.{about_of, asked_of, checked_of, command_of, drop_of, entry_of, explained_of, export_of, import_of, judgement_of, listed_of, load_of, missed_of, question_of, read_behind, root_of, setting_of, single_of, store_of, verdict_of, view_of, over_of, paced_of, watch_of, watched_of}
 use Rattle.wot_script.specs.Spelling.{HasSpelling, IsWithin}
 use Rattle.wot_script.specs.Uid.{unescaped}
 use Rattle.wot_script.specs.declared.command.Command.{Command}
 use Rattle.wot_script.specs.declared.read.About.{About}
-use Rattle.wot_script.specs.declared.read.About.TheVariants.{Setting, Asked, Listed, Explained, Missed, Checked, Paced}
+use Rattle.wot_script.specs.declared.read.About.TheVariants.{Setting, Asked, Listed, Explained, Missed, Checked, Paced, Watched}
 use Rattle.wot_script.specs.declared.read.Question.{Question}
-use Rattle.wot_script.specs.declared.command.Command.TheVariants.{Import, Load, Remove, Good, Bad, Unjudge, Time, Root, Close, Ask, Explain, Pending, Keys, Export, Dump, Absence, CursorOver, CursorNext, CursorClose}
+use Rattle.wot_script.specs.declared.command.Command.TheVariants.{Import, Load, Store, Remove, Good, Bad, Unjudge, Time, Root, Close, Ask, Explain, Pending, Keys, Export, Dump, Absence, CursorOver, CursorNext, CursorClose, WatchOn, WatchOff}
 
 behind_short : (prefix text rest : List ℕ) → behind prefix text ≡ Some rest → length rest ≤ length text
 behind_short [] text rest e = let same : text ≡ rest = cc in omega (arith, ap length same)
@@ -165,6 +165,10 @@ module _ (size : ℕ) where
   load_spelled : (text : List ℕ) → Spelled (load_of text)
   unfolding load_of
   load_spelled text = mapped Load (entry_of text) (λ name e. (tt, tt))
+
+  store_spelled : (text : List ℕ) → Spelled (store_of text)
+  unfolding store_of
+  store_spelled text = mapped Store (fpr_of_digits text) (λ fpr e. (tt, tt))
 
   drop_spelled : (text : List ℕ) → Spelled (drop_of text)
   unfolding drop_of
@@ -319,6 +323,21 @@ module _ (size : ℕ) where
       (λ digits. mapped (CursorNext cursor) (positive_up_to 4294967295 digits) (λ count e. (positive_wanted 4294967295 digits count e, tt)))
       (chosen (bytes_eq text (codes "close")) (CursorClose cursor) None (tt, tt) tt))
 
+  watch_spelled : (watch text : List ℕ) → Spelled (watch_of watch text)
+  unfolding watch_of
+  watch_spelled watch text =
+      bound (cut text) (λ first. view_name_of first.0 >>= (λ view. question_of first.1 >>= (λ (q : Question). Some (WatchOn watch view q.fpr q.wanted q.uid))))
+      (λ first e. bound (view_name_of first.0) (λ view. question_of first.1 >>= (λ (q : Question). Some (WatchOn watch view q.fpr q.wanted q.uid)))
+      (λ view v. bound (question_of first.1) (λ (q : Question). Some (WatchOn watch view q.fpr q.wanted q.uid))
+      (λ q e. (question_wants first.1 q e, tt))))
+
+  watched_spelled : (watch text : List ℕ) → Spelled (watched_of watch text)
+  unfolding watched_of
+  watched_spelled watch text =
+      let off : Option Command = if bytes_eq text (codes "off") then Some (WatchOff watch) else None in
+      behind_either (behind (codes "on ") text) (watch_of watch) off (watch_spelled watch)
+      (chosen (bytes_eq text (codes "off")) (WatchOff watch) None (tt, tt) tt)
+
   about_spelled : (about : About) (view text : List ℕ) → length text ≤ size → Spelled (about_of about view text)
   about_spelled Setting view text short = setting_spelled view text
   about_spelled Asked view text short = asked_spelled view text
@@ -327,6 +346,7 @@ module _ (size : ℕ) where
   about_spelled Missed view text short = missed_spelled view text
   about_spelled Checked view text short = checked_spelled view text short
   about_spelled Paced cursor text short = paced_spelled cursor text
+  about_spelled Watched watch text short = watched_spelled watch text
 
   view_spelled : (about : About) (text : List ℕ) → length text ≤ size → Spelled (view_of about text)
   view_spelled about text short =
@@ -348,7 +368,9 @@ module _ (size : ℕ) where
   unfolding command_of
   spelled_of line short =
       let tail : Option Command = single_of line in
-      let cursor : Option Command = read_behind (behind (codes "cursor ") line) (view_of Paced) tail in
+      let store : Option Command = read_behind (behind (codes "store ") line) store_of tail in
+      let watch : Option Command = read_behind (behind (codes "watch ") line) (view_of Watched) store in
+      let cursor : Option Command = read_behind (behind (codes "cursor ") line) (view_of Paced) watch in
       let export : Option Command = read_behind (behind (codes "export ") line) export_of cursor in
       let check : Option Command = read_behind (behind (codes "check ") line) (view_of Checked) export in
       let absence : Option Command = read_behind (behind (codes "absence ") line) (view_of Missed) check in
@@ -370,8 +392,10 @@ module _ (size : ℕ) where
       behind_word (codes "absence ") line (view_of Missed) check short (view_spelled Missed) (
       behind_word (codes "check ") line (view_of Checked) export short (view_spelled Checked) (
       behind_either (behind (codes "export ") line) export_of cursor export_spelled (
-      behind_word (codes "cursor ") line (view_of Paced) tail short (view_spelled Paced) (
-      single_spelled line))))))))))))
+      behind_word (codes "cursor ") line (view_of Paced) watch short (view_spelled Paced) (
+      behind_word (codes "watch ") line (view_of Watched) store short (view_spelled Watched) (
+      behind_either (behind (codes "store ") line) store_of tail store_spelled (
+      single_spelled line))))))))))))))
 
 -- the same where the reading is known
 pub spelled_at : (line : List ℕ) (command : Command) → command_of line ≡ Some command → HasSpelling command × IsWithin (length line) command

@@ -15,9 +15,11 @@ use Rattle.wot_script.specs.Fields.{◌>>=◌, behind, cut, octets_of_hex}
 use Rattle.wot_script.specs.Uid.{unescaped}
 use Rattle.wot_script.specs.declared.command.Command.{Command}
 use Rattle.wot_script.specs.declared.read.About.{About}
-use Rattle.wot_script.specs.declared.read.About.TheVariants.{Setting, Asked, Listed, Explained, Missed, Checked, Paced}
+use Rattle.wot_script.specs.declared.read.About.TheVariants.{Setting, Asked, Listed, Explained, Missed, Checked, Paced, Watched}
 use Rattle.wot_script.specs.declared.read.Question.{Question}
-use Rattle.wot_script.specs.declared.command.Command.TheVariants.{Import, Load, Remove, Good, Bad, Unjudge, Time, Root, Close, Ask, Explain, Pending, Keys, Export, Dump, Absence, Check, CursorOver, CursorNext, CursorClose}
+use Rattle.wot_script.specs.declared.command.Command.TheVariants.{Import, Load, Store, Remove, Good, Bad, Unjudge, Time}
+use Rattle.wot_script.specs.declared.command.Command.TheVariants.{Root, Close, Ask, Explain, Pending, Keys, Export, Dump, Absence, Check}
+use Rattle.wot_script.specs.declared.command.Command.TheVariants.{CursorOver, CursorNext, CursorClose, WatchOn, WatchOff}
 
 -- A text with this prefix is read so, and another text otherwise.
 abbrev pub read_behind : Option (List ℕ) → (List ℕ → Option Command) → Option Command → Option Command
@@ -40,6 +42,10 @@ entry_of text = entry_else text (fpr_of_digits text)
 -- behind `load `: NAME
 unfoldable pub load_of : List ℕ → Option Command
 load_of text = option_map Load (entry_of text)
+
+-- behind `store `: FPR
+unfoldable pub store_of : List ℕ → Option Command
+store_of digits = option_map Store (fpr_of_digits digits)
 
 -- behind `drop `: FPR
 unfoldable pub drop_of : List ℕ → Option Command
@@ -132,7 +138,21 @@ paced_of cursor text =
     read_behind (behind (codes "next ") text) (λ digits. option_map (CursorNext cursor) (positive_up_to 4294967295 digits)) (
     if bytes_eq text (codes "close") then Some (CursorClose cursor) else None))
 
--- what is read behind the name of a view or of a cursor, by what the line is about
+-- behind `watch W on `: V and a question
+unfoldable pub watch_of : List ℕ → List ℕ → Option Command
+watch_of watch text = do
+  first ← cut text
+  view ← view_name_of first.0
+  question ← question_of first.1
+  Some (WatchOn watch view question.fpr question.wanted question.uid)
+
+-- behind `watch W `: `on V FPR N UID` or `off`
+unfoldable pub watched_of : List ℕ → List ℕ → Option Command
+watched_of watch text =
+    read_behind (behind (codes "on ") text) (watch_of watch) (
+    if bytes_eq text (codes "off") then Some (WatchOff watch) else None)
+
+-- what is read behind the name of a view, of a cursor or of a watch, by what the line is about
 abbrev pub about_of : About → List ℕ → List ℕ → Option Command
 about_of Setting view text = setting_of view text
 about_of Asked view text = asked_of view text
@@ -141,8 +161,9 @@ about_of Explained view text = explained_of view text
 about_of Missed view text = missed_of view text
 about_of Checked view text = checked_of view text
 about_of Paced cursor text = paced_of cursor text
+about_of Watched watch text = watched_of watch text
 
--- V or C, and what is read behind its space
+-- V, C or W, and what is read behind its space
 abbrev pub view_of : About → List ℕ → Option Command
 view_of about text = do
   first ← cut text
@@ -176,4 +197,6 @@ command_of line =
     read_behind (behind (codes "check ") line) (view_of Checked) (
     read_behind (behind (codes "export ") line) export_of (
     read_behind (behind (codes "cursor ") line) (view_of Paced) (
-    single_of line))))))))))))
+    read_behind (behind (codes "watch ") line) (view_of Watched) (
+    read_behind (behind (codes "store ") line) store_of (
+    single_of line))))))))))))))

@@ -20,9 +20,10 @@ use Rattle.wot_script.specs.declared.reply.Hint.{Hint}
 use Rattle.wot_script.specs.declared.reply.Hint.TheVariants.{Full as Fingerprint, Short, Nothing}
 use Rattle.wot_script.specs.declared.reply.KeyLine.{KeyLine}
 use Rattle.wot_script.specs.declared.reply.Reply.{Reply}
-use Rattle.wot_script.specs.declared.reply.Reply.TheVariants.{Taken, Done, Amount, Explained, Pending, Keys, Export, Dump, Long, Line, View, Shelf}
+use Rattle.wot_script.specs.declared.reply.Reply.TheVariants.{Taken, Stored, Done, Amount, Explained, Pending, Keys, Export, Dump, Long, Line, View, Shelf}
 use Rattle.wot_script.specs.declared.reply.Reply.TheVariants.{Packet, Compressed, Secret, Kind, Order, Empty, Misfiled, Clash, Absent, Full}
-use Rattle.wot_script.specs.declared.reply.Reply.TheVariants.{Reached, Missed, CheckedYes, CheckedNoPaths, CheckedNoTable, Piece, StaleKeyring, StaleView, NoCursor, FullCursors}
+use Rattle.wot_script.specs.declared.reply.Reply.TheVariants.{Reached, Missed, CheckedYes, CheckedNoPaths, CheckedNoTable, Piece, StaleKeyring, StaleView}
+use Rattle.wot_script.specs.declared.reply.Reply.TheVariants.{NoCursor, FullCursors, WatchAmount, WatchGone, NoWatch, FullWatches}
 
 -- `path AMOUNT steps L root FPR`, or `step ISSUER TARGET DEPTH AMOUNT UID`
 abbrev pub answer_line : AnswerLine → List ℕ
@@ -71,6 +72,7 @@ stale word was now = joined_line (codes "stale " ∷ word ∷ decimal was ∷ co
 unfoldable pub reply_text : Reply → List ℕ
 reply_text (Taken taken skipped new) =
     joined_line (codes "ok taken " ∷ decimal taken ∷ codes " skipped " ∷ decimal skipped ∷ codes " new " ∷ decimal new ∷ [])
+reply_text (Stored octets) = joined_line (codes "ok stored " ∷ decimal octets ∷ [])
 reply_text Done = joined_line (codes "ok" ∷ [])
 reply_text (Amount sum paths lines) =
     joined_line (codes "amount " ∷ decimal sum ∷ codes " paths " ∷ decimal paths ∷ []) ++ flat_map answer_line lines
@@ -107,6 +109,10 @@ reply_text (StaleKeyring was now) = stale (codes "keyring ") was now
 reply_text (StaleView was now) = stale (codes "view ") was now
 reply_text NoCursor = refused (codes "cursor" ∷ [])
 reply_text FullCursors = refused (codes "full cursors" ∷ [])
+reply_text (WatchAmount watch sum) = joined_line (codes "watch " ∷ watch ∷ codes " amount " ∷ decimal sum ∷ [])
+reply_text (WatchGone watch) = joined_line (codes "watch " ∷ watch ∷ codes " gone" ∷ [])
+reply_text NoWatch = refused (codes "watch" ∷ [])
+reply_text FullWatches = refused (codes "full watches" ∷ [])
 
 -- ---- words
 
@@ -143,6 +149,7 @@ is_short _ = true
 -- a line that begins with `refused`
 abbrev pub is_refusal : Reply → Bool
 is_refusal (Taken taken skipped new) = false
+is_refusal (Stored octets) = false
 is_refusal Done = false
 is_refusal (Amount sum paths lines) = false
 is_refusal (Reply.List count lines) = false
@@ -159,5 +166,7 @@ is_refusal CheckedNoTable = false
 is_refusal (Piece count lines) = false
 is_refusal (StaleKeyring was now) = false
 is_refusal (StaleView was now) = false
+is_refusal (WatchAmount watch sum) = false
+is_refusal (WatchGone watch) = false
 is_refusal Shelf = false
 is_refusal _ = true

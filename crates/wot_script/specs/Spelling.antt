@@ -12,8 +12,9 @@ use Rattle.wot_script.specs.Claims.{IsClaimSpelled, claim_text, field_text, labe
 use Rattle.wot_script.specs.Texts.{joined}
 use Rattle.wot_script.specs.Uid.{escaped}
 use Rattle.wot_script.specs.declared.command.Command.{Command}
-use Rattle.wot_script.specs.declared.command.Command.TheVariants.{Import, Load, Remove, Good, Bad, Unjudge, Time}
-use Rattle.wot_script.specs.declared.command.Command.TheVariants.{Root, Close, Ask, Explain, Pending, Keys, Export, Dump, Absence, Check, CursorOver, CursorNext, CursorClose}
+use Rattle.wot_script.specs.declared.command.Command.TheVariants.{Import, Load, Store, Remove, Good, Bad, Unjudge, Time}
+use Rattle.wot_script.specs.declared.command.Command.TheVariants.{Root, Close, Ask, Explain, Pending, Keys, Export, Dump, Absence, Check}
+use Rattle.wot_script.specs.declared.command.Command.TheVariants.{CursorOver, CursorNext, CursorClose, WatchOn, WatchOff}
 
 -- What wants a number has a spelling where it wants at least 1, so a piece where it has room for one, and a claim where its
 -- paths and its table have one; every other command has one.
@@ -24,6 +25,7 @@ HasSpelling (Absence view fpr wanted uid) = 1 ≤ wanted
 HasSpelling (Check view fpr claims labels uid) = IsClaimSpelled claims labels
 HasSpelling (CursorOver cursor view wanted) = 1 ≤ wanted
 HasSpelling (CursorNext cursor count) = 1 ≤ count
+HasSpelling (WatchOn watch view fpr wanted uid) = 1 ≤ wanted
 HasSpelling _ = Unit {0}
 
 -- The octets of an import are no more than half as many as the size of its line, and the paths of a claim are fewer.
@@ -49,6 +51,7 @@ asking word view fpr wanted uid = joined (word ∷ view ∷ codes " " ∷ questi
 unfoldable pub spelling : Command → List ℕ
 spelling (Import octets) = joined (codes "import " ∷ encode_lower octets ∷ [])
 spelling (Load name) = joined (codes "load " ∷ entry_text name ∷ [])
+spelling (Store fpr) = joined (codes "store " ∷ digits_of fpr ∷ [])
 spelling (Remove fpr) = joined (codes "drop " ∷ digits_of fpr ∷ [])
 spelling (Good number fpr) = joined (codes "verdict " ∷ number_digits number ∷ codes " good " ∷ digits_of fpr ∷ [])
 spelling (Bad number) = joined (codes "verdict " ∷ number_digits number ∷ codes " bad" ∷ [])
@@ -73,6 +76,9 @@ spelling (CursorOver cursor view wanted) =
     joined (codes "cursor " ∷ cursor ∷ codes " over " ∷ view ∷ codes " " ∷ decimal wanted ∷ [])
 spelling (CursorNext cursor count) = joined (codes "cursor " ∷ cursor ∷ codes " next " ∷ decimal count ∷ [])
 spelling (CursorClose cursor) = joined (codes "cursor " ∷ cursor ∷ codes " close" ∷ [])
+spelling (WatchOn watch view fpr wanted uid) =
+    joined (codes "watch " ∷ watch ∷ codes " on " ∷ view ∷ codes " " ∷ question_parts fpr wanted uid)
+spelling (WatchOff watch) = joined (codes "watch " ∷ watch ∷ codes " off" ∷ [])
 
 -- ---- lines
 
@@ -83,6 +89,7 @@ most_octets (Good number fpr) = 142
 most_octets (Ask view fpr wanted uid) = 128 + 4 * length uid
 most_octets (Explain view fpr uid) = 128 + 4 * length uid
 most_octets (Absence view fpr wanted uid) = 128 + 4 * length uid
+most_octets (WatchOn watch view fpr wanted uid) = 192 + 4 * length uid
 most_octets (Check view fpr claims labels uid) = 128 + 4 * length uid + most_paths claims + 128 * length labels
 most_octets _ = 128
 

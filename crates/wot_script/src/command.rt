@@ -8,6 +8,8 @@ pub enum Command {
     Import(Octets),
     /// `load NAME`: unites the one certificate of this entry of the shelf with the keyring.
     Load(Name),
+    /// `store FPR`: writes the union of the certificate and its entry of the shelf.
+    Store(Fpr),
     /// `drop FPR`: takes the certificate out.
     Remove(Fpr),
     /// `verdict NUM good FPR`: the signature is good by this issuer.
@@ -46,4 +48,8 @@ pub enum Command {
     CursorNext(ViewName, u32),
     /// `cursor C close`: takes the cursor away.
     CursorClose(ViewName),
+    /// `watch W on V FPR N UID`: a watch begins over the answer to wanted N, at least 1, or begins anew.
+    WatchOn(ViewName, ViewName, Fpr, u32, UserId),
+    /// `watch W off`: takes the watch away.
+    WatchOff(ViewName),
 }

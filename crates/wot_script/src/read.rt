@@ -5,7 +5,7 @@ ghost use Rattle.wot_script.specs.Fields.{octets_of_hex};
 ghost use Rattle.wot_script.specs.Decimal.{decimal_up_to, positive_up_to};
 ghost use Rattle.wot_script.specs.Grammar.{about_of, asked_of, checked_of, command_of, drop_of, entry_of, explained_of, export_of};
 ghost use Rattle.wot_script.specs.Grammar.{import_of, judgement_of, listed_of, load_of, missed_of, over_of, paced_of, question_of};
-ghost use Rattle.wot_script.specs.Grammar.{root_of, setting_of, single_of, verdict_of, view_of};
+ghost use Rattle.wot_script.specs.Grammar.{root_of, setting_of, single_of, store_of, verdict_of, view_of, watch_of, watched_of};
 ghost use Rattle.wot_script.specs.Spelling.{HasSpelling, IsWithin};
 
 use crate::claims::{read_claims, read_labels};
@@ -64,6 +64,14 @@ fn read_load(text: &[u8]) -> Option<Command>
 {
     let name = read_entry(text)?;
     Some(Command::Load(name))
+}
+
+#[tactic(auto, unfolding(crate::specs::Grammar::store_of))]
+fn read_store(digits: &[u8]) -> Option<Command>
+    ensures { result ≡ store_of digits.now }
+{
+    let fpr = Fpr::read(digits)?;
+    Some(Command::Store(fpr))
 }
 
 #[tactic(auto, unfolding(crate::specs::Grammar::drop_of))]
@@ -288,7 +296,37 @@ fn read_paced(alloc: Global, cursor: ViewName, text: &[u8]) -> Result<Option<Com
     Ok(None)
 }
 
-/// What a line says of a view, or of a cursor.
+#[tactic(auto, unfolding(crate::specs::Grammar::watch_of))]
+fn read_watch(alloc: Global, watch: ViewName, text: &[u8]) -> Result<Option<Command>, Memory>
+    ensures { IfOk result (λ command. command ≡ watch_of watch text.now) }
+{
+    let Some(first) = cut_field(text) else {
+        return Ok(None);
+    };
+    let Some(view) = ViewName::read(alloc, first.field)? else {
+        return Ok(None);
+    };
+    let Some(question) = read_question(alloc, first.rest)? else {
+        return Ok(None);
+    };
+    let Question { fpr, wanted, uid } = question;
+    Ok(Some(Command::WatchOn(watch, view, fpr, wanted, uid)))
+}
+
+#[tactic(auto, unfolding(crate::specs::Grammar::watched_of))]
+fn read_watched(alloc: Global, watch: ViewName, text: &[u8]) -> Result<Option<Command>, Memory>
+    ensures { IfOk result (λ command. command ≡ watched_of watch text.now) }
+{
+    if let Some(rest) = after_prefix(b"on ", text) {
+        return read_watch(alloc, watch, rest);
+    }
+    if text == b"off".as_slice() {
+        return Ok(Some(Command::WatchOff(watch)));
+    }
+    Ok(None)
+}
+
+/// What a line says of a view, of a cursor, or of a watch.
 #[derive(Clone, Copy)]
 pub enum About {
     /// It sets it.
@@ -305,6 +343,8 @@ pub enum About {
     Checked,
     /// It is about a cursor.
     Paced,
+    /// It is about a watch.
+    Watched,
 }
 
 fn read_about(
@@ -323,6 +363,7 @@ fn read_about(
         About::Missed => read_missed(alloc, view, text),
         About::Checked => read_checked(alloc, view, text),
         About::Paced => read_paced(alloc, view, text),
+        About::Watched => read_watched(alloc, view, text),
     }
 }
 
@@ -393,6 +434,12 @@ fn read_command(alloc: Global, line: &[u8]) -> Result<Option<Command>, Memory>
     }
     if let Some(rest) = after_prefix(b"cursor ", line) {
         return read_view(alloc, About::Paced, rest);
+    }
+    if let Some(rest) = after_prefix(b"watch ", line) {
+        return read_view(alloc, About::Watched, rest);
+    }
+    if let Some(rest) = after_prefix(b"store ", line) {
+        return Ok(read_store(rest));
     }
     Ok(read_single(line))
 }

@@ -2,14 +2,16 @@ use crate::{
     AnswerLines, BindLines, ClaimLines, ClaimStepLines, KeyLines, LabelLines, Octets, PendingLines,
     ReasonLines,
 };
-use wot_types::{Fpr, Limit, SigNumber, UserId};
+use wot_types::{Fpr, Limit, SigNumber, UserId, ViewName};
 
 /// What is answered to a line.
 #[derive(Debug, Drop)]
 pub enum Reply {
     /// To `import`: readable key packets, unreadable ones, and what was not held before.
     Taken(u64, u64, u64),
-    /// To `drop`, `verdict`, `view`, and `cursor` with `over` or `close`.
+    /// To `store`: the size of the entry that was written, in octets.
+    Stored(u64),
+    /// To `drop`, `verdict`, `view`, `cursor` with `over` or `close`, and `watch` with `off`.
     Done,
     /// To `ask`: the sum of the amounts, the number of paths, and each path with its steps.
     Amount(u32, u64, AnswerLines),
@@ -73,6 +75,14 @@ pub enum Reply {
     NoCursor,
     /// As many cursors as may be are there.
     FullCursors,
+    /// To `watch` with `on`, and behind a line that changes it: the sum of the watch's answer.
+    WatchAmount(ViewName, u32),
+    /// The view of the watch isn't open.
+    WatchGone(ViewName),
+    /// No such watch is there.
+    NoWatch,
+    /// As many watches as may be are there.
+    FullWatches,
 }
 
 /// A line of an answer.

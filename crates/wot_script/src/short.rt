@@ -5,11 +5,19 @@ ghost use Rattle.wot_script.specs.Words.{target_words, word_at};
 
 use crate::Reply;
 use crate::words::target_word;
+use wot_types::ViewName;
 
 /// A law: a number has at most 20 digits.
 fn decimals_fit(number: u64)
     ensures { length (decimal number) ≤ 20 }
 {}
+
+/// A law: a name has at most 32 octets.
+fn names_fit(name: &ViewName)
+    ensures { length name.now ≤ 32 }
+{
+    let _octets = name.octets();
+}
 
 /// A law: a word of a target has at most 8 octets.
 fn words_fit(word: u8)
@@ -51,7 +59,13 @@ pub fn short_replies_fit(reply: &Reply)
             decimals_fit(*offset as u64);
         }
         Reply::Order(offset) => decimals_fit(*offset as u64),
+        Reply::Stored(octets) => decimals_fit(*octets),
         Reply::Reached(sum) | Reply::CheckedYes(sum) => decimals_fit(u64::from(*sum)),
+        Reply::WatchAmount(watch, sum) => {
+            names_fit(watch);
+            decimals_fit(u64::from(*sum));
+        }
+        Reply::WatchGone(watch) => names_fit(watch),
         _ => {}
     }
 }

@@ -154,6 +154,39 @@ fn put_cursor_next(cursor: &ViewName, count: u32, out: &mut Vec<u8>) -> Result<(
     put_pieces(&[Text(b"cursor "), cursor, Text(b" next "), count], out)
 }
 
+#[tactic(auto, unfolding(crate::specs::Spelling::spelling))]
+fn put_watch_on<'a>(
+    watch: &'a ViewName,
+    view: &'a ViewName,
+    fpr: &'a Fpr,
+    wanted: u32,
+    uid: &'a UserId,
+    out: &mut Vec<u8>,
+) -> Result<(), Memory>
+    ensures { Appends (spelling (Command.WatchOn watch.now view.now fpr.now wanted uid.now)) out.old out.new result }
+{
+    let watch = Text(watch.octets());
+    let view = Text(view.octets());
+    let fpr = Key(fpr);
+    let wanted = Decimal(u64::from(wanted));
+    let uid = Uid(uid.octets());
+    put_pieces(
+        &[
+            Text(b"watch "),
+            watch,
+            Text(b" on "),
+            view,
+            Text(b" "),
+            fpr,
+            Text(b" "),
+            wanted,
+            Text(b" "),
+            uid,
+        ],
+        out,
+    )
+}
+
 /// The piece that spells the name of an entry.
 fn entry_piece(name: &Name) -> Piece<'_>
     ensures { piece_text result ≡ entry_text name.now }
@@ -171,6 +204,7 @@ fn put_command(command: &Command, out: &mut Vec<u8>) -> Result<(), Memory>
     match command {
         Command::Import(octets) => put_pieces(&[Text(b"import "), Hex(octets.items())], out),
         Command::Load(name) => put_pieces(&[Text(b"load "), entry_piece(name)], out),
+        Command::Store(fpr) => put_pieces(&[Text(b"store "), Key(fpr)], out),
         Command::Remove(fpr) => put_pieces(&[Text(b"drop "), Key(fpr)], out),
         Command::Good(number, fpr) => {
             let number = Signature(number);
@@ -206,6 +240,12 @@ fn put_command(command: &Command, out: &mut Vec<u8>) -> Result<(), Memory>
             &[Text(b"cursor "), Text(cursor.octets()), Text(b" close")],
             out,
         ),
+        Command::WatchOn(watch, view, fpr, wanted, uid) => {
+            put_watch_on(watch, view, fpr, *wanted, uid, out)
+        }
+        Command::WatchOff(watch) => {
+            put_pieces(&[Text(b"watch "), Text(watch.octets()), Text(b" off")], out)
+        }
     }
 }
 

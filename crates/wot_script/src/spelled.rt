@@ -76,6 +76,7 @@ pub fn spelling_is_read(command: &Command)
     match command {
         Command::Import(octets) => hex_is_read(octets.items()),
         Command::Load(name) => entry_is_read(name),
+        Command::Store(fpr) => fpr.printed_is_read(),
         Command::Remove(fpr) => fpr.printed_is_read(),
         Command::Good(number, fpr) => {
             number.printed_is_read();
@@ -134,6 +135,14 @@ pub fn spelling_is_read(command: &Command)
         }
         Command::CursorClose(cursor) => {
             let _cursor = cursor.octets();
+        }
+        Command::WatchOn(watch, view, fpr, wanted, uid) => {
+            let _watch = watch.octets();
+            let _name = view.octets();
+            question_is_read(fpr, *wanted, uid);
+        }
+        Command::WatchOff(watch) => {
+            let _watch = watch.octets();
         }
     }
 }

@@ -11,7 +11,7 @@ use crate::words::target_word;
 use crate::{
     AnswerLines, BindLines, ClaimLines, KeyLines, LabelLines, PendingLines, ReasonLines, Reply,
 };
-use wot_types::Memory;
+use wot_types::{Memory, ViewName};
 
 #[tactic(auto, unfolding(crate::specs::Replies::reply_text))]
 fn put_amount(sum: u32, paths: u64, lines: &AnswerLines, out: &mut Vec<u8>) -> Result<(), Memory>
@@ -109,6 +109,19 @@ fn put_stale(word: &[u8], was: u64, now: u64, out: &mut Vec<u8>) -> Result<(), M
     )
 }
 
+#[tactic(auto, unfolding(crate::specs::Replies::reply_text))]
+fn put_watch_amount(watch: &ViewName, sum: u32, out: &mut Vec<u8>) -> Result<(), Memory>
+    ensures { Appends (reply_text (Reply.WatchAmount watch.now sum)) out.old out.new result }
+{
+    use Piece::{Decimal, Text};
+    let watch = Text(watch.octets());
+    let sum = Decimal(u64::from(sum));
+    put_pieces(
+        &[Text(b"watch "), watch, Text(b" amount "), sum, Text(b"\n")],
+        out,
+    )
+}
+
 fn put_refused(word: &[u8], out: &mut Vec<u8>) -> Result<(), Memory>
     ensures { Appends (refused (word.now ∷ [])) out.old out.new result }
 {
@@ -177,6 +190,8 @@ fn put_refusal(reply: &Reply, out: &mut Vec<u8>) -> Result<(), Memory>
         }
         Reply::NoCursor => put_refused(b"cursor", out),
         Reply::FullCursors => put_refused(b"full cursors", out),
+        Reply::NoWatch => put_refused(b"watch", out),
+        Reply::FullWatches => put_refused(b"full watches", out),
         _ => unreachable!(),
     }
 }
@@ -200,6 +215,9 @@ fn put_reply(reply: &Reply, out: &mut Vec<u8>) -> Result<(), Memory>
                 ],
                 out,
             )
+        }
+        Reply::Stored(octets) => {
+            put_pieces(&[Text(b"ok stored "), Decimal(*octets), Text(b"\n")], out)
         }
         Reply::Done => put_pieces(&[Text(b"ok\n")], out),
         Reply::Amount(sum, paths, lines) => put_amount(*sum, *paths, lines, out),
@@ -237,6 +255,10 @@ fn put_reply(reply: &Reply, out: &mut Vec<u8>) -> Result<(), Memory>
         Reply::Piece(count, lines) => put_piece(*count, lines, out),
         Reply::StaleKeyring(was, now) => put_stale(b"keyring ", *was, *now, out),
         Reply::StaleView(was, now) => put_stale(b"view ", *was, *now, out),
+        Reply::WatchAmount(watch, sum) => put_watch_amount(watch, *sum, out),
+        Reply::WatchGone(watch) => {
+            put_pieces(&[Text(b"watch "), Text(watch.octets()), Text(b" gone\n")], out)
+        }
         _ => put_refusal(reply, out),
     }
 }

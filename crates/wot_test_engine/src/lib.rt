@@ -32,6 +32,10 @@ mod script;
 #[cfg(test)]
 mod shelf;
 #[cfg(test)]
+mod storing;
+#[cfg(test)]
 mod together;
 #[cfg(test)]
 mod version_6;
+#[cfg(test)]
+mod watching;

@@ -21,7 +21,7 @@ pub(crate) fn shelf_of(alloc: Global, entries: &[Row], fails: &[u64]) -> Option<
 }
 
 /// What a run writes to a script, over this shelf.
-fn written(alloc: Global, script: &[u8], shelf: &mut MemoryShelf) -> Option<Vec<u8>> {
+pub(crate) fn written(alloc: Global, script: &[u8], shelf: &mut MemoryShelf) -> Option<Vec<u8>> {
     let words = owned(alloc, &["run", "folder"])?;
     let mut input = source_of(alloc, script, &[])?;
     let mut output = sink_of(alloc, &[])?;

@@ -12,7 +12,28 @@ use wot_types::{Fpr, Limit, SigNumber, UserId};
 
 /// Lines, and how the command that was read is printed; `None` where a line is no command. `$` and `&` stand for two
 /// fingerprints, the lesser one first, `%` for a signature number.
-static LINES: [(&str, Option<&str>); 117] = [
+static LINES: [(&str, Option<&str>); 135] = [
+    ("watch w on v $ 1 ", Some("watch w on v $ 1 ")),
+    (
+        "watch -_9 on a % 4294967295 \\x41",
+        Some("watch -_9 on a % 4294967295 A"),
+    ),
+    ("watch w on v $ 1", None),
+    ("watch w on v $ 0 r", None),
+    ("watch w on V $ 1 r", None),
+    ("watch W on v $ 1 r", None),
+    ("watch w on $ 1 r", None),
+    ("watch w on v", None),
+    ("watch w on", None),
+    ("watch w off", Some("watch w off")),
+    ("watch w off ", None),
+    ("watch  off", None),
+    ("watch w", None),
+    ("store $", Some("store $")),
+    ("store %", Some("store %")),
+    ("store trust-root", None),
+    ("store $ ", None),
+    ("store ", None),
     ("import ", Some("import ")),
     ("import c6", Some("import c6")),
     ("import C6aB0f", Some("import c6ab0f")),

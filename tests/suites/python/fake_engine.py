@@ -31,6 +31,10 @@ REPLIES = {
     "cursor c close": ["ok"],
     "cursor d over v 120": ["refused full cursors"],
     "cursor d next 1": ["refused cursor"],
+    "watch w off": ["ok", "watch u amount 4294967295", "watch x gone"],
+    "watch x off": ["refused watch"],
+    "watch y on v " + A + " 1 ": ["refused full watches"],
+    "watch z on v " + A + " 1 ": ["watch z at 1"],
     "dump": ["dump 2", "import ", f"verdict {N} bad"],
     "import ": ["refused empty"],
     "import 01": ["refused packet 1 0"],
@@ -43,6 +47,7 @@ REPLIES = {
     "import 08": ["refused compressed"],
     f"load {A}": ["refused misfiled"],
     "load trust-root": ["fault shelf"],
+    f"store {A}": ["ok stored 4194304"],
     f"drop {A}": ["refused absent"],
     f"drop {B}": ["ok"],
     "view v close": ["refused view"],
@@ -72,6 +77,8 @@ def main():
             print(line)
         elif line.startswith("verdict "):
             print("ok")
+        elif line.startswith("watch ") and line.endswith(" Alice"):
+            print("watch", line.split(" ")[1], "amount 120")
         elif line == "cursor c next 2":
             print("\n".join(next(PIECES)))
         elif line and not line.startswith("#"):

@@ -7,9 +7,9 @@ import threading
 import unittest
 
 from outside import FAKE_ENGINE
-from tukyamid import (Accepted, Answer, Binding, Claim, ClaimedStep, Done, Engine, EngineEnded, Explanation, Key, Label,
-                      Missed, Path, PendingSignature, ProtocolError, Reached, Reason, Rejected, Stale, Step, Taken,
-                      commands, refusals)
+from tukyamid import (Accepted, Answer, Binding, Claim, ClaimedStep, Done, Engine, EngineEnded, Explanation, Gone, Key,
+                      Label, Missed, Path, PendingSignature, ProtocolError, Reached, Reason, Rejected, Stale, Step,
+                      Taken, Watched, commands, refusals)
 from tukyamid.reasons import ReasonWord, TargetWord
 from tukyamid.replies import Exported
 
@@ -25,6 +25,7 @@ class Framing(unittest.TestCase):
         engine = self.engine
         self.assertEqual(engine.import_certificates(b"\5"), Taken(1, 2, 3))
         self.assertEqual(engine.do(commands.Drop(B)), Done())
+        self.assertEqual(engine.store(A), 4194304)
         self.assertEqual(list(engine.keys()), [Key(A, 1, 2), Key(B, 0, 0), Key(A, 2**64 - 1, 3)])
         self.assertEqual(list(engine.pending()), [PendingSignature(N, A, B), PendingSignature(N, A, "0123456789abcdef"),
                                                   PendingSignature(N, B, None)])
@@ -63,6 +64,23 @@ class Framing(unittest.TestCase):
         self.assertEqual(told, [alice, bob, Stale("keyring", 3, 4), Binding(60, B, b"Bob")])
         self.assertEqual(self.engine.next_piece("c", 2), Stale("view", 5, 2**64 - 1))
 
+    def test_watches_are_told(self):
+        engine = self.engine
+        self.assertEqual(engine.told(), [])
+        for watch in "uwx":
+            self.assertEqual(engine.watch(watch, "v", A, 120, "Alice"), 120)
+        self.assertRaises(ValueError, engine.feed, [b"keys"])
+        engine.unwatch("w")
+        self.assertEqual([key.fpr for key in engine.keys()], [A, B, A])
+        self.assertEqual(engine.told(), [Watched("u", 2**32 - 1), Gone("x")])
+        self.assertEqual(engine.told(), [])
+        self.assertRaises(ValueError, engine.restore, io.BytesIO(b"import 05\n"))
+        self.assertRaises(ProtocolError, engine.watch, "z", "v", A, 1, "")
+
+    def test_no_watch_begins_among_many_lines(self):
+        with Engine(FAKE_ENGINE) as engine:
+            self.assertRaises(ValueError, engine.feed, [b"keys", b"watch u on v %s 120 Alice" % A.encode()])
+
     def test_each_refusal_is_its_exception(self):
         engine = self.engine
         table = [
@@ -73,6 +91,8 @@ class Framing(unittest.TestCase):
             (lambda: engine.import_certificates(b"\4"), refusals.RefusedFull, {"limit": "certificates"}),
             (lambda: engine.begin_cursor("d", "v", 120), refusals.RefusedFull, {"limit": "cursors"}),
             (lambda: engine.next_piece("d", 1), refusals.RefusedCursor, {}),
+            (lambda: engine.watch("y", "v", A, 1, ""), refusals.RefusedFull, {"limit": "watches"}),
+            (lambda: engine.unwatch("x"), refusals.RefusedWatch, {}),
             (lambda: engine.import_certificates(b"\6"), refusals.RefusedClash, {}),
             (lambda: engine.import_certificates(b"\7"), refusals.RefusedSecret, {}),
             (lambda: engine.import_certificates(b"\x08"), refusals.RefusedCompressed, {}),
@@ -186,7 +206,7 @@ class Lines(unittest.TestCase):
         table = [
             (commands.Import(b"\x00\xff"), b"import 00ff"), (commands.Import(b""), b"import "),
             (commands.Load("trust-root"), b"load trust-root"), (commands.Load(A), b"load " + A.encode()),
-            (commands.Drop(A.upper()), b"drop " + A.encode()),
+            (commands.Store(A), b"store " + A.encode()), (commands.Drop(A.upper()), b"drop " + A.encode()),
             (commands.Good(N, A), f"verdict {N} good {A}".encode()), (commands.Bad(N), f"verdict {N} bad".encode()),
             (commands.Unjudge(N), f"verdict {N} none".encode()),
             (commands.Time("v-_9", 2**32 - 1), b"view v-_9 time 4294967295"),

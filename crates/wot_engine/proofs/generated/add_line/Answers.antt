@@ -1,22 +1,10 @@
-use Rattle.std.proofs.Common.{Some, refl}
 use Rattle.wot_policy.specs.Kept.{rows_of}
 use Rattle.wot_engine.specs.Machine.{kept}
-use Rattle.wot_engine.specs.Ran.{Seen}
-use Rattle.wot_engine.proofs.Playing.{step_over}
-use Rattle.wot_engine.proofs.Running.{told_settled}
+use Rattle.wot_engine.proofs.Playing.{adds_both}
 use Rattle.wot_engine.proofs.generated.add_line.Goals as goal
 
-pub returns-in_ok-add-in-Some-clause-added : goal.returns-in_ok-add-in-Some-clause-added
-returns-in_ok-add-in-Some-clause-added g c =
-    let rows = rows_of c.args.policy.now in
-    let before : Seen = record { world = Some c.args.shelf.now.world; faults = c.args.shelf.now.faults } in
-    let after : Seen = record { world = Some c.reply.new.shelf.world; faults = c.reply.new.shelf.faults } in
-    let replied = told_settled rows c.args.line.now (kept c.args.machine.now) before c.reply.new.self.engine c.reply.new.self.cursors c.settle.new.self.engine c.settle.new.self.cursors after
-    c.in-Some.field-0 c.in-Some.field-0.reply c.in-Some.field-0.moved refl refl (rw c.in-Some.is at c.in_ok-reply.ensures.replied)
-    c.settle.ensures.engine c.settle.ensures.settled in
-    record {
-      reply = Some c.in-Some.field-0.reply;
-      step = step_over rows c.args.line.now (kept c.args.machine.now) (kept c.settle.new.self) c.args.shelf.now.world c.reply.new.shelf.world
-          c.args.shelf.now.faults c.reply.new.shelf.faults (Some c.in-Some.field-0.reply) replied;
-      tells = c.in_ok-add-in-Some.ensures.added;
-    }
+pub returns-clause-added : goal.returns-clause-added
+returns-clause-added g c =
+    adds_both (rows_of c.args.policy.now) c.args.line.now (kept c.args.machine.now) (kept c.add_reply.new.machine) (kept c.add_told.new.machine)
+    c.args.shelf.now.world c.add_reply.new.shelf.world c.args.shelf.now.faults c.add_reply.new.shelf.faults c.args.tally.now c.add_reply.new.tally
+    c.add_told.new.tally c.in_ok-add_reply.ensures.added c.add_told.ensures.added

@@ -9,6 +9,8 @@ returns-in_err-text-clause-prefix g c =
       some = c.each_line_has_one_outcome.ensures.some (rows_of c.args.policy.now);
       one = c.each_line_has_one_outcome.ensures.one (rows_of c.args.policy.now);
       stays = c.each_line_has_one_outcome.ensures.stays (rows_of c.args.policy.now);
+      tells = c.each_line_has_one_outcome.ensures.tells;
+      tells_one = c.each_line_has_one_outcome.ensures.tells_one;
     })
     (g.K.Sink.written c.args.output.now)
 

@@ -9,6 +9,8 @@ returns c = record {
         some = c.each_line_has_one_outcome.ensures.some rows;
         one = c.each_line_has_one_outcome.ensures.one rows;
         stays = c.each_line_has_one_outcome.ensures.stays rows;
+        tells = c.each_line_has_one_outcome.ensures.tells;
+        tells_one = c.each_line_has_one_outcome.ensures.tells_one;
       })
       one other name line (reached_can_be rows second.world second.lines second.replies (record { whole = other; world = second.after }) second.run)
       (same_certs rows (c.judging.ensures.unmarked rows) one.state other.state

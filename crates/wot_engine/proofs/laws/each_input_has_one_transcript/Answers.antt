@@ -9,6 +9,8 @@ law c rows = record {
   some = c.each_line_has_one_outcome.ensures.some rows;
   one = c.each_line_has_one_outcome.ensures.one rows;
   stays = c.each_line_has_one_outcome.ensures.stays rows;
+  tells = c.each_line_has_one_outcome.ensures.tells;
+  tells_one = c.each_line_has_one_outcome.ensures.tells_one;
 }
 
 pub returns-clause-some : goal.returns-clause-some

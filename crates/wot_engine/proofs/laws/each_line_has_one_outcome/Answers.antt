@@ -1,4 +1,5 @@
 use Rattle.wot_engine.proofs.Outcomes.{LineStep-one, LineStep-some, LineStep-stays}
+use Rattle.wot_engine.proofs.Watched.{Tells-one, Tells-some}
 use Rattle.wot_engine.proofs.laws.each_line_has_one_outcome.Goals as goal
 
 pub returns-clause-some : goal.returns-clause-some
@@ -11,3 +12,10 @@ returns-clause-one c rows old line given reply other new third can p q =
 
 pub returns-clause-stays : goal.returns-clause-stays
 returns-clause-stays c rows old line given reply new can p = LineStep-stays rows old line given reply new can p
+
+pub returns-clause-tells : goal.returns-clause-tells
+returns-clause-tells c old = Tells-some c.answer_is_one.ensures.some old
+
+pub returns-clause-tells_one : goal.returns-clause-tells_one
+returns-clause-tells_one c old told others new third can p q =
+    Tells-one c.answer_is_one.ensures.one c.record_is_lawful.ensures.lawful old told others new third can p q

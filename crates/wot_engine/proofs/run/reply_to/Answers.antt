@@ -1,57 +1,36 @@
-use Rattle.std.proofs.Common.{◌≡◌, ℕ, List, ◌++◌, Option, Result, Ok, Err, Some, refl, sym, subst}
-use Rattle.std.specs.Prelude.{OnOk}
+use Rattle.std.proofs.Common.{ℕ, List, ◌++◌, Option, refl, ap, ◌∙◌}
 use Rattle.wot_io.specs.declared.lines.Line.{Line}
-use Rattle.wot_io.specs.declared.lines.Line.TheVariants.{Long, Text}
 use Rattle.wot_policy.specs.declared.rows.PolicyRows.{PolicyRows}
 use Rattle.wot_policy.specs.Kept.{rows_of}
-use Rattle.wot_script.specs.declared.reply.Reply.TheVariants as replies
-use Rattle.wot_script.specs.Replies.{reply_text}
-use Rattle.wot_certd.specs.World.{Answer, World}
+use Rattle.wot_certd.specs.World.{World}
 use Rattle.wot_engine.specs.Machine.{kept}
-use Rattle.wot_engine.specs.Whole.{Whole}
-use Rattle.wot_engine.specs.Ran.{Seen}
-use Rattle.wot_engine.specs.Stepped.{Stepped}
+use Rattle.wot_engine.specs.Stepped.{TellsBehind}
 use Rattle.wot_engine.specs.Transcript.{listed, octets_of}
-use Rattle.wot_engine.specs.Turn.{RepliesBehind}
-use Rattle.wot_engine.proofs.Stepping.{one_reply, too_long}
+use Rattle.wot_engine.specs.Turn.{RepliesBehind, SaidBehind}
+use Rattle.wot_engine.specs.Whole.{Whole}
+use Rattle.wot_engine.proofs.Progress.{joined}
 use Rattle.wot_engine.proofs.run.reply_to.Goals as goal
 
--- the refusal of a line that is too long, where there is memory
-refused : {T E : Type 0} (r : Result T E) (rows : PolicyRows) (line : Line) (text : List ℕ) (old : Whole) (world : Option World) (before after : List ℕ)
-    → line ≡ Long → OnOk r (after ≡ before ++ reply_text replies.Long) → OnOk r (RepliesBehind rows line text old world before old world after)
-refused (Ok a) rows line text old world before after is e =
-    subst (λ (l : Line). RepliesBehind rows l text old world before old world after) (sym is) (record {
-      octets = reply_text replies.Long;
-      replies = record {
-        given = Answer.absent;
-        reply = Some replies.Long;
-        does = λ line long. too_long rows old line Answer.absent long;
-        asked = refl;
-        world = refl;
-        octets_are = sym (one_reply replies.Long);
-      };
-      behind = e;
-    })
-refused (Err x) rows line text old world before after is e = tt
+-- the reply and the watch lines behind it
+both : (rows : PolicyRows) (line : Line) (text : List ℕ) (old mid new : Whole) (before after : Option World) (had said has : List ℕ)
+    → SaidBehind rows line text old before had mid after said → TellsBehind mid said new has → RepliesBehind rows line text old before had new after has
+both rows line text old mid new before after had said has s t = record {
+  octets = octets_of (listed s.reply ++ t.lines);
+  replies = record {
+    given = s.given;
+    reply = s.reply;
+    mid = mid;
+    told = t.lines;
+    does = s.does;
+    tells = t.tells;
+    served = s.served;
+    octets_are = refl;
+  };
+  behind = t.octets ∙ ap (λ (x : List ℕ). x ++ octets_of t.lines) s.behind ∙ joined had (listed s.reply) t.lines;
+}
 
--- the reply to a line that was looked at, where there is memory
-answered : {T E : Type 0} (r : Result T E) (rows : PolicyRows) (line : Line) (text : List ℕ) (old new : Whole) (before after : Seen) (had has : List ℕ)
-    → line ≡ Text → OnOk r (Stepped rows text old before had new after has) → OnOk r (RepliesBehind rows line text old before.world had new after.world has)
-answered (Ok a) rows line text old new before after had has is s =
-    subst (λ (l : Line). RepliesBehind rows l text old before.world had new after.world has) (sym is) (record {
-      octets = octets_of (listed s.reply);
-      replies = record { given = s.given; reply = s.reply; does = s.step; asked = s.asked; world = s.world; octets_are = refl };
-      behind = s.octets;
-    })
-answered (Err x) rows line text old new before after had has is s = tt
-
-pub returns-in-Text-clause-replies : goal.returns-in-Text-clause-replies
-returns-in-Text-clause-replies g c =
-    answered c.line.result (rows_of c.args.policy.now) c.args.line c.args.text.now (kept c.args.machine.now) (kept c.line.new.self)
-    (record { world = g.D.Shelf.world c.args.shelf.now; faults = g.D.Shelf.faults c.args.shelf.now }) (record { world = g.D.Shelf.world c.line.new.shelf; faults = g.D.Shelf.faults c.line.new.shelf })
-    c.args.out.now.items c.line.new.out.items c.in-Text.is c.line.ensures.step
-
-pub returns-in-Long-clause-replies : goal.returns-in-Long-clause-replies
-returns-in-Long-clause-replies g c =
-    refused c.print_reply.result (rows_of c.args.policy.now) c.args.line c.args.text.now (kept c.args.machine.now) (g.D.Shelf.world c.args.shelf.now) c.args.out.now.items c.print_reply.new.out.items
-    c.in-Long.is c.print_reply.ensures.appended
+pub returns-clause-replies : goal.returns-clause-replies
+returns-clause-replies g c =
+    both (rows_of c.args.policy.now) c.args.line c.args.text.now (kept c.args.machine.now) (kept c.say.new.machine) (kept c.tell.new.self)
+    (g.D.Shelf.world c.args.shelf.now) (g.D.Shelf.world c.say.new.shelf) c.args.out.now.items c.say.new.out.items c.tell.new.out.items
+    c.in_ok-say.ensures.said c.in_ok-tell.ensures.tells

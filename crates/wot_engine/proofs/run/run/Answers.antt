@@ -12,7 +12,7 @@ use Rattle.wot_engine.specs.Machine.{kept}
 use Rattle.wot_engine.specs.Transcript.{AllTold, Begun}
 use Rattle.wot_engine.proofs.Giving.{all_told}
 use Rattle.wot_engine.proofs.Held.{Held, Held-begun, Held-cut, Held-first, Held-most, Held-moves, Held-none, Held-reply, Held-written, nothing_held}
-use Rattle.wot_engine.proofs.Turns.{Answered-end, Answered-stop, AllTold-weaker, Begun-here, Begun-nothing, Most-end, Most-stop, Stood}
+use Rattle.wot_engine.proofs.Turns.{Answered-end, Answered-stop, AllTold-weaker, Begun-here, Begun-nothing, Left-end, Most-end, Most-stop, Stood}
 use Rattle.wot_engine.proofs.Replying.{answered, not_end, holds, no_fault, within, counted, turned, judged}
 use Rattle.wot_engine.proofs.Taking.{has_most, took_none, took_nothing, took_both, takes_at_most, takes_more}
 use Rattle.wot_engine.proofs.run.run.Goals.{After-next}
@@ -55,6 +55,11 @@ returns-in_err-flush-clause-whole g c =
     let p = err_from_is_err_and c.from_residual-in_err-flush.result c.from_residual-in_err-flush.ensures.1 in
     told_always (g.S.Source.left c.args.input.now) (g.K.Sink.written c.args.output.now) (g.D.Shelf.world c.args.shelf.now) _ (λ input before world. on_err c.from_residual-in_err-flush.result p.0 _ p.1)
 
+pub returns-in_err-flush-clause-shelf : goal.returns-in_err-flush-clause-shelf
+returns-in_err-flush-clause-shelf g c =
+    let p = err_from_is_err_and c.from_residual-in_err-flush.result c.from_residual-in_err-flush.ensures.1 in
+    told_always (g.S.Source.left c.args.input.now) (g.K.Sink.written c.args.output.now) (g.D.Shelf.world c.args.shelf.now) _ (λ input before world. on_err c.from_residual-in_err-flush.result p.0 _ p.1)
+
 pub returns-in_err-flush-clause-first : goal.returns-in_err-flush-clause-first
 returns-in_err-flush-clause-first g c =
     let p = err_from_is_err_and c.from_residual-in_err-flush.result c.from_residual-in_err-flush.ensures.1 in
@@ -89,6 +94,12 @@ pub returns-in-Ok-End-clause-whole : goal.returns-in-Ok-End-clause-whole
 returns-in-Ok-End-clause-whole g c =
     Answered-end (rows_of c.args.policy.now) (g.S.Source.left c.args.input.now) (g.K.Sink.written c.args.output.now) (g.D.Shelf.world c.args.shelf.now) c.lines.lines (g.S.Source.left c.lines.input) (g.K.Sink.written c.flush.new.output) (g.D.Shelf.world c.lines.shelf) (kept c.lines.machine) c.next.new.self (g.S.Source.left c.next.new.from)
     (stood g (goal.at.returns-in-Ok-End-clause-whole g c).After-next (λ e. absurd (cc (e, c.in-Ok-End.is, c.in-Ok-End.field-0-is))) (λ e. absurd (cc (e, c.in-Ok-End.is, c.in-Ok-End.field-0-is))))
+    (rw c.in-Ok-End.field-0-is at c.in-Ok-End.ensures.ok)
+
+pub returns-in-Ok-End-clause-shelf : goal.returns-in-Ok-End-clause-shelf
+returns-in-Ok-End-clause-shelf g c =
+    Left-end (rows_of c.args.policy.now) (g.S.Source.left c.args.input.now) (g.K.Sink.written c.args.output.now) (g.D.Shelf.world c.args.shelf.now) c.lines.lines (g.S.Source.left c.lines.input) (g.K.Sink.written c.flush.new.output) (g.D.Shelf.world c.lines.shelf) (kept c.lines.machine) c.next.new.self (g.S.Source.left c.next.new.from)
+    (stood g (goal.at.returns-in-Ok-End-clause-shelf g c).After-next (λ e. absurd (cc (e, c.in-Ok-End.is, c.in-Ok-End.field-0-is))) (λ e. absurd (cc (e, c.in-Ok-End.is, c.in-Ok-End.field-0-is))))
     (rw c.in-Ok-End.field-0-is at c.in-Ok-End.ensures.ok)
 
 pub returns-in-Ok-End-clause-prefix : goal.returns-in-Ok-End-clause-prefix
@@ -167,6 +178,11 @@ returns-in_err-write_all-clause-whole g c =
     let p = err_from_is_err_and c.from_residual-in_err-write_all.result c.from_residual-in_err-write_all.ensures.1 in
     told_always (g.S.Source.left c.args.input.now) (g.K.Sink.written c.args.output.now) (g.D.Shelf.world c.args.shelf.now) _ (λ input before world. on_err c.from_residual-in_err-write_all.result p.0 _ p.1)
 
+pub returns-in_err-write_all-clause-shelf : goal.returns-in_err-write_all-clause-shelf
+returns-in_err-write_all-clause-shelf g c =
+    let p = err_from_is_err_and c.from_residual-in_err-write_all.result c.from_residual-in_err-write_all.ensures.1 in
+    told_always (g.S.Source.left c.args.input.now) (g.K.Sink.written c.args.output.now) (g.D.Shelf.world c.args.shelf.now) _ (λ input before world. on_err c.from_residual-in_err-write_all.result p.0 _ p.1)
+
 pub returns-in_err-write_all-clause-first : goal.returns-in_err-write_all-clause-first
 returns-in_err-write_all-clause-first g c =
     let p = err_from_is_err_and c.from_residual-in_err-write_all.result c.from_residual-in_err-write_all.ensures.1 in
@@ -216,6 +232,9 @@ returns-in_default-clause-first g c =
 pub returns-in_default-clause-whole : goal.returns-in_default-clause-whole
 returns-in_default-clause-whole g c = told_always (g.S.Source.left c.args.input.now) (g.K.Sink.written c.args.output.now) (g.D.Shelf.world c.args.shelf.now) _ (λ input before world. tt)
 
+pub returns-in_default-clause-shelf : goal.returns-in_default-clause-shelf
+returns-in_default-clause-shelf g c = told_always (g.S.Source.left c.args.input.now) (g.K.Sink.written c.args.output.now) (g.D.Shelf.world c.args.shelf.now) _ (λ input before world. tt)
+
 pub returns-in_default-clause-taken : goal.returns-in_default-clause-taken
 returns-in_default-clause-taken g c = told_always (g.S.Source.left c.args.input.now) (g.K.Sink.written c.args.output.now) (g.D.Shelf.world c.args.shelf.now) _ (λ input before world e. absurd (cc e))
 
@@ -233,12 +252,12 @@ returns-in_default-clause-at_most g c =
 
 pub returns-in_err-lines-clause-prefix : goal.returns-in_err-lines-clause-prefix
 returns-in_err-lines-clause-prefix g c =
-    Begun-nothing (rows_of c.args.policy.now) (record { some = c.each_line_has_one_outcome.ensures.some (rows_of c.args.policy.now); one = c.each_line_has_one_outcome.ensures.one (rows_of c.args.policy.now); stays = c.each_line_has_one_outcome.ensures.stays (rows_of c.args.policy.now) }) (g.S.Source.left c.args.input.now) (g.K.Sink.written c.args.output.now) (g.D.Shelf.world c.args.shelf.now)
+    Begun-nothing (rows_of c.args.policy.now) (record { some = c.each_line_has_one_outcome.ensures.some (rows_of c.args.policy.now); one = c.each_line_has_one_outcome.ensures.one (rows_of c.args.policy.now); stays = c.each_line_has_one_outcome.ensures.stays (rows_of c.args.policy.now); tells = c.each_line_has_one_outcome.ensures.tells; tells_one = c.each_line_has_one_outcome.ensures.tells_one }) (g.S.Source.left c.args.input.now) (g.K.Sink.written c.args.output.now) (g.D.Shelf.world c.args.shelf.now)
 
 pub lines-init : goal.lines-init
 lines-init g c = record {
-  law = (record { some = c.each_line_has_one_outcome.ensures.some (rows_of c.args.policy.now); one = c.each_line_has_one_outcome.ensures.one (rows_of c.args.policy.now); stays = c.each_line_has_one_outcome.ensures.stays (rows_of c.args.policy.now) });
-  held = holds (rows_of c.args.policy.now) (g.S.Source.left c.args.input.now) (g.K.Sink.written c.args.output.now) (g.D.Shelf.world c.args.shelf.now) c.in_ok-lines.lines c.new-machine.result c.new-out.result.items c.in_ok-lines.ensures c.new-machine.ensures.start c.new-machine.ensures.cursors c.new-out.ensures.items;
+  law = (record { some = c.each_line_has_one_outcome.ensures.some (rows_of c.args.policy.now); one = c.each_line_has_one_outcome.ensures.one (rows_of c.args.policy.now); stays = c.each_line_has_one_outcome.ensures.stays (rows_of c.args.policy.now); tells = c.each_line_has_one_outcome.ensures.tells; tells_one = c.each_line_has_one_outcome.ensures.tells_one });
+  held = holds (rows_of c.args.policy.now) (g.S.Source.left c.args.input.now) (g.K.Sink.written c.args.output.now) (g.D.Shelf.world c.args.shelf.now) c.in_ok-lines.lines c.new-machine.result c.new-out.result.items c.in_ok-lines.ensures c.new-machine.ensures.start c.new-machine.ensures.cursors c.new-machine.ensures.watches c.new-out.ensures.items;
   no_fault = no_fault c.in_ok-lines.lines c.in_ok-lines.ensures;
   took = took_nothing (g.S.Source.left c.args.input.now) c.in_ok-lines.lines c.in_ok-lines.ensures;
   within = within c.in_ok-lines.lines c.in_ok-lines.ensures;

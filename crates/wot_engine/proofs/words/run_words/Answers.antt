@@ -30,6 +30,11 @@ returns-in-Some-Run-clause-whole g c =
     AllTold-weaker (rows_of c.args.policy.now) (g.S.Source.left c.args.input.now) (g.K.Sink.written c.args.output.now) (g.D.Shelf.world c.args.shelf.now) _ _
     (λ input before world t form e. is_done c.run.result _ (sym c.status_of.ensures ∙ e) t) c.run.ensures.whole
 
+pub returns-in-Some-Run-clause-shelf : goal.returns-in-Some-Run-clause-shelf
+returns-in-Some-Run-clause-shelf g c =
+    AllTold-weaker (rows_of c.args.policy.now) (g.S.Source.left c.args.input.now) (g.K.Sink.written c.args.output.now) (g.D.Shelf.world c.args.shelf.now) _ _
+    (λ input before world t form e. is_done c.run.result _ (sym c.status_of.ensures ∙ e) t) c.run.ensures.shelf
+
 pub returns-in-Some-Run-clause-prefix : goal.returns-in-Some-Run-clause-prefix
 returns-in-Some-Run-clause-prefix g c =
     AllTold-weaker (rows_of c.args.policy.now) (g.S.Source.left c.args.input.now) (g.K.Sink.written c.args.output.now) (g.D.Shelf.world c.args.shelf.now) _ _
@@ -95,6 +100,11 @@ returns-in-Some-Run-clause-ends g c start count p = absurd (one_form (map string
 
 pub returns-in-Some-Generate-clause-whole : goal.returns-in-Some-Generate-clause-whole
 returns-in-Some-Generate-clause-whole g c =
+    all_told (g.S.Source.left c.args.input.now) (g.K.Sink.written c.args.output.now) (g.D.Shelf.world c.args.shelf.now) _
+    (λ input before world e f is form. absurd (one_form (map string_bytes c.args.words.now) c.in-Some-Generate.start c.in-Some-Generate.count form (rw c.in-Some-Generate.field-0-is at c.in-Some-Generate.ensures.form)))
+
+pub returns-in-Some-Generate-clause-shelf : goal.returns-in-Some-Generate-clause-shelf
+returns-in-Some-Generate-clause-shelf g c =
     all_told (g.S.Source.left c.args.input.now) (g.K.Sink.written c.args.output.now) (g.D.Shelf.world c.args.shelf.now) _
     (λ input before world e f is form. absurd (one_form (map string_bytes c.args.words.now) c.in-Some-Generate.start c.in-Some-Generate.count form (rw c.in-Some-Generate.field-0-is at c.in-Some-Generate.ensures.form)))
 

@@ -10,8 +10,8 @@ use Rattle.wot_script.specs.Texts.{joined}
 use Rattle.wot_script.specs.declared.read.Question.{Question}
 use Rattle.wot_script.specs.Uid.{escaped}
 use Rattle.wot_script.proofs.Spaceless.{spaceless_digits}
-use Rattle.wot_script.proofs.Readings.{absence_reads, ask_reads, bad_reads, check_reads, close_reads, drop_reads, dump_reads, explain_reads, export_reads, good_reads, import_reads, keys_reads, list_reads, load_reads, none_reads, pending_reads, question, root_reads, time_reads, end_reads, next_reads, over_reads}
-use Rattle.wot_script.proofs.OneLine.{absence_line, ask_line, bad_line, check_line, close_line, dump_line, explain_line, export_line, fpr_digits, good_line, import_line, keys_line, list_line, load_line, name_is, number_digits_are, numeral, pending_line, remove_line, root_line, time_line, unjudge_line, end_line, next_line, over_line}
+use Rattle.wot_script.proofs.Readings.{absence_reads, ask_reads, bad_reads, check_reads, close_reads, drop_reads, dump_reads, explain_reads, export_reads, good_reads, import_reads, keys_reads, list_reads, load_reads, none_reads, pending_reads, question, root_reads, store_reads, time_reads, end_reads, next_reads, over_reads, off_reads, on_reads}
+use Rattle.wot_script.proofs.OneLine.{absence_line, ask_line, bad_line, check_line, close_line, dump_line, explain_line, export_line, fpr_digits, good_line, import_line, keys_line, list_line, load_line, name_is, number_digits_are, numeral, pending_line, remove_line, root_line, store_line, time_line, unjudge_line, end_line, next_line, over_line, off_line, on_line}
 use Rattle.wot_script.proofs.spelled.spelling_is_read.Goals as goal
 
 pub returns-in-Import : goal.returns-in-Import
@@ -28,11 +28,18 @@ returns-in-Load c = rw c.in-Load.is (record {
   line = load_line c.in-Load.name (entry_text c.in-Load.name) c.entry_is_read.ensures.free c.entry_is_read.ensures.short;
 })
 
+pub returns-in-Store : goal.returns-in-Store
+unfolding spelling
+returns-in-Store c = rw c.in-Store.is (record {
+  read = store_reads (digits_of c.in-Store.fpr) c.in-Store.fpr c.printed_is_read.ensures.read_back;
+  line = store_line c.in-Store.fpr (digits_of c.in-Store.fpr) (fpr_digits c.in-Store.fpr c.printed_is_read.ensures.read_back);
+})
+
 pub returns-in-Remove : goal.returns-in-Remove
 unfolding spelling
 returns-in-Remove c = rw c.in-Remove.is (record {
-  read = drop_reads (digits_of c.in-Remove.fpr) c.in-Remove.fpr c.printed_is_read.ensures.read_back;
-  line = remove_line c.in-Remove.fpr (digits_of c.in-Remove.fpr) (fpr_digits c.in-Remove.fpr c.printed_is_read.ensures.read_back);
+  read = drop_reads (digits_of c.in-Remove.fpr) c.in-Remove.fpr c.printed_is_read-in-Remove.ensures.read_back;
+  line = remove_line c.in-Remove.fpr (digits_of c.in-Remove.fpr) (fpr_digits c.in-Remove.fpr c.printed_is_read-in-Remove.ensures.read_back);
 })
 
 pub returns-in-Good : goal.returns-in-Good
@@ -167,4 +174,20 @@ unfolding spelling
 returns-in-CursorClose c = rw c.in-CursorClose.is (record {
   read = end_reads c.in-CursorClose.cursor c.octets-cursor-in-CursorClose.ensures.name;
   line = end_line c.in-CursorClose.cursor (name_is c.in-CursorClose.cursor c.octets-cursor-in-CursorClose.ensures.name);
+})
+
+pub returns-in-WatchOn : goal.returns-in-WatchOn
+unfolding spelling
+returns-in-WatchOn c =
+    let q : Question = question c.in-WatchOn.fpr c.in-WatchOn.wanted c.in-WatchOn.uid in
+    rw c.in-WatchOn.is (record {
+      read = on_reads c.in-WatchOn.watch c.in-WatchOn.view (joined (question_parts c.in-WatchOn.fpr c.in-WatchOn.wanted c.in-WatchOn.uid)) q c.octets-watch.ensures.name c.octets-name-in-WatchOn.ensures.name c.question_is_read-in-WatchOn.ensures.read;
+      line = on_line c.in-WatchOn.watch c.in-WatchOn.view c.in-WatchOn.fpr c.in-WatchOn.wanted c.in-WatchOn.uid (digits_of c.in-WatchOn.fpr) (decimal c.in-WatchOn.wanted) (name_is c.in-WatchOn.watch c.octets-watch.ensures.name) (name_is c.in-WatchOn.view c.octets-name-in-WatchOn.ensures.name) (fpr_digits c.in-WatchOn.fpr c.question_is_read-in-WatchOn.ensures.digits) (numeral c.in-WatchOn.wanted (omega arith));
+    })
+
+pub returns-in-WatchOff : goal.returns-in-WatchOff
+unfolding spelling
+returns-in-WatchOff c = rw c.in-WatchOff.is (record {
+  read = off_reads c.in-WatchOff.watch c.octets-watch-in-WatchOff.ensures.name;
+  line = off_line c.in-WatchOff.watch (name_is c.in-WatchOff.watch c.octets-watch-in-WatchOff.ensures.name);
 })

@@ -1,11 +1,13 @@
-use Rattle.std.proofs.Common.{rules, ◌≡◌, false, Option, Some, Result, Ok, refl, subst}
+use Rattle.std.proofs.Common.{rules, ◌≡◌, false, Option, Some, Result, Ok, refl, subst, sym, ◌∙◌}
 use Rattle.wot_types.specs.declared.memory.Memory.{Memory}
+use Rattle.wot_policy.specs.Kept.{rows_of}
 use Rattle.wot_script.specs.Grammar.{command_of}
 use Rattle.wot_engine.specs.declared.told.Told.{Told}
-use Rattle.wot_engine.specs.Lines.{is_silent}
-use Rattle.wot_engine.specs.Machine.{Machine}
-use Rattle.wot_engine.specs.Made.{LineMakes, heard}
+use Rattle.wot_engine.specs.Lines.{heard, is_silent}
+use Rattle.wot_engine.specs.Machine.{Machine, kept}
+use Rattle.wot_engine.specs.Made.{LineMakes}
 use Rattle.wot_engine.proofs.Making.{line_makes_as, makes_heard}
+use Rattle.wot_engine.proofs.Running.{replied_long, replied_silent}
 use Rattle.wot_engine.proofs.machine.Machine.reply.Goals as goal
 
 pub returns-clause-makes : goal.returns-clause-makes
@@ -17,3 +19,15 @@ returns-clause-makes g c =
     c.if-line-gt-LONGEST.false loud
     (line_makes_as (Ok c.in_ok-told.told) done (λ ok. refl) (command_of c.args.line.now) c.self.inside.cursors c.self.inside.engine c.answer.new.engine
     c.self.inside.steps.made c.answer.new.steps.made c.in_ok-told.ensures.makes))
+
+pub returns-then-line-gt-LONGEST-clause-replied : goal.returns-then-line-gt-LONGEST-clause-replied
+returns-then-line-gt-LONGEST-clause-replied g c =
+    replied_long (rows_of c.args.policy.now) c.args.line.now c.args.self.now.engine c.args.self.now.cursors c.args.self.now.watches
+    (record { world = g.D.Shelf.world c.args.shelf.now; faults = g.D.Shelf.faults c.args.shelf.now }) c.alone.result c.if-line-gt-LONGEST.true
+    c.alone.ensures.reply c.alone.ensures.moved
+
+pub returns-then-test_silent-clause-replied : goal.returns-then-test_silent-clause-replied
+returns-then-test_silent-clause-replied g c =
+    replied_silent (rows_of c.args.policy.now) c.args.line.now (kept c.args.self.now)
+    (record { world = g.D.Shelf.world c.args.shelf.now; faults = g.D.Shelf.faults c.args.shelf.now }) c.if-line-gt-LONGEST.false
+    (sym c.test_silent.ensures.silent ∙ c.if-test_silent.true)

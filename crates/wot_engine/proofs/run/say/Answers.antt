@@ -1,0 +1,49 @@
+use Rattle.std.proofs.Common.{◌≡◌, ℕ, List, ◌++◌, Option, Result, Ok, Err, Some, refl, sym, ap, subst, ◌∙◌}
+use Rattle.std.specs.Prelude.{OnOk}
+use Rattle.wot_io.specs.declared.lines.Line.{Line}
+use Rattle.wot_io.specs.declared.lines.Line.TheVariants.{Long, Text}
+use Rattle.wot_policy.specs.declared.rows.PolicyRows.{PolicyRows}
+use Rattle.wot_policy.specs.Kept.{rows_of}
+use Rattle.wot_script.specs.declared.reply.Reply.TheVariants as replies
+use Rattle.wot_script.specs.Replies.{reply_text}
+use Rattle.wot_certd.specs.World.{World}
+use Rattle.wot_engine.specs.Machine.{kept}
+use Rattle.wot_engine.specs.Whole.{Whole}
+use Rattle.wot_engine.specs.Ran.{Seen}
+use Rattle.wot_engine.specs.Served.{unserved}
+use Rattle.wot_engine.specs.Stepped.{Stepped}
+use Rattle.wot_engine.specs.Turn.{SaidBehind}
+use Rattle.wot_engine.proofs.Stepping.{one_reply, too_long}
+use Rattle.wot_engine.proofs.run.say.Goals as goal
+
+-- the refusal of a line that is too long, where there is memory
+refused : {T E : Type 0} (r : Result T E) (rows : PolicyRows) (line : Line) (text : List ℕ) (old : Whole) (world : Option World) (before after : List ℕ)
+    → line ≡ Long → OnOk r (after ≡ before ++ reply_text replies.Long) → OnOk r (SaidBehind rows line text old world before old world after)
+refused (Ok a) rows line text old world before after is e =
+    subst (λ (l : Line). SaidBehind rows l text old world before old world after) (sym is) (record {
+      given = unserved;
+      reply = Some replies.Long;
+      does = λ line long. too_long rows old line unserved long;
+      served = record { asked = refl; world = refl };
+      behind = e ∙ ap (λ (x : List ℕ). before ++ x) (sym (one_reply replies.Long));
+    })
+refused (Err x) rows line text old world before after is e = tt
+
+-- the reply to a line that was looked at, where there is memory
+answered : {T E : Type 0} (r : Result T E) (rows : PolicyRows) (line : Line) (text : List ℕ) (old new : Whole) (before after : Seen) (had has : List ℕ)
+    → line ≡ Text → OnOk r (Stepped rows text old before had new after has) → OnOk r (SaidBehind rows line text old before.world had new after.world has)
+answered (Ok a) rows line text old new before after had has is s =
+    subst (λ (l : Line). SaidBehind rows l text old before.world had new after.world has) (sym is)
+    (record { given = s.given; reply = s.reply; does = s.step; served = s.served; behind = s.octets })
+answered (Err x) rows line text old new before after had has is s = tt
+
+pub returns-in-Text-clause-said : goal.returns-in-Text-clause-said
+returns-in-Text-clause-said g c =
+    answered c.line.result (rows_of c.args.policy.now) c.args.line c.args.text.now (kept c.args.machine.now) (kept c.line.new.self)
+    (record { world = g.D.Shelf.world c.args.shelf.now; faults = g.D.Shelf.faults c.args.shelf.now }) (record { world = g.D.Shelf.world c.line.new.shelf; faults = g.D.Shelf.faults c.line.new.shelf })
+    c.args.out.now.items c.line.new.out.items c.in-Text.is c.line.ensures.step
+
+pub returns-in-Long-clause-said : goal.returns-in-Long-clause-said
+returns-in-Long-clause-said g c =
+    refused c.print_reply.result (rows_of c.args.policy.now) c.args.line c.args.text.now (kept c.args.machine.now) (g.D.Shelf.world c.args.shelf.now) c.args.out.now.items c.print_reply.new.out.items
+    c.in-Long.is c.print_reply.ensures.appended
