@@ -1,5 +1,6 @@
 -- When two certificates clash, and which fault of a list of packets is told.
-use Rattle.std.specs.Prelude.{◌≡◌, ◌≢◌, ◌⊎◌, List, Some, None, Result, Ok, Err}
+use Rattle.std.specs.Prelude.{◌≡◌, ◌≢◌, ◌⊎◌, ℕ, true, false, List, Option, Some, None, Result, Ok, Err}
+use Rattle.wot_key.specs.Key.{is_readable}
 use Rattle.wot_packet.specs.Spelling.{Spelled}
 use Rattle.wot_cert.specs.declared.fault.MergeFault.{MergeFault}
 use Rattle.wot_cert.specs.declared.fault.MergeFault.TheVariants.{Clash, Memory}
@@ -17,4 +18,10 @@ ClashesExactly a b (Err Memory) = a.key ≡ b.key
 -- A fault is told exactly where it is the first one in the order of the packets; "out of memory" where there is none.
 abbrev pub TellsFirstFault : {T : Type 0} → List Spelled → Result T CertFault → Type 0
 TellsFirstFault packets (Ok done) = first_fault packets ≡ None
-TellsFirstFault packets (Err fault) = (first_fault packets ≡ Some fault) ⊎ ((fault ≡ faults.Memory) × (first_fault packets ≡ None))
+TellsFirstFault packets (Err fault) =
+    (first_fault packets ≡ Some fault) ⊎ ((fault ≡ faults.Memory) × (first_fault packets ≡ None))
+
+-- This certificate is found exactly where the key is readable.
+abbrev pub IsWhereReadable : List ℕ → Certificate → Option Certificate → Type 0
+IsWhereReadable key wanted None = is_readable key ≡ false
+IsWhereReadable key wanted (Some c) = (c ≡ wanted) × (is_readable key ≡ true)

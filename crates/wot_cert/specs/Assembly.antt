@@ -3,7 +3,8 @@ use Rattle.std.specs.Prelude.{ℕ, Bool, true, false, not, ◌==◌, List, [], �
 use Rattle.wot_key.specs.Key.{is_readable}
 use Rattle.wot_packet.specs.Spelling.{Spelled}
 use Rattle.wot_cert.specs.Packets.{is_key, is_signature, begins_component}
-use Rattle.wot_cert.specs.Certificate.{Signature, Component, Certificate, fresh, unite_sigs, unite_parts, on_key, on_user_id, on_attribute, on_subkey}
+use Rattle.wot_cert.specs.Certificate.{Signature, Component, Certificate, fresh, unite_sigs, unite_parts}
+use Rattle.wot_cert.specs.Certificate.{on_key, on_user_id, on_attribute, on_subkey}
 
 -- ---- cutting a list of packets
 
@@ -29,7 +30,8 @@ keys_of packets = (cut_at is_key packets).1
 -- the set of the signatures among these packets, which stand at this place
 abbrev pub sigs_in : List ℕ → ℕ → List ℕ → List Spelled → List Signature
 sigs_in key kind component packets =
-    unite_sigs [] (map (λ (p : Spelled). fresh key kind component p.body) (filter (λ (p : Spelled). is_signature p.kind) packets))
+    unite_sigs []
+    (map (λ (p : Spelled). fresh key kind component p.body) (filter (λ (p : Spelled). is_signature p.kind) packets))
 
 -- a component with the signatures behind it
 abbrev pub part_of : List ℕ → ℕ → Section → Component
@@ -50,8 +52,11 @@ certificate_with key cut = record {
 }
 
 -- the certificate of a key and the packets behind it
+abbrev pub certificate_behind : List ℕ → List Spelled → Certificate
+certificate_behind key packets = certificate_with key (cut_at begins_component packets)
+
 abbrev pub certificate_of : Section → Certificate
-certificate_of section = certificate_with section.0.body (cut_at begins_component section.1)
+certificate_of section = certificate_behind section.0.body section.1
 
 -- ---- all of them
 

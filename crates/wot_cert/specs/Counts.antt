@@ -25,7 +25,8 @@ part_weight sig own p = own p + sum_of sig p.sigs
 -- what a certificate weighs beside its key, by the weight of a signature and of a component by itself
 abbrev pub weight_of : (Signature → ℕ) → (Component → ℕ) → Certificate → ℕ
 weight_of sig own c =
-    sum_of sig c.direct + sum_of (part_weight sig own) c.user_ids + sum_of (part_weight sig own) c.attributes + sum_of (part_weight sig own) c.subkeys
+    sum_of sig c.direct + sum_of (part_weight sig own) c.user_ids
+    + sum_of (part_weight sig own) c.attributes + sum_of (part_weight sig own) c.subkeys
 
 -- how many signatures
 abbrev pub signatures_of : Certificate → ℕ

@@ -45,7 +45,8 @@ put_group = put group_cmp unite_group
 
 -- the bodies of the signatures among these packets
 abbrev pub sig_bodies : List Spelled → List (List ℕ)
-sig_bodies packets = unite_bodies [] (map (λ (p : Spelled). p.body) (filter (λ (p : Spelled). is_signature p.kind) packets))
+sig_bodies packets =
+    unite_bodies [] (map (λ (p : Spelled). p.body) (filter (λ (p : Spelled). is_signature p.kind) packets))
 
 abbrev pub group_of : Section → Group
 group_of section = (section.0.body, sig_bodies section.1)

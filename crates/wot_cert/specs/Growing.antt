@@ -1,19 +1,21 @@
 -- How a certificate grows in place, and how that is taken back.
-use Rattle.std.specs.Prelude.{◌≡◌, ◌≤◌, ◌<◌, ℕ, zero, suc, ◌+◌, List, [], ◌∷◌, length, slice_index_or, slice_set, Result, Ok, Err, MatchResult, map}
+use Rattle.std.specs.Prelude.{◌≡◌, ◌≤◌, ◌<◌, ℕ, zero, suc, List, [], ◌∷◌, length, slice_index_or, slice_set, map}
+use Rattle.std.specs.Prelude.{Result, Ok, Err}
 use Rattle.std.specs.List.{AllByRecursion, insert, remove}
 use Rattle.std.specs.declared.cmp.Ordering.{Ordering}
-use Rattle.wot_types.specs.declared.memory.Memory.{Memory}
 use Rattle.wot_policy.specs.declared.policy.Policy.{Policy}
 use Rattle.wot_policy.specs.declared.rows.PolicyRows.{PolicyRows}
-use Rattle.wot_policy.specs.Kept.{asked_more}
+use Rattle.wot_policy.specs.Kept.{rows_of}
 use Rattle.wot_cert.specs.declared.adds.Adds.{Adds}
 use Rattle.wot_cert.specs.declared.growth.Growth.{Growth}
 use Rattle.wot_cert.specs.declared.growth.PartStep.{PartStep}
 use Rattle.wot_cert.specs.declared.growth.PartStep.TheVariants.{New, Grown}
 use Rattle.wot_cert.specs.declared.places.Places.{Places}
-use Rattle.wot_cert.specs.Certificate.{Signature, Component, Certificate, sig_cmp, part_cmp, part_with, unite_sigs, unite_parts}
-use Rattle.wot_cert.specs.Counts.{part_weight, weight_of}
-use Rattle.wot_cert.specs.Judged.{judged_sig, if_sound}
+use Rattle.wot_cert.specs.Asking.{AsksUpTo}
+use Rattle.wot_cert.specs.Certificate.{Signature, Component, Certificate, sig_cmp, part_cmp, part_with}
+use Rattle.wot_cert.specs.Certificate.{unite, unite_part, unite_parts, unite_sigs}
+use Rattle.wot_cert.specs.Counts.{part_weight, sum_of, weight_of}
+use Rattle.wot_cert.specs.Judged.{if_sound, judged, judged_sig, sound_of}
 use Rattle.wot_cert.specs.Parts.{of_places}
 use Rattle.wot_cert.specs.Ranked.{put, IsRising}
 use Rattle.wot_cert.specs.Sizes.{sig_size, own_size}
@@ -24,7 +26,8 @@ use Rattle.wot_cert.specs.Whole.{IsCertificate}
 
 -- Where x belongs in a list that rises: at what has its rank, or where it is put in.
 abbrev pub TellsPlace : {A : Type 0} → (A → A → Ordering) → (A → A → A) → A → List A → Result ℕ ℕ → Type 0
-TellsPlace {A} R join x xs (Ok at) = (at < length xs) × ((d : A) → put R join x xs ≡ slice_set xs at (join (slice_index_or xs at d) x))
+TellsPlace {A} R join x xs (Ok at) =
+    (at < length xs) × ((d : A) → put R join x xs ≡ slice_set xs at (join (slice_index_or xs at d) x))
 TellsPlace {A} R join x xs (Err at) = (at ≤ length xs) × (put R join x xs ≡ insert xs at x)
 
 -- ---- taking back
@@ -67,29 +70,63 @@ pub record LeadsBack (g : Growth) (old new : Certificate) : Type 0 where
   pub whole : IsCertificate old
   pub totals : AreTotals g.before old
 
+-- ---- uniting with what the rows judge
+
+-- the signatures united with others, judged
+abbrev pub sigs_grown : PolicyRows → List Signature → List Signature → List Signature
+sigs_grown rows old more = unite_sigs old (map (judged_sig rows) more)
+
+-- the parts with one more in its place, judged
+abbrev pub parts_with : PolicyRows → List Component → Component → List Component
+parts_with rows old part = put part_cmp unite_part (part_with (judged_sig rows) part) old
+
+-- the parts united with others, judged
+abbrev pub parts_grown : PolicyRows → List Component → List Component → List Component
+parts_grown rows old more = unite_parts old (map (part_with (judged_sig rows)) more)
+
 -- ---- asking
 
--- The policy was asked once for each sound signature that is new; where no memory was found, for some of them.
-abbrev pub AsksUpTo : {F T E : Type 0} → Result T E → Policy F → Policy F → ℕ → ℕ → Type 0
-AsksUpTo result before after old wanted = (k : ℕ) × (after ≡ asked_more k before) × MatchResult result (λ _. k + old ≡ wanted) (λ _. k + old ≤ wanted)
+-- how many signatures of a list are sound, and how many on a part
+abbrev pub sound_sigs : List Signature → ℕ
+sound_sigs sigs = sum_of if_sound sigs
 
 abbrev pub sound_weight : Component → ℕ
 sound_weight = part_weight if_sound (λ _. 0)
+
+-- The policy is asked for what is new of these signatures.
+abbrev pub AsksForSigs : {F T E : Type 0} → Result T E → Policy F → Policy F → List Signature → List Signature → Type 0
+AsksForSigs result before after old more =
+    AsksUpTo result before after (sound_sigs old) (sound_sigs (sigs_grown (rows_of before) old more))
+
+-- The policy is asked for what is new of this part, or of these.
+abbrev pub AsksForPart : {F T E : Type 0} → Result T E → Policy F → Policy F → List Component → Component → Type 0
+AsksForPart result before after old part =
+    AsksUpTo result before after (sum_of sound_weight old) (sum_of sound_weight (parts_with (rows_of before) old part))
+
+abbrev pub AsksForParts : {F T E : Type 0} → Result T E → Policy F → Policy F → List Component → List Component → Type 0
+AsksForParts result before after old more =
+    AsksUpTo result before after (sum_of sound_weight old) (sum_of sound_weight (parts_grown (rows_of before) old more))
+
+-- The policy is asked for what is new of this certificate.
+abbrev pub AsksForCert : {F T E : Type 0} → Result T E → Policy F → Policy F → Certificate → Certificate → Type 0
+AsksForCert result before after old other =
+    AsksUpTo result before after (sound_of old) (sound_of (unite old (judged (rows_of before) other)))
 
 -- ---- all places
 
 -- Each place is the union with another certificate's, judged.
 pub record AreUnited (rows : PolicyRows) (old new : Places) (other : Certificate) : Type 0 where
-  pub direct : new.direct.items ≡ unite_sigs old.direct.items (map (judged_sig rows) other.direct)
-  pub user_ids : new.user_ids.items ≡ unite_parts old.user_ids.items (map (part_with (judged_sig rows)) other.user_ids)
-  pub attributes : new.attributes.items ≡ unite_parts old.attributes.items (map (part_with (judged_sig rows)) other.attributes)
-  pub subkeys : new.subkeys.items ≡ unite_parts old.subkeys.items (map (part_with (judged_sig rows)) other.subkeys)
+  pub direct : new.direct.items ≡ sigs_grown rows old.direct.items other.direct
+  pub user_ids : new.user_ids.items ≡ parts_grown rows old.user_ids.items other.user_ids
+  pub attributes : new.attributes.items ≡ parts_grown rows old.attributes.items other.attributes
+  pub subkeys : new.subkeys.items ≡ parts_grown rows old.subkeys.items other.subkeys
 
 -- What was logged more leads back to the old places.
 pub record StillLeadsBack (g g' : Growth) (old new : Places) : Type 0 where
   pub direct : without_all g'.direct.items new.direct.items ≡ without_all g.direct.items old.direct.items
   pub user_ids : parts_back g'.user_ids.items new.user_ids.items ≡ parts_back g.user_ids.items old.user_ids.items
-  pub attributes : parts_back g'.attributes.items new.attributes.items ≡ parts_back g.attributes.items old.attributes.items
+  pub attributes :
+      parts_back g'.attributes.items new.attributes.items ≡ parts_back g.attributes.items old.attributes.items
   pub subkeys : parts_back g'.subkeys.items new.subkeys.items ≡ parts_back g.subkeys.items old.subkeys.items
   pub before : g'.before ≡ g.before
 

@@ -16,6 +16,7 @@ pub mod Span
 pub mod Answers
 pub mod Narrowed
 pub mod New
+pub mod Asking
 pub mod Lent
 pub mod Marked
 pub mod Fitting

@@ -1,5 +1,5 @@
 -- What a union has that the list before it had not.
-use Rattle.std.specs.Prelude.{ℕ, ◌+◌, if◌then◌else◌, List, [], ◌∷◌, Option, Some, None}
+use Rattle.std.specs.Prelude.{◌≡◌, ℕ, ◌+◌, if◌then◌else◌, List, [], ◌∷◌, Option, Some, None}
 use Rattle.std.specs.declared.cmp.Ordering.{Ordering}
 use Rattle.std.specs.Ordering.{is_eq}
 use Rattle.wot_policy.specs.declared.rows.PolicyRows.{PolicyRows}
@@ -11,7 +11,8 @@ abbrev pub met : {A : Type 0} → (A → A → Ordering) → A → List A → Op
 met R y [] = None
 met R y (x ∷ xs) = if is_eq (R x y) then Some (x, xs) else None
 
-abbrev pub marked_on : {A : Type 0} → (A → A → A) → (A → A) → Option (A × List A) → A → List A → (List A → List A) → List A
+abbrev pub marked_on : {A : Type 0} → (A → A → A) → (A → A) → Option (A × List A)
+    → A → List A → (List A → List A) → List A
 marked_on both only (Some found) y old others = both found.0 y ∷ others found.1
 marked_on both only None y old others = only y ∷ others old
 
@@ -48,10 +49,21 @@ abbrev pub judged_part : PolicyRows → List Signature → Component → Compone
 judged_part rows old p = record { body = p.body; sigs = judged_sigs rows p.sigs old }
 
 abbrev pub judged_parts : PolicyRows → List Component → List Component → List Component
-judged_parts rows = marked_new part_cmp (λ (old : Component) (new : Component). judged_part rows old.sigs new) (judged_part rows [])
+judged_parts rows =
+    marked_new part_cmp (λ (old : Component) (new : Component). judged_part rows old.sigs new) (judged_part rows [])
 
 abbrev pub sound_new_on : List Component → List Component → ℕ
-sound_new_on = weighed_new part_cmp (λ (old : Component) (new : Component). sound_new new.sigs old.sigs) (λ (p : Component). sound_new p.sigs [])
+sound_new_on =
+    weighed_new part_cmp (λ (old : Component) (new : Component). sound_new new.sigs old.sigs)
+    (λ (p : Component). sound_new p.sigs [])
+
+-- Where this is the first of the new ones it is marked so, and these of the old ones are left for those behind it.
+abbrev pub MarksFirst : {A : Type 0} → (List A → List A → List A) → A → A → List A → List A → Type 0
+MarksFirst {A} marked first made old left = (rest : List A) → marked (first ∷ rest) old ≡ made ∷ marked rest left
+
+-- The same, where it weighs so much.
+abbrev pub WeighsFirst : {A : Type 0} → (List A → List A → ℕ) → A → List A → List A → ℕ → Type 0
+WeighsFirst {A} weighed first old left k = (rest : List A) → weighed (first ∷ rest) old ≡ k + weighed rest left
 
 -- the certificate with those of its signatures judged that the old one doesn't have
 abbrev pub judged_beside : PolicyRows → Certificate → Certificate → Certificate
@@ -66,4 +78,5 @@ judged_beside rows old c = record {
 -- how many of those are sound
 abbrev pub sound_beside : Certificate → Certificate → ℕ
 sound_beside old c =
-    sound_new c.direct old.direct + sound_new_on c.user_ids old.user_ids + sound_new_on c.attributes old.attributes + sound_new_on c.subkeys old.subkeys
+    sound_new c.direct old.direct + sound_new_on c.user_ids old.user_ids
+    + sound_new_on c.attributes old.attributes + sound_new_on c.subkeys old.subkeys

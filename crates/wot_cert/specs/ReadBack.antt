@@ -7,8 +7,8 @@ use Rattle.wot_cert.specs.Certificate.{Certificate, unmarked}
 use Rattle.wot_cert.specs.Fault.{first_fault}
 use Rattle.wot_cert.specs.Text.{text_of}
 
--- The text spells packets, and the plain reader gives them. They have no fault, none is skipped, and this one certificate
--- is assembled from them, with no mark.
+-- The text spells packets, and the plain reader gives them. They have no fault, none is skipped, and this one
+-- certificate is assembled from them, with no mark.
 pub record ReadBack (c : Certificate) : Type 0 where
   pub packets : List Spelled
   pub spelled : Spells (text_of c) packets

@@ -18,7 +18,8 @@ is_revocable s = is_true_of (λ f. f.revocable) s
 abbrev pub revokes_by : Entries → Fpr → ℕ → Signature → Bool
 revokes_by verdicts fpr t r = has_kind 48 r && (counts_by verdicts fpr r && is_live t r)
 
--- Each live revocation by this one at the same place was made before the signature was, or the signature isn't revocable.
+-- Each live revocation by this one at the same place was made before the signature was, or the signature isn't
+-- revocable.
 abbrev pub is_unrevoked : Entries → Fpr → ℕ → List Signature → Signature → Bool
 is_unrevoked verdicts fpr t sigs s =
     not (is_revocable s) || list_all (λ r. not (revokes_by verdicts fpr t r) || nat_lt (made_of r) (made_of s)) sigs

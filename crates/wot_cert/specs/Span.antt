@@ -1,5 +1,6 @@
 -- The moments at which something may change, and the spans between them.
-use Rattle.std.specs.Prelude.{◌≡◌, ℕ, ◌+◌, ◌-◌, ◌≤◌, ◌^◌, ◌==◌, nat_le, nat_lt, max, min, if◌then◌else◌, List, [], ◌∷◌, ◌++◌, filter}
+use Rattle.std.specs.Prelude.{◌≡◌, ℕ, ◌+◌, ◌-◌, ◌≤◌, ◌^◌, ◌==◌, nat_le, nat_lt, max, min, if◌then◌else◌}
+use Rattle.std.specs.Prelude.{List, [], ◌∷◌, ◌++◌, filter}
 use Rattle.std.specs.List.{AllByRecursion, flat_map}
 use Rattle.std.specs.Option.{option_map_or}
 use Rattle.wot_key.specs.Key.{created_in}
@@ -18,7 +19,8 @@ unless_zero said moment = if said == 0 then [] else moment ∷ []
 
 -- when it was made, when it ends, and when it lets the key end
 abbrev pub facts_moments : ℕ → SigFacts → List ℕ
-facts_moments created f = f.made ∷ unless_zero f.lasts (f.made + f.lasts) ++ unless_zero f.key_lasts (created + f.key_lasts)
+facts_moments created f =
+    f.made ∷ unless_zero f.lasts (f.made + f.lasts) ++ unless_zero f.key_lasts (created + f.key_lasts)
 
 abbrev pub sig_moments : ℕ → Signature → List ℕ
 sig_moments created s = option_map_or (facts_moments created) (said_by s) []

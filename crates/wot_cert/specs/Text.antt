@@ -1,5 +1,5 @@
--- The text of a certificate: the key and its signatures, then user IDs, attributes and subkeys, each before its signatures
--- (RFC 9580, section 10.1).
+-- The text of a certificate: the key and its signatures, then user IDs, attributes and subkeys, each before its
+-- signatures (RFC 9580, section 10.1).
 use Rattle.std.specs.Prelude.{ℕ, List, ◌++◌, length}
 use Rattle.std.specs.List.{flat_map}
 use Rattle.wot_packet.specs.Writing.{written}
@@ -15,7 +15,9 @@ abbrev pub parts_text : ℕ → List Component → List ℕ
 parts_text kind parts = flat_map (part_text kind) parts
 
 abbrev pub text_of : Certificate → List ℕ
-text_of c = written 6 c.key ++ sigs_text c.direct ++ parts_text 13 c.user_ids ++ parts_text 17 c.attributes ++ parts_text 14 c.subkeys
+text_of c =
+    written 6 c.key ++ sigs_text c.direct ++ parts_text 13 c.user_ids ++ parts_text 17 c.attributes
+    ++ parts_text 14 c.subkeys
 
 -- how long the text is
 abbrev pub size_of : Certificate → ℕ

@@ -39,4 +39,5 @@ live_at t c = record {
 
 -- by the time made, then the number, then the body
 abbrev pub newness : Signature → Signature → Ordering
-newness a b = ordering_then (nat_cmp (made_of a) (made_of b)) (ordering_then (number_cmp a.number b.number) (sig_cmp a b))
+newness a b =
+    ordering_then (nat_cmp (made_of a) (made_of b)) (ordering_then (number_cmp a.number b.number) (sig_cmp a b))

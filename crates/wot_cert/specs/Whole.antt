@@ -1,10 +1,11 @@
--- What is true of every certificate: the key is readable, all lists rise, and each signature has the number of its place.
+-- What is true of every certificate: the key is readable, all lists rise, each signature has the number of its place.
 use Rattle.std.specs.Prelude.{◌≡◌, ℕ, ◌<◌, ◌^◌, true, List, [], length}
 use Rattle.std.specs.List.{AllByRecursion}
 use Rattle.wot_key.specs.Key.{is_readable}
 use Rattle.wot_verdict.specs.Number.{number_of}
 use Rattle.wot_cert.specs.Ranked.{IsRising}
-use Rattle.wot_cert.specs.Certificate.{Signature, Component, Certificate, sig_cmp, part_cmp, on_key, on_user_id, on_attribute, on_subkey}
+use Rattle.wot_cert.specs.Certificate.{Signature, Component, Certificate, sig_cmp, part_cmp}
+use Rattle.wot_cert.specs.Certificate.{on_key, on_user_id, on_attribute, on_subkey}
 
 -- a signature at this place
 abbrev pub IsSigAt : List ℕ → ℕ → List ℕ → Signature → Type 0
@@ -25,3 +26,10 @@ pub record IsCertificate (c : Certificate) : Type 0 where
   pub user_ids : ArePartsOf c.key on_user_id c.user_ids
   pub attributes : ArePartsOf c.key on_attribute c.attributes
   pub subkeys : ArePartsOf c.key on_subkey c.subkeys
+
+-- Of any two certificates of one key this is true, and of any three certificates.
+abbrev pub OfTwoOfOneKey : (Certificate → Certificate → Type 0) → Type 0
+OfTwoOfOneKey P = (a b : Certificate) → IsCertificate a → IsCertificate b → a.key ≡ b.key → P a b
+
+abbrev pub OfAnyThree : (Certificate → Certificate → Certificate → Type 0) → Type 0
+OfAnyThree P = (a b c : Certificate) → IsCertificate a → IsCertificate b → IsCertificate c → P a b c

@@ -4,7 +4,8 @@ ghost use Rattle.wot_cert.specs.Certificate.{unite, sig_cmp, part_cmp, unite_sig
 ghost use Rattle.wot_cert.specs.Counts.{sum_of, items_of, signatures_of};
 ghost use Rattle.wot_cert.specs.Fitting.{SigFits, PartFits};
 ghost use Rattle.wot_cert.specs.Ranked.{IsRising};
-ghost use Rattle.wot_cert.specs.Sizes.{sig_size, part_size, part_items, part_signatures, BringsSigs, BringsParts, Weighs, IsSum, IsFew};
+ghost use Rattle.wot_cert.specs.Sizes.{sig_size, part_size, part_items, part_signatures};
+ghost use Rattle.wot_cert.specs.Sizes.{BringsSigs, BringsParts, Weighs, IsSum, IsFew};
 ghost use Rattle.wot_cert.specs.Text.{size_of};
 
 use crate::part::order as order_parts;

@@ -1,11 +1,9 @@
-ghost use Rattle.std.specs.Prelude.{◌≡◌, ◌<◌, ◌≤◌, ◌^◌, ◌+◌, ◌++◌, true, false, OnOk, IfOk, length, take, drop};
+ghost use Rattle.std.specs.Prelude.{◌≡◌, ◌<◌, ◌≤◌, ◌^◌, ◌+◌, ◌++◌, OnOk, IfOk, length, take, drop};
 ghost use Rattle.std.specs.List.{AllByRecursion};
 ghost use Rattle.wot_packet.specs.Spelling.{AreShort, spelled_all, spelled_of};
-ghost use Rattle.wot_cert.specs.Packets.{is_key, begins_component};
-ghost use Rattle.std.specs.Option.{MatchOption};
-ghost use Rattle.wot_key.specs.Key.{is_readable};
-ghost use Rattle.wot_cert.specs.Assembly.{cut_at, certificate_with, certificates_of, skipped_in};
-ghost use Rattle.wot_cert.specs.Answers.{TellsFirstFault};
+ghost use Rattle.wot_cert.specs.Packets.{is_key};
+ghost use Rattle.wot_cert.specs.Assembly.{cut_at, certificate_behind, certificates_of, skipped_in};
+ghost use Rattle.wot_cert.specs.Answers.{IsWhereReadable, TellsFirstFault};
 ghost use Rattle.wot_cert.specs.Drafting.{seen, sketched, BeginsWithKey, certs_in, skipped_by};
 ghost use Rattle.wot_cert.specs.Whole.{IsCertificate};
 
@@ -34,7 +32,8 @@ fn draft_of<'a>(alloc: Global, packets: &[Packet<'a>]) -> Result<Draft<'a>, Memo
 fn before_key(packets: &[Packet]) -> usize
     ensures within { result ≤ length packets.now }
     ensures before { (cut_at is_key (spelled_all packets.now)).0 ≡ take result (spelled_all packets.now) }
-    ensures behind { (cut_at is_key (spelled_all packets.now)).1 ≡ (cut_at is_key (drop result (spelled_all packets.now))).1 }
+    ensures behind { (cut_at is_key (spelled_all packets.now)).1
+        ≡ (cut_at is_key (drop result (spelled_all packets.now))).1 }
     ensures begins { BeginsWithKey (drop result (spelled_all packets.now)) }
 {
     let mut count = 0;
@@ -50,8 +49,7 @@ fn before_key(packets: &[Packet]) -> usize
 /// The certificate of a key and the packets behind it; `None` exactly where the key isn't readable.
 fn certificate(alloc: Global, key: &[u8], behind: &[Packet]) -> Result<Option<Cert>, Memory>
     requires short { AreShort (spelled_all behind.now) }
-    ensures certificate { IfOk result (λ found. MatchOption found (is_readable key.now ≡ false)
-        (λ c. (c ≡ certificate_with key.now (cut_at begins_component (spelled_all behind.now))) × (is_readable key.now ≡ true))) }
+    ensures certificate { IfOk result (IsWhereReadable key.now (certificate_behind key.now (spelled_all behind.now))) }
 {
     let draft = draft_of(alloc, behind)?;
     Cert::drafted(alloc, key, &draft)
@@ -76,8 +74,10 @@ fn take_key(
 ) -> Result<(), Memory>
     requires short { AreShort (spelled_all section.now) }
     requires few { skipped.old < 2 ^ 28 }
-    ensures certs { OnOk result (certs.new.items ≡ certs.old.items ++ certs_in (spelled_of key.now, spelled_all section.now)) }
-    ensures skipped { OnOk result (skipped.new ≡ skipped.old + skipped_by (spelled_of key.now, spelled_all section.now)) }
+    ensures certs { OnOk result (certs.new.items
+        ≡ certs.old.items ++ certs_in (spelled_of key.now, spelled_all section.now)) }
+    ensures skipped { OnOk result (skipped.new
+        ≡ skipped.old + skipped_by (spelled_of key.now, spelled_all section.now)) }
 {
     match certificate(alloc, key.body, section)? {
         Some(cert) => {
@@ -118,8 +118,8 @@ fn certificates(alloc: Global, packets: &[Packet]) -> Result<Assembled, Memory>
 pub fn assemble(alloc: Global, packets: &[Packet<'_>]) -> Result<Assembled, CertFault>
     requires few { length packets.now < 2 ^ 28 }
     requires short { AreShort (spelled_all packets.now) }
-    ensures assembled { IfOk result (λ assembled. (assembled.certs ≡ certificates_of (spelled_all packets.now))
-        × (assembled.skipped ≡ skipped_in (spelled_all packets.now))) }
+    ensures assembled { IfOk result (λ assembled. assembled.certs ≡ certificates_of (spelled_all packets.now)) }
+    ensures skipped { IfOk result (λ assembled. assembled.skipped ≡ skipped_in (spelled_all packets.now)) }
     ensures whole { IfOk result (λ assembled. AllByRecursion IsCertificate assembled.certs) }
     ensures faults { TellsFirstFault (spelled_all packets.now) result }
 {

@@ -1,21 +1,23 @@
-ghost use Rattle.std.specs.Prelude.{◌≡◌, ◌≢◌, ℕ, ◌+◌, ◌++◌, ◌-◌, ◌<◌, ◌^◌, min, MatchBool, MatchResult, Some, true, OnOk, OnErr, IfOk, IfSome};
+ghost use Rattle.std.specs.Prelude.{◌≡◌, ◌≢◌, ◌+◌, ◌++◌, ◌-◌, ◌<◌, ◌^◌, min, MatchBool, Some, true, false, []};
+ghost use Rattle.std.specs.Prelude.{OnOk, OnErr, IfOk, IfSome};
 ghost use Rattle.std.specs.Option.{MatchOption};
 ghost use Rattle.wot_key.specs.Key.{is_readable, key_of, fpr_of};
-ghost use Rattle.wot_cert.specs.Answers.{ClashesExactly};
+ghost use Rattle.wot_cert.specs.Answers.{ClashesExactly, IsWhereReadable};
+ghost use Rattle.wot_cert.specs.Asking.{Asks, AsksOnOk};
 ghost use Rattle.wot_cert.specs.Assembly.{bare};
 ghost use Rattle.wot_cert.specs.Drafting.{IsWholeSketch, completed, seen};
-ghost use Rattle.wot_cert.specs.Certificate.{Certificate, unite, unmarked, with_each, on_key, on_user_id, on_attribute, on_subkey};
+ghost use Rattle.wot_cert.specs.Certificate.{Certificate, unite, unmarked, with_each};
+ghost use Rattle.wot_cert.specs.Certificate.{on_key, on_user_id, on_attribute, on_subkey};
 ghost use Rattle.wot_cert.specs.Copied.{copied};
 ghost use Rattle.wot_cert.specs.Counts.{items_of, signatures_of};
 ghost use Rattle.wot_cert.specs.Judged.{judged, IsJudged, sound_of};
 ghost use Rattle.wot_cert.specs.Parts.{IsCertOf, of_places};
-ghost use Rattle.wot_cert.specs.Growing.{AsksUpTo, LeadsBack, shrunk};
+ghost use Rattle.wot_cert.specs.Growing.{AsksForCert, LeadsBack, shrunk};
 ghost use Rattle.wot_cert.specs.New.{judged_beside, sound_beside};
 ghost use Rattle.wot_cert.specs.ReadBack.{ReadBack};
 ghost use Rattle.wot_cert.specs.Text.{size_of, text_of};
-ghost use Rattle.wot_policy.specs.Kept.{IsFaithful, rows_of, asked_more};
+ghost use Rattle.wot_policy.specs.Kept.{IsFaithful, rows_of};
 ghost use Rattle.wot_cert.specs.Whole.{IsCertificate, AreSigsAt, ArePartsOf};
-ghost use Rattle.std.specs.Prelude.{false, []};
 
 use crate::adds::added;
 use crate::complete::{ON_ATTRIBUTE, ON_KEY, ON_SUBKEY, ON_USER_ID, parts_with, sigs_with};
@@ -53,13 +55,15 @@ impl Model for Cert {
 
     ghost view = { λ a. of_places a.body.items a.places };
 
-    ghost invariant = { λ a. IsCertOf a.key a.fpr (of_places a.body.items a.places) × AreTotals a.totals (of_places a.body.items a.places) };
+    ghost invariant = { λ a. IsCertOf a.key a.fpr (of_places a.body.items a.places)
+        × AreTotals a.totals (of_places a.body.items a.places) };
 }
 
 impl Cert {
     /// The certificate with this key and nothing else; `None` exactly where the key isn't readable.
     pub fn bare(alloc: Global, body: &[u8]) -> Result<Option<Cert>, Memory>
-        ensures bare { IfOk result (λ found. MatchOption found (is_readable body.now ≡ false) (λ c. c ≡ bare body.now)) }
+        ensures bare { IfOk result
+            (λ found. MatchOption found (is_readable body.now ≡ false) (λ c. c ≡ bare body.now)) }
         ensures readable { IfOk result (λ found. IfSome found (λ _. is_readable body.now ≡ true)) }
     {
         let Some(key) = read_key(body) else {
@@ -82,8 +86,7 @@ impl Cert {
     /// readable.
     pub(crate) fn drafted(alloc: Global, body: &[u8], draft: &Draft) -> Result<Option<Cert>, Memory>
         requires whole { IsWholeSketch (seen draft.now) }
-        ensures completed { IfOk result (λ found. MatchOption found (is_readable body.now ≡ false) (λ c.
-            (c ≡ completed body.now (seen draft.now)) × (is_readable body.now ≡ true))) }
+        ensures completed { IfOk result (IsWhereReadable body.now (completed body.now (seen draft.now))) }
     {
         let Some(key) = read_key(body) else {
             return Ok(None);
@@ -250,7 +253,7 @@ impl Cert {
     fn judge_new<F: Fn(Ask) -> bool>(&mut self, old: &Cert, policy: &mut Policy<F>)
         requires { IsFaithful F.Fn policy.old }
         ensures judged { self.new ≡ judged_beside (rows_of policy.old) old.now self.old }
-        ensures asked { (k : ℕ) × (policy.new ≡ asked_more k policy.old) × (k ≡ sound_beside old.now self.old) }
+        ensures asked { Asks policy.old policy.new (λ k. k ≡ sound_beside old.now self.old) }
         ensures faithful { IsFaithful F.Fn policy.new }
     {
         judge_new(&mut self.places.direct, &old.places.direct, policy);
@@ -270,8 +273,8 @@ impl Cert {
         requires whole { IsCertificate self.now × IsCertificate other.now }
         requires same { self.now.key ≡ other.now.key }
         ensures union { IfOk result (λ c. c ≡ judged_beside (rows_of policy.old) self.now (unite self.now other.now)) }
-        ensures asked { (k : ℕ) × (policy.new ≡ asked_more k policy.old) × MatchResult result (λ _.
-            k ≡ sound_beside self.now (unite self.now other.now)) (λ _. k ≡ 0) }
+        ensures asked { AsksOnOk result policy.old policy.new
+            (λ k. k ≡ sound_beside self.now (unite self.now other.now)) }
         ensures faithful { IsFaithful F.Fn policy.new }
     {
         let mut union = self.union(alloc, other)?;
@@ -330,8 +333,7 @@ impl Cert {
         ensures union { OnOk result (self.new ≡ unite self.old (judged (rows_of policy.old) other.now)) }
         ensures judged { IsJudged (rows_of policy.old) self.old → IsJudged (rows_of policy.old) self.new }
         ensures items { IfOk result (λ items. items + items_of self.old ≡ items_of self.new) }
-        ensures asked { (k : ℕ) × (policy.new ≡ asked_more k policy.old) × MatchResult result (λ _.
-            k + sound_of self.old ≡ sound_of self.new) (λ _. k ≡ 0) }
+        ensures asked { AsksOnOk result policy.old policy.new (λ k. k + sound_of self.old ≡ sound_of self.new) }
         ensures clash { ClashesExactly self.old other.now result }
         ensures kept { OnErr result (self.new ≡ self.old) }
         ensures faithful { IsFaithful F.Fn policy.new }
@@ -364,8 +366,7 @@ impl Cert {
         ensures judged { IsJudged (rows_of policy.old) self.old → IsJudged (rows_of policy.old) self.new }
         ensures back { IfOk result (λ growth. LeadsBack growth self.old self.new) }
         ensures items { IfOk result (λ growth. growth.items + items_of self.old ≡ items_of self.new) }
-        ensures asked { AsksUpTo result policy.old policy.new
-            (sound_of self.old) (sound_of (unite self.old (judged (rows_of policy.old) other.now))) }
+        ensures asked { AsksForCert result policy.old policy.new self.old other.now }
         ensures clash { ClashesExactly self.old other.now result }
         ensures kept { OnErr result (self.new ≡ self.old) }
         ensures faithful { IsFaithful F.Fn policy.new }

@@ -1,7 +1,8 @@
 ghost use Rattle.std.specs.Prelude.{◌≡◌, ◌<◌, ◌^◌, ◌++◌, ◌∷◌, [], OnOk, IfOk, map, length};
 ghost use Rattle.std.specs.List.{AllByRecursion};
 ghost use Rattle.wot_cert.specs.Certificate.{fresh};
-ghost use Rattle.wot_cert.specs.Drafting.{IsShort, IsShortGroup, body_cmp, group_cmp, part_drafted, bodies_in, groups_in};
+ghost use Rattle.wot_cert.specs.Drafting.{IsShort, IsShortGroup, body_cmp, group_cmp, part_drafted};
+ghost use Rattle.wot_cert.specs.Drafting.{bodies_in, groups_in};
 ghost use Rattle.wot_cert.specs.Ranked.{IsRising};
 
 use crate::draft::{Bodies, Groups};
@@ -68,7 +69,8 @@ fn push_drafted(
     requires body { length body.now < 2 ^ 32 }
     requires sigs { AllByRecursion IsShort (bodies_in sigs.now) }
     requires rises { IsRising body_cmp (bodies_in sigs.now) }
-    ensures pushed { OnOk result (parts.new.items ≡ parts.old.items ++ part_drafted key.now kind (body.now, bodies_in sigs.now) ∷ []) }
+    ensures pushed { OnOk result (parts.new.items
+        ≡ parts.old.items ++ part_drafted key.now kind (body.now, bodies_in sigs.now) ∷ []) }
 {
     let part = Part::drafted(alloc, key, kind, body, sigs)?;
     parts.push(part)?;

@@ -4,7 +4,8 @@ ghost use Rattle.std.specs.Map.{lookup, remove_entry};
 ghost use Rattle.wot_packet.specs.Spelling.{spelled_of};
 ghost use Rattle.wot_cert.specs.Packets.{begins_component};
 ghost use Rattle.wot_cert.specs.Ranked.{put, IsRising};
-ghost use Rattle.wot_cert.specs.Drafting.{body_cmp, first_stays, unite_bodies, group_cmp, put_group, groups_with, with_component, with_packet, bodies_in, groups_in, seen, IsSketch};
+ghost use Rattle.wot_cert.specs.Drafting.{body_cmp, first_stays, unite_bodies, group_cmp, put_group, groups_with};
+ghost use Rattle.wot_cert.specs.Drafting.{with_component, with_packet, bodies_in, groups_in, seen, IsSketch};
 ghost use Rattle.wot_cert.specs.Drafting.{without, sigs_at};
 
 use crate::first_fault::{test_component, test_unknown};
@@ -67,7 +68,8 @@ fn put_group<'a>(
 ) -> Result<(), Memory>
     requires groups { IsRising group_cmp (groups_in groups.old.entries) }
     requires sigs { IsRising body_cmp (bodies_in sigs.old) }
-    ensures put { OnOk result (groups_in groups.new.entries ≡ put_group (body.now, bodies_in sigs.old) (groups_in groups.old.entries)) }
+    ensures put { OnOk result (groups_in groups.new.entries
+        ≡ put_group (body.now, bodies_in sigs.old) (groups_in groups.old.entries)) }
 {
     let mut all = take_out(alloc, groups, body);
     pour(&mut all, sigs)?;

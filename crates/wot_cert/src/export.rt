@@ -36,7 +36,8 @@ fn append_part(kind: u8, part: &Part, out: &mut Vec<u8>) -> Result<(), Memory>
 fn append_parts(kind: u8, parts: &[Part], out: &mut Vec<u8>) -> Result<(), Memory>
     requires kind { kind ≤ 63 }
     requires fit { AllByRecursion PartFits parts.now }
-    ensures { (more : List ℕ) × (out.new.items ≡ out.old.items ++ more) × OnOk result (more ≡ parts_text kind parts.now) }
+    ensures { (more : List ℕ) × (out.new.items ≡ out.old.items ++ more)
+        × OnOk result (more ≡ parts_text kind parts.now) }
 {
     let mut rest = parts;
     'rest: while let Some((part, others)) = rest.split_first() {

@@ -1,12 +1,16 @@
 //! Uniting in place: what is new is put in its place, and logged. The first that is put in is the last in order.
-ghost use Rattle.std.specs.Prelude.{◌≡◌, ◌≤◌, ◌<◌, ◌+◌, ℕ, ◌++◌, ◌∷◌, [], vec_len, vec_capacity, IfOk, Ok, Err, OnOk, OnErr, map};
+ghost use Rattle.std.specs.Prelude.{◌≡◌, ◌≤◌, ◌<◌, ◌+◌, ◌++◌, ◌∷◌, [], vec_len, vec_capacity};
+ghost use Rattle.std.specs.Prelude.{IfOk, Ok, Err, OnOk, OnErr};
 ghost use Rattle.std.specs.List.{AllByRecursion, insert};
-ghost use Rattle.wot_cert.specs.Certificate.{Signature as TheSig, Component, sig_cmp, part_cmp, kept, part_with, unite_part, unite_parts, unite_sigs};
+ghost use Rattle.wot_cert.specs.Asking.{Asks};
+ghost use Rattle.wot_cert.specs.Certificate.{Signature as TheSig, Component, sig_cmp, part_cmp, kept};
+ghost use Rattle.wot_cert.specs.Certificate.{part_with, unite_part};
 ghost use Rattle.wot_cert.specs.Copied.{copied};
 ghost use Rattle.wot_cert.specs.declared.sig.Marks.TheVariants.{Dropped};
-ghost use Rattle.wot_cert.specs.Counts.{sum_of};
 ghost use Rattle.wot_cert.specs.Fitting.{SigFits, PartFits};
-ghost use Rattle.wot_cert.specs.Growing.{AsksUpTo, TellsPlace, parts_back, sound_weight, without_all};
+ghost use Rattle.wot_cert.specs.Growing.{TellsPlace, parts_back, without_all};
+ghost use Rattle.wot_cert.specs.Growing.{sigs_grown, parts_with, parts_grown, sound_sigs};
+ghost use Rattle.wot_cert.specs.Growing.{AsksForSigs, AsksForPart, AsksForParts};
 ghost use Rattle.wot_cert.specs.Judged.{if_sound, judged_sig};
 ghost use Rattle.wot_cert.specs.New.{judged_part, sound_new};
 ghost use Rattle.wot_cert.specs.declared.growth.PartStep.TheVariants.{New};
@@ -83,12 +87,12 @@ fn put_sig<F: Fn(Ask) -> bool>(
     requires faithful { IsFaithful F.Fn policy.old }
     requires rises { IsRising sig_cmp sigs.old.items }
     requires fits { SigFits sig.now }
-    ensures put { OnOk result (sigs.new.items ≡ put sig_cmp kept (judged_sig (rows_of policy.old) sig.now) sigs.old.items) }
+    ensures put { OnOk result (sigs.new.items
+        ≡ put sig_cmp kept (judged_sig (rows_of policy.old) sig.now) sigs.old.items) }
     ensures same { OnErr result (sigs.new.items ≡ sigs.old.items) }
     ensures back { without_all log.new.items sigs.new.items ≡ without_all log.old.items sigs.old.items }
     ensures follow { OnOk result (FollowSigs totals.old totals.new sigs.old.items sigs.new.items) }
-    ensures asked { (k : ℕ) × (policy.new ≡ asked_more k policy.old)
-        × (k + sum_of if_sound sigs.old.items ≡ sum_of if_sound sigs.new.items) }
+    ensures asked { Asks policy.old policy.new (λ k. k + sound_sigs sigs.old.items ≡ sound_sigs sigs.new.items) }
     ensures faithful { IsFaithful F.Fn policy.new }
 {
     match find_sig(sigs, sig) {
@@ -116,11 +120,10 @@ pub(crate) fn put_sigs<F: Fn(Ask) -> bool>(
     requires faithful { IsFaithful F.Fn policy.old }
     requires rises { IsRising sig_cmp sigs.old.items }
     requires fit { AllByRecursion SigFits more.now }
-    ensures union { OnOk result (sigs.new.items ≡ unite_sigs sigs.old.items (map (judged_sig (rows_of policy.old)) more.now)) }
+    ensures union { OnOk result (sigs.new.items ≡ sigs_grown (rows_of policy.old) sigs.old.items more.now) }
     ensures back { without_all log.new.items sigs.new.items ≡ without_all log.old.items sigs.old.items }
     ensures follow { OnOk result (FollowSigs totals.old totals.new sigs.old.items sigs.new.items) }
-    ensures asked { AsksUpTo result policy.old policy.new (sum_of if_sound sigs.old.items)
-        (sum_of if_sound (unite_sigs sigs.old.items (map (judged_sig (rows_of policy.old)) more.now))) }
+    ensures asked { AsksForSigs result policy.old policy.new sigs.old.items more.now }
     ensures faithful { IsFaithful F.Fn policy.new }
 {
     let mut left = more;
@@ -156,7 +159,7 @@ fn settle_part<F: Fn(Ask) -> bool>(
     requires log_room { vec_len log.old < vec_capacity log.old }
     ensures put { parts.new.items ≡ insert parts.old.items at (judged_part (rows_of policy.old) [] part) }
     ensures logged { log.new.items ≡ log.old.items ++ New at ∷ [] }
-    ensures asked { (k : ℕ) × (policy.new ≡ asked_more k policy.old) × (k ≡ sound_new part.sigs []) }
+    ensures asked { Asks policy.old policy.new (λ k. k ≡ sound_new part.sigs []) }
     ensures faithful { IsFaithful F.Fn policy.new }
 {
     let mut judged = part;
@@ -179,14 +182,13 @@ fn grow_part<F: Fn(Ask) -> bool>(
     requires fits { PartFits part.now }
     requires within { at < vec_len parts.old }
     requires log_room { vec_len log.old < vec_capacity log.old }
-    requires there { (like : Component) → like.body ≡ part.now.body → TellsPlace part_cmp unite_part like parts.old.items (Ok at) }
-    ensures put { OnOk result (parts.new.items
-        ≡ put part_cmp unite_part (part_with (judged_sig (rows_of policy.old)) part.now) parts.old.items) }
+    requires there { (like : Component) → like.body ≡ part.now.body
+        → TellsPlace part_cmp unite_part like parts.old.items (Ok at) }
+    ensures put { OnOk result (parts.new.items ≡ parts_with (rows_of policy.old) parts.old.items part.now) }
     ensures same { OnErr result (parts.new.items ≡ parts.old.items) }
     ensures back { parts_back log.new.items parts.new.items ≡ parts_back log.old.items parts.old.items }
     ensures follow { OnOk result (FollowParts totals.old totals.new parts.old.items parts.new.items) }
-    ensures asked { AsksUpTo result policy.old policy.new (sum_of sound_weight parts.old.items)
-        (sum_of sound_weight (put part_cmp unite_part (part_with (judged_sig (rows_of policy.old)) part.now) parts.old.items)) }
+    ensures asked { AsksForPart result policy.old policy.new parts.old.items part.now }
     ensures faithful { IsFaithful F.Fn policy.new }
 {
     let there = &mut parts[at];
@@ -225,14 +227,13 @@ fn put_new_part<F: Fn(Ask) -> bool>(
     requires fits { PartFits part.now }
     requires log_room { vec_len log.old < vec_capacity log.old }
     requires within { at ≤ vec_len parts.old }
-    requires there { (like : Component) → like.body ≡ part.now.body → TellsPlace part_cmp unite_part like parts.old.items (Err at) }
-    ensures put { OnOk result (parts.new.items
-        ≡ put part_cmp unite_part (part_with (judged_sig (rows_of policy.old)) part.now) parts.old.items) }
+    requires there { (like : Component) → like.body ≡ part.now.body
+        → TellsPlace part_cmp unite_part like parts.old.items (Err at) }
+    ensures put { OnOk result (parts.new.items ≡ parts_with (rows_of policy.old) parts.old.items part.now) }
     ensures same { OnErr result (parts.new.items ≡ parts.old.items) }
     ensures back { parts_back log.new.items parts.new.items ≡ parts_back log.old.items parts.old.items }
     ensures follow { OnOk result (FollowParts totals.old totals.new parts.old.items parts.new.items) }
-    ensures asked { AsksUpTo result policy.old policy.new (sum_of sound_weight parts.old.items)
-        (sum_of sound_weight (put part_cmp unite_part (part_with (judged_sig (rows_of policy.old)) part.now) parts.old.items)) }
+    ensures asked { AsksForPart result policy.old policy.new parts.old.items part.now }
     ensures faithful { IsFaithful F.Fn policy.new }
 {
     match copy_ready(alloc, parts, part) {
@@ -257,13 +258,11 @@ fn put_part<F: Fn(Ask) -> bool>(
     requires faithful { IsFaithful F.Fn policy.old }
     requires rises { IsRising part_cmp parts.old.items }
     requires fits { PartFits part.now }
-    ensures put { OnOk result (parts.new.items
-        ≡ put part_cmp unite_part (part_with (judged_sig (rows_of policy.old)) part.now) parts.old.items) }
+    ensures put { OnOk result (parts.new.items ≡ parts_with (rows_of policy.old) parts.old.items part.now) }
     ensures same { OnErr result (parts.new.items ≡ parts.old.items) }
     ensures back { parts_back log.new.items parts.new.items ≡ parts_back log.old.items parts.old.items }
     ensures follow { OnOk result (FollowParts totals.old totals.new parts.old.items parts.new.items) }
-    ensures asked { AsksUpTo result policy.old policy.new (sum_of sound_weight parts.old.items)
-        (sum_of sound_weight (put part_cmp unite_part (part_with (judged_sig (rows_of policy.old)) part.now) parts.old.items)) }
+    ensures asked { AsksForPart result policy.old policy.new parts.old.items part.now }
     ensures faithful { IsFaithful F.Fn policy.new }
 {
     match log.reserve(1) {
@@ -288,12 +287,10 @@ pub(crate) fn put_parts<F: Fn(Ask) -> bool>(
     requires faithful { IsFaithful F.Fn policy.old }
     requires rises { IsRising part_cmp parts.old.items }
     requires fit { AllByRecursion PartFits more.now }
-    ensures union { OnOk result (parts.new.items
-        ≡ unite_parts parts.old.items (map (part_with (judged_sig (rows_of policy.old))) more.now)) }
+    ensures union { OnOk result (parts.new.items ≡ parts_grown (rows_of policy.old) parts.old.items more.now) }
     ensures back { parts_back log.new.items parts.new.items ≡ parts_back log.old.items parts.old.items }
     ensures follow { OnOk result (FollowParts totals.old totals.new parts.old.items parts.new.items) }
-    ensures asked { AsksUpTo result policy.old policy.new (sum_of sound_weight parts.old.items)
-        (sum_of sound_weight (unite_parts parts.old.items (map (part_with (judged_sig (rows_of policy.old))) more.now))) }
+    ensures asked { AsksForParts result policy.old policy.new parts.old.items more.now }
     ensures faithful { IsFaithful F.Fn policy.new }
 {
     let mut left = more;

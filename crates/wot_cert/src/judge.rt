@@ -1,7 +1,8 @@
-ghost use Rattle.std.specs.Prelude.{◌≡◌, ◌+◌, ℕ, List, ◌∷◌};
-ghost use Rattle.wot_policy.specs.Kept.{IsFaithful, rows_of, asked_more};
-ghost use Rattle.wot_cert.specs.New.{judged_sigs, sound_new, judged_parts, sound_new_on, met};
-ghost use Rattle.wot_cert.specs.Certificate.{Signature, Component, sig_cmp, part_cmp};
+ghost use Rattle.std.specs.Prelude.{◌≡◌};
+ghost use Rattle.wot_policy.specs.Kept.{IsFaithful, rows_of};
+ghost use Rattle.wot_cert.specs.Asking.{Asks};
+ghost use Rattle.wot_cert.specs.New.{judged_sigs, sound_new, judged_parts, sound_new_on, met, MarksFirst, WeighsFirst};
+ghost use Rattle.wot_cert.specs.Certificate.{sig_cmp, part_cmp};
 ghost use Rattle.wot_cert.specs.Lent.{met_seen, met_part_seen};
 
 use crate::part::order as order_parts;
@@ -29,10 +30,8 @@ fn judge_one<'a, F: Fn(Ask) -> bool>(
     policy: &mut Policy<F>,
 ) -> &'a [Sig]
     requires { IsFaithful F.Fn policy.old }
-    ensures judged { (rest : List Signature) → judged_sigs (rows_of policy.old) (sig.old ∷ rest) old.now
-        ≡ sig.new ∷ judged_sigs (rows_of policy.old) rest result.now }
-    ensures asked { (k : ℕ) × (policy.new ≡ asked_more k policy.old) × ((rest : List Signature) →
-        sound_new (sig.old ∷ rest) old.now ≡ k + sound_new rest result.now) }
+    ensures judged { MarksFirst (judged_sigs (rows_of policy.old)) sig.old sig.new old.now result.now }
+    ensures asked { Asks policy.old policy.new (WeighsFirst sound_new sig.old old.now result.now) }
     ensures faithful { IsFaithful F.Fn policy.new }
 {
     match meet(sig, old) {
@@ -52,7 +51,7 @@ pub(crate) fn judge_new<F: Fn(Ask) -> bool>(
 )
     requires { IsFaithful F.Fn policy.old }
     ensures judged { sigs.new.items ≡ judged_sigs (rows_of policy.old) sigs.old.items old.now }
-    ensures asked { (k : ℕ) × (policy.new ≡ asked_more k policy.old) × (k ≡ sound_new sigs.old.items old.now) }
+    ensures asked { Asks policy.old policy.new (λ k. k ≡ sound_new sigs.old.items old.now) }
     ensures faithful { IsFaithful F.Fn policy.new }
 {
     let mut left = old;
@@ -82,10 +81,8 @@ fn judge_one_part<'a, F: Fn(Ask) -> bool>(
     policy: &mut Policy<F>,
 ) -> &'a [Part]
     requires { IsFaithful F.Fn policy.old }
-    ensures judged { (rest : List Component) → judged_parts (rows_of policy.old) (part.old ∷ rest) old.now
-        ≡ part.new ∷ judged_parts (rows_of policy.old) rest result.now }
-    ensures asked { (k : ℕ) × (policy.new ≡ asked_more k policy.old) × ((rest : List Component) →
-        sound_new_on (part.old ∷ rest) old.now ≡ k + sound_new_on rest result.now) }
+    ensures judged { MarksFirst (judged_parts (rows_of policy.old)) part.old part.new old.now result.now }
+    ensures asked { Asks policy.old policy.new (WeighsFirst sound_new_on part.old old.now result.now) }
     ensures faithful { IsFaithful F.Fn policy.new }
 {
     match meet_part(part, old) {
@@ -108,7 +105,7 @@ pub(crate) fn judge_new_parts<F: Fn(Ask) -> bool>(
 )
     requires { IsFaithful F.Fn policy.old }
     ensures judged { parts.new.items ≡ judged_parts (rows_of policy.old) parts.old.items old.now }
-    ensures asked { (k : ℕ) × (policy.new ≡ asked_more k policy.old) × (k ≡ sound_new_on parts.old.items old.now) }
+    ensures asked { Asks policy.old policy.new (λ k. k ≡ sound_new_on parts.old.items old.now) }
     ensures faithful { IsFaithful F.Fn policy.new }
 {
     let mut left = old;

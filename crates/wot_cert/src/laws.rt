@@ -9,7 +9,7 @@ ghost use Rattle.wot_cert.specs.Counts.{items_of, signatures_of};
 ghost use Rattle.wot_cert.specs.Judged.{IsJudged, judged, sound_of};
 ghost use Rattle.wot_cert.specs.ReadBack.{ReadBack};
 ghost use Rattle.wot_cert.specs.Text.{size_of, text_of};
-ghost use Rattle.wot_cert.specs.Whole.{IsCertificate};
+ghost use Rattle.wot_cert.specs.Whole.{IsCertificate, OfAnyThree, OfTwoOfOneKey};
 
 use wot_packet::laws::written_back;
 
@@ -23,13 +23,15 @@ pub fn read_back()
 /// What is assembled from packets with short bodies: certificates whose keys are readable, whose lists rise and whose
 /// signatures have the numbers of their places, none of them judged.
 pub fn assembled()
-    ensures whole { (packets : List Spelled) → AreShort packets → AllByRecursion IsCertificate (certificates_of packets) }
-    ensures unmarked { (packets : List Spelled) → AllByRecursion (λ (c : Certificate). unmarked c ≡ c) (certificates_of packets) }
+    ensures whole { (packets : List Spelled) → AreShort packets
+        → AllByRecursion IsCertificate (certificates_of packets) }
+    ensures unmarked { (packets : List Spelled)
+        → AllByRecursion (λ (c : Certificate). unmarked c ≡ c) (certificates_of packets) }
 {}
 
 /// The union of two certificates of one key is a certificate of that key, and so is each with other marks.
 pub fn united_whole()
-    ensures united { (a b : Certificate) → IsCertificate a → IsCertificate b → a.key ≡ b.key → IsCertificate (unite a b) }
+    ensures united { OfTwoOfOneKey (λ a b. IsCertificate (unite a b)) }
     ensures unmarked { (c : Certificate) → IsCertificate c → IsCertificate (unmarked c) }
     ensures judged { (rows : PolicyRows) (c : Certificate) → IsCertificate c → IsCertificate (judged rows c) }
 {}
@@ -58,18 +60,16 @@ pub fn united_grows()
 
 /// A union has no less than its second part, where both are certificates of one key.
 pub fn united_holds_both()
-    ensures items { (a b : Certificate) → IsCertificate a → IsCertificate b → a.key ≡ b.key → items_of b ≤ items_of (unite a b) }
-    ensures signatures { (a b : Certificate) → IsCertificate a → IsCertificate b → a.key ≡ b.key →
-        signatures_of b ≤ signatures_of (unite a b) }
-    ensures sizes { (a b : Certificate) → IsCertificate a → IsCertificate b → a.key ≡ b.key → size_of b ≤ size_of (unite a b) }
+    ensures items { OfTwoOfOneKey (λ a b. items_of b ≤ items_of (unite a b)) }
+    ensures signatures { OfTwoOfOneKey (λ a b. signatures_of b ≤ signatures_of (unite a b)) }
+    ensures sizes { OfTwoOfOneKey (λ a b. size_of b ≤ size_of (unite a b)) }
 {}
 
 /// Certificates of one key may be united in any order and in any groups, and more than once: the result has the same
 /// signatures with the same numbers, but that a signature of both keeps the mark of the first.
 pub fn united_in_any_order()
-    ensures groups { (a b c : Certificate) → IsCertificate a → IsCertificate b → IsCertificate c →
-        unite (unite a b) c ≡ unite a (unite b c) }
-    ensures order { (a b : Certificate) → IsCertificate a → IsCertificate b → a.key ≡ b.key → unmarked (unite a b) ≡ unmarked (unite b a) }
+    ensures groups { OfAnyThree (λ a b c. unite (unite a b) c ≡ unite a (unite b c)) }
+    ensures order { OfTwoOfOneKey (λ a b. unmarked (unite a b) ≡ unmarked (unite b a)) }
     ensures twice { (a : Certificate) → IsCertificate a → unite a a ≡ a }
 {}
 
@@ -78,7 +78,8 @@ pub fn marks_weigh_nothing()
     ensures items { (c : Certificate) → items_of (unmarked c) ≡ items_of c }
     ensures judged_items { (rows : PolicyRows) (c : Certificate) → items_of (judged rows c) ≡ items_of c }
     ensures signatures { (c : Certificate) → signatures_of (unmarked c) ≡ signatures_of c }
-    ensures judged_signatures { (rows : PolicyRows) (c : Certificate) → signatures_of (judged rows c) ≡ signatures_of c }
+    ensures judged_signatures { (rows : PolicyRows) (c : Certificate)
+        → signatures_of (judged rows c) ≡ signatures_of c }
     ensures sound { (c : Certificate) → sound_of (unmarked c) ≡ sound_of c }
     ensures judged_sound { (rows : PolicyRows) (c : Certificate) → sound_of (judged rows c) ≡ sound_of c }
     ensures text { (c : Certificate) → text_of (unmarked c) ≡ text_of c }
@@ -89,10 +90,10 @@ pub fn marks_weigh_nothing()
 /// marks. So what is judged after a union doesn't depend on the order of the two.
 pub fn judging()
     ensures unmarked { (rows : PolicyRows) (c : Certificate) → judged rows (unmarked c) ≡ judged rows c }
-    ensures united { (rows : PolicyRows) (a b : Certificate) → judged rows (unite a b) ≡ unite (judged rows a) (judged rows b) }
+    ensures united { (rows : PolicyRows) (a b : Certificate)
+        → judged rows (unite a b) ≡ unite (judged rows a) (judged rows b) }
     ensures unmarked_union { (a b : Certificate) → unmarked (unite a b) ≡ unite (unmarked a) (unmarked b) }
-    ensures order { (rows : PolicyRows) (a b : Certificate) → IsCertificate a → IsCertificate b → a.key ≡ b.key →
-        judged rows (unite a b) ≡ judged rows (unite b a) }
+    ensures order { (rows : PolicyRows) → OfTwoOfOneKey (λ a b. judged rows (unite a b) ≡ judged rows (unite b a)) }
     ensures judged { (rows : PolicyRows) (c : Certificate) → IsJudged rows (judged rows c) }
     ensures forgotten { (rows : PolicyRows) (c : Certificate) → unmarked (judged rows c) ≡ unmarked c }
 {}

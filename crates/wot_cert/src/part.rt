@@ -1,17 +1,16 @@
-ghost use Rattle.std.specs.Prelude.{◌≡◌, ◌<◌, ◌^◌, ℕ, OnOk, OnErr, IfOk, [], ◌∷◌, ◌++◌, length, map};
+ghost use Rattle.std.specs.Prelude.{◌≡◌, ◌<◌, ◌^◌, OnOk, OnErr, IfOk, [], ◌∷◌, ◌++◌, length, map};
 ghost use Rattle.std.specs.List.{AllByRecursion};
+ghost use Rattle.wot_cert.specs.Asking.{Asks};
 ghost use Rattle.wot_cert.specs.Drafting.{IsShort, body_cmp, part_drafted, bodies_in};
 ghost use Rattle.wot_cert.specs.Certificate.{sig_cmp, part_cmp, part_with, unite_part, unite_parts};
 ghost use Rattle.wot_cert.specs.Copied.{copied};
-ghost use Rattle.wot_cert.specs.Certificate.{unite_sigs};
-ghost use Rattle.wot_cert.specs.Counts.{sum_of};
 ghost use Rattle.wot_cert.specs.Fitting.{PartFits};
-ghost use Rattle.wot_cert.specs.Growing.{AsksUpTo, shrunk_part};
-ghost use Rattle.wot_cert.specs.Judged.{if_sound, judged_sig};
+ghost use Rattle.wot_cert.specs.Growing.{AsksForSigs, shrunk_part};
+ghost use Rattle.wot_cert.specs.Judged.{judged_sig};
 ghost use Rattle.wot_cert.specs.Totals.{FollowSigs};
 ghost use Rattle.wot_cert.specs.New.{judged_part, sound_new};
 ghost use Rattle.wot_cert.specs.Ranked.{IsRising};
-ghost use Rattle.wot_policy.specs.Kept.{IsFaithful, rows_of, asked_more};
+ghost use Rattle.wot_policy.specs.Kept.{IsFaithful, rows_of};
 
 use crate::complete::sigs_with;
 use crate::draft::Bodies;
@@ -91,7 +90,7 @@ impl Part {
     pub(crate) fn judge_new<F: Fn(Ask) -> bool>(&mut self, old: &[Sig], policy: &mut Policy<F>)
         requires { IsFaithful F.Fn policy.old }
         ensures judged { self.new ≡ judged_part (rows_of policy.old) old.now self.old }
-        ensures asked { (k : ℕ) × (policy.new ≡ asked_more k policy.old) × (k ≡ sound_new self.old.sigs old.now) }
+        ensures asked { Asks policy.old policy.new (λ k. k ≡ sound_new self.old.sigs old.now) }
         ensures faithful { IsFaithful F.Fn policy.new }
     {
         judge_new(&mut self.sigs, old, policy);
@@ -108,12 +107,12 @@ impl Part {
     ) -> Result<Vec<usize>, Memory>
         requires faithful { IsFaithful F.Fn policy.old }
         requires fits { PartFits other.now }
-        ensures united { OnOk result (self.new ≡ unite_part self.old (part_with (judged_sig (rows_of policy.old)) other.now)) }
+        ensures united { OnOk result (self.new
+            ≡ unite_part self.old (part_with (judged_sig (rows_of policy.old)) other.now)) }
         ensures same { OnErr result (self.new ≡ self.old) }
         ensures back { IfOk result (λ log. shrunk_part log.items self.new ≡ self.old) }
         ensures follow { OnOk result (FollowSigs totals.old totals.new self.old.sigs self.new.sigs) }
-        ensures asked { AsksUpTo result policy.old policy.new (sum_of if_sound self.old.sigs)
-            (sum_of if_sound (unite_sigs self.old.sigs (map (judged_sig (rows_of policy.old)) other.now.sigs))) }
+        ensures asked { AsksForSigs result policy.old policy.new self.old.sigs other.now.sigs }
         ensures faithful { IsFaithful F.Fn policy.new }
     {
         let mut log = Vec::new(alloc);

@@ -1,7 +1,5 @@
-ghost use Rattle.std.specs.Prelude.{◌≡◌, [], OnOk};
-ghost use Rattle.wot_cert.specs.Certificate.{unite};
-ghost use Rattle.wot_cert.specs.Growing.{AreUnited, AsksUpTo, PlacesFollow, PlacesRise, StillLeadsBack, TakesBack, weight_in};
-ghost use Rattle.wot_cert.specs.Judged.{if_sound, judged, sound_of};
+ghost use Rattle.std.specs.Prelude.{[], OnOk};
+ghost use Rattle.wot_cert.specs.Growing.{AreUnited, AsksForCert, PlacesFollow, PlacesRise, StillLeadsBack, TakesBack};
 ghost use Rattle.wot_cert.specs.Parts.{of_places};
 ghost use Rattle.wot_policy.specs.Kept.{IsFaithful, rows_of};
 
@@ -37,8 +35,7 @@ impl Places {
         ensures united { OnOk result (AreUnited (rows_of policy.old) self.old self.new other.now) }
         ensures back { StillLeadsBack growth.old growth.new self.old self.new }
         ensures follow { OnOk result (PlacesFollow totals.old totals.new self.old self.new) }
-        ensures asked { AsksUpTo result policy.old policy.new (weight_in if_sound (λ _. 0) self.old)
-            (sound_of (unite (of_places [] self.old) (judged (rows_of policy.old) other.now))) }
+        ensures asked { AsksForCert result policy.old policy.new (of_places [] self.old) other.now }
         ensures faithful { IsFaithful F.Fn policy.new }
     {
         match put_sigs(

@@ -37,7 +37,11 @@ impl Model for Sig {
 
     ghost Value = { Signature };
 
-    ghost view = { λ a. record { body = a.held.value.body.items; number = a.held.value.number; admitted = a.held.value.admitted } };
+    ghost view = { λ a. record {
+      body = a.held.value.body.items;
+      number = a.held.value.number;
+      admitted = a.held.value.admitted;
+    } };
 
     ghost invariant = { λ a. a.held.value.facts ≡ facts_of a.held.value.body.items };
 }

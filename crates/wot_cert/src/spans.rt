@@ -2,7 +2,8 @@ ghost use Rattle.std.specs.Prelude.{◌≡◌, ℕ, ◌≤◌, ◌^◌, List, []
 ghost use Rattle.std.specs.List.{flat_map};
 ghost use Rattle.wot_cert.specs.Counts.{sigs_on};
 ghost use Rattle.wot_cert.specs.Narrowed.{Narrowed};
-ghost use Rattle.wot_cert.specs.Span.{span_of, sig_moments, facts_moments, unless_zero, created_of, InSpan, AreLiveAlike};
+ghost use Rattle.wot_cert.specs.Span.{span_of, sig_moments, facts_moments, unless_zero, created_of};
+ghost use Rattle.wot_cert.specs.Span.{InSpan, AreLiveAlike};
 ghost use Rattle.wot_cert.specs.Time.{live_at};
 
 use crate::{Cert, Part, Sig, Span};

@@ -1,6 +1,5 @@
 pub mod Stamps
 pub mod Rows
-pub mod Behind
 pub mod Replay
 pub mod Lines
 pub mod Judged

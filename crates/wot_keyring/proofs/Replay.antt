@@ -47,7 +47,7 @@ use Rattle.wot_keyring.specs.Verdict.{is_over}
 use Rattle.wot_keyring.specs.Kept.{AreSortedByFpr, AreNamed, IsNamed, AreSized, AreWhole, IsKeyring}
 use Rattle.wot_keyring.specs.Held.{Held, nothing, is_verdict, verdict_set}
 use Rattle.wot_keyring.specs.Dump.{after, after_all, import_of, judged_anew, setting, setting_of, text_import, unless_over, unless_refused, IsRestored}
-use Rattle.wot_keyring.proofs.Behind.{AreBelow, all_at, below_next, none_before, put_behind}
+use Rattle.wot_keyring.specs.Behind.{AreBelow, all_at, below_next, none_before, put_behind}
 
 -- what is known of certificates
 pub record Laws : Type 0 where

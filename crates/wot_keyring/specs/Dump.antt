@@ -1,5 +1,6 @@
 -- The commands that make anew what is held, and their text.
-use Rattle.std.specs.Prelude.{◌≡◌, ◌≢◌, ◌≤◌, ℕ, if◌then◌else◌, List, [], ◌∷◌, ◌++◌, map, length, Option, Some, None, Result, Ok, Err}
+use Rattle.std.specs.Prelude.{◌≡◌, ◌≢◌, ◌≤◌, ℕ, if◌then◌else◌, List, [], ◌∷◌, ◌++◌, map, length}
+use Rattle.std.specs.Prelude.{Option, Some, None, Result, Ok, Err}
 use Rattle.std.specs.List.{AllByRecursion, flat_map}
 use Rattle.wot_types.specs.declared.fpr.Fpr.{Fpr}
 use Rattle.wot_types.specs.declared.limits.Limits.{Limits}
@@ -64,11 +65,13 @@ unless_refused (Err refusal) new = None
 
 -- with this verdict, unless it would be one more than the limit allows
 abbrev pub unless_over : Limits → SigNumber → Verdict → Held → Option Held
-unless_over l number verdict held = if is_over l held.verdicts number then None else Some (verdict_set number verdict held)
+unless_over l number verdict held =
+    if is_over l held.verdicts number then None else Some (verdict_set number verdict held)
 
 -- what is held after a command that isn't refused; a command that changes nothing that is held gives nothing
 abbrev pub after : PolicyRows → Limits → Command → Held → Option Held
-after rows l (commands.Import octets) held = unless_refused (answer_to rows l held.certs octets) (importing rows octets held)
+after rows l (commands.Import octets) held =
+    unless_refused (answer_to rows l held.certs octets) (importing rows octets held)
 after rows l (commands.Good number fpr) held = unless_over l number (Good fpr) held
 after rows l (commands.Bad number) held = unless_over l number Bad held
 after rows l _ held = None
@@ -87,6 +90,8 @@ judged_anew rows e = (e.0, judged rows e.1)
 abbrev pub judged_by : PolicyRows → Held → Held
 judged_by rows held = record held { certs = map (judged_anew rows) held.certs }
 
--- The commands, run in a fresh keyring with the same limits, give what this one holds, judged by the rows, and none is refused.
+-- The commands, run in a fresh keyring with the same limits, give what this one holds, judged by the rows, and none is
+-- refused.
 abbrev pub IsRestored : PolicyRows → Keyring → Type 0
-IsRestored rows k = after_all (after rows k.limits) (commands_of (held_of k)) (Some nothing) ≡ Some (judged_by rows (held_of k))
+IsRestored rows k =
+    after_all (after rows k.limits) (commands_of (held_of k)) (Some nothing) ≡ Some (judged_by rows (held_of k))

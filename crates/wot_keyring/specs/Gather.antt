@@ -1,5 +1,7 @@
--- What certificates do to the kept ones, one after the other, and when the certificates of one key, united first, do the same.
-use Rattle.std.specs.Prelude.{◌≡◌, Bool, false, not, cond, nat_eq, List, [], ◌∷◌, ◌++◌, Option, Some, None, Result, Ok, Err}
+-- What certificates do to the kept ones, one after the other, and when the certificates of one key, united first, do
+-- the same.
+use Rattle.std.specs.Prelude.{◌≡◌, Bool, false, not, cond, nat_eq, List, [], ◌∷◌, ◌++◌}
+use Rattle.std.specs.Prelude.{Option, Some, None, Result, Ok, Err}
 use Rattle.std.specs.Cmp.Lexicographic.{pointwise}
 use Rattle.std.specs.List.{AllByRecursion}
 use Rattle.std.specs.Map.{lookup, values_of}
@@ -22,7 +24,8 @@ clashes_with (Some there) c = not (pointwise nat_eq c.key there.key)
 -- the certificates with this one; nothing where it clashes with the one of its fingerprint
 abbrev pub taken_one : PolicyRows → Option Certificates → Certificate → Option Certificates
 taken_one rows None c = None
-taken_one rows (Some certs) c = cond (clashes_with (lookup (is_fpr (fpr_of c.key)) certs) c) None (Some (with_cert rows certs c))
+taken_one rows (Some certs) c =
+    cond (clashes_with (lookup (is_fpr (fpr_of c.key)) certs) c) None (Some (with_cert rows certs c))
 
 -- the same with each of these, from the beginning
 abbrev pub taken_all : PolicyRows → Option Certificates → List Certificate → Option Certificates
@@ -41,11 +44,13 @@ IsWholeState (Some certs) = AreAllWhole certs
 -- Both lists do the same, whatever is kept and whatever the rows.
 abbrev pub DoTheSame : List Certificate → List Certificate → Type 0
 DoTheSame list other =
-    (rows : PolicyRows) (kept : Option Certificates) → IsWholeState kept → taken_all rows kept list ≡ taken_all rows kept other
+    (rows : PolicyRows) (kept : Option Certificates) → IsWholeState kept
+    → taken_all rows kept list ≡ taken_all rows kept other
 
 -- Two of these clash, so that nothing comes of them.
 abbrev pub ComeToNothing : List Certificate → Type 0
-ComeToNothing list = (rows : PolicyRows) (kept : Option Certificates) → IsWholeState kept → taken_all rows kept list ≡ None
+ComeToNothing list =
+    (rows : PolicyRows) (kept : Option Certificates) → IsWholeState kept → taken_all rows kept list ≡ None
 
 -- A clash is told only where there is one.
 abbrev pub IsNothingTold : Fault → List Certificate → Type 0

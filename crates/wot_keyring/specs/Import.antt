@@ -1,6 +1,7 @@
--- What an import of octets answers, and what it does: each certificate of them united with the kept one, all or none. To
--- load the entry of a directory is the same, where something is demanded of the certificates.
-use Rattle.std.specs.Prelude.{◌≡◌, ◌≢◌, ◌≤◌, ◌⊎◌, ℕ, ◌+◌, ◌-◌, Bool, true, false, not, ◌&&◌, ◌||◌, nat_eq, nat_lt, if◌then◌else◌, List, [], ◌∷◌, map, length, Option, Some, None, Result, Ok, Err}
+-- What an import of octets answers, and what it does: each certificate of them united with the kept one, all or none.
+-- To load the entry of a directory is the same, where something is demanded of the certificates.
+use Rattle.std.specs.Prelude.{◌≡◌, ◌≢◌, ◌≤◌, ◌⊎◌, ℕ, ◌+◌, ◌-◌, Bool, true, false, not, ◌&&◌, ◌||◌, nat_eq, nat_lt}
+use Rattle.std.specs.Prelude.{if◌then◌else◌, List, [], ◌∷◌, map, length, Option, Some, None, Result, Ok, Err}
 use Rattle.std.specs.List.{list_any}
 use Rattle.std.specs.Cmp.Lexicographic.{pointwise}
 use Rattle.std.specs.BTreeMap.{insert_entry}
@@ -156,7 +157,8 @@ abbrev pub unless_full : Option Limit → Imported → Result Imported Refusal
 unless_full (Some limit) counts = Err (Full limit)
 unless_full None counts = Ok counts
 
--- These certificates, of which that many keys were skipped, are united with the kept ones, unless two clash or a limit is passed.
+-- These certificates, of which that many keys were skipped, are united with the kept ones, unless two clash or a limit
+-- is passed.
 abbrev pub answer_united : PolicyRows → Limits → Certificates → List Certificate → ℕ → Result Imported Refusal
 answer_united rows limits certs cs skipped =
     if any_clash (map (λ (e : Fpr × Certificate). e.1) certs) cs then Err Clash
@@ -172,10 +174,12 @@ abbrev pub unless_fault : Option CertFault → Result Imported Refusal → Resul
 unless_fault (Some fault) answer = Err (Cert fault)
 unless_fault None answer = answer
 
-abbrev pub answer_read : Demand → PolicyRows → Limits → Certificates → Result (List Spelled) PacketFault → Result Imported Refusal
+abbrev pub answer_read : Demand → PolicyRows → Limits → Certificates → Result (List Spelled) PacketFault
+    → Result Imported Refusal
 answer_read demand rows limits certs (Err fault) = Err (Packet fault)
 answer_read demand rows limits certs (Ok packets) =
-    unless_fault (first_fault packets) (answer_meeting demand rows limits certs (certificates_of packets) (skipped_in packets))
+    unless_fault (first_fault packets)
+    (answer_meeting demand rows limits certs (certificates_of packets) (skipped_in packets))
 
 -- the answer to octets with a demand, where memory is found: the first refusal in this order, or the counts
 abbrev pub answer_under : Demand → PolicyRows → Limits → Certificates → List ℕ → Result Imported Refusal
@@ -193,8 +197,8 @@ AnswersUnder demand result rows old octets =
 abbrev pub Answers : Result Imported Refusal → PolicyRows → Keyring → List ℕ → Type 0
 Answers result rows old octets = AnswersUnder any result rows old octets
 
--- How often the policy was asked, as far as the answer tells: on Ok for all that is new, on a refusal never, and where memory
--- was missing at most for all that is new.
+-- How often the policy was asked, as far as the answer tells: on Ok for all that is new, on a refusal never, and where
+-- no memory was found at most for all that is new.
 abbrev pub IsAsked : Result Imported Refusal → PolicyRows → Keyring → List ℕ → ℕ → Type 0
 IsAsked (Ok counts) rows old octets k = k ≡ asked_in rows (certificates_in old) octets
 IsAsked (Err Memory) rows old octets k = k ≤ asked_in rows (certificates_in old) octets

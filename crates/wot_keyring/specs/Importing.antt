@@ -15,7 +15,8 @@ use Rattle.wot_keyring.specs.declared.import.Imported.{Imported}
 use Rattle.wot_keyring.specs.declared.refusal.Refusal.{Refusal}
 use Rattle.wot_keyring.specs.declared.refusal.Refusal.TheVariants.{Memory}
 use Rattle.wot_keyring.specs.Keyring.{Certificates, Keyring, certificates_in}
-use Rattle.wot_keyring.specs.Import.{weigh, with_certs, any_clash, first_full, spelled_in, Demand, answer_united, answer_meeting, answer_under}
+use Rattle.wot_keyring.specs.Import.{weigh, with_certs, any_clash, first_full, spelled_in, Demand}
+use Rattle.wot_keyring.specs.Import.{answer_united, answer_meeting, answer_under}
 
 -- ---- reading
 
@@ -78,6 +79,7 @@ IsAskedOf (Err Memory) all n = n ≤ all
 IsAskedOf (Err _) all n = n ≡ 0
 
 -- The policy was asked so often.
-abbrev pub AsksUniting : {F : Type 0} → Result Imported Refusal → Policy F → Policy F → Keyring → List Certificate → Type 0
+abbrev pub AsksUniting : {F : Type 0} → Result Imported Refusal → Policy F → Policy F → Keyring
+    → List Certificate → Type 0
 AsksUniting result before after old cs =
     (k : ℕ) × (after ≡ asked_more k before) × IsAskedOf result (asked_for (rows_of before) old cs) k

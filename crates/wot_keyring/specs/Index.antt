@@ -34,8 +34,8 @@ is_noted i n fpr = is_holder (holder_of i.holders.entries n) fpr
 abbrev pub stands_at : Entries → SigNumber → Fpr → Bool
 stands_at es n fpr = option_map_or (λ (x : Kept). has_number n x.cert) (lookup (is_fpr fpr) es) false
 
--- Each signature is noted at the certificate on which it stands, and nothing else is noted; nothing is said of an index that
--- isn't exact.
+-- Each signature is noted at the certificate on which it stands, and nothing else is noted; nothing is said of an index
+-- that isn't exact.
 abbrev pub IsIndexOf : Index → Entries → Type 0
 IsIndexOf i es = i.exact ≡ true → (n : SigNumber) (fpr : Fpr) → is_noted i n fpr ≡ stands_at es n fpr
 
@@ -79,6 +79,10 @@ is_logged n log = list_any (is_number n) log
 -- what is noted for a number without the logged ones
 abbrev pub holder_without : List SigNumber → Holders → SigNumber → Option Fpr
 holder_without log holders n = unless (is_logged n log) (holder_of holders n)
+
+-- What was noted for these numbers was taken out.
+abbrev pub Forgets : Holders → Holders → (SigNumber → Bool) → Type 0
+Forgets old new these = (n : SigNumber) → holder_of new n ≡ unless (these n) (holder_of old n)
 
 -- Taking out what the new log tells of gives what taking out what the old one tells of gave.
 abbrev pub StillLogged : Index → List SigNumber → Index → List SigNumber → Type 0

@@ -13,12 +13,15 @@ use Rattle.wot_keyring.specs.Keyring.{Keyring, kept_at, stamp_at}
 abbrev pub SaysSame : verdicts.Entries → verdicts.Entries → Signature → Type 0
 SaysSame said other s = verdict_at said s.number ≡ verdict_at other s.number
 
--- The same certificate is kept under a fingerprint, with the same stamp, or none; and the verdicts on its signatures are the same.
+-- The same certificate is kept under a fingerprint, with the same stamp, or none; and the verdicts on its signatures
+-- are the same.
 pub record IsUnaltered (old new : Keyring) (fpr : Fpr) : Type 0 where
   pub kept : kept_at new fpr ≡ kept_at old fpr
-  pub said : (x : Kept) → kept_at old fpr ≡ Some x → AllByRecursion (SaysSame old.verdicts new.verdicts) (all_sigs x.cert)
+  pub said :
+      (x : Kept) → kept_at old fpr ≡ Some x → AllByRecursion (SaysSame old.verdicts new.verdicts) (all_sigs x.cert)
 
--- Nothing was altered at a fingerprint, or nothing is kept there any more, or the stamp is one that was never given before.
+-- Nothing was altered at a fingerprint, or nothing is kept there any more, or the stamp is one that was never given
+-- before.
 abbrev pub IsLaterAt : Keyring → Keyring → Fpr → Type 0
 IsLaterAt old new fpr = IsUnaltered old new fpr ⊎ (kept_at new fpr ≡ None) ⊎ (old.changes < stamp_at new fpr)
 

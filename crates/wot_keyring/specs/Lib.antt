@@ -16,3 +16,4 @@ pub mod Later
 pub mod Log
 pub mod From
 pub mod Parts
+pub mod Behind

@@ -1,5 +1,5 @@
--- A log of changes: the fingerprints of altered certificates, with the stamps that they were given, so that what changed since
--- a count is found without a walk over what is kept.
+-- A log of changes: the fingerprints of altered certificates, with the stamps that they were given, so that what
+-- changed since a count is found without a walk over what is kept.
 use Rattle.std.specs.Prelude.{◌≡◌, ◌≤◌, ◌<◌, ◌⊎◌, ℕ, Bool, true, ◌&&◌, nat_eq, List, [], ◌∷◌, Some}
 use Rattle.std.specs.List.{AllByRecursion, list_any}
 use Rattle.std.specs.Map.{lookup}
@@ -39,13 +39,18 @@ pub record IsRisingTo (stamp : ℕ) (log : Log) : Type 0 where
 pub record IsLogOf (log : Log) (es : Entries) (changes : ℕ) : Type 0 where
   pub from : log.from ≤ changes
   pub rising : IsRisingTo changes log
-  pub whole : (fpr : Fpr) (x : Kept) → lookup (is_fpr fpr) es ≡ Some x → log.from < x.stamp → is_logged_at x.stamp fpr log.entries.items ≡ true
+  pub whole :
+      (fpr : Fpr) (x : Kept) → lookup (is_fpr fpr) es ≡ Some x → log.from < x.stamp
+      → is_logged_at x.stamp fpr log.entries.items ≡ true
 
--- These fingerprints were logged with a stamp, and what was logged still is; nothing is said of stamps up to the new `from`.
+-- These fingerprints were logged with a stamp, and what was logged still is; nothing is said of stamps up to the new
+-- `from`.
 pub record LogsAt (stamp : ℕ) (these : Fpr → Bool) (old new : Log) : Type 0 where
   pub from : old.from ≤ new.from
   pub past : new.from ≤ stamp
-  pub kept : (s : ℕ) (fpr : Fpr) → s ≤ stamp → new.from < s → is_logged_at s fpr old.entries.items ≡ true → is_logged_at s fpr new.entries.items ≡ true
+  pub kept :
+      (s : ℕ) (fpr : Fpr) → s ≤ stamp → new.from < s → is_logged_at s fpr old.entries.items ≡ true
+      → is_logged_at s fpr new.entries.items ≡ true
   pub logged : (fpr : Fpr) → new.from < stamp → these fpr ≡ true → is_logged_at stamp fpr new.entries.items ≡ true
   pub rising : IsRisingTo stamp old → IsRisingTo stamp new
 

@@ -1,5 +1,6 @@
 -- How an import puts certificates among the kept ones, one after the other, and how that is taken back.
-use Rattle.std.specs.Prelude.{◌≡◌, ◌≤◌, ◌⊎◌, ℕ, ◌+◌, Bool, true, false, not, ◌||◌, nat_eq, nat_lt, if◌then◌else◌, List, [], ◌∷◌, Option, Some, None, is_some, Result, Ok, Err, MatchResult}
+use Rattle.std.specs.Prelude.{◌≡◌, ◌≤◌, ◌⊎◌, ℕ, ◌+◌, Bool, true, false, not, ◌||◌, nat_eq, nat_lt, if◌then◌else◌}
+use Rattle.std.specs.Prelude.{List, [], ◌∷◌, Option, Some, None, is_some, Result, Ok, Err, MatchResult}
 use Rattle.std.specs.Option.{option_map}
 use Rattle.std.specs.Cmp.Lexicographic.{pointwise}
 use Rattle.std.specs.BTreeMap.{insert_entry}
@@ -16,7 +17,8 @@ use Rattle.wot_policy.specs.Kept.{asked_more, rows_of}
 use Rattle.wot_cert.specs.Assembly.{bare}
 use Rattle.wot_cert.specs.Certificate.{Certificate}
 use Rattle.wot_cert.specs.declared.growth.Growth.{Growth}
-use Rattle.wot_cert.specs.Growing.{shrunk, AsksUpTo, LeadsBack as CertLeadsBack}
+use Rattle.wot_cert.specs.Asking.{Asks, AsksUpTo}
+use Rattle.wot_cert.specs.Growing.{shrunk, LeadsBack as CertLeadsBack}
 use Rattle.wot_cert.specs.Counts.{sum_of, items_of, signatures_of}
 use Rattle.wot_cert.specs.Judged.{IsJudged, judged, sound_of}
 use Rattle.wot_cert.specs.Text.{size_of}
@@ -29,6 +31,7 @@ use Rattle.wot_keyring.specs.declared.staging.Was.{Was as TheWas}
 use Rattle.wot_keyring.specs.declared.staging.Fault.{Fault}
 use Rattle.wot_keyring.specs.declared.staging.Fault.TheVariants.{Clash, Memory}
 use Rattle.wot_keyring.specs.declared.staging.Staged.{Staged}
+use Rattle.wot_keyring.specs.declared.staging.Terms.{Terms}
 use Rattle.wot_keyring.specs.declared.tally.Tally.{Tally}
 use Rattle.wot_keyring.specs.declared.tally.Weight.{Weight}
 use Rattle.wot_keyring.specs.Keyring.{Entries, is_fpr}
@@ -168,16 +171,17 @@ AsksToJoin result before after found c =
 -- The policy was asked for what is new of a certificate that is put among the kept ones, and of several.
 abbrev pub AsksForOne : {F T : Type 0} → Result T Fault → Policy F → Policy F → ℕ → Entries → Certificate → Type 0
 AsksForOne result before after stamp es c =
-    (k : ℕ) × (after ≡ asked_more k before) × AskedFor result (sound_in es) (sound_in (kept_with (rows_of before) stamp es c)) k
+    Asks before after (AskedFor result (sound_in es) (sound_in (kept_with (rows_of before) stamp es c)))
 
 abbrev pub AsksForAll : {F T : Type 0} → Result T Fault → Policy F → Policy F → ℕ → Entries → List Certificate → Type 0
 AsksForAll result before after stamp es cs =
-    (k : ℕ) × (after ≡ asked_more k before) × AskedInAll result (sound_in es) (sound_in (kept_all (rows_of before) stamp es cs)) k
+    (k : ℕ) × (after ≡ asked_more k before)
+    × AskedInAll result (sound_in es) (sound_in (kept_all (rows_of before) stamp es cs)) k
 
 -- The policy was asked for what a certificate has that the first one hadn't; where there is none, it was asked nothing.
 abbrev pub AsksToBecome : {F T : Type 0} → Result T Fault → Policy F → Policy F → ℕ → (T → Certificate) → Type 0
 AsksToBecome result before after sound became =
-    (k : ℕ) × (after ≡ asked_more k before) × MatchResult result (λ done. k + sound ≡ sound_of (became done)) (λ _. k ≡ 0)
+    Asks before after (λ k. MatchResult result (λ done. k + sound ≡ sound_of (became done)) (λ _. k ≡ 0))
 
 -- What is new was counted.
 abbrev pub Counts : Entries → Entries → Tally → Tally → Type 0
@@ -198,7 +202,8 @@ stamp_over stamp None items = stamp
 stamp_over stamp (Some old) items = if nat_eq items 0 then old else stamp
 
 -- What becomes of the kept certificates by one that is united with what was found.
-pub record IsStaged (rows : PolicyRows) (stamp limit : ℕ) (found : Option Kept) (c : Certificate) (s : Staged) : Type 0 where
+pub record IsStaged (rows : PolicyRows) (stamp limit : ℕ) (found : Option Kept) (c : Certificate) (s : Staged)
+    : Type 0 where
   pub kept : s.kept ≡ kept_as rows stamp found c
   pub before : WeighsFound limit s.before found
   pub after : Weighs limit s.after s.kept.cert
@@ -257,12 +262,29 @@ StillLeadsBack log es log' es' = (first : Entries) → IsLog first log es → Is
 
 -- What a kept certificate became by another that it was united with.
 pub record GrowsTo (rows : PolicyRows) (stamp limit : ℕ) (c : Certificate) (old new : Kept) (leap : Leap) : Type 0 where
-  pub staged : IsStaged rows stamp limit (Some old) c (record { kept = new; before = leap.before; after = leap.after; items = leap.items; keys = 0 })
+  pub staged : IsStaged rows stamp limit (Some old) c (record {
+    kept = new;
+    before = leap.before;
+    after = leap.after;
+    items = leap.items;
+    keys = 0;
+  })
   pub back : CertLeadsBack leap.growth old.cert new.cert
   pub was : leap.stamp ≡ old.stamp
 
 -- The same among the kept ones.
-pub record IsGrownAt (rows : PolicyRows) (stamp limit : ℕ) (c : Certificate) (es es' : Entries) (s : Step) : Type 0 where
+pub record IsGrownAt (rows : PolicyRows) (stamp limit : ℕ) (c : Certificate) (es es' : Entries) (s : Step)
+    : Type 0 where
   pub kept : Kept
   pub put : es' ≡ insert_entry fpr_cmp es (fpr_of c.key) kept
-  pub staged : IsStaged rows stamp limit (found_for es c) c (record { kept = kept; before = s.before; after = s.after; items = s.items; keys = 0 })
+  pub staged : IsStaged rows stamp limit (found_for es c) c (record {
+    kept = kept;
+    before = s.before;
+    after = s.after;
+    items = s.items;
+    keys = 0;
+  })
+
+-- The same by these terms.
+abbrev pub IsGrownOn : PolicyRows → Terms → Certificate → Entries → Entries → Step → Type 0
+IsGrownOn rows terms c es es' s = IsGrownAt rows terms.stamp terms.limit c es es' s

@@ -6,7 +6,8 @@ ghost use Rattle.wot_script.specs.Spelling.{HasSpelling, most_octets};
 ghost use Rattle.wot_verdict.specs.Verdicts.{AreSortedByNumber};
 ghost use Rattle.wot_cert.specs.Certificate.{Certificate};
 ghost use Rattle.wot_cert.specs.Text.{size_of, text_of};
-ghost use Rattle.wot_keyring.specs.Dump.{AreLines, IsLine, IsRestored, command_line_of, lines_of, setting, setting_of, text_import};
+ghost use Rattle.wot_keyring.specs.Dump.{AreLines, IsLine, IsRestored, command_line_of, lines_of, setting, setting_of};
+ghost use Rattle.wot_keyring.specs.Dump.{text_import};
 ghost use Rattle.wot_keyring.specs.Keyring.{Keyring as Seen};
 ghost use Rattle.wot_keyring.specs.Kept.{IsKeyring};
 

@@ -74,7 +74,8 @@ fn pour(
 ) -> Result<(), Fault>
     requires own { AreOwn certs.old.entries }
     ensures own { OnOk result (AreOwn certs.new.entries) }
-    ensures same { OnOk result (DoTheSame (values_of certs.new.entries) (values_of certs.old.entries ++ values_of from.entries)) }
+    ensures same { OnOk result (DoTheSame (values_of certs.new.entries)
+        (values_of certs.old.entries ++ values_of from.entries)) }
     ensures clash { TellsNothing result (values_of certs.old.entries ++ values_of from.entries) }
 {
     'from: while let Some((_, cert)) = from.pop_first() {

@@ -40,7 +40,8 @@ impl Keyring {
         ensures held { OnOk result (held_of self.new ≡ importing (rows_of policy.old) bytes.now (held_of self.old)) }
         ensures limits { self.new.limits ≡ self.old.limits }
         ensures kept { OnErr result (self.new ≡ self.old) }
-        ensures asked { AsksFor result (rows_of policy.old) self.old bytes.now (λ k. policy.new ≡ asked_more k policy.old) }
+        ensures asked { AsksFor result (rows_of policy.old) self.old bytes.now
+            (λ k. policy.new ≡ asked_more k policy.old) }
         ensures counted { IsOneChange self.old self.new }
         ensures later { IsLater self.old self.new }
         ensures judged { IsJudgedBy (rows_of policy.old) self.new }
@@ -72,7 +73,8 @@ impl Keyring {
         ensures held { OnOk result (held_of self.new ≡ importing (rows_of policy.old) bytes.now (held_of self.old)) }
         ensures limits { self.new.limits ≡ self.old.limits }
         ensures kept { OnErr result (self.new ≡ self.old) }
-        ensures asked { AsksFor result (rows_of policy.old) self.old bytes.now (λ k. policy.new ≡ asked_more k policy.old) }
+        ensures asked { AsksFor result (rows_of policy.old) self.old bytes.now
+            (λ k. policy.new ≡ asked_more k policy.old) }
         ensures counted { IsOneChange self.old self.new }
         ensures later { IsLater self.old self.new }
         ensures judged { IsJudgedBy (rows_of policy.old) self.new }

@@ -156,14 +156,17 @@ pub(crate) fn unite_all<F: Fn(Ask) -> bool>(
     requires faithful { IsFaithful F.Fn policy.old }
     requires sorted { AreSortedByFpr certs.old.entries }
     requires tallied { IsTally terms.now.limit certs.old.entries total }
-    ensures put { OnOk result (certs.new.entries ≡ kept_all (rows_of policy.old) terms.now.stamp certs.old.entries list.now) }
+    ensures put { OnOk result (certs.new.entries
+        ≡ kept_all (rows_of policy.old) terms.now.stamp certs.old.entries list.now) }
     ensures same { OnErr result (certs.new.entries ≡ certs.old.entries) }
     ensures sorted { OnOk result (AreSortedByFpr certs.new.entries) }
     ensures tallied { IfOk result (λ tally. IsTally terms.now.limit certs.new.entries tally.total) }
-    ensures fresh { IfOk result (λ tally. tally.fresh + weigh_kept items_of certs.old.entries ≡ weigh_kept items_of certs.new.entries) }
+    ensures fresh { IfOk result (λ tally. tally.fresh + weigh_kept items_of certs.old.entries
+        ≡ weigh_kept items_of certs.new.entries) }
     ensures clash { TellsClash result (clash_in (rows_of policy.old) terms.now.stamp certs.old.entries list.now) }
     ensures asked { AsksForAll result policy.old policy.new terms.now.stamp certs.old.entries list.now }
-    ensures judged { OnOk result (AreJudged (rows_of policy.old) certs.old.entries → AreJudged (rows_of policy.old) certs.new.entries) }
+    ensures judged { OnOk result (AreJudged (rows_of policy.old) certs.old.entries
+        → AreJudged (rows_of policy.old) certs.new.entries) }
     ensures faithful { IsFaithful F.Fn policy.new }
     ensures noted { OnOk result (Notes index.old index.new (stands_among list.now)) }
     ensures not_noted { OnErr result (NotesNothing index.old index.new) }

@@ -3,7 +3,7 @@ ghost use Rattle.std.specs.Prelude.{◌≡◌, ◌<◌, vec_len, vec_capacity, I
 ghost use Rattle.wot_policy.specs.Kept.{IsFaithful, rows_of};
 ghost use Rattle.wot_keyring.specs.Kept.{AreSortedByFpr, AreJudged};
 ghost use Rattle.wot_keyring.specs.Staging.{clash_at, found_for, kept_with, AsksForOne, AsksToJoin, Counts, GrowsTo};
-ghost use Rattle.wot_keyring.specs.Staging.{IsGrownAt, IsTally, StillLeadsBack, TellsClash};
+ghost use Rattle.wot_keyring.specs.Staging.{IsGrownOn, IsTally, StillLeadsBack, TellsClash};
 
 use crate::kept::Kept;
 use crate::keyring::find;
@@ -49,7 +49,8 @@ fn grow_kept<F: Fn(Ask) -> bool>(
     policy: &mut Policy<F>,
 ) -> Result<Leap, Fault>
     requires faithful { IsFaithful F.Fn policy.old }
-    ensures grows { IfOk result (GrowsTo (rows_of policy.old) terms.now.stamp terms.now.limit cert.now kept.old kept.new) }
+    ensures grows { IfOk result
+        (GrowsTo (rows_of policy.old) terms.now.stamp terms.now.limit cert.now kept.old kept.new) }
     ensures same { OnErr result (kept.new ≡ kept.old) }
     ensures clash { TellsClash result (clash_at (Some kept.old) cert.now) }
     ensures asked { AsksToJoin result policy.old policy.new (Some kept.old) cert.now }
@@ -100,7 +101,7 @@ fn grow_at<F: Fn(Ask) -> bool>(
     requires sorted { AreSortedByFpr certs.old.entries }
     requires room { vec_len log.old < vec_capacity log.old }
     ensures grown { IfOk result
-        (IsGrownAt (rows_of policy.old) terms.now.stamp terms.now.limit cert.now certs.old.entries certs.new.entries) }
+        (IsGrownOn (rows_of policy.old) terms.now cert.now certs.old.entries certs.new.entries) }
     ensures log { StillLeadsBack log.old.items certs.old.entries log.new.items certs.new.entries }
     ensures clash { TellsClash result (clash_at (found_for certs.old.entries cert.now) cert.now) }
     ensures asked { AsksToJoin result policy.old policy.new (found_for certs.old.entries cert.now) cert.now }
@@ -150,14 +151,16 @@ pub(crate) fn put_in_place<F: Fn(Ask) -> bool>(
     requires faithful { IsFaithful F.Fn policy.old }
     requires sorted { AreSortedByFpr certs.old.entries }
     requires tallied { IsTally terms.now.limit certs.old.entries tally.old.total }
-    ensures put { OnOk result (certs.new.entries ≡ kept_with (rows_of policy.old) terms.now.stamp certs.old.entries cert.now) }
+    ensures put { OnOk result (certs.new.entries
+        ≡ kept_with (rows_of policy.old) terms.now.stamp certs.old.entries cert.now) }
     ensures sorted { OnOk result (AreSortedByFpr certs.new.entries) }
     ensures log { StillLeadsBack log.old.items certs.old.entries log.new.items certs.new.entries }
     ensures tallied { OnOk result (IsTally terms.now.limit certs.new.entries tally.new.total) }
     ensures fresh { OnOk result (Counts certs.old.entries certs.new.entries tally.old tally.new) }
     ensures clash { TellsClash result (clash_at (found_for certs.old.entries cert.now) cert.now) }
     ensures asked { AsksForOne result policy.old policy.new terms.now.stamp certs.old.entries cert.now }
-    ensures judged { OnOk result (AreJudged (rows_of policy.old) certs.old.entries → AreJudged (rows_of policy.old) certs.new.entries) }
+    ensures judged { OnOk result (AreJudged (rows_of policy.old) certs.old.entries
+        → AreJudged (rows_of policy.old) certs.new.entries) }
     ensures faithful { IsFaithful F.Fn policy.new }
 {
     let Ok(()) = log.reserve(1) else {

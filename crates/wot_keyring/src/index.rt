@@ -4,7 +4,7 @@ ghost use Rattle.wot_types.specs.declared.fpr.Fpr.{Fpr as TheFpr};
 ghost use Rattle.wot_types.specs.declared.number.SigNumber.{SigNumber as TheNumber};
 ghost use Rattle.wot_verdict.specs.Verdicts.{is_number};
 ghost use Rattle.wot_keyring.specs.Keyring.{is_fpr};
-ghost use Rattle.wot_keyring.specs.Index.{holder_of, holder_without, unless, Notes, StillLogged};
+ghost use Rattle.wot_keyring.specs.Index.{is_logged, Forgets, Notes, StillLogged};
 
 use std::alloc::Global;
 use std::collections::BTreeMap;
@@ -55,7 +55,8 @@ pub(crate) fn note(
     number: SigNumber,
     fpr: Fpr,
 ) -> Result<(), Memory>
-    ensures noted { OnOk result (Notes index.old index.new (λ (n : TheNumber) (q : TheFpr). is_number n number && is_fpr fpr q)) }
+    ensures noted { OnOk result (Notes index.old index.new
+        (λ (n : TheNumber) (q : TheFpr). is_number n number && is_fpr fpr q)) }
     ensures log { StillLogged index.old log.old.items index.new log.new.items }
 {
     log.reserve(1)?;
@@ -74,15 +75,14 @@ pub(crate) fn note(
 
 /// Takes out what is noted for a number. Takes no memory.
 pub(crate) fn forget(holders: &mut BTreeMap<SigNumber, Fpr, Global>, number: &SigNumber)
-    ensures forgotten { (n : TheNumber) →
-        holder_of holders.new.entries n ≡ unless (is_number n number.now) (holder_of holders.old.entries n) }
+    ensures forgotten { Forgets holders.old.entries holders.new.entries (λ n. is_number n number.now) }
 {
     let _ = holders.remove(number);
 }
 
 /// Takes out all numbers of a log. Takes no memory.
 pub(crate) fn forget_logged(holders: &mut BTreeMap<SigNumber, Fpr, Global>, mut log: Vec<SigNumber>)
-    ensures forgotten { (n : TheNumber) → holder_of holders.new.entries n ≡ holder_without log.items holders.old.entries n }
+    ensures forgotten { Forgets holders.old.entries holders.new.entries (λ n. is_logged n log.items) }
 {
     'log: while let Some(number) = log.pop() {
         forget(holders, &number);

@@ -11,7 +11,8 @@ ghost use Rattle.wot_cert.specs.Whole.{IsCertificate};
 ghost use Rattle.wot_keyring.specs.declared.kept.Kept.{Kept as TheKept};
 ghost use Rattle.wot_keyring.specs.From.{entries_from};
 ghost use Rattle.wot_keyring.specs.Keyring.{empty, certificates_in, cert_at, stamp_at, verdict_on, is_fpr, TellsAbsent};
-ghost use Rattle.wot_keyring.specs.Kept.{AreSortedByFpr, AreNamed, AreSized, AreSmall, AreStamped, IsJudgedBy, IsKeyring, StaysJudged};
+ghost use Rattle.wot_keyring.specs.Kept.{AreSortedByFpr, AreNamed, AreSized, AreSmall, AreStamped, IsJudgedBy};
+ghost use Rattle.wot_keyring.specs.Kept.{IsKeyring, StaysJudged};
 ghost use Rattle.wot_policy.specs.declared.rows.PolicyRows.{PolicyRows as Rows};
 ghost use Rattle.wot_policy.specs.Kept.{IsFaithful, rows_of, asked_more};
 ghost use Rattle.wot_keyring.specs.Dump.{commands_of, lines_of, AreLines, IsRestored};
@@ -140,7 +141,8 @@ impl Keyring {
         self.certs.len()
     }
 
-    /// The kept certificates from a fingerprint on, in the order of their fingerprints; all of them where none is given.
+    /// The kept certificates from a fingerprint on, in the order of their fingerprints; all of them where none is
+    /// given.
     pub fn certs_from(&self, from: Option<Fpr>) -> CertsFrom<'_>
         ensures certs { result ≡ map (λ (e : TheFpr × TheKept). e.1.cert) (entries_from from self.now.certs) }
         ensures named { AreNamed self.now.certs }
@@ -176,8 +178,8 @@ impl Keyring {
     }
 
     /// The stamps and fingerprints of the certificates that were altered since so many changes, in the order of stamps,
-    /// and maybe others; of one that was altered twice the earlier stamp too. None where that isn't known any more: then
-    /// each kept certificate may have been. Nothing kept is walked over.
+    /// and maybe others; of one that was altered twice the earlier stamp too. None where that isn't known any more:
+    /// then each kept certificate may have been. Nothing kept is walked over.
     pub fn changed_since(&self, count: u64) -> Option<&[(u64, Fpr)]>
         ensures since { IfSome result (λ logged. HasChangedSince self.now count logged.now) }
     {
@@ -266,7 +268,8 @@ impl Keyring {
 
     /// Appends the text of a kept certificate (RFC 9580, section 10.1). After a fault `out` is as before.
     pub fn export(&self, fpr: &Fpr, out: &mut Vec<u8>) -> Result<(), ExportFault>
-        ensures text { OnOk result (IsSomeAnd (cert_at self.now fpr.now) (λ c. out.new.items ≡ out.old.items ++ text_of c)) }
+        ensures text { OnOk result
+            (IsSomeAnd (cert_at self.now fpr.now) (λ c. out.new.items ≡ out.old.items ++ text_of c)) }
         ensures absent { TellsAbsent result (cert_at self.now fpr.now) }
         ensures kept { OnErr result (out.new.items ≡ out.old.items) }
     {
@@ -469,7 +472,8 @@ impl Keyring {
     }
 
     fn says(&self, number: &SigNumber, verdict: Verdict) -> bool
-        ensures says { MatchBool result (verdict_on self.now number.now ≡ Some verdict) (verdict_on self.now number.now ≢ Some verdict) }
+        ensures says { MatchBool result
+            (verdict_on self.now number.now ≡ Some verdict) (verdict_on self.now number.now ≢ Some verdict) }
     {
         self.verdicts.get(number) == Some(verdict)
     }

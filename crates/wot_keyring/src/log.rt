@@ -1,5 +1,6 @@
 //! The log of changes: which certificates were altered since a count of changes.
-ghost use Rattle.std.specs.Prelude.{◌≡◌, ◌≤◌, ◌<◌, [], false, true, nat_lt, length, drop, IfSome, MatchBool, ℕ, vec_len, vec_capacity, ◌++◌, ◌∷◌};
+ghost use Rattle.std.specs.Prelude.{◌≡◌, ◌≤◌, ◌<◌, [], false, true, nat_lt, length, drop, IfSome, MatchBool, ℕ};
+ghost use Rattle.std.specs.Prelude.{vec_len, vec_capacity, ◌++◌, ◌∷◌};
 ghost use Rattle.wot_types.specs.declared.fpr.Fpr.{Fpr as TheFpr};
 ghost use Rattle.wot_keyring.specs.Keyring.{is_fpr};
 ghost use Rattle.wot_keyring.specs.Log.{is_listed, is_logged_at, is_named_in, AreRising, LogsAt};
@@ -90,7 +91,8 @@ pub(crate) fn log_all(log: &mut Log, stamp: u64, certs: &[Cert])
 /// Logs that these certificates were given a stamp, where something was added to them.
 pub(crate) fn log_union(log: &mut Log, fresh: u64, stamp: u64, certs: &[Cert])
     requires from { log.old.from ≤ stamp }
-    ensures logged { MatchBool (nat_lt 0 fresh) (LogsAt stamp (is_named_in certs.now) log.old log.new) (log.new ≡ log.old) }
+    ensures logged { MatchBool (nat_lt 0 fresh)
+        (LogsAt stamp (is_named_in certs.now) log.old log.new) (log.new ≡ log.old) }
 {
     if fresh > 0 {
         log_all(log, stamp, certs);
@@ -100,7 +102,8 @@ pub(crate) fn log_union(log: &mut Log, fresh: u64, stamp: u64, certs: &[Cert])
 /// The entries with a stamp above the count.
 pub(crate) fn since(entries: &[(u64, Fpr)], count: u64) -> &[(u64, Fpr)]
     requires rising { AreRising entries.now }
-    ensures since { (s : ℕ) (fpr : TheFpr) → count < s → is_logged_at s fpr entries.now ≡ true → is_listed fpr result.now ≡ true }
+    ensures since { (s : ℕ) (fpr : TheFpr) → count < s → is_logged_at s fpr entries.now ≡ true
+        → is_listed fpr result.now ≡ true }
 {
     let start = entries.partition_point(|entry| entry.0 <= count);
     let (_, rest) = entries.split_at(start);

@@ -17,7 +17,8 @@ fn note_sigs(
     sigs: &[Sig],
     fpr: Fpr,
 ) -> Result<(), Memory>
-    ensures noted { OnOk result (Notes index.old index.new (λ (n : TheNumber) (q : TheFpr). is_among n sigs.now && is_fpr fpr q)) }
+    ensures noted { OnOk result (Notes index.old index.new
+        (λ (n : TheNumber) (q : TheFpr). is_among n sigs.now && is_fpr fpr q)) }
     ensures log { StillLogged index.old log.old.items index.new log.new.items }
 {
     let mut left = sigs;
@@ -34,7 +35,8 @@ fn note_parts(
     parts: &[Part],
     fpr: Fpr,
 ) -> Result<(), Memory>
-    ensures noted { OnOk result (Notes index.old index.new (λ (n : TheNumber) (q : TheFpr). is_on n parts.now && is_fpr fpr q)) }
+    ensures noted { OnOk result (Notes index.old index.new
+        (λ (n : TheNumber) (q : TheFpr). is_on n parts.now && is_fpr fpr q)) }
     ensures log { StillLogged index.old log.old.items index.new log.new.items }
 {
     let mut left = parts;

@@ -1,4 +1,5 @@
-ghost use Rattle.std.specs.Prelude.{◌≡◌, ◌<◌, ◌+◌, ◌++◌, ◌∷◌, [], vec_len, vec_capacity, IfOk, OnOk, OnErr, None, not, nat_eq};
+ghost use Rattle.std.specs.Prelude.{◌≡◌, ◌<◌, ◌+◌, ◌++◌, ◌∷◌, [], vec_len, vec_capacity, IfOk, OnOk, OnErr, None, not};
+ghost use Rattle.std.specs.Prelude.{nat_eq};
 ghost use Rattle.std.specs.Option.{option_map};
 ghost use Rattle.std.specs.BTreeMap.{insert_entry};
 ghost use Rattle.std.specs.Map.{lookup};
@@ -12,8 +13,10 @@ ghost use Rattle.wot_cert.specs.Whole.{IsCertificate};
 ghost use Rattle.wot_keyring.specs.Kept.{AreSortedByFpr, AreJudged};
 ghost use Rattle.wot_keyring.specs.declared.kept.Kept.{Kept as TheKept};
 ghost use Rattle.wot_keyring.specs.Keyring.{Entries, is_fpr};
-ghost use Rattle.wot_keyring.specs.Staging.{begun, found_for, sound_found, stamp_over, clash_at, kept_with, kept_all, clash_in};
-ghost use Rattle.wot_keyring.specs.Staging.{IsStepOf, IsTally, IsThere, Counts, TellsClash, Weighs, IsLog, LeadsBack, StillLeadsBack, MayShrink, shrunk_at};
+ghost use Rattle.wot_keyring.specs.Staging.{begun, found_for, sound_found, stamp_over, clash_at, kept_with, kept_all};
+ghost use Rattle.wot_keyring.specs.Staging.{clash_in};
+ghost use Rattle.wot_keyring.specs.Staging.{IsStepOf, IsTally, IsThere, Counts, TellsClash, Weighs, IsLog, LeadsBack};
+ghost use Rattle.wot_keyring.specs.Staging.{StillLeadsBack, MayShrink, shrunk_at};
 ghost use Rattle.wot_keyring.specs.Staging.{AsksForOne, AsksForAll, AsksToBecome};
 
 use crate::in_place::{is_small_beside, put_in_place};
@@ -73,7 +76,8 @@ fn keep(
 
 /// Keeps under a fingerprint that is there what was kept before. Takes no memory.
 fn keep_again(certs: &mut BTreeMap<Fpr, Kept, Global>, fpr: Fpr, kept: Kept)
-    ensures again { IsThere certs.old.entries fpr → certs.new.entries ≡ insert_entry fpr_cmp certs.old.entries fpr kept }
+    ensures again { IsThere certs.old.entries fpr → certs.new.entries
+        ≡ insert_entry fpr_cmp certs.old.entries fpr kept }
 {
     let Err(_) = keep(certs, fpr, kept) else {
         return;
@@ -156,7 +160,8 @@ struct Start {
 fn begin(alloc: Global, certs: &BTreeMap<Fpr, Kept, Global>, cert: &Cert) -> Result<Start, Memory>
     ensures cert { IfOk result (λ start. start.cert ≡ begun (found_for certs.now.entries cert.now) cert.now) }
     ensures whole { IsCertificate cert.now }
-    ensures stamp { IfOk result (λ start. start.stamp ≡ option_map (λ (x : TheKept). x.stamp) (found_for certs.now.entries cert.now)) }
+    ensures stamp { IfOk result (λ start. start.stamp
+        ≡ option_map (λ (x : TheKept). x.stamp) (found_for certs.now.entries cert.now)) }
 {
     let fpr = cert.fpr();
     match find(certs, &fpr) {
@@ -259,9 +264,11 @@ fn take_step<F: Fn(Ask) -> bool>(
     policy: &mut Policy<F>,
 ) -> Result<Staged, Fault>
     requires faithful { IsFaithful F.Fn policy.old }
-    ensures step { IfOk result (λ step. IsStepOf (rows_of policy.old) terms.now.stamp terms.now.limit certs.now.entries cert.now step) }
+    ensures step { IfOk result
+        (IsStepOf (rows_of policy.old) terms.now.stamp terms.now.limit certs.now.entries cert.now) }
     ensures clash { TellsClash result (clash_at (found_for certs.now.entries cert.now) cert.now) }
-    ensures asked { AsksToBecome result policy.old policy.new (sound_found certs.now.entries cert.now) (λ step. step.kept.cert) }
+    ensures asked { AsksToBecome result policy.old policy.new (sound_found certs.now.entries cert.now)
+        (λ step. step.kept.cert) }
     ensures faithful { IsFaithful F.Fn policy.new }
 {
     united_with_nothing();
@@ -320,14 +327,16 @@ fn put_one<F: Fn(Ask) -> bool>(
     requires faithful { IsFaithful F.Fn policy.old }
     requires sorted { AreSortedByFpr certs.old.entries }
     requires tallied { IsTally terms.now.limit certs.old.entries tally.old.total }
-    ensures put { OnOk result (certs.new.entries ≡ kept_with (rows_of policy.old) terms.now.stamp certs.old.entries cert.now) }
+    ensures put { OnOk result (certs.new.entries
+        ≡ kept_with (rows_of policy.old) terms.now.stamp certs.old.entries cert.now) }
     ensures sorted { OnOk result (AreSortedByFpr certs.new.entries) }
     ensures log { StillLeadsBack log.old.items certs.old.entries log.new.items certs.new.entries }
     ensures tallied { OnOk result (IsTally terms.now.limit certs.new.entries tally.new.total) }
     ensures fresh { OnOk result (Counts certs.old.entries certs.new.entries tally.old tally.new) }
     ensures clash { TellsClash result (clash_at (found_for certs.old.entries cert.now) cert.now) }
     ensures asked { AsksForOne result policy.old policy.new terms.now.stamp certs.old.entries cert.now }
-    ensures judged { OnOk result (AreJudged (rows_of policy.old) certs.old.entries → AreJudged (rows_of policy.old) certs.new.entries) }
+    ensures judged { OnOk result (AreJudged (rows_of policy.old) certs.old.entries
+        → AreJudged (rows_of policy.old) certs.new.entries) }
     ensures faithful { IsFaithful F.Fn policy.new }
 {
     let step = match take_step(alloc, certs, cert, terms, policy) {
@@ -357,14 +366,16 @@ fn put_next<F: Fn(Ask) -> bool>(
     requires faithful { IsFaithful F.Fn policy.old }
     requires sorted { AreSortedByFpr certs.old.entries }
     requires tallied { IsTally terms.now.limit certs.old.entries tally.old.total }
-    ensures put { OnOk result (certs.new.entries ≡ kept_with (rows_of policy.old) terms.now.stamp certs.old.entries cert.now) }
+    ensures put { OnOk result (certs.new.entries
+        ≡ kept_with (rows_of policy.old) terms.now.stamp certs.old.entries cert.now) }
     ensures sorted { OnOk result (AreSortedByFpr certs.new.entries) }
     ensures log { StillLeadsBack log.old.items certs.old.entries log.new.items certs.new.entries }
     ensures tallied { OnOk result (IsTally terms.now.limit certs.new.entries tally.new.total) }
     ensures fresh { OnOk result (Counts certs.old.entries certs.new.entries tally.old tally.new) }
     ensures clash { TellsClash result (clash_at (found_for certs.old.entries cert.now) cert.now) }
     ensures asked { AsksForOne result policy.old policy.new terms.now.stamp certs.old.entries cert.now }
-    ensures judged { OnOk result (AreJudged (rows_of policy.old) certs.old.entries → AreJudged (rows_of policy.old) certs.new.entries) }
+    ensures judged { OnOk result (AreJudged (rows_of policy.old) certs.old.entries
+        → AreJudged (rows_of policy.old) certs.new.entries) }
     ensures faithful { IsFaithful F.Fn policy.new }
 {
     if is_small_beside(certs, cert) {
@@ -388,14 +399,16 @@ pub(crate) fn put_all<F: Fn(Ask) -> bool>(
     requires faithful { IsFaithful F.Fn policy.old }
     requires sorted { AreSortedByFpr certs.old.entries }
     requires tallied { IsTally terms.now.limit certs.old.entries tally.old.total }
-    ensures put { OnOk result (certs.new.entries ≡ kept_all (rows_of policy.old) terms.now.stamp certs.old.entries list.now) }
+    ensures put { OnOk result (certs.new.entries
+        ≡ kept_all (rows_of policy.old) terms.now.stamp certs.old.entries list.now) }
     ensures sorted { OnOk result (AreSortedByFpr certs.new.entries) }
     ensures log { StillLeadsBack log.old.items certs.old.entries log.new.items certs.new.entries }
     ensures tallied { OnOk result (IsTally terms.now.limit certs.new.entries tally.new.total) }
     ensures fresh { OnOk result (Counts certs.old.entries certs.new.entries tally.old tally.new) }
     ensures clash { TellsClash result (clash_in (rows_of policy.old) terms.now.stamp certs.old.entries list.now) }
     ensures asked { AsksForAll result policy.old policy.new terms.now.stamp certs.old.entries list.now }
-    ensures judged { OnOk result (AreJudged (rows_of policy.old) certs.old.entries → AreJudged (rows_of policy.old) certs.new.entries) }
+    ensures judged { OnOk result (AreJudged (rows_of policy.old) certs.old.entries
+        → AreJudged (rows_of policy.old) certs.new.entries) }
     ensures faithful { IsFaithful F.Fn policy.new }
 {
     united_grows();

@@ -11,7 +11,8 @@ abbrev pub LacksAll : List ℕ → List ℕ → Type 0
 LacksAll octets text = AllByRecursion (λ x. AllByRecursion (λ octet. octet ≢ x) text) octets
 
 -- It is read of its text, which has none of these octets, and no more than so many.
-pub record IsPrinted {A : Type 0} (read : List ℕ → Option A) (apart : List ℕ) (most : ℕ) (text : List ℕ) (item : A) : Type 0 where
+pub record IsPrinted {A : Type 0} (read : List ℕ → Option A) (apart : List ℕ) (most : ℕ) (text : List ℕ) (item : A)
+    : Type 0 where
   pub back : read text ≡ Some item
   pub free : LacksAll apart text
   pub size : length text ≤ most

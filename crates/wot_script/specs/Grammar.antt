@@ -15,11 +15,14 @@ use Rattle.wot_script.specs.Fields.{◌>>=◌, behind, cut, octets_of_hex}
 use Rattle.wot_script.specs.Uid.{unescaped}
 use Rattle.wot_script.specs.declared.command.Command.{Command}
 use Rattle.wot_script.specs.declared.read.About.{About}
-use Rattle.wot_script.specs.declared.read.About.TheVariants.{Setting, Asked, Listed, Explained, Missed, Checked, Paced, Watched}
+use Rattle.wot_script.specs.declared.read.About.TheVariants.{Setting, Asked, Listed, Explained, Missed, Checked}
+use Rattle.wot_script.specs.declared.read.About.TheVariants.{Paced, Watched}
 use Rattle.wot_script.specs.declared.read.Question.{Question}
 use Rattle.wot_script.specs.declared.command.Command.TheVariants.{Import, Load, Store, Remove, Good, Bad, Unjudge, Time}
-use Rattle.wot_script.specs.declared.command.Command.TheVariants.{Root, Close, Ask, Explain, Pending, Keys, Export, Dump, Absence, Check}
-use Rattle.wot_script.specs.declared.command.Command.TheVariants.{CursorOver, CursorNext, CursorClose, WatchOn, WatchOff}
+use Rattle.wot_script.specs.declared.command.Command.TheVariants.{Root, Close, Ask, Explain, Pending, Keys}
+use Rattle.wot_script.specs.declared.command.Command.TheVariants.{Export, Dump, Absence, Check}
+use Rattle.wot_script.specs.declared.command.Command.TheVariants.{CursorOver, CursorNext, CursorClose}
+use Rattle.wot_script.specs.declared.command.Command.TheVariants.{WatchOn, WatchOff}
 
 -- A text with this prefix is read so, and another text otherwise.
 abbrev pub read_behind : Option (List ℕ) → (List ℕ → Option Command) → Option Command → Option Command
@@ -135,7 +138,8 @@ over_of cursor text = do
 unfoldable pub paced_of : List ℕ → List ℕ → Option Command
 paced_of cursor text =
     read_behind (behind (codes "over ") text) (over_of cursor) (
-    read_behind (behind (codes "next ") text) (λ digits. option_map (CursorNext cursor) (positive_up_to 4294967295 digits)) (
+    read_behind (behind (codes "next ") text)
+    (λ digits. option_map (CursorNext cursor) (positive_up_to 4294967295 digits)) (
     if bytes_eq text (codes "close") then Some (CursorClose cursor) else None))
 
 -- behind `watch W on `: V and a question

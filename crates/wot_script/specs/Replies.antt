@@ -20,22 +20,28 @@ use Rattle.wot_script.specs.declared.reply.Hint.{Hint}
 use Rattle.wot_script.specs.declared.reply.Hint.TheVariants.{Full as Fingerprint, Short, Nothing}
 use Rattle.wot_script.specs.declared.reply.KeyLine.{KeyLine}
 use Rattle.wot_script.specs.declared.reply.Reply.{Reply}
-use Rattle.wot_script.specs.declared.reply.Reply.TheVariants.{Taken, Stored, Done, Amount, Explained, Pending, Keys, Export, Dump, Long, Line, View, Shelf}
-use Rattle.wot_script.specs.declared.reply.Reply.TheVariants.{Packet, Compressed, Secret, Kind, Order, Empty, Misfiled, Clash, Absent, Full}
-use Rattle.wot_script.specs.declared.reply.Reply.TheVariants.{Reached, Missed, CheckedYes, CheckedNoPaths, CheckedNoTable, Piece, StaleKeyring, StaleView}
-use Rattle.wot_script.specs.declared.reply.Reply.TheVariants.{NoCursor, FullCursors, WatchAmount, WatchGone, NoWatch, FullWatches}
+use Rattle.wot_script.specs.declared.reply.Reply.TheVariants.{Taken, Stored, Done, Amount, Explained, Pending}
+use Rattle.wot_script.specs.declared.reply.Reply.TheVariants.{Keys, Export, Dump, Long, Line, View, Shelf}
+use Rattle.wot_script.specs.declared.reply.Reply.TheVariants.{Packet, Compressed, Secret, Kind, Order, Empty}
+use Rattle.wot_script.specs.declared.reply.Reply.TheVariants.{Misfiled, Clash, Absent, Full}
+use Rattle.wot_script.specs.declared.reply.Reply.TheVariants.{Reached, Missed, CheckedYes, CheckedNoPaths}
+use Rattle.wot_script.specs.declared.reply.Reply.TheVariants.{CheckedNoTable, Piece, StaleKeyring, StaleView}
+use Rattle.wot_script.specs.declared.reply.Reply.TheVariants.{NoCursor, FullCursors, WatchAmount, WatchGone}
+use Rattle.wot_script.specs.declared.reply.Reply.TheVariants.{NoWatch, FullWatches}
 
 -- `path AMOUNT steps L root FPR`, or `step ISSUER TARGET DEPTH AMOUNT UID`
 abbrev pub answer_line : AnswerLine → List ℕ
 answer_line (Path amount steps root) =
-    joined_line (codes "path " ∷ decimal amount ∷ codes " steps " ∷ decimal steps ∷ codes " root " ∷ digits_of root ∷ [])
+    joined_line (codes "path " ∷ decimal amount ∷ codes " steps " ∷ decimal steps ∷ codes " root "
+    ∷ digits_of root ∷ [])
 answer_line (Step issuer target depth amount uid) =
     joined_line (codes "step " ∷ digits_of issuer ∷ codes " " ∷ digits_of target ∷ codes " " ∷ decimal depth ∷ codes " "
     ∷ decimal amount ∷ codes " " ∷ escaped uid ∷ [])
 
 -- `bind SUM FPR UID`
 abbrev pub bind_line : BindLine → List ℕ
-bind_line line = joined_line (codes "bind " ∷ decimal line.0 ∷ codes " " ∷ digits_of line.1 ∷ codes " " ∷ escaped line.2 ∷ [])
+bind_line line =
+    joined_line (codes "bind " ∷ decimal line.0 ∷ codes " " ∷ digits_of line.1 ∷ codes " " ∷ escaped line.2 ∷ [])
 
 -- `cert NUM WORD`, or `cert NUM edge ISSUER DEPTH AMOUNT`
 abbrev pub reason_line : ReasonLine → List ℕ
@@ -58,7 +64,8 @@ pending_line line =
 
 -- `key FPR U S`
 abbrev pub key_line : KeyLine → List ℕ
-key_line line = joined_line (codes "key " ∷ digits_of line.0 ∷ codes " " ∷ decimal line.1 ∷ codes " " ∷ decimal line.2 ∷ [])
+key_line line =
+    joined_line (codes "key " ∷ digits_of line.0 ∷ codes " " ∷ decimal line.1 ∷ codes " " ∷ decimal line.2 ∷ [])
 
 -- a refusal
 abbrev pub refused : List (List ℕ) → List ℕ
@@ -71,14 +78,16 @@ stale word was now = joined_line (codes "stale " ∷ word ∷ decimal was ∷ co
 -- the octets of a reply, with its line feeds
 unfoldable pub reply_text : Reply → List ℕ
 reply_text (Taken taken skipped new) =
-    joined_line (codes "ok taken " ∷ decimal taken ∷ codes " skipped " ∷ decimal skipped ∷ codes " new " ∷ decimal new ∷ [])
+    joined_line (codes "ok taken " ∷ decimal taken ∷ codes " skipped " ∷ decimal skipped ∷ codes " new "
+    ∷ decimal new ∷ [])
 reply_text (Stored octets) = joined_line (codes "ok stored " ∷ decimal octets ∷ [])
 reply_text Done = joined_line (codes "ok" ∷ [])
 reply_text (Amount sum paths lines) =
     joined_line (codes "amount " ∷ decimal sum ∷ codes " paths " ∷ decimal paths ∷ []) ++ flat_map answer_line lines
 reply_text (Reply.List count lines) = joined_line (codes "list " ∷ decimal count ∷ []) ++ flat_map bind_line lines
 reply_text (Explained word count lines) =
-    joined_line (codes "explain " ∷ word_at target_words word ∷ codes " " ∷ decimal count ∷ []) ++ flat_map reason_line lines
+    joined_line (codes "explain " ∷ word_at target_words word ∷ codes " " ∷ decimal count ∷ [])
+    ++ flat_map reason_line lines
 reply_text (Pending count lines) = joined_line (codes "pending " ∷ decimal count ∷ []) ++ flat_map pending_line lines
 reply_text (Keys count lines) = joined_line (codes "keys " ∷ decimal count ∷ []) ++ flat_map key_line lines
 reply_text (Export octets) = joined_line (codes "export " ∷ encode_lower octets ∷ [])

@@ -1,5 +1,5 @@
 -- How a command is printed.
-use Rattle.std.specs.Prelude.{ℕ, ◌≢◌, ◌<◌, ◌≤◌, ◌+◌, ◌*◌, List, [], ◌∷◌, length, codes}
+use Rattle.std.specs.Prelude.{ℕ, ◌≡◌, ◌≢◌, ◌<◌, ◌≤◌, ◌+◌, ◌*◌, List, [], ◌∷◌, length, Some, codes}
 use Rattle.std.specs.List.{AllByRecursion}
 use Rattle.std.specs.Fmt.{decimal}
 use Rattle.hex.specs.Hex.{encode_lower}
@@ -9,15 +9,19 @@ use Rattle.wot_types.specs.declared.fpr.Fpr.{Fpr}
 use Rattle.wot_types.specs.declared.name.Name.{Name}
 use Rattle.wot_types.specs.declared.name.Name.TheVariants.{Cert, TrustRoot}
 use Rattle.wot_script.specs.Claims.{IsClaimSpelled, claim_text, field_text, label_text, most_paths}
+use Rattle.wot_script.specs.Grammar.{question_of}
 use Rattle.wot_script.specs.Texts.{joined}
 use Rattle.wot_script.specs.Uid.{escaped}
 use Rattle.wot_script.specs.declared.command.Command.{Command}
+use Rattle.wot_script.specs.declared.read.Question.{Question}
 use Rattle.wot_script.specs.declared.command.Command.TheVariants.{Import, Load, Store, Remove, Good, Bad, Unjudge, Time}
-use Rattle.wot_script.specs.declared.command.Command.TheVariants.{Root, Close, Ask, Explain, Pending, Keys, Export, Dump, Absence, Check}
-use Rattle.wot_script.specs.declared.command.Command.TheVariants.{CursorOver, CursorNext, CursorClose, WatchOn, WatchOff}
+use Rattle.wot_script.specs.declared.command.Command.TheVariants.{Root, Close, Ask, Explain, Pending, Keys}
+use Rattle.wot_script.specs.declared.command.Command.TheVariants.{Export, Dump, Absence, Check}
+use Rattle.wot_script.specs.declared.command.Command.TheVariants.{CursorOver, CursorNext, CursorClose}
+use Rattle.wot_script.specs.declared.command.Command.TheVariants.{WatchOn, WatchOff}
 
--- What wants a number has a spelling where it wants at least 1, so a piece where it has room for one, and a claim where its
--- paths and its table have one; every other command has one.
+-- What wants a number has a spelling where it wants at least 1, so a piece where it has room for one, and a claim where
+-- its paths and its table have one; every other command has one.
 abbrev pub HasSpelling : Command → Type 0
 HasSpelling (Ask view fpr wanted uid) = 1 ≤ wanted
 HasSpelling (Command.List view wanted) = 1 ≤ wanted
@@ -42,6 +46,10 @@ entry_text TrustRoot = codes "trust-root"
 -- FPR N UID
 abbrev pub question_parts : Fpr → ℕ → List ℕ → List (List ℕ)
 question_parts fpr wanted uid = digits_of fpr ∷ codes " " ∷ decimal wanted ∷ codes " " ∷ escaped uid ∷ []
+
+-- What is printed of a question is read as it.
+abbrev pub IsQuestionRead : Question → Type 0
+IsQuestionRead q = question_of (joined (question_parts q.fpr q.wanted q.uid)) ≡ Some q
 
 -- a question from a view, behind a word
 abbrev pub asking : List ℕ → List ℕ → Fpr → ℕ → List ℕ → List ℕ

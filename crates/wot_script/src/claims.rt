@@ -2,7 +2,8 @@ ghost use Rattle.std.specs.Prelude.{◌≡◌, ◌++◌, ◌∷◌, ℕ, List, O
 ghost use Rattle.std.specs.List.{flat_map};
 ghost use Rattle.std.specs.Option.{option_map};
 ghost use Rattle.wot_script.specs.Appends.{Appends};
-ghost use Rattle.wot_script.specs.Claims.{claim_of, claim_parts, claim_text, claims_of, field_of, field_text, is_rising};
+ghost use Rattle.wot_script.specs.Claims.{claim_of, claim_parts, claim_text, claims_of};
+ghost use Rattle.wot_script.specs.Claims.{field_of, field_text, is_rising};
 ghost use Rattle.wot_script.specs.Claims.{items_of, items_text, label_of, label_text, labels_of, step_of, step_text};
 ghost use Rattle.wot_script.specs.Pieces.{pieces_text};
 
@@ -289,7 +290,8 @@ pub fn put_claimed(
     tail: &[Piece<'_>],
     out: &mut Vec<u8>,
 ) -> Result<(), Memory>
-    ensures { Appends (pieces_text head.now ++ claim_parts claims.now labels.now (pieces_text tail.now)) out.old out.new result }
+    ensures { Appends (pieces_text head.now ++ claim_parts claims.now labels.now (pieces_text tail.now))
+        out.old out.new result }
 {
     let start = out.len();
     put_pieces(head, out)?;

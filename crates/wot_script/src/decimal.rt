@@ -1,14 +1,11 @@
-ghost use Rattle.std.specs.Prelude.{◌≡◌, ◌≤◌, ◌&&◌, nat_le, if◌then◌else◌, IfSome};
-ghost use Rattle.std.specs.Str.{all_ascii_digits};
-ghost use Rattle.std.specs.Str.Parse.{digits_value_after};
-ghost use Rattle.wot_script.specs.Decimal.{decimal_up_to, positive_up_to};
+ghost use Rattle.std.specs.Prelude.{◌≡◌, ◌≤◌, IfSome};
+ghost use Rattle.wot_script.specs.Decimal.{decimal_up_to, digits_up_to, positive_up_to};
 
 /// The number that digits spell behind those of `value`, of at most `most`. Each turn makes the
 /// number ten times as large, unless it is 0, so the recursion ends early on a long text.
 fn read_digits(most: u32, value: u32, digits: &[u8]) -> Option<u32>
     requires { value ≤ most }
-    ensures read { result ≡ (if all_ascii_digits digits.now && nat_le (digits_value_after 10 value digits.now) most
-        then Some (digits_value_after 10 value digits.now) else None) }
+    ensures read { result ≡ digits_up_to most value digits.now }
     ensures small { IfSome result (λ number. number ≤ most) }
 {
     match digits {

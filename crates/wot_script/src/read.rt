@@ -3,9 +3,10 @@ ghost use Rattle.std.specs.Option.{option_map};
 ghost use Rattle.wot_types.specs.Fpr.{fpr_of_digits};
 ghost use Rattle.wot_script.specs.Fields.{octets_of_hex};
 ghost use Rattle.wot_script.specs.Decimal.{decimal_up_to, positive_up_to};
-ghost use Rattle.wot_script.specs.Grammar.{about_of, asked_of, checked_of, command_of, drop_of, entry_of, explained_of, export_of};
-ghost use Rattle.wot_script.specs.Grammar.{import_of, judgement_of, listed_of, load_of, missed_of, over_of, paced_of, question_of};
-ghost use Rattle.wot_script.specs.Grammar.{root_of, setting_of, single_of, store_of, verdict_of, view_of, watch_of, watched_of};
+ghost use Rattle.wot_script.specs.Grammar.{about_of, asked_of, checked_of, command_of, drop_of, entry_of};
+ghost use Rattle.wot_script.specs.Grammar.{explained_of, export_of, import_of, judgement_of, listed_of, load_of};
+ghost use Rattle.wot_script.specs.Grammar.{missed_of, over_of, paced_of, question_of, root_of, setting_of};
+ghost use Rattle.wot_script.specs.Grammar.{single_of, store_of, verdict_of, view_of, watch_of, watched_of};
 ghost use Rattle.wot_script.specs.Spelling.{HasSpelling, IsWithin};
 
 use crate::claims::{read_claims, read_labels};

@@ -1,18 +1,18 @@
-ghost use Rattle.std.specs.Prelude.{◌≡◌, ◌≢◌, ◌≤◌, ◌<◌, ◌^◌, length};
+ghost use Rattle.std.specs.Prelude.{◌≡◌, ◌≢◌, ◌≤◌, ◌<◌, ◌^◌, true, length};
 ghost use Rattle.std.specs.Fmt.{decimal};
 ghost use Rattle.std.specs.List.{AllByRecursion};
 ghost use Rattle.hex.specs.Hex.{encode_lower};
 ghost use Rattle.wot_types.specs.Fpr.{digits_of, fpr_of_digits};
+ghost use Rattle.wot_types.specs.ViewName.{is_view_name};
 ghost use Rattle.wot_script.specs.Decimal.{decimal_up_to, positive_up_to};
 ghost use Rattle.wot_script.specs.Fields.{octets_of_hex};
-ghost use Rattle.wot_script.specs.Grammar.{command_of, entry_of, question_of};
-ghost use Rattle.wot_script.specs.Spelling.{HasSpelling, IsLineFor, entry_text, question_parts, spelling};
-ghost use Rattle.wot_script.specs.Texts.{joined};
+ghost use Rattle.wot_script.specs.Grammar.{command_of, entry_of};
+ghost use Rattle.wot_script.specs.Spelling.{HasSpelling, IsLineFor, IsQuestionRead, entry_text, spelling};
 ghost use Rattle.wot_script.specs.Uid.{escaped, unescaped};
 
 use crate::Command;
 use crate::claimed::{claims_are_read, labels_are_read};
-use wot_types::{Fpr, Name, UserId};
+use wot_types::{Fpr, Name, UserId, ViewName};
 
 /// A law: the digits of octets spell these octets.
 fn hex_is_read(octets: &[u8])
@@ -54,13 +54,32 @@ fn entry_is_read(name: &Name)
     }
 }
 
-/// A law: a question that is printed is read as that question.
-fn question_is_read(fpr: &Fpr, wanted: u32, uid: &UserId)
+/// A law: what names a view, a cursor or a watch is spelled as such a name.
+fn name_is_valid(name: &ViewName)
+    ensures { is_view_name name.now ≡ true }
+{
+    let _octets = name.octets();
+}
+
+/// A law: a name, and a number that isn't 0 behind it, are read as these.
+fn wanted_is_read(name: &ViewName, wanted: u32)
     requires { 1 ≤ wanted }
-    ensures read { question_of (joined (question_parts fpr.now wanted uid.now))
-        ≡ Some (record { fpr = fpr.now; wanted = wanted; uid = uid.now }) }
+    ensures name { is_view_name name.now ≡ true }
+    ensures read { positive_up_to 4294967295 (decimal wanted) ≡ Some wanted }
+    ensures small { wanted < 2 ^ 64 }
+{
+    name_is_valid(name);
+    positive_is_read(u32::MAX, wanted);
+}
+
+/// A law: a question that is printed behind the name of a view is read as that question.
+fn question_is_read(view: &ViewName, fpr: &Fpr, wanted: u32, uid: &UserId)
+    requires { 1 ≤ wanted }
+    ensures name { is_view_name view.now ≡ true }
+    ensures read { IsQuestionRead (record { fpr = fpr.now; wanted = wanted; uid = uid.now }) }
     ensures digits { fpr_of_digits (digits_of fpr.now) ≡ Some fpr.now }
 {
+    name_is_valid(view);
     fpr.printed_is_read();
     positive_is_read(u32::MAX, wanted);
     uid_is_read(uid.octets());
@@ -93,26 +112,15 @@ pub fn spelling_is_read(command: &Command)
             fpr.printed_is_read();
             decimal_is_read(255, u32::from(*amount));
         }
-        Command::Close(view) => {
-            let _name = view.octets();
-        }
-        Command::Ask(view, fpr, wanted, uid) => {
-            let _name = view.octets();
-            question_is_read(fpr, *wanted, uid);
-        }
-        Command::List(view, wanted) => {
-            let _name = view.octets();
-            positive_is_read(u32::MAX, *wanted);
-        }
+        Command::Close(view) => name_is_valid(view),
+        Command::Ask(view, fpr, wanted, uid) => question_is_read(view, fpr, *wanted, uid),
+        Command::List(view, wanted) => wanted_is_read(view, *wanted),
         Command::Explain(view, fpr, uid) => {
             let _name = view.octets();
             fpr.printed_is_read();
             uid_is_read(uid.octets());
         }
-        Command::Absence(view, fpr, wanted, uid) => {
-            let _name = view.octets();
-            question_is_read(fpr, *wanted, uid);
-        }
+        Command::Absence(view, fpr, wanted, uid) => question_is_read(view, fpr, *wanted, uid),
         Command::Check(view, fpr, claims, labels, uid) => {
             let _name = view.octets();
             fpr.printed_is_read();
@@ -129,20 +137,12 @@ pub fn spelling_is_read(command: &Command)
             let _name = view.octets();
             positive_is_read(u32::MAX, *wanted);
         }
-        Command::CursorNext(cursor, count) => {
-            let _cursor = cursor.octets();
-            positive_is_read(u32::MAX, *count);
-        }
-        Command::CursorClose(cursor) => {
-            let _cursor = cursor.octets();
-        }
+        Command::CursorNext(cursor, count) => wanted_is_read(cursor, *count),
+        Command::CursorClose(cursor) => name_is_valid(cursor),
         Command::WatchOn(watch, view, fpr, wanted, uid) => {
             let _watch = watch.octets();
-            let _name = view.octets();
-            question_is_read(fpr, *wanted, uid);
+            question_is_read(view, fpr, *wanted, uid);
         }
-        Command::WatchOff(watch) => {
-            let _watch = watch.octets();
-        }
+        Command::WatchOff(watch) => name_is_valid(watch),
     }
 }

@@ -1,7 +1,9 @@
-ghost use Rattle.std.specs.Prelude.{◌≡◌, ◌<◌, ◌≤◌, ◌+◌, ◌∷◌, [], ◌++◌, codes, OnOk, OnErr, IsOk, length, vec_len, vec_capacity, true};
+ghost use Rattle.std.specs.Prelude.{◌≡◌, ◌<◌, ◌≤◌, ◌+◌, ◌∷◌, [], ◌++◌, codes, length, vec_len, vec_capacity, true};
+ghost use Rattle.std.specs.Prelude.{OnOk, OnErr, IsOk};
 ghost use Rattle.std.specs.Fmt.{decimal};
 ghost use Rattle.wot_script.specs.Appends.{Appends};
 ghost use Rattle.wot_script.specs.Replies.{HasWords, is_refusal, is_short, refused, reply_text, stale};
+ghost use Rattle.wot_script.specs.Texts.{joined_line};
 
 use crate::claims::put_claimed;
 use crate::lines::put_headed;
@@ -90,6 +92,14 @@ fn put_piece(count: u64, lines: &BindLines, out: &mut Vec<u8>) -> Result<(), Mem
 {
     use Piece::{Decimal, Text};
     put_headed(&[Text(b"piece "), Decimal(count), Text(b"\n")], lines, out)
+}
+
+/// Appends a line of words and a number.
+fn put_number(words: &[u8], number: u64, out: &mut Vec<u8>) -> Result<(), Memory>
+    ensures { Appends (joined_line (words.now ∷ decimal number ∷ [])) out.old out.new result }
+{
+    use Piece::{Decimal, Text};
+    put_pieces(&[Text(words), Decimal(number), Text(b"\n")], out)
 }
 
 fn put_stale(word: &[u8], was: u64, now: u64, out: &mut Vec<u8>) -> Result<(), Memory>
@@ -216,9 +226,7 @@ fn put_reply(reply: &Reply, out: &mut Vec<u8>) -> Result<(), Memory>
                 out,
             )
         }
-        Reply::Stored(octets) => {
-            put_pieces(&[Text(b"ok stored "), Decimal(*octets), Text(b"\n")], out)
-        }
+        Reply::Stored(octets) => put_number(b"ok stored ", *octets, out),
         Reply::Done => put_pieces(&[Text(b"ok\n")], out),
         Reply::Amount(sum, paths, lines) => put_amount(*sum, *paths, lines, out),
         Reply::List(count, lines) => put_list(*count, lines, out),
@@ -240,15 +248,9 @@ fn put_reply(reply: &Reply, out: &mut Vec<u8>) -> Result<(), Memory>
                 out,
             )
         }
-        Reply::Reached(sum) => {
-            let sum = Decimal(u64::from(*sum));
-            put_pieces(&[Text(b"absence reached "), sum, Text(b"\n")], out)
-        }
+        Reply::Reached(sum) => put_number(b"absence reached ", u64::from(*sum), out),
         Reply::Missed(sum, claims, labels) => put_missed(*sum, claims, labels, out),
-        Reply::CheckedYes(sum) => {
-            let sum = Decimal(u64::from(*sum));
-            put_pieces(&[Text(b"checked yes "), sum, Text(b"\n")], out)
-        }
+        Reply::CheckedYes(sum) => put_number(b"checked yes ", u64::from(*sum), out),
         Reply::CheckedNoPaths => put_pieces(&[Text(b"checked no paths\n")], out),
         Reply::CheckedNoTable => put_pieces(&[Text(b"checked no table\n")], out),
         Reply::Shelf => put_pieces(&[Text(b"fault shelf\n")], out),
@@ -257,7 +259,10 @@ fn put_reply(reply: &Reply, out: &mut Vec<u8>) -> Result<(), Memory>
         Reply::StaleView(was, now) => put_stale(b"view ", *was, *now, out),
         Reply::WatchAmount(watch, sum) => put_watch_amount(watch, *sum, out),
         Reply::WatchGone(watch) => {
-            put_pieces(&[Text(b"watch "), Text(watch.octets()), Text(b" gone\n")], out)
+            put_pieces(
+                &[Text(b"watch "), Text(watch.octets()), Text(b" gone\n")],
+                out,
+            )
         }
         _ => put_refusal(reply, out),
     }

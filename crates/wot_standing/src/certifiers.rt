@@ -10,8 +10,8 @@ ghost use Rattle.wot_standing.specs.Certifiers.{kept_for, number_for};
 ghost use Rattle.wot_standing.specs.Valid.{newest_valid};
 ghost use Rattle.wot_standing.specs.Certifiers.{KeepsLatest, KeepsNewest, KeepsNumber, TakesLatest, TakesNewest};
 
-use crate::kinds::{Binding, made};
-use crate::latest::{later, revokes};
+use crate::kinds::{Binding, made, revokes};
+use crate::latest::later;
 use crate::newest::{compare_newness, is_valid_after};
 use std::alloc::Global;
 use std::cmp::Ordering;

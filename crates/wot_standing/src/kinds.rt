@@ -1,8 +1,10 @@
+//! What one signature is: its kind, when it was made, whether it is live, by whom it counts.
 ghost use Rattle.std.specs.Prelude.{◌≡◌, ◌==◌, ℕ, Bool, nat_le, ◌&&◌};
 ghost use Rattle.wot_cert.specs.Issuer.{counts_by};
-ghost use Rattle.wot_cert.specs.Revoked.{has_kind as has_kind_spec, is_revocable as is_revocable_spec};
+ghost use Rattle.wot_cert.specs.Revoked.{has_kind as has_kind_spec, is_revocable as is_revocable_spec, revokes_by};
 ghost use Rattle.wot_cert.specs.Time.{made_of, facts_live, is_live as is_live_spec};
-ghost use Rattle.wot_standing.specs.Kinds.{is_binding as is_binding_spec, is_soft as is_soft_spec};
+ghost use Rattle.wot_standing.specs.Kinds.{is_binding as is_binding_spec, is_certification as is_certification_spec};
+ghost use Rattle.wot_standing.specs.Kinds.{is_soft as is_soft_spec};
 ghost use Rattle.wot_standing.specs.Kinds.{is_soft_reason as is_soft_reason_spec, is_primary as is_primary_spec};
 
 use std::cmp::Ordering;
@@ -16,7 +18,7 @@ const DIRECT_KEY: u8 = 0x1f;
 
 pub(crate) const KEY_REVOCATION: u8 = 0x20;
 
-pub(crate) const CERTIFICATION_REVOCATION: u8 = 0x30;
+const CERTIFICATION_REVOCATION: u8 = 0x30;
 
 /// By which signature a key binds: to itself, or to a user ID.
 #[derive(Clone, Copy, Debug, PartialEq, Eq)]
@@ -34,15 +36,22 @@ pub(crate) fn has_kind(sig: &Sig, kind: u8) -> bool
     }
 }
 
+/// Whether it is a certification, of any of its four kinds.
+pub fn is_certification(sig: &Sig) -> bool
+    ensures { result ≡ is_certification_spec sig.now }
+{
+    match sig.facts() {
+        Some(facts) => 0x10 <= facts.kind && facts.kind <= 0x13,
+        None => false,
+    }
+}
+
 pub(crate) fn is_binding(sig: &Sig, binding: Binding) -> bool
     ensures { result ≡ is_binding_spec binding sig.now }
 {
     match binding {
         Binding::DirectKey => has_kind(sig, DIRECT_KEY),
-        Binding::Certification => match sig.facts() {
-            Some(facts) => 0x10 <= facts.kind && facts.kind <= 0x13,
-            None => false,
-        },
+        Binding::Certification => is_certification(sig),
     }
 }
 
@@ -73,7 +82,8 @@ pub(crate) fn is_primary(sig: &Sig) -> bool
     }
 }
 
-pub(crate) fn is_revocable(sig: &Sig) -> bool
+/// Whether it may be revoked.
+pub fn is_revocable(sig: &Sig) -> bool
     ensures { result ≡ is_revocable_spec sig.now }
 {
     match sig.facts() {
@@ -82,7 +92,8 @@ pub(crate) fn is_revocable(sig: &Sig) -> bool
     }
 }
 
-pub(crate) fn made(sig: &Sig) -> u32
+/// When it was made, in seconds since 1970; 0 where it isn't readable.
+pub fn made(sig: &Sig) -> u32
     ensures { result ≡ made_of sig.now }
 {
     match sig.facts() {
@@ -97,7 +108,8 @@ fn facts_are_live(facts: SigFacts, t: u32) -> bool
     facts.made <= t && (facts.lasts == 0 || (t as u64) < facts.made as u64 + facts.lasts as u64)
 }
 
-pub(crate) fn is_live(sig: &Sig, t: u32) -> bool
+/// Whether it is live at `t`.
+pub fn is_live(sig: &Sig, t: u32) -> bool
     ensures { result ≡ is_live_spec t sig.now }
 {
     match sig.facts() {
@@ -114,4 +126,11 @@ pub(crate) fn counts(sig: &Sig, verdicts: &Verdicts, fpr: &Fpr) -> bool
         Some(issuer) => compare_fprs(fpr, &issuer) == Ordering::Equal,
         None => false,
     }
+}
+
+/// Whether it is a live revocation of certifications by this one.
+pub fn revokes(sig: &Sig, verdicts: &Verdicts, fpr: &Fpr, t: u32) -> bool
+    ensures { result ≡ revokes_by verdicts.now fpr.now t sig.now }
+{
+    has_kind(sig, CERTIFICATION_REVOCATION) && counts(sig, verdicts, fpr) && is_live(sig, t)
 }

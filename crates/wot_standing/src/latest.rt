@@ -1,18 +1,11 @@
 ghost use Rattle.std.specs.Prelude.{◌≡◌, max};
 ghost use Rattle.std.specs.Option.{option_map_or};
-ghost use Rattle.wot_cert.specs.Revoked.{revokes_by};
 ghost use Rattle.wot_standing.specs.Latest.{revoked_at, outlives as outlives_spec};
 
-use crate::kinds::{CERTIFICATION_REVOCATION, counts, has_kind, is_live, made};
+use crate::kinds::{made, revokes};
 use wot_cert::Sig;
 use wot_types::Fpr;
 use wot_verdict::Verdicts;
-
-pub(crate) fn revokes(sig: &Sig, verdicts: &Verdicts, fpr: &Fpr, t: u32) -> bool
-    ensures { result ≡ revokes_by verdicts.now fpr.now t sig.now }
-{
-    has_kind(sig, CERTIFICATION_REVOCATION) && counts(sig, verdicts, fpr) && is_live(sig, t)
-}
 
 /// When the latest live revocation by this one at a place was made.
 pub(crate) fn latest_revocation(sigs: &[Sig], verdicts: &Verdicts, fpr: &Fpr, t: u32) -> Option<u32>

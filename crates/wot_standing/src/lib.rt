@@ -3,7 +3,7 @@
 
 mod certifiers;
 mod governing;
-mod kinds;
+pub mod kinds;
 mod latest;
 pub mod laws;
 mod newest;

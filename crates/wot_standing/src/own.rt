@@ -3,8 +3,7 @@ ghost use Rattle.std.specs.List.{list_any};
 ghost use Rattle.wot_cert.specs.Revoked.{revokes_by};
 ghost use Rattle.wot_standing.specs.Own.{is_own_revoked as is_own_revoked_spec};
 
-use crate::kinds::Binding;
-use crate::latest::revokes;
+use crate::kinds::{Binding, revokes};
 use crate::newest::newest_valid;
 use wot_cert::{Part, Sig};
 use wot_types::Fpr;

@@ -1,8 +1,7 @@
-use Rattle.std.proofs.Common.{◌≡◌, subst, sym, ap, ◌∙◌, true, false}
+use Rattle.std.proofs.Common.{subst, sym, ap, ◌∙◌}
 use Rattle.std.specs.Prelude.{IfOk}
-use Rattle.std.specs.Option.{MatchOption}
-use Rattle.wot_key.specs.Key.{is_readable}
 use Rattle.wot_packet.specs.Spelling.{spelled_all}
+use Rattle.wot_cert.specs.Answers.{IsWhereReadable}
 use Rattle.wot_cert.specs.Certificate.{Certificate}
 use Rattle.wot_cert.specs.Drafting.{IsWholeSketch, Sketch, completed}
 use Rattle.wot_cert.proofs.Completing.{sketched-whole, completed-is}
@@ -14,4 +13,4 @@ drafted-requires c = record { whole = subst (λ (s : Sketch). IsWholeSketch s) (
 pub returns : goal.returns
 returns c =
     let e = ap (completed c.args.key.now) c.in_ok-draft.ensures.draft ∙ completed-is c.args.key.now (spelled_all c.args.behind.now) in
-    record { certificate = subst (λ (x : Certificate). IfOk c.drafted.result (λ found. MatchOption found (is_readable c.args.key.now ≡ false) (λ made. (made ≡ x) × (is_readable c.args.key.now ≡ true)))) e c.drafted.ensures.completed }
+    record { certificate = subst (λ (x : Certificate). IfOk c.drafted.result (IsWhereReadable c.args.key.now x)) e c.drafted.ensures.completed }

@@ -80,8 +80,8 @@ returns-in-Root c = rw c.in-Root.is (record {
 pub returns-in-Close : goal.returns-in-Close
 unfolding spelling
 returns-in-Close c = rw c.in-Close.is (record {
-  read = close_reads c.in-Close.view c.octets-name-in-Close.ensures.name;
-  line = close_line c.in-Close.view (name_is c.in-Close.view c.octets-name-in-Close.ensures.name);
+  read = close_reads c.in-Close.view c.name_is_valid.ensures;
+  line = close_line c.in-Close.view (name_is c.in-Close.view c.name_is_valid.ensures);
 })
 
 pub returns-in-Ask : goal.returns-in-Ask
@@ -89,15 +89,15 @@ unfolding spelling
 returns-in-Ask c =
     let q : Question = question c.in-Ask.fpr c.in-Ask.wanted c.in-Ask.uid in
     rw c.in-Ask.is (record {
-      read = ask_reads c.in-Ask.view (joined (question_parts c.in-Ask.fpr c.in-Ask.wanted c.in-Ask.uid)) q c.octets-name-in-Ask.ensures.name c.question_is_read.ensures.read;
-      line = ask_line c.in-Ask.view c.in-Ask.fpr c.in-Ask.wanted c.in-Ask.uid (digits_of c.in-Ask.fpr) (decimal c.in-Ask.wanted) (name_is c.in-Ask.view c.octets-name-in-Ask.ensures.name) (fpr_digits c.in-Ask.fpr c.question_is_read.ensures.digits) (numeral c.in-Ask.wanted (omega arith));
+      read = ask_reads c.in-Ask.view (joined (question_parts c.in-Ask.fpr c.in-Ask.wanted c.in-Ask.uid)) q c.question_is_read.ensures.name c.question_is_read.ensures.read;
+      line = ask_line c.in-Ask.view c.in-Ask.fpr c.in-Ask.wanted c.in-Ask.uid (digits_of c.in-Ask.fpr) (decimal c.in-Ask.wanted) (name_is c.in-Ask.view c.question_is_read.ensures.name) (fpr_digits c.in-Ask.fpr c.question_is_read.ensures.digits) (numeral c.in-Ask.wanted (omega arith));
     })
 
 pub returns-in-List : goal.returns-in-List
 unfolding spelling
 returns-in-List c = rw c.in-List.is (record {
-  read = list_reads c.in-List.view (decimal c.in-List.wanted) c.in-List.wanted c.octets-name-in-List.ensures.name c.positive_is_read.ensures.read;
-  line = list_line c.in-List.view c.in-List.wanted (decimal c.in-List.wanted) (name_is c.in-List.view c.octets-name-in-List.ensures.name) (numeral c.in-List.wanted (omega arith));
+  read = list_reads c.in-List.view (decimal c.in-List.wanted) c.in-List.wanted c.wanted_is_read.ensures.name c.wanted_is_read.ensures.read;
+  line = list_line c.in-List.view c.in-List.wanted (decimal c.in-List.wanted) (name_is c.in-List.view c.wanted_is_read.ensures.name) (numeral c.in-List.wanted (omega arith));
 })
 
 pub returns-in-Explain : goal.returns-in-Explain
@@ -140,8 +140,8 @@ unfolding spelling
 returns-in-Absence c =
     let q : Question = question c.in-Absence.fpr c.in-Absence.wanted c.in-Absence.uid in
     rw c.in-Absence.is (record {
-      read = absence_reads c.in-Absence.view (joined (question_parts c.in-Absence.fpr c.in-Absence.wanted c.in-Absence.uid)) q c.octets-name-in-Absence.ensures.name c.question_is_read-in-Absence.ensures.read;
-      line = absence_line c.in-Absence.view c.in-Absence.fpr c.in-Absence.wanted c.in-Absence.uid (digits_of c.in-Absence.fpr) (decimal c.in-Absence.wanted) (name_is c.in-Absence.view c.octets-name-in-Absence.ensures.name) (fpr_digits c.in-Absence.fpr c.question_is_read-in-Absence.ensures.digits) (numeral c.in-Absence.wanted (omega arith));
+      read = absence_reads c.in-Absence.view (joined (question_parts c.in-Absence.fpr c.in-Absence.wanted c.in-Absence.uid)) q c.question_is_read-in-Absence.ensures.name c.question_is_read-in-Absence.ensures.read;
+      line = absence_line c.in-Absence.view c.in-Absence.fpr c.in-Absence.wanted c.in-Absence.uid (digits_of c.in-Absence.fpr) (decimal c.in-Absence.wanted) (name_is c.in-Absence.view c.question_is_read-in-Absence.ensures.name) (fpr_digits c.in-Absence.fpr c.question_is_read-in-Absence.ensures.digits) (numeral c.in-Absence.wanted (omega arith));
     })
 
 pub returns-in-Check : goal.returns-in-Check
@@ -158,22 +158,22 @@ returns-in-Check c =
 pub returns-in-CursorOver : goal.returns-in-CursorOver
 unfolding spelling
 returns-in-CursorOver c = rw c.in-CursorOver.is (record {
-  read = over_reads c.in-CursorOver.cursor c.in-CursorOver.view (decimal c.in-CursorOver.wanted) c.in-CursorOver.wanted c.octets-cursor.ensures.name c.octets-name-in-CursorOver.ensures.name c.positive_is_read-in-CursorOver.ensures.read;
+  read = over_reads c.in-CursorOver.cursor c.in-CursorOver.view (decimal c.in-CursorOver.wanted) c.in-CursorOver.wanted c.octets-cursor.ensures.name c.octets-name-in-CursorOver.ensures.name c.positive_is_read.ensures.read;
   line = over_line c.in-CursorOver.cursor c.in-CursorOver.view c.in-CursorOver.wanted (decimal c.in-CursorOver.wanted) (name_is c.in-CursorOver.cursor c.octets-cursor.ensures.name) (name_is c.in-CursorOver.view c.octets-name-in-CursorOver.ensures.name) (numeral c.in-CursorOver.wanted (omega arith));
 })
 
 pub returns-in-CursorNext : goal.returns-in-CursorNext
 unfolding spelling
 returns-in-CursorNext c = rw c.in-CursorNext.is (record {
-  read = next_reads c.in-CursorNext.cursor (decimal c.in-CursorNext.count) c.in-CursorNext.count c.octets-cursor-in-CursorNext.ensures.name c.positive_is_read-in-CursorNext.ensures.read;
-  line = next_line c.in-CursorNext.cursor c.in-CursorNext.count (decimal c.in-CursorNext.count) (name_is c.in-CursorNext.cursor c.octets-cursor-in-CursorNext.ensures.name) (numeral c.in-CursorNext.count (omega arith));
+  read = next_reads c.in-CursorNext.cursor (decimal c.in-CursorNext.count) c.in-CursorNext.count c.wanted_is_read-in-CursorNext.ensures.name c.wanted_is_read-in-CursorNext.ensures.read;
+  line = next_line c.in-CursorNext.cursor c.in-CursorNext.count (decimal c.in-CursorNext.count) (name_is c.in-CursorNext.cursor c.wanted_is_read-in-CursorNext.ensures.name) (numeral c.in-CursorNext.count (omega arith));
 })
 
 pub returns-in-CursorClose : goal.returns-in-CursorClose
 unfolding spelling
 returns-in-CursorClose c = rw c.in-CursorClose.is (record {
-  read = end_reads c.in-CursorClose.cursor c.octets-cursor-in-CursorClose.ensures.name;
-  line = end_line c.in-CursorClose.cursor (name_is c.in-CursorClose.cursor c.octets-cursor-in-CursorClose.ensures.name);
+  read = end_reads c.in-CursorClose.cursor c.name_is_valid-in-CursorClose.ensures;
+  line = end_line c.in-CursorClose.cursor (name_is c.in-CursorClose.cursor c.name_is_valid-in-CursorClose.ensures);
 })
 
 pub returns-in-WatchOn : goal.returns-in-WatchOn
@@ -181,13 +181,13 @@ unfolding spelling
 returns-in-WatchOn c =
     let q : Question = question c.in-WatchOn.fpr c.in-WatchOn.wanted c.in-WatchOn.uid in
     rw c.in-WatchOn.is (record {
-      read = on_reads c.in-WatchOn.watch c.in-WatchOn.view (joined (question_parts c.in-WatchOn.fpr c.in-WatchOn.wanted c.in-WatchOn.uid)) q c.octets-watch.ensures.name c.octets-name-in-WatchOn.ensures.name c.question_is_read-in-WatchOn.ensures.read;
-      line = on_line c.in-WatchOn.watch c.in-WatchOn.view c.in-WatchOn.fpr c.in-WatchOn.wanted c.in-WatchOn.uid (digits_of c.in-WatchOn.fpr) (decimal c.in-WatchOn.wanted) (name_is c.in-WatchOn.watch c.octets-watch.ensures.name) (name_is c.in-WatchOn.view c.octets-name-in-WatchOn.ensures.name) (fpr_digits c.in-WatchOn.fpr c.question_is_read-in-WatchOn.ensures.digits) (numeral c.in-WatchOn.wanted (omega arith));
+      read = on_reads c.in-WatchOn.watch c.in-WatchOn.view (joined (question_parts c.in-WatchOn.fpr c.in-WatchOn.wanted c.in-WatchOn.uid)) q c.octets-watch.ensures.name c.question_is_read-in-WatchOn.ensures.name c.question_is_read-in-WatchOn.ensures.read;
+      line = on_line c.in-WatchOn.watch c.in-WatchOn.view c.in-WatchOn.fpr c.in-WatchOn.wanted c.in-WatchOn.uid (digits_of c.in-WatchOn.fpr) (decimal c.in-WatchOn.wanted) (name_is c.in-WatchOn.watch c.octets-watch.ensures.name) (name_is c.in-WatchOn.view c.question_is_read-in-WatchOn.ensures.name) (fpr_digits c.in-WatchOn.fpr c.question_is_read-in-WatchOn.ensures.digits) (numeral c.in-WatchOn.wanted (omega arith));
     })
 
 pub returns-in-WatchOff : goal.returns-in-WatchOff
 unfolding spelling
 returns-in-WatchOff c = rw c.in-WatchOff.is (record {
-  read = off_reads c.in-WatchOff.watch c.octets-watch-in-WatchOff.ensures.name;
-  line = off_line c.in-WatchOff.watch (name_is c.in-WatchOff.watch c.octets-watch-in-WatchOff.ensures.name);
+  read = off_reads c.in-WatchOff.watch c.name_is_valid-in-WatchOff.ensures;
+  line = off_line c.in-WatchOff.watch (name_is c.in-WatchOff.watch c.name_is_valid-in-WatchOff.ensures);
 })
