@@ -75,10 +75,11 @@ pub fn candidate(
     requires { size < 255 }
     ensures { (told : List ℕ → Record) → result ≡ candidate_of (quest_of told quest.now) demand size width edge.now }
 {
-    if !reaches(quest, size, place, edge) {
+    // Few edges meet the demand, and its test looks at the edge alone.
+    if !meets(demand, quest.target, edge) {
         return None;
     }
-    if !meets(demand, quest.target, edge) {
+    if !reaches(quest, size, place, edge) {
         return None;
     }
     let step = step_from(edge);

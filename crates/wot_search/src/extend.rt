@@ -32,21 +32,24 @@ pub fn extend<R: Roads, N: Notes>(
     ensures grows { Widens (N.noted notes.old) (N.noted notes.new) }
     ensures gains { Gains (IsNear (R.told roads.now quest.now.uid.now) at.now) (N.noted notes.old) (N.noted notes.new) }
 {
+    let place = quest.reach.place(at);
+    let start = quest.reach.start(place);
     if size == 0 {
-        return extend_all(roads, quest, size, at, reached, notes);
+        return extend_all(roads, quest, size, at, start, reached, notes);
     }
-    match quest.reach.onward(at) {
-        Some(places) => extend_onward(roads, quest, size, at, places, reached, notes),
-        None => extend_all(roads, quest, size, at, reached, notes),
+    match quest.reach.onward(place, at) {
+        Some(places) => extend_onward(roads, quest, size, at, start, places, reached, notes),
+        None => extend_all(roads, quest, size, at, start, reached, notes),
     }
 }
 
-/// Considers each edge into a fingerprint.
+/// Considers each edge into a fingerprint; their numbers begin here in the table.
 fn extend_all<R: Roads, N: Notes>(
     roads: &R,
     quest: &Quest,
     size: u8,
     at: &Fpr,
+    start: usize,
     reached: &mut Reached,
     notes: &mut N,
 ) -> Result<(), Memory>
@@ -62,7 +65,7 @@ fn extend_all<R: Roads, N: Notes>(
     let edges = roads.rows(at);
     let demand = demand(roads, quest, size);
     let width = width_at(reached, size, at);
-    let mut place = quest.reach.start(at);
+    let mut place = start;
     notes.note(at)?;
     'edges: for edge in edges {
         consider(
@@ -79,6 +82,7 @@ fn extend_onward<R: Roads, N: Notes>(
     quest: &Quest,
     size: u8,
     at: &Fpr,
+    start: usize,
     places: &[usize],
     reached: &mut Reached,
     notes: &mut N,
@@ -97,7 +101,6 @@ fn extend_onward<R: Roads, N: Notes>(
     let edges = roads.rows(at);
     let demand = demand(roads, quest, size);
     let width = width_at(reached, size, at);
-    let start = quest.reach.start(at);
     notes.note(at)?;
     'places: for place in places {
         let i = *place;

@@ -61,9 +61,15 @@ impl Reach {
         }
     }
 
-    /// Where the numbers of the issuers of the edges into a fingerprint begin, for [`get_near`](Reach::get_near).
-    pub(crate) fn start(&self, fpr: &Fpr) -> usize {
-        match self.slots.place(fpr) {
+    /// At which place of the table a fingerprint is, if it is found.
+    pub(crate) fn place(&self, fpr: &Fpr) -> Option<usize> {
+        self.slots.place(fpr)
+    }
+
+    /// Where the numbers of the issuers of the edges into the fingerprint at a place begin, for
+    /// [`get_near`](Reach::get_near).
+    pub(crate) fn start(&self, place: Option<usize>) -> usize {
+        match place {
             Some(place) => self.rows.start(place),
             None => usize::MAX,
         }
@@ -79,12 +85,12 @@ impl Reach {
         }
     }
 
-    /// The places of the edges into a fingerprint that lead on, if they are known.
-    pub(crate) fn onward(&self, fpr: &Fpr) -> Option<&[usize]>
+    /// The places of the edges into a fingerprint that lead on, if it is at this place.
+    pub(crate) fn onward(&self, place: Option<usize>, fpr: &Fpr) -> Option<&[usize]>
         ensures covers { (told : List ℕ → Record) → AreOnward told (number_at self.now) self.now.onward
             → IfSome result (λ places. Covers told (number_at self.now) fpr.now places.now) }
     {
-        match self.slots.place(fpr) {
+        match place {
             Some(place) => places_at(&self.onward, place, fpr),
             None => None,
         }
@@ -161,7 +167,7 @@ fn has_enough<R: Roads>(roads: &R, roots: &Roots, reach: &Reach, fpr: &Fpr) -> b
         return false;
     }
     let edges = roads.rows(fpr);
-    let mut place = reach.start(fpr);
+    let mut place = reach.start(reach.place(fpr));
     'edges: for edge in edges {
         if !allows(roads, reach, place, number, edge) {
             return false;

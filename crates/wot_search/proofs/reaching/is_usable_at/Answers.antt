@@ -2,11 +2,11 @@ use Rattle.std.proofs.Common.{sym, subst}
 use Rattle.wot_edge.specs.declared.edge.EdgeFacts.{EdgeFacts}
 use Rattle.wot_edge.specs.Record.{Has}
 use Rattle.wot_search.proofs.Extending.{has_at, edge_known}
-use Rattle.wot_search.proofs.reaching.put_links.Goals as goal
+use Rattle.wot_search.proofs.reaching.is_usable_at.Goals as goal
 
-pub carries-requires : goal.carries-requires
-carries-requires g c =
+pub usable-requires : goal.usable-requires
+usable-requires g c =
     let edges = c.rows-edges.result.now in
-    let x = c.edge-item.result in
-    let has = subst (λ (e : EdgeFacts). Has edges e) (sym c.edge-item.is) (has_at edges c.edges.edge-index x c.edges-test.true) in
+    let x = c.index-edges-row.result in
+    let has = subst (λ (e : EdgeFacts). Has edges e) (sym c.index-edges-row.is) (has_at edges _ x c.if-row-edges.false) in
     record { row = λ id. (edge_known (g.R.Roads.told c.args.roads.now) c.rows-edges.ensures.lawful c.args.fpr.now edges c.rows-edges.ensures.rows x has id).0 }
