@@ -1,3 +1,4 @@
+use Rattle.std.proofs.lemmas.Result.{on_ok_weaker}
 use Rattle.wot_policy.specs.Kept.{rows_of}
 use Rattle.wot_engine.specs.Machine.{kept}
 use Rattle.wot_engine.proofs.Playing.{adds_both}
@@ -5,6 +6,7 @@ use Rattle.wot_engine.proofs.generated.add_line.Goals as goal
 
 pub returns-clause-added : goal.returns-clause-added
 returns-clause-added g c =
-    adds_both (rows_of c.args.policy.now) c.args.line.now (kept c.args.machine.now) (kept c.add_reply.new.machine) (kept c.add_told.new.machine)
+    on_ok_weaker c.add_told.result
+    (adds_both (rows_of c.args.policy.now) c.args.line.now (kept c.args.machine.now) (kept c.add_reply.new.machine) (kept c.add_told.new.machine)
     c.args.shelf.now.world c.add_reply.new.shelf.world c.args.shelf.now.faults c.add_reply.new.shelf.faults c.args.tally.now c.add_reply.new.tally
-    c.add_told.new.tally c.in_ok-add_reply.ensures.added c.add_told.ensures.added
+    c.add_told.new.tally c.in_ok-add_reply.ensures.added) c.add_told.ensures.added

@@ -33,4 +33,4 @@ pub returns-clause-replies : goal.returns-clause-replies
 returns-clause-replies g c =
     both (rows_of c.args.policy.now) c.args.line c.args.text.now (kept c.args.machine.now) (kept c.say.new.machine) (kept c.tell.new.self)
     (g.D.Shelf.world c.args.shelf.now) (g.D.Shelf.world c.say.new.shelf) c.args.out.now.items c.say.new.out.items c.tell.new.out.items
-    c.in_ok-say.ensures.said c.in_ok-tell.ensures.tells
+    c.in_ok-say.ensures.said c.in_default.ensures.tells
