@@ -4,7 +4,6 @@ mod Asking
 mod Marking
 pub mod Turning
 pub mod Lines
-pub mod Behind
 pub mod Replay
 pub mod Counting
 pub mod Grounds

@@ -29,7 +29,7 @@ use Rattle.wot_cache.specs.declared.view.ViewFault.TheVariants as faults
 use Rattle.wot_cache.specs.Views.{Views, IsWithin, root_fault, rooted, timed, view_at, with_amount, is_name}
 use Rattle.wot_cache.specs.State.{Engine, State, rooting, start, state_of, timing}
 use Rattle.wot_cache.specs.Dump.{AreSortedByName, CarriesOver, HaveRoots, IsRestored, after, commands_of, root_of, unless_refused, view_commands}
-use Rattle.wot_cache.proofs.Behind.{AreBelow, all_at, below_next, last_found, last_set, none_before, put_behind}
+use Rattle.wot_keyring.specs.Behind.{AreBelow, all_at, below_next, last_found, last_set, none_before, put_behind}
 
 -- ---- what the keyring's commands do
 

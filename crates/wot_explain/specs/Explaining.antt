@@ -7,7 +7,7 @@ use Rattle.std.specs.Option.{option_and_then, option_map}
 use Rattle.wot_types.specs.declared.fpr.Fpr.{Fpr}
 use Rattle.wot_verdict.specs.Verdicts.{Entries}
 use Rattle.wot_cert.specs.Certificate.{Component, Certificate}
-use Rattle.wot_keyring.specs.Keyring.{Certificates, is_fpr}
+use Rattle.wot_keyring.specs.Keyring.{Certificates, Keyring, certificates_in, is_fpr}
 use Rattle.wot_network.specs.Told.{place_of}
 use Rattle.wot_standing.specs.Kinds.{is_certification}
 use Rattle.wot_standing.specs.Own.{is_own_revoked}
@@ -29,6 +29,10 @@ explained_on verdicts certs t c place uid = record {
   target = target_word (standing_of verdicts c t) t (is_own_revoked verdicts (own c) t uid);
   certs = reasons_on verdicts certs t (own c) place uid;
 }
+
+-- the same in a keyring
+abbrev pub explained_in : Keyring → ℕ → Certificate → ℕ → Component → Explained
+explained_in k t c place uid = explained_on k.verdicts (certificates_in k) t c place uid
 
 abbrev pub explained_at : Entries → Certificates → ℕ → Certificate → ℕ → Option Explained
 explained_at verdicts certs t c place = option_map (explained_on verdicts certs t c place) (slice_get c.user_ids place)

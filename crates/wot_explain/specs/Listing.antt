@@ -7,12 +7,13 @@ use Rattle.wot_edge.specs.Answer.{IsAnswer, amount_of}
 use Rattle.wot_edge.specs.Path.{Question, asks}
 use Rattle.wot_edge.specs.Record.{IsRecord, Record}
 use Rattle.wot_edge.specs.declared.path.Path.{Path}
-use Rattle.wot_keyring.specs.Keyring.{Certificates}
+use Rattle.wot_keyring.specs.Keyring.{Certificates, Keyring, certificates_in}
 use Rattle.wot_network.specs.Told.{record_of}
 use Rattle.wot_search.specs.Reach.{IsReach}
 use Rattle.wot_standing.specs.Standing.{own}
 use Rattle.wot_explain.specs.declared.bind.Bind.{Bind}
 use Rattle.wot_explain.specs.declared.sought.Sought.{Sought}
+use Rattle.wot_explain.specs.Usable.{AreRoadsOf}
 
 -- a fingerprint and a user ID
 abbrev pub Pair : Type 0
@@ -62,14 +63,24 @@ HasOneList told roots wanted pairs =
     → IsListed told roots wanted pairs a → IsListed told roots wanted pairs b → a ≡ b
 
 -- These are so listed, and nothing else is.
-pub record IsTheList (told : List ℕ → Record) (roots : List (Fpr × ℕ)) (wanted : ℕ) (pairs : List Pair) (binds : List Bind)
-    : Type 0 where
+pub record IsTheList (told : List ℕ → Record) (roots : List (Fpr × ℕ)) (wanted : ℕ) (pairs : List Pair)
+    (binds : List Bind) : Type 0 where
   pub listed : IsListed told roots wanted pairs binds
   pub one : (others : List Bind) → IsListed told roots wanted pairs others → others ≡ binds
 
 -- The list of all bindings, by what certificates and verdicts tell at t.
 abbrev pub IsListOf : Certificates → Entries → ℕ → List (Fpr × ℕ) → ℕ → List Bind → Type 0
-IsListOf certs verdicts t roots wanted binds = IsTheList (record_of certs verdicts t) roots wanted (pairs_in certs) binds
+IsListOf certs verdicts t roots wanted binds =
+    IsTheList (record_of certs verdicts t) roots wanted (pairs_in certs) binds
+
+-- Where the roads are those of this keyring at some time, it is the list of all bindings then.
+abbrev pub IsListThen : (List ℕ → Record) → Keyring → List (Fpr × ℕ) → ℕ → List Bind → Type 0
+IsListThen told k roots wanted binds =
+    (t : ℕ) → AreRoadsOf told k t → IsListOf (certificates_in k) k.verdicts t roots wanted binds
+
+-- the pairs of a keyring
+abbrev pub pairs_kept : Keyring → List Pair
+pairs_kept k = pairs_in (certificates_in k)
 
 -- What may be sought: at least 1, from at most 64 roots, within their reach.
 pub record IsSought (told : List ℕ → Record) (sought : Sought) : Type 0 where
@@ -83,6 +94,10 @@ pub record IsSought (told : List ℕ → Record) (sought : Sought) : Type 0 wher
 abbrev pub AddsListed : (List ℕ → Record) → List (Fpr × ℕ) → ℕ → List Pair → List Bind → List Bind → Type 0
 AddsListed told roots wanted pairs old new =
     (binds : List Bind) × IsTheList told roots wanted pairs binds × (new ≡ old ++ binds)
+
+-- The list of those of these pairs that are sought was appended.
+abbrev pub AddsSought : (List ℕ → Record) → Sought → List Pair → List Bind → List Bind → Type 0
+AddsSought told sought pairs old new = AddsListed told sought.roots.now sought.wanted pairs old new
 
 -- the pairs of a certificate, under its own fingerprint, and those of several
 abbrev pub pairs_of : Certificate → List Pair

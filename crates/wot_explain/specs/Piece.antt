@@ -1,17 +1,21 @@
 -- A piece of the list of bindings: the first of those that come after a place.
-use Rattle.std.specs.Prelude.{◌≡◌, ℕ, Bool, true, List, ◌++◌, filter, take, Option, Some, None}
+use Rattle.std.specs.Prelude.{◌≡◌, ℕ, Bool, true, List, ◌++◌, filter, take, Option, Some, None, Vec}
+use Rattle.std.specs.declared.alloc.Global.{Global}
 use Rattle.std.specs.Cmp.Lexicographic.{slice_cmp}
-use Rattle.std.specs.Option.{option_map}
+use Rattle.std.specs.Borrow.{Bor}
+use Rattle.std.specs.Option.{option_copied, option_map}
 use Rattle.std.specs.Ordering.{is_gt, nat_cmp, ordering_then}
 use Rattle.wot_types.specs.Fpr.{fpr_cmp}
 use Rattle.wot_types.specs.declared.fpr.Fpr.{Fpr}
 use Rattle.wot_types.specs.declared.place.Place.{Place}
 use Rattle.wot_verdict.specs.Verdicts.{Entries}
 use Rattle.wot_edge.specs.Record.{Record}
-use Rattle.wot_keyring.specs.Keyring.{Certificates}
+use Rattle.wot_keyring.specs.Keyring.{Certificates, Keyring, certificates_in}
 use Rattle.wot_network.specs.Told.{record_of}
 use Rattle.wot_explain.specs.declared.bind.Bind.{Bind}
+use Rattle.wot_explain.specs.declared.sought.Sought.{Sought}
 use Rattle.wot_explain.specs.Listing.{IsListed, Pair, pairs_in}
+use Rattle.wot_explain.specs.Usable.{AreRoadsOf}
 
 -- by fingerprint, then user ID; each comes after no place
 abbrev pub comes_after : Option Place → Pair → Bool
@@ -30,10 +34,17 @@ abbrev pub piece_of : Option Place → ℕ → List Bind → List Bind
 piece_of after count binds = take count (binds_after after binds)
 
 -- From the piece of a list `old` came the piece of the list that has these pairs' list behind.
-abbrev pub AddsPiece : (List ℕ → Record) → List (Fpr × ℕ) → ℕ → Option Place → ℕ → List Pair → List Bind → List Bind → Type 0
+abbrev pub AddsPiece : (List ℕ → Record) → List (Fpr × ℕ) → ℕ → Option Place → ℕ → List Pair
+    → List Bind → List Bind → Type 0
 AddsPiece told roots wanted after count pairs old new =
     (before binds : List Bind) → old ≡ piece_of after count before → IsListed told roots wanted pairs binds
     → new ≡ piece_of after count (before ++ binds)
+
+-- The same of what is sought.
+abbrev pub GoesOn : (List ℕ → Record) → Sought → Option (Bor Place) → ℕ → List Pair
+    → Vec Bind Global → Vec Bind Global → Type 0
+GoesOn told sought after count pairs old new =
+    AddsPiece told sought.roots.now sought.wanted (option_copied after) count pairs old.items new.items
 
 -- the fingerprint of a place
 abbrev pub fpr_at : Option Place → Option Fpr
@@ -48,3 +59,13 @@ IsThePiece told roots wanted pairs after count binds =
 abbrev pub IsPieceOf : Certificates → Entries → ℕ → List (Fpr × ℕ) → ℕ → Option Place → ℕ → List Bind → Type 0
 IsPieceOf certs verdicts t roots wanted after count binds =
     IsThePiece (record_of certs verdicts t) roots wanted (pairs_in certs) after count binds
+
+-- The piece of whatever is the list of the pairs of a keyring; and that of the list of all bindings then, where the
+-- roads are those of this keyring at some time.
+abbrev pub IsPieceHere : (List ℕ → Record) → Keyring → List (Fpr × ℕ) → ℕ → Option Place → ℕ → Vec Bind Global → Type 0
+IsPieceHere told k roots wanted after count binds =
+    IsThePiece told roots wanted (pairs_in (certificates_in k)) after count binds.items
+
+abbrev pub IsPieceThen : (List ℕ → Record) → Keyring → List (Fpr × ℕ) → ℕ → Option Place → ℕ → Vec Bind Global → Type 0
+IsPieceThen told k roots wanted after count binds =
+    (t : ℕ) → AreRoadsOf told k t → IsPieceOf (certificates_in k) k.verdicts t roots wanted after count binds.items

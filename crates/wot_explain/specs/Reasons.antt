@@ -1,5 +1,6 @@
 -- Why a certification isn't a usable edge at t.
-use Rattle.std.specs.Prelude.{ℕ, ◌==◌, Bool, not, nat_lt, if◌then◌else◌, List, [], ◌∷◌, ◌++◌, Option, None, is_some}
+use Rattle.std.specs.Prelude.{ℕ, ◌==◌, Bool, not, nat_lt, if◌then◌else◌, List, [], ◌∷◌, ◌++◌}
+use Rattle.std.specs.Prelude.{Option, Some, None, is_some}
 use Rattle.std.specs.Map.{lookup}
 use Rattle.std.specs.Option.{option_and_then, option_map}
 use Rattle.std.specs.Ordering.{is_eq}
@@ -14,7 +15,7 @@ use Rattle.wot_cert.specs.Revoked.{is_unrevoked}
 use Rattle.wot_cert.specs.Time.{is_live, made_of}
 use Rattle.wot_edge.specs.Path.{step_of}
 use Rattle.wot_edge.specs.declared.path.Step.{Step}
-use Rattle.wot_keyring.specs.Keyring.{Certificates, is_fpr}
+use Rattle.wot_keyring.specs.Keyring.{Certificates, Keyring, certificates_in, is_fpr}
 use Rattle.wot_live.specs.Edge.{edge_by}
 use Rattle.wot_standing.specs.Standing.{newest_certification, standing_of}
 use Rattle.wot_standing.specs.Usable.{is_after}
@@ -96,6 +97,15 @@ issuer_words made issuer =
     -- its soft moment is then or before
     ∷ (15, is_so (λ i. not (is_after made i.soft)) issuer)
     ∷ []
+
+-- where the verdict on it is good by this issuer: those from the time on, and all behind the verdict's
+abbrev pub counted_words : Keyring → ℕ → Component → Signature → Fpr → List Word
+counted_words k t uid s issuer =
+    time_words k.verdicts t uid s (Some issuer)
+    ++ issuer_words (made_of s) (standing_by k.verdicts (certificates_in k) t issuer)
+
+abbrev pub good_words : Keyring → ℕ → Component → Signature → Fpr → List Word
+good_words k t uid s issuer = counting_words s (Some issuer) ++ counted_words k t uid s issuer
 
 -- by the verdict on it, and by the issuer's standing
 abbrev pub reason_words : Entries → ℕ → Component → Signature → Option Verdict → Option Standing → List Word

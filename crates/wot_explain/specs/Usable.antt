@@ -18,8 +18,8 @@ use Rattle.wot_explain.specs.Reasons.{reason_word, step_by}
 
 -- The signature at this place on the user ID at this place makes the edge of some issuer at t. The edge is usable, and
 -- its step is this.
-pub record IsUsableEdge (verdicts : Entries) (certs : Certificates) (t : ℕ) (c : Certificate) (uid sig : ℕ) (step : Step)
-    : Type 0 where
+pub record IsUsableEdge (verdicts : Entries) (certs : Certificates) (t : ℕ) (c : Certificate) (uid sig : ℕ)
+    (step : Step) : Type 0 where
   pub issuer : Fpr
   pub edge : EdgeFacts
   pub made : edge_of verdicts c t issuer uid ≡ Some edge

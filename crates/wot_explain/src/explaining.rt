@@ -1,6 +1,6 @@
 ghost use Rattle.std.specs.Prelude.{◌≡◌, slice_get, IfOk};
 ghost use Rattle.std.specs.Option.{option_copied};
-ghost use Rattle.wot_explain.specs.Explaining.{Explains, explained_on, explanation};
+ghost use Rattle.wot_explain.specs.Explaining.{Explains, explained_in, explanation};
 ghost use Rattle.wot_explain.specs.Usable.{AreRoadsOf};
 ghost use Rattle.wot_keyring.specs.Keyring.{certificates_in};
 ghost use Rattle.wot_live.specs.Found.{HasFew};
@@ -24,8 +24,7 @@ fn explain_on(
     uid: &Part,
 ) -> Result<Explained, Memory>
     requires few { HasFew uid.now }
-    ensures { IfOk result (λ explained. explained
-        ≡ explained_on keyring.now.verdicts (certificates_in keyring.now) t cert.now place uid.now) }
+    ensures { IfOk result (λ explained. explained ≡ explained_in keyring.now t cert.now place uid.now) }
 {
     let verdicts = keyring.verdicts();
     let fpr = cert.fpr();
@@ -52,7 +51,8 @@ pub fn explain<R: Roads>(
     uid: &[u8],
 ) -> Result<Explained, ExplainFault>
     requires present { AreRoadsOf (R.told roads.now) keyring.now t }
-    ensures explained { Explains result (explanation (certificates_in keyring.now) keyring.now.verdicts t fpr.now uid.now) }
+    ensures explained { Explains result
+        (explanation (certificates_in keyring.now) keyring.now.verdicts t fpr.now uid.now) }
 {
     let Some(place) = roads.place(fpr, uid) else {
         return Err(ExplainFault::Absent);

@@ -1,7 +1,6 @@
-ghost use Rattle.std.specs.Prelude.{◌≡◌, ◌≤◌, ◌∷◌, ℕ, [], length, map, IfOk, OnOk};
-ghost use Rattle.wot_explain.specs.Listing.{AddsListed, IsListOf, IsSought, IsTheList, pair_of, pairs_in, pairs_of, pairs_of_all};
-ghost use Rattle.wot_explain.specs.Usable.{AreRoadsOf};
-ghost use Rattle.wot_keyring.specs.Keyring.{certificates_in};
+ghost use Rattle.std.specs.Prelude.{◌≤◌, ◌∷◌, [], length, map, IfOk, OnOk};
+ghost use Rattle.wot_explain.specs.Listing.{AddsSought, IsListThen, IsSought, IsTheList};
+ghost use Rattle.wot_explain.specs.Listing.{pair_of, pairs_kept, pairs_of, pairs_of_all};
 
 use crate::Bind;
 use crate::sought::Sought;
@@ -23,7 +22,7 @@ pub(crate) fn list_pair<R: Roads>(
     out: &mut Vec<Bind>,
 ) -> Result<(), Memory>
     requires sought { IsSought (R.told roads.now) sought.now }
-    ensures { OnOk result (AddsListed (R.told roads.now) sought.now.roots.now sought.now.wanted
+    ensures { OnOk result (AddsSought (R.told roads.now) sought.now
         ((fpr.now, uid.now) ∷ []) out.old.items out.new.items) }
 {
     let sum = sum_within(
@@ -57,7 +56,7 @@ fn list_user_ids<R: Roads>(
     out: &mut Vec<Bind>,
 ) -> Result<(), Memory>
     requires sought { IsSought (R.told roads.now) sought.now }
-    ensures { OnOk result (AddsListed (R.told roads.now) sought.now.roots.now sought.now.wanted (map (pair_of fpr.now) user_ids.now)
+    ensures { OnOk result (AddsSought (R.told roads.now) sought.now (map (pair_of fpr.now) user_ids.now)
         out.old.items out.new.items) }
 {
     let mut rest = user_ids;
@@ -76,8 +75,7 @@ fn list_cert<R: Roads>(
     out: &mut Vec<Bind>,
 ) -> Result<(), Memory>
     requires sought { IsSought (R.told roads.now) sought.now }
-    ensures { OnOk result (AddsListed (R.told roads.now) sought.now.roots.now sought.now.wanted
-        (pairs_of cert.now) out.old.items out.new.items) }
+    ensures { OnOk result (AddsSought (R.told roads.now) sought.now (pairs_of cert.now) out.old.items out.new.items) }
 {
     list_user_ids(alloc, roads, sought, &cert.fpr(), cert.user_ids(), out)
 }
@@ -90,7 +88,7 @@ fn list_certs<R: Roads>(
     out: &mut Vec<Bind>,
 ) -> Result<(), Memory>
     requires sought { IsSought (R.told roads.now) sought.now }
-    ensures { OnOk result (AddsListed (R.told roads.now) sought.now.roots.now sought.now.wanted
+    ensures { OnOk result (AddsSought (R.told roads.now) sought.now
         (pairs_of_all certs.entry) out.old.items out.new.items) }
 {
     'certs: for cert in certs {
@@ -118,10 +116,9 @@ pub fn list<R: Roads>(
 ) -> Result<Vec<Bind>, Memory>
     requires wanted { 1 ≤ wanted }
     requires few { length roots.now ≤ 64 }
-    ensures listed { IfOk result (λ binds. IsTheList (R.told roads.now) roots.now wanted
-        (pairs_in (certificates_in keyring.now)) binds.items) }
-    ensures list { IfOk result (λ binds. (t : ℕ) → AreRoadsOf (R.told roads.now) keyring.now t
-        → IsListOf (certificates_in keyring.now) keyring.now.verdicts t roots.now wanted binds.items) }
+    ensures listed { IfOk result
+        (λ binds. IsTheList (R.told roads.now) roots.now wanted (pairs_kept keyring.now) binds.items) }
+    ensures list { IfOk result (λ binds. IsListThen (R.told roads.now) keyring.now roots.now wanted binds.items) }
 {
     let fprs = fprs_of(alloc, keyring.certs())?;
     let reach = make_reach(alloc, roads, roots, &fprs)?;

@@ -1,9 +1,7 @@
-ghost use Rattle.std.specs.Prelude.{◌≡◌, ◌≤◌, ◌∷◌, ℕ, [], length, map, IfOk, OnOk};
+ghost use Rattle.std.specs.Prelude.{◌≡◌, ◌≤◌, ◌∷◌, [], length, map, IfOk, OnOk};
 ghost use Rattle.std.specs.Option.{option_copied};
-ghost use Rattle.wot_explain.specs.Listing.{IsSought, pair_of, pairs_in, pairs_of, pairs_of_all};
-ghost use Rattle.wot_explain.specs.Piece.{AddsPiece, IsPieceOf, IsThePiece, comes_after as comes_after_spec, fpr_at};
-ghost use Rattle.wot_explain.specs.Usable.{AreRoadsOf};
-ghost use Rattle.wot_keyring.specs.Keyring.{certificates_in};
+ghost use Rattle.wot_explain.specs.Listing.{IsSought, pair_of, pairs_of, pairs_of_all};
+ghost use Rattle.wot_explain.specs.Piece.{GoesOn, IsPieceHere, IsPieceThen, comes_after as comes_after_spec, fpr_at};
 ghost use Rattle.wot_search.specs.Reach.{IsReach};
 
 use crate::Bind;
@@ -51,8 +49,8 @@ fn piece_pair<R: Roads>(
     out: &mut Vec<Bind>,
 ) -> Result<(), Memory>
     requires sought { IsSought (R.told roads.now) sought.now }
-    ensures { OnOk result (AddsPiece (R.told roads.now) sought.now.roots.now sought.now.wanted (option_copied after.entry) count
-        ((fpr.now, uid.now) ∷ []) out.old.items out.new.items) }
+    ensures { OnOk result (GoesOn (R.told roads.now) sought.now after.entry count
+        ((fpr.now, uid.now) ∷ []) out.old out.new) }
 {
     if out.len() >= count as usize {
         return Ok(());
@@ -75,8 +73,8 @@ fn piece_user_ids<R: Roads>(
     out: &mut Vec<Bind>,
 ) -> Result<(), Memory>
     requires sought { IsSought (R.told roads.now) sought.now }
-    ensures { OnOk result (AddsPiece (R.told roads.now) sought.now.roots.now sought.now.wanted (option_copied after.entry) count
-        (map (pair_of fpr.now) user_ids.now) out.old.items out.new.items) }
+    ensures { OnOk result (GoesOn (R.told roads.now) sought.now after.entry count
+        (map (pair_of fpr.now) user_ids.now) out.old out.new) }
 {
     let mut rest = user_ids;
     'rest: while let Some((uid, others)) = rest.split_first() {
@@ -96,8 +94,8 @@ fn piece_cert<R: Roads>(
     out: &mut Vec<Bind>,
 ) -> Result<(), Memory>
     requires sought { IsSought (R.told roads.now) sought.now }
-    ensures { OnOk result (AddsPiece (R.told roads.now) sought.now.roots.now sought.now.wanted (option_copied after.entry) count
-        (pairs_of cert.now) out.old.items out.new.items) }
+    ensures { OnOk result (GoesOn (R.told roads.now) sought.now after.entry count
+        (pairs_of cert.now) out.old out.new) }
 {
     piece_user_ids(
         alloc,
@@ -122,8 +120,8 @@ fn piece_certs<R: Roads>(
     out: &mut Vec<Bind>,
 ) -> Result<(), Memory>
     requires sought { IsSought (R.told roads.now) sought.now }
-    ensures { OnOk result (AddsPiece (R.told roads.now) sought.now.roots.now sought.now.wanted (option_copied after.entry) count
-        (pairs_of_all certs.entry) out.old.items out.new.items) }
+    ensures { OnOk result (GoesOn (R.told roads.now) sought.now after.entry count
+        (pairs_of_all certs.entry) out.old out.new) }
 {
     'certs: for cert in certs {
         if out.len() >= count as usize {
@@ -147,10 +145,10 @@ pub fn list_after<R: Roads>(
 ) -> Result<Vec<Bind>, Memory>
     requires wanted { 1 ≤ wanted }
     requires few { length roots.now ≤ 64 }
-    ensures piece { IfOk result (λ binds. IsThePiece (R.told roads.now) roots.now wanted (pairs_in (certificates_in keyring.now))
-        (option_copied after.entry) count binds.items) }
-    ensures list { IfOk result (λ binds. (t : ℕ) → AreRoadsOf (R.told roads.now) keyring.now t
-        → IsPieceOf (certificates_in keyring.now) keyring.now.verdicts t roots.now wanted (option_copied after.entry) count binds.items) }
+    ensures piece { IfOk result
+        (IsPieceHere (R.told roads.now) keyring.now roots.now wanted (option_copied after.entry) count) }
+    ensures list { IfOk result
+        (IsPieceThen (R.told roads.now) keyring.now roots.now wanted (option_copied after.entry) count) }
 {
     let reach = Reach::everywhere(alloc);
     list_after_within(alloc, keyring, roads, roots, &reach, wanted, after, count)
@@ -170,10 +168,10 @@ pub fn list_after_within<R: Roads>(
     requires wanted { 1 ≤ wanted }
     requires few { length roots.now ≤ 64 }
     requires reach { IsReach (R.told roads.now) roots.now reach.now }
-    ensures piece { IfOk result (λ binds. IsThePiece (R.told roads.now) roots.now wanted (pairs_in (certificates_in keyring.now))
-        (option_copied after.entry) count binds.items) }
-    ensures list { IfOk result (λ binds. (t : ℕ) → AreRoadsOf (R.told roads.now) keyring.now t
-        → IsPieceOf (certificates_in keyring.now) keyring.now.verdicts t roots.now wanted (option_copied after.entry) count binds.items) }
+    ensures piece { IfOk result
+        (IsPieceHere (R.told roads.now) keyring.now roots.now wanted (option_copied after.entry) count) }
+    ensures list { IfOk result
+        (IsPieceThen (R.told roads.now) keyring.now roots.now wanted (option_copied after.entry) count) }
 {
     let sought = Sought {
         roots,

@@ -10,7 +10,6 @@ ghost use Rattle.wot_keyring.specs.Keyring.{certificates_in};
 ghost use Rattle.wot_live.specs.Found.{HasFew};
 ghost use Rattle.wot_standing.specs.Certifiers.{KeepsNewest};
 
-use crate::signature::is_certification;
 use crate::words::reason_word;
 use crate::{Reason, ReasonList};
 use std::alloc::Global;
@@ -20,6 +19,7 @@ use wot_edge::Step;
 use wot_keyring::Keyring;
 use wot_signature::SigFacts;
 use wot_standing::Certifiers;
+use wot_standing::kinds::is_certification;
 use wot_types::{Fpr, Memory, compare_fprs};
 use wot_verdict::{Verdict, Verdicts};
 

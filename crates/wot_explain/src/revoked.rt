@@ -3,8 +3,8 @@ ghost use Rattle.std.specs.List.{list_all};
 ghost use Rattle.wot_cert.specs.Revoked.{is_unrevoked as is_unrevoked_spec, revokes_by};
 ghost use Rattle.wot_cert.specs.Time.{made_of};
 
-use crate::signature::{is_revocable, made, revokes};
 use wot_cert::Sig;
+use wot_standing::kinds::{is_revocable, made, revokes};
 use wot_types::Fpr;
 use wot_verdict::Verdicts;
 

@@ -1,9 +1,9 @@
 // The words of certifications.
-ghost use Rattle.std.specs.Prelude.{◌≡◌, ◌++◌, not, Some};
+ghost use Rattle.std.specs.Prelude.{◌≡◌, not};
 ghost use Rattle.std.specs.Ordering.{is_eq};
 ghost use Rattle.wot_cert.specs.Certificate.{sig_cmp};
-ghost use Rattle.wot_cert.specs.Time.{made_of};
-ghost use Rattle.wot_explain.specs.Reasons.{counting_words, issuer_words, reason_word as reason_word_spec, standing_by as standing_by_spec, time_words};
+ghost use Rattle.wot_explain.specs.Reasons.{counted_words, good_words, issuer_words};
+ghost use Rattle.wot_explain.specs.Reasons.{reason_word as reason_word_spec, standing_by as standing_by_spec};
 ghost use Rattle.wot_explain.specs.Words.{first_word, is_so};
 ghost use Rattle.wot_keyring.specs.Keyring.{certificates_in};
 ghost use Rattle.wot_standing.specs.Certifiers.{KeepsNewest, kept_for};
@@ -11,10 +11,11 @@ ghost use Rattle.wot_standing.specs.Standing.{standing_of};
 
 use crate::moments::{ends_after, is_after};
 use crate::revoked::is_unrevoked;
-use crate::signature::{is_live, is_sound, made, names_other};
+use crate::signature::{is_sound, names_other};
 use std::cmp::Ordering;
 use wot_cert::{Cert, Part, Sig};
 use wot_keyring::Keyring;
+use wot_standing::kinds::{is_live, made};
 use wot_standing::{Certifiers, Standing, standing};
 use wot_types::Fpr;
 use wot_verdict::{Verdict, Verdicts};
@@ -57,7 +58,8 @@ fn issuer_word(made: u32, issuer: Option<Standing>) -> u8
 
 /// Whether an issuer's newest certification on a user ID is another one.
 fn is_older(sig: &Sig, uid: &Part, certifiers: &Certifiers, issuer: &Fpr) -> bool
-    ensures { result ≡ not (is_so (λ newest. is_eq (sig_cmp sig.now newest)) (kept_for certifiers.now uid.now.sigs issuer.now)) }
+    ensures { result ≡ not (is_so (λ newest. is_eq (sig_cmp sig.now newest))
+        (kept_for certifiers.now uid.now.sigs issuer.now)) }
 {
     let Some(place) = certifiers.place(issuer) else {
         return true;
@@ -78,8 +80,7 @@ fn counting_word(
     issuer: &Fpr,
 ) -> u8
     requires newest { KeepsNewest keyring.now.verdicts t uid.now certifiers.now }
-    ensures { result ≡ first_word (time_words keyring.now.verdicts t uid.now sig.now (Some issuer.now)
-        ++ issuer_words (made_of sig.now) (standing_by_spec keyring.now.verdicts (certificates_in keyring.now) t issuer.now)) }
+    ensures { result ≡ first_word (counted_words keyring.now t uid.now sig.now issuer.now) }
 {
     if t < made(sig) {
         return 6;
@@ -106,9 +107,7 @@ fn good_word(
     issuer: &Fpr,
 ) -> u8
     requires newest { KeepsNewest keyring.now.verdicts t uid.now certifiers.now }
-    ensures { result ≡ first_word (counting_words sig.now (Some issuer.now)
-        ++ time_words keyring.now.verdicts t uid.now sig.now (Some issuer.now)
-        ++ issuer_words (made_of sig.now) (standing_by_spec keyring.now.verdicts (certificates_in keyring.now) t issuer.now)) }
+    ensures { result ≡ first_word (good_words keyring.now t uid.now sig.now issuer.now) }
 {
     if names_other(sig, issuer) {
         return 4;
