@@ -29,7 +29,7 @@ struct Case {
     left: &'static [Packet],
 }
 
-static CASES: [Case; 11] = [
+static CASES: [Case; 12] = [
     Case {
         entries: &[],
         fails: &[],
@@ -62,7 +62,16 @@ load C959BDBAFA32A2F89A153B678CFDE12197965A9A
         name: T_NAME,
         left: &[KEY_T],
     },
-    // The read fails.
+    // The read fails; it is no other thing where it is late.
+    Case {
+        entries: &[(T_NAME, &[KEY_T, DIRECT])],
+        fails: &[1],
+        late: &[],
+        script: b"import c60704000003e81b04\nstore 3c98b8180e0fcaca1032499082a5de8fa5d98232\n",
+        replies: b"ok taken 1 skipped 0 new 1\nfault shelf\n",
+        name: T_NAME,
+        left: &[KEY_T, DIRECT],
+    },
     Case {
         entries: &[(T_NAME, &[KEY_T, DIRECT])],
         fails: &[1],
@@ -216,19 +225,22 @@ store 3c98b8180e0fcaca1032499082a5de8fa5d98232
 
 /// As great as a certificate may be, and greater with a user ID.
 fn is_full(alloc: Global) -> Option<bool> {
-    let replies = b"ok taken 1 skipped 0 new 1\nok stored 4194304\nok taken 1 skipped 0 new 1\nrefused full certificate\n";
+    let replies =
+        b"ok taken 1 skipped 0 new 1\nok stored 4194304\nok taken 1 skipped 0 new 1\nrefused full certificate\n";
     is_replied(alloc, great(alloc, ATTRIBUTE)?, replies)
 }
 
 /// Longer than an entry may be.
 fn is_long(alloc: Global) -> Option<bool> {
-    let replies = b"ok taken 1 skipped 0 new 1\nrefused long\nok taken 1 skipped 0 new 1\nrefused long\n";
+    let replies =
+        b"ok taken 1 skipped 0 new 1\nrefused long\nok taken 1 skipped 0 new 1\nrefused long\n";
     is_replied(alloc, vec![in alloc; 0xc6; 8_388_609].ok()?, replies)
 }
 
 /// A packet that is cut.
 fn is_cut(alloc: Global) -> Option<bool> {
-    let replies = b"ok taken 1 skipped 0 new 1\nrefused packet 3 0\nok taken 1 skipped 0 new 1\nrefused packet 3 0\n";
+    let replies =
+        b"ok taken 1 skipped 0 new 1\nrefused packet 3 0\nok taken 1 skipped 0 new 1\nrefused packet 3 0\n";
     let cut = b"\xc6\x07\x04\x00\x00\x03\xe8\x1b".as_slice();
     is_replied(alloc, cut.to_vec(alloc).ok()?, replies)
 }

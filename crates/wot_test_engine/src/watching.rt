@@ -3,7 +3,8 @@ use crate::engine::is_replied;
 use std::alloc::Global;
 
 /// A keyring in which R certifies A as an introducer, and A certifies T, and a view of it whose root is R.
-static BASE: &[u8] = b"view p time 5000\nview p root 7f35c8dbd6b3eb2ffd59cbdd2e41ea291212ac38 120\nimport \
+static BASE: &[u8] =
+    b"view p time 5000\nview p root 7f35c8dbd6b3eb2ffd59cbdd2e41ea291212ac38 120\nimport \
       c60704000003e81b01c210041f1b0800060502000003e800000000\nimport \
       c60704000003e81b02c210041f1b0800060502000003e800000000cd0161c21404101b08000a0502000007d00305017800000000\n\
       import c60704000003e81b04c210041f1b0800060502000003e800000000cd0174c21004101b0800060502000007d000000000\n\

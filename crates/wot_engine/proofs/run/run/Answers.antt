@@ -248,6 +248,14 @@ pub returns-in_default-clause-at_most : goal.returns-in_default-clause-at_most
 returns-in_default-clause-at_most g c =
     takes_more (g.S.Source.left c.args.input.now) (g.S.Source.left c.lines.input) (g.S.Source.left c.next.new.from) c.lines.lines.taken c.next.new.self.taken c.lines.invariant.took c.next.ensures.took c.next.ensures.within
 
+pub returns-in-Ok-End-clause-at_most : goal.returns-in-Ok-End-clause-at_most
+returns-in-Ok-End-clause-at_most g c =
+    takes_more (g.S.Source.left c.args.input.now) (g.S.Source.left c.lines.input) (g.S.Source.left c.next.new.from) c.lines.lines.taken c.next.new.self.taken c.lines.invariant.took c.next.ensures.took c.next.ensures.within
+
+pub returns-in-Err-ReadFault-clause-at_most : goal.returns-in-Err-ReadFault-clause-at_most
+returns-in-Err-ReadFault-clause-at_most g c =
+    takes_more (g.S.Source.left c.args.input.now) (g.S.Source.left c.lines.input) (g.S.Source.left c.next.new.from) c.lines.lines.taken c.next.new.self.taken c.lines.invariant.took c.next.ensures.took c.next.ensures.within
+
 -- ---- the first line
 
 pub returns-in_err-lines-clause-prefix : goal.returns-in_err-lines-clause-prefix
