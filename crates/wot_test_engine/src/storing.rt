@@ -197,16 +197,14 @@ fn is_stored(alloc: Global, case: &Case) -> Option<bool> {
 const T_KEY: &[u8] = b"\xc6\x07\x04\x00\x00\x03\xe8\x1b\x04";
 
 /// How many octets the body of an attribute has that makes T's certificate as long as one may be.
-const ATTRIBUTE: usize = 4_194_304 - 15;
+const ATTRIBUTE: u32 = 4_194_304 - 15;
 
 /// T's certificate with an attribute of so many octets.
-fn great(alloc: Global, attribute: usize) -> Option<Vec<u8>> {
+fn great(alloc: Global, attribute: u32) -> Option<Vec<u8>> {
     let mut octets = T_KEY.to_vec(alloc).ok()?;
     octets.extend_from_slice(&[0xd1, 0xff]).ok()?;
-    octets
-        .extend_from_slice(&(attribute as u32).to_be_bytes())
-        .ok()?;
-    let body = vec![in alloc; 0; attribute].ok()?;
+    octets.extend_from_slice(&attribute.to_be_bytes()).ok()?;
+    let body = vec![in alloc; 0; attribute as usize].ok()?;
     octets.extend_from_slice(&body).ok()?;
     Some(octets)
 }

@@ -47,7 +47,7 @@ fn are_printed_again(alloc: Global, text: &[u8]) -> Option<bool> {
     for octet in text {
         if *octet != b'\n' {
             line.push(*octet).ok()?;
-        } else if is_read_as(alloc, &line, Some(&line)) == Some(true) {
+        } else if is_read_as(alloc, &line, Some(&line)) {
             line.clear();
         } else {
             return Some(false);
