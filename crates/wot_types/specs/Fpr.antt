@@ -32,8 +32,8 @@ digits_of fpr = encode_lower (octets_of fpr)
 abbrev pub fpr_of_digits : List ℕ → Option Fpr
 fpr_of_digits digits = option_or (option_map V4 (array_of_digits 20 digits)) (option_map V6 (array_of_digits 32 digits))
 
--- Fingerprints are ordered by their octets, a proper prefix first. The version never decides between two fingerprints of keys, which have
--- 20 octets or 32: it is named here since contracts see an array as a list of any length.
+-- Fingerprints are ordered by their octets, a proper prefix first. The version never decides between two fingerprints
+-- of keys, which have 20 octets or 32: it is named here since contracts see an array as a list of any length.
 abbrev pub fpr_cmp : Fpr → Fpr → Ordering
 fpr_cmp a b = ordering_then (slice_cmp nat_cmp (octets_of a) (octets_of b)) (nat_cmp (version_of a) (version_of b))
 

@@ -1,5 +1,5 @@
--- What holds of the order of fingerprints. A fingerprint is one with another exactly where the two tie in their order. The law
--- `fingerprints_tie_where_equal` says it too; proofs of the crates above cite it from here.
+-- What holds of the order of fingerprints. A fingerprint is one with another exactly where the two tie in their order.
+-- The law `fingerprints_tie_where_equal` says it too; proofs of the crates above cite it from here.
 use Rattle.std.specs.Prelude.{◌≡◌, true}
 use Rattle.std.specs.declared.cmp.Ordering.{Ordering}
 use Rattle.std.specs.declared.cmp.Ordering.TheVariants.{Less, Equal, Greater}

@@ -22,7 +22,8 @@ fpr_total = then_total (on_total octets_of nat_list_cmp_total) (on_total version
 pub fpr_exact : (a b : Fpr) → fpr_cmp a b ≡ Equal → a ≡ b
 fpr_exact (V4 xs) (V4 ys) e = ap V4 (exact_bytes xs ys (then-Equal (slice_cmp nat_cmp xs ys) Equal e).0)
 fpr_exact (V4 xs) (V6 ys) e = absurd (true≢false (ap is_lt {x = Less} (then-Equal (slice_cmp nat_cmp xs ys) Less e).1))
-fpr_exact (V6 xs) (V4 ys) e = absurd (true≢false (ap is_gt {x = Greater} (then-Equal (slice_cmp nat_cmp xs ys) Greater e).1))
+fpr_exact (V6 xs) (V4 ys) e =
+    absurd (true≢false (ap is_gt {x = Greater} (then-Equal (slice_cmp nat_cmp xs ys) Greater e).1))
 fpr_exact (V6 xs) (V6 ys) e = ap V6 (exact_bytes xs ys (then-Equal (slice_cmp nat_cmp xs ys) Equal e).0)
 
 tied_before : (o : Ordering) → is_eq o ≡ is_eq (ordering_then o Equal)
@@ -58,8 +59,13 @@ decided Equal p h = absurd (h refl)
 decided Greater p h = refl
 
 -- fingerprints of as many octets as their versions have are ordered by these alone
-pub by_octets : (a b : Fpr) → length (octets_of a) ≡ octets_in a → length (octets_of b) ≡ octets_in b → fpr_cmp a b ≡ slice_cmp nat_cmp (octets_of a) (octets_of b)
+pub by_octets : (a b : Fpr) → length (octets_of a) ≡ octets_in a → length (octets_of b) ≡ octets_in b
+    → fpr_cmp a b ≡ slice_cmp nat_cmp (octets_of a) (octets_of b)
 by_octets (V4 xs) (V4 ys) h k = itself (slice_cmp nat_cmp xs ys)
-by_octets (V4 xs) (V6 ys) h k = decided (slice_cmp nat_cmp xs ys) _ (λ e. let same = sym h ∙ ap length (exact_bytes xs ys e) ∙ k in omega (arith, same))
-by_octets (V6 xs) (V4 ys) h k = decided (slice_cmp nat_cmp xs ys) _ (λ e. let same = sym h ∙ ap length (exact_bytes xs ys e) ∙ k in omega (arith, same))
+by_octets (V4 xs) (V6 ys) h k =
+    decided (slice_cmp nat_cmp xs ys) _
+    (λ e. let same = sym h ∙ ap length (exact_bytes xs ys e) ∙ k in omega (arith, same))
+by_octets (V6 xs) (V4 ys) h k =
+    decided (slice_cmp nat_cmp xs ys) _
+    (λ e. let same = sym h ∙ ap length (exact_bytes xs ys e) ∙ k in omega (arith, same))
 by_octets (V6 xs) (V6 ys) h k = itself (slice_cmp nat_cmp xs ys)

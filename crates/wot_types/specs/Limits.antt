@@ -2,7 +2,8 @@
 use Rattle.std.specs.Prelude.{ℕ, List, codes}
 use Rattle.wot_types.specs.declared.limits.Limits.{Limits}
 use Rattle.wot_types.specs.declared.limits.Limit.{Limit}
-use Rattle.wot_types.specs.declared.limits.Limit.TheVariants.{Certificate, Certificates, Octets, Signatures, Verdicts, Views, Roots}
+use Rattle.wot_types.specs.declared.limits.Limit.TheVariants.{Certificate, Certificates, Octets, Signatures}
+use Rattle.wot_types.specs.declared.limits.Limit.TheVariants.{Verdicts, Views, Roots}
 
 -- the program's own limits
 abbrev pub standard_limits : Limits

@@ -186,7 +186,8 @@ pub fn compare_fprs(left: &Fpr, right: &Fpr) -> Ordering
     compare_octets(left.octets(), right.octets())
 }
 
-/// How many octets are compared one by one. Most fingerprints differ in one of these, and then the rest isn't looked at.
+/// How many octets are compared one by one. Most fingerprints differ in one of these, and then the rest isn't looked
+/// at.
 const HEADS: u8 = 4;
 
 fn compare_octets(left: &[u8], right: &[u8]) -> Ordering

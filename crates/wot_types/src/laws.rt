@@ -15,7 +15,9 @@ pub fn fingerprints_tie_where_equal()
 /// Version 4 fingerprints are read and printed as they were when there was no other version: from 40 digits, and as
 /// them.
 pub fn forty_digits_are_of_version_4()
-    ensures read { (digits octets : List ℕ) → array_of_digits 20 digits ≡ Some octets → fpr_of_digits digits ≡ Some (Fpr.V4 octets) }
-    ensures only { (digits octets : List ℕ) → fpr_of_digits digits ≡ Some (Fpr.V4 octets) → array_of_digits 20 digits ≡ Some octets }
+    ensures read { (digits octets : List ℕ) → array_of_digits 20 digits ≡ Some octets
+        → fpr_of_digits digits ≡ Some (Fpr.V4 octets) }
+    ensures only { (digits octets : List ℕ) → fpr_of_digits digits ≡ Some (Fpr.V4 octets)
+        → array_of_digits 20 digits ≡ Some octets }
     ensures printed { (octets : List ℕ) → digits_of (Fpr.V4 octets) ≡ encode_lower octets }
 {}
