@@ -11,6 +11,7 @@ use Rattle.wot_keyring.specs.declared.staging.Fault.TheVariants.{Clash, Memory}
 use Rattle.wot_keyring.specs.declared.tally.Weight.{Weight}
 use Rattle.wot_keyring.specs.Import.{with_certs, holding, IsOneChange}
 use Rattle.wot_keyring.specs.Importing.{MayUnite, AnswersUnited, asked_for}
+use Rattle.wot_keyring.specs.Later.{IsLater}
 use Rattle.wot_keyring.specs.Keyring.{Entries, Keyring, certificates_in}
 use Rattle.wot_keyring.specs.Kept.{AreSortedByFpr, IsKeyring, AreTotals}
 use Rattle.wot_keyring.specs.Staging.{kept_all, clash_in, weigh_kept, IsTally, AskedUpTo, IsClashTold}
@@ -58,8 +59,12 @@ module _ (rows : PolicyRows) (k now : Keyring) (v : k ≡ now) (stamp : ℕ) (st
     held_now = ap with_changes raised ∙ held rows k cs new fresh h put_now more grows ∙ ap (λ (z : Keyring). holding z (with_certs rows (certificates_in z) cs)) v
 
     module _ (still : (a b : Certificate) → items_of (unite a b) ≡ items_of a → unite a b ≡ a) where
-      pub counted_now : IsOneChange now (with_changes changes)
-      counted_now = subst (λ (z : Keyring). IsOneChange z (with_changes changes)) v (subst (λ n. IsOneChange k (with_changes n)) (sym raised) (changed_once rows k cs new fresh h put_now more grows still))
+      pub counted_now : IsLater now (with_changes changes) → IsOneChange now (with_changes changes)
+      counted_now later =
+          let before : IsLater k (with_changes (if nat_lt 0 fresh then k.changes + 1 else k.changes)) =
+          subst (λ n. IsLater k (with_changes n)) raised (subst (λ (z : Keyring). IsLater z (with_changes changes)) (sym v) later) in
+          subst (λ (z : Keyring). IsOneChange z (with_changes changes)) v
+          (subst (λ n. IsOneChange k (with_changes n)) (sym raised) (changed_once rows k cs new fresh h put_now more grows still before))
 
       pub keyring_now : ((a b : Certificate) → IsCertificate a → IsCertificate b → a.key ≡ b.key → IsCertificate (unite a b)) → ((rows : PolicyRows) (c : Certificate) → IsCertificate c → IsCertificate (judged rows c))
           → (total : Weight) (limit : ℕ) → limit ≡ now.limits.certificate → AreSortedByFpr new → IsTally limit new total → clash_in rows stamp k.certs list ≡ false → AllByRecursion IsCertificate cs → MayUnite now.limits (certificates_in now) cs

@@ -1,6 +1,7 @@
 -- What an import that nothing refuses leaves.
 use Rattle.std.proofs.Common.{◌≡◌, ◌≢◌, ◌≤◌, ◌+◌, ◌-◌, inl, inr, ℕ, Bool, true, false, ◌||◌, if◌then◌else◌, nat_lt, List, [], ◌∷◌, length, Option, Some, None, Ok, Err, sym, ap, ◌∙◌, subst, refl, arith}
 use Rattle.std.specs.List.{AllByRecursion}
+use Rattle.std.specs.Map.{lookup}
 use Rattle.std.proofs.lemmas.Bool.Decides.{nat_tests}
 use Rattle.wot_key.specs.Key.{fpr_of}
 use Rattle.wot_policy.specs.declared.rows.PolicyRows.{PolicyRows}
@@ -14,15 +15,16 @@ use Rattle.wot_keyring.specs.declared.import.Imported.{Imported}
 use Rattle.wot_keyring.specs.declared.kept.Kept.{Kept}
 use Rattle.wot_keyring.specs.declared.refusal.Refusal.TheVariants.{Clash}
 use Rattle.wot_keyring.specs.declared.tally.Weight.{Weight}
-use Rattle.wot_keyring.specs.Import.{weigh, with_certs, fresh_in, holding, answer_united, unless_full, first_full, IsOneChange}
+use Rattle.wot_keyring.specs.Import.{weigh, with_certs, fresh_in, holding, answer_united, unless_full, first_full, IsOneChange, KeepsAll}
 use Rattle.wot_keyring.specs.Held.{Held, held_of}
 use Rattle.wot_keyring.specs.Importing.{MayUnite}
-use Rattle.wot_keyring.specs.Keyring.{Entries, Keyring, certificates_in, stripped}
+use Rattle.wot_keyring.specs.Keyring.{Entries, Keyring, certificates_in, is_fpr, stripped}
+use Rattle.wot_keyring.specs.Later.{IsLater}
 use Rattle.wot_keyring.specs.Kept.{AreNamed, AreWhole, AreSortedByFpr, AreSized, AreStamped, IsKeyring, AreTotals}
 use Rattle.wot_keyring.specs.Staging.{found_for, kept_as, kept_with, kept_all, clash_at, clash_in, weigh_kept, long_of, IsTally}
 use Rattle.wot_keyring.proofs.Clashes.{keys_same}
 use Rattle.wot_keyring.proofs.Inserts.{put_at, found_at}
-use Rattle.wot_keyring.proofs.Marks.{stamped_all, stamped_after}
+use Rattle.wot_keyring.proofs.Marks.{kept_present, stamped_all, stamped_after}
 use Rattle.wot_keyring.proofs.Stamps.{still_stamped}
 use Rattle.wot_keyring.proofs.Transport.{certs_all, seen_weighs, seen_length}
 use Rattle.wot_keyring.proofs.Unchanged.{all_same}
@@ -115,8 +117,11 @@ module _ (rows : PolicyRows) (k : Keyring) (cs : List Certificate) (new : Entrie
       less_is fresh (weigh_kept items_of k.certs) _ more
       ∙ (λ i. (ap (weigh_kept items_of) put ∙ weighs_all items_of rows (k.changes + 1) k.certs cs) i - sym (weighs_stripped items_of k.certs) i)
 
+  abbrev with_changes : ℕ → Keyring
+  with_changes n = record { limits = k.limits; certs = new; verdicts = k.verdicts; changes = n }
+
   abbrev after : Keyring
-  after = record { limits = k.limits; certs = new; verdicts = k.verdicts; changes = if nat_lt 0 fresh then k.changes + 1 else k.changes }
+  after = with_changes (if nat_lt 0 fresh then k.changes + 1 else k.changes)
 
   -- It is the keyring of the definition.
   pub held : after ≡ holding k (with_certs rows (certificates_in k) cs)
@@ -149,12 +154,15 @@ module _ (rows : PolicyRows) (k : Keyring) (cs : List Certificate) (new : Entrie
         some_more fresh (weigh_kept items_of k.certs) (weigh_kept items_of new) more
         (sym (weighs_stripped items_of new) ∙ ap (λ (h : Held). weigh items_of h.certs) same ∙ weighs_stripped items_of k.certs) some
 
+    all_kept : KeepsAll k after
+    all_kept fpr none = kept_present rows (k.changes + 1) fpr k.certs cs (ap (λ (es : Entries). lookup (is_fpr fpr) es) (sym put) ∙ none)
+
     -- Nothing was altered, or something as one change.
-    pub changed_once : IsOneChange k after
+    pub changed_once : IsLater k after → IsOneChange k after
     changed_once =
-        (elim (nat_lt 0 fresh) as (λ b. nat_lt 0 fresh ≡ b → IsOneChange k (record { limits = k.limits; certs = new; verdicts = k.verdicts; changes = if b then k.changes + 1 else k.changes })) [
-          | true ↦ λ t. inr (refl, more_held t)
-          | false ↦ λ f. inl (ap (λ (es : Entries). record { limits = k.limits; certs = es; verdicts = k.verdicts; changes = k.changes }) (unchanged f))
+        (elim (nat_lt 0 fresh) as (λ b. nat_lt 0 fresh ≡ b → IsLater k (with_changes (if b then k.changes + 1 else k.changes)) → IsOneChange k (with_changes (if b then k.changes + 1 else k.changes))) [
+          | true ↦ λ t later. inr (record { counted = refl; altered = more_held t; later = later; kept = inl all_kept })
+          | false ↦ λ f later. inl (ap (λ (es : Entries). record { limits = k.limits; certs = es; verdicts = k.verdicts; changes = k.changes }) (unchanged f))
         ]) refl
 
     module _ (united : (a b : Certificate) → IsCertificate a → IsCertificate b → a.key ≡ b.key → IsCertificate (unite a b)) (marked : (rows : PolicyRows) (c : Certificate) → IsCertificate c → IsCertificate (judged rows c)) (total : Weight) (sorted : AreSortedByFpr new) (t : IsTally k.limits.certificate new total) (none : clash_in rows (k.changes + 1) k.certs cs ≡ false) (whole : AllByRecursion IsCertificate cs) (may : MayUnite k.limits (certificates_in k) cs) where

@@ -1,5 +1,5 @@
 -- What a change alters isn't as before.
-use Rattle.std.proofs.Common.{◌≡◌, ◌≢◌, inr, ℕ, ◌+◌, Bool, true, false, cond, List, [], ◌∷◌, length, Option, Some, None, refl, sym, ap, subst, ◌∙◌, arith}
+use Rattle.std.proofs.Common.{◌≡◌, ◌≢◌, inl, inr, ℕ, ◌+◌, ◌<◌, Bool, true, false, cond, List, [], ◌∷◌, length, Option, Some, None, refl, sym, ap, subst, ◌∙◌, arith}
 use Rattle.std.specs.declared.cmp.Ordering.{Ordering}
 use Rattle.std.specs.declared.cmp.Ordering.TheVariants.{Less, Equal, Greater}
 use Rattle.std.specs.Ordering.{is_eq, match_ordering}
@@ -8,8 +8,10 @@ use Rattle.std.specs.Cmp.Lexicographic.{on_texts}
 use Rattle.std.specs.BTreeMap.{insert_entry, is_at}
 use Rattle.std.specs.Prelude.{is_some}
 use Rattle.std.specs.Map.{lookup, remove_entry}
+use Rattle.std.specs.Option.{option_map}
 use Rattle.std.proofs.lemmas.Cmp.{tied_itself}
 use Rattle.std.proofs.lemmas.List.{length-map}
+use Rattle.std.proofs.lemmas.Map.Made.{lookup-map_values}
 use Rattle.wot_types.specs.declared.fpr.Fpr.{Fpr}
 use Rattle.wot_types.specs.declared.number.SigNumber.{SigNumber}
 use Rattle.wot_types.specs.SigNumber.{number_cmp}
@@ -18,10 +20,12 @@ use Rattle.wot_verdict.specs.declared.verdict.Verdict.{Verdict}
 use Rattle.wot_cert.specs.Certificate.{Certificate}
 use Rattle.wot_keyring.specs.declared.kept.Kept.{Kept}
 use Rattle.wot_keyring.specs.Held.{Held, held_of}
-use Rattle.wot_keyring.specs.Import.{IsAltered, IsOneChange}
+use Rattle.wot_keyring.specs.Import.{IsAltered, IsOneChange, KeepsAll}
 use Rattle.wot_keyring.specs.Keyring.{Entries, Keyring, is_fpr, kept_at, verdict_on}
+use Rattle.wot_keyring.specs.Kept.{IsKeyring}
 use Rattle.wot_keyring.specs.Removal.{without_cert}
-use Rattle.wot_keyring.specs.Verdict.{counted_at, with_verdict_on, without_verdict_on}
+use Rattle.wot_keyring.specs.Verdict.{counted_at, restamped, with_verdict_on, without_verdict_on}
+use Rattle.wot_keyring.proofs.Later.{cleared_later, removed_later, set_later}
 
 -- ---- entries
 
@@ -52,6 +56,9 @@ numbers_total = on_texts (λ (n : SigNumber). n.0)
 one_less : (n m : ℕ) → n + 1 ≡ m → n ≡ m → ⊥
 one_less n m e f = omega arith
 
+more_than : (n m : ℕ) → n + 1 ≡ m → n < m
+more_than n m e = omega arith
+
 abbrev bare : Fpr × Kept → Fpr × Certificate
 bare e = (e.0, e.1.cert)
 
@@ -71,21 +78,44 @@ cleared_altered k number v said = λ same.
     one_less (length (verdicts.without_verdict k.verdicts number)) (length k.verdicts) (removed_one (verdicts.is_number number) k.verdicts v said)
     (ap (λ (h : Held). length h.verdicts) same)
 
+-- a change of a verdict takes no certificate away
+verdict_keeps : (k : Keyring) (number : SigNumber) (said : verdicts.Entries) → KeepsAll k (counted_at number (record k { verdicts = said }))
+verdict_keeps k number said fpr none = by (kept_at k fpr) (sym (lookup-map_values (restamped number (k.changes + 1)) (is_fpr fpr) k.certs) ∙ none)
+  where
+    by : (o : Option Kept) → option_map (restamped number (k.changes + 1)) o ≡ None → o ≡ None
+    by None e = refl
+    by (Some x) e = absurd cc
+
 -- ---- the same, as it stands in place
 
-pub removed_once : (k now : Keyring) (fpr : Fpr) (x : Kept) (es : Entries) → k ≡ now → Some x ≡ kept_at k fpr → es ≡ remove_entry (is_fpr fpr) k.certs
+pub removed_once : (k now : Keyring) (fpr : Fpr) (x : Kept) (es : Entries) → k ≡ now → IsKeyring k → Some x ≡ kept_at k fpr → es ≡ remove_entry (is_fpr fpr) k.certs
     → IsOneChange now (record { limits = k.limits; certs = es; verdicts = k.verdicts; changes = k.changes + 1 })
-removed_once k now fpr x es seen found out = rw (out, ← seen) (inr (refl, removed_altered k fpr x found))
+removed_once k now fpr x es seen h found out = rw (out, ← seen) (inr (record {
+  counted = refl;
+  altered = removed_altered k fpr x found;
+  later = removed_later k fpr h;
+  kept = inr (more_than (length (remove_entry (is_fpr fpr) k.certs)) (length k.certs) (removed_one (is_fpr fpr) k.certs x (sym found)));
+}))
 
 pub set_once : (k now new : Keyring) (number : SigNumber) (v : Verdict) (said : verdicts.Entries) → k ≡ now → verdict_on now number ≢ Some v
     → said ≡ verdicts.with_verdict k.verdicts number v → new ≡ counted_at number (record k { verdicts = said }) → IsOneChange now new
 set_once k now new number v said seen unsaid set counted =
     let before : verdict_on k number ≢ Some v = subst (λ (z : Keyring). verdict_on z number ≢ Some v) (sym seen) unsaid in
-    rw (counted, set, ← seen) (inr (refl, set_altered k number v before))
+    rw (counted, set, ← seen) (inr (record {
+      counted = refl;
+      altered = set_altered k number v before;
+      later = set_later k number v;
+      kept = inl (verdict_keeps k number (verdicts.with_verdict k.verdicts number v));
+    }))
 
 pub cleared_once : (k now new : Keyring) (number : SigNumber) (said : verdicts.Entries) → k ≡ now → is_some (verdict_on k number) ≡ true
     → said ≡ verdicts.without_verdict k.verdicts number → new ≡ counted_at number (record k { verdicts = said }) → IsOneChange now new
-cleared_once k now new number said seen there cleared counted = rw (counted, cleared, ← seen) (inr (refl, altered (verdict_on k number) refl there))
+cleared_once k now new number said seen there cleared counted = rw (counted, cleared, ← seen) (inr (record {
+  counted = refl;
+  altered = altered (verdict_on k number) refl there;
+  later = cleared_later k number;
+  kept = inl (verdict_keeps k number (verdicts.without_verdict k.verdicts number));
+}))
   where
     altered : (o : Option Verdict) → verdict_on k number ≡ o → is_some o ≡ true → IsAltered k (without_verdict_on number k)
     altered None is there = absurd cc

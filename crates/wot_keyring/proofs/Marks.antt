@@ -33,6 +33,20 @@ none_least n = omega arith
 chain : (a b c : ℕ) → a ≤ b → b ≤ c → a ≤ c
 chain a b c h k = omega arith
 
+absent : (p o : Option Kept) → (is_some p ≡ true → is_some o ≡ true) → o ≡ None → p ≡ None
+absent None o there e = refl
+absent (Some y) o there e = let g : is_some {T = Kept} None ≡ true = subst (λ (z : Option Kept). is_some z ≡ true) e (there refl) in absurd cc
+
+still_there : (rows : PolicyRows) (stamp : ℕ) (fpr : Fpr) (es : Entries) (cs : List Certificate) → is_some (lookup (is_fpr fpr) es) ≡ true → is_some (lookup (is_fpr fpr) (kept_all rows stamp es cs)) ≡ true
+still_there rows stamp fpr es [] there = there
+still_there rows stamp fpr es (c ∷ cs) there =
+    still_there rows stamp fpr (kept_with rows stamp es c) cs (still_present fpr es (fpr_of c.key) (kept_as rows stamp (found_for es c) c) there)
+
+-- nothing that was kept is gone
+pub kept_present : (rows : PolicyRows) (stamp : ℕ) (fpr : Fpr) (es : Entries) (cs : List Certificate) → lookup (is_fpr fpr) (kept_all rows stamp es cs) ≡ None → lookup (is_fpr fpr) es ≡ None
+kept_present rows stamp fpr es cs none =
+    absent (lookup (is_fpr fpr) es) (lookup (is_fpr fpr) (kept_all rows stamp es cs)) (still_there rows stamp fpr es cs) none
+
 marked_first : (k : Keyring) (e : Fpr × Kept) → lookup (is_fpr e.0) k.certs ≡ Some e.1 → Marked k e.0 e.1
 marked_first k e found = record {
   stamp_is = sym (ap (λ (o : Option Kept). stamp_for (k.changes + 1) o e.1.cert) found ∙ ap (λ b. cond b (k.changes + 1) e.1.stamp) (not_below (items_of e.1.cert)));
@@ -53,10 +67,6 @@ module _ (rows : PolicyRows) (k : Keyring) (grows : (a b : Certificate) → item
   over : (fpr : Fpr) (p : Option Kept) (x : Kept) (v : Certificate) → x.stamp ≡ stamp_for s p x.cert → found_by items_of p ≤ items_of x.cert → items_of x.cert ≤ items_of v → (if nat_lt (items_of x.cert) (items_of v) then s else x.stamp) ≡ stamp_for s p v
   over fpr None x v e h m = both_ways (nat_lt (items_of x.cert) (items_of v)) s x.stamp e
   over fpr (Some o) x v e h m = ap (λ t. if nat_lt (items_of x.cert) (items_of v) then s else t) e ∙ nested (items_of o.cert) (items_of x.cert) (items_of v) s o.stamp h m
-
-  absent : (p o : Option Kept) → (is_some p ≡ true → is_some o ≡ true) → o ≡ None → p ≡ None
-  absent None o there e = refl
-  absent (Some y) o there e = let g : is_some {T = Kept} None ≡ true = subst (λ (z : Option Kept). is_some z ≡ true) e (there refl) in absurd cc
 
   marked_with : (es : Entries) (c : Certificate) → AllByRecursion (λ (e : Fpr × Kept). Marked k e.0 e.1) es → ((q : Fpr) → is_some (kept_at k q) ≡ true → is_some (lookup (is_fpr q) es) ≡ true) → Marked k (fpr_of c.key) (kept_as rows s (found_for es c) c)
   marked_with es c all there =

@@ -1,6 +1,6 @@
 -- What an import of octets answers, and what it does: each certificate of them united with the kept one, all or none.
 -- To load the entry of a directory is the same, where something is demanded of the certificates.
-use Rattle.std.specs.Prelude.{◌≡◌, ◌≢◌, ◌≤◌, ◌⊎◌, ℕ, ◌+◌, ◌-◌, Bool, true, false, not, ◌&&◌, ◌||◌, nat_eq, nat_lt}
+use Rattle.std.specs.Prelude.{◌≡◌, ◌≢◌, ◌<◌, ◌≤◌, ◌⊎◌, ℕ, ◌+◌, ◌-◌, Bool, true, false, not, ◌&&◌, ◌||◌, nat_eq, nat_lt}
 use Rattle.std.specs.Prelude.{if◌then◌else◌, List, [], ◌∷◌, map, length, Option, Some, None, Result, Ok, Err}
 use Rattle.std.specs.List.{list_any}
 use Rattle.std.specs.Cmp.Lexicographic.{pointwise}
@@ -31,6 +31,7 @@ use Rattle.wot_keyring.specs.declared.refusal.Refusal.{Refusal}
 use Rattle.wot_keyring.specs.declared.refusal.Refusal.TheVariants.{Packet, Cert, Misfiled, Clash, Full, Memory}
 use Rattle.wot_keyring.specs.Keyring.{Keyring, Certificates, is_fpr, kept_at, certificates_in}
 use Rattle.wot_keyring.specs.Held.{Held, held_of}
+use Rattle.wot_keyring.specs.Later.{IsLater}
 
 -- ---- the union
 
@@ -211,6 +212,18 @@ AsksFor result rows old octets IsRisenBy = (k : ℕ) × IsRisenBy k × IsAsked r
 abbrev pub IsAltered : Keyring → Keyring → Type 0
 IsAltered old new = held_of new ≢ held_of old
 
+-- No certificate that was kept is gone.
+abbrev pub KeepsAll : Keyring → Keyring → Type 0
+KeepsAll old new = (fpr : Fpr) → kept_at new fpr ≡ None → kept_at old fpr ≡ None
+
+-- What is held was altered, and that was counted as one change. Where a certificate is gone it was taken out, and then
+-- fewer are kept.
+pub record IsAlteration (old new : Keyring) : Type 0 where
+  pub counted : new.changes ≡ old.changes + 1
+  pub altered : IsAltered old new
+  pub later : IsLater old new
+  pub kept : KeepsAll old new ⊎ (length new.certs < length old.certs)
+
 -- Nothing was altered, no stamp and no count; or what is held was, and that was counted as one change.
 abbrev pub IsOneChange : Keyring → Keyring → Type 0
-IsOneChange old new = (new ≡ old) ⊎ ((new.changes ≡ old.changes + 1) × IsAltered old new)
+IsOneChange old new = (new ≡ old) ⊎ IsAlteration old new

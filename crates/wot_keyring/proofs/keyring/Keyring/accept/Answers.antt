@@ -40,6 +40,7 @@ returns-in-Ok-clause-asked g c =
 pub returns-in-Ok-clause-counted : goal.returns-in-Ok-clause-counted
 returns-in-Ok-clause-counted g c =
     counted_now (rows_of c.args.policy.now) (record { limits = c.self.inside.limits; certs = c.self.inside.certs.entries; verdicts = c.self.inside.verdicts; changes = c.self.inside.changes }) c.args.self.now c.self.view_is c.terms-terms.result.stamp c.terms-terms.ensures.stamp c.args.list.now c.args.list.now refl c.self.invariant.0 c.unite_all.new.certs.entries c.in-Ok.tally.fresh c.raised-self-inside.result c.in-Ok.ensures.put c.in-Ok.ensures.fresh c.united_grows.ensures.items c.raised-self-inside.ensures.raised c.nothing_added.ensures.items
+    (returns-in-Ok-clause-later g c)
 
 pub returns-in-Err-Clash-clause-answer : goal.returns-in-Err-Clash-clause-answer
 returns-in-Err-Clash-clause-answer g c = absurd (no_clash (rows_of c.args.policy.now) (record { limits = c.self.inside.limits; certs = c.self.inside.certs.entries; verdicts = c.self.inside.verdicts; changes = c.self.inside.changes }) c.args.self.now c.self.view_is c.terms-terms.result.stamp c.terms-terms.ensures.stamp c.args.list.now c.args.list.now refl c.self.invariant.0 c.requires.may c.in-Err-Clash.field-0 c.in-Err-Clash.field-0-is c.in-Err-Clash.ensures.clash)

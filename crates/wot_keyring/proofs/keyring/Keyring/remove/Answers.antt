@@ -35,7 +35,7 @@ pub returns-in_default-clause-later : goal.returns-in_default-clause-later
 returns-in_default-clause-later c = later_itself c.args.self.now
 
 pub returns-clause-counted : goal.returns-clause-counted
-returns-clause-counted c = removed_once _ c.args.self.now c.args.fpr.now c.in-Some.kept.now c.take_out.new.certs.entries c.self.view_is c.in-Some.ensures.found c.take_out.ensures.out
+returns-clause-counted c = removed_once _ c.args.self.now c.args.fpr.now c.in-Some.kept.now c.take_out.new.certs.entries c.self.view_is c.self.invariant.0 c.in-Some.ensures.found c.take_out.ensures.out
 
 pub returns-clause-held : goal.returns-clause-held
 returns-clause-held c = removed_in_place _ c.args.self.now c.args.fpr.now c.take_out.new.certs.entries c.self.view_is c.take_out.ensures.out
