@@ -1,14 +1,12 @@
-ghost use Rattle.std.specs.Prelude.{◌≡◌, ◌≤◌, ◌↔◌, ℕ, List, [], length, IfOk};
+ghost use Rattle.std.specs.Prelude.{◌≡◌, ◌≤◌, ◌↔◌, [], length, IfOk};
 ghost use Rattle.wot_types.specs.declared.fpr.Fpr.{Fpr as TheFpr};
-ghost use Rattle.wot_edge.specs.declared.path.Path.{Path as ThePath};
-ghost use Rattle.wot_edge.specs.Record.{IsRecord};
 ghost use Rattle.wot_edge.specs.Roots.{root_amount};
-ghost use Rattle.wot_edge.specs.Path.{Question, asks, use_of, IsSpent};
+ghost use Rattle.wot_edge.specs.Path.{asks, use_of, IsSpent};
 ghost use Rattle.wot_edge.specs.Answer.{IsAnswer, amount_of};
 ghost use Rattle.wot_edge.specs.Capacity.{AllFit};
-ghost use Rattle.wot_edge.specs.Agree.{Agree};
 ghost use Rattle.wot_edge.specs.Leads.{Grows, GainsLeads};
 ghost use Rattle.wot_search.specs.Reach.{IsReach};
+ghost use Rattle.wot_auth.specs.Agreed.{IsOnlyAnswer, IsAnswerOfAgreeing, IsOnlyOfAgreeing};
 
 use crate::Answer;
 use crate::take::take;
@@ -33,20 +31,21 @@ pub fn authenticate<R: Roads>(
 ) -> Result<Answer, Memory>
     requires wanted { 1 ≤ wanted }
     requires few { length roots.now ≤ 64 }
-    ensures answer { IfOk result (λ answer. IsAnswer (asks (R.told roads.now uid.now) roots.now target.now) wanted answer.paths) }
-    ensures one { IfOk result (λ answer. (paths : List ThePath)
-        → IsAnswer (asks (R.told roads.now uid.now) roots.now target.now) wanted paths → paths ≡ answer.paths) }
+    ensures answer { IfOk result (λ answer. IsAnswer (asks (R.told roads.now uid.now) roots.now target.now) wanted
+        answer.paths) }
+    ensures one { IfOk result (IsOnlyAnswer (asks (R.told roads.now uid.now) roots.now target.now) wanted) }
     ensures sum { IfOk result (λ answer. answer.sum ≡ amount_of answer.paths) }
-    ensures zero { IfOk result (λ answer. (answer.sum ≡ 0) ↔ IsSpent (asks (R.told roads.now uid.now) roots.now target.now) (use_of [])) }
+    ensures zero { IfOk result (λ answer. (answer.sum ≡ 0)
+        ↔ IsSpent (asks (R.told roads.now uid.now) roots.now target.now) (use_of [])) }
     ensures pairs { IfOk result (λ answer. AllFit [] answer.paths) }
-    ensures roots { IfOk result (λ answer. (fpr : TheFpr) → (use_of answer.paths).root fpr ≤ root_amount roots.now fpr) }
+    ensures roots { IfOk result (λ answer. (fpr : TheFpr)
+        → (use_of answer.paths).root fpr ≤ root_amount roots.now fpr) }
     ensures grows { Grows consulted.old consulted.new }
     ensures leads { GainsLeads (R.told roads.now uid.now) target.now consulted.old consulted.new }
-    ensures local { IfOk result (λ answer. (other : Question)
-        → Agree (asks (R.told roads.now uid.now) roots.now target.now) other consulted.new → IsAnswer other wanted answer.paths) }
-    ensures local_one { IfOk result (λ answer. (other : Question)
-        → Agree (asks (R.told roads.now uid.now) roots.now target.now) other consulted.new → IsRecord other.told
-        → (paths : List ThePath) → IsAnswer other wanted paths → paths ≡ answer.paths) }
+    ensures local { IfOk result (IsAnswerOfAgreeing (asks (R.told roads.now uid.now) roots.now target.now) wanted
+        consulted.new) }
+    ensures local_one { IfOk result (IsOnlyOfAgreeing (asks (R.told roads.now uid.now) roots.now target.now) wanted
+        consulted.new) }
 {
     let reach = Reach::everywhere(alloc);
     let answer = take(alloc, roads, roots, &reach, target, uid, wanted, consulted)?;
@@ -69,10 +68,11 @@ pub fn authenticate_metered<R: Roads>(
 ) -> Result<Answer, Memory>
     requires wanted { 1 ≤ wanted }
     requires few { length roots.now ≤ 64 }
-    ensures answer { IfOk result (λ answer. IsAnswer (asks (R.told roads.now uid.now) roots.now target.now) wanted answer.paths) }
+    ensures answer { IfOk result (λ answer. IsAnswer (asks (R.told roads.now uid.now) roots.now target.now) wanted
+        answer.paths) }
     ensures sum { IfOk result (λ answer. answer.sum ≡ amount_of answer.paths) }
-    ensures local { IfOk result (λ answer. (other : Question)
-        → Agree (asks (R.told roads.now uid.now) roots.now target.now) other metered.new.consulted → IsAnswer other wanted answer.paths) }
+    ensures local { IfOk result (IsAnswerOfAgreeing (asks (R.told roads.now uid.now) roots.now target.now) wanted
+        metered.new.consulted) }
 {
     let reach = Reach::everywhere(alloc);
     let answer = take(alloc, roads, roots, &reach, target, uid, wanted, metered)?;
@@ -93,9 +93,9 @@ pub fn authenticate_within<R: Roads>(
     requires wanted { 1 ≤ wanted }
     requires few { length roots.now ≤ 64 }
     requires reach { IsReach (R.told roads.now) roots.now reach.now }
-    ensures answer { IfOk result (λ answer. IsAnswer (asks (R.told roads.now uid.now) roots.now target.now) wanted answer.paths) }
-    ensures one { IfOk result (λ answer. (paths : List ThePath)
-        → IsAnswer (asks (R.told roads.now uid.now) roots.now target.now) wanted paths → paths ≡ answer.paths) }
+    ensures answer { IfOk result (λ answer. IsAnswer (asks (R.told roads.now uid.now) roots.now target.now) wanted
+        answer.paths) }
+    ensures one { IfOk result (IsOnlyAnswer (asks (R.told roads.now uid.now) roots.now target.now) wanted) }
     ensures sum { IfOk result (λ answer. answer.sum ≡ amount_of answer.paths) }
 {
     let answer = take(

@@ -6,7 +6,7 @@ ghost use Rattle.wot_auth.specs.Sum.{IsSumOf};
 use std::alloc::Global;
 use wot_edge::laws::{answer_is_one, next_path_is_one, paths_fit};
 use wot_edge::{Path, Roads, Roots, Used};
-use wot_search::{Next, Reach, next_below};
+use wot_search::{Asked, Next, Reach, next_below};
 use wot_types::{Fpr, Memory};
 
 /// The sum of the answer alone. Of its last path no more than the amount is looked for, where that suffices.
@@ -31,23 +31,19 @@ pub fn sum_within<R: Roads>(
     next_path_is_one();
     // What is told is lawful.
     let _rows = roads.rows(target);
+    let asked = Asked {
+        roots,
+        reach,
+        target,
+        uid,
+    };
     let mut used = Used::new(alloc);
     let mut paths: Vec<Path> = Vec::new(alloc);
     let mut offers: Vec<Path> = Vec::new(alloc);
     let mut sum: u32 = 0;
     'paths: while sum < wanted {
         let rest = wanted - sum;
-        let next = next_below(
-            alloc,
-            roads,
-            roots,
-            reach,
-            &used,
-            target,
-            uid,
-            rest,
-            &mut offers,
-        )?;
+        let next = next_below(alloc, roads, &asked, &used, rest, &mut offers)?;
         match next {
             Next::Spent => return Ok(sum),
             Next::Enough(amount) => return Ok(sum + u32::from(amount)),

@@ -1,18 +1,17 @@
 ghost use Rattle.std.specs.Prelude.{◌≡◌, ◌≤◌, length, IfOk};
 ghost use Rattle.wot_edge.specs.Record.{IsRecord};
-ghost use Rattle.wot_types.specs.declared.fpr.Fpr.{Fpr as Print};
 ghost use Rattle.wot_edge.specs.Path.{asks};
 ghost use Rattle.wot_edge.specs.Answer.{IsAnswer, amount_of};
 ghost use Rattle.wot_edge.specs.Leads.{Leads};
 ghost use Rattle.wot_search.specs.Looked.{Gains, Widens};
-ghost use Rattle.wot_search.specs.Reach.{IsReach, number_at};
-ghost use Rattle.wot_auth.specs.Agreed.{IsAnswerWhereAgreed};
+ghost use Rattle.wot_search.specs.Reach.{IsReach};
+ghost use Rattle.wot_auth.specs.Agreed.{IsAnswerLocally};
 
 use crate::Answer;
 use std::alloc::Global;
 use wot_edge::laws::paths_fit;
 use wot_edge::{Path, PathList, Roads, Roots, Used};
-use wot_search::{Notes, Reach, next_offered};
+use wot_search::{Asked, Notes, Reach, next_offered};
 use wot_types::{Fpr, Memory};
 
 /// Takes next paths until their sum reaches what is wanted, or none is left.
@@ -29,35 +28,32 @@ pub fn take<R: Roads, N: Notes>(
     requires wanted { 1 ≤ wanted }
     requires few { length roots.now ≤ 64 }
     requires reach { IsReach (R.told roads.now) roots.now reach.now }
-    ensures answer { IfOk result (λ answer. IsAnswer (asks (R.told roads.now uid.now) roots.now target.now) wanted answer.paths) }
+    ensures answer { IfOk result (λ answer. IsAnswer (asks (R.told roads.now uid.now) roots.now target.now) wanted
+        answer.paths) }
     ensures sum { IfOk result (λ answer. answer.sum ≡ amount_of answer.paths) }
     ensures lawful { IfOk result (λ answer. IsRecord (R.told roads.now uid.now)) }
     ensures grows { Widens (N.noted notes.old) (N.noted notes.new) }
     ensures leads { Gains (Leads (R.told roads.now uid.now) target.now) (N.noted notes.old) (N.noted notes.new) }
-    ensures local { ((fpr : Print) → number_at reach.now fpr ≡ 255) → IfOk result (λ answer. IsAnswerWhereAgreed
-        (asks (R.told roads.now uid.now) roots.now target.now) wanted (N.noted notes.new) answer.paths) }
+    ensures local { IfOk result (IsAnswerLocally reach.now (asks (R.told roads.now uid.now) roots.now target.now) wanted
+        (N.noted notes.new)) }
 {
     // What the bounds rest on: no root has more than 255, and next paths use no more than there is.
     let _count = roots.len();
     paths_fit();
     // What is told is lawful.
     let _rows = roads.rows(target);
+    let asked = Asked {
+        roots,
+        reach,
+        target,
+        uid,
+    };
     let mut used = Used::new(alloc);
     let mut paths: Vec<Path> = Vec::new(alloc);
     let mut offers: Vec<Path> = Vec::new(alloc);
     let mut sum: u32 = 0;
     'paths: while sum < wanted {
-        let next = next_offered(
-            alloc,
-            roads,
-            roots,
-            reach,
-            &used,
-            target,
-            uid,
-            &mut offers,
-            notes,
-        )?;
+        let next = next_offered(alloc, roads, &asked, &used, &mut offers, notes)?;
         match next {
             None => {
                 let paths = PathList::new(paths);

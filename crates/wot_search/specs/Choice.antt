@@ -17,7 +17,8 @@ node_width (Some node) = node.width
 
 -- what a path from here has: the least of what is left of the root and of the edges
 abbrev pub choice_at : Quest → Found → Fpr → Choice
-choice_at quest found fpr = record { fpr = fpr; width = min (root_left quest.question quest.used fpr) (node_width (found fpr)) }
+choice_at quest found fpr =
+    record { fpr = fpr; width = min (root_left quest.question quest.used fpr) (node_width (found fpr)) }
 
 abbrev pub is_ahead : Goal → Choice → Choice → Bool
 is_ahead Widest a b = nat_lt b.width a.width
@@ -30,7 +31,8 @@ ahead_of goal a (Some b) = cond (is_ahead goal a b) a b
 -- the choice so far, and one more fingerprint
 abbrev pub taken : Quest → Found → Option Choice → Fpr → Option Choice
 taken quest found best fpr =
-    cond (nat_le quest.least (root_left quest.question quest.used fpr)) (Some (ahead_of quest.goal (choice_at quest found fpr) best)) best
+    cond (nat_le quest.least (root_left quest.question quest.used fpr))
+    (Some (ahead_of quest.goal (choice_at quest found fpr) best)) best
 
 abbrev pub chosen : Quest → Found → Option Choice → List Fpr → Option Choice
 chosen quest found best [] = best

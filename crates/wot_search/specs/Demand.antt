@@ -24,10 +24,12 @@ demand_of q size = cond (nat_eq size 0) (On (entry_at q.told q.target).place) (B
 
 -- whether so much is left of an edge before so many others, and its issuer reaches so far
 abbrev pub is_enough : Quest → ℕ → EdgeFacts → Bool
-is_enough quest size edge = nat_le quest.least (step_left quest.used (step_of edge)) && nat_lt size (quest.reach edge.issuer)
+is_enough quest size edge =
+    nat_le quest.least (step_left quest.used (step_of edge)) && nat_lt size (quest.reach edge.issuer)
 
 -- what would be kept of an edge before a suffix of so many edges, and of so much
 abbrev pub candidate_of : Quest → Demand → ℕ → ℕ → EdgeFacts → Option Node
 candidate_of quest demand size width edge =
     cond (is_met quest.question.target demand edge && is_enough quest size edge)
-    (Some (record { step = step_of edge; size = size + 1; width = min (step_left quest.used (step_of edge)) width })) None
+    (Some (record { step = step_of edge; size = size + 1; width = min (step_left quest.used (step_of edge)) width }))
+    None

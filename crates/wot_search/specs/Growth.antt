@@ -13,7 +13,8 @@ use Rattle.wot_search.specs.declared.node.Node.{Node}
 use Rattle.wot_search.specs.declared.node.Demand.{Demand}
 use Rattle.wot_search.specs.declared.node.Goal.{Goal}
 use Rattle.wot_search.specs.declared.reached.Reached.{Reached}
-use Rattle.wot_search.specs.Quest.{Quest}
+use Rattle.wot_search.specs.declared.quest.Quest.{Quest as Told}
+use Rattle.wot_search.specs.Quest.{Quest, quest_of}
 use Rattle.wot_search.specs.Suffix.{Serves, Found, Kept, width}
 use Rattle.wot_search.specs.Layer.{Covered, IsEntry, IsLayer, IsComplete, IsGrowing, Onward, is_kept}
 use Rattle.wot_search.specs.Choice.{node_width}
@@ -38,7 +39,8 @@ may_stand_of size row = row.usable && (nat_eq size 0 || row.scope)
 
 -- a node is put for its issuer, and a new issuer is of the last layer
 abbrev pub PutsNode : Reached → Reached → Node → Type 0
-PutsNode old new node = (fpr : Fpr) → look new.nodes fpr ≡ (if same_fpr node.step.issuer fpr then Some node else look old.nodes fpr)
+PutsNode old new node =
+    (fpr : Fpr) → look new.nodes fpr ≡ (if same_fpr node.step.issuer fpr then Some node else look old.nodes fpr)
 
 abbrev pub PutsIssuer : Reached → Reached → Fpr → Type 0
 PutsIssuer old new fpr =
@@ -67,16 +69,16 @@ pub record Advances (quest : Quest) (size : ℕ) (old new : Reached) : Type 0 wh
 -- if this edge may stand before the rest, it is covered there
 abbrev pub IsTaken : Quest → Found → EdgeFacts → List Step → Type 0
 IsTaken quest found edge rest =
-    (row : Row) → Has (rows_into quest.question.told (start quest.question.target rest)) row → row.edge ≡ edge → row.usable ≡ true
-    → Reaches quest.question row rest → quest.least ≤ step_left quest.used (step_of edge) → length rest < quest.reach edge.issuer
-    → Covered quest found (step_of edge ∷ rest)
+    (row : Row) → Has (rows_into quest.question.told (start quest.question.target rest)) row → row.edge ≡ edge
+    → row.usable ≡ true → Reaches quest.question row rest → quest.least ≤ step_left quest.used (step_of edge)
+    → length rest < quest.reach edge.issuer → Covered quest found (step_of edge ∷ rest)
 
 -- if it may stand there but for being usable, its issuer was looked at
 abbrev pub IsNoted : Quest → (Fpr → Type 0) → EdgeFacts → List Step → Type 0
 IsNoted quest set edge rest =
     (row : Row) → Has (rows_into quest.question.told (start quest.question.target rest)) row → row.edge ≡ edge
-    → Reaches quest.question row rest → quest.least ≤ step_left quest.used (step_of edge) → length rest < quest.reach edge.issuer
-    → set edge.issuer
+    → Reaches quest.question row rest → quest.least ≤ step_left quest.used (step_of edge)
+    → length rest < quest.reach edge.issuer → set edge.issuer
 
 -- all for which something was found were looked at
 abbrev pub AreNoted : Found → (Fpr → Type 0) → Type 0
@@ -110,6 +112,10 @@ abbrev pub NotesEdge : Quest → ℕ → EdgeFacts → Reached → (Fpr → Type
 NotesEdge quest size edge old before after =
     (rest : List Step) → length rest ≡ size → AreNoted (look old.nodes) before → IsNoted quest after edge rest
 
+-- the same of the program's quest, by what the roads tell
+abbrev pub SeesEdge : (List ℕ → Record) → Told → ℕ → EdgeFacts → Reached → (Fpr → Type 0) → (Fpr → Type 0) → Type 0
+SeesEdge told quest size edge old before after = NotesEdge (quest_of told quest) size edge old before after
+
 -- ---- one fingerprint of the layer before
 
 -- the width of what was found of so many edges; the empty suffix has all
@@ -131,31 +137,34 @@ TakesInto quest size at old new =
     (rest : List Step) → Kept quest (look old.nodes) rest → length rest ≡ size → start quest.question.target rest ≡ at
     → IsGrowing quest size (look old.nodes) old.layer.items → AreTaken quest (look new.nodes) rest
 
-abbrev pub SeesInto : Quest → ℕ → Fpr → Reached → (Fpr → Type 0) → (Fpr → Type 0) → Type 0
-SeesInto quest size at old before after =
-    (rest : List Step) → length rest ≡ size → start quest.question.target rest ≡ at
-    → AreNoted (look old.nodes) before → IsSeen quest after rest
+abbrev pub SeesInto : (List ℕ → Record) → Told → ℕ → Fpr → Reached → (Fpr → Type 0) → (Fpr → Type 0) → Type 0
+SeesInto told quest size at old before after =
+    (rest : List Step) → length rest ≡ size → start quest.target.now rest ≡ at
+    → AreNoted (look old.nodes) before → IsSeen (quest_of told quest) after rest
 
 -- ---- one layer
 
 -- After the edges into each fingerprint of the layer of so many edges are considered.
 abbrev pub GrowsByLayer : Quest → ℕ → List Fpr → Reached → Reached → Type 0
 GrowsByLayer quest size layer old new =
-    IsLayer quest (look old.nodes) size layer → IsGrowing quest size (look old.nodes) old.layer.items → Advances quest size old new
+    IsLayer quest (look old.nodes) size layer → IsGrowing quest size (look old.nodes) old.layer.items
+    → Advances quest size old new
 
 abbrev pub TakesLayer : Quest → ℕ → List Fpr → Reached → Reached → Type 0
 TakesLayer quest size layer old new =
     IsLayer quest (look old.nodes) size layer → IsGrowing quest size (look old.nodes) old.layer.items
     → (rest : List Step) → Kept quest (look new.nodes) rest → length rest ≡ size → AreTaken quest (look new.nodes) rest
 
-abbrev pub SeesLayer : Quest → ℕ → List Fpr → Reached → (Fpr → Type 0) → (Fpr → Type 0) → Type 0
-SeesLayer quest size layer old before after =
+abbrev pub SeesLayer : (List ℕ → Record) → Told → ℕ → List Fpr → Reached → (Fpr → Type 0) → (Fpr → Type 0) → Type 0
+SeesLayer told quest size layer old before after =
     AreNoted (look old.nodes) before
-    → (rest : List Step) → length rest ≡ size → Has layer (start quest.question.target rest) → IsSeen quest after rest
+    → (rest : List Step) → length rest ≡ size → Has layer (start quest.target.now rest)
+    → IsSeen (quest_of told quest) after rest
 
 -- what is known after a layer
 pub record IsAfter (quest : Quest) (size : ℕ) (reached : Reached) (set : Fpr → Type 0) : Type 0 where
-  pub entries : (fpr : Fpr) (node : Node) → look reached.nodes fpr ≡ Some node → IsEntry quest (look reached.nodes) size fpr node
+  pub entries : (fpr : Fpr) (node : Node) → look reached.nodes fpr ≡ Some node
+      → IsEntry quest (look reached.nodes) size fpr node
   pub complete : IsComplete quest (look reached.nodes) size
   pub layer : IsLayer quest (look reached.nodes) size reached.layer.items
   pub noted : AreNoted (look reached.nodes) set
@@ -168,16 +177,19 @@ IsUnrooted quest found size =
     → quest.least ≤ root_left quest.question quest.used (start quest.question.target steps) → ⊥
 
 -- One layer more: what was known stays known, of one edge more.
-abbrev pub GoesOn : Quest → ℕ → Reached → Reached → (Fpr → Type 0) → (Fpr → Type 0) → Type 0
-GoesOn quest size old new before after = IsAfter quest size old before → IsAfter quest (suc size) new after
+abbrev pub GoesOn : (List ℕ → Record) → Told → ℕ → Reached → Reached → (Fpr → Type 0) → (Fpr → Type 0) → Type 0
+GoesOn told quest size old new before after =
+    IsAfter (quest_of told quest) size old before → IsAfter (quest_of told quest) (suc size) new after
 
-abbrev pub StaysUnrooted : Quest → ℕ → Reached → Reached → (Fpr → Type 0) → Type 0
-StaysUnrooted quest size old new before =
-    IsAfter quest size old before → IsUnrooted quest (look old.nodes) (suc size) → IsUnrooted quest (look new.nodes) (suc size)
+abbrev pub StaysUnrooted : (List ℕ → Record) → Told → ℕ → Reached → Reached → (Fpr → Type 0) → Type 0
+StaysUnrooted told quest size old new before =
+    IsAfter (quest_of told quest) size old before → IsUnrooted (quest_of told quest) (look old.nodes) (suc size)
+    → IsUnrooted (quest_of told quest) (look new.nodes) (suc size)
 
-abbrev pub GainsAfter : Quest → ℕ → Reached → (Fpr → Type 0) → (Fpr → Type 0) → Type 0
-GainsAfter quest size old before after =
-    IsAfter quest size old before → Gains (Leads quest.question.told quest.question.target) before after
+abbrev pub GainsAfter : (List ℕ → Record) → Told → ℕ → Reached → (Fpr → Type 0) → (Fpr → Type 0) → Type 0
+GainsAfter told quest size old before after =
+    IsAfter (quest_of told quest) size old before
+    → Gains (Leads (told quest.uid.now) quest.target.now) before after
 
 -- ---- what a search gives
 
@@ -207,7 +219,8 @@ IsTurn quest found size (Some path) = IsFirstPath quest size path
 abbrev pub TurnsTo : Quest → ℕ → Reached → Option Path → Type 0
 TurnsTo quest size reached found =
     IsRecord quest.question.told → IsSmall quest → IsLayer quest (look reached.nodes) size reached.layer.items
-    → IsComplete quest (look reached.nodes) size → IsUnrooted quest (look reached.nodes) size → IsTurn quest (look reached.nodes) size found
+    → IsComplete quest (look reached.nodes) size → IsUnrooted quest (look reached.nodes) size
+    → IsTurn quest (look reached.nodes) size found
 
 -- the first path, or that there is none
 abbrev pub IsResult : Quest → Option Path → Type 0

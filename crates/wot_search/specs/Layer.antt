@@ -1,5 +1,6 @@
 -- Layers: what is known of the suffixes that were found of at most so many edges.
-use Rattle.std.specs.Prelude.{◌≡◌, ◌≢◌, ◌⊎◌, ℕ, suc, ◌<◌, ◌≤◌, nat_lt, nat_eq, ◌&&◌, Bool, true, List, ◌∷◌, length, Option, Some, None}
+use Rattle.std.specs.Prelude.{◌≡◌, ◌≢◌, ◌⊎◌, ℕ, suc, ◌<◌, ◌≤◌, nat_lt, nat_eq, ◌&&◌, Bool, true}
+use Rattle.std.specs.Prelude.{List, ◌∷◌, length, Option, Some, None}
 use Rattle.std.specs.declared.cmp.Ordering.{Ordering}
 use Rattle.std.specs.declared.cmp.Ordering.TheVariants.{Less}
 use Rattle.std.specs.Ordering.{is_lt, nat_cmp, ordering_then}
@@ -49,7 +50,8 @@ pub record IsEntry (quest : Quest) (found : Found) (most : ℕ) (fpr : Fpr) (nod
 -- a layer: where the suffixes begin that were found of so many edges
 pub record IsLayer (quest : Quest) (found : Found) (size : ℕ) (layer : List Fpr) : Type 0 where
   pub each : (fpr : Fpr) → Has layer fpr → Begins quest found size fpr
-  pub all : (steps : List Step) → Kept quest found steps → length steps ≡ size → Has layer (start quest.question.target steps)
+  pub all : (steps : List Step) → Kept quest found steps → length steps ≡ size
+      → Has layer (start quest.question.target steps)
 
 -- all suffixes of at most so many edges are covered
 abbrev pub IsComplete : Quest → Found → ℕ → Type 0

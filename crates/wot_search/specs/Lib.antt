@@ -13,3 +13,4 @@ pub mod Reached
 pub mod Growth
 pub mod Offers
 pub mod Below
+pub mod Asked

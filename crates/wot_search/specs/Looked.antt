@@ -19,8 +19,9 @@ Gains only before after = (fpr : Fpr) → after fpr → before fpr ⊎ only fpr
 -- that may stand before them, of which so much is left, and that reaches so far, if only it is usable.
 pub record IsSeen (quest : Quest) (set : Fpr → Type 0) (rest : List Step) : Type 0 where
   pub it : set (start quest.question.target rest)
-  pub issuers : (row : Row) → Has (rows_into quest.question.told (start quest.question.target rest)) row → Reaches quest.question row rest
-      → quest.least ≤ step_left quest.used (step_of row.edge) → length rest < quest.reach row.edge.issuer → set row.edge.issuer
+  pub issuers : (row : Row) → Has (rows_into quest.question.told (start quest.question.target rest)) row
+      → Reaches quest.question row rest → quest.least ≤ step_left quest.used (step_of row.edge)
+      → length rest < quest.reach row.edge.issuer → set row.edge.issuer
 
 -- the same before each suffix of fewer edges
 abbrev pub IsLooked : Quest → ℕ → (Fpr → Type 0) → Type 0

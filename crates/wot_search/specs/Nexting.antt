@@ -8,7 +8,10 @@ use Rattle.wot_edge.specs.Path.{Question, Use}
 use Rattle.wot_edge.specs.Record.{Has}
 use Rattle.wot_search.specs.Looked.{Widens}
 
--- the next path, or that there is none, of each question that agrees with this one on a set that has all that is noted
+-- the next path, or that there is none, of each question that agrees with this one on a set
+abbrev pub IsNextOfAgreeing : Question → Use → List Fpr → Option Path → Type 0
+IsNextOfAgreeing q used set found = (other : Question) → Agree q other set → IsNextOrSpent other used found
+
+-- so it is of each set that has all that is noted
 abbrev pub IsNextWhereAgreed : Question → Use → (Fpr → Type 0) → Option Path → Type 0
-IsNextWhereAgreed q used noted found =
-    (set : List Fpr) → Widens noted (Has set) → (other : Question) → Agree q other set → IsNextOrSpent other used found
+IsNextWhereAgreed q used noted found = (set : List Fpr) → Widens noted (Has set) → IsNextOfAgreeing q used set found

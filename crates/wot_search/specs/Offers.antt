@@ -1,5 +1,6 @@
 -- Offers: next paths that one search finds at once, one of each root.
-use Rattle.std.specs.Prelude.{◌≡◌, ℕ, ◌<◌, ◌≤◌, ◌-◌, ◌++◌, nat_le, nat_lt, Bool, true, false, List, [], ◌∷◌, Option, Some, None}
+use Rattle.std.specs.Prelude.{◌≡◌, ℕ, ◌<◌, ◌≤◌, ◌-◌, ◌++◌, nat_le, nat_lt, Bool, true, false}
+use Rattle.std.specs.Prelude.{List, [], ◌∷◌, Option, Some, None}
 use Rattle.std.specs.List.{list_all}
 use Rattle.wot_types.specs.declared.fpr.Fpr.{Fpr}
 use Rattle.wot_edge.specs.declared.path.Path.{Path}
@@ -35,14 +36,22 @@ is_left used amount steps = list_all (λ step. nat_le amount (step_left used ste
 abbrev pub AreOffers : List (Fpr × ℕ) → Question → Use → List Path → Type 0
 AreOffers roots q used [] = Unit {0}
 AreOffers roots q used (path ∷ paths) =
-    ((later : Use) → IsLater used later → path.amount ≤ left_at roots later path.root → is_left later path.amount path.steps ≡ true
-    → IsNextPath q later path)
+    ((later : Use) → IsLater used later → path.amount ≤ left_at roots later path.root
+    → is_left later path.amount path.steps ≡ true → IsNextPath q later path)
     × ((later : Use) → IsLater used later → left_at roots later path.root < path.amount → AreOffers roots q later paths)
+
+-- so it is with the roots of the question
+abbrev pub AreOffersFor : Question → Use → List Path → Type 0
+AreOffersFor q used paths = AreOffers q.roots q used paths
 
 -- the next path and offers after it; or no path, where none is left
 abbrev pub AreNext : List (Fpr × ℕ) → Question → Use → List Path → Type 0
 AreNext roots q used [] = IsSpent q used
 AreNext roots q used (path ∷ paths) = IsNextPath q used path × AreOffers roots q used (path ∷ paths)
+
+-- so it is with the roots of the question
+abbrev pub AreNextFor : Question → Use → List Path → Type 0
+AreNextFor q used paths = AreNext q.roots q used paths
 
 -- so it is of each question that agrees with this one on a set that has all that is noted
 abbrev pub AreNextWhereAgreed : List (Fpr × ℕ) → Question → Use → (Fpr → Type 0) → List Path → Type 0
@@ -64,9 +73,18 @@ abbrev pub IsNextIfSome : Question → Use → Option Path → Type 0
 IsNextIfSome q used None = Unit {0}
 IsNextIfSome q used (Some path) = IsNextPath q used path
 
+-- the next path of each question of which these are offers
+abbrev pub IsOpenOffer : List (Fpr × ℕ) → Use → List Path → Option Path → Type 0
+IsOpenOffer roots used offers found = (q : Question) → AreOffers roots q used offers → IsNextIfSome q used found
+
+-- the new ones are offers of each question of which the old ones are
+abbrev pub KeepsOffers : List (Fpr × ℕ) → Use → List Path → List Path → Type 0
+KeepsOffers roots used old new = (q : Question) → AreOffers roots q used old → AreOffers roots q used new
+
 -- the next path of each question that agrees with this one on a set that has all that is noted, and of which the old
 -- offers were some: then the new ones are some of it too
-abbrev pub TakesWhereAgreed : List (Fpr × ℕ) → Question → Use → (Fpr → Type 0) → List Path → List Path → Option Path → Type 0
+abbrev pub TakesWhereAgreed :
+    List (Fpr × ℕ) → Question → Use → (Fpr → Type 0) → List Path → List Path → Option Path → Type 0
 TakesWhereAgreed roots q used noted old new found =
     (set : List Fpr) → Widens noted (Has set) → (other : Question) → Agree q other set → AreOffers roots other used old
     → IsNextOrSpent other used found × AreOffers roots other used new

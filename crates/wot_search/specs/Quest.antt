@@ -31,3 +31,7 @@ quest_of told quest = record {
 -- the places of the quest's table are those of all edges that lead on
 abbrev pub LeadsOn : (List ℕ → Record) → Told → Type 0
 LeadsOn told quest = AreOnward told (number_at quest.reach.now) quest.reach.now.onward
+
+-- what is so of the quest whatever the roads tell
+abbrev pub WhateverTold : Told → (Quest → Type 0) → Type 0
+WhateverTold quest holds = (told : List ℕ → Record) → holds (quest_of told quest)

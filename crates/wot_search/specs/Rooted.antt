@@ -25,4 +25,5 @@ IsGood q used Least a b = steps_cmp b a ≢ Less
 pub record IsFirst (quest : Quest) (steps : List Step) : Type 0 where
   pub rooted : Rooted quest steps
   pub first : (other : List Step) → Rooted quest other
-      → (length steps < length other) ⊎ ((length steps ≡ length other) × IsGood quest.question quest.used quest.goal steps other)
+      → (length steps < length other)
+      ⊎ ((length steps ≡ length other) × IsGood quest.question quest.used quest.goal steps other)

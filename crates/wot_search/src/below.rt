@@ -1,11 +1,11 @@
 //! The next path, or only its amount where that is enough: then the least of those of this amount isn't looked for.
 ghost use Rattle.std.specs.Prelude.{IfOk, OnOk};
-ghost use Rattle.wot_edge.specs.Path.{asks};
 ghost use Rattle.wot_edge.specs.Sums.{use_in};
+ghost use Rattle.wot_search.specs.Asked.{IsWithin, question_of};
 ghost use Rattle.wot_search.specs.Below.{IsNextBelow};
-ghost use Rattle.wot_search.specs.Offers.{AreOffers};
-ghost use Rattle.wot_search.specs.Reach.{IsReach};
+ghost use Rattle.wot_search.specs.Offers.{AreOffersFor};
 
+use crate::asked::Asked;
 use crate::first::first;
 use crate::next::bound_amounts;
 use crate::node::Goal;
@@ -13,10 +13,9 @@ use crate::notes::Unnoted;
 use crate::offered::{drop_spent, first_of, open_offer};
 use crate::offers::offers_by;
 use crate::quest::Quest;
-use crate::reach::Reach;
 use std::alloc::Global;
-use wot_edge::{Path, Roads, Roots, Used};
-use wot_types::{Fpr, Memory};
+use wot_edge::{Path, Roads, Used};
+use wot_types::Memory;
 
 /// What comes next.
 #[derive(Drop)]
@@ -33,32 +32,29 @@ pub enum Next {
 fn search_below<R: Roads>(
     alloc: Global,
     roads: &R,
-    roots: &Roots,
-    reach: &Reach,
+    asked: &Asked,
     used: &Used,
-    target: &Fpr,
-    uid: &[u8],
     enough: u32,
     offers: &mut Vec<Path>,
 ) -> Result<Next, Memory>
-    requires reach { IsReach (R.told roads.now) roots.now reach.now }
-    requires offers { AreOffers roots.now (asks (R.told roads.now uid.now) roots.now target.now) (use_in used.now) offers.old.items }
-    ensures next { IfOk result (λ next. IsNextBelow (asks (R.told roads.now uid.now) roots.now target.now) (use_in used.now) enough next) }
-    ensures offers { OnOk result (AreOffers roots.now (asks (R.told roads.now uid.now) roots.now target.now)
-        (use_in used.now) offers.new.items) }
+    requires reach { IsWithin (R.told roads.now) asked.now }
+    requires offers { AreOffersFor (question_of (R.told roads.now) asked.now) (use_in used.now) offers.old.items }
+    ensures next { IfOk result (IsNextBelow (question_of (R.told roads.now) asked.now) (use_in used.now) enough) }
+    ensures offers { OnOk result (AreOffersFor (question_of (R.told roads.now) asked.now) (use_in used.now)
+        offers.new.items) }
 {
-    if !roads.in_order(target, uid) {
+    if !roads.in_order(asked.target, asked.uid) {
         return Ok(Next::Spent);
     }
-    bound_amounts(roots);
+    bound_amounts(asked.roots);
     // The order of the roots, as a fact.
-    let _count = roots.len();
+    let _count = asked.roots.len();
     let widest = Quest {
-        roots,
+        roots: asked.roots,
         used,
-        reach,
-        target,
-        uid,
+        reach: asked.reach,
+        target: asked.target,
+        uid: asked.uid,
         goal: Goal::Widest,
         least: 1,
     };
@@ -69,11 +65,11 @@ fn search_below<R: Roads>(
                 return Ok(Next::Enough(wide.amount));
             }
             let least = Quest {
-                roots,
+                roots: asked.roots,
                 used,
-                reach,
-                target,
-                uid,
+                reach: asked.reach,
+                target: asked.target,
+                uid: asked.uid,
                 goal: Goal::Least,
                 least: wide.amount,
             };
@@ -87,30 +83,25 @@ fn search_below<R: Roads>(
     }
 }
 
-/// What comes next, of the offers that an earlier search left where the next path is one of them, else by a search. Only
-/// the next path's amount is told where a search finds one of at least `enough`.
+/// What comes next, of the offers that an earlier search left where the next path is one of them, else by a search.
+/// Only the next path's amount is told where a search finds one of at least `enough`.
 pub fn next_below<R: Roads>(
     alloc: Global,
     roads: &R,
-    roots: &Roots,
-    reach: &Reach,
+    asked: &Asked,
     used: &Used,
-    target: &Fpr,
-    uid: &[u8],
     enough: u32,
     offers: &mut Vec<Path>,
 ) -> Result<Next, Memory>
-    requires reach { IsReach (R.told roads.now) roots.now reach.now }
-    requires offers { AreOffers roots.now (asks (R.told roads.now uid.now) roots.now target.now) (use_in used.now) offers.old.items }
-    ensures next { IfOk result (λ next. IsNextBelow (asks (R.told roads.now uid.now) roots.now target.now) (use_in used.now) enough next) }
-    ensures offers { OnOk result (AreOffers roots.now (asks (R.told roads.now uid.now) roots.now target.now)
-        (use_in used.now) offers.new.items) }
+    requires reach { IsWithin (R.told roads.now) asked.now }
+    requires offers { AreOffersFor (question_of (R.told roads.now) asked.now) (use_in used.now) offers.old.items }
+    ensures next { IfOk result (IsNextBelow (question_of (R.told roads.now) asked.now) (use_in used.now) enough) }
+    ensures offers { OnOk result (AreOffersFor (question_of (R.told roads.now) asked.now) (use_in used.now)
+        offers.new.items) }
 {
-    drop_spent(roots, used, offers);
-    if let Some(path) = open_offer(roots, used, offers.as_slice())? {
+    drop_spent(asked.roots, used, offers);
+    if let Some(path) = open_offer(asked.roots, used, offers.as_slice())? {
         return Ok(Next::Path(path));
     }
-    search_below(
-        alloc, roads, roots, reach, used, target, uid, enough, offers,
-    )
+    search_below(alloc, roads, asked, used, enough, offers)
 }

@@ -51,7 +51,8 @@ fn take(
 
 /// The root of the last layer that is taken; `None` where there is none of which so much is left.
 pub fn choose(quest: &Quest, reached: &Reached) -> Option<Choice>
-    ensures { (told : List ℕ → Record) → result ≡ chosen (quest_of told quest.now) (look reached.now.nodes) None reached.now.layer.items }
+    ensures { (told : List ℕ → Record)
+        → result ≡ chosen (quest_of told quest.now) (look reached.now.nodes) None reached.now.layer.items }
 {
     let mut best: Option<Choice> = None;
     'layer: for fpr in &reached.layer {

@@ -4,7 +4,7 @@ ghost use Rattle.wot_search.specs.Demand.{demand_of};
 ghost use Rattle.wot_search.specs.Quest.{quest_of};
 ghost use Rattle.wot_search.specs.Reached.{look};
 ghost use Rattle.wot_search.specs.Growth.{wanted_of, may_stand_of, KeepsNoted, EachRow, PutsIfStands};
-ghost use Rattle.wot_search.specs.Growth.{GrowsByEdge, TakesEdge, NotesEdge};
+ghost use Rattle.wot_search.specs.Growth.{GrowsByEdge, TakesEdge, SeesEdge};
 ghost use Rattle.wot_search.specs.Looked.{Gains, Widens};
 
 use crate::demand::{candidate, keeps};
@@ -26,7 +26,8 @@ fn wanted(
     reached: &Reached,
 ) -> Option<Node>
     requires { size < 255 }
-    ensures { (told : List ℕ → Record) → result ≡ wanted_of (quest_of told quest.now) (look reached.now.nodes) demand size width edge.now }
+    ensures { (told : List ℕ → Record)
+        → result ≡ wanted_of (quest_of told quest.now) (look reached.now.nodes) demand size width edge.now }
 {
     match candidate(quest, demand, size, width, place, edge) {
         None => None,
@@ -47,7 +48,8 @@ fn wanted(
 /// Whether an edge is usable and, but for the last of a path, its scope holds.
 fn may_stand<R: Roads>(roads: &R, quest: &Quest, size: u8, edge: &Edge) -> Result<bool, Memory>
     requires row { (id : List ℕ) → Has (edges_into (R.told roads.now id) edge.now.target) edge.now }
-    ensures { IfOk result (λ stands. EachRow (R.told roads.now quest.now.uid.now) edge.now (λ row. may_stand_of size row ≡ stands)) }
+    ensures { IfOk result (λ stands. EachRow (R.told roads.now quest.now.uid.now) edge.now
+        (λ row. may_stand_of size row ≡ stands)) }
 {
     if !roads.usable(edge) {
         return Ok(false);
@@ -69,7 +71,8 @@ fn keep<R: Roads, N: Notes>(
     notes: &mut N,
 ) -> Result<(), Memory>
     requires row { (id : List ℕ) → Has (edges_into (R.told roads.now id) edge.now.target) edge.now }
-    ensures put { OnOk result (PutsIfStands (R.told roads.now quest.now.uid.now) size edge.now reached.old reached.new node) }
+    ensures put { OnOk result (PutsIfStands (R.told roads.now quest.now.uid.now) size edge.now
+        reached.old reached.new node) }
     ensures has { OnOk result (N.noted notes.new node.step.issuer) }
     ensures grows { Widens (N.noted notes.old) (N.noted notes.new) }
     ensures gains { Gains (λ fpr. fpr ≡ node.step.issuer) (N.noted notes.old) (N.noted notes.new) }
@@ -98,10 +101,12 @@ pub fn consider<R: Roads, N: Notes>(
     requires lawful { (id : List ℕ) → IsRecord (R.told roads.now id) }
     requires demand { demand ≡ demand_of (quest_of (R.told roads.now) quest.now).question size }
     requires size { size < 255 }
-    ensures grown { OnOk result (GrowsByEdge (quest_of (R.told roads.now) quest.now) size width edge.now reached.old reached.new) }
-    ensures taken { OnOk result (TakesEdge (quest_of (R.told roads.now) quest.now) size width edge.now reached.old reached.new) }
+    ensures grown { OnOk result (GrowsByEdge (quest_of (R.told roads.now) quest.now) size width edge.now
+        reached.old reached.new) }
+    ensures taken { OnOk result (TakesEdge (quest_of (R.told roads.now) quest.now) size width edge.now
+        reached.old reached.new) }
     ensures noted { OnOk result (KeepsNoted reached.old reached.new (N.noted notes.old) (N.noted notes.new)) }
-    ensures seen { OnOk result (NotesEdge (quest_of (R.told roads.now) quest.now) size edge.now reached.old
+    ensures seen { OnOk result (SeesEdge (R.told roads.now) quest.now size edge.now reached.old
         (N.noted notes.old) (N.noted notes.new)) }
     ensures grows { Widens (N.noted notes.old) (N.noted notes.new) }
     ensures gains { Gains (λ fpr. fpr ≡ edge.now.issuer) (N.noted notes.old) (N.noted notes.new) }

@@ -61,9 +61,9 @@ fn suffices(quest: &Quest, left: u8) -> bool
     quest.least <= left
 }
 
-/// What would be kept of an edge before a suffix of so many edges, and of so much; `None` where its issuer doesn't reach
-/// so far, it doesn't meet the demand, or too little is left of it. How far the issuer reaches is found at once where it
-/// is at this place of the table.
+/// What would be kept of an edge before a suffix of so many edges, and of so much; `None` where its issuer doesn't
+/// reach so far, it doesn't meet the demand, or too little is left of it. How far the issuer reaches is found at once
+/// where it is at this place of the table.
 pub fn candidate(
     quest: &Quest,
     demand: Demand,

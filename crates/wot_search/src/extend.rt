@@ -24,10 +24,12 @@ pub fn extend<R: Roads, N: Notes>(
 ) -> Result<(), Memory>
     requires size { size < 255 }
     requires onward { LeadsOn (R.told roads.now) quest.now }
-    ensures grown { OnOk result (GrowsInto (quest_of (R.told roads.now) quest.now) size at.now reached.old reached.new) }
-    ensures taken { OnOk result (TakesInto (quest_of (R.told roads.now) quest.now) size at.now reached.old reached.new) }
+    ensures grown { OnOk result (GrowsInto (quest_of (R.told roads.now) quest.now) size at.now
+        reached.old reached.new) }
+    ensures taken { OnOk result (TakesInto (quest_of (R.told roads.now) quest.now) size at.now
+        reached.old reached.new) }
     ensures noted { OnOk result (KeepsNoted reached.old reached.new (N.noted notes.old) (N.noted notes.new)) }
-    ensures seen { OnOk result (SeesInto (quest_of (R.told roads.now) quest.now) size at.now reached.old
+    ensures seen { OnOk result (SeesInto (R.told roads.now) quest.now size at.now reached.old
         (N.noted notes.old) (N.noted notes.new)) }
     ensures grows { Widens (N.noted notes.old) (N.noted notes.new) }
     ensures gains { Gains (IsNear (R.told roads.now quest.now.uid.now) at.now) (N.noted notes.old) (N.noted notes.new) }
@@ -54,10 +56,12 @@ fn extend_all<R: Roads, N: Notes>(
     notes: &mut N,
 ) -> Result<(), Memory>
     requires { size < 255 }
-    ensures grown { OnOk result (GrowsInto (quest_of (R.told roads.now) quest.now) size at.now reached.old reached.new) }
-    ensures taken { OnOk result (TakesInto (quest_of (R.told roads.now) quest.now) size at.now reached.old reached.new) }
+    ensures grown { OnOk result (GrowsInto (quest_of (R.told roads.now) quest.now) size at.now
+        reached.old reached.new) }
+    ensures taken { OnOk result (TakesInto (quest_of (R.told roads.now) quest.now) size at.now
+        reached.old reached.new) }
     ensures noted { OnOk result (KeepsNoted reached.old reached.new (N.noted notes.old) (N.noted notes.new)) }
-    ensures seen { OnOk result (SeesInto (quest_of (R.told roads.now) quest.now) size at.now reached.old
+    ensures seen { OnOk result (SeesInto (R.told roads.now) quest.now size at.now reached.old
         (N.noted notes.old) (N.noted notes.new)) }
     ensures grows { Widens (N.noted notes.old) (N.noted notes.new) }
     ensures gains { Gains (IsNear (R.told roads.now quest.now.uid.now) at.now) (N.noted notes.old) (N.noted notes.new) }
@@ -90,10 +94,12 @@ fn extend_onward<R: Roads, N: Notes>(
     requires some { 0 < size }
     requires size { size < 255 }
     requires covers { Covers (R.told roads.now) (number_at quest.now.reach.now) at.now places.now }
-    ensures grown { OnOk result (GrowsInto (quest_of (R.told roads.now) quest.now) size at.now reached.old reached.new) }
-    ensures taken { OnOk result (TakesInto (quest_of (R.told roads.now) quest.now) size at.now reached.old reached.new) }
+    ensures grown { OnOk result (GrowsInto (quest_of (R.told roads.now) quest.now) size at.now
+        reached.old reached.new) }
+    ensures taken { OnOk result (TakesInto (quest_of (R.told roads.now) quest.now) size at.now
+        reached.old reached.new) }
     ensures noted { OnOk result (KeepsNoted reached.old reached.new (N.noted notes.old) (N.noted notes.new)) }
-    ensures seen { OnOk result (SeesInto (quest_of (R.told roads.now) quest.now) size at.now reached.old
+    ensures seen { OnOk result (SeesInto (R.told roads.now) quest.now size at.now reached.old
         (N.noted notes.old) (N.noted notes.new)) }
     ensures grows { Widens (N.noted notes.old) (N.noted notes.new) }
     ensures gains { Gains (IsNear (R.told roads.now quest.now.uid.now) at.now) (N.noted notes.old) (N.noted notes.new) }

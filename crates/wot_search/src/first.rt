@@ -40,9 +40,10 @@ pub fn first<R: Roads, N: Notes>(
     requires onward { LeadsOn (R.told roads.now) quest.now }
     requires small { IsSmall (quest_of (R.told roads.now) quest.now) }
     ensures first { IfOk result (λ found. IsResult (quest_of (R.told roads.now) quest.now) found) }
-    ensures looked { IfOk result (λ found. IsLookedBy (quest_of (R.told roads.now) quest.now) (N.noted notes.new) found) }
+    ensures looked { IfOk result (IsLookedBy (quest_of (R.told roads.now) quest.now) (N.noted notes.new)) }
     ensures grows { Widens (N.noted notes.old) (N.noted notes.new) }
-    ensures leads { Gains (Leads (R.told roads.now quest.now.uid.now) quest.now.target.now) (N.noted notes.old) (N.noted notes.new) }
+    ensures leads { Gains (Leads (R.told roads.now quest.now.uid.now) quest.now.target.now)
+        (N.noted notes.old) (N.noted notes.new) }
 {
     let mut reached = begin(alloc, quest.target)?;
     'layers: for size in 0..255u8 {

@@ -24,13 +24,16 @@ fn grow<R: Roads, N: Notes>(
 ) -> Result<(), Memory>
     requires size { size < 255 }
     requires onward { LeadsOn (R.told roads.now) quest.now }
-    ensures grown { OnOk result (GrowsByLayer (quest_of (R.told roads.now) quest.now) size layer.now reached.old reached.new) }
-    ensures taken { OnOk result (TakesLayer (quest_of (R.told roads.now) quest.now) size layer.now reached.old reached.new) }
+    ensures grown { OnOk result (GrowsByLayer (quest_of (R.told roads.now) quest.now) size layer.now
+        reached.old reached.new) }
+    ensures taken { OnOk result (TakesLayer (quest_of (R.told roads.now) quest.now) size layer.now
+        reached.old reached.new) }
     ensures noted { OnOk result (KeepsNoted reached.old reached.new (N.noted notes.old) (N.noted notes.new)) }
-    ensures seen { OnOk result (SeesLayer (quest_of (R.told roads.now) quest.now) size layer.now reached.old
+    ensures seen { OnOk result (SeesLayer (R.told roads.now) quest.now size layer.now reached.old
         (N.noted notes.old) (N.noted notes.new)) }
     ensures grows { Widens (N.noted notes.old) (N.noted notes.new) }
-    ensures gains { Gains (IsNearOne (R.told roads.now quest.now.uid.now) layer.now) (N.noted notes.old) (N.noted notes.new) }
+    ensures gains { Gains (IsNearOne (R.told roads.now quest.now.uid.now) layer.now)
+        (N.noted notes.old) (N.noted notes.new) }
 {
     'layer: for at in layer {
         extend(roads, quest, size, at, reached, notes)?;
@@ -49,12 +52,12 @@ pub fn advance<R: Roads, N: Notes>(
 ) -> Result<(), Memory>
     requires size { size < 255 }
     requires onward { LeadsOn (R.told roads.now) quest.now }
-    ensures after { OnOk result (GoesOn (quest_of (R.told roads.now) quest.now) size reached.old reached.new
+    ensures after { OnOk result (GoesOn (R.told roads.now) quest.now size reached.old reached.new
         (N.noted notes.old) (N.noted notes.new)) }
-    ensures unrooted { OnOk result (StaysUnrooted (quest_of (R.told roads.now) quest.now) size reached.old reached.new
+    ensures unrooted { OnOk result (StaysUnrooted (R.told roads.now) quest.now size reached.old reached.new
         (N.noted notes.old)) }
     ensures grows { Widens (N.noted notes.old) (N.noted notes.new) }
-    ensures leads { GainsAfter (quest_of (R.told roads.now) quest.now) size reached.old (N.noted notes.old) (N.noted notes.new) }
+    ensures leads { GainsAfter (R.told roads.now) quest.now size reached.old (N.noted notes.old) (N.noted notes.new) }
 {
     let layer = mem::replace(&mut reached.layer, Vec::new(alloc));
     grow(roads, quest, size, &layer, reached, notes)?;

@@ -37,7 +37,8 @@ pub fn left_of_step(used: &Used, step: &Step) -> u8
 
 /// What is left of a root.
 pub fn left_of_root(quest: &Quest, fpr: &Fpr) -> u8
-    ensures { (told : List ℕ → Record) → result ≡ root_left (quest_of told quest.now).question (use_in quest.now.used.now) fpr.now }
+    ensures { (told : List ℕ → Record)
+        → result ≡ root_left (quest_of told quest.now).question (use_in quest.now.used.now) fpr.now }
 {
     remaining(quest.roots.get(fpr), quest.used.root(fpr))
 }

@@ -1,6 +1,7 @@
 //! The search for the next path: backwards from the target, in layers of shortest suffixes.
 #![tactic(auto)]
 
+mod asked;
 mod below;
 mod choose;
 mod collect;
@@ -26,6 +27,7 @@ mod rows;
 mod slots;
 mod turn;
 
+pub use asked::Asked;
 pub use below::{Next, next_below};
 pub use consulted::{Consulted, ConsultedIter};
 pub use metered::Metered;

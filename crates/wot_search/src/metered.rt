@@ -6,8 +6,8 @@ use crate::notes::Notes;
 use std::alloc::Global;
 use wot_types::{Fpr, Memory};
 
-/// Notes what a search looks at, up to so many looks, a fingerprint that is looked at twice counted twice. One look more
-/// is refused as where no memory is found: then `left` is 0.
+/// Notes what a search looks at, up to so many looks, a fingerprint that is looked at twice counted twice. One look
+/// more is refused as where no memory is found: then `left` is 0.
 #[derive(Drop)]
 pub struct Metered {
     pub consulted: Consulted,

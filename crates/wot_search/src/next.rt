@@ -1,16 +1,16 @@
-ghost use Rattle.std.specs.Prelude.{◌≡◌, ◌≤◌, IfOk};
+ghost use Rattle.std.specs.Prelude.{◌≤◌, IfOk};
 ghost use Rattle.wot_types.specs.declared.fpr.Fpr.{Fpr as Print};
-ghost use Rattle.wot_edge.specs.Agree.{Agree};
 ghost use Rattle.wot_edge.specs.Answer.{IsNextOrSpent};
-ghost use Rattle.wot_edge.specs.Leads.{Grows, GainsLeads, Leads};
-ghost use Rattle.wot_edge.specs.Path.{Question, asks};
+ghost use Rattle.wot_edge.specs.Leads.{Grows, GainsLeads};
+ghost use Rattle.wot_edge.specs.Path.{asks};
 ghost use Rattle.wot_edge.specs.Record.{IsRecord};
 ghost use Rattle.wot_edge.specs.Roots.{root_amount};
 ghost use Rattle.wot_edge.specs.Sums.{use_in};
 ghost use Rattle.wot_search.specs.Looked.{Gains, Widens};
-ghost use Rattle.wot_search.specs.Nexting.{IsNextWhereAgreed};
-ghost use Rattle.wot_search.specs.Reach.{IsReach, number_at};
+ghost use Rattle.wot_search.specs.Asked.{IsNextLocally, IsWithin, LeadsToAsked, question_of};
+ghost use Rattle.wot_search.specs.Nexting.{IsNextOfAgreeing};
 
+use crate::asked::Asked;
 use crate::consulted::Consulted;
 use crate::first::first;
 use crate::node::Goal;
@@ -40,19 +40,26 @@ pub fn next_path<R: Roads>(
     consulted: &mut Consulted,
 ) -> Result<Option<Path>, Memory>
     // The next path, or none where there is none.
-    ensures next { IfOk result (λ found. IsNextOrSpent (asks (R.told roads.now uid.now) roots.now target.now) (use_in used.now) found) }
+    ensures next { IfOk result (IsNextOrSpent (asks (R.told roads.now uid.now) roots.now target.now)
+        (use_in used.now)) }
 
     // What was looked at only grows, and gains only what leads to the target by rows.
     ensures grows { Grows consulted.old consulted.new }
     ensures leads { GainsLeads (R.told roads.now uid.now) target.now consulted.old consulted.new }
 
     // It is also the next path of each question that agrees on what was looked at.
-    ensures local { IfOk result (λ found. (other : Question)
-        → Agree (asks (R.told roads.now uid.now) roots.now target.now) other consulted.new → IsNextOrSpent other (use_in used.now) found) }
+    ensures local { IfOk result (IsNextOfAgreeing (asks (R.told roads.now uid.now) roots.now target.now)
+        (use_in used.now) consulted.new) }
     ensures lawful { IfOk result (λ found. IsRecord (R.told roads.now uid.now)) }
 {
     let reach = Reach::everywhere(alloc);
-    let found = next_path_within(alloc, roads, roots, &reach, used, target, uid, consulted)?;
+    let asked = Asked {
+        roots,
+        reach: &reach,
+        target,
+        uid,
+    };
+    let found = next_path_within(alloc, roads, &asked, used, consulted)?;
     Ok(found)
 }
 
@@ -61,34 +68,30 @@ pub fn next_path<R: Roads>(
 pub fn next_path_within<R: Roads, N: Notes>(
     alloc: Global,
     roads: &R,
-    roots: &Roots,
-    reach: &Reach,
+    asked: &Asked,
     used: &Used,
-    target: &Fpr,
-    uid: &[u8],
     notes: &mut N,
 ) -> Result<Option<Path>, Memory>
-    requires reach { IsReach (R.told roads.now) roots.now reach.now }
-    ensures next { IfOk result (λ found. IsNextOrSpent (asks (R.told roads.now uid.now) roots.now target.now) (use_in used.now) found) }
+    requires reach { IsWithin (R.told roads.now) asked.now }
+    ensures next { IfOk result (IsNextOrSpent (question_of (R.told roads.now) asked.now) (use_in used.now)) }
     ensures grows { Widens (N.noted notes.old) (N.noted notes.new) }
-    ensures leads { Gains (Leads (R.told roads.now uid.now) target.now) (N.noted notes.old) (N.noted notes.new) }
+    ensures leads { Gains (LeadsToAsked (R.told roads.now) asked.now) (N.noted notes.old) (N.noted notes.new) }
 
     // Where nothing is left out, it is also the next path of each question that agrees on a set that has what is noted.
-    ensures local { ((fpr : Print) → number_at reach.now fpr ≡ 255) → IfOk result (λ found. IsNextWhereAgreed
-        (asks (R.told roads.now uid.now) roots.now target.now) (use_in used.now) (N.noted notes.new) found) }
-    ensures lawful { IfOk result (λ found. IsRecord (R.told roads.now uid.now)) }
+    ensures local { IfOk result (IsNextLocally (R.told roads.now) asked.now used.now (N.noted notes.new)) }
+    ensures lawful { IfOk result (λ found. IsRecord (R.told roads.now asked.now.uid.now)) }
 {
-    notes.note(target)?;
-    if !roads.in_order(target, uid) {
+    notes.note(asked.target)?;
+    if !roads.in_order(asked.target, asked.uid) {
         return Ok(None);
     }
-    bound_amounts(roots);
+    bound_amounts(asked.roots);
     let widest = Quest {
-        roots,
+        roots: asked.roots,
         used,
-        reach,
-        target,
-        uid,
+        reach: asked.reach,
+        target: asked.target,
+        uid: asked.uid,
         goal: Goal::Widest,
         least: 1,
     };
@@ -97,11 +100,11 @@ pub fn next_path_within<R: Roads, N: Notes>(
         Some(path) => path.amount,
     };
     let least = Quest {
-        roots,
+        roots: asked.roots,
         used,
-        reach,
-        target,
-        uid,
+        reach: asked.reach,
+        target: asked.target,
+        uid: asked.uid,
         goal: Goal::Least,
         least: amount,
     };

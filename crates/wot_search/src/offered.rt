@@ -1,17 +1,16 @@
-ghost use Rattle.std.specs.Prelude.{◌≡◌, ℕ, List, nat_le, true, IfOk, OnOk};
-ghost use Rattle.wot_types.specs.declared.fpr.Fpr.{Fpr as Print};
+ghost use Rattle.std.specs.Prelude.{◌≡◌, nat_le, true, IfOk, OnOk};
 ghost use Rattle.wot_edge.specs.Answer.{IsNextOrSpent};
-ghost use Rattle.wot_edge.specs.Leads.{Leads};
-ghost use Rattle.wot_edge.specs.Path.{Question, asks, step_left};
+ghost use Rattle.wot_edge.specs.Path.{step_left};
 ghost use Rattle.wot_edge.specs.Sums.{use_in};
+ghost use Rattle.wot_search.specs.Asked.{IsWithin, LeadsToAsked, TakesLocally, question_of};
 ghost use Rattle.wot_search.specs.Looked.{Gains, Widens};
-ghost use Rattle.wot_search.specs.Offers.{AreOffers, IsNextIfSome, TakesWhereAgreed, first_path, is_first_spent, is_left, left_at};
-ghost use Rattle.wot_search.specs.Reach.{IsReach, number_at};
+ghost use Rattle.wot_search.specs.Offers.{AreOffersFor, IsOpenOffer, KeepsOffers};
+ghost use Rattle.wot_search.specs.Offers.{first_path, is_first_spent, is_left, left_at};
 
+use crate::asked::Asked;
 use crate::left::{left_of_step, remaining};
 use crate::notes::Notes;
 use crate::offers::next_paths_within;
-use crate::reach::Reach;
 use std::alloc::Global;
 use wot_edge::{Path, Roads, Roots, Step, Used};
 use wot_types::{Fpr, Memory};
@@ -48,8 +47,7 @@ fn is_spent(roots: &Roots, used: &Used, offers: &[Path]) -> bool
 
 /// Lets go of the first offers while less is left of their roots.
 pub(crate) fn drop_spent(roots: &Roots, used: &Used, offers: &mut Vec<Path>)
-    ensures { (q : Question) → AreOffers roots.now q (use_in used.now) offers.old.items
-        → AreOffers roots.now q (use_in used.now) offers.new.items }
+    ensures { KeepsOffers roots.now (use_in used.now) offers.old.items offers.new.items }
 {
     'spent: while is_spent(roots, used, offers.as_slice()) {
         let _spent = offers.remove(0);
@@ -75,8 +73,7 @@ pub(crate) fn open_offer(
     used: &Used,
     offers: &[Path],
 ) -> Result<Option<Path>, Memory>
-    ensures { IfOk result (λ found. (q : Question) → AreOffers roots.now q (use_in used.now) offers.now
-        → IsNextIfSome q (use_in used.now) found) }
+    ensures { IfOk result (IsOpenOffer roots.now (use_in used.now) offers.now) }
 {
     let Some(path) = first_of(offers)? else {
         return Ok(None);
@@ -95,33 +92,29 @@ pub(crate) fn open_offer(
 pub fn next_offered<R: Roads, N: Notes>(
     alloc: Global,
     roads: &R,
-    roots: &Roots,
-    reach: &Reach,
+    asked: &Asked,
     used: &Used,
-    target: &Fpr,
-    uid: &[u8],
     offers: &mut Vec<Path>,
     notes: &mut N,
 ) -> Result<Option<Path>, Memory>
-    requires reach { IsReach (R.told roads.now) roots.now reach.now }
-    requires offers { AreOffers roots.now (asks (R.told roads.now uid.now) roots.now target.now) (use_in used.now) offers.old.items }
-    ensures next { IfOk result (λ found. IsNextOrSpent (asks (R.told roads.now uid.now) roots.now target.now) (use_in used.now) found) }
-    ensures offers { OnOk result (AreOffers roots.now (asks (R.told roads.now uid.now) roots.now target.now)
-        (use_in used.now) offers.new.items) }
+    requires reach { IsWithin (R.told roads.now) asked.now }
+    requires offers { AreOffersFor (question_of (R.told roads.now) asked.now) (use_in used.now) offers.old.items }
+    ensures next { IfOk result (IsNextOrSpent (question_of (R.told roads.now) asked.now) (use_in used.now)) }
+    ensures offers { OnOk result (AreOffersFor (question_of (R.told roads.now) asked.now) (use_in used.now)
+        offers.new.items) }
     ensures grows { Widens (N.noted notes.old) (N.noted notes.new) }
-    ensures leads { Gains (Leads (R.told roads.now uid.now) target.now) (N.noted notes.old) (N.noted notes.new) }
+    ensures leads { Gains (LeadsToAsked (R.told roads.now) asked.now) (N.noted notes.old) (N.noted notes.new) }
 
-    // Where nothing is left out, it is so of each question that agrees on a set that has what is noted, and of which the
-    // earlier offers were some.
-    ensures local { ((fpr : Print) → number_at reach.now fpr ≡ 255) → IfOk result (λ found. TakesWhereAgreed roots.now
-        (asks (R.told roads.now uid.now) roots.now target.now) (use_in used.now) (N.noted notes.new)
-        offers.old.items offers.new.items found) }
+    // Where nothing is left out, it is so of each question that agrees on a set that has what is noted, and of which
+    // the earlier offers were some.
+    ensures local { IfOk result (TakesLocally (R.told roads.now) asked.now used.now (N.noted notes.new)
+        offers.old.items offers.new.items) }
 {
-    drop_spent(roots, used, offers);
-    if let Some(path) = open_offer(roots, used, offers.as_slice())? {
+    drop_spent(asked.roots, used, offers);
+    if let Some(path) = open_offer(asked.roots, used, offers.as_slice())? {
         return Ok(Some(path));
     }
-    *offers = next_paths_within(alloc, roads, roots, reach, used, target, uid, notes)?;
+    *offers = next_paths_within(alloc, roads, asked, used, notes)?;
     let found = first_of(offers.as_slice())?;
     Ok(found)
 }

@@ -1,16 +1,14 @@
-ghost use Rattle.std.specs.Prelude.{◌≡◌, ℕ, List, IfOk, OnOk};
-ghost use Rattle.wot_types.specs.declared.fpr.Fpr.{Fpr as Print};
-ghost use Rattle.wot_edge.specs.Leads.{Leads};
-ghost use Rattle.wot_edge.specs.Path.{asks};
-ghost use Rattle.wot_edge.specs.Record.{Record, IsRecord};
+ghost use Rattle.std.specs.Prelude.{IfOk, OnOk};
+ghost use Rattle.wot_edge.specs.Record.{IsRecord};
 ghost use Rattle.wot_edge.specs.Sums.{use_in};
+ghost use Rattle.wot_search.specs.Asked.{AreNextLocally, IsWithin, LeadsToAsked, question_of};
 ghost use Rattle.wot_search.specs.Growth.{IsAfter};
 ghost use Rattle.wot_search.specs.Looked.{Gains, Widens};
-ghost use Rattle.wot_search.specs.Offers.{AddsOffer, AreFoundOffers, AreNext, AreNextWhereAgreed, AreOfferedBy, IsOfferIf};
-ghost use Rattle.wot_search.specs.Quest.{LeadsOn, quest_of};
-ghost use Rattle.wot_search.specs.Reach.{IsReach, number_at};
+ghost use Rattle.wot_search.specs.Offers.{AddsOffer, AreFoundOffers, AreNextFor, AreOfferedBy, IsOfferIf};
+ghost use Rattle.wot_search.specs.Quest.{LeadsOn, WhateverTold, quest_of};
 ghost use Rattle.wot_search.specs.Reached.{look};
 
+use crate::asked::Asked;
 use crate::first::{begin, first};
 use crate::grow::advance;
 use crate::left::left_of_root;
@@ -18,12 +16,11 @@ use crate::next::bound_amounts;
 use crate::node::{Choice, Goal, Node};
 use crate::notes::{Notes, Unnoted};
 use crate::quest::Quest;
-use crate::reach::Reach;
 use crate::reached::{Reached, node_at};
 use crate::turn::path_from;
 use std::alloc::Global;
 use std::collections::BTreeMap;
-use wot_edge::{Path, Roads, Roots, Used};
+use wot_edge::{Path, Roads, Used};
 use wot_types::{Fpr, Memory};
 
 /// What a search finds in so many layers. Nothing is noted of what it looks at.
@@ -34,7 +31,8 @@ fn layers_of<R: Roads>(
     count: u8,
 ) -> Result<Reached, Memory>
     requires onward { LeadsOn (R.told roads.now) quest.now }
-    ensures after { IfOk result (λ reached. IsAfter (quest_of (R.told roads.now) quest.now) count reached (λ fpr. Unit {0})) }
+    ensures after { IfOk result (λ reached. IsAfter (quest_of (R.told roads.now) quest.now) count reached
+        (λ fpr. Unit {0})) }
 {
     let mut reached = begin(alloc, quest.target)?;
     'layers: for size in 0..count {
@@ -51,7 +49,7 @@ fn offer_of(
     size: u8,
     fpr: &Fpr,
 ) -> Result<Option<Path>, Memory>
-    ensures { IfOk result (λ offer. (told : List ℕ → Record) → IsOfferIf (quest_of told quest.now) (look nodes.now) size fpr.now offer) }
+    ensures { IfOk result (λ offer. WhateverTold quest.now (λ q. IsOfferIf q (look nodes.now) size fpr.now offer)) }
 {
     let Some(node) = node_at(nodes, fpr) else {
         return Ok(None);
@@ -79,8 +77,8 @@ fn put_offer(
     fpr: &Fpr,
     paths: &mut Vec<Path>,
 ) -> Result<(), Memory>
-    ensures { OnOk result ((told : List ℕ → Record)
-        → AddsOffer (quest_of told quest.now) (look nodes.now) size fpr.now paths.old.items paths.new.items) }
+    ensures { OnOk result (WhateverTold quest.now (λ q. AddsOffer q (look nodes.now) size fpr.now
+        paths.old.items paths.new.items)) }
 {
     match offer_of(alloc, quest, nodes, size, fpr)? {
         None => Ok(()),
@@ -98,8 +96,8 @@ fn offers_of(
     nodes: &BTreeMap<Fpr, Node>,
     size: u8,
 ) -> Result<Vec<Path>, Memory>
-    ensures { IfOk result (λ paths. (told : List ℕ → Record)
-        → AreOfferedBy (quest_of told quest.now) (look nodes.now) size quest.now.roots.now paths.items) }
+    ensures { IfOk result (λ paths. WhateverTold quest.now (λ q. AreOfferedBy q (look nodes.now) size
+        quest.now.roots.now paths.items)) }
 {
     let mut paths = Vec::new(alloc);
     'roots: for (fpr, _amount) in quest.roots.iter() {
@@ -116,7 +114,8 @@ pub(crate) fn offers_by<R: Roads>(
     size: u8,
 ) -> Result<Vec<Path>, Memory>
     requires onward { LeadsOn (R.told roads.now) quest.now }
-    ensures { IfOk result (λ paths. AreFoundOffers (quest_of (R.told roads.now) quest.now) size quest.now.roots.now paths.items) }
+    ensures { IfOk result (λ paths. AreFoundOffers (quest_of (R.told roads.now) quest.now) size
+        quest.now.roots.now paths.items) }
 {
     let reached = layers_of(alloc, roads, quest, size)?;
     let paths = offers_of(alloc, quest, &reached.nodes, size)?;
@@ -130,36 +129,34 @@ pub(crate) fn offers_by<R: Roads>(
 pub fn next_paths_within<R: Roads, N: Notes>(
     alloc: Global,
     roads: &R,
-    roots: &Roots,
-    reach: &Reach,
+    asked: &Asked,
     used: &Used,
-    target: &Fpr,
-    uid: &[u8],
     notes: &mut N,
 ) -> Result<Vec<Path>, Memory>
-    requires reach { IsReach (R.told roads.now) roots.now reach.now }
-    ensures next { IfOk result (λ paths. AreNext roots.now (asks (R.told roads.now uid.now) roots.now target.now) (use_in used.now) paths.items) }
+    requires reach { IsWithin (R.told roads.now) asked.now }
+    ensures next { IfOk result (λ paths. AreNextFor (question_of (R.told roads.now) asked.now) (use_in used.now)
+        paths.items) }
     ensures grows { Widens (N.noted notes.old) (N.noted notes.new) }
-    ensures leads { Gains (Leads (R.told roads.now uid.now) target.now) (N.noted notes.old) (N.noted notes.new) }
+    ensures leads { Gains (LeadsToAsked (R.told roads.now) asked.now) (N.noted notes.old) (N.noted notes.new) }
 
     // Where nothing is left out, they are also those of each question that agrees on a set that has what is noted.
-    ensures local { ((fpr : Print) → number_at reach.now fpr ≡ 255) → IfOk result (λ paths. AreNextWhereAgreed roots.now
-        (asks (R.told roads.now uid.now) roots.now target.now) (use_in used.now) (N.noted notes.new) paths.items) }
-    ensures lawful { IfOk result (λ paths. IsRecord (R.told roads.now uid.now)) }
+    ensures local { IfOk result (λ paths. AreNextLocally (R.told roads.now) asked.now used.now (N.noted notes.new)
+        paths.items) }
+    ensures lawful { IfOk result (λ paths. IsRecord (R.told roads.now asked.now.uid.now)) }
 {
-    notes.note(target)?;
-    if !roads.in_order(target, uid) {
+    notes.note(asked.target)?;
+    if !roads.in_order(asked.target, asked.uid) {
         return Ok(Vec::new(alloc));
     }
-    bound_amounts(roots);
+    bound_amounts(asked.roots);
     // The order of the roots, as a fact.
-    let _count = roots.len();
+    let _count = asked.roots.len();
     let widest = Quest {
-        roots,
+        roots: asked.roots,
         used,
-        reach,
-        target,
-        uid,
+        reach: asked.reach,
+        target: asked.target,
+        uid: asked.uid,
         goal: Goal::Widest,
         least: 1,
     };
@@ -167,11 +164,11 @@ pub fn next_paths_within<R: Roads, N: Notes>(
         None => Ok(Vec::new(alloc)),
         Some(path) => {
             let least = Quest {
-                roots,
+                roots: asked.roots,
                 used,
-                reach,
-                target,
-                uid,
+                reach: asked.reach,
+                target: asked.target,
+                uid: asked.uid,
                 goal: Goal::Least,
                 least: path.amount,
             };

@@ -1,7 +1,7 @@
 ghost use Rattle.std.specs.Prelude.{◌≡◌, ◌≤◌, ℕ, List, IfOk};
 ghost use Rattle.wot_edge.specs.Record.{Record};
 ghost use Rattle.wot_search.specs.Growth.{IsFoundFrom, TurnsTo};
-ghost use Rattle.wot_search.specs.Quest.{quest_of};
+ghost use Rattle.wot_search.specs.Quest.{WhateverTold};
 ghost use Rattle.wot_search.specs.Reached.{look};
 
 use crate::choose::choose;
@@ -41,7 +41,7 @@ pub fn turn(
     size: u8,
 ) -> Result<Option<Path>, Memory>
     requires { 1 ≤ size }
-    ensures { IfOk result (λ found. (told : List ℕ → Record) → TurnsTo (quest_of told quest.now) size reached.now found) }
+    ensures { IfOk result (λ found. WhateverTold quest.now (λ q. TurnsTo q size reached.now found)) }
 {
     match choose(quest, reached) {
         None => Ok(None),

@@ -7,7 +7,7 @@ use std::alloc::Global;
 use wot_edge::plain::PlainRoads;
 use wot_edge::{Path, Roads, Roots, Used};
 use wot_search::{
-    Consulted, Reach, Unnoted, make_reach, next_offered, next_path, next_path_within,
+    Asked, Consulted, Reach, Unnoted, make_reach, next_offered, next_path, next_path_within,
     next_paths_within,
 };
 use wot_types::Memory;
@@ -289,16 +289,15 @@ fn next_within<R: Roads>(
 ) -> Result<Option<Path>, Memory>
     requires reach { IsReach (R.told roads.now) roots.now reach.now }
 {
-    next_path_within(
-        alloc,
-        roads,
+    let target = key(4);
+    let uid = [uid];
+    let asked = Asked {
         roots,
         reach,
-        used,
-        &key(4),
-        &[uid],
-        &mut Unnoted,
-    )
+        target: &target,
+        uid: &uid,
+    };
+    next_path_within(alloc, roads, &asked, used, &mut Unnoted)
 }
 
 /// What this one path uses.
@@ -435,28 +434,17 @@ fn offers_within<R: Roads>(
     requires reach { IsReach (R.told roads.now) roots.now reach.now }
 {
     let none = Used::new(alloc);
-    let all = next_paths_within(
-        alloc,
-        roads,
+    let target = key(4);
+    let uid = [T];
+    let asked = Asked {
         roots,
         reach,
-        &none,
-        &key(4),
-        &[T],
-        &mut Unnoted,
-    )?;
+        target: &target,
+        uid: &uid,
+    };
+    let all = next_paths_within(alloc, roads, &asked, &none, &mut Unnoted)?;
     let mut offers = Vec::new(alloc);
-    let first = next_offered(
-        alloc,
-        roads,
-        roots,
-        reach,
-        &none,
-        &key(4),
-        &[T],
-        &mut offers,
-        &mut Unnoted,
-    )?;
+    let first = next_offered(alloc, roads, &asked, &none, &mut offers, &mut Unnoted)?;
     Ok((all, first))
 }
 

@@ -16,18 +16,18 @@ use Rattle.wot_search.proofs.below.search_below.Goals as goal
 
 pub returns-in-None-clause-next : goal.returns-in-None-clause-next
 returns-in-None-clause-next g c =
-    let q = asks (g.R.Roads.told c.args.roads.now c.args.uid.now) c.args.roots.now c.args.target.now in
+    let q = asks (g.R.Roads.told c.args.roads.now c.args.asked.now.uid.now) c.args.asked.now.roots.now c.args.asked.now.target.now in
     let used = use_in c.args.used.now in
-    let reach = number_at c.args.reach.now in
-    let holds = reach_holds (g.R.Roads.told c.args.roads.now) c.args.roots.now reach c.requires.reach.enough c.args.uid.now c.args.target.now used in
+    let reach = number_at c.args.asked.now.reach.now in
+    let holds = reach_holds (g.R.Roads.told c.args.roads.now) c.args.asked.now.roots.now reach c.requires.reach.enough c.args.asked.now.uid.now c.args.asked.now.target.now used in
     spent_next reach q used holds (subst (λ (o : Option Path). IsResult (widest_quest reach q used) o) c.in-None.is c.in_ok-first.ensures.first)
 
 pub returns-then-enough-from-clause-next : goal.returns-then-enough-from-clause-next
 returns-then-enough-from-clause-next g c =
-    let q = asks (g.R.Roads.told c.args.roads.now c.args.uid.now) c.args.roots.now c.args.target.now in
+    let q = asks (g.R.Roads.told c.args.roads.now c.args.asked.now.uid.now) c.args.asked.now.roots.now c.args.asked.now.target.now in
     let used = use_in c.args.used.now in
-    let reach = number_at c.args.reach.now in
-    let holds = reach_holds (g.R.Roads.told c.args.roads.now) c.args.roots.now reach c.requires.reach.enough c.args.uid.now c.args.target.now used in
+    let reach = number_at c.args.asked.now.reach.now in
+    let holds = reach_holds (g.R.Roads.told c.args.roads.now) c.args.asked.now.roots.now reach c.requires.reach.enough c.args.asked.now.uid.now c.args.asked.now.target.now used in
     let wide = c.in-Some.wide in
     let f = subst (λ (o : Option Path). IsResult (widest_quest reach q used) o) c.in-Some.is c.in_ok-first.ensures.first in
     let e = c.from.ensures in
@@ -37,40 +37,40 @@ returns-then-enough-from-clause-next g c =
 pub returns-in-None-2-clause-next : goal.returns-in-None-2-clause-next
 returns-in-None-2-clause-next g c =
     let told = g.R.Roads.told c.args.roads.now in
-    let q = asks (told c.args.uid.now) c.args.roots.now c.args.target.now in
+    let q = asks (told c.args.asked.now.uid.now) c.args.asked.now.roots.now c.args.asked.now.target.now in
     let used = use_in c.args.used.now in
-    let reach = number_at c.args.reach.now in
-    let holds = reach_holds told c.args.roots.now reach c.requires.reach.enough c.args.uid.now c.args.target.now used in
+    let reach = number_at c.args.asked.now.reach.now in
+    let holds = reach_holds told c.args.asked.now.roots.now reach c.requires.reach.enough c.args.asked.now.uid.now c.args.asked.now.target.now used in
     let wide = c.in-Some.wide in
     let f = subst (λ (o : Option Path). IsResult (widest_quest reach q used) o) c.in-Some.is c.in_ok-first.ensures.first in
     let paths = c.in_ok-offers-in-Some.field-0.items in
-    let next = found_offers reach q (c.in_order.ensures.lawful c.args.uid.now) used holds (sym c.in_order.ensures.in_order ∙ c.if-not-in_order.false) wide f _ (ap length c.as_slice.ensures.items) paths c.len-count.ensures.roots.order c.in_ok-offers-in-Some.ensures in
+    let next = found_offers reach q (c.in_order.ensures.lawful c.args.asked.now.uid.now) used holds (sym c.in_order.ensures.in_order ∙ c.if-not-in_order.false) wide f _ (ap length c.as_slice.ensures.items) paths c.len-count.ensures.roots.order c.in_ok-offers-in-Some.ensures in
     let first = c.in_ok-first_of-in-Some.ensures ∙ ap first_path c.as_slice-in-Some.ensures.value in
-    subst (IsNextOrSpent q used) c.in-None-2.is (next_first c.args.roots.now q used paths c.in_ok-first_of-in-Some.field-0 first next)
+    subst (IsNextOrSpent q used) c.in-None-2.is (next_first c.args.asked.now.roots.now q used paths c.in_ok-first_of-in-Some.field-0 first next)
 
 pub returns-clause-next : goal.returns-clause-next
 returns-clause-next g c =
     let told = g.R.Roads.told c.args.roads.now in
-    let q = asks (told c.args.uid.now) c.args.roots.now c.args.target.now in
+    let q = asks (told c.args.asked.now.uid.now) c.args.asked.now.roots.now c.args.asked.now.target.now in
     let used = use_in c.args.used.now in
-    let reach = number_at c.args.reach.now in
-    let holds = reach_holds told c.args.roots.now reach c.requires.reach.enough c.args.uid.now c.args.target.now used in
+    let reach = number_at c.args.asked.now.reach.now in
+    let holds = reach_holds told c.args.asked.now.roots.now reach c.requires.reach.enough c.args.asked.now.uid.now c.args.asked.now.target.now used in
     let wide = c.in-Some.wide in
     let f = subst (λ (o : Option Path). IsResult (widest_quest reach q used) o) c.in-Some.is c.in_ok-first.ensures.first in
     let paths = c.in_ok-offers-in-Some.field-0.items in
-    let next = found_offers reach q (c.in_order.ensures.lawful c.args.uid.now) used holds (sym c.in_order.ensures.in_order ∙ c.if-not-in_order.false) wide f _ (ap length c.as_slice.ensures.items) paths c.len-count.ensures.roots.order c.in_ok-offers-in-Some.ensures in
+    let next = found_offers reach q (c.in_order.ensures.lawful c.args.asked.now.uid.now) used holds (sym c.in_order.ensures.in_order ∙ c.if-not-in_order.false) wide f _ (ap length c.as_slice.ensures.items) paths c.len-count.ensures.roots.order c.in_ok-offers-in-Some.ensures in
     let first = c.in_ok-first_of-in-Some.ensures ∙ ap first_path c.as_slice-in-Some.ensures.value in
-    subst (IsNextOrSpent q used) c.in-Some-2.is (next_first c.args.roots.now q used paths c.in_ok-first_of-in-Some.field-0 first next)
+    subst (IsNextOrSpent q used) c.in-Some-2.is (next_first c.args.asked.now.roots.now q used paths c.in_ok-first_of-in-Some.field-0 first next)
 
 pub returns-clause-offers : goal.returns-clause-offers
 returns-clause-offers g c =
     let told = g.R.Roads.told c.args.roads.now in
-    let q = asks (told c.args.uid.now) c.args.roots.now c.args.target.now in
+    let q = asks (told c.args.asked.now.uid.now) c.args.asked.now.roots.now c.args.asked.now.target.now in
     let used = use_in c.args.used.now in
-    let reach = number_at c.args.reach.now in
-    let holds = reach_holds told c.args.roots.now reach c.requires.reach.enough c.args.uid.now c.args.target.now used in
+    let reach = number_at c.args.asked.now.reach.now in
+    let holds = reach_holds told c.args.asked.now.roots.now reach c.requires.reach.enough c.args.asked.now.uid.now c.args.asked.now.target.now used in
     let wide = c.in-Some.wide in
     let f = subst (λ (o : Option Path). IsResult (widest_quest reach q used) o) c.in-Some.is c.in_ok-first.ensures.first in
     let paths = c.in_ok-offers-in-Some.field-0.items in
-    let next = found_offers reach q (c.in_order.ensures.lawful c.args.uid.now) used holds (sym c.in_order.ensures.in_order ∙ c.if-not-in_order.false) wide f _ (ap length c.as_slice.ensures.items) paths c.len-count.ensures.roots.order c.in_ok-offers-in-Some.ensures in
-    next_offers c.args.roots.now q used paths next
+    let next = found_offers reach q (c.in_order.ensures.lawful c.args.asked.now.uid.now) used holds (sym c.in_order.ensures.in_order ∙ c.if-not-in_order.false) wide f _ (ap length c.as_slice.ensures.items) paths c.len-count.ensures.roots.order c.in_ok-offers-in-Some.ensures in
+    next_offers c.args.asked.now.roots.now q used paths next

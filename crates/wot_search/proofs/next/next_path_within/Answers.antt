@@ -13,37 +13,37 @@ use Rattle.wot_search.proofs.next.next_path_within.Goals as goal
 
 pub returns-in-None-clause-next : goal.returns-in-None-clause-next
 returns-in-None-clause-next g c =
-    let q = asks (g.R.Roads.told c.args.roads.now c.args.uid.now) c.args.roots.now c.args.target.now in
+    let q = asks (g.R.Roads.told c.args.roads.now c.args.asked.now.uid.now) c.args.asked.now.roots.now c.args.asked.now.target.now in
     let used = use_in c.args.used.now in
-    let reach = number_at c.args.reach.now in
-    let holds = reach_holds (g.R.Roads.told c.args.roads.now) c.args.roots.now reach c.requires.reach.enough c.args.uid.now c.args.target.now used in
+    let reach = number_at c.args.asked.now.reach.now in
+    let holds = reach_holds (g.R.Roads.told c.args.roads.now) c.args.asked.now.roots.now reach c.requires.reach.enough c.args.asked.now.uid.now c.args.asked.now.target.now used in
     spent_next reach q used holds (subst (λ (o : Option Path). IsResult (widest_quest reach q used) o) c.in-None.is c.in_ok-first.ensures.first)
 
 pub returns-in-None-clause-local : goal.returns-in-None-clause-local
 returns-in-None-clause-local g c all set has other a =
-    let q = asks (g.R.Roads.told c.args.roads.now c.args.uid.now) c.args.roots.now c.args.target.now in
+    let q = asks (g.R.Roads.told c.args.roads.now c.args.asked.now.uid.now) c.args.asked.now.roots.now c.args.asked.now.target.now in
     let used = use_in c.args.used.now in
-    let reach = number_at c.args.reach.now in
-    let holds = reach_holds (g.R.Roads.told c.args.roads.now) c.args.roots.now reach c.requires.reach.enough c.args.uid.now c.args.target.now used in
+    let reach = number_at c.args.asked.now.reach.now in
+    let holds = reach_holds (g.R.Roads.told c.args.roads.now) c.args.asked.now.roots.now reach c.requires.reach.enough c.args.asked.now.uid.now c.args.asked.now.target.now used in
     spent_local reach all q used holds set (subst (λ (o : Option Path). IsResult (widest_quest reach q used) o) c.in-None.is c.in_ok-first.ensures.first)
     (looked_grows (widest_quest reach q used) 255 (g.N.Notes.noted c.first.new.notes) (Has set) has
     (subst (λ (o : Option Path). IsLookedBy (widest_quest reach q used) (g.N.Notes.noted c.first.new.notes) o) c.in-None.is c.in_ok-first.ensures.looked)) other a
 
 pub returns-clause-next : goal.returns-clause-next
 returns-clause-next g c =
-    let q = asks (g.R.Roads.told c.args.roads.now c.args.uid.now) c.args.roots.now c.args.target.now in
+    let q = asks (g.R.Roads.told c.args.roads.now c.args.asked.now.uid.now) c.args.asked.now.roots.now c.args.asked.now.target.now in
     let used = use_in c.args.used.now in
-    let reach = number_at c.args.reach.now in
-    let holds = reach_holds (g.R.Roads.told c.args.roads.now) c.args.roots.now reach c.requires.reach.enough c.args.uid.now c.args.target.now used in
+    let reach = number_at c.args.asked.now.reach.now in
+    let holds = reach_holds (g.R.Roads.told c.args.roads.now) c.args.asked.now.roots.now reach c.requires.reach.enough c.args.asked.now.uid.now c.args.asked.now.target.now used in
     let f = subst (λ (o : Option Path). IsResult (widest_quest reach q used) o) c.in-Some.is c.in_ok-first.ensures.first in
     both_next reach q used holds (sym c.in_order.ensures.in_order ∙ c.if-not-in_order.false) c.in-Some.path c.in_ok-found.found f c.in_ok-found.ensures.first
 
 pub returns-clause-local : goal.returns-clause-local
 returns-clause-local g c all set has other a =
-    let q = asks (g.R.Roads.told c.args.roads.now c.args.uid.now) c.args.roots.now c.args.target.now in
+    let q = asks (g.R.Roads.told c.args.roads.now c.args.asked.now.uid.now) c.args.asked.now.roots.now c.args.asked.now.target.now in
     let used = use_in c.args.used.now in
-    let reach = number_at c.args.reach.now in
-    let holds = reach_holds (g.R.Roads.told c.args.roads.now) c.args.roots.now reach c.requires.reach.enough c.args.uid.now c.args.target.now used in
+    let reach = number_at c.args.asked.now.reach.now in
+    let holds = reach_holds (g.R.Roads.told c.args.roads.now) c.args.asked.now.roots.now reach c.requires.reach.enough c.args.asked.now.uid.now c.args.asked.now.target.now used in
     let f = subst (λ (o : Option Path). IsResult (widest_quest reach q used) o) c.in-Some.is c.in_ok-first.ensures.first in
     let l = subst (λ (o : Option Path). IsLookedBy (widest_quest reach q used) (g.N.Notes.noted c.first.new.notes) o) c.in-Some.is c.in_ok-first.ensures.looked in
     both_local reach q used holds (sym c.in_order.ensures.in_order ∙ c.if-not-in_order.false) all c.in-Some.path c.in_ok-found.found set f c.in_ok-found.ensures.first

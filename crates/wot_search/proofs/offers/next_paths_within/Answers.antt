@@ -16,20 +16,20 @@ use Rattle.wot_search.proofs.offers.next_paths_within.Goals as goal
 
 pub returns-in-None-clause-next : goal.returns-in-None-clause-next
 returns-in-None-clause-next g c =
-    let q = asks (g.R.Roads.told c.args.roads.now c.args.uid.now) c.args.roots.now c.args.target.now in
+    let q = asks (g.R.Roads.told c.args.roads.now c.args.asked.now.uid.now) c.args.asked.now.roots.now c.args.asked.now.target.now in
     let used = use_in c.args.used.now in
-    let reach = number_at c.args.reach.now in
-    let holds = reach_holds (g.R.Roads.told c.args.roads.now) c.args.roots.now reach c.requires.reach.enough c.args.uid.now c.args.target.now used in
-    subst (AreNext c.args.roots.now q used) (sym c.new-in-None.ensures.items)
+    let reach = number_at c.args.asked.now.reach.now in
+    let holds = reach_holds (g.R.Roads.told c.args.roads.now) c.args.asked.now.roots.now reach c.requires.reach.enough c.args.asked.now.uid.now c.args.asked.now.target.now used in
+    subst (AreNext c.args.asked.now.roots.now q used) (sym c.new-in-None.ensures.items)
     (spent_next reach q used holds (subst (λ (o : Option Path). IsResult (widest_quest reach q used) o) c.in-None.is c.in_ok-first.ensures.first))
 
 pub returns-in-None-clause-local : goal.returns-in-None-clause-local
 returns-in-None-clause-local g c all set has other a =
-    let q = asks (g.R.Roads.told c.args.roads.now c.args.uid.now) c.args.roots.now c.args.target.now in
+    let q = asks (g.R.Roads.told c.args.roads.now c.args.asked.now.uid.now) c.args.asked.now.roots.now c.args.asked.now.target.now in
     let used = use_in c.args.used.now in
-    let reach = number_at c.args.reach.now in
-    let holds = reach_holds (g.R.Roads.told c.args.roads.now) c.args.roots.now reach c.requires.reach.enough c.args.uid.now c.args.target.now used in
-    subst (AreNext c.args.roots.now other used) (sym c.new-in-None.ensures.items)
+    let reach = number_at c.args.asked.now.reach.now in
+    let holds = reach_holds (g.R.Roads.told c.args.roads.now) c.args.asked.now.roots.now reach c.requires.reach.enough c.args.asked.now.uid.now c.args.asked.now.target.now used in
+    subst (AreNext c.args.asked.now.roots.now other used) (sym c.new-in-None.ensures.items)
     (spent_local reach all q used holds set (subst (λ (o : Option Path). IsResult (widest_quest reach q used) o) c.in-None.is c.in_ok-first.ensures.first)
     (looked_grows (widest_quest reach q used) 255 (g.N.Notes.noted c.first.new.notes) (Has set) has
     (subst (λ (o : Option Path). IsLookedBy (widest_quest reach q used) (g.N.Notes.noted c.first.new.notes) o) c.in-None.is c.in_ok-first.ensures.looked)) other a)
@@ -37,29 +37,29 @@ returns-in-None-clause-local g c all set has other a =
 pub returns-in_ok-paths-in-Some-clause-next : goal.returns-in_ok-paths-in-Some-clause-next
 returns-in_ok-paths-in-Some-clause-next g c =
     let told = g.R.Roads.told c.args.roads.now in
-    let q = asks (told c.args.uid.now) c.args.roots.now c.args.target.now in
+    let q = asks (told c.args.asked.now.uid.now) c.args.asked.now.roots.now c.args.asked.now.target.now in
     let used = use_in c.args.used.now in
-    let reach = number_at c.args.reach.now in
-    let holds = reach_holds told c.args.roots.now reach c.requires.reach.enough c.args.uid.now c.args.target.now used in
+    let reach = number_at c.args.asked.now.reach.now in
+    let holds = reach_holds told c.args.asked.now.roots.now reach c.requires.reach.enough c.args.asked.now.uid.now c.args.asked.now.target.now used in
     let wide = c.in-Some.path in
     let f = subst (λ (o : Option Path). IsResult (widest_quest reach q used) o) c.in-Some.is c.in_ok-first.ensures.first in
     let size = ap length c.as_slice.ensures.items in
-    let o = subst (λ (n : ℕ). AreFoundOffers (least_quest reach q used wide.amount) n c.args.roots.now c.in_ok-paths-in-Some.paths.items) size c.in_ok-paths-in-Some.ensures in
+    let o = subst (λ (n : ℕ). AreFoundOffers (least_quest reach q used wide.amount) n c.args.asked.now.roots.now c.in_ok-paths-in-Some.paths.items) size c.in_ok-paths-in-Some.ensures in
     let found = look o.reached.nodes in
-    found_next reach q (c.in_order.ensures.lawful c.args.uid.now) used holds (sym c.in_order.ensures.in_order ∙ c.if-not-in_order.false) wide f found o.after.entries o.after.complete c.in_ok-paths-in-Some.paths.items c.len-count.ensures.roots.order o.offered
+    found_next reach q (c.in_order.ensures.lawful c.args.asked.now.uid.now) used holds (sym c.in_order.ensures.in_order ∙ c.if-not-in_order.false) wide f found o.after.entries o.after.complete c.in_ok-paths-in-Some.paths.items c.len-count.ensures.roots.order o.offered
 
 pub returns-in_ok-paths-in-Some-clause-local : goal.returns-in_ok-paths-in-Some-clause-local
 returns-in_ok-paths-in-Some-clause-local g c all set has other a =
     let told = g.R.Roads.told c.args.roads.now in
-    let q = asks (told c.args.uid.now) c.args.roots.now c.args.target.now in
+    let q = asks (told c.args.asked.now.uid.now) c.args.asked.now.roots.now c.args.asked.now.target.now in
     let used = use_in c.args.used.now in
-    let reach = number_at c.args.reach.now in
-    let holds = reach_holds told c.args.roots.now reach c.requires.reach.enough c.args.uid.now c.args.target.now used in
+    let reach = number_at c.args.asked.now.reach.now in
+    let holds = reach_holds told c.args.asked.now.roots.now reach c.requires.reach.enough c.args.asked.now.uid.now c.args.asked.now.target.now used in
     let wide = c.in-Some.path in
     let f = subst (λ (o : Option Path). IsResult (widest_quest reach q used) o) c.in-Some.is c.in_ok-first.ensures.first in
     let size = ap length c.as_slice.ensures.items in
-    let o = subst (λ (n : ℕ). AreFoundOffers (least_quest reach q used wide.amount) n c.args.roots.now c.in_ok-paths-in-Some.paths.items) size c.in_ok-paths-in-Some.ensures in
+    let o = subst (λ (n : ℕ). AreFoundOffers (least_quest reach q used wide.amount) n c.args.asked.now.roots.now c.in_ok-paths-in-Some.paths.items) size c.in_ok-paths-in-Some.ensures in
     let found = look o.reached.nodes in
     let l = subst (λ (o : Option Path). IsLookedBy (widest_quest reach q used) (g.N.Notes.noted c.first.new.notes) o) c.in-Some.is c.in_ok-first.ensures.looked in
-    found_there reach q (c.in_order.ensures.lawful c.args.uid.now) used holds (sym c.in_order.ensures.in_order ∙ c.if-not-in_order.false) wide f found o.after.entries o.after.complete c.in_ok-paths-in-Some.paths.items c.len-count.ensures.roots.order o.offered
+    found_there reach q (c.in_order.ensures.lawful c.args.asked.now.uid.now) used holds (sym c.in_order.ensures.in_order ∙ c.if-not-in_order.false) wide f found o.after.entries o.after.complete c.in_ok-paths-in-Some.paths.items c.len-count.ensures.roots.order o.offered
     all other set a (looked_grows (widest_quest reach q used) (length wide.steps) (g.N.Notes.noted c.first.new.notes) (Has set) has l)

@@ -1,0 +1,47 @@
+-- What is asked of a search, and of the roads that it goes over.
+use Rattle.std.specs.Prelude.{◌≡◌, ℕ, List, Option}
+use Rattle.wot_types.specs.declared.fpr.Fpr.{Fpr}
+use Rattle.wot_edge.specs.declared.path.Path.{Path}
+use Rattle.wot_edge.specs.Leads.{Leads}
+use Rattle.wot_edge.specs.Path.{Question, asks}
+use Rattle.wot_edge.specs.Record.{Record}
+use Rattle.wot_edge.specs.Sums.{Sums, use_in}
+use Rattle.wot_search.specs.Nexting.{IsNextWhereAgreed}
+use Rattle.wot_search.specs.Offers.{AreNextWhereAgreed, TakesWhereAgreed}
+use Rattle.wot_search.specs.Reach.{Table, IsReach, number_at}
+use Rattle.wot_search.specs.declared.asked.Asked.{Asked}
+
+-- the question, by what the roads tell
+abbrev pub question_of : (List ℕ → Record) → Asked → Question
+question_of told asked = asks (told asked.uid.now) asked.roots.now asked.target.now
+
+-- the reach is one of these roads and of the roots
+abbrev pub IsWithin : (List ℕ → Record) → Asked → Type 0
+IsWithin told asked = IsReach told asked.roots.now asked.reach.now
+
+-- what leads to the target by rows
+abbrev pub LeadsToAsked : (List ℕ → Record) → Asked → Fpr → Type 0
+LeadsToAsked told asked fpr = Leads (told asked.uid.now) asked.target.now fpr
+
+-- a reach that leaves nothing out
+abbrev pub HasAll : Table → Type 0
+HasAll table = (fpr : Fpr) → number_at table fpr ≡ 255
+
+-- ---- what rests on no more than what is noted, where the reach leaves nothing out
+
+-- the next path after what is used, or that there is none, of each question that agrees on it
+abbrev pub IsNextLocally : (List ℕ → Record) → Asked → Sums → (Fpr → Type 0) → Option Path → Type 0
+IsNextLocally told asked used noted found =
+    HasAll asked.reach.now → IsNextWhereAgreed (question_of told asked) (use_in used) noted found
+
+-- the next path and offers after it, of each question that agrees on it
+abbrev pub AreNextLocally : (List ℕ → Record) → Asked → Sums → (Fpr → Type 0) → List Path → Type 0
+AreNextLocally told asked used noted paths =
+    HasAll asked.reach.now → AreNextWhereAgreed asked.roots.now (question_of told asked) (use_in used) noted paths
+
+-- the same, of each question that agrees on it and of which the old offers were some
+abbrev pub TakesLocally :
+    (List ℕ → Record) → Asked → Sums → (Fpr → Type 0) → List Path → List Path → Option Path → Type 0
+TakesLocally told asked used noted old new found =
+    HasAll asked.reach.now
+    → TakesWhereAgreed asked.roots.now (question_of told asked) (use_in used) noted old new found
