@@ -1,14 +1,14 @@
 -- The edges into one fingerprint that lead on, one after the other.
 use Rattle.std.proofs.Common.{◌≡◌, ◌⊎◌, inl, inr, ℕ, suc, zero, ◌+◌, ◌<◌, ◌≤◌, Bool, true, false, List, [], ◌∷◌, ◌++◌, length, get_or, drop, refl, sym, ap, subst, ◌∙◌, arith, le-leb}
-use Rattle.std.specs.Prelude.{◌&&◌, nat_le}
+use Rattle.std.specs.Prelude.{nat_le}
 use Rattle.std.proofs.lemmas.Bool.{and_from}
 use Rattle.std.proofs.lemmas.List.{drop_more, drop_all}
 use Rattle.std.proofs.lemmas.List.Elements.{All-push}
 use Rattle.wot_types.specs.declared.fpr.Fpr.{Fpr}
 use Rattle.wot_edge.specs.declared.edge.EdgeFacts.{EdgeFacts}
 use Rattle.wot_edge.specs.declared.path.Step.{Step}
-use Rattle.wot_edge.specs.Record.{Record, Row, Has, rows_into, edges_into}
-use Rattle.wot_edge.specs.Path.{Reaches, start, step_of}
+use Rattle.wot_edge.specs.Record.{Record, Row, Has, edges_into}
+use Rattle.wot_edge.specs.Path.{Reaches, step_of}
 use Rattle.wot_search.specs.declared.onward.Onward.{Onward as Places}
 use Rattle.wot_search.specs.Onward.{AreAllIn, AreOnward, Covers, IsAt, leads_on}
 use Rattle.wot_search.specs.Quest.{Quest}
@@ -16,7 +16,7 @@ use Rattle.wot_search.specs.Suffix.{Found}
 use Rattle.wot_search.specs.Layer.{Onward}
 use Rattle.wot_search.specs.Looked.{Widens}
 use Rattle.wot_search.specs.Growth.{IsNoted, IsTaken}
-use Rattle.wot_search.proofs.Extending.{NotedAll, TakenAll, has_at}
+use Rattle.wot_search.proofs.Extending.{NotedAll, TakenAll}
 use Rattle.wot_search.proofs.Layers.{onward_refl, onward_trans}
 
 -- ---- places

@@ -26,14 +26,14 @@ use Rattle.wot_search.specs.Looked.{IsLooked}
 use Rattle.wot_search.specs.Offers.{AddsOffer, AreFoundOffers, AreNext, AreOfferedBy, IsOfferIf, IsOfferOf, with_offer}
 use Rattle.wot_search.specs.Quest.{Quest}
 use Rattle.wot_search.specs.Reached.{look}
-use Rattle.wot_search.specs.Rooted.{Rooted, IsFirst}
-use Rattle.wot_search.specs.Suffix.{Suffix, Found, Kept, node_of}
+use Rattle.wot_search.specs.Rooted.{Rooted}
+use Rattle.wot_search.specs.Suffix.{Found, Kept, node_of}
 use Rattle.wot_search.proofs.Comparing.{AtMost-le}
 use Rattle.wot_search.proofs.Keeping.{entry_is}
 use Rattle.wot_search.proofs.Suffixes.{kept_suffix}
 use Rattle.wot_search.proofs.Within.{Holds}
 use Rattle.wot_search.proofs.Rooted.{widest_quest, least_quest, rooted_wide, rooted_fewer, rooted_amount, valid_rooted, first_le, IsShortest, shortest_distinct, suffix_chain}
-use Rattle.wot_search.proofs.Offering.{IsOne, Ascend, AreFirst, IsMet, first_offers, first_there, roots_there}
+use Rattle.wot_search.proofs.Offering.{IsOne, Ascend, AreFirst, first_offers, first_there, roots_there}
 
 -- ---- lists
 

@@ -1,7 +1,7 @@
 -- What makes paths offers.
-use Rattle.std.proofs.Common.{◌≡◌, ◌≢◌, ◌⊎◌, inl, inr, ℕ, ◌<◌, ◌≤◌, true, List, [], ◌∷◌, length, Ordering, refl, sym, ap, subst, ◌∙◌, arith, leb-true, le-leb}
+use Rattle.std.proofs.Common.{◌≡◌, ◌≢◌, inl, inr, ℕ, ◌<◌, ◌≤◌, true, List, [], ◌∷◌, length, refl, sym, ap, subst, ◌∙◌, arith, leb-true, le-leb}
 use Rattle.std.specs.Prelude.{nat_le}
-use Rattle.std.specs.declared.cmp.Ordering.TheVariants.{Less, Equal, Greater}
+use Rattle.std.specs.declared.cmp.Ordering.TheVariants.{Less, Greater}
 use Rattle.std.specs.Ordering.{nat_cmp, ordering_reverse, ordering_then}
 use Rattle.std.proofs.lemmas.Bool.{cases_lt, and_parts, and_from}
 use Rattle.wot_types.specs.declared.fpr.Fpr.{Fpr}
@@ -13,7 +13,7 @@ use Rattle.wot_edge.specs.Agree.{Agree}
 use Rattle.wot_edge.specs.Order.{steps_cmp}
 use Rattle.wot_edge.specs.Record.{Has}
 use Rattle.wot_edge.specs.Roots.{root_amount}
-use Rattle.wot_edge.specs.Path.{Question, Use, start, least_left, step_left, root_left, path_amount, IsOpen, IsNext, IsNextPath, Precedes}
+use Rattle.wot_edge.specs.Path.{Question, Use, start, least_left, step_left, root_left, path_amount, IsOpen, IsNextPath, Precedes}
 use Rattle.wot_search.specs.Looked.{IsLooked}
 use Rattle.wot_search.specs.Offers.{IsLater, left_at, is_left, AreOffers, AreNext}
 use Rattle.wot_search.proofs.Rooted.{widest_quest, valid_suffix}

@@ -1,9 +1,8 @@
 -- What a search keeps while it goes over the places of edges that lead on.
-use Rattle.std.proofs.Common.{◌≡◌, ◌⊎◌, inl, inr, ℕ, ◌+◌, ◌<◌, ◌≤◌, List, length, get_or, sym, subst}
+use Rattle.std.proofs.Common.{◌≡◌, inl, inr, ℕ, ◌+◌, ◌<◌, ◌≤◌, List, length, get_or, sym, subst}
 use Rattle.wot_types.specs.declared.fpr.Fpr.{Fpr}
 use Rattle.wot_edge.specs.declared.edge.EdgeFacts.{EdgeFacts}
 use Rattle.wot_edge.specs.declared.path.Step.{Step}
-use Rattle.wot_edge.specs.Record.{Has}
 use Rattle.wot_edge.specs.Path.{start}
 use Rattle.wot_search.specs.declared.reached.Reached.{Reached}
 use Rattle.wot_search.specs.Quest.{Quest}

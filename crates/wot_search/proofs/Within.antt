@@ -1,11 +1,10 @@
 -- Paths whose issuers stand within their reach.
-use Rattle.std.proofs.Common.{◌≡◌, ℕ, ◌<◌, ◌≤◌, ◌-◌, min, true, List, [], ◌∷◌, length, sym, ap, subst, arith}
+use Rattle.std.proofs.Common.{◌≡◌, ℕ, ◌<◌, ◌≤◌, List, [], ◌∷◌, length, sym, ap, subst, arith}
 use Rattle.wot_types.specs.declared.fpr.Fpr.{Fpr}
 use Rattle.wot_edge.specs.declared.path.Step.{Step}
-use Rattle.wot_edge.specs.Record.{Record, Row, Has, IsRecord, rows_into}
-use Rattle.wot_edge.specs.Roots.{root_amount}
-use Rattle.wot_edge.specs.Path.{Question, Use, Chain, Reaches, Stands, start, step_of, step_left, least_left, root_left, asks, IsOpen}
-use Rattle.wot_search.specs.Reach.{HasEnough, HaveEnough, IsReach, Table, number_at}
+use Rattle.wot_edge.specs.Record.{Record}
+use Rattle.wot_edge.specs.Path.{Question, Use, Chain, Stands, start, step_left, least_left, root_left, asks, IsOpen}
+use Rattle.wot_search.specs.Reach.{HaveEnough, IsReach, Table, number_at}
 use Rattle.wot_search.specs.Onward.{AreOnward}
 use Rattle.wot_search.specs.declared.onward.Onward.{Onward}
 

@@ -1,11 +1,10 @@
-use Rattle.std.proofs.Common.{◌≡◌, inl, inr, ◌+◌, ◌<◌, ◌≤◌, [], sym, ap, subst, ◌∙◌, arith, List, ℕ}
+use Rattle.std.proofs.Common.{inl, inr, ◌+◌, ◌<◌, [], sym, ap, subst, ◌∙◌, arith, List, ℕ}
 use Rattle.wot_edge.specs.declared.path.Path.{Path}
-use Rattle.wot_edge.specs.Path.{asks, use_of, IsNextPath, IsSpent, Use}
+use Rattle.wot_edge.specs.Path.{asks, use_of, IsSpent, Use}
 use Rattle.wot_edge.specs.Answer.{EachNext, amount_of, but_last}
 use Rattle.wot_edge.specs.Sums.{use_in}
 use Rattle.wot_search.specs.Below.{IsNextBelow, IsNextAmount}
 use Rattle.wot_search.specs.Offers.{AreOffers}
-use Rattle.wot_search.specs.declared.below.Next.{Next}
 use Rattle.wot_auth.proofs.Taking.{each_more, short_more, use_none, use_more, pair_fits, root_fits, amount_more, more_small, later_more, offers_later, root_small}
 use Rattle.wot_auth.proofs.Summing.{next_here, sum_of, enough_sum}
 use Rattle.wot_auth.proofs.sum.sum_within.Goals as goal

@@ -88,3 +88,38 @@ paths-preserved g c =
 pub returns-clause-local : goal.returns-clause-local
 returns-clause-local g c all set has other a =
     full_answer other c.args.wanted c.paths.paths.items c.new-paths-2.result c.paths.sum (c.paths.invariant.local all set has other a).0 c.paths.invariant.short c.paths.invariant.sum c.paths-test.false c.new-paths-2.ensures.items
+
+pub returns-clause-answer : goal.returns-clause-answer
+returns-clause-answer g c =
+    let q = asks (g.R.Roads.told c.args.roads.now c.args.uid.now) c.args.roots.now c.args.target.now in
+    full_answer q c.args.wanted c.paths.paths.items c.new-paths-2.result c.paths.sum c.paths.invariant.each c.paths.invariant.short c.paths.invariant.sum c.paths-test.false c.new-paths-2.ensures.items
+
+pub returns-clause-grows : goal.returns-clause-grows
+returns-clause-grows g c = c.paths.invariant.grows
+
+pub returns-clause-leads : goal.returns-clause-leads
+returns-clause-leads g c = c.paths.invariant.leads
+
+pub returns-in_err-next-clause-grows : goal.returns-in_err-next-clause-grows
+returns-in_err-next-clause-grows g c fpr h = c.in_err-next.ensures.grows fpr (c.paths.invariant.grows fpr h)
+
+pub returns-in_err-next-clause-leads : goal.returns-in_err-next-clause-leads
+returns-in_err-next-clause-leads g c fpr h = elim (c.in_err-next.ensures.leads fpr h) [ inl k ↦ c.paths.invariant.leads fpr k | inr l ↦ inr l ]
+
+pub returns-in-None-clause-grows : goal.returns-in-None-clause-grows
+returns-in-None-clause-grows g c fpr h = c.in_ok-next.ensures.grows fpr (c.paths.invariant.grows fpr h)
+
+pub returns-in-None-clause-leads : goal.returns-in-None-clause-leads
+returns-in-None-clause-leads g c fpr h = elim (c.in_ok-next.ensures.leads fpr h) [ inl k ↦ c.paths.invariant.leads fpr k | inr l ↦ inr l ]
+
+pub returns-in_err-add-in-Some-clause-grows : goal.returns-in_err-add-in-Some-clause-grows
+returns-in_err-add-in-Some-clause-grows g c fpr h = c.in_ok-next.ensures.grows fpr (c.paths.invariant.grows fpr h)
+
+pub returns-in_err-add-in-Some-clause-leads : goal.returns-in_err-add-in-Some-clause-leads
+returns-in_err-add-in-Some-clause-leads g c fpr h = elim (c.in_ok-next.ensures.leads fpr h) [ inl k ↦ c.paths.invariant.leads fpr k | inr l ↦ inr l ]
+
+pub returns-in_err-push-in-Some-clause-grows : goal.returns-in_err-push-in-Some-clause-grows
+returns-in_err-push-in-Some-clause-grows g c fpr h = c.in_ok-next.ensures.grows fpr (c.paths.invariant.grows fpr h)
+
+pub returns-in_err-push-in-Some-clause-leads : goal.returns-in_err-push-in-Some-clause-leads
+returns-in_err-push-in-Some-clause-leads g c fpr h = elim (c.in_ok-next.ensures.leads fpr h) [ inl k ↦ c.paths.invariant.leads fpr k | inr l ↦ inr l ]

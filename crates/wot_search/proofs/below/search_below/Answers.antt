@@ -1,4 +1,4 @@
-use Rattle.std.proofs.Common.{sym, ap, subst, ◌∙◌, arith, Option, Some, None, length}
+use Rattle.std.proofs.Common.{sym, ap, subst, ◌∙◌, arith, Option, length}
 use Rattle.wot_edge.specs.declared.path.Path.{Path}
 use Rattle.wot_edge.specs.Path.{asks}
 use Rattle.wot_edge.specs.Answer.{IsNextOrSpent}
@@ -7,7 +7,7 @@ use Rattle.wot_search.specs.Growth.{IsResult}
 use Rattle.wot_search.specs.Offers.{first_path}
 use Rattle.wot_search.specs.Reach.{number_at}
 use Rattle.wot_search.proofs.Ahead.{is_next_amount}
-use Rattle.wot_search.proofs.Nexting.{spent_next}
+use Rattle.wot_search.proofs.Nexting.{spent_next, unordered_next}
 use Rattle.wot_search.proofs.OfRoots.{found_offers}
 use Rattle.wot_search.proofs.Opening.{next_first, next_offers}
 use Rattle.wot_search.proofs.Rooted.{widest_quest}
@@ -74,3 +74,30 @@ returns-clause-offers g c =
     let paths = c.in_ok-offers-in-Some.field-0.items in
     let next = found_offers reach q (c.in_order.ensures.lawful c.args.asked.now.uid.now) used holds (sym c.in_order.ensures.in_order ∙ c.if-not-in_order.false) wide f _ (ap length c.as_slice.ensures.items) paths c.len-count.ensures.roots.order c.in_ok-offers-in-Some.ensures in
     next_offers c.args.asked.now.roots.now q used paths next
+
+pub returns-in-None-2-clause-offers : goal.returns-in-None-2-clause-offers
+returns-in-None-2-clause-offers g c =
+    let told = g.R.Roads.told c.args.roads.now in
+    let q = asks (told c.args.asked.now.uid.now) c.args.asked.now.roots.now c.args.asked.now.target.now in
+    let used = use_in c.args.used.now in
+    let reach = number_at c.args.asked.now.reach.now in
+    let holds = reach_holds told c.args.asked.now.roots.now reach c.requires.reach.enough c.args.asked.now.uid.now c.args.asked.now.target.now used in
+    let wide = c.in-Some.wide in
+    let f = subst (λ (o : Option Path). IsResult (widest_quest reach q used) o) c.in-Some.is c.in_ok-first.ensures.first in
+    let paths = c.in_ok-offers-in-Some.field-0.items in
+    let next = found_offers reach q (c.in_order.ensures.lawful c.args.asked.now.uid.now) used holds (sym c.in_order.ensures.in_order ∙ c.if-not-in_order.false) wide f _ (ap length c.as_slice.ensures.items) paths c.len-count.ensures.roots.order c.in_ok-offers-in-Some.ensures in
+    next_offers c.args.asked.now.roots.now q used paths next
+
+pub returns-then-not-in_order-clause-next : goal.returns-then-not-in_order-clause-next
+returns-then-not-in_order-clause-next g c =
+    let q = asks (g.R.Roads.told c.args.roads.now c.args.asked.now.uid.now) c.args.asked.now.roots.now c.args.asked.now.target.now in
+    unordered_next q (use_in c.args.used.now) (sym c.in_order.ensures.in_order ∙ c.if-not-in_order.true)
+
+pub returns-then-not-in_order-clause-offers : goal.returns-then-not-in_order-clause-offers
+returns-then-not-in_order-clause-offers g c = c.requires.offers
+
+pub returns-in-None-clause-offers : goal.returns-in-None-clause-offers
+returns-in-None-clause-offers g c = c.requires.offers
+
+pub returns-then-enough-from-clause-offers : goal.returns-then-enough-from-clause-offers
+returns-then-enough-from-clause-offers g c = c.requires.offers

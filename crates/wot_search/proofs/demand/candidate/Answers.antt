@@ -1,7 +1,5 @@
-use Rattle.std.proofs.Common.{◌≡◌, sym, ap, ◌∙◌, arith, min, ◌+◌, nat_le, nat_lt, ◌&&◌}
-use Rattle.wot_edge.specs.declared.path.Step.{Step}
+use Rattle.std.proofs.Common.{◌≡◌, sym, ap, ◌∙◌, min, ◌+◌, nat_le, nat_lt, ◌&&◌}
 use Rattle.wot_edge.specs.Path.{step_of, step_left}
-use Rattle.wot_edge.specs.Sums.{use_in}
 use Rattle.wot_search.specs.Demand.{is_met, is_enough}
 use Rattle.wot_search.specs.Quest.{quest_of}
 use Rattle.std.proofs.lemmas.Bool.{and_from}

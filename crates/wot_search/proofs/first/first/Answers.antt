@@ -5,7 +5,7 @@ use Rattle.wot_edge.specs.declared.path.Path.{Path}
 use Rattle.wot_search.specs.Quest.{quest_of}
 use Rattle.wot_search.specs.Reached.{look}
 use Rattle.wot_search.specs.Growth.{IsAfter, IsTurn}
-use Rattle.wot_search.proofs.Finding.{empty_result, empty_looked, first_result, looked_fewer, none_there, turned}
+use Rattle.wot_search.proofs.Finding.{after_begin, unrooted_begin, empty_result, empty_looked, first_result, last_result, looked_fewer, none_there, turned}
 use Rattle.wot_search.proofs.first.first.Goals as goal
 
 pub returns-then-is_empty-clause-first : goal.returns-then-is_empty-clause-first
@@ -60,3 +60,54 @@ layers-preserved g c =
       grows = λ fpr h. ok.grows fpr (inv.grows fpr h);
       leads = λ fpr h. elim (ok.leads inv.after fpr h) [ inl k ↦ inv.leads fpr k | inr l ↦ inr l ];
     }
+
+pub layers-init : goal.layers-init
+layers-init g c =
+    let quest = quest_of (g.R.Roads.told c.args.roads.now) c.args.quest.now in
+    let reached = c.in_ok-reached.reached in
+    record {
+      after = after_begin quest reached (g.N.Notes.noted c.args.notes.now) c.in_ok-reached.ensures.nodes c.in_ok-reached.ensures.layer;
+      unrooted = unrooted_begin quest (look reached.nodes);
+      grows = λ fpr h. h;
+      leads = λ fpr h. inl h;
+    }
+
+pub returns-clause-first : goal.returns-clause-first
+returns-clause-first g c =
+    let quest = quest_of (g.R.Roads.told c.args.roads.now) c.args.quest.now in
+    last_result quest c.layers.size c.layers.reached (g.N.Notes.noted c.layers.notes) c.layers-test.false c.layers.invariant.after c.layers.invariant.unrooted
+
+pub returns-clause-looked : goal.returns-clause-looked
+returns-clause-looked g c =
+    let quest = quest_of (g.R.Roads.told c.args.roads.now) c.args.quest.now in
+    looked_fewer quest 255 c.layers.size (g.N.Notes.noted c.layers.notes) c.layers-test.false c.layers.invariant.after.looked
+
+pub returns-clause-grows : goal.returns-clause-grows
+returns-clause-grows g c = c.layers.invariant.grows
+
+pub returns-clause-leads : goal.returns-clause-leads
+returns-clause-leads g c = c.layers.invariant.leads
+
+pub returns-in_err-advance-clause-grows : goal.returns-in_err-advance-clause-grows
+returns-in_err-advance-clause-grows g c fpr h = c.in_err-advance.ensures.grows fpr (c.layers.invariant.grows fpr h)
+
+pub returns-in_err-advance-clause-leads : goal.returns-in_err-advance-clause-leads
+returns-in_err-advance-clause-leads g c fpr h = elim (c.in_err-advance.ensures.leads c.layers.invariant.after fpr h) [ inl k ↦ c.layers.invariant.leads fpr k | inr l ↦ inr l ]
+
+pub returns-then-is_empty-clause-grows : goal.returns-then-is_empty-clause-grows
+returns-then-is_empty-clause-grows g c fpr h = c.in_ok-advance.ensures.grows fpr (c.layers.invariant.grows fpr h)
+
+pub returns-then-is_empty-clause-leads : goal.returns-then-is_empty-clause-leads
+returns-then-is_empty-clause-leads g c fpr h = elim (c.in_ok-advance.ensures.leads c.layers.invariant.after fpr h) [ inl k ↦ c.layers.invariant.leads fpr k | inr l ↦ inr l ]
+
+pub returns-in_err-turn-clause-grows : goal.returns-in_err-turn-clause-grows
+returns-in_err-turn-clause-grows g c fpr h = c.in_ok-advance.ensures.grows fpr (c.layers.invariant.grows fpr h)
+
+pub returns-in_err-turn-clause-leads : goal.returns-in_err-turn-clause-leads
+returns-in_err-turn-clause-leads g c fpr h = elim (c.in_ok-advance.ensures.leads c.layers.invariant.after fpr h) [ inl k ↦ c.layers.invariant.leads fpr k | inr l ↦ inr l ]
+
+pub returns-in-Some-clause-grows : goal.returns-in-Some-clause-grows
+returns-in-Some-clause-grows g c fpr h = c.in_ok-advance.ensures.grows fpr (c.layers.invariant.grows fpr h)
+
+pub returns-in-Some-clause-leads : goal.returns-in-Some-clause-leads
+returns-in-Some-clause-leads g c fpr h = elim (c.in_ok-advance.ensures.leads c.layers.invariant.after fpr h) [ inl k ↦ c.layers.invariant.leads fpr k | inr l ↦ inr l ]

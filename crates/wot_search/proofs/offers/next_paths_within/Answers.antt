@@ -1,4 +1,4 @@
-use Rattle.std.proofs.Common.{ap, sym, subst, ◌∙◌, Option, length, ℕ}
+use Rattle.std.proofs.Common.{inl, inr, [], ap, sym, subst, ◌∙◌, Option, length, ℕ}
 use Rattle.wot_edge.specs.declared.path.Path.{Path}
 use Rattle.wot_edge.specs.Path.{asks}
 use Rattle.wot_edge.specs.Record.{Has}
@@ -63,3 +63,39 @@ returns-in_ok-paths-in-Some-clause-local g c all set has other a =
     let l = subst (λ (o : Option Path). IsLookedBy (widest_quest reach q used) (g.N.Notes.noted c.first.new.notes) o) c.in-Some.is c.in_ok-first.ensures.looked in
     found_there reach q (c.in_order.ensures.lawful c.args.asked.now.uid.now) used holds (sym c.in_order.ensures.in_order ∙ c.if-not-in_order.false) wide f found o.after.entries o.after.complete c.in_ok-paths-in-Some.paths.items c.len-count.ensures.roots.order o.offered
     all other set a (looked_grows (widest_quest reach q used) (length wide.steps) (g.N.Notes.noted c.first.new.notes) (Has set) has l)
+
+pub returns-in_err-note-clause-grows : goal.returns-in_err-note-clause-grows
+returns-in_err-note-clause-grows g c fpr h = c.in_err-note.ensures.grows fpr h
+
+pub returns-in_err-note-clause-leads : goal.returns-in_err-note-clause-leads
+returns-in_err-note-clause-leads g c fpr h = elim (c.in_err-note.ensures.only fpr h) [ inl k0 ↦ inl k0 | inr e ↦ inr ([], tt, e) ]
+
+pub returns-then-not-in_order-clause-grows : goal.returns-then-not-in_order-clause-grows
+returns-then-not-in_order-clause-grows g c fpr h = c.in_ok-note.ensures.grows fpr h
+
+pub returns-then-not-in_order-clause-leads : goal.returns-then-not-in_order-clause-leads
+returns-then-not-in_order-clause-leads g c fpr h = elim (c.in_ok-note.ensures.only fpr h) [ inl k0 ↦ inl k0 | inr e ↦ inr ([], tt, e) ]
+
+pub returns-in_err-first-clause-grows : goal.returns-in_err-first-clause-grows
+returns-in_err-first-clause-grows g c fpr h = c.in_err-first.ensures.grows fpr (c.in_ok-note.ensures.grows fpr h)
+
+pub returns-in_err-first-clause-leads : goal.returns-in_err-first-clause-leads
+returns-in_err-first-clause-leads g c fpr h = elim (c.in_err-first.ensures.leads fpr h) [ inl k0 ↦ elim (c.in_ok-note.ensures.only fpr k0) [ inl k1 ↦ inl k1 | inr e ↦ inr ([], tt, e) ] | inr l ↦ inr l ]
+
+pub returns-in-None-clause-grows : goal.returns-in-None-clause-grows
+returns-in-None-clause-grows g c fpr h = c.in_ok-first.ensures.grows fpr (c.in_ok-note.ensures.grows fpr h)
+
+pub returns-in-None-clause-leads : goal.returns-in-None-clause-leads
+returns-in-None-clause-leads g c fpr h = elim (c.in_ok-first.ensures.leads fpr h) [ inl k0 ↦ elim (c.in_ok-note.ensures.only fpr k0) [ inl k1 ↦ inl k1 | inr e ↦ inr ([], tt, e) ] | inr l ↦ inr l ]
+
+pub returns-in_err-paths-in-Some-clause-grows : goal.returns-in_err-paths-in-Some-clause-grows
+returns-in_err-paths-in-Some-clause-grows g c fpr h = c.in_ok-first.ensures.grows fpr (c.in_ok-note.ensures.grows fpr h)
+
+pub returns-in_err-paths-in-Some-clause-leads : goal.returns-in_err-paths-in-Some-clause-leads
+returns-in_err-paths-in-Some-clause-leads g c fpr h = elim (c.in_ok-first.ensures.leads fpr h) [ inl k0 ↦ elim (c.in_ok-note.ensures.only fpr k0) [ inl k1 ↦ inl k1 | inr e ↦ inr ([], tt, e) ] | inr l ↦ inr l ]
+
+pub returns-in_ok-paths-in-Some-clause-grows : goal.returns-in_ok-paths-in-Some-clause-grows
+returns-in_ok-paths-in-Some-clause-grows g c fpr h = c.in_ok-first.ensures.grows fpr (c.in_ok-note.ensures.grows fpr h)
+
+pub returns-in_ok-paths-in-Some-clause-leads : goal.returns-in_ok-paths-in-Some-clause-leads
+returns-in_ok-paths-in-Some-clause-leads g c fpr h = elim (c.in_ok-first.ensures.leads fpr h) [ inl k0 ↦ elim (c.in_ok-note.ensures.only fpr k0) [ inl k1 ↦ inl k1 | inr e ↦ inr ([], tt, e) ] | inr l ↦ inr l ]
