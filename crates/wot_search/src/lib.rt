@@ -2,6 +2,7 @@
 #![tactic(auto)]
 
 mod below;
+mod checking;
 mod choose;
 mod collect;
 mod consider;
@@ -11,6 +12,7 @@ mod extend;
 mod first;
 mod grow;
 mod left;
+mod making;
 mod metered;
 mod next;
 mod node;
@@ -28,10 +30,10 @@ mod turn;
 
 pub use below::{Next, next_below};
 pub use consulted::{Consulted, ConsultedIter};
+pub use making::{Making, make_reach};
 pub use metered::Metered;
 pub use next::{next_path, next_path_within};
 pub use notes::{Notes, Unnoted};
 pub use offered::next_offered;
 pub use offers::next_paths_within;
 pub use reach::Reach;
-pub use reaching::make_reach;
