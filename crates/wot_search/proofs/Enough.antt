@@ -1,16 +1,15 @@
 -- A table that has enough.
-use Rattle.std.proofs.Common.{◌≡◌, ◌⊎◌, inl, inr, ℕ, ◌+◌, ◌<◌, ◌≤◌, ◌-◌, min, Bool, true, false, cond, List, [], ◌∷◌, length, get_or, drop, Some, None, refl, sym, ap, subst, ◌∙◌, arith}
+use Rattle.std.proofs.Common.{◌≡◌, ◌⊎◌, inl, inr, ℕ, ◌+◌, ◌<◌, ◌≤◌, ◌-◌, min, List, length, get_or, drop, None, refl, sym, ap, subst, ◌∙◌, arith}
 use Rattle.std.specs.Option.{unwrap_or}
 use Rattle.std.specs.Map.{lookup}
 use Rattle.std.specs.BTreeMap.{is_at}
 use Rattle.std.proofs.lemmas.List.{drop_more, drop_all}
 use Rattle.wot_types.specs.declared.fpr.Fpr.{Fpr}
 use Rattle.wot_types.specs.Fpr.{fpr_cmp}
-use Rattle.wot_types.specs.FprLaws.{same_fpr-true}
 use Rattle.wot_edge.specs.declared.edge.EdgeFacts.{EdgeFacts}
-use Rattle.wot_edge.specs.Record.{Record, Row, Has, IsRecord, rows_into, edges_into}
+use Rattle.wot_edge.specs.Record.{Record, Has, IsRecord, rows_into, edges_into}
 use Rattle.wot_edge.specs.Roots.{root_amount}
-use Rattle.wot_search.specs.Reach.{Allows, HasEnough, HaveEnough, number_of}
+use Rattle.wot_search.specs.Reach.{Allows, HasEnough, number_of}
 use Rattle.wot_search.proofs.Considering.{row_edge}
 
 -- ---- the edges into one fingerprint
@@ -52,7 +51,7 @@ module _ (told : List ℕ → Record) (roots : List (Fpr × ℕ)) (numbers : Lis
   absent fpr e = ap (λ (o : _). min 255 (unwrap_or o 255)) e
 
   -- one that has no number has enough
-  absent_enough : (fpr : Fpr) → lookup (is_at (fpr_cmp fpr)) numbers ≡ None → HasEnough told roots (number_of numbers) fpr
+  pub absent_enough : (fpr : Fpr) → lookup (is_at (fpr_cmp fpr)) numbers ≡ None → HasEnough told roots (number_of numbers) fpr
   absent_enough fpr e = record {
     root = λ some. absent fpr e;
     edges = λ uid row has usable some.
@@ -60,27 +59,3 @@ module _ (told : List ℕ → Record) (roots : List (Fpr × ℕ)) (numbers : Lis
         let le : number_of numbers row.edge.issuer ≤ 255 = omega arith in
         omega (arith, f, le);
   }
-
-  -- those that are no more among the rest have enough
-  abbrev pub EnoughFrom : List (Fpr × ℕ) → Type 0
-  EnoughFrom rest = (fpr : Fpr) → HasEnough told roots (number_of numbers) fpr ⊎ (lookup (is_at (fpr_cmp fpr)) rest ≡ lookup (is_at (fpr_cmp fpr)) numbers)
-
-  pub enough_start : EnoughFrom numbers
-  enough_start fpr = inr refl
-
-  pub enough_more : (e : Fpr × ℕ) (rest : List (Fpr × ℕ)) → EnoughFrom (e ∷ rest) → HasEnough told roots (number_of numbers) e.0 → EnoughFrom rest
-  enough_more e rest from enough fpr = elim (from fpr) [
-    | inl done ↦ inl done
-    | inr same ↦ by (is_at (fpr_cmp fpr) e.0) refl same
-  ]
-    where
-      by : (b : Bool) → is_at (fpr_cmp fpr) e.0 ≡ b → cond b (Some e.1) (lookup (is_at (fpr_cmp fpr)) rest) ≡ lookup (is_at (fpr_cmp fpr)) numbers
-          → HasEnough told roots (number_of numbers) fpr ⊎ (lookup (is_at (fpr_cmp fpr)) rest ≡ lookup (is_at (fpr_cmp fpr)) numbers)
-      by true t same = inl (subst (HasEnough told roots (number_of numbers)) (sym (same_fpr-true fpr e.0 t)) enough)
-      by false t same = inr same
-
-  pub enough_end : (rest : List (Fpr × ℕ)) → rest ≡ [] → EnoughFrom rest → HaveEnough told roots (number_of numbers)
-  enough_end rest none from fpr = elim (from fpr) [
-    | inl done ↦ done
-    | inr same ↦ absent_enough fpr (sym same ∙ ap (lookup (is_at (fpr_cmp fpr))) none)
-  ]

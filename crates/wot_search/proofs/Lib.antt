@@ -24,3 +24,4 @@ pub mod Taking
 pub mod Collecting
 pub mod Enough
 pub mod Slotting
+pub mod Checked

@@ -5,6 +5,7 @@ pub mod Quest
 pub mod Suffix
 pub mod Layer
 pub mod Looked
+pub mod Making
 pub mod Choice
 pub mod Rooted
 pub mod Nexting

@@ -3,6 +3,7 @@
 
 mod asked;
 mod below;
+mod checking;
 mod choose;
 mod collect;
 mod consider;
@@ -12,6 +13,7 @@ mod extend;
 mod first;
 mod grow;
 mod left;
+mod making;
 mod metered;
 mod next;
 mod node;
@@ -30,10 +32,10 @@ mod turn;
 pub use asked::Asked;
 pub use below::{Next, next_below};
 pub use consulted::{Consulted, ConsultedIter};
+pub use making::{Making, make_reach};
 pub use metered::Metered;
 pub use next::{next_path, next_path_within};
 pub use notes::{Notes, Unnoted};
 pub use offered::next_offered;
 pub use offers::next_paths_within;
 pub use reach::Reach;
-pub use reaching::make_reach;

@@ -75,26 +75,8 @@ fn places_of<R: Roads>(
     Ok(places)
 }
 
-/// Those of each of these fingerprints.
-pub(crate) fn make_onward<R: Roads>(
-    alloc: Global,
-    roads: &R,
-    fprs: &[Fpr],
-    slots: &Slots,
-    numbers: &BTreeMap<Fpr, u8>,
-) -> Result<Vec<Onward>, Memory>
-    requires slots { AreSlots numbers.now.entries slots.now.slots.items }
-    ensures onward { IfOk result (λ made. AreOnward (R.told roads.now) (number_of numbers.now.entries) made.items) }
-{
-    let mut onward = Vec::new(alloc);
-    'fprs: for fpr in fprs {
-        put_onward(alloc, roads, fpr, slots, numbers, &mut onward)?;
-    }
-    Ok(onward)
-}
-
 /// Appends those of one fingerprint.
-fn put_onward<R: Roads>(
+pub(crate) fn put_onward<R: Roads>(
     alloc: Global,
     roads: &R,
     fpr: &Fpr,

@@ -1,12 +1,12 @@
-ghost use Rattle.std.specs.Prelude.{◌≡◌, ◌<◌, ℕ, List, true, false, IfOk, IfSome};
+ghost use Rattle.std.specs.Prelude.{◌≡◌, ◌<◌, ℕ, List, [], true, false, IfOk, IfSome, OnOk};
 ghost use Rattle.wot_types.specs.declared.fpr.Fpr.{Fpr as Print};
 ghost use Rattle.wot_edge.specs.Record.{Record, Has, edges_into};
 ghost use Rattle.wot_edge.specs.Roots.{root_amount};
 ghost use Rattle.wot_search.specs.Onward.{AreOnward, Covers};
-ghost use Rattle.wot_search.specs.Reach.{Allows, HasEnough, HaveEnough, IsReach, number_at, number_of};
+ghost use Rattle.wot_search.specs.Reach.{Allows, HasEnough, IsReach, number_at, number_of};
 
-use crate::onward::{Onward, make_onward, places_at};
-use crate::rows::Rows;
+use crate::onward::{Onward, places_at, put_onward};
+use crate::rows::{Rows, add_row};
 use crate::slots::{Slots, number_in};
 use std::alloc::Global;
 use std::collections::BTreeMap;
@@ -26,8 +26,8 @@ pub struct Reach {
 }
 
 impl Model for Reach {
-    ghost use Rattle.wot_search.specs.Reach.{Table};
     ghost use Rattle.wot_search.specs.Slots.{AreSlots};
+    ghost use Rattle.wot_search.specs.Reach.{Table};
 
     ghost Value = { Table };
 
@@ -101,54 +101,51 @@ impl Reach {
         self.rows.slots.len()
     }
 
-    /// A table of these numbers, one for each of the fingerprints; where there are fewer numbers, the last have none.
-    pub(crate) fn new<R: Roads>(
+    /// A table of these numbers, with the slots and the places of none yet.
+    pub(crate) fn of(alloc: Global, numbers: BTreeMap<Fpr, u8>) -> Reach
+        ensures numbers { result.numbers ≡ numbers.entries }
+        ensures onward { result.onward ≡ [] }
+    {
+        Reach {
+            numbers,
+            slots: Slots::none(alloc),
+            rows: Rows::none(alloc),
+            onward: Vec::new(alloc),
+        }
+    }
+
+    /// Adds the slot of one more of so many fingerprints.
+    pub(crate) fn add_slot(&mut self, count: usize, fpr: &Fpr) -> Result<(), Memory>
+        ensures same { self.new ≡ self.old }
+    {
+        self.slots.add(count, &self.numbers, fpr)
+    }
+
+    /// Appends the places of the edges into one more fingerprint. Whether it has enough.
+    pub(crate) fn add<R: Roads>(
+        &mut self,
         alloc: Global,
         roads: &R,
-        fprs: &[Fpr],
-        numbers: &[u8],
-    ) -> Result<Reach, Memory>
-        ensures onward { IfOk result (λ reach. AreOnward (R.told roads.now) (number_at reach) reach.onward) }
+        roots: &Roots,
+        fpr: &Fpr,
+    ) -> Result<bool, Memory>
+        requires onward { AreOnward (R.told roads.now) (number_at self.old) self.old.onward }
+        ensures numbers { self.new.numbers ≡ self.old.numbers }
+        ensures onward { OnOk result (AreOnward (R.told roads.now) (number_at self.new) self.new.onward) }
+        ensures enough { IfOk result (λ yes. yes ≡ true →
+            HasEnough (R.told roads.now) roots.now (number_at self.new) fpr.now) }
     {
-        let mut table = BTreeMap::new(alloc);
-        for (fpr, number) in fprs.iter().zip(numbers) {
-            table.insert(*fpr, *number)?;
-        }
-        let slots = Slots::of(alloc, fprs, &table)?;
-        let rows = Rows::of(alloc, roads, fprs, &slots, &table)?;
-        let onward = make_onward(alloc, roads, fprs, &slots, &table)?;
-        Ok(Reach {
-            numbers: table,
-            slots,
-            rows,
-            onward,
-        })
+        add_row(roads, fpr, &self.slots, &self.numbers, &mut self.rows)?;
+        put_onward(
+            alloc,
+            roads,
+            fpr,
+            &self.slots,
+            &self.numbers,
+            &mut self.onward,
+        )?;
+        Ok(has_enough(roads, roots, self, fpr))
     }
-
-    /// Whether each fingerprint has enough.
-    pub(crate) fn is_over<R: Roads>(&self, roads: &R, roots: &Roots) -> bool
-        ensures enough { result ≡ true → HaveEnough (R.told roads.now) roots.now (number_at self.now) }
-    {
-        have_enough(roads, roots, self, &self.numbers)
-    }
-}
-
-/// Whether each of these fingerprints has enough, and so whether all have, since one without a number has 255.
-fn have_enough<R: Roads>(
-    roads: &R,
-    roots: &Roots,
-    reach: &Reach,
-    numbers: &BTreeMap<Fpr, u8>,
-) -> bool
-    requires { reach.now.numbers ≡ numbers.now.entries }
-    ensures enough { result ≡ true → HaveEnough (R.told roads.now) roots.now (number_at reach.now) }
-{
-    'numbers: for (fpr, _number) in numbers.iter() {
-        if !has_enough(roads, roots, reach, fpr) {
-            return false;
-        }
-    }
-    true
 }
 
 /// Whether a root has less than 255.

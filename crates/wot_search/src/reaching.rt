@@ -1,7 +1,8 @@
-ghost use Rattle.std.specs.Prelude.{IfOk};
-ghost use Rattle.wot_search.specs.Reach.{IsReach};
+// The numbers of a table of reach, found in steps. Nothing is claimed of them here: they are checked once they are
+// there.
+ghost use Rattle.wot_search.specs.Making.{AreKeysOf};
 
-use crate::reach::Reach;
+use crate::checking::Numbering;
 use crate::slots::Slots;
 use std::alloc::Global;
 use std::collections::BTreeMap;
@@ -17,6 +18,9 @@ struct Link {
     row: u32,
     depth: u8,
 }
+
+/// How many links a step passes over.
+const LINKS: usize = 1024;
 
 /// What came of a link.
 enum Passed {
@@ -36,16 +40,54 @@ struct Places {
     all: BTreeMap<Fpr, u32, Global>,
 }
 
-/// The place of each fingerprint.
-fn places_of(alloc: Global, fprs: &[Fpr]) -> Result<Places, Memory> {
-    let mut all = BTreeMap::new(alloc);
-    let mut place: u32 = 0;
-    for fpr in fprs {
-        all.insert(*fpr, place)?;
-        place = place.saturating_add(1);
+/// The places of the fingerprints before one.
+#[derive(Drop)]
+pub struct Placing {
+    fprs: Vec<Fpr, Global>,
+    places: Places,
+    next: usize,
+}
+
+impl Placing {
+    /// No places yet.
+    pub(crate) fn new(alloc: Global, fprs: Vec<Fpr>) -> Placing {
+        Placing {
+            fprs,
+            places: Places {
+                slots: Slots::none(alloc),
+                all: BTreeMap::new(alloc),
+            },
+            next: 0,
+        }
     }
-    let slots = Slots::of(alloc, fprs, &BTreeMap::new(alloc))?;
-    Ok(Places { slots, all })
+
+    pub(crate) fn is_over(&self) -> bool {
+        self.next >= self.fprs.len()
+    }
+
+    /// Notes the place of the next fingerprint.
+    pub(crate) fn place(&mut self, alloc: Global) -> Result<(), Memory> {
+        let Some(fpr) = self.fprs.get(self.next) else {
+            return Ok(());
+        };
+        let place = u32::try_from(self.next).unwrap_or(u32::MAX);
+        self.places.all.insert(*fpr, place)?;
+        self.places
+            .slots
+            .add(self.fprs.len(), &BTreeMap::new(alloc), fpr)?;
+        self.next = self.next.saturating_add(1);
+        Ok(())
+    }
+
+    /// Before the first links.
+    pub(crate) fn link(self, alloc: Global) -> Linking {
+        Linking {
+            fprs: self.fprs,
+            places: self.places,
+            links: Vec::new(alloc),
+            next: 0,
+        }
+    }
 }
 
 /// The place of a fingerprint.
@@ -99,16 +141,91 @@ fn put_links<R: Roads>(
     Ok(())
 }
 
-/// The links into the fingerprints.
-fn links_of<R: Roads>(alloc: Global, roads: &R, fprs: &[Fpr]) -> Result<Vec<Link>, Memory> {
-    let places = places_of(alloc, fprs)?;
-    let mut links = Vec::new(alloc);
-    let mut target: u32 = 0;
-    for fpr in fprs {
-        put_links(roads, &places, fpr, target, &mut links)?;
-        target = target.saturating_add(1);
+/// The links into the fingerprints before one.
+#[derive(Drop)]
+pub struct Linking {
+    fprs: Vec<Fpr, Global>,
+    places: Places,
+    links: Vec<Link, Global>,
+    next: usize,
+}
+
+/// The numbers after some passes over the links, and after the first links of one more.
+#[derive(Drop)]
+pub struct Passing {
+    fprs: Vec<Fpr, Global>,
+    links: Vec<Link, Global>,
+    numbers: Vec<u8, Global>,
+    next: usize,
+    // Whether a number rose in this pass.
+    rose: bool,
+    // How many more passes there may be.
+    passes: u8,
+}
+
+impl Linking {
+    pub(crate) fn is_over(&self) -> bool {
+        self.next >= self.fprs.len()
     }
-    Ok(links)
+
+    /// Appends the links into the next fingerprint.
+    pub(crate) fn link<R: Roads>(&mut self, roads: &R) -> Result<(), Memory> {
+        let Some(fpr) = self.fprs.get(self.next) else {
+            return Ok(());
+        };
+        let target = u32::try_from(self.next).unwrap_or(u32::MAX);
+        put_links(roads, &self.places, fpr, target, &mut self.links)?;
+        self.next = self.next.saturating_add(1);
+        Ok(())
+    }
+
+    /// Before the first pass.
+    pub(crate) fn pass(self, alloc: Global, roots: &Roots) -> Result<Passing, Memory> {
+        let numbers = first_numbers(alloc, roots, &self.fprs)?;
+        Ok(Passing {
+            fprs: self.fprs,
+            links: self.links,
+            numbers,
+            next: 0,
+            rose: false,
+            passes: 255,
+        })
+    }
+}
+
+impl Passing {
+    /// Whether a pass is done in which no number rose.
+    pub(crate) fn is_over(&self) -> bool {
+        self.next >= self.links.len() && (!self.rose || self.passes == 0)
+    }
+
+    /// A table of them, empty yet.
+    pub(crate) fn numbering(self, alloc: Global) -> Numbering
+        ensures keys { AreKeysOf result.fprs.items result.table.entries }
+    {
+        Numbering::new(alloc, self.fprs, self.numbers)
+    }
+
+    /// Lets some more links pass on what they can.
+    pub(crate) fn pass<R: Roads>(&mut self, roads: &R) {
+        if self.next >= self.links.len() {
+            self.next = 0;
+            self.rose = false;
+            self.passes = self.passes.saturating_sub(1);
+        }
+        let to = self.next.saturating_add(LINKS).min(self.links.len());
+        if raise_some(
+            roads,
+            &self.fprs,
+            &mut self.links,
+            &mut self.numbers,
+            self.next,
+            to,
+        ) {
+            self.rose = true;
+        }
+        self.next = to;
+    }
 }
 
 /// Whether the edge at a place among those into a fingerprint is usable.
@@ -168,10 +285,17 @@ fn pass_on<R: Roads>(roads: &R, fprs: &[Fpr], link: &Link, numbers: &mut [u8]) -
     Passed::Raised
 }
 
-/// Lets each link pass on what it can. Whether a number rose.
-fn raise_once<R: Roads>(roads: &R, fprs: &[Fpr], links: &mut [Link], numbers: &mut [u8]) -> bool {
+/// Lets the links from one place to another pass on what they can. Whether a number rose.
+fn raise_some<R: Roads>(
+    roads: &R,
+    fprs: &[Fpr],
+    links: &mut [Link],
+    numbers: &mut [u8],
+    from: usize,
+    to: usize,
+) -> bool {
     let mut rose = false;
-    for place in 0..links.len() {
+    for place in from..to.min(links.len()) {
         let link = links[place];
         match pass_on(roads, fprs, &link, numbers) {
             Passed::Nothing => {}
@@ -180,34 +304,4 @@ fn raise_once<R: Roads>(roads: &R, fprs: &[Fpr], links: &mut [Link], numbers: &m
         }
     }
     rose
-}
-
-/// Raises numbers until none rises.
-fn raise<R: Roads>(roads: &R, fprs: &[Fpr], links: &mut [Link], numbers: &mut [u8]) {
-    for _pass in 0..256u16 {
-        if !raise_once(roads, fprs, links, numbers) {
-            return;
-        }
-    }
-}
-
-/// How far before any target each fingerprint may stand on a path from these roots, whatever user ID is asked for. The
-/// fingerprints are those that have edges; where some are missing, the table may leave nothing out.
-pub fn make_reach<R: Roads>(
-    alloc: Global,
-    roads: &R,
-    roots: &Roots,
-    fprs: &[Fpr],
-) -> Result<Reach, Memory>
-    ensures reach { IfOk result (λ reach. IsReach (R.told roads.now) roots.now reach) }
-{
-    let mut links = links_of(alloc, roads, fprs)?;
-    let mut numbers = first_numbers(alloc, roots, fprs)?;
-    raise(roads, fprs, &mut links, &mut numbers);
-    let reach = Reach::new(alloc, roads, fprs, &numbers)?;
-    if reach.is_over(roads, roots) {
-        return Ok(reach);
-    }
-    // Sound whatever was given: this table has enough everywhere.
-    Ok(Reach::everywhere(alloc))
 }

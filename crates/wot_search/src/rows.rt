@@ -1,6 +1,6 @@
 // The numbers of a table a third time, in the order of edges: a search that goes over the edges into a fingerprint finds
 // those of their issuers side by side.
-ghost use Rattle.std.specs.Prelude.{ℕ, List, IfOk, OnOk};
+ghost use Rattle.std.specs.Prelude.{ℕ, List};
 ghost use Rattle.wot_types.specs.declared.fpr.Fpr.{Fpr as Print};
 ghost use Rattle.wot_search.specs.Slots.{AreSlots, TellsIfSome};
 
@@ -27,29 +27,6 @@ impl Rows {
         }
     }
 
-    /// Those of the edges into these fingerprints.
-    pub(crate) fn of<R: Roads>(
-        alloc: Global,
-        roads: &R,
-        fprs: &[Fpr],
-        slots: &Slots,
-        numbers: &BTreeMap<Fpr, u8>,
-    ) -> Result<Rows, Memory>
-        requires slots { AreSlots numbers.now.entries slots.now.slots.items }
-        ensures slots { IfOk result (λ made. AreSlots numbers.now.entries made.slots.items) }
-    {
-        let mut rows = Vec::new(alloc);
-        let mut starts = Vec::new(alloc);
-        'fprs: for fpr in fprs {
-            starts.push(u32::try_from(rows.len()).unwrap_or(u32::MAX))?;
-            put_row(roads, fpr, slots, numbers, &mut rows)?;
-        }
-        Ok(Rows {
-            slots: rows,
-            starts,
-        })
-    }
-
     /// Where the slots of the edges into the fingerprint at a place begin, if it has some.
     pub(crate) fn start(&self, place: usize) -> usize {
         match self.starts.get(place) {
@@ -66,6 +43,23 @@ impl Rows {
     }
 }
 
+/// Adds the slots of the edges into one more fingerprint.
+pub(crate) fn add_row<R: Roads>(
+    roads: &R,
+    fpr: &Fpr,
+    slots: &Slots,
+    numbers: &BTreeMap<Fpr, u8>,
+    rows: &mut Rows,
+) -> Result<(), Memory>
+    requires slots { AreSlots numbers.now.entries slots.now.slots.items }
+    requires rows { AreSlots numbers.now.entries rows.old.slots.items }
+    ensures rows { AreSlots numbers.now.entries rows.new.slots.items }
+{
+    let start = u32::try_from(rows.slots.len()).unwrap_or(u32::MAX);
+    rows.starts.push(start)?;
+    put_row(roads, fpr, slots, numbers, &mut rows.slots)
+}
+
 /// Appends the slots of the issuers of the edges into a fingerprint.
 fn put_row<R: Roads>(
     roads: &R,
@@ -76,7 +70,7 @@ fn put_row<R: Roads>(
 ) -> Result<(), Memory>
     requires slots { AreSlots numbers.now.entries slots.now.slots.items }
     requires rows { AreSlots numbers.now.entries rows.old.items }
-    ensures rows { OnOk result (AreSlots numbers.now.entries rows.new.items) }
+    ensures rows { AreSlots numbers.now.entries rows.new.items }
 {
     let edges = roads.rows(fpr);
     'edges: for edge in edges {
@@ -94,7 +88,7 @@ fn put_issuer(
 ) -> Result<(), Memory>
     requires slots { AreSlots numbers.now.entries slots.now.slots.items }
     requires rows { AreSlots numbers.now.entries rows.old.items }
-    ensures rows { OnOk result (AreSlots numbers.now.entries rows.new.items) }
+    ensures rows { AreSlots numbers.now.entries rows.new.items }
 {
     let number = number_by(slots, numbers, fpr);
     rows.push(Slot { fpr: *fpr, number })?;

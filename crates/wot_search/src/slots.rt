@@ -1,5 +1,5 @@
 // The numbers of a table once more, in a row: most are found by one look, and not by a walk through a tree.
-ghost use Rattle.std.specs.Prelude.{◌≡◌, ℕ, List, IfOk, OnOk};
+ghost use Rattle.std.specs.Prelude.{◌≡◌, ℕ, List};
 ghost use Rattle.wot_types.specs.declared.fpr.Fpr.{Fpr as Print};
 ghost use Rattle.wot_search.specs.Reach.{number_of};
 ghost use Rattle.wot_search.specs.Slots.{AreSlots, Tells, TellsIfSome};
@@ -36,21 +36,18 @@ impl Slots {
         }
     }
 
-    /// The slots of these fingerprints.
-    pub(crate) fn of(
-        alloc: Global,
-        fprs: &[Fpr],
+    /// Adds the slot of one more of so many fingerprints.
+    pub(crate) fn add(
+        &mut self,
+        count: usize,
         numbers: &BTreeMap<Fpr, u8>,
-    ) -> Result<Slots, Memory>
-        ensures slots { IfOk result (λ made. AreSlots numbers.now.entries made.slots.items) }
+        fpr: &Fpr,
+    ) -> Result<(), Memory>
+        ensures slots { AreSlots numbers.now.entries self.old.slots.items →
+            AreSlots numbers.now.entries self.new.slots.items }
     {
-        let mut slots = Vec::new(alloc);
-        let mut starts = Vec::new(alloc);
-        'fprs: for fpr in fprs {
-            begin_parts(&mut starts, part_of(fpr, fprs.len()), slots.len())?;
-            put_slot(&mut slots, numbers, fpr)?;
-        }
-        Ok(Slots { slots, starts })
+        begin_parts(&mut self.starts, part_of(fpr, count), self.slots.len())?;
+        put_slot(&mut self.slots, numbers, fpr)
     }
 
     /// The number of a fingerprint; `None` also where it isn't found.
@@ -115,8 +112,7 @@ pub(crate) fn number_by(slots: &Slots, numbers: &BTreeMap<Fpr, u8>, fpr: &Fpr) -
 
 /// Appends the slot of a fingerprint.
 fn put_slot(slots: &mut Vec<Slot>, numbers: &BTreeMap<Fpr, u8>, fpr: &Fpr) -> Result<(), Memory>
-    requires slots { AreSlots numbers.now.entries slots.old.items }
-    ensures slots { OnOk result (AreSlots numbers.now.entries slots.new.items) }
+    ensures slots { AreSlots numbers.now.entries slots.old.items → AreSlots numbers.now.entries slots.new.items }
 {
     slots.push(Slot {
         fpr: *fpr,

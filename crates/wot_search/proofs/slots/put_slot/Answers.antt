@@ -6,7 +6,7 @@ pub returns : goal.returns
 returns c =
     let slot : Slot = record { fpr = c.args.fpr.now; number = c.number_in.result } in
     record {
-      slots =
-          slot_added c.args.numbers.now.entries c.args.slots.now.items c.push.new.self.items slot c.requires.slots
+      slots = λ are.
+          slot_added c.args.numbers.now.entries c.args.slots.now.items c.push.new.self.items slot are
           c.number_in.ensures.number c.in_ok-push.ensures.items;
     }
