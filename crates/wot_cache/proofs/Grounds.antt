@@ -39,7 +39,7 @@ stamped_there : (k : Keyring) (fpr : Fpr) (x : Kept) → AreStamped k.changes k.
 stamped_there k fpr x stamped e = each_found (StampedBy k.changes) (is_fpr fpr) k.certs x stamped e
 
 -- a stamp is a count of changes up to now
-stamp_past : (k : Keyring) (fpr : Fpr) → AreStamped k.changes k.certs → stamp_at k fpr ≤ k.changes
+pub stamp_past : (k : Keyring) (fpr : Fpr) → AreStamped k.changes k.certs → stamp_at k fpr ≤ k.changes
 stamp_past k fpr stamped = by (kept_at k fpr) refl
   where
     by : (o : Option Kept) → kept_at k fpr ≡ o → option_map_or (λ (x : Kept). x.stamp) o 0 ≤ k.changes

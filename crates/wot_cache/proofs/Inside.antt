@@ -173,7 +173,7 @@ right_later further old new a later right = record { sum = right.sum; answer = �
 good_later : (old new : Keyring) (roots : Amounts) (turn : ℕ) (a : KeptAnswer) → IsOneChange old new → IsGood old roots turn a → IsGood new roots turn a
 good_later old new roots turn a (inl same) good = subst (λ (k : Keyring). IsGood k roots turn a) (sym same) good
 good_later old new roots turn a (inr more) good =
-    let counted : new.changes ≡ old.changes + 1 = more.0 in
+    let counted : new.changes ≡ old.changes + 1 = more.counted in
     let past = good.counted in
     record { counted = omega (arith, counted, past); turned = good.turned; now = λ e f. absurd (omega (arith, counted, past, e)) }
 
@@ -187,7 +187,7 @@ are_right_later further old new roots turn (e ∷ es) later one all =
 reaching_later : (old new : Keyring) (roots : Amounts) (turn : ℕ) (r : KeptReach) → IsOneChange old new → IsReaching old roots turn r → IsReaching new roots turn r
 reaching_later old new roots turn r (inl same) is = subst (λ (k : Keyring). IsReaching k roots turn r) (sym same) is
 reaching_later old new roots turn r (inr more) is =
-    let counted : new.changes ≡ old.changes + 1 = more.0 in
+    let counted : new.changes ≡ old.changes + 1 = more.counted in
     let past = is.counted in
     record { counted = omega (arith, counted, past); turned = is.turned; now = λ e f. absurd (omega (arith, counted, past, e)) }
 

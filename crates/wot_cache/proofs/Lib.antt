@@ -7,3 +7,5 @@ pub mod Lines
 pub mod Replay
 pub mod Counting
 pub mod Grounds
+pub mod Resting
+pub mod Onward

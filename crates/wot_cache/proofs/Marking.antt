@@ -24,13 +24,13 @@ use Rattle.wot_cache.specs.Views.{MovesTime, SetsAmount, Views, is_name, view_at
 
 -- ---- names
 
-equal_if : (o : Ordering) → is_eq o ≡ true → o ≡ Equal
+pub equal_if : (o : Ordering) → is_eq o ≡ true → o ≡ Equal
 equal_if Less e = absurd cc
 equal_if Equal e = refl
 equal_if Greater e = absurd cc
 
 -- what is found by one name is found by an equal one
-found_by : {X : Type 0} (name other : List ℕ) (es : List (List ℕ × X)) → is_name name other ≡ true → lookup (is_name name) es ≡ lookup (is_name other) es
+pub found_by : {X : Type 0} (name other : List ℕ) (es : List (List ℕ × X)) → is_name name other ≡ true → lookup (is_name name) es ≡ lookup (is_name other) es
 found_by name other es e =
     let same = equal_if (view_name_cmp name other) e in
     ap (λ (test : List ℕ → Bool). lookup test es) (λ i key. is_eq (nat_list_cmp_total.congr name other key same i))

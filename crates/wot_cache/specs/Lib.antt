@@ -1,6 +1,7 @@
 pub mod Views
 pub mod Turns
 pub mod Answers
+pub mod Basis
 pub mod Inside
 pub mod Marks
 pub mod State

@@ -59,7 +59,7 @@ pub struct KeptAnswer {
 
 impl KeptAnswer {
     /// Whether this is the question.
-    fn is_of(&self, target: &Fpr, wanted: u32, uid: &[u8], time: u32) -> bool
+    pub fn is_of(&self, target: &Fpr, wanted: u32, uid: &[u8], time: u32) -> bool
         ensures same { result ≡ true → IsOf self.now target.now wanted uid.now time }
     {
         self.time == time
@@ -131,7 +131,7 @@ fn all_still(grounds: &Option<Vec<Looked>>, keyring: &Keyring, roots: &Roots) ->
 }
 
 /// Whether the stamps and the root amounts are what they were.
-fn are_still(looked: &[Looked], keyring: &Keyring, roots: &Roots) -> bool
+pub fn are_still(looked: &[Looked], keyring: &Keyring, roots: &Roots) -> bool
     ensures still { result ≡ true → AreStill keyring.now roots.now looked.now }
 {
     let mut rest = looked;
@@ -360,6 +360,16 @@ impl Answers {
             return None;
         }
         give(&mut self.table, parts, self.turn, target, wanted, uid)
+    }
+
+    /// The answer that is kept under the key of a question, to whatever question.
+    pub fn kept(&self, target: &Fpr, wanted: u32, uid: &[u8]) -> Option<&KeptAnswer>
+        ensures right { (k : Held) → AreRightIn k self.now → IfSome result (λ kept. IsRight k kept.now) }
+    {
+        match self.table.get(&key_of(target, wanted, uid)) {
+            Some(kept) => Some(kept),
+            None => None,
+        }
     }
 
     /// Keeps an answer that is good by these roots, unless it consulted too much or no memory is found.

@@ -26,6 +26,7 @@ ghost use Rattle.wot_cache.specs.Turns.{turn_at, IsOneTurn, IsOneClosing};
 ghost use Rattle.wot_cache.specs.Views.{view_at, with_time, time_fault, with_root, root_fault, without_view, TellsFault, TellsOpen};
 
 mod load;
+mod resting;
 
 use crate::ask::answer;
 use crate::dump::put_engine;

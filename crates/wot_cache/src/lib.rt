@@ -3,10 +3,12 @@
 
 mod answers;
 mod ask;
+mod basis;
 mod budget;
 mod dump;
 mod engine;
 mod key;
+pub mod laws;
 mod networks;
 mod parts;
 mod present;
@@ -16,6 +18,7 @@ mod turns;
 mod view;
 mod views;
 
+pub use basis::Basis;
 pub use engine::Engine;
 pub use parts::Parts;
 pub use view::{AskFault, NoView, View, ViewFault};

@@ -1,0 +1,208 @@
+//! What the answers to some questions rest on, by which it is known without asking again that they still stand.
+ghost use Rattle.std.specs.Prelude.{◌≡◌, false, true, IfSome};
+ghost use Rattle.wot_cache.specs.Answers.{AreAllRight, IsRight};
+ghost use Rattle.wot_cache.specs.Basis.{empty_at, is_in, AllIn, AreCalm, HasGrown, Includes, IsFreeOf, RestsAt};
+
+use crate::answers::{KeptAnswer, Looked, are_still};
+use crate::engine::Engine;
+use crate::recall::AllAnswers;
+use crate::view::View;
+use std::alloc::Global;
+use std::collections::BTreeSet;
+use std::marker::Model;
+use wot_keyring::Keyring;
+use wot_types::{Fpr, ViewName};
+
+/// Where more was changed than this, it isn't looked whether the answers stand.
+const MOST_CHANGED: usize = 64;
+
+type Set = BTreeSet<Fpr, Global>;
+
+/// The counts of changes and of turns at which some answers were found, and the fingerprints that they rest on.
+#[derive(Drop)]
+pub struct Basis {
+    changes: u64,
+    turns: u64,
+    fprs: Set,
+    // Whether one rests on all that there is.
+    whole: bool,
+}
+
+impl Model for Basis {
+    ghost use Rattle.wot_cache.specs.Basis.{Basis as TheBasis};
+
+    ghost Value = { TheBasis };
+
+    ghost view = { λ b. record { changes = b.changes; turns = b.turns; fprs = b.fprs.keys; whole = b.whole } };
+}
+
+impl Basis {
+    /// The basis of no answers, at the engine's present counts. Takes no memory.
+    pub fn new(alloc: Global, engine: &Engine) -> Basis
+        ensures empty { result ≡ empty_at engine.now }
+    {
+        Basis {
+            changes: engine.keyring().changes(),
+            turns: engine.turns(),
+            fprs: BTreeSet::new(alloc),
+            whole: false,
+        }
+    }
+
+    /// From now on it rests on all that there is.
+    pub(crate) fn rest_on_all(&mut self)
+        ensures whole { self.new ≡ record self.old { whole = true } }
+    {
+        self.whole = true;
+    }
+
+    /// Rests on these fingerprints too. Where that is false no memory was found, and it rests on some of them.
+    #[tactic(auto, using(crate::proofs::Resting::grown_by))]
+    fn rest_on(&mut self, looked: &[Looked]) -> bool
+        ensures all { result ≡ true → AllIn self.new.fprs looked.now }
+        ensures grown { HasGrown self.old self.new }
+    {
+        add_all(&mut self.fprs, looked)
+    }
+
+    /// Whether no fingerprint that it rests on has a stamp above its count of changes.
+    #[tactic(auto, using(crate::proofs::Resting::calm_by))]
+    fn is_calm(&self, keyring: &Keyring) -> bool
+        ensures calm { result ≡ true → AreCalm keyring.now self.now.changes self.now.fprs }
+    {
+        match keyring.changed_since(self.changes) {
+            Some(changed) => changed.len() <= MOST_CHANGED && is_free_of(&self.fprs, changed),
+            None => false,
+        }
+    }
+
+    /// Whether nothing that it rests on was altered since its count of changes. Then that becomes the present one, so
+    /// that there is little to look at the next time.
+    pub(crate) fn stands(&mut self, keyring: &Keyring, turns: u64) -> bool
+        ensures turns { result ≡ true → self.old.turns ≡ turns }
+        ensures calm { result ≡ true → AreCalm keyring.now self.old.changes self.old.fprs }
+        ensures whole { result ≡ true → self.old.whole ≡ true → keyring.now.changes ≡ self.old.changes }
+        ensures still { self.old.turns ≡ turns → self.old.changes ≡ keyring.now.changes → result ≡ true }
+        ensures moved { result ≡ true → self.new ≡ record self.old { changes = keyring.now.changes } }
+        ensures kept { result ≡ false → self.new ≡ self.old }
+    {
+        // That stamps are counts of changes.
+        let _count = keyring.len();
+        let changes = keyring.changes();
+        if self.turns != turns {
+            return false;
+        }
+        if self.changes == changes {
+            return true;
+        }
+        if self.whole || !self.is_calm(keyring) {
+            return false;
+        }
+        self.changes = changes;
+        true
+    }
+}
+
+fn has(set: &Set, fpr: &Fpr) -> bool
+    ensures has { result ≡ is_in fpr.now set.now.keys }
+{
+    set.contains(fpr)
+}
+
+/// Puts a fingerprint in. False where no memory was found.
+fn add(set: &mut Set, fpr: Fpr) -> bool
+    ensures has { result ≡ true → is_in fpr set.new.keys ≡ true }
+    ensures grows { Includes set.old.keys set.new.keys }
+{
+    match set.insert(fpr) {
+        Ok(_) => true,
+        Err(_) => false,
+    }
+}
+
+/// Puts these fingerprints in. Where that is false no memory was found, and some are in.
+#[tactic(auto, using(crate::proofs::Resting::put_in))]
+fn add_all(set: &mut Set, looked: &[Looked]) -> bool
+    ensures all { result ≡ true → AllIn set.new.keys looked.now }
+    ensures grows { Includes set.old.keys set.new.keys }
+{
+    let mut rest = looked;
+    'rest: while let Some((first, later)) = rest.split_first() {
+        if !add(set, first.fpr) {
+            return false;
+        }
+        rest = later;
+    }
+    true
+}
+
+/// Whether none of these is in it.
+#[tactic(auto, using(crate::proofs::Resting::free_more))]
+fn is_free_of(set: &Set, changed: &[(u64, Fpr)]) -> bool
+    ensures free { result ≡ true → IsFreeOf set.now.keys changed.now }
+{
+    let mut rest = changed;
+    'rest: while let Some((first, later)) = rest.split_first() {
+        if has(set, &first.1) {
+            return false;
+        }
+        rest = later;
+    }
+    true
+}
+
+/// The sum of a kept answer, where it is one to this question and all that it rests on is as it was. Then the basis
+/// rests on that too.
+#[tactic(auto, using(crate::proofs::Resting::sum_rests))]
+fn sum_of(
+    kept: &KeptAnswer,
+    keyring: &Keyring,
+    seen_from: &View,
+    target: &Fpr,
+    wanted: u32,
+    uid: &[u8],
+    basis: &mut Basis,
+) -> Option<u32>
+    requires right { IsRight keyring.now kept.now }
+    ensures rests { IfSome result
+        (λ n. RestsAt keyring.now keyring.now.changes basis.new.fprs seen_from.now target.now wanted uid.now n) }
+    ensures grown { HasGrown basis.old basis.new }
+{
+    if !kept.is_of(target, wanted, uid, seen_from.time) {
+        return None;
+    }
+    let Some(looked) = &kept.looked else {
+        return None;
+    };
+    if !are_still(looked.as_slice(), keyring, &seen_from.roots)
+        || !basis.rest_on(looked.as_slice())
+    {
+        return None;
+    }
+    Some(kept.answer.sum)
+}
+
+/// The same of the answer that is kept for a question, seen from an open view.
+pub(crate) fn kept_sum(
+    answers: &AllAnswers,
+    keyring: &Keyring,
+    view: &ViewName,
+    seen_from: &View,
+    target: &Fpr,
+    wanted: u32,
+    uid: &[u8],
+    basis: &mut Basis,
+) -> Option<u32>
+    requires right { AreAllRight keyring.now answers.now.entries }
+    ensures rests { IfSome result
+        (λ n. RestsAt keyring.now keyring.now.changes basis.new.fprs seen_from.now target.now wanted uid.now n) }
+    ensures grown { HasGrown basis.old basis.new }
+{
+    let Some(of_view) = answers.get(view) else {
+        return None;
+    };
+    match of_view.kept(target, wanted, uid) {
+        Some(kept) => sum_of(kept, keyring, seen_from, target, wanted, uid, basis),
+        None => None,
+    }
+}

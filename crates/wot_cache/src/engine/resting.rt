@@ -1,0 +1,116 @@
+ghost use Rattle.std.specs.Prelude.{◌≡◌, ◌≤◌, ◌+◌, false, true, IfOk, IfSome, OnErr};
+ghost use Rattle.wot_edge.specs.Answer.{IsAnswer, amount_of};
+ghost use Rattle.wot_network.specs.Net.{signatures_in};
+ghost use Rattle.wot_cache.specs.Basis.{CarriesOn, HasAmount, HasGrown, IsPresent, IsUndisturbed, RestsOn};
+ghost use Rattle.wot_cache.specs.Marks.{IsRefreshed};
+ghost use Rattle.wot_cache.specs.Question.{OfQuestion};
+ghost use Rattle.wot_cache.specs.Views.{view_at, TellsOpen};
+
+use crate::basis::{Basis, kept_sum};
+use crate::engine::Engine;
+use crate::view::AskFault;
+use crate::views;
+use wot_auth::Answer;
+use wot_types::{Fpr, Steps, ViewName};
+
+impl Engine {
+    /// The sum of the answer that `ask` gives. The basis, which is at the engine's present counts, then says for how
+    /// long it is the sum: until something is altered that it rests on.
+    pub fn sum(
+        &mut self,
+        view: &ViewName,
+        target: &Fpr,
+        wanted: u32,
+        uid: &[u8],
+        steps: &mut Steps,
+        basis: &mut Basis,
+    ) -> Result<u32, AskFault>
+        requires wanted { 1 ≤ wanted }
+        requires present { IsPresent self.old basis.old }
+        ensures sum { IfOk result (λ n. OfQuestion self.old view.now target.now uid.now (HasAmount wanted n)) }
+        ensures rests { IfOk result (λ n. RestsOn self.old basis.new view.now target.now wanted uid.now n) }
+        ensures grown { HasGrown basis.old basis.new }
+        ensures kept { OnErr result (basis.new ≡ basis.old) }
+        ensures open { TellsOpen result (view_at self.old.views view.now) }
+        ensures refreshed { IsRefreshed result view.now self.old self.new steps.old.made steps.new.made }
+        ensures made_most { steps.new.made ≤ steps.old.made + signatures_in self.old.keyring }
+        ensures never_less { steps.old.made ≤ steps.new.made }
+    {
+        match self.ask(view, target, wanted, uid, steps) {
+            Ok(answer) => Ok(self.rested(view, target, wanted, uid, &answer, basis)),
+            Err(fault) => Err(fault),
+        }
+    }
+
+    /// The sum of this answer. From now on the basis rests on what the kept answer rests on, or on all that there is.
+    fn rested(
+        &self,
+        view: &ViewName,
+        target: &Fpr,
+        wanted: u32,
+        uid: &[u8],
+        answer: &Answer,
+        basis: &mut Basis,
+    ) -> u32
+        requires present { IsPresent self.now basis.old }
+        requires answer { OfQuestion self.now view.now target.now uid.now (λ q. IsAnswer q wanted answer.now.paths) }
+        requires sum { answer.now.sum ≡ amount_of answer.now.paths }
+        ensures sum { OfQuestion self.now view.now target.now uid.now (HasAmount wanted result) }
+        ensures rests { RestsOn self.now basis.new view.now target.now wanted uid.now result }
+        ensures grown { HasGrown basis.old basis.new }
+    {
+        match self.rest(view, target, wanted, uid, basis) {
+            Some(sum) => sum,
+            None => {
+                basis.rest_on_all();
+                answer.sum
+            }
+        }
+    }
+
+    /// The sum of the answer that is kept for a question, where all that it rests on is as it was. Then the basis rests
+    /// on that too.
+    fn rest(
+        &self,
+        view: &ViewName,
+        target: &Fpr,
+        wanted: u32,
+        uid: &[u8],
+        basis: &mut Basis,
+    ) -> Option<u32>
+        requires present { IsPresent self.now basis.old }
+        ensures sum { IfSome result (λ n. OfQuestion self.now view.now target.now uid.now (HasAmount wanted n)) }
+        ensures rests { IfSome result (λ n. RestsOn self.now basis.new view.now target.now wanted uid.now n) }
+        ensures grown { HasGrown basis.old basis.new }
+    {
+        let keyring = &self.networked.keyring;
+        // That stamps are counts of changes.
+        let _count = keyring.len();
+        match views::find(&self.networked.views, view) {
+            Some(from) => kept_sum(
+                &self.answers,
+                keyring,
+                view,
+                from,
+                target,
+                wanted,
+                uid,
+                basis,
+            ),
+            None => None,
+        }
+    }
+
+    /// Whether all sums that rest on this basis are those of now. Then the basis is at the engine's present counts.
+    /// Where that is false it isn't said: more may have changed than is looked at.
+    pub fn stands(&self, basis: &mut Basis) -> bool
+        ensures stands { result ≡ true → IsUndisturbed self.now basis.old }
+        ensures present { result ≡ true → IsPresent self.now basis.new }
+        // Where nothing was counted since.
+        ensures still { IsPresent self.now basis.old → result ≡ true }
+        ensures carries_on { CarriesOn self.now basis.old basis.new }
+        ensures kept { result ≡ false → basis.new ≡ basis.old }
+    {
+        basis.stands(&self.networked.keyring, self.turns.count())
+    }
+}

@@ -1,0 +1,35 @@
+//! Laws of the definitions. Each function does nothing: its contract is the law.
+ghost use Rattle.std.specs.Prelude.{◌≡◌, ◌≤◌, ℕ, List, length};
+ghost use Rattle.wot_types.specs.declared.fpr.Fpr.{Fpr};
+ghost use Rattle.wot_keyring.specs.Import.{IsOneChange};
+ghost use Rattle.wot_keyring.specs.Keyring.{Keyring};
+ghost use Rattle.wot_cache.specs.Basis.{ClosingGoesOn, IsKeptOn, IsKeyringOn, OtherViewsStay, RestsOnLater, RestsOnMore, TurnGoesOn};
+ghost use Rattle.wot_cache.specs.State.{Engine, StaysButMarks};
+ghost use Rattle.wot_cache.specs.Views.{Views, with_root, with_time};
+
+/// An engine is kept on where nothing but marks is another, and what follows on what follows on it follows on it.
+pub fn kept_on_is_order()
+    ensures itself { (engine : Engine) → IsKeptOn engine engine }
+    ensures still { (old new : Engine) → StaysButMarks old new → IsKeptOn old new }
+    ensures further { (old mid new : Engine) → IsKeptOn old mid → IsKeptOn mid new → IsKeptOn old new }
+{}
+
+/// A change after which no fewer certificates are kept takes none out.
+pub fn change_goes_on()
+    ensures { (old new : Keyring) → IsOneChange old new → length old.certs ≤ length new.certs → IsKeyringOn old new }
+{}
+
+/// A view that becomes another, or is opened, has a turn; one that is closed is open no more. The others stay.
+pub fn views_go_on()
+    ensures turned { TurnGoesOn }
+    ensures closed { ClosingGoesOn }
+    ensures timed { (name : List ℕ) (views : Views) (t : ℕ) → OtherViewsStay name views (with_time views name t) }
+    ensures rooted { (name : List ℕ) (views : Views) (fpr : Fpr) (amount : ℕ) →
+        OtherViewsStay name views (with_root views name fpr amount) }
+{}
+
+/// What rests on a basis rests on it whatever more rests on it, and later too.
+pub fn rests_on()
+    ensures grown { RestsOnMore }
+    ensures later { RestsOnLater }
+{}
