@@ -32,7 +32,7 @@ counted_some old new = by (held new old.state.held)
 -- as the keyring counts
 pub counted_by : (old new : Engine) (cursors after : Cursors) → IsOneChange old.keyring new.keyring → IsCounted (whole_of old cursors) (whole_of new after)
 counted_by old new cursors after (inl same) = inl ((λ i. (state_of (record old { keyring = same i })).held), ap (λ (k : Keyring). k.changes) same)
-counted_by old new cursors after (inr changed) = inr (changed.1, changed.0)
+counted_by old new cursors after (inr changed) = inr (changed.altered, changed.counted)
 
 -- ---- turns
 

@@ -29,3 +29,4 @@ pub mod Machine
 pub mod Made
 pub mod Joined
 pub mod Worth
+pub mod Settled

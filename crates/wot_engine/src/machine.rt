@@ -1,4 +1,4 @@
-ghost use Rattle.std.specs.Prelude.{◌≡◌, ◌≤◌, ◌<◌, ◌+◌, ◌-◌, ◌^◌, [], ◌++◌, length, vec_len, vec_capacity};
+ghost use Rattle.std.specs.Prelude.{◌≡◌, ◌≢◌, ◌⊎◌, ◌≤◌, ◌<◌, ◌+◌, ◌-◌, ◌^◌, [], ◌++◌, length, vec_len, vec_capacity};
 ghost use Rattle.std.specs.Prelude.{Some, None, false, true, IfOk, IfSome, IsOk, OnOk, OnErr};
 ghost use Rattle.std.specs.List.{AllByRecursion};
 ghost use Rattle.wot_types.specs.Limits.{standard_limits};
@@ -20,6 +20,8 @@ ghost use Rattle.wot_engine.specs.Machine.{kept, StaysKept};
 ghost use Rattle.wot_engine.specs.Pacing.{is_pacing, left_by, reply_in, settled};
 ghost use Rattle.wot_engine.specs.Fresh.{IsDump, OnDump, IsMadeAnew};
 ghost use Rattle.wot_engine.specs.Made.{LineMakes, Makes};
+ghost use Rattle.wot_script.specs.declared.reply.Reply.TheVariants as replies;
+ghost use Rattle.wot_engine.specs.Settled.{IsNoAmount};
 ghost use Rattle.wot_engine.specs.Served.{unserved};
 ghost use Rattle.wot_engine.specs.Watching.{AreLines, IsWatchLine, is_watching, told_all};
 ghost use Rattle.wot_engine.specs.Whole.{watched, whole_of, IsTurnedBy};
@@ -36,10 +38,11 @@ use crate::pending::pending;
 use crate::reasons::explain;
 use crate::store::store;
 use crate::told::{Moved, Told, alone, plain, settle};
-use crate::watching::{off, on, tell_all, watch_lines};
+use crate::watching::{are_settled, off, on, tell_all, watch_lines};
 use std::alloc::Global;
 use std::marker::Model;
-use wot_cache::Engine;
+use wot_cache::laws::{change_goes_on, rests_on, views_go_on};
+use wot_cache::{Basis, Engine};
 use wot_certd::Shelf;
 use wot_cursor::Cursors;
 use wot_policy::{Ask, Policy};
@@ -63,18 +66,21 @@ pub struct Machine {
     cursors: Cursors,
     watches: Watches,
     steps: Steps,
+    // What the amounts last told rest on, where that is known.
+    basis: Option<Basis>,
 }
 
 impl Model for Machine {
     ghost use Rattle.std.specs.Prelude.{◌≡◌};
     ghost use Rattle.wot_types.specs.Limits.{standard_limits};
     ghost use Rattle.wot_engine.specs.Machine.{Machine as TheMachine};
+    ghost use Rattle.wot_engine.specs.Settled.{AreSettled};
 
     ghost Value = { TheMachine };
 
     ghost view = { λ a. record { engine = a.engine; cursors = a.cursors; watches = a.watches; made = a.steps.made } };
 
-    ghost invariant = { λ a. a.engine.keyring.limits ≡ standard_limits };
+    ghost invariant = { λ a. (a.engine.keyring.limits ≡ standard_limits) × AreSettled a.engine a.watches a.basis };
 }
 
 impl Machine {
@@ -91,6 +97,7 @@ impl Machine {
             cursors: Cursors::new(alloc),
             watches: Watches::new(alloc),
             steps: Steps::new(),
+            basis: None,
         }
     }
 
@@ -190,6 +197,11 @@ impl Machine {
         if test_silent(line) {
             return Ok(None);
         }
+        change_goes_on();
+        views_go_on();
+        rests_on();
+        let basis = self.basis.take();
+        let before = Counts::of(&self.engine);
         let told = answer(
             self.alloc,
             &mut self.engine,
@@ -200,6 +212,7 @@ impl Machine {
             shelf,
             policy,
         )?;
+        self.basis = kept_on(basis, &self.engine, before, &told.reply);
         Ok(Some(told))
     }
 
@@ -240,11 +253,22 @@ impl Machine {
         ensures stays { StaysButMarks self.old.engine self.new.engine }
         ensures never_less { self.old.made ≤ self.new.made }
     {
+        if self.is_settled() {
+            return Ok(());
+        }
         let lines = self.watch_lines()?;
         let text = text_of(self.alloc, &lines)?;
         out.extend_from_slice(&text)?;
         self.told(&lines);
         Ok(())
+    }
+
+    /// Whether no watch has a line, where that is known without asking anything.
+    fn is_settled(&mut self) -> bool
+        ensures settled { result ≡ true → AreLines (state_of self.old.engine) self.old.watches [] }
+        ensures same { self.new ≡ self.old }
+    {
+        are_settled(&self.engine, &self.watches, &mut self.basis)
     }
 
     /// The watch lines, none of which is told yet.
@@ -256,8 +280,20 @@ impl Machine {
         ensures watches { self.new.watches ≡ self.old.watches }
         ensures never_less { self.old.made ≤ self.new.made }
     {
+        self.basis = None;
+        let mut basis = Basis::new(self.alloc, &self.engine);
         let steps = &mut self.steps;
-        watch_lines(self.alloc, &mut self.engine, steps, &self.watches)
+        let lines = watch_lines(
+            self.alloc,
+            &mut self.engine,
+            steps,
+            &self.watches,
+            &mut basis,
+        )?;
+        if lines.is_empty() {
+            self.basis = Some(basis);
+        }
+        Ok(lines)
     }
 
     /// These watch lines were told.
@@ -267,7 +303,66 @@ impl Machine {
         ensures cursors { self.new.cursors ≡ self.old.cursors }
         ensures made { self.new.made ≡ self.old.made }
     {
+        if lines.is_empty() {
+            return;
+        }
+        self.basis = None;
         tell_all(&mut self.watches, lines);
+    }
+}
+
+/// What an engine counts, by which it is seen whether a line may have closed a view or taken a certificate out.
+#[derive(Clone, Copy)]
+struct Counts {
+    certificates: usize,
+    changes: u64,
+    turns: u64,
+}
+
+impl Counts {
+    fn of(engine: &Engine) -> Counts
+        ensures certificates { result.certificates ≡ length engine.now.keyring.certs }
+        ensures changes { result.changes ≡ engine.now.keyring.changes }
+        ensures turns { result.turns ≡ engine.now.turns.count }
+    {
+        Counts {
+            certificates: engine.keyring().len(),
+            changes: engine.keyring().changes(),
+            turns: engine.turns(),
+        }
+    }
+}
+
+/// The basis, where what was settled before a line still is.
+fn kept_on(basis: Option<Basis>, engine: &Engine, before: Counts, reply: &Reply) -> Option<Basis>
+    ensures same { IfSome result (λ kept. basis ≡ Some kept) }
+    ensures more { IfSome result (λ _. before.certificates ≤ length engine.now.keyring.certs) }
+    ensures none { IfSome result (λ _. IsNoAmount reply.now) }
+    ensures counted { IfSome result (λ _. reply.now ≡ replies.Done →
+        (engine.now.keyring.changes ≢ before.changes) ⊎ (engine.now.turns.count ≢ before.turns)) }
+{
+    if goes_on(engine, before, reply) {
+        return basis;
+    }
+    None
+}
+
+/// Whether what was settled before a line still is, by its reply: no certificate is gone, no watch began, and no view
+/// was closed, since a line that closes one is replied `ok` and counts nothing.
+fn goes_on(engine: &Engine, before: Counts, reply: &Reply) -> bool
+    ensures more { result ≡ true → before.certificates ≤ length engine.now.keyring.certs }
+    ensures none { result ≡ true → IsNoAmount reply.now }
+    ensures counted { result ≡ true → reply.now ≡ replies.Done →
+        (engine.now.keyring.changes ≢ before.changes) ⊎ (engine.now.turns.count ≢ before.turns) }
+{
+    let now = Counts::of(engine);
+    if now.certificates < before.certificates {
+        return false;
+    }
+    match reply {
+        Reply::WatchAmount(_, _) => false,
+        Reply::Done => now.changes != before.changes || now.turns != before.turns,
+        _ => true,
     }
 }
 

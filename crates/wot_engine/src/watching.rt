@@ -1,18 +1,21 @@
 //! `watch W on V FPR N UID`, `watch W off`, and the watch lines behind each line.
-ghost use Rattle.std.specs.Prelude.{◌≡◌, ◌≤◌, true, IfOk, OnErr};
+ghost use Rattle.std.specs.Prelude.{◌≡◌, ◌≤◌, [], None, true, IfOk, IfSome, OnErr};
 ghost use Rattle.std.specs.List.{AllByRecursion};
 ghost use Rattle.wot_script.specs.declared.command.Command.TheVariants.{WatchOff, WatchOn};
 ghost use Rattle.wot_script.specs.Replies.{is_short};
+ghost use Rattle.wot_cache.specs.Basis.{HasGrown, IsPresent, RestsOn};
 ghost use Rattle.wot_cache.specs.Marks.{IsRefreshed};
 ghost use Rattle.wot_cache.specs.State.{StaysButMarks, state_of};
 ghost use Rattle.wot_cache.specs.Views.{view_at};
 ghost use Rattle.wot_cursor.specs.Cursors.{Cursors as TheCursors};
+ghost use Rattle.wot_engine.specs.Settled.{AllSettled, AreOpen, AreSettled, IsSettled};
 ghost use Rattle.wot_engine.specs.Watching.{AreLines, BeginsWatch, HasAmount, IsLine, IsWatchLine};
 ghost use Rattle.wot_engine.specs.Watching.{Watching, told_all, told_by};
 ghost use Rattle.wot_engine.specs.Whole.{Whole, watched, whole_of};
 
 use std::alloc::Global;
-use wot_cache::{AskFault, Engine};
+use wot_cache::laws::{kept_on_is_order, rests_on};
+use wot_cache::{AskFault, Basis, Engine};
 use wot_script::Reply;
 use wot_types::{Fpr, Memory, Steps, UserId, ViewName};
 use wot_watch::{PutFault, Watch, Watches};
@@ -84,22 +87,27 @@ pub fn off(watches: &mut Watches, name: &ViewName) -> Reply
     Reply::Done
 }
 
-/// The watch lines, by name of watch, none of which is told yet.
+/// The watch lines, by name of watch, none of which is told yet. Where there is none, all amounts rest on the basis.
 pub fn watch_lines(
     alloc: Global,
     engine: &mut Engine,
     steps: &mut Steps,
     watches: &Watches,
+    basis: &mut Basis,
 ) -> Result<Vec<Reply>, Memory>
+    requires present { IsPresent engine.old basis.old }
+    ensures settled { IfOk result (λ lines. lines.items ≡ [] → AllSettled engine.new basis.new watches.now) }
     ensures lines { IfOk result (λ lines. AreLines (state_of engine.old) watches.now lines.items) }
     ensures each { IfOk result (λ lines. AllByRecursion IsWatchLine lines.items) }
     ensures stays { StaysButMarks engine.old engine.new }
     ensures never_less { steps.old.made ≤ steps.new.made }
 {
+    kept_on_is_order();
+    rests_on();
     let mut lines = Vec::new(alloc);
     let mut rest = watches.iter();
     'rest: while let Some((name, watch)) = rest.next() {
-        if let Some(line) = watch_line(alloc, engine, steps, name, watch)? {
+        if let Some(line) = watch_line(alloc, engine, steps, name, watch, basis)? {
             lines.push(line)?;
         }
     }
@@ -113,7 +121,11 @@ fn watch_line(
     steps: &mut Steps,
     name: &ViewName,
     watch: &Watch,
+    basis: &mut Basis,
 ) -> Result<Option<Reply>, Memory>
+    requires present { IsPresent engine.old basis.old }
+    ensures settled { IfOk result (λ line. line ≡ None → IsSettled engine.old basis.new watch.now) }
+    ensures grown { HasGrown basis.old basis.new }
     ensures line { IfOk result (IsLine (state_of engine.old) name.now watch.now) }
     ensures stays { StaysButMarks engine.old engine.new }
     ensures never_less { steps.old.made ≤ steps.new.made }
@@ -126,6 +138,7 @@ fn watch_line(
         &target,
         watch.wanted(),
         watch.uid(),
+        basis,
     )?;
     match amount {
         None => Ok(Some(Reply::WatchGone(name.duplicate(alloc)?))),
@@ -138,7 +151,8 @@ fn watch_line(
     }
 }
 
-/// The amount of the answer to a question of a view; none where the view isn't open.
+/// The amount of the answer to a question of a view, which rests on the basis from then on; none where the view isn't
+/// open.
 fn amount_of(
     engine: &mut Engine,
     steps: &mut Steps,
@@ -146,7 +160,13 @@ fn amount_of(
     target: &Fpr,
     wanted: u32,
     uid: &[u8],
+    basis: &mut Basis,
 ) -> Result<Option<u32>, Memory>
+    requires present { IsPresent engine.old basis.old }
+    ensures rests { IfOk result (λ amount. IfSome amount (λ n.
+        1 ≤ wanted → RestsOn engine.old basis.new view.now target.now wanted uid.now n)) }
+    ensures nothing { IfOk result (λ amount. IfSome amount (λ n. wanted ≡ 0 → n ≡ 0)) }
+    ensures grown { HasGrown basis.old basis.new }
     ensures amount { IfOk result (λ amount.
         HasAmount (state_of engine.old) (view_at engine.old.views view.now) target.now wanted uid.now amount) }
     ensures stays { StaysButMarks engine.old engine.new }
@@ -159,11 +179,38 @@ fn amount_of(
             None => Ok(None),
         };
     }
-    match engine.ask(view, target, wanted, uid, steps) {
-        Ok(answer) => Ok(Some(answer.sum)),
+    match engine.sum(view, target, wanted, uid, steps, basis) {
+        Ok(sum) => Ok(Some(sum)),
         Err(AskFault::View) => Ok(None),
         Err(AskFault::Memory) => Err(Memory),
     }
+}
+
+/// Whether no watch has a line, where that is known without asking anything: nothing was altered that the basis rests
+/// on, and the views are open.
+pub fn are_settled(engine: &Engine, watches: &Watches, basis: &mut Option<Basis>) -> bool
+    requires settled { AreSettled engine.now watches.now basis.old }
+    ensures quiet { result ≡ true → AreLines (state_of engine.now) watches.now [] }
+    ensures settled { AreSettled engine.now watches.now basis.new }
+{
+    kept_on_is_order();
+    match basis {
+        Some(basis) => engine.stands(basis) && all_open(engine, watches),
+        None => false,
+    }
+}
+
+/// Whether the views of all watches are open.
+fn all_open(engine: &Engine, watches: &Watches) -> bool
+    ensures open { result ≡ true → AreOpen engine.now watches.now }
+{
+    let mut rest = watches.iter();
+    'rest: while let Some((_, watch)) = rest.next() {
+        if engine.time(watch.view()).is_none() {
+            return false;
+        }
+    }
+    true
 }
 
 /// These watch lines were told. Takes no memory.

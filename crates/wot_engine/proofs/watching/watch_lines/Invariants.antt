@@ -1,7 +1,9 @@
 use Rattle.std.proofs.Common.{◌≤◌}
 use Rattle.std.specs.List.{AllByRecursion}
+use Rattle.wot_cache.specs.Basis.{IsPresent}
 use Rattle.wot_cache.specs.State.{StaysButMarks, state_of}
 use Rattle.wot_engine.specs.Watching.{IsWatchLine}
+use Rattle.wot_engine.proofs.Settling.{SettlesSoFar}
 use Rattle.wot_engine.proofs.Watched.{AreSoFar}
 use Rattle.wot_engine.proofs.watching.watch_lines.Given as goal
 
@@ -13,3 +15,5 @@ invariant-rest l =
     × AllByRecursion IsWatchLine l.lines.items
     × StaysButMarks l.fn.engine l.engine
     × (l.fn.steps.made ≤ l.steps.made)
+    × IsPresent l.fn.engine l.basis
+    × SettlesSoFar l.fn.engine l.basis l.fn.watches l.rest l.lines.items

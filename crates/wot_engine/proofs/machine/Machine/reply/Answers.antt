@@ -6,8 +6,11 @@ use Rattle.wot_engine.specs.declared.told.Told.{Told}
 use Rattle.wot_engine.specs.Lines.{heard, is_silent}
 use Rattle.wot_engine.specs.Machine.{Machine, kept}
 use Rattle.wot_engine.specs.Made.{LineMakes}
+use Rattle.wot_engine.specs.Pacing.{settled}
+use Rattle.wot_engine.specs.Settled.{AreSettled}
 use Rattle.wot_engine.proofs.Making.{line_makes_as, makes_heard}
 use Rattle.wot_engine.proofs.Running.{replied_long, replied_silent}
+use Rattle.wot_engine.proofs.Settling.{settled_told}
 use Rattle.wot_engine.proofs.machine.Machine.reply.Goals as goal
 
 pub returns-clause-makes : goal.returns-clause-makes
@@ -31,3 +34,18 @@ returns-then-test_silent-clause-replied g c =
     replied_silent (rows_of c.args.policy.now) c.args.line.now (kept c.args.self.now)
     (record { world = g.D.Shelf.world c.args.shelf.now; faults = g.D.Shelf.faults c.args.shelf.now }) c.if-line-gt-LONGEST.false
     (sym c.test_silent.ensures.silent ∙ c.if-test_silent.true)
+
+pub invariant_of-self-2 : goal.invariant_of-self-2
+invariant_of-self-2 g c =
+    let old = c.self.inside.engine in
+    let new = c.answer.new.engine in
+    let ran = c.in_ok-told.ensures.ran in (
+      c.answer.ensures.standard,
+      settled_told (rows_of c.args.policy.now) c.views_go_on.ensures.turned c.rests_on.ensures.later c.change_goes_on.ensures old new
+          c.self.inside.cursors (settled c.in_ok-told.told.moved c.answer.new.cursors) c.self.inside.watches c.answer.new.watches
+          (command_of c.args.line.now) ran.given c.in_ok-told.told.reply c.take-basis.result c.kept_on.result
+          c.of-before.result.certificates c.of-before.result.changes c.of-before.result.turns ran.answers c.answer.ensures.counted
+          c.of-before.ensures.certificates c.of-before.ensures.changes c.of-before.ensures.turns
+          c.kept_on.ensures.same c.kept_on.ensures.more c.kept_on.ensures.none c.kept_on.ensures.counted
+          (subst (AreSettled old c.self.inside.watches) (sym c.take-basis.ensures.value) c.self.invariant.1),
+    )
