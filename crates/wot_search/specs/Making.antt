@@ -30,6 +30,6 @@ IsMaking told roots (stages.Begun fprs) = Unit {0}
 IsMaking told roots (stages.Placing placing) = Unit {0}
 IsMaking told roots (stages.Linking linking) = Unit {0}
 IsMaking told roots (stages.Passing passing) = Unit {0}
-IsMaking told roots (stages.Numbering numbering) = AreKeysOf numbering.fprs.items numbering.table.entries
+IsMaking told roots (stages.Numbering numbering) = AreKeysOf numbering.fprs.items numbering.table
 IsMaking told roots (stages.Checking checking) = IsChecking told roots checking
 IsMaking told roots (stages.Made reach) = IsReach told roots reach

@@ -1,12 +1,11 @@
 // A table of reach whose numbers are there: it is filled, and checked fingerprint after fingerprint.
-ghost use Rattle.std.specs.Prelude.{◌≡◌, ℕ, List, IfOk, OnOk};
-ghost use Rattle.std.specs.BTreeMap.{insert_entry};
-ghost use Rattle.wot_types.specs.Fpr.{fpr_cmp};
+ghost use Rattle.std.specs.Prelude.{ℕ, List, IfOk};
 ghost use Rattle.wot_types.specs.declared.fpr.Fpr.{Fpr as Print};
 ghost use Rattle.wot_edge.specs.Record.{Record};
 ghost use Rattle.wot_search.specs.Making.{AreKeysOf, IsChecking, IsMaking};
 
 use crate::making::Making;
+use crate::numbers::Numbers;
 use crate::reach::Reach;
 use std::alloc::Global;
 use std::collections::BTreeMap;
@@ -18,7 +17,7 @@ use wot_types::{Fpr, Memory};
 pub struct Numbering {
     pub(crate) fprs: Vec<Fpr, Global>,
     pub(crate) numbers: Vec<u8, Global>,
-    pub(crate) table: BTreeMap<Fpr, u8, Global>,
+    pub(crate) table: Numbers,
     pub(crate) next: usize,
 }
 
@@ -31,38 +30,30 @@ pub struct Checking {
     pub(crate) next: usize,
 }
 
-/// Puts in the number of a fingerprint.
-fn put_number(table: &mut BTreeMap<Fpr, u8, Global>, fpr: &Fpr, number: u8) -> Result<(), Memory>
-    ensures entries { OnOk result (table.new.entries ≡ insert_entry fpr_cmp table.old.entries fpr.now number) }
-{
-    table.insert(*fpr, number)?;
-    Ok(())
-}
-
 impl Numbering {
     /// An empty table. Where there are fewer numbers than fingerprints, the last get 255.
     pub(crate) fn new(alloc: Global, fprs: Vec<Fpr>, numbers: Vec<u8>) -> Numbering
-        ensures keys { AreKeysOf result.fprs.items result.table.entries }
+        ensures keys { AreKeysOf result.fprs.items result.table }
     {
         Numbering {
             fprs,
             numbers,
-            table: BTreeMap::new(alloc),
+            table: Numbers::new(alloc),
             next: 0,
         }
     }
 
     /// Puts in the next number; after the last one the check begins.
     pub(crate) fn number(mut self, alloc: Global) -> Result<Making, Memory>
-        requires keys { AreKeysOf self.fprs.items self.table.entries }
+        requires keys { AreKeysOf self.fprs.items self.table }
         ensures making { (told : List ℕ → Record) (roots : List (Print × ℕ)) → IfOk result (IsMaking told roots) }
     {
         if self.next >= self.fprs.len() {
-            return Ok(Making::Checking(Checking::new(alloc, self.fprs, self.table)));
+            return Ok(Making::Checking(Checking::new(alloc, self.fprs, self.table.into_table())));
         }
         let number = self.numbers.get(self.next).copied().unwrap_or(255);
         let fpr = self.fprs[self.next];
-        put_number(&mut self.table, &fpr, number)?;
+        self.table.put(&fpr, number)?;
         self.next += 1;
         Ok(Making::Numbering(self))
     }

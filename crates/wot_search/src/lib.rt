@@ -18,6 +18,7 @@ mod metered;
 mod next;
 mod node;
 mod notes;
+mod numbers;
 mod offered;
 mod offers;
 mod onward;

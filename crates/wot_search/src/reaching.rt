@@ -6,6 +6,7 @@ use crate::checking::Numbering;
 use crate::slots::Slots;
 use std::alloc::Global;
 use std::collections::BTreeMap;
+use std::marker::Model;
 use wot_edge::{Edge, Roads, Roots};
 use wot_types::{Fpr, Memory};
 
@@ -40,6 +41,41 @@ struct Places {
     all: BTreeMap<Fpr, u32, Global>,
 }
 
+impl Model for Places {
+    ghost use Rattle.std.specs.Prelude.{ℕ, length};
+
+    ghost Value = { ℕ };
+
+    ghost view = { λ places. length places.all.entries };
+}
+
+impl Places {
+    /// None.
+    fn new(alloc: Global) -> Places {
+        Places {
+            slots: Slots::none(alloc),
+            all: BTreeMap::new(alloc),
+        }
+    }
+
+    /// Notes the place of one more of so many fingerprints.
+    fn add(&mut self, alloc: Global, count: usize, fpr: &Fpr, place: u32) -> Result<(), Memory> {
+        self.all.insert(*fpr, place)?;
+        self.slots.add(count, &BTreeMap::new(alloc), fpr)
+    }
+
+    /// The place of a fingerprint.
+    fn find(&self, fpr: &Fpr) -> Option<u32> {
+        if let Some(place) = self.slots.place(fpr) {
+            return u32::try_from(place).ok();
+        }
+        match self.all.get(fpr) {
+            Some(place) => Some(*place),
+            None => None,
+        }
+    }
+}
+
 /// The places of the fingerprints before one.
 #[derive(Drop)]
 pub struct Placing {
@@ -53,10 +89,7 @@ impl Placing {
     pub(crate) fn new(alloc: Global, fprs: Vec<Fpr>) -> Placing {
         Placing {
             fprs,
-            places: Places {
-                slots: Slots::none(alloc),
-                all: BTreeMap::new(alloc),
-            },
+            places: Places::new(alloc),
             next: 0,
         }
     }
@@ -71,10 +104,7 @@ impl Placing {
             return Ok(());
         };
         let place = u32::try_from(self.next).unwrap_or(u32::MAX);
-        self.places.all.insert(*fpr, place)?;
-        self.places
-            .slots
-            .add(self.fprs.len(), &BTreeMap::new(alloc), fpr)?;
+        self.places.add(alloc, self.fprs.len(), fpr, place)?;
         self.next = self.next.saturating_add(1);
         Ok(())
     }
@@ -90,17 +120,6 @@ impl Placing {
     }
 }
 
-/// The place of a fingerprint.
-fn place_of(places: &Places, fpr: &Fpr) -> Option<u32> {
-    if let Some(place) = places.slots.place(fpr) {
-        return u32::try_from(place).ok();
-    }
-    match places.all.get(fpr) {
-        Some(place) => Some(*place),
-        None => None,
-    }
-}
-
 /// Appends the link of an edge, if it may pass something on. Most edges make no introducer.
 fn put_link(
     places: &Places,
@@ -113,7 +132,7 @@ fn put_link(
     if facts.amount == 0 || facts.depth == 0 {
         return Ok(());
     }
-    if let Some(issuer) = place_of(places, &facts.issuer) {
+    if let Some(issuer) = places.find(&facts.issuer) {
         links.push(Link {
             issuer,
             target,
@@ -201,7 +220,7 @@ impl Passing {
 
     /// A table of them, empty yet.
     pub(crate) fn numbering(self, alloc: Global) -> Numbering
-        ensures keys { AreKeysOf result.fprs.items result.table.entries }
+        ensures keys { AreKeysOf result.fprs.items result.table }
     {
         Numbering::new(alloc, self.fprs, self.numbers)
     }

@@ -13,6 +13,6 @@ returns c =
     let has = subst (Has fprs) (sym c.index.ensures) (has_at fprs next c.index.result.now lt) in
     record {
       making = λ told roots.
-          rw c.in_ok-put_number.ensures.entries
-          (keys_inserted fpr_cmp fprs c.args.self.table.entries c.index.result.now c.unwrap_or-number.result c.requires.keys has);
+          rw c.in_ok-put.ensures.entries
+          (keys_inserted fpr_cmp fprs c.args.self.table c.index.result.now c.unwrap_or-number.result c.requires.keys has);
     }
