@@ -59,11 +59,12 @@ question_at k roots a = asks (record_of (certificates_in k) k.verdicts a.time a.
 abbrev pub Answers : Keyring → Amounts → KeptAnswer → Type 0
 Answers k roots a = IsAnswer (question_at k roots a) a.wanted a.answer.paths
 
--- It is the answer in this keyring and in every later one, from whatever roots, where the few that it rests on are found as they
--- were.
+-- It is the answer in this keyring and in every later one, from whatever roots, where the few that it rests on are
+-- found as they were.
 pub record IsRight (k : Keyring) (a : KeptAnswer) : Type 0 where
   pub sum : a.answer.sum ≡ amount_of a.answer.paths
-  pub answer : (later : Keyring) (roots : Amounts) → IsLater k later → AllStill later roots a.looked → Answers later roots a
+  pub answer : (later : Keyring) (roots : Amounts) → IsLater k later → AllStill later roots a.looked
+      → Answers later roots a
 
 -- Where it was last found good at the count of changes and by the roots that there are now, it is the answer now.
 pub record IsGood (k : Keyring) (roots : Amounts) (turn : ℕ) (a : KeptAnswer) : Type 0 where
@@ -105,17 +106,18 @@ pub record AreFew (entries : Entries) (looked : ℕ) : Type 0 where
 
 -- ---- a table of reach
 
--- Where the table was made at the count of changes and for the roots that there are now, its numbers are the reach from these
--- roots, by what the certificates and verdicts tell at its time.
+-- Where the table was made at the count of changes and for the roots that there are now, its numbers are the reach from
+-- these roots, by what the certificates and verdicts tell at its time.
 pub record IsReaching (k : Keyring) (roots : Amounts) (turn : ℕ) (r : KeptReach) : Type 0 where
   pub counted : r.count ≤ k.changes
   pub turned : r.turn ≤ turn
-  pub now : r.count ≡ k.changes → r.turn ≡ turn → IsReach (record_of (certificates_in k) k.verdicts r.time) roots r.reach
+  pub now : r.count ≡ k.changes → r.turn ≡ turn
+      → IsReach (record_of (certificates_in k) k.verdicts r.time) roots r.reach
 
 -- ---- answers by view
 
--- the answers of a view, with the roots by which they were last found good, how often these became others, and the table of reach,
--- if there is one
+-- the answers of a view, with the roots by which they were last found good, how often these became others, and the
+-- table of reach, if there is one
 pub record OfView : Type 0 where
   pub entries : Entries
   pub roots : Amounts

@@ -40,7 +40,8 @@ unless_refused None new = Some new
 -- the state after a command that isn't refused
 abbrev pub after : PolicyRows → Limits → Command → State → Option State
 after rows l (Time view t) s = unless_refused (time_fault l s.views view) (timing view t s)
-after rows l (Root view fpr amount) s = unless_refused (root_fault l (view_at s.views view) fpr amount) (rooting view fpr amount s)
+after rows l (Root view fpr amount) s =
+    unless_refused (root_fault l (view_at s.views view) fpr amount) (rooting view fpr amount s)
 after rows l command s = option_map (with_held s) (keyrings.after rows l command s.held)
 
 -- The new state has all of the old one that a dump carries over: what is held, judged by the rows, and the views.

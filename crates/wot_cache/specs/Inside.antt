@@ -37,4 +37,5 @@ pub record IsEngine (k : Keyring) (views : Views) (networks : Networks) (answers
 -- There is one for an open view: that of the keyring as it is, at the view's time.
 abbrev pub IsReady : Keyring → Views → Networks → List ℕ → Type 0
 IsReady k views networks name =
-    IsSomeAnd (view_at views name) (λ (v : View). IsSomeAnd (network_at networks name) (λ (n : Net). IsRight n k v.time))
+    IsSomeAnd (view_at views name) (λ (v : View).
+    IsSomeAnd (network_at networks name) (λ (n : Net). IsRight n k v.time))

@@ -8,4 +8,5 @@ use Rattle.wot_cache.specs.contracts.engine.Engine.{the_row}
 
 -- It is as a question from this view leaves it.
 abbrev pub RestsRefreshed : {T E : Type 0} → MutBor Engine → Result T E → List ℕ → ℕ → ℕ → Fml
-RestsRefreshed engine result name before after = Rests the_row engine (λ last. IsRefreshed result name engine.now last before after)
+RestsRefreshed engine result name before after =
+    Rests the_row engine (λ last. IsRefreshed result name engine.now last before after)

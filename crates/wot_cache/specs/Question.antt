@@ -24,7 +24,8 @@ question_in s view target uid = asks (record_of s.held.certs s.held.verdicts vie
 
 -- That is so of the question from this view, where it is open.
 abbrev pub OfQuestion : Engine → List ℕ → Fpr → List ℕ → (Question → Type 0) → Type 0
-OfQuestion engine name target uid P = IfSome (view_at engine.views name) (λ (v : View). P (question_in (state_of engine) v target uid))
+OfQuestion engine name target uid P =
+    IfSome (view_at engine.views name) (λ (v : View). P (question_in (state_of engine) v target uid))
 
 -- the question over these roads, from these roots
 abbrev pub asked_over : Present → List (Fpr × ℕ) → Fpr → List ℕ → Question

@@ -14,8 +14,8 @@ use Rattle.wot_network.specs.Net.{Marks}
 use Rattle.wot_cache.specs.Turns.{Turns, no_turns}
 use Rattle.wot_cache.specs.Views.{Views, is_name, with_time, with_root, without_view}
 
--- What is held, and the open views by name. Stamps, counts of changes and kept rows are no part of it: no answer depends
--- on them.
+-- What is held, and the open views by name. Stamps, counts of changes and kept rows are no part of it: no answer
+-- depends on them.
 pub record State : Type 0 where
   pub held : Held
   pub views : Views
@@ -71,8 +71,8 @@ marks_at engine name = unwrap_or (lookup (is_name name) engine.marks) []
 abbrev pub state_of : Engine → State
 state_of engine = record { held = held_of engine.keyring; views = engine.views }
 
--- All but marks is as it was: the certificates with their marks of admission, the verdicts, stamps and the count of changes,
--- and the open views with their times, roots and turns.
+-- All but marks is as it was: the certificates with their marks of admission, the verdicts, stamps and the count of
+-- changes, and the open views with their times, roots and turns.
 pub record StaysButMarks (old new : Engine) : Type 0 where
   pub keyring : new.keyring ≡ old.keyring
   pub views : new.views ≡ old.views

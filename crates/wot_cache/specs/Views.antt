@@ -1,5 +1,6 @@
 -- Views by name, each with a time and roots, and what changes them.
-use Rattle.std.specs.Prelude.{ℕ, ◌≤◌, ◌==◌, ◌&&◌, nat_lt, nat_le, Bool, if◌then◌else◌, List, [], length, Option, Some, None, is_none, is_some, true, false, Result, Ok, Err, ◌≡◌}
+use Rattle.std.specs.Prelude.{◌≡◌, ℕ, ◌≤◌, ◌==◌, ◌&&◌, nat_lt, nat_le, Bool, true, false, if◌then◌else◌}
+use Rattle.std.specs.Prelude.{List, [], length, Option, Some, None, is_none, is_some, Result, Ok, Err}
 use Rattle.std.specs.Option.{MatchOption}
 use Rattle.std.specs.List.{AllByRecursion}
 use Rattle.std.specs.BTreeMap.{insert_entry, is_at}
@@ -59,7 +60,8 @@ with_amount roots fpr amount =
 
 abbrev pub rooted : Views → List ℕ → Fpr → ℕ → Option View → Views
 rooted views name fpr amount None = views
-rooted views name fpr amount (Some view) = set_value (is_name name) views (record view { roots = with_amount view.roots fpr amount })
+rooted views name fpr amount (Some view) =
+    set_value (is_name name) views (record view { roots = with_amount view.roots fpr amount })
 
 -- the views, with this root amount in that one, which is open
 abbrev pub with_root : Views → List ℕ → Fpr → ℕ → Views
@@ -102,7 +104,8 @@ TellsFault (Ok done) fault = fault ≡ None
 TellsFault (Err faults.Memory) fault = fault ≡ None
 TellsFault (Err told) fault = fault ≡ Some told
 
--- Ok comes only from an open view, and the fault `View` exactly where it isn't open. The only other answer is want of memory.
+-- Ok comes only from an open view, and the fault `View` exactly where it isn't open. The only other answer is want of
+-- memory.
 abbrev pub TellsOpen : {T : Type 0} → Result T AskFault → Option View → Type 0
 TellsOpen (Ok done) view = is_some view ≡ true
 TellsOpen (Err asked.View) view = view ≡ None

@@ -5,7 +5,8 @@ ghost use Rattle.wot_keyring.specs.Dump.{AreLines, IsLine, command_line_of, line
 ghost use Rattle.wot_policy.specs.declared.rows.PolicyRows.{PolicyRows as Rows};
 ghost use Rattle.wot_cache.specs.Views.{IsWithin};
 ghost use Rattle.wot_cache.specs.State.{Engine as Seen};
-ghost use Rattle.wot_cache.specs.Dump.{AreSortedByName, HaveRoots, IsDumped, IsRestored, commands_over, engine_of, root_of, view_commands};
+ghost use Rattle.wot_cache.specs.Dump.{AreSortedByName, HaveRoots, IsDumped, IsRestored};
+ghost use Rattle.wot_cache.specs.Dump.{commands_over, engine_of, root_of, view_commands};
 
 use crate::view::View;
 use crate::views::Views;
@@ -39,7 +40,8 @@ fn put_root(
     amount: u8,
     out: &mut Vec<u8>,
 ) -> Result<(), Memory>
-    ensures appended { OnOk result (out.new.items ≡ out.old.items ++ command_line_of (Command.Root view.now fpr amount)) }
+    ensures appended { OnOk result (out.new.items
+        ≡ out.old.items ++ command_line_of (Command.Root view.now fpr amount)) }
     ensures line { OnOk result (IsLine (Command.Root view.now fpr amount)) }
     ensures kept { OnErr result (out.new.items ≡ out.old.items) }
 {
@@ -85,7 +87,8 @@ fn put_view(alloc: Global, name: &ViewName, view: &View, out: &mut Vec<u8>) -> R
 /// Appends the commands that make each view. Tells their number.
 pub fn put_views(alloc: Global, views: &Views, out: &mut Vec<u8>) -> Result<u64, Memory>
     requires few { length (flat_map view_commands views.now.entries) < 2 ^ 32 }
-    ensures appended { OnOk result (out.new.items ≡ out.old.items ++ lines_of (flat_map view_commands views.now.entries)) }
+    ensures appended { OnOk result (out.new.items
+        ≡ out.old.items ++ lines_of (flat_map view_commands views.now.entries)) }
     ensures lines { OnOk result (AreLines (flat_map view_commands views.now.entries)) }
     ensures count { IfOk result (λ count. count ≡ length (flat_map view_commands views.now.entries)) }
     ensures roots { OnOk result (HaveRoots views.now.entries) }
@@ -112,7 +115,8 @@ pub fn put_engine(
     out: &mut Vec<u8>,
 ) -> Result<u64, Memory>
     requires within { IsWithin keyring.now.limits views.now.entries }
-    ensures lines { OnOk result (out.new.items ≡ out.old.items ++ lines_of (commands_over keyring.now views.now.entries)) }
+    ensures lines { OnOk result (out.new.items
+        ≡ out.old.items ++ lines_of (commands_over keyring.now views.now.entries)) }
     ensures count { IfOk result (λ count. count ≡ length (commands_over keyring.now views.now.entries)) }
     ensures kept { OnErr result (out.new.items ≡ out.old.items) }
     ensures read_back { OnOk result (AreLines (commands_over keyring.now views.now.entries)) }

@@ -7,7 +7,7 @@ ghost use Rattle.wot_types.specs.ViewName.{view_name_cmp};
 ghost use Rattle.wot_network.specs.Net.{IsRight};
 ghost use Rattle.wot_cache.specs.Views.{is_name};
 ghost use Rattle.wot_cache.specs.Inside.{AllFit};
-ghost use Rattle.wot_cache.specs.Marks.{marks_in, IsForgotten, IsMadeFor, OthersStay};
+ghost use Rattle.wot_cache.specs.Marks.{IsForgotten, IsMadeIn, OthersStay};
 
 use std::alloc::Global;
 use std::collections::BTreeMap;
@@ -54,8 +54,9 @@ pub fn refresh(
 ) -> Result<(), Memory>
     requires fit { AllFit networks.old.entries keyring.now }
     ensures fit { AllFit networks.new.entries keyring.now }
-    ensures right { OnOk result (IsSomeAnd (lookup (is_name view.now) networks.new.entries) (λ network. IsRight network keyring.now t)) }
-    ensures made { IsMadeFor result keyring.now t (marks_in networks.old.entries view.now) (marks_in networks.new.entries view.now)
+    ensures right { OnOk result (IsSomeAnd (lookup (is_name view.now) networks.new.entries)
+        (λ network. IsRight network keyring.now t)) }
+    ensures made { IsMadeIn result view.now keyring.now t networks.old.entries networks.new.entries
         steps.old.made steps.new.made }
     ensures others { OthersStay view.now networks.old.entries networks.new.entries }
 {
@@ -77,8 +78,9 @@ fn begin(
     requires fit { AllFit networks.old.entries keyring.now }
     requires none { lookup (is_name view.now) networks.old.entries ≡ None }
     ensures fit { AllFit networks.new.entries keyring.now }
-    ensures right { OnOk result (IsSomeAnd (lookup (is_name view.now) networks.new.entries) (λ network. IsRight network keyring.now t)) }
-    ensures made { IsMadeFor result keyring.now t (marks_in networks.old.entries view.now) (marks_in networks.new.entries view.now)
+    ensures right { OnOk result (IsSomeAnd (lookup (is_name view.now) networks.new.entries)
+        (λ network. IsRight network keyring.now t)) }
+    ensures made { IsMadeIn result view.now keyring.now t networks.old.entries networks.new.entries
         steps.old.made steps.new.made }
     ensures others { OthersStay view.now networks.old.entries networks.new.entries }
 {

@@ -6,7 +6,7 @@ ghost use Rattle.wot_network.specs.Net.{signatures_in, told_of};
 ghost use Rattle.wot_network.specs.Roads.{present_of};
 ghost use Rattle.wot_cache.specs.Question.{IsLocalTo};
 ghost use Rattle.wot_cache.specs.Inside.{AllFit, IsReady};
-ghost use Rattle.wot_cache.specs.Marks.{marks_in, IsMadeFor, OthersStay};
+ghost use Rattle.wot_cache.specs.Marks.{IsMadeOver, IsUnmade, OthersStay};
 ghost use Rattle.wot_cache.specs.Parts.{ArePartsOf};
 ghost use Rattle.wot_cache.specs.Views.{view_at, TellsOpen};
 
@@ -40,12 +40,11 @@ impl Networked {
         ensures keyring { self.new.keyring ≡ self.old.keyring }
         ensures views { self.new.views.entries ≡ self.old.views.entries }
         ensures open { TellsOpen result (view_at self.old.views.entries view.now) }
-        ensures ready { OnOk result (IsReady self.new.keyring self.new.views.entries self.new.networks.entries view.now) }
-        ensures made { IfSome (view_at self.old.views.entries view.now) (λ v. IsMadeFor result self.old.keyring v.time
-            (marks_in self.old.networks.entries view.now) (marks_in self.new.networks.entries view.now) steps.old.made steps.new.made) }
+        ensures ready { OnOk result (IsReady self.new.keyring self.new.views.entries self.new.networks.entries
+            view.now) }
+        ensures made { IsMadeOver result view.now self.old self.new steps.old.made steps.new.made }
         ensures others { OthersStay view.now self.old.networks.entries self.new.networks.entries }
-        ensures closed { view_at self.old.views.entries view.now ≡ None →
-            (self.new.networks.entries ≡ self.old.networks.entries) × (steps.new.made ≡ steps.old.made) }
+        ensures closed { IsUnmade view.now self.old self.new steps.old.made steps.new.made }
         ensures made_most { steps.new.made ≤ steps.old.made + signatures_in self.old.keyring }
         ensures never_less { steps.old.made ≤ steps.new.made }
     {
@@ -69,10 +68,12 @@ impl Networked {
     /// The parts that are seen from a view whose network was refreshed.
     pub fn parts(&self, view: &ViewName) -> Parts<'_>
         requires ready { IsReady self.now.keyring self.now.views.entries self.now.networks.entries view.now }
-        ensures parts { IsSomeAnd (view_at self.now.views.entries view.now) (λ v. ArePartsOf self.now.keyring v result) }
+        ensures parts { IsSomeAnd (view_at self.now.views.entries view.now)
+            (λ v. ArePartsOf self.now.keyring v result) }
         ensures entries { (u : List ℕ) → AreEntries (told_of (present_of result.roads) u) }
         ensures lawful { (u : List ℕ) → IsRecord (told_of (present_of result.roads) u) }
-        ensures local { IfSome (view_at self.now.views.entries view.now) (λ v. IsLocalTo self.now.keyring v.time (present_of result.roads)) }
+        ensures local { IfSome (view_at self.now.views.entries view.now)
+            (λ v. IsLocalTo self.now.keyring v.time (present_of result.roads)) }
     {
         let Some(open) = views::find(&self.views, view) else {
             unreachable!()

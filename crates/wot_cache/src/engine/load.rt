@@ -28,7 +28,8 @@ impl Engine {
         ensures imported { OnOk result (self.new.keyring ≡ imported (rows_of policy.old) self.old.keyring bytes.now) }
         ensures state { OnOk result (IsStateAfter (importing (rows_of policy.old) bytes.now) self.old self.new) }
         ensures kept { OnErr result (self.new ≡ self.old) }
-        ensures asked { AsksFor result (rows_of policy.old) self.old.keyring bytes.now (λ k. policy.new ≡ asked_more k policy.old) }
+        ensures asked { AsksFor result (rows_of policy.old) self.old.keyring bytes.now
+            (λ k. policy.new ≡ asked_more k policy.old) }
         ensures judged { IsJudgedBy (rows_of policy.old) self.new.keyring }
         ensures faithful { IsFaithful F.Fn policy.new }
         ensures counted { IsOneChange self.old.keyring self.new.keyring }
