@@ -8,7 +8,6 @@ use Rattle.std.proofs.lemmas.Bool.{leb-false, leb-true}
 use Rattle.wot_types.specs.declared.fpr.Fpr.{Fpr}
 use Rattle.wot_types.specs.FprLaws.{same_fpr-true}
 use Rattle.wot_verdict.specs.Verdicts as verdicts
-use Rattle.wot_verdict.specs.Verdicts.{verdict_at}
 use Rattle.wot_cert.specs.Certificate.{Signature}
 use Rattle.wot_cert.specs.Counts.{all_sigs}
 use Rattle.wot_auth.specs.declared.answer.Answer.{Answer}
@@ -25,7 +24,7 @@ use Rattle.wot_cache.specs.declared.answers.Looked.{Looked}
 use Rattle.wot_cache.specs.declared.view.AskFault.{AskFault}
 use Rattle.wot_cache.specs.declared.view.AskFault.TheVariants as asked
 use Rattle.wot_cache.specs.declared.view.View.{View}
-use Rattle.wot_cache.specs.Answers.{AllStill, Amounts, AreStill, IsOf, IsRight, IsStill}
+use Rattle.wot_cache.specs.Answers.{AllStill, Amounts, AreStill, IsOf, IsRight}
 use Rattle.wot_cache.specs.Basis.{AllIn, AreCalm, AreViewsOn, Basis, CarriesOn, HasAmount, HasGrown, Includes, IsFreeOf, IsKeptAt, IsKeptOn, IsKeyringOn, IsPresent, IsSameOrClosed, IsUndisturbed, RestsAt, RestsOn, is_in, question_on}
 use Rattle.wot_cache.specs.Inside.{Networks}
 use Rattle.wot_cache.specs.Marks.{IsRefreshed, shown}

@@ -1,5 +1,5 @@
 //! Laws of the definitions. Each function does nothing: its contract is the law.
-ghost use Rattle.std.specs.Prelude.{◌≡◌, ◌≤◌, ℕ, List, length};
+ghost use Rattle.std.specs.Prelude.{◌≤◌, ℕ, List, length};
 ghost use Rattle.wot_types.specs.declared.fpr.Fpr.{Fpr};
 ghost use Rattle.wot_keyring.specs.Import.{IsOneChange};
 ghost use Rattle.wot_keyring.specs.Keyring.{Keyring};

@@ -1,4 +1,4 @@
-use Rattle.std.proofs.Common.{List, refl, sym, subst}
+use Rattle.std.proofs.Common.{List, refl, subst}
 use Rattle.wot_cache.specs.declared.answers.Looked.{Looked}
 use Rattle.wot_cache.specs.Answers.{AreStill}
 use Rattle.wot_cache.specs.Basis.{AllIn}

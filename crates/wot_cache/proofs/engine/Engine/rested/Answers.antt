@@ -1,4 +1,4 @@
-use Rattle.std.proofs.Common.{Bool, ap}
+use Rattle.std.proofs.Common.{ap}
 use Rattle.wot_cache.specs.Basis.{Basis}
 use Rattle.wot_cache.proofs.Resting.{grown_whole, present_on, sum_of_answer, whole_rests}
 use Rattle.wot_cache.proofs.engine.Engine.rested.Goals as goal
