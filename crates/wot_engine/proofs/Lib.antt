@@ -47,3 +47,4 @@ mod Begun
 mod StaleTold
 mod Telling
 mod Worth
+pub mod Stops
