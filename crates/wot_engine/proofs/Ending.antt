@@ -7,14 +7,17 @@ use Rattle.wot_engine.specs.declared.run.Stop.TheVariants.{Read, Write, Memory, 
 use Rattle.wot_engine.specs.Ends.{status_at}
 use Rattle.wot_engine.specs.Forms.{IsGenerated, OnGenerated}
 use Rattle.wot_engine.specs.Generated.{SummaryBegun, Summarized}
-use Rattle.wot_engine.specs.Transcript.{HasMost, Told}
+use Rattle.wot_engine.specs.Told.{IsEither, ReadsFew}
+use Rattle.wot_engine.specs.Transcript.{HasMost}
 use Rattle.wot_engine.proofs.Forms.{one_script}
-use Rattle.wot_engine.proofs.Taking.{told_of_most}
 
-told_any : (left written : Option (List ℕ)) (P : List ℕ → List ℕ → Type 0) → ((input before : List ℕ) → P input before) → Told left written P
-told_any None written P f = tt
-told_any (Some input) None P f = tt
-told_any (Some input) (Some before) P f = f input before
+reads_any : (left : Option (List ℕ)) (status : ℕ) → IsEither 0 5 status → ReadsFew left status
+reads_any None status p = tt
+reads_any (Some octets) status p = λ few. p
+
+reads_most : (left : Option (List ℕ)) (status : ℕ) → HasMost left → ReadsFew left status
+reads_most None status most = tt
+reads_most (Some octets) status most = λ few. absurd (omega (arith, most, few))
 
 -- the status is one of these
 abbrev IsStatus : ℕ → Type 0
@@ -78,22 +81,20 @@ module _ {T : Type 0} where
 
   -- ---- a run, where nothing fails
 
-  complete : (r : Result T Stop) (left written : Option (List ℕ)) (form source sink : Type 0)
+  complete : (r : Result T Stop) (left : Option (List ℕ)) (form source sink : Type 0)
       → (IsErrOf r Read → source) → (IsErrOf r Write → sink) → (IsErrOf r TooMuch → HasMost left)
-      → Told left written (λ octets before. form → length octets < 2 ^ 30 → (source → ⊥) → (sink → ⊥) → (status_at r ≡ 0) ⊎ (status_at r ≡ 5))
-  complete (Ok value) left written form source sink read write much = told_any left written _ (λ octets before f few a b. inl refl)
-  complete (Err Read) left written form source sink read write much = told_any left written _ (λ octets before f few a b. absurd (a (read refl)))
-  complete (Err Write) left written form source sink read write much = told_any left written _ (λ octets before f few a b. absurd (b (write refl)))
-  complete (Err Memory) left written form source sink read write much = told_any left written _ (λ octets before f few a b. inr refl)
-  complete (Err TooMuch) left written form source sink read write much =
-      told_of_most left written _ (much refl) (λ octets before most f few a b. absurd (omega (arith, most, few)))
+      → form × (source → ⊥) × (sink → ⊥) → ReadsFew left (status_at r)
+  complete (Ok value) left form source sink read write much calm = reads_any left 0 (inl refl)
+  complete (Err Read) left form source sink read write much calm = absurd (calm.1 (read refl))
+  complete (Err Write) left form source sink read write much calm = absurd (calm.2 (write refl))
+  complete (Err Memory) left form source sink read write much calm = reads_any left 5 (inr refl)
+  complete (Err TooMuch) left form source sink read write much calm = reads_most left 6 (much refl)
 
-  pub run_complete : (r : Result T Stop) (status : ℕ) (left written : Option (List ℕ)) (form source sink : Type 0) → status ≡ status_at r
+  pub run_complete : (r : Result T Stop) (status : ℕ) (left : Option (List ℕ)) (form source sink : Type 0) → status ≡ status_at r
       → (IsErrOf r Read → source) → (IsErrOf r Write → sink) → (IsErrOf r TooMuch → HasMost left)
-      → Told left written (λ octets before. form → length octets < 2 ^ 30 → (source → ⊥) → (sink → ⊥) → (status ≡ 0) ⊎ (status ≡ 5))
-  run_complete r status left written form source sink is read write much =
-      subst (λ (n : ℕ). Told left written (λ octets before. form → length octets < 2 ^ 30 → (source → ⊥) → (sink → ⊥) → (n ≡ 0) ⊎ (n ≡ 5)))
-      (sym is) (complete r left written form source sink read write much)
+      → form × (source → ⊥) × (sink → ⊥) → ReadsFew left status
+  run_complete r status left form source sink is read write much calm =
+      subst (λ (n : ℕ). ReadsFew left n) (sym is) (complete r left form source sink read write much calm)
 
   -- ---- a generated run
 
@@ -124,11 +125,9 @@ module _ {T : Type 0} where
   never_much (Err Memory) status is p e = absurd (omega (arith, is, e))
   never_much (Err TooMuch) status is p e = elim p [ inl f ↦ absurd cc | inr f ↦ absurd cc ]
 
-  pub generated_complete : (r : Result T Stop) (status : ℕ) (left written : Option (List ℕ)) (form source sink : Type 0) → status ≡ status_at r → WritesAlone r
-      → (IsErrOf r Write → sink)
-      → Told left written (λ octets before. form → length octets < 2 ^ 30 → (source → ⊥) → (sink → ⊥) → (status ≡ 0) ⊎ (status ≡ 5))
-  generated_complete r status left written form source sink is p write =
-      told_any left written _ (λ octets before f few a b. by r is p write b)
+  pub generated_complete : (r : Result T Stop) (status : ℕ) (left : Option (List ℕ)) (form source sink : Type 0) → status ≡ status_at r → WritesAlone r
+      → (IsErrOf r Write → sink) → form × (source → ⊥) × (sink → ⊥) → ReadsFew left status
+  generated_complete r status left form source sink is p write calm = reads_any left status (by r is p write calm.2)
     where
       by : (r : Result T Stop) → status ≡ status_at r → WritesAlone r → (IsErrOf r Write → sink) → (sink → ⊥) → (status ≡ 0) ⊎ (status ≡ 5)
       by (Ok value) is p write b = inl is
@@ -139,12 +138,12 @@ module _ {T : Type 0} where
 
   -- what is said of one script is said of the script of these words
   pub generated_whole : (r : Result T Stop) (status : ℕ) (rows : PolicyRows) (words : List (List ℕ)) (start count : ℕ) (written after : Option (List ℕ))
-      → status ≡ status_at r → IsGenerated words start count → IfSome written (λ before. OnOk r (Summarized rows start count before after))
-      → OnGenerated words (λ start count. IfSome written (λ before. status ≡ 0 → Summarized rows start count before after))
-  generated_whole r status rows words start count None after is form told other more p = tt
-  generated_whole r status rows words start count (Some before) after is form told other more p =
+      → status ≡ status_at r → IsGenerated words start count → OnOk r (IfSome written (λ before. Summarized rows start count before after))
+      → status ≡ 0 → OnGenerated words (λ start count. IfSome written (λ before. Summarized rows start count before after))
+  generated_whole r status rows words start count written after is form told zero other more p =
       let same = one_script words start count other more form p in
-      λ zero. let done : Summarized rows start count before after = is_done r _ (sym is ∙ zero) told in rw same.0 (rw same.1 done)
+      let done : IfSome written (λ before. Summarized rows start count before after) = is_done r _ (sym is ∙ zero) told in
+      rw same.0 (rw same.1 done)
 
 pub generated_begun : (rows : PolicyRows) (words : List (List ℕ)) (start count : ℕ) (written after : Option (List ℕ)) → IsGenerated words start count
     → IfSome written (λ before. SummaryBegun rows start count before after)

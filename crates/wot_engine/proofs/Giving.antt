@@ -98,6 +98,11 @@ all_told (Some input) None origin P f = tt
 all_told (Some input) (Some before) None P f = λ nothing world. f input before world refl refl tt
 all_told (Some input) (Some before) (Some world) P f = f input before world refl refl refl
 
+-- what holds of all contents holds where they are told
+pub told_always : (left written : Option (List ℕ)) (origin : Option World) (P : List ℕ → List ℕ → World → Type 0)
+    → ((input before : List ℕ) (world : World) → P input before world) → AllTold left written origin P
+told_always left written origin P f = all_told left written origin P (λ input before world e f' is. f input before world)
+
 pub all_weaker : (left written : Option (List ℕ)) (origin : Option World) (P Q : List ℕ → List ℕ → World → Type 0)
     → ((input before : List ℕ) (world : World) → IsUncalled origin input → P input before world → Q input before world) → AllTold left written origin P → AllTold left written origin Q
 all_weaker None written origin P Q f t = tt

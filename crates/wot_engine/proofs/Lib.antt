@@ -48,3 +48,4 @@ mod StaleTold
 mod Telling
 mod Worth
 mod Settling
+pub mod Stops

@@ -8,7 +8,10 @@ use Rattle.wot_script.specs.declared.reply.Reply.{Reply}
 use Rattle.wot_certd.specs.World.{World}
 use Rattle.wot_gen.specs.declared.tally.Tally.{Tally}
 use Rattle.wot_gen.specs.Summary.{Tells, amount_in}
-use Rattle.wot_engine.specs.Whole.{Whole}
+use Rattle.wot_types.specs.Limits.{standard_limits}
+use Rattle.wot_cache.specs.State.{empty}
+use Rattle.wot_engine.specs.Machine.{Machine, kept}
+use Rattle.wot_engine.specs.Whole.{Whole, watched, whole_of}
 use Rattle.wot_engine.specs.Entry.{use_of}
 use Rattle.wot_engine.specs.Generated.{no_entries}
 use Rattle.wot_engine.specs.Lines.{heard}
@@ -105,6 +108,13 @@ module _ (rows : PolicyRows) where
 
   pub starts : (text : List ℕ) (tally : Tally) → Tells tally [] → Plays text text (opening no_entries) tally
   starts text tally tells = record { done = []; replies = []; lines = refl; run = (refl, refl); tells = tells }
+
+  -- by a machine that was told no line
+  pub starts_with : (text : List ℕ) (machine : Machine) (world : World) (tally : Tally) → machine.engine ≡ empty standard_limits → machine.cursors ≡ [] → machine.watches ≡ []
+      → world ≡ no_entries → Tells tally [] → Plays text text (over (kept machine) world) tally
+  starts_with text machine world tally e k w none tells =
+      let same : over (kept machine) world ≡ opening no_entries = λ i. over (watched (whole_of (e i) (k i)) (w i)) (none i) in
+      subst (λ (s : Scene). Plays text text s tally) (sym same) (starts text tally tells)
 
   pub goes_on : (text rest others line : List ℕ) (old new : Scene) (before after : Tally) → Plays text rest old before
       → lines_of rest ≡ line ∷ lines_of others → Adds rows line old before new after → Plays text others new after

@@ -3,7 +3,7 @@ use Rattle.std.proofs.Common.{◌≡◌, ℕ, ◌≤◌, ◌^◌, List, [], leng
 use Rattle.wot_io.specs.Fill.{Took}
 use Rattle.wot_io.specs.Source.{Loses, LosesOf}
 use Rattle.wot_io.specs.ReaderState.{ReaderState}
-use Rattle.wot_engine.specs.Transcript.{HasMost, TakesAtMost, Told}
+use Rattle.wot_engine.specs.Transcript.{HasMost, TakesAtMost}
 use Rattle.wot_engine.proofs.Replying.{fresh}
 
 loses_nothing : (left : Option (List ℕ)) → Loses left left []
@@ -60,10 +60,3 @@ takes_nothing left = takes_at_most left left 0 (record { gone = []; loses = lose
 pub has_most : (first last : Option (List ℕ)) (taken : ℕ) → Took first 0 last taken → taken ≡ 2 ^ 30 → HasMost first
 has_most None last taken t most = tt
 has_most (Some input) last taken t most = omega (arith, t.count, most, ap length t.loses.parts, length-append t.gone t.loses.rest)
-
--- what follows of that, where it is told
-pub told_of_most : (left written : Option (List ℕ)) (P : List ℕ → List ℕ → Type 0) → HasMost left
-    → ((input before : List ℕ) → 2 ^ 30 ≤ length input → P input before) → Told left written P
-told_of_most None written P most f = tt
-told_of_most (Some input) None P most f = tt
-told_of_most (Some input) (Some before) P most f = f input before most

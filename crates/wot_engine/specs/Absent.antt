@@ -4,7 +4,9 @@ use Rattle.wot_types.specs.declared.fpr.Fpr.{Fpr}
 use Rattle.wot_edge.specs.declared.path.Path.{Path}
 use Rattle.wot_edge.specs.declared.path.Step.{Step}
 use Rattle.wot_edge.specs.Answer.{IsAnswer, amount_of}
-use Rattle.wot_edge.specs.Path.{Question, use_of}
+use Rattle.wot_edge.specs.Path.{Question, asks, use_of}
+use Rattle.wot_network.specs.Net.{told_of}
+use Rattle.wot_network.specs.Roads.{present_of}
 use Rattle.wot_script.specs.declared.reply.ClaimLine.{ClaimLine}
 use Rattle.wot_script.specs.declared.reply.ClaimStepLine.{ClaimStepLine}
 use Rattle.wot_script.specs.declared.reply.LabelLine.{LabelLine}
@@ -16,9 +18,14 @@ use Rattle.wot_check.specs.declared.claimed.ClaimedStep.{ClaimedStep}
 use Rattle.wot_check.specs.Absence.{AreSpent, IsChecked, IsLeastTable}
 use Rattle.wot_check.specs.Claim.{Claim}
 use Rattle.wot_check.specs.Table.{IsTable, Labels}
+use Rattle.wot_cache.specs.declared.parts.Parts.{Parts}
 use Rattle.wot_cache.specs.declared.view.View.{View}
 use Rattle.wot_cache.specs.Question.{question_in}
 use Rattle.wot_cache.specs.State.{State, IsState}
+
+-- the question over the parts that are seen from a view
+abbrev pub asked_from : Parts → Fpr → List ℕ → Question
+asked_from parts target uid = asks (told_of (present_of parts.roads) uid) parts.roots.now target
 
 -- ---- `absence`
 
@@ -38,17 +45,22 @@ label_line label = record { 0 = label.0; 1 = label.1 }
 abbrev pub missed : List Path → Labels → Reply
 missed paths table = replies.Missed (amount_of paths) (map claim_line paths) (map label_line table)
 
--- These paths reach what is wanted, and their sum is told; or they don't, and they are told with the least table after them.
+-- These paths reach what is wanted, and their sum is told; or they don't, and they are told with the least table
+-- after them.
 abbrev pub TellsAbsence : Bool → Question → List Path → Reply → Type 0
 TellsAbsence true q paths reply = reply ≡ replies.Reached (amount_of paths)
-TellsAbsence false q paths reply = (table : Labels) × IsTable table × IsLeastTable q (use_of paths) table × (reply ≡ missed paths table)
+TellsAbsence false q paths reply =
+    (table : Labels) × IsTable table × IsLeastTable q (use_of paths) table × (reply ≡ missed paths table)
 
--- `absence`: from an open view, by the paths that are the answer in this state
+-- the same, by the paths that are the answer to the question
+abbrev pub MissesBy : Question → ℕ → Reply → Type 0
+MissesBy q wanted reply =
+    (paths : List Path) × IsAnswer q wanted paths × TellsAbsence (nat_le wanted (amount_of paths)) q paths reply
+
+-- `absence`: from an open view, by the question in this state
 abbrev pub Misses : State → Option View → Fpr → ℕ → List ℕ → Reply → Type 0
 Misses s None target wanted uid reply = reply ≡ replies.View
-Misses s (Some view) target wanted uid reply =
-    (paths : List Path) × IsAnswer (question_in s view target uid) wanted paths
-    × TellsAbsence (nat_le wanted (amount_of paths)) (question_in s view target uid) paths reply
+Misses s (Some view) target wanted uid reply = MissesBy (question_in s view target uid) wanted reply
 
 -- ---- `check`
 
@@ -73,25 +85,32 @@ verdict_on claims answers.Yes = replies.CheckedYes (sum_in claims)
 verdict_on claims answers.BadPaths = replies.CheckedNoPaths
 verdict_on claims answers.BadTable = replies.CheckedNoTable
 
--- `check`: from an open view, by what the check comes to in this state
+-- the same, by what the check of that question comes to
+abbrev pub ChecksBy : Question → List ClaimLine → List LabelLine → Reply → Type 0
+ChecksBy q claims labels reply =
+    (checked : Checked) × IsChecked q (map claim_in claims) (table_in labels) checked
+    × (reply ≡ verdict_on claims checked)
+
+-- `check`: from an open view, by the question in this state
 abbrev pub Checks : State → Option View → Fpr → List ClaimLine → List LabelLine → List ℕ → Reply → Type 0
 Checks s None target claims labels uid reply = reply ≡ replies.View
-Checks s (Some view) target claims labels uid reply =
-    (checked : Checked) × IsChecked (question_in s view target uid) (map claim_in claims) (table_in labels) checked
-    × (reply ≡ verdict_on claims checked)
+Checks s (Some view) target claims labels uid reply = ChecksBy (question_in s view target uid) claims labels reply
 
 -- ---- what claims are worth
 
--- The claim of a reply `absence missed` is accepted: handed to `check` from the same view, it has the reply `checked yes`.
+-- The claim of a reply `absence missed` is accepted: handed to `check` from the same view, it has the reply
+-- `checked yes`.
 abbrev pub AreClaimsAccepted : Type 0
 AreClaimsAccepted =
-    (s : State) (view : View) (target : Fpr) (wanted : ℕ) (uid : List ℕ) (sum : ℕ) (claims : List ClaimLine) (labels : List LabelLine)
+    (s : State) (view : View) (target : Fpr) (wanted : ℕ) (uid : List ℕ) (sum : ℕ)
+    (claims : List ClaimLine) (labels : List LabelLine)
     → Misses s (Some view) target wanted uid (replies.Missed sum claims labels)
     → Checks s (Some view) target claims labels uid (replies.CheckedYes sum)
 
 -- In a state that can be, no valid path of positive amount is left after the paths of a claim that is accepted.
 abbrev pub DoClaimsLeaveNothing : Type 0
 DoClaimsLeaveNothing =
-    (s : State) (view : View) (target : Fpr) (uid : List ℕ) (sum : ℕ) (claims : List ClaimLine) (labels : List LabelLine) → IsState s
+    (s : State) (view : View) (target : Fpr) (uid : List ℕ) (sum : ℕ)
+    (claims : List ClaimLine) (labels : List LabelLine) → IsState s
     → Checks s (Some view) target claims labels uid (replies.CheckedYes sum)
     → AreSpent (question_in s view target uid) (map claim_in claims)

@@ -38,4 +38,5 @@ told s paths = replies.Amount (amount_of paths) (length paths) (flat_map (path_l
 -- `ask`: from an open view, the paths that are the answer in this state
 abbrev pub Asks : State → Option View → Fpr → ℕ → List ℕ → Reply → Type 0
 Asks s None target wanted uid reply = reply ≡ replies.View
-Asks s (Some view) target wanted uid reply = (paths : List Path) × IsAnswer (question_in s view target uid) wanted paths × (reply ≡ told s paths)
+Asks s (Some view) target wanted uid reply =
+    (paths : List Path) × IsAnswer (question_in s view target uid) wanted paths × (reply ≡ told s paths)

@@ -36,7 +36,8 @@ pub record AreAlike (name : List ℕ) (one other : State) : Type 0 where
   pub verdicts : one.held.verdicts ≡ other.held.verdicts
   pub view : view_at one.views name ≡ view_at other.views name
 
--- a command that asks from the view of that name: for an answer, a list, reasons, or why an amount is missed and whether that is so
+-- a command that asks from the view of that name: for an answer, a list, reasons, or why an amount is missed and
+-- whether that is so
 abbrev pub AsksFrom : List ℕ → Command → Type 0
 AsksFrom name (Ask view target wanted uid) = view ≡ name
 AsksFrom name (Command.List view wanted) = view ≡ name

@@ -1,5 +1,5 @@
 -- How a run ends.
-use Rattle.std.specs.Prelude.{ℕ, Result, Ok, Err}
+use Rattle.std.specs.Prelude.{◌⊎◌, ℕ, Result, Ok, Err, IsErrOf}
 use Rattle.wot_engine.specs.declared.run.Stop.{Stop}
 use Rattle.wot_engine.specs.declared.run.Stop.TheVariants.{Read, Write, Memory, TooMuch}
 
@@ -10,3 +10,7 @@ status_at (Err Read) = 3
 status_at (Err Write) = 4
 status_at (Err Memory) = 5
 status_at (Err TooMuch) = 6
+
+-- 2 ^ 30 octets were taken before the end came, or no memory was found.
+abbrev pub IsMuchOrMemory : {T : Type 0} → Result T Stop → Type 0
+IsMuchOrMemory result = IsErrOf result TooMuch ⊎ IsErrOf result Memory

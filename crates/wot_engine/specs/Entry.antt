@@ -9,6 +9,7 @@ use Rattle.wot_script.specs.declared.command.Command.TheVariants.{Load, Store}
 use Rattle.wot_keyring.specs.Held.{cert_in}
 use Rattle.wot_certd.specs.World.{Answer, World, after_replace, called, fails_next, read_answer, with_entry}
 use Rattle.wot_cache.specs.State.{State}
+use Rattle.wot_engine.specs.Both.{Ends}
 use Rattle.wot_engine.specs.Lines.{heard}
 use Rattle.wot_engine.specs.Served.{Served, unserved}
 use Rattle.wot_engine.specs.Storing.{put_from}
@@ -70,7 +71,8 @@ IsWorldAfter (Some name) put None after = Unit {0}
 IsWorldAfter (Some name) put (Some world) after = after ≡ Some (world_after world (Some name) put)
 
 -- The shelf gave this by its world before, and what was put leads to its world after.
-pub record IsServed (s : State) (use_ : Use) (before : Option World) (given : Served) (after : Option World) : Type 0 where
+pub record IsServed (s : State) (use_ : Use) (before : Option World) (given : Served) (after : Option World)
+    : Type 0 where
   pub asked : WasGiven (entry_for s use_) before given
   pub world : IsWorldAfter (entry_for s use_) (put_for s use_ given.read) before after
 
@@ -94,6 +96,10 @@ pub record MayPutIn (s : State) (use_ : Use) (old : World) (after : Option World
 abbrev pub MayPut : State → Use → Option World → Option World → Type 0
 MayPut s use_ None after = Unit {0}
 MayPut s use_ (Some old) after = MayPutIn s use_ old after
+
+-- The same of a shelf before and behind a line.
+abbrev pub MayPutTo : State → Use → Ends (Option World) → Type 0
+MayPutTo s use_ shelf = MayPut s use_ shelf.old shelf.new
 
 -- The entries are as before, or with these octets under the name.
 pub record MayReplaceIn (name : Name) (octets : List ℕ) (old : World) (after : Option World) : Type 0 where

@@ -17,7 +17,8 @@ IsGenerated [] start count = ⊥
 IsGenerated (word ∷ []) start count = ⊥
 IsGenerated (word ∷ first ∷ []) start count = ⊥
 IsGenerated (word ∷ first ∷ second ∷ []) start count =
-    (word ≡ codes "gen") × (decimal_up_to 18446744073709551615 first ≡ Some start) × (positive_up_to 2000 second ≡ Some count)
+    (word ≡ codes "gen") × (decimal_up_to 18446744073709551615 first ≡ Some start)
+    × (positive_up_to 2000 second ≡ Some count)
 IsGenerated (word ∷ first ∷ second ∷ fourth ∷ words) start count = ⊥
 
 -- a fact on the script of a generated run, where these are its words

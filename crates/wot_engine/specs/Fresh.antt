@@ -7,10 +7,11 @@ use Rattle.wot_script.specs.declared.command.Command.{Command}
 use Rattle.wot_script.specs.declared.command.Command.TheVariants.{Dump}
 use Rattle.wot_script.specs.declared.reply.Reply.{Reply}
 use Rattle.wot_script.specs.Replies.{is_refusal}
-use Rattle.wot_keyring.specs.Dump.{lines_of}
+use Rattle.wot_types.specs.Limits.{standard_limits}
+use Rattle.wot_keyring.specs.Dump.{AreLines, lines_of}
 use Rattle.wot_certd.specs.World.{World}
-use Rattle.wot_cache.specs.State.{State}
-use Rattle.wot_cache.specs.Dump.{commands_of, CarriesOver}
+use Rattle.wot_cache.specs.State.{Engine, State, state_of}
+use Rattle.wot_cache.specs.Dump.{CarriesOver, IsRestored, commands_of}
 use Rattle.wot_engine.specs.Scene.{opening}
 use Rattle.wot_engine.specs.Transcript.{Run}
 use Rattle.wot_engine.specs.Whole.{Whole}
@@ -40,3 +41,9 @@ pub record IsMadeAnew (rows : PolicyRows) (s : State) : Type 0 where
   pub run : (world : World) → Run rows (opening world) (dumped s) replies (record { whole = new; world = world })
   pub each : length replies ≡ length (dumped s)
   pub well : AllByRecursion (λ reply. is_refusal reply ≡ false) replies
+
+-- What `Engine::dump` promises of an engine with the standard limits makes its state anew.
+abbrev pub DumpMakesAnew : PolicyRows → Engine → Type 0
+DumpMakesAnew rows engine =
+    engine.keyring.limits ≡ standard_limits → IsRestored rows engine → AreLines (commands_of (state_of engine))
+    → IsMadeAnew rows (state_of engine)

@@ -1,11 +1,12 @@
 -- A generated run: a script that the program makes, answers and sums up.
-use Rattle.std.specs.Prelude.{◌≡◌, ℕ, List, [], ◌++◌, length, take, Option, Some}
+use Rattle.std.specs.Prelude.{◌≡◌, ℕ, List, [], ◌++◌, length, take, Option, Some, IfSome}
 use Rattle.wot_io.specs.Input.{lines_of}
 use Rattle.wot_policy.specs.declared.rows.PolicyRows.{PolicyRows}
 use Rattle.wot_script.specs.declared.reply.Reply.{Reply}
 use Rattle.wot_certd.specs.World.{World}
 use Rattle.wot_gen.specs.Script.{commands_of, text_of}
 use Rattle.wot_gen.specs.Summary.{amounts_in, summary, transcript_digest}
+use Rattle.wot_engine.specs.Both.{Ends}
 use Rattle.wot_engine.specs.Transcript.{RepliesTo}
 
 -- the world of a shelf in memory without entries, no call of which fails
@@ -21,7 +22,8 @@ script_lines start count = lines_of (text_of (commands_of start count))
 pub record IsSummary (rows : PolicyRows) (start count : ℕ) (text : List ℕ) : Type 0 where
   pub replies : List Reply
   pub told : RepliesTo rows no_entries (script_lines start count) replies
-  pub text_is : text ≡ summary start count (length (script_lines start count)) (amounts_in replies) (transcript_digest replies)
+  pub text_is :
+      text ≡ summary start count (length (script_lines start count)) (amounts_in replies) (transcript_digest replies)
 
 -- The three lines were written.
 pub record Summarized (rows : PolicyRows) (start count : ℕ) (before : List ℕ) (after : Option (List ℕ)) : Type 0 where
@@ -35,3 +37,10 @@ pub record SummaryBegun (rows : PolicyRows) (start count : ℕ) (before : List �
   pub is_summary : IsSummary rows start count text
   pub size : ℕ
   pub written : after ≡ Some (before ++ take size text)
+
+-- The same of a sink, where it tells what was written to it.
+abbrev pub WritesSummary : PolicyRows → Ends (Option (List ℕ)) → ℕ → ℕ → Type 0
+WritesSummary rows output start count = IfSome output.old (λ before. Summarized rows start count before output.new)
+
+abbrev pub BeginsSummary : PolicyRows → Ends (Option (List ℕ)) → ℕ → ℕ → Type 0
+BeginsSummary rows output start count = IfSome output.old (λ before. SummaryBegun rows start count before output.new)

@@ -38,7 +38,8 @@ replies_in exchanges = flat_map (λ (e : Exchange). listed e.reply ++ e.told) ex
 -- These lines, one after another, have these replies, and lead from old to new.
 abbrev pub Passes : PolicyRows → Scene → List Exchange → Scene → Type 0
 Passes rows old [] new = new ≡ old
-Passes rows old (e ∷ exchanges) new = (mid : Scene) × Step rows old e.line e.reply e.told mid × Passes rows mid exchanges new
+Passes rows old (e ∷ exchanges) new =
+    (mid : Scene) × Step rows old e.line e.reply e.told mid × Passes rows mid exchanges new
 
 -- the exchanges of a run
 pub record AreOfRun (rows : PolicyRows) (old : Scene) (lines : List (List ℕ)) (told : List Reply) (new : Scene)

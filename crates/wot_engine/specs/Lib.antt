@@ -1,3 +1,4 @@
+pub mod Both
 pub mod Lines
 pub mod Outcome
 pub mod Refused
@@ -15,6 +16,7 @@ pub mod Scene
 pub mod Law
 pub mod Transcript
 pub mod Forms
+pub mod Told
 pub mod Generated
 pub mod Ends
 pub mod Turn

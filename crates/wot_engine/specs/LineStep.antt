@@ -1,5 +1,6 @@
 -- What a line does: one step of the plain machine.
 use Rattle.std.specs.Prelude.{◌≡◌, ℕ, nat_lt, List, length, Option, Some, None, MatchBool}
+use Rattle.wot_types.specs.declared.name.Name.{Name}
 use Rattle.wot_policy.specs.declared.rows.PolicyRows.{PolicyRows}
 use Rattle.wot_verdict.specs.declared.verdict.Verdict.TheVariants as verdicts
 use Rattle.wot_script.specs.declared.command.Command.{Command}
@@ -11,8 +12,10 @@ use Rattle.wot_script.specs.declared.command.Command.TheVariants.{WatchOn, Watch
 use Rattle.wot_script.specs.declared.reply.Reply.{Reply}
 use Rattle.wot_script.specs.declared.reply.Reply.TheVariants as replies
 use Rattle.wot_script.specs.Grammar.{command_of}
+use Rattle.wot_certd.specs.World.{Answer}
 use Rattle.wot_cache.specs.State.{State}
 use Rattle.wot_cache.specs.Views.{view_at}
+use Rattle.wot_engine.specs.Both.{Ends}
 use Rattle.wot_engine.specs.Lines.{longest, is_silent}
 use Rattle.wot_engine.specs.Outcome.{Outcome, import, load, remove, set_verdict, clear_verdict, time, root, close}
 use Rattle.wot_engine.specs.Outcome.{keys, export, dump}
@@ -29,9 +32,13 @@ use Rattle.wot_engine.specs.Whole.{IsCounted, IsTurnedBy, Whole}
 abbrev pub Gives : Outcome → Reply → State → Type 0
 Gives outcome reply new = (reply ≡ outcome.reply) × (new ≡ outcome.state)
 
+-- An entry of these octets is loaded, with this reply: so the state was before and behind it.
+abbrev pub Loads : PolicyRows → Ends State → Name → List ℕ → Reply → Type 0
+Loads rows state name octets reply = Gives (load rows state.old name (Answer.entry octets)) reply state.new
+
 -- What a command does to the state: from old to new, with this reply. What the shelf gives in this line matters for
--- `load` and `store` alone. The commands of cursors and of watches leave the state, and have their replies by `Paces` and
--- by `Watching`.
+-- `load` and `store` alone. The commands of cursors and of watches leave the state, and have their replies by `Paces`
+-- and by `Watching`.
 abbrev pub Does : PolicyRows → State → Command → Served → Reply → State → Type 0
 Does rows old (Import octets) given reply new = Gives (import rows old octets) reply new
 Does rows old (Load name) given reply new = Gives (load rows old name given.read) reply new
@@ -43,10 +50,12 @@ Does rows old (Unjudge number) given reply new = Gives (clear_verdict old number
 Does rows old (Time view t) given reply new = Gives (time old view t) reply new
 Does rows old (Root view fpr amount) given reply new = Gives (root old view fpr amount) reply new
 Does rows old (Close view) given reply new = Gives (close old view) reply new
-Does rows old (Ask view target wanted uid) given reply new = Asks old (view_at old.views view) target wanted uid reply × (new ≡ old)
+Does rows old (Ask view target wanted uid) given reply new =
+    Asks old (view_at old.views view) target wanted uid reply × (new ≡ old)
 Does rows old (Command.List view wanted) given reply new = Lists old (view_at old.views view) wanted reply × (new ≡ old)
 Does rows old (Explain view fpr uid) given reply new = Gives (explain old view fpr uid) reply new
-Does rows old (Absence view target wanted uid) given reply new = Misses old (view_at old.views view) target wanted uid reply × (new ≡ old)
+Does rows old (Absence view target wanted uid) given reply new =
+    Misses old (view_at old.views view) target wanted uid reply × (new ≡ old)
 Does rows old (Check view target claims labels uid) given reply new =
     Checks old (view_at old.views view) target claims labels uid reply × (new ≡ old)
 Does rows old Pending given reply new = Gives (pending old) reply new
@@ -82,9 +91,10 @@ abbrev pub HasReply : (Reply → Whole → Type 0) → Option Reply → Whole �
 HasReply P None new = ⊥
 HasReply P (Some reply) new = P reply new
 
--- What a line does, in which the shelf gives this: from old to new, with this reply; a silent line has none. The rows are
--- those of the policy.
+-- What a line does, in which the shelf gives this: from old to new, with this reply; a silent line has none. The rows
+-- are those of the policy.
 abbrev pub LineStep : PolicyRows → Whole → List ℕ → Served → Option Reply → Whole → Type 0
 LineStep rows old line given reply new =
     MatchBool (nat_lt longest (length line)) (HasReply (Stays old replies.Long) reply new)
-    (MatchBool (is_silent line) ((reply ≡ None) × (new ≡ old)) (HasReply (Answers rows old (command_of line) given) reply new))
+    (MatchBool (is_silent line) ((reply ≡ None) × (new ≡ old))
+    (HasReply (Answers rows old (command_of line) given) reply new))

@@ -2,7 +2,9 @@
 use Rattle.std.specs.Prelude.{◌≡◌, ℕ, List, length, map, Option, Some, None}
 use Rattle.wot_types.specs.declared.fpr.Fpr.{Fpr}
 use Rattle.wot_types.specs.declared.number.SigNumber.{SigNumber}
+use Rattle.wot_edge.specs.Record.{Record}
 use Rattle.wot_edge.specs.declared.path.Step.{Step}
+use Rattle.wot_keyring.specs.Keyring.{Keyring, certificates_in}
 use Rattle.wot_keyring.specs.declared.pending.Pending.{Pending}
 use Rattle.wot_keyring.specs.Pending.{pending_in}
 use Rattle.wot_network.specs.Told.{record_of}
@@ -38,6 +40,12 @@ abbrev pub AreBindings : State → View → ℕ → List Bind → Type 0
 AreBindings s view wanted binds =
     IsListed (record_of s.held.certs s.held.verdicts view.time) view.roots wanted (pairs_in s.held.certs) binds
 
+-- a line for each of the bindings that are so listed
+abbrev pub ListsBy : (List ℕ → Record) → List (Fpr × ℕ) → ℕ → Keyring → Reply → Type 0
+ListsBy told roots wanted keyring reply =
+    (binds : List Bind) × IsListed told roots wanted (pairs_in (certificates_in keyring)) binds
+    × (reply ≡ bindings binds)
+
 -- `list`: from an open view, a line for each such binding, in the order of fingerprint and user ID
 abbrev pub Lists : State → Option View → ℕ → Reply → Type 0
 Lists s None wanted reply = reply ≡ replies.View
@@ -65,6 +73,11 @@ explained_from s (Some view) fpr uid = explained (explanation s.held.certs s.hel
 -- `explain`: from an open view, by its time
 abbrev pub explain : State → List ℕ → Fpr → List ℕ → Outcome
 explain s view fpr uid = only s (explained_from s (view_at s.views view) fpr uid)
+
+-- the same of what is kept, at a time
+abbrev pub Explains : Keyring → ℕ → Fpr → List ℕ → Reply → Type 0
+Explains keyring t fpr uid reply =
+    reply ≡ explained (explanation (certificates_in keyring) keyring.verdicts t fpr uid)
 
 -- ---- `pending`
 

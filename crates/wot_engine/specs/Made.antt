@@ -12,8 +12,8 @@ use Rattle.wot_cursor.specs.Cursors.{Cursor, Cursors, cursor_at}
 abbrev pub MakesNothing : Engine → Engine → ℕ → ℕ → Type 0
 MakesNothing old new before after = (after ≡ before) × (new.marks ≡ old.marks)
 
--- What a command does to marks and to the count of edges made. A question makes edges of what is stale for its view, and of
--- nothing where the view isn't open. A view that is opened has no marks.
+-- What a command does to marks and to the count of edges made. A question makes edges of what is stale for its view,
+-- and of nothing where the view isn't open. A view that is opened has no marks.
 abbrev pub Makes : {T E : Type 0} → Result T E → Command → Engine → Engine → ℕ → ℕ → Type 0
 Makes result (Ask view target wanted uid) old new before after = IsRefreshed result view old new before after
 Makes result (Command.List view wanted) old new before after = IsRefreshed result view old new before after
@@ -21,7 +21,8 @@ Makes result (Explain view fpr uid) old new before after = IsRefreshed result vi
 Makes result (Absence view target wanted uid) old new before after = IsRefreshed result view old new before after
 Makes result (Check view target claims labels uid) old new before after = IsRefreshed result view old new before after
 Makes result (WatchOn name view target wanted uid) old new before after = IsRefreshed result view old new before after
-Makes result (Time view t) old new before after = MakesNothing old new before after × OnOk result (view_at old.views view ≡ None → marks_at new view ≡ [])
+Makes result (Time view t) old new before after =
+    MakesNothing old new before after × OnOk result (view_at old.views view ≡ None → marks_at new view ≡ [])
 Makes result (Close view) old new before after = (after ≡ before) × OtherMarksStay view old new
 Makes result _ old new before after = MakesNothing old new before after
 

@@ -66,7 +66,10 @@ refusal (refusals.Full limit) = replies.Full limit
 refusal refusals.Memory = replies.Clash
 
 abbrev pub imports : PolicyRows → State → List ℕ → Result Imported Refusal → Outcome
-imports rows s octets (Ok counts) = record { reply = replies.Taken counts.taken counts.skipped counts.fresh; state = with_held s (importing rows octets s.held) }
+imports rows s octets (Ok counts) = record {
+  reply = replies.Taken counts.taken counts.skipped counts.fresh;
+  state = with_held s (importing rows octets s.held);
+}
 imports rows s octets (Err told) = only s (refusal told)
 
 -- `import`: the certificates of the octets are taken, all or none
@@ -78,7 +81,8 @@ abbrev pub load : PolicyRows → State → Name → Answer → Outcome
 load rows s name Answer.fault = only s replies.Shelf
 load rows s name Answer.absent = only s replies.Absent
 load rows s name Answer.long = only s replies.Long
-load rows s name (Answer.entry octets) = imports rows s octets (answer_under (is_entry name) rows standard_limits s.held.certs octets)
+load rows s name (Answer.entry octets) =
+    imports rows s octets (answer_under (is_entry name) rows standard_limits s.held.certs octets)
 
 -- ---- certificates and verdicts
 
@@ -94,7 +98,9 @@ set_verdict s number verdict =
 
 -- `verdict NUM none`
 abbrev pub clear_verdict : State → SigNumber → Outcome
-clear_verdict s number = if is_some (verdict_at s.held.verdicts number) then done (with_held s (verdict_cleared number s.held)) else only s replies.Absent
+clear_verdict s number =
+    if is_some (verdict_at s.held.verdicts number) then done (with_held s (verdict_cleared number s.held))
+    else only s replies.Absent
 
 -- ---- views
 
@@ -116,7 +122,8 @@ time s view t = unless s (time_fault standard_limits s.views view) (timing view 
 
 -- `view V root FPR A`
 abbrev pub root : State → List ℕ → Fpr → ℕ → Outcome
-root s view fpr amount = unless s (root_fault standard_limits (view_at s.views view) fpr amount) (rooting view fpr amount s)
+root s view fpr amount =
+    unless s (root_fault standard_limits (view_at s.views view) fpr amount) (rooting view fpr amount s)
 
 -- `view V close`
 abbrev pub close : State → List ℕ → Outcome

@@ -18,17 +18,19 @@ pub record Replied (rows : PolicyRows) (line : List ℕ) (old : Whole) (before :
   pub given : Served
   pub step : LineStep rows old line given reply new
   pub served : IsServed old.state (use_of (heard line)) before.world given after.world
-  pub cause : has_failed (put_for old.state (use_of (heard line)) given.read) given ≡ true → Rose before.faults after.faults
+  pub cause : has_failed (put_for old.state (use_of (heard line)) given.read) given ≡ true
+      → Rose before.faults after.faults
 
--- The shelf gave this, by it the line had its step, and the octets of the reply are behind those that were there. A call
--- failed only where the count of faults rose.
+-- The shelf gave this, by it the line had its step, and the octets of the reply are behind those that were there. A
+-- call failed only where the count of faults rose.
 pub record Stepped (rows : PolicyRows) (line : List ℕ) (old : Whole) (before : Seen) (had : List ℕ) (new : Whole)
     (after : Seen) (has : List ℕ) : Type 0 where
   pub given : Served
   pub reply : Option Reply
   pub step : LineStep rows old line given reply new
   pub served : IsServed old.state (use_of (heard line)) before.world given after.world
-  pub cause : has_failed (put_for old.state (use_of (heard line)) given.read) given ≡ true → Rose before.faults after.faults
+  pub cause : has_failed (put_for old.state (use_of (heard line)) given.read) given ≡ true
+      → Rose before.faults after.faults
   pub octets : has ≡ had ++ octets_of (listed reply)
 
 -- The watch lines of what is kept were told, and their octets are behind those that were there.

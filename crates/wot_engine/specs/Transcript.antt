@@ -3,6 +3,7 @@ use Rattle.std.specs.Prelude.{◌≡◌, ◌⊎◌, ◌≤◌, ℕ, ◌^◌, Lis
 use Rattle.std.specs.List.{flat_map}
 use Rattle.wot_io.specs.Input.{lines_of, whole_lines_of}
 use Rattle.wot_policy.specs.declared.rows.PolicyRows.{PolicyRows}
+use Rattle.wot_keyring.specs.Dump.{judged_by}
 use Rattle.wot_script.specs.declared.reply.Reply.{Reply}
 use Rattle.wot_script.specs.Replies.{reply_text}
 use Rattle.wot_certd.specs.World.{World}
@@ -34,8 +35,21 @@ pub record RepliesTo (rows : PolicyRows) (world : World) (lines : List (List ℕ
 abbrev pub Transcript : PolicyRows → World → List ℕ → List Reply → Type 0
 Transcript rows world input replies = RepliesTo rows world (lines_of input) replies
 
+-- There is only one.
+abbrev pub HasOneTranscript : PolicyRows → World → List ℕ → Type 0
+HasOneTranscript rows world input =
+    (replies others : List Reply) → Transcript rows world input replies → Transcript rows world input others
+    → replies ≡ others
+
+-- In each state that lines lead to from the start on, judging the signatures anew by the rows changes nothing.
+abbrev pub StayJudged : PolicyRows → Type 0
+StayJudged rows =
+    (world : World) (lines : List (List ℕ)) (replies : List Reply) (last : Scene)
+    → Run rows (opening world) lines replies last → judged_by rows last.whole.state.held ≡ last.whole.state.held
+
 -- The octets of the replies to these lines were written.
-pub record Answered (rows : PolicyRows) (world : World) (lines : List (List ℕ)) (before : List ℕ) (after : Option (List ℕ)) : Type 0 where
+pub record Answered (rows : PolicyRows) (world : World) (lines : List (List ℕ)) (before : List ℕ)
+    (after : Option (List ℕ)) : Type 0 where
   pub replies : List Reply
   pub told : RepliesTo rows world lines replies
   pub written : after ≡ Some (before ++ octets_of replies)
@@ -53,12 +67,14 @@ pub record Leaves (rows : PolicyRows) (world : World) (lines : List (List ℕ))
   pub left : IsNow origin shelf told.last.world
 
 -- The octets of the replies to some first ones of these lines were written, and each reply is whole.
-pub record AnsweredFirst (rows : PolicyRows) (world : World) (lines : List (List ℕ)) (before : List ℕ) (after : Option (List ℕ)) : Type 0 where
+pub record AnsweredFirst (rows : PolicyRows) (world : World) (lines : List (List ℕ)) (before : List ℕ)
+    (after : Option (List ℕ)) : Type 0 where
   pub count : ℕ
   pub answered : Answered rows world (take count lines) before after
 
 -- What was written is a prefix of the octets of the replies to these lines.
-pub record Begun (rows : PolicyRows) (world : World) (lines : List (List ℕ)) (before : List ℕ) (after : Option (List ℕ)) : Type 0 where
+pub record Begun (rows : PolicyRows) (world : World) (lines : List (List ℕ)) (before : List ℕ)
+    (after : Option (List ℕ)) : Type 0 where
   pub replies : List Reply
   pub told : RepliesTo rows world lines replies
   pub size : ℕ
@@ -86,27 +102,25 @@ abbrev pub HasMost : Option (List ℕ) → Type 0
 HasMost None = Unit {0}
 HasMost (Some input) = 2 ^ 30 ≤ length input
 
--- All whole lines of the octets taken were answered. Where nothing is left, a last line without a line feed may count as whole.
-pub record AnsweredWhole (rows : PolicyRows) (world : World) (input before : List ℕ) (left after : Option (List ℕ)) : Type 0 where
+-- All whole lines of the octets taken were answered. Where nothing is left, a last line without a line feed may count
+-- as whole.
+pub record AnsweredWhole (rows : PolicyRows) (world : World) (input before : List ℕ) (left after : Option (List ℕ))
+    : Type 0 where
   pub octets : List ℕ
   pub taken : IsTaken input octets left
-  pub answered : Answered rows world (whole_lines_of octets) before after ⊎ ((taken.rest ≡ []) × Answered rows world (lines_of octets) before after)
+  pub answered : Answered rows world (whole_lines_of octets) before after
+      ⊎ ((taken.rest ≡ []) × Answered rows world (lines_of octets) before after)
 
 -- 2 ^ 30 octets were taken, and all whole lines of them were answered.
-pub record AnsweredMost (rows : PolicyRows) (world : World) (input before : List ℕ) (left after : Option (List ℕ)) : Type 0 where
+pub record AnsweredMost (rows : PolicyRows) (world : World) (input before : List ℕ) (left after : Option (List ℕ))
+    : Type 0 where
   pub octets : List ℕ
   pub taken : IsTaken input octets left
   pub size : length octets ≡ 2 ^ 30
   pub answered : Answered rows world (whole_lines_of octets) before after
 
--- A fact on the input and on what had been written, where source and sink tell them.
-abbrev pub Told : Option (List ℕ) → Option (List ℕ) → (List ℕ → List ℕ → Type 0) → Type 0
-Told None written P = Unit {0}
-Told (Some input) None P = Unit {0}
-Told (Some input) (Some before) P = P input before
-
--- The same with the world of the shelf. One that doesn't tell its world may be of any, where no line of the input calls
--- it.
+-- A fact on the input, on what had been written, and on the world of the shelf, where source and sink tell them. A
+-- shelf that doesn't tell its world may be of any, where no line of the input calls it.
 abbrev pub AllTold : Option (List ℕ) → Option (List ℕ) → Option World → (List ℕ → List ℕ → World → Type 0) → Type 0
 AllTold None written world P = Unit {0}
 AllTold (Some input) None world P = Unit {0}

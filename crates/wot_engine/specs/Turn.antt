@@ -1,10 +1,12 @@
 -- The reply to a line that the reader of lines gave.
-use Rattle.std.specs.Prelude.{◌≡◌, ℕ, ◌<◌, List, ◌++◌, length, Option}
+use Rattle.std.specs.Prelude.{◌≡◌, ℕ, ◌<◌, List, [], ◌++◌, length, Option, None}
+use Rattle.wot_io.specs.ReaderState.{ReaderState}
 use Rattle.wot_io.specs.declared.lines.Line.{Line}
 use Rattle.wot_io.specs.declared.lines.Line.TheVariants.{Text, Long, End}
 use Rattle.wot_policy.specs.declared.rows.PolicyRows.{PolicyRows}
 use Rattle.wot_script.specs.declared.reply.Reply.{Reply}
 use Rattle.wot_certd.specs.World.{World}
+use Rattle.wot_engine.specs.Both.{Ends}
 use Rattle.wot_engine.specs.Entry.{IsServed, Use, unused, use_of}
 use Rattle.wot_engine.specs.Lines.{heard, longest}
 use Rattle.wot_engine.specs.LineStep.{LineStep}
@@ -12,6 +14,10 @@ use Rattle.wot_engine.specs.Served.{Served}
 use Rattle.wot_engine.specs.Watching.{Tells}
 use Rattle.wot_engine.specs.Whole.{Whole}
 use Rattle.wot_engine.specs.Transcript.{listed, octets_of}
+
+-- the reader of lines before the first one
+abbrev pub unread : ReaderState
+unread = record { held = []; text = []; taken = 0; fault = None }
 
 -- what the line does with the shelf; one that is too long leaves it alone
 abbrev pub use_by : Line → List ℕ → Use
@@ -22,7 +28,8 @@ use_by End text = unused
 -- This is the reply to the line that was given; of one that was too long the octets are gone.
 abbrev pub IsReply : PolicyRows → Line → List ℕ → Whole → Served → Option Reply → Whole → Type 0
 IsReply rows Text text old given reply new = LineStep rows old text given reply new
-IsReply rows Long text old given reply new = (line : List ℕ) → longest < length line → LineStep rows old line given reply new
+IsReply rows Long text old given reply new =
+    (line : List ℕ) → longest < length line → LineStep rows old line given reply new
 IsReply rows End text old given reply new = ⊥
 
 -- The octets of the reply to the line that was given are behind those that were held before.
@@ -53,3 +60,13 @@ pub record RepliesBehind (rows : PolicyRows) (line : Line) (text : List ℕ) (ol
   pub octets : List ℕ
   pub replies : Replies rows line text old before octets new after
   pub behind : has ≡ had ++ octets
+
+-- The line that was given was replied to: the reply stands behind what was held.
+abbrev pub Says : PolicyRows → Line → List ℕ → Ends Whole → Ends (Option World) → Ends (List ℕ) → Type 0
+Says rows line text machine shelf out =
+    SaidBehind rows line text machine.old shelf.old out.old machine.new shelf.new out.new
+
+-- The same, with the watch lines behind the reply.
+abbrev pub SaysAll : PolicyRows → Line → List ℕ → Ends Whole → Ends (Option World) → Ends (List ℕ) → Type 0
+SaysAll rows line text machine shelf out =
+    RepliesBehind rows line text machine.old shelf.old out.old machine.new shelf.new out.new

@@ -1,14 +1,10 @@
 //! The reply to `absence`.
-ghost use Rattle.std.specs.Prelude.{◌≡◌, ◌≤◌, ℕ, List, length, map, nat_le, IfOk};
-ghost use Rattle.wot_edge.specs.declared.path.Path.{Path as ThePath};
-ghost use Rattle.wot_edge.specs.Answer.{IsAnswer, amount_of};
-ghost use Rattle.wot_edge.specs.Path.{asks};
-ghost use Rattle.wot_network.specs.Net.{told_of};
-ghost use Rattle.wot_network.specs.Roads.{present_of};
+ghost use Rattle.std.specs.Prelude.{◌≡◌, ◌≤◌, length, map, IfOk};
+ghost use Rattle.wot_edge.specs.Answer.{amount_of};
 ghost use Rattle.wot_cache.specs.Marks.{IsRefreshed};
 ghost use Rattle.wot_cache.specs.State.{state_of};
 ghost use Rattle.wot_cache.specs.Views.{view_at};
-ghost use Rattle.wot_engine.specs.Absent.{Misses, TellsAbsence, claim_line, claim_step, label_line, missed};
+ghost use Rattle.wot_engine.specs.Absent.{Misses, MissesBy, asked_from, claim_line, claim_step, label_line, missed};
 
 use std::alloc::Global;
 use wot_auth::authenticate;
@@ -57,10 +53,7 @@ fn absence_from(
 ) -> Result<Reply, Memory>
     requires wanted { 1 ≤ wanted }
     requires few { length parts.now.roots.now ≤ 64 }
-    ensures misses { IfOk result (λ reply. (paths : List ThePath)
-        × IsAnswer (asks (told_of (present_of parts.now.roads) uid.now) parts.now.roots.now target.now) wanted paths
-        × TellsAbsence (nat_le wanted (amount_of paths))
-        (asks (told_of (present_of parts.now.roads) uid.now) parts.now.roots.now target.now) paths reply) }
+    ensures misses { IfOk result (MissesBy (asked_from parts.now target.now uid.now) wanted) }
 {
     let mut consulted = Consulted::new(alloc);
     let (roads, roots) = (&parts.roads, parts.roots);

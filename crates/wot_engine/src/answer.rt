@@ -28,7 +28,8 @@ pub fn ask(
     uid: &[u8],
 ) -> Result<Reply, Memory>
     requires wanted { 1 ≤ wanted }
-    ensures asks { IfOk result (λ reply. Asks (state_of engine.old) (view_at engine.old.views view.now) target.now wanted uid.now reply) }
+    ensures asks { IfOk result (λ reply.
+        Asks (state_of engine.old) (view_at engine.old.views view.now) target.now wanted uid.now reply) }
     ensures keyring { engine.new.keyring ≡ engine.old.keyring }
     ensures views { engine.new.views ≡ engine.old.views }
     ensures refreshed { IsRefreshed result view.now engine.old engine.new steps.old.made steps.new.made }

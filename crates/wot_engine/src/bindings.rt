@@ -1,14 +1,11 @@
 //! The reply to `list`.
-ghost use Rattle.std.specs.Prelude.{◌≡◌, ◌≤◌, List, length, map, IfOk};
-ghost use Rattle.wot_keyring.specs.Keyring.{certificates_in};
+ghost use Rattle.std.specs.Prelude.{◌≡◌, ◌≤◌, length, map, IfOk};
 ghost use Rattle.wot_network.specs.Net.{told_of};
 ghost use Rattle.wot_network.specs.Roads.{present_of};
 ghost use Rattle.wot_cache.specs.Marks.{IsRefreshed};
 ghost use Rattle.wot_cache.specs.State.{state_of};
 ghost use Rattle.wot_cache.specs.Views.{view_at};
-ghost use Rattle.wot_explain.specs.declared.bind.Bind.{Bind as TheBind};
-ghost use Rattle.wot_explain.specs.Listing.{IsListed, pairs_in};
-ghost use Rattle.wot_engine.specs.Listing.{Lists, bind_line, bindings};
+ghost use Rattle.wot_engine.specs.Listing.{Lists, ListsBy, bind_line};
 
 use std::alloc::Global;
 use wot_cache::{AskFault, Engine, Parts};
@@ -25,7 +22,7 @@ pub fn list(
     wanted: u32,
 ) -> Result<Reply, Memory>
     requires wanted { 1 ≤ wanted }
-    ensures lists { IfOk result (λ reply. Lists (state_of engine.old) (view_at engine.old.views view.now) wanted reply) }
+    ensures lists { IfOk result (Lists (state_of engine.old) (view_at engine.old.views view.now) wanted) }
     ensures keyring { engine.new.keyring ≡ engine.old.keyring }
     ensures views { engine.new.views ≡ engine.old.views }
     ensures refreshed { IsRefreshed result view.now engine.old engine.new steps.old.made steps.new.made }
@@ -41,10 +38,8 @@ pub fn list(
 fn list_from(alloc: Global, parts: &Parts<'_>, wanted: u32) -> Result<Reply, Memory>
     requires wanted { 1 ≤ wanted }
     requires few { length parts.now.roots.now ≤ 64 }
-    ensures lists { IfOk result (λ reply. (binds : List TheBind)
-        × IsListed (told_of (present_of parts.now.roads)) parts.now.roots.now wanted
-        (pairs_in (certificates_in parts.now.keyring.now)) binds
-        × (reply ≡ bindings binds)) }
+    ensures lists { IfOk result (ListsBy (told_of (present_of parts.now.roads)) parts.now.roots.now wanted
+        parts.now.keyring.now) }
 {
     let binds = wot_explain::list(alloc, parts.keyring, &parts.roads, parts.roots, wanted)?;
     let lines = bind_lines(alloc, binds)?;

@@ -1,16 +1,11 @@
 //! The reply to `check`.
 ghost use Rattle.std.specs.Prelude.{◌≡◌, ◌<◌, ◌^◌, length, map, IfOk};
-ghost use Rattle.wot_check.specs.declared.checking.Checked.{Checked as TheChecked};
-ghost use Rattle.wot_check.specs.Absence.{IsChecked};
 ghost use Rattle.wot_check.specs.Table.{IsTable};
-ghost use Rattle.wot_edge.specs.Path.{asks};
-ghost use Rattle.wot_network.specs.Net.{told_of};
-ghost use Rattle.wot_network.specs.Roads.{present_of};
 ghost use Rattle.wot_script.specs.Claims.{IsClaimSpelled};
 ghost use Rattle.wot_cache.specs.Marks.{IsRefreshed};
 ghost use Rattle.wot_cache.specs.State.{state_of};
 ghost use Rattle.wot_cache.specs.Views.{view_at};
-ghost use Rattle.wot_engine.specs.Absent.{Checks, claim_in, sum_in, table_in, verdict_on};
+ghost use Rattle.wot_engine.specs.Absent.{Checks, ChecksBy, asked_from, claim_in, sum_in, table_in, verdict_on};
 
 use std::alloc::Global;
 use wot_cache::{AskFault, Engine, Parts};
@@ -31,8 +26,8 @@ pub fn check(
 ) -> Result<Reply, Memory>
     requires few { length claims.now < 2 ^ 24 }
     requires spelled { IsClaimSpelled claims.now labels.now }
-    ensures checks { IfOk result (λ reply.
-        Checks (state_of engine.old) (view_at engine.old.views view.now) target.now claims.now labels.now uid.now reply) }
+    ensures checks { IfOk result (Checks (state_of engine.old) (view_at engine.old.views view.now)
+        target.now claims.now labels.now uid.now) }
     ensures keyring { engine.new.keyring ≡ engine.old.keyring }
     ensures views { engine.new.views ≡ engine.old.views }
     ensures refreshed { IsRefreshed result view.now engine.old engine.new steps.old.made steps.new.made }
@@ -55,10 +50,7 @@ fn check_from(
 ) -> Result<Reply, Memory>
     requires few { length claims.now < 2 ^ 24 }
     requires spelled { IsClaimSpelled claims.now labels.now }
-    ensures checks { IfOk result (λ reply. (checked : TheChecked)
-        × IsChecked (asks (told_of (present_of parts.now.roads) uid.now) parts.now.roots.now target.now)
-        (map claim_in claims.now) (table_in labels.now) checked
-        × (reply ≡ verdict_on claims.now checked)) }
+    ensures checks { IfOk result (ChecksBy (asked_from parts.now target.now uid.now) claims.now labels.now) }
 {
     let claims = claims.items();
     let paths = claimed_paths(alloc, claims)?;

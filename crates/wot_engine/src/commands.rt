@@ -8,7 +8,9 @@ ghost use Rattle.wot_script.specs.Replies.{is_short};
 ghost use Rattle.wot_cache.specs.State.{marks_at, state_of, OtherMarksStay};
 ghost use Rattle.wot_cache.specs.Turns.{IsOneClosing, IsOneTurn};
 ghost use Rattle.wot_cache.specs.Views.{view_at};
-ghost use Rattle.wot_engine.specs.Outcome.{import as import_of, remove as remove_of, set_verdict as set_verdict_of, clear_verdict as clear_verdict_of, time as time_of, root as root_of, close as close_of};
+ghost use Rattle.wot_engine.specs.Outcome.{import as import_of, remove as remove_of, set_verdict as set_verdict_of};
+ghost use Rattle.wot_engine.specs.Outcome.{clear_verdict as clear_verdict_of, time as time_of, root as root_of};
+ghost use Rattle.wot_engine.specs.Outcome.{close as close_of};
 ghost use Rattle.wot_engine.specs.LineStep.{Gives};
 
 use crate::refusal::{Refused, reply_to};
@@ -80,7 +82,8 @@ pub fn set_verdict(
 ) -> Result<Reply, Memory>
     requires standard { engine.old.keyring.limits ≡ standard_limits }
     requires countable { engine.old.keyring.changes < 2 ^ 64 - 1 }
-    ensures gives { IfOk result (λ reply. Gives (set_verdict_of (state_of engine.old) number verdict) reply (state_of engine.new)) }
+    ensures gives { IfOk result (λ reply.
+        Gives (set_verdict_of (state_of engine.old) number verdict) reply (state_of engine.new)) }
     ensures short { IfOk result (λ reply. is_short reply ≡ true) }
     ensures kept { OnErr result (engine.new ≡ engine.old) }
     ensures marks { engine.new.marks ≡ engine.old.marks }
@@ -117,7 +120,8 @@ pub fn clear_verdict(engine: &mut Engine, number: &SigNumber) -> Reply
 pub fn time(engine: &mut Engine, view: &ViewName, t: u32) -> Result<Reply, Memory>
     requires standard { engine.old.keyring.limits ≡ standard_limits }
     requires turnable { engine.old.turns.count < 2 ^ 64 - 1 }
-    ensures gives { IfOk result (λ reply. Gives (time_of (state_of engine.old) view.now t) reply (state_of engine.new)) }
+    ensures gives { IfOk result (λ reply.
+        Gives (time_of (state_of engine.old) view.now t) reply (state_of engine.new)) }
     ensures turned { IsOneTurn view.now engine.old.views engine.old.turns engine.new.views engine.new.turns }
     ensures short { IfOk result (λ reply. is_short reply ≡ true) }
     ensures kept { OnErr result (engine.new ≡ engine.old) }
@@ -135,7 +139,8 @@ pub fn time(engine: &mut Engine, view: &ViewName, t: u32) -> Result<Reply, Memor
 pub fn root(engine: &mut Engine, view: &ViewName, fpr: &Fpr, amount: u8) -> Result<Reply, Memory>
     requires standard { engine.old.keyring.limits ≡ standard_limits }
     requires turnable { engine.old.turns.count < 2 ^ 64 - 1 }
-    ensures gives { IfOk result (λ reply. Gives (root_of (state_of engine.old) view.now fpr.now amount) reply (state_of engine.new)) }
+    ensures gives { IfOk result (λ reply.
+        Gives (root_of (state_of engine.old) view.now fpr.now amount) reply (state_of engine.new)) }
     ensures turned { IsOneTurn view.now engine.old.views engine.old.turns engine.new.views engine.new.turns }
     ensures short { IfOk result (λ reply. is_short reply ≡ true) }
     ensures kept { OnErr result (engine.new ≡ engine.old) }

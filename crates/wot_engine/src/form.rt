@@ -1,5 +1,6 @@
 //! The words after the program's name, read by hand.
-ghost use Rattle.std.specs.Prelude.{◌≡◌, ◌≢◌, ◌≤◌, ◌↔◌, ◌∷◌, [], length, map, slice_index, true, false, codes, string_bytes, IsTrue, Some, None, if◌then◌else◌};
+ghost use Rattle.std.specs.Prelude.{◌≡◌, ◌≢◌, ◌≤◌, ◌↔◌, ◌∷◌, [], length, map, slice_index, true, false, codes};
+ghost use Rattle.std.specs.Prelude.{string_bytes, IsTrue, Some, None, if◌then◌else◌};
 ghost use Rattle.wot_script.specs.Decimal.{decimal_up_to, positive_up_to};
 ghost use Rattle.wot_engine.specs.Forms.{IsFormOf};
 

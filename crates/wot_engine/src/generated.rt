@@ -1,15 +1,17 @@
 //! A generated run: a script that the program makes, answers and sums up.
-ghost use Rattle.std.specs.Prelude.{◌≡◌, ◌⊎◌, ◌≤◌, ◌<◌, ◌+◌, ◌-◌, ◌++◌, ◌^◌, List, Some, length};
-ghost use Rattle.std.specs.Prelude.{IfErr, IfOk, IfSome, OnOk, IsErrOf};
+ghost use Rattle.std.specs.Prelude.{◌≡◌, ◌⊎◌, ◌≤◌, ◌<◌, ◌+◌, ◌-◌, ◌++◌, ◌^◌, List, [], length};
+ghost use Rattle.std.specs.Prelude.{IfErr, IfOk, OnOk, IsErrOf};
 ghost use Rattle.std.specs.List.{AllByRecursion};
+ghost use Rattle.wot_types.specs.Limits.{standard_limits};
 ghost use Rattle.wot_io.specs.Counts.{Rose};
 ghost use Rattle.wot_io.specs.Input.{lines_of};
 ghost use Rattle.wot_policy.specs.Kept.{IsFaithful, rows_of};
 ghost use Rattle.wot_keyring.specs.Kept.{IsJudgedBy};
-ghost use Rattle.wot_cache.specs.State.{StaysButMarks};
-ghost use Rattle.wot_engine.specs.Generated.{IsSummary, SummaryBegun, Summarized};
+ghost use Rattle.wot_cache.specs.State.{StaysButMarks, empty};
+ghost use Rattle.wot_engine.specs.Both.{ends, itself};
+ghost use Rattle.wot_engine.specs.Generated.{BeginsSummary, IsSummary, WritesSummary, no_entries};
 ghost use Rattle.wot_engine.specs.Machine.{kept};
-ghost use Rattle.wot_engine.specs.Played.{Adds, AddsReply, AddsTold, IsPlayed};
+ghost use Rattle.wot_engine.specs.Played.{AddsLine, AddsOne, AddsTold, IsPlayed, seen_in, world_in};
 ghost use Rattle.wot_engine.specs.Watching.{IsWatchLine};
 ghost use Rattle.wot_gen.specs.Summary.{Tells};
 ghost use Rattle.wot_script.specs.declared.reply.Reply.{Reply as TheReply};
@@ -38,10 +40,8 @@ pub fn generate<K: Sink, F: Fn(Ask) -> bool>(
     requires some { 1 ≤ count }
     requires few { count ≤ 2000 }
     requires faithful { IsFaithful F.Fn policy.old }
-    ensures whole { IfSome (K.written output.old) (λ before.
-        OnOk result (Summarized (rows_of policy.old) start count before (K.written output.new))) }
-    ensures prefix { IfSome (K.written output.old) (λ before.
-        SummaryBegun (rows_of policy.old) start count before (K.written output.new)) }
+    ensures whole { OnOk result (WritesSummary (rows_of policy.old) (ends K.written output) start count) }
+    ensures prefix { BeginsSummary (rows_of policy.old) (ends K.written output) start count }
     ensures sink { IsErrOf result Stop.Write → Rose (K.faults output.old) (K.faults output.new) }
     ensures ends { IfErr result (λ stop. (stop ≡ Stop.Write) ⊎ (stop ≡ Stop.Memory)) }
     ensures faithful { IsFaithful F.Fn policy.new }
@@ -92,13 +92,37 @@ fn play<F: Fn(Ask) -> bool>(
     let mut machine = Machine::new(alloc);
     let mut shelf = MemoryShelf::new(alloc, Vec::new(alloc), Vec::new(alloc));
     let mut tally = Tally::new(alloc);
+    add_lines(&mut machine, text, &mut shelf, policy, &mut tally)?;
+    Ok(tally)
+}
+
+/// The same by a machine that was told no line, over a shelf without entries, and by a tally of nothing.
+fn add_lines<F: Fn(Ask) -> bool>(
+    machine: &mut Machine,
+    text: &[u8],
+    shelf: &mut MemoryShelf,
+    policy: &mut Policy<F>,
+    tally: &mut Tally,
+) -> Result<(), Memory>
+    requires small { length text.now < 2 ^ 30 }
+    requires engine { machine.old.engine ≡ empty standard_limits }
+    requires cursors { machine.old.cursors ≡ [] }
+    requires watches { machine.old.watches ≡ [] }
+    requires world { shelf.old.world ≡ no_entries }
+    requires none { Tells tally.old [] }
+    requires amounts { tally.old.amounts ≡ 0 }
+    requires faithful { IsFaithful F.Fn policy.old }
+    ensures played { OnOk result (IsPlayed (rows_of policy.old) (lines_of text.now) tally.new) }
+    ensures faithful { IsFaithful F.Fn policy.new }
+    ensures rows { rows_of policy.new ≡ rows_of policy.old }
+{
     let mut rest = text;
     'lines: while !rest.is_empty() {
         let (line, others) = first_line(rest);
-        add_line(&mut machine, line, &mut shelf, policy, &mut tally)?;
+        add_line(machine, line, shelf, policy, tally)?;
         rest = others;
     }
-    Ok(tally)
+    Ok(())
 }
 
 /// Answers a line, and adds its reply and the watch lines behind it.
@@ -114,9 +138,8 @@ fn add_line<F: Fn(Ask) -> bool>(
     requires turnable { machine.old.engine.turns.count < 2 ^ 64 - 1 }
     requires judged { IsJudgedBy (rows_of policy.old) machine.old.engine.keyring }
     requires faithful { IsFaithful F.Fn policy.old }
-    ensures added { OnOk result (Adds (rows_of policy.old) line.now
-        (record { whole = kept machine.old; world = shelf.old.world }) tally.old
-        (record { whole = kept machine.new; world = shelf.new.world }) tally.new) }
+    ensures added { OnOk result (AddsLine (rows_of policy.old) line.now
+        (ends kept machine) (ends world_in shelf) (ends itself tally)) }
     ensures amounts { tally.new.amounts < tally.old.amounts + 2 ^ 32 }
     ensures counted { machine.new.engine.keyring.changes ≤ machine.old.engine.keyring.changes + 1 }
     ensures turned { machine.new.engine.turns.count ≤ machine.old.engine.turns.count + 1 }
@@ -141,9 +164,8 @@ fn add_reply<F: Fn(Ask) -> bool>(
     requires turnable { machine.old.engine.turns.count < 2 ^ 64 - 1 }
     requires judged { IsJudgedBy (rows_of policy.old) machine.old.engine.keyring }
     requires faithful { IsFaithful F.Fn policy.old }
-    ensures added { OnOk result (AddsReply (rows_of policy.old) line.now
-        (kept machine.old) (record { world = Some shelf.old.world; faults = shelf.old.faults }) tally.old
-        (kept machine.new) (record { world = Some shelf.new.world; faults = shelf.new.faults }) tally.new) }
+    ensures added { OnOk result (AddsOne (rows_of policy.old) line.now
+        (ends kept machine) (ends seen_in shelf) (ends itself tally)) }
     ensures amounts { tally.new.amounts < tally.old.amounts + 2 ^ 32 }
     ensures counted { machine.new.engine.keyring.changes ≤ machine.old.engine.keyring.changes + 1 }
     ensures turned { machine.new.engine.turns.count ≤ machine.old.engine.turns.count + 1 }

@@ -1,20 +1,14 @@
 //! Laws of the machine. Each function does nothing: its contract is the law.
-ghost use Rattle.std.specs.Prelude.{◌≡◌, ℕ, List, Option};
+ghost use Rattle.std.specs.Prelude.{ℕ, List};
 ghost use Rattle.wot_policy.specs.declared.rows.PolicyRows.{PolicyRows};
 ghost use Rattle.wot_script.specs.declared.reply.Reply.{Reply};
-ghost use Rattle.wot_keyring.specs.Dump.{judged_by};
 ghost use Rattle.wot_certd.specs.World.{World};
-ghost use Rattle.wot_cache.specs.State.{IsState};
 ghost use Rattle.wot_engine.specs.Absent.{AreClaimsAccepted, DoClaimsLeaveNothing};
 ghost use Rattle.wot_engine.specs.Depends.{DependsOnWhatIsPresent};
 ghost use Rattle.wot_engine.specs.Joined.{NextsAreTold, PiecesJoin, RunsAreExchanges, StaleNumbersDiffer};
-ghost use Rattle.wot_engine.specs.Law.{RefusalsLeaveAll};
-ghost use Rattle.wot_engine.specs.LineStep.{LineStep};
-ghost use Rattle.wot_engine.specs.Scene.{Scene, opening};
-ghost use Rattle.wot_engine.specs.Served.{Served};
-ghost use Rattle.wot_engine.specs.Transcript.{Run, Transcript};
-ghost use Rattle.wot_engine.specs.Watching.{Tells};
-ghost use Rattle.wot_engine.specs.Whole.{Whole};
+ghost use Rattle.wot_engine.specs.Law.{HaveOneOutcome, HaveOnlyWatchLines, HaveOutcomes, HaveWatchLines};
+ghost use Rattle.wot_engine.specs.Law.{LeadToStates, RefusalsLeaveAll};
+ghost use Rattle.wot_engine.specs.Transcript.{HasOneTranscript, StayJudged, Transcript};
 ghost use Rattle.wot_engine.specs.Worth.{QuietLinesTellNothing, WatchLinesAreNews, WatchesAreTrue};
 
 use wot_cert::laws::judging;
@@ -26,22 +20,15 @@ use wot_explain::laws::list_is_one;
 use wot_network::laws::record_is_lawful;
 use wot_script::laws::lines_spell_commands;
 
-/// Whatever the shelf gives, each line has a reply or none, and a state after it, and in a state that can be only one of
-/// each. What comes after a state that can be, as the one before the first line, can be too. So it is with the watch
-/// lines of a state.
+/// Whatever the shelf gives, each line has a reply or none, and a state after it, and in a state that can be only one
+/// of each. What comes after a state that can be, as the one before the first line, can be too. So it is with the
+/// watch lines of a state.
 pub fn each_line_has_one_outcome()
-    ensures some { (rows : PolicyRows) (old : Whole) (line : List ℕ) (given : Served)
-        → (reply : Option Reply) × (new : Whole) × LineStep rows old line given reply new }
-    ensures one { (rows : PolicyRows) (old : Whole) (line : List ℕ) (given : Served) (reply other : Option Reply)
-        (new third : Whole)
-        → IsState old.state → LineStep rows old line given reply new → LineStep rows old line given other third
-        → (reply ≡ other) × (new ≡ third) }
-    ensures stays { (rows : PolicyRows) (old : Whole) (line : List ℕ) (given : Served) (reply : Option Reply)
-        (new : Whole)
-        → IsState old.state → LineStep rows old line given reply new → IsState new.state }
-    ensures tells { (old : Whole) → (told : List Reply) × (new : Whole) × Tells old told new }
-    ensures tells_one { (old : Whole) (told others : List Reply) (new third : Whole) → IsState old.state
-        → Tells old told new → Tells old others third → (told ≡ others) × (new ≡ third) }
+    ensures some { (rows : PolicyRows) → HaveOutcomes rows }
+    ensures one { (rows : PolicyRows) → HaveOneOutcome rows }
+    ensures stays { (rows : PolicyRows) → LeadToStates rows }
+    ensures tells { HaveWatchLines }
+    ensures tells_one { HaveOnlyWatchLines }
 {
     answer_is_one();
     record_is_lawful();
@@ -61,8 +48,7 @@ pub fn refused_lines_leave_the_state()
 pub fn each_input_has_one_transcript()
     ensures some { (rows : PolicyRows) (world : World) (input : List ℕ)
         → (replies : List Reply) × Transcript rows world input replies }
-    ensures one { (rows : PolicyRows) (world : World) (input : List ℕ) (replies others : List Reply)
-        → Transcript rows world input replies → Transcript rows world input others → replies ≡ others }
+    ensures one { (rows : PolicyRows) (world : World) (input : List ℕ) → HasOneTranscript rows world input }
 {
     each_line_has_one_outcome();
 }
@@ -70,8 +56,7 @@ pub fn each_input_has_one_transcript()
 /// In each state that lines lead to from the start on, every signature has the mark that the rows give it, so that
 /// judging them anew changes nothing. So what the lines of a dump make anew there is this very state.
 pub fn reached_states_are_judged()
-    ensures { (rows : PolicyRows) (world : World) (lines : List (List ℕ)) (replies : List Reply) (last : Scene)
-        → Run rows (opening world) lines replies last → judged_by rows last.whole.state.held ≡ last.whole.state.held }
+    ensures { (rows : PolicyRows) → StayJudged rows }
 {
     judging();
 }

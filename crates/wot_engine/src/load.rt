@@ -6,12 +6,11 @@ ghost use Rattle.wot_keyring.specs.Kept.{IsJudgedBy};
 ghost use Rattle.wot_keyring.specs.Import.{IsOneChange};
 ghost use Rattle.wot_script.specs.Replies.{is_short};
 ghost use Rattle.wot_script.specs.declared.command.Command.TheVariants as commands;
-ghost use Rattle.wot_certd.specs.World.{Answer};
 ghost use Rattle.wot_cache.specs.State.{state_of};
-ghost use Rattle.wot_engine.specs.Entry.{MayPut, loads};
-ghost use Rattle.wot_engine.specs.LineStep.{Gives};
-ghost use Rattle.wot_engine.specs.Outcome.{load as load_of};
-ghost use Rattle.wot_engine.specs.Ran.{Did};
+ghost use Rattle.wot_engine.specs.Both.{ends};
+ghost use Rattle.wot_engine.specs.Entry.{MayPutTo, loads};
+ghost use Rattle.wot_engine.specs.LineStep.{Loads};
+ghost use Rattle.wot_engine.specs.Ran.{Acts, seen};
 
 use crate::refusal::{Refused, reply_to};
 use wot_cache::Engine;
@@ -32,11 +31,9 @@ pub fn load<D: Shelf, F: Fn(Ask) -> bool>(
     requires countable { engine.old.keyring.changes < 2 ^ 64 - 1 }
     requires judged { IsJudgedBy (rows_of policy.old) engine.old.keyring }
     requires faithful { IsFaithful F.Fn policy.old }
-    ensures did { IfOk result (λ reply. Did (rows_of policy.old) (commands.Load name.now)
-        (state_of engine.old) (record { world = D.world shelf.old; faults = D.faults shelf.old }) reply
-        (state_of engine.new) (record { world = D.world shelf.new; faults = D.faults shelf.new })) }
-    ensures entries { OnErr result
-        (MayPut (state_of engine.old) (loads name.now) (D.world shelf.old) (D.world shelf.new)) }
+    ensures did { IfOk result (Acts (rows_of policy.old) (commands.Load name.now)
+        (ends state_of engine) (ends (seen D.world D.faults) shelf)) }
+    ensures entries { OnErr result (MayPutTo (state_of engine.old) (loads name.now) (ends D.world shelf)) }
     ensures later { D.faults shelf.old ≤ D.faults shelf.new }
     ensures short { IfOk result (λ reply. is_short reply ≡ true) }
     ensures kept { OnErr result (engine.new ≡ engine.old) }
@@ -69,8 +66,7 @@ fn enter<F: Fn(Ask) -> bool>(
     requires small { length octets.now < 2 ^ 29 }
     requires judged { IsJudgedBy (rows_of policy.old) engine.old.keyring }
     requires faithful { IsFaithful F.Fn policy.old }
-    ensures gives { IfOk result (λ reply.
-        Gives (load_of (rows_of policy.old) (state_of engine.old) name.now (Answer.entry octets.now)) reply (state_of engine.new)) }
+    ensures gives { IfOk result (Loads (rows_of policy.old) (ends state_of engine) name.now octets.now) }
     ensures short { IfOk result (λ reply. is_short reply ≡ true) }
     ensures kept { OnErr result (engine.new ≡ engine.old) }
     ensures marks { engine.new.marks ≡ engine.old.marks }

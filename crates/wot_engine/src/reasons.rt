@@ -1,14 +1,12 @@
 //! The reply to `explain`.
 ghost use Rattle.std.specs.Prelude.{◌≡◌, map, IfOk};
-ghost use Rattle.wot_keyring.specs.Keyring.{certificates_in};
 ghost use Rattle.wot_network.specs.Net.{told_of};
 ghost use Rattle.wot_network.specs.Roads.{present_of};
 ghost use Rattle.wot_cache.specs.Marks.{IsRefreshed};
 ghost use Rattle.wot_cache.specs.State.{state_of};
 ghost use Rattle.wot_cache.specs.Views.{view_at};
-ghost use Rattle.wot_explain.specs.Explaining.{explanation};
 ghost use Rattle.wot_explain.specs.Usable.{AreRoadsOf};
-ghost use Rattle.wot_engine.specs.Listing.{explained as explained_of, explained_from, reason_line as reason_line_of};
+ghost use Rattle.wot_engine.specs.Listing.{Explains, explained_from, reason_line as reason_line_of};
 
 use std::alloc::Global;
 use wot_cache::{AskFault, Engine, Parts};
@@ -42,8 +40,7 @@ pub fn explain(
 /// The same over the parts that are seen from the view.
 fn explain_from(alloc: Global, parts: &Parts<'_>, fpr: &Fpr, uid: &[u8]) -> Result<Reply, Memory>
     requires present { AreRoadsOf (told_of (present_of parts.now.roads)) parts.now.keyring.now parts.now.t }
-    ensures explains { IfOk result (λ reply. reply ≡ explained_of
-        (explanation (certificates_in parts.now.keyring.now) parts.now.keyring.now.verdicts parts.now.t fpr.now uid.now)) }
+    ensures explains { IfOk result (Explains parts.now.keyring.now parts.now.t fpr.now uid.now) }
 {
     match wot_explain::explain(alloc, parts.keyring, &parts.roads, parts.t, fpr, uid) {
         Ok(explained) => {

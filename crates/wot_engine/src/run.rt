@@ -1,15 +1,22 @@
-ghost use Rattle.std.specs.Prelude.{◌≡◌, ◌≢◌, ◌⊎◌, ◌<◌, ◌≤◌, ◌+◌, ◌-◌, ◌^◌, [], length, Some, IfSome, OnErr, OnOk, IsErrOf};
+ghost use Rattle.std.specs.Prelude.{◌≡◌, ◌≢◌, ◌<◌, ◌≤◌, ◌+◌, ◌-◌, ◌^◌, [], length};
+ghost use Rattle.std.specs.Prelude.{IfSome, OnErr, OnOk, IsErrOf, vec_items};
+ghost use Rattle.wot_types.specs.Limits.{standard_limits};
 ghost use Rattle.wot_policy.specs.Kept.{IsFaithful, rows_of};
 ghost use Rattle.wot_keyring.specs.Kept.{IsJudgedBy};
 ghost use Rattle.wot_io.specs.Counts.{Rose};
-ghost use Rattle.wot_io.specs.Input.{HasNoFeed, lines_of};
+ghost use Rattle.wot_io.specs.Input.{HasNoFeed};
 ghost use Rattle.wot_io.specs.Sink.{GainsPrefix};
+ghost use Rattle.wot_cache.specs.State.{empty};
 ghost use Rattle.wot_engine.specs.Machine.{kept};
-ghost use Rattle.wot_engine.specs.Transcript.{AllTold, TakesAtMost, Answered, AnsweredFirst, Begun, Leaves};
-ghost use Rattle.wot_engine.specs.Transcript.{AnsweredWhole, AnsweredMost, HasMost};
+ghost use Rattle.wot_engine.specs.Both.{ends};
+ghost use Rattle.wot_engine.specs.Ends.{IsMuchOrMemory};
+ghost use Rattle.wot_engine.specs.Told.{MovesShelf, OnMost, WritesAll, WritesMost, WritesPrefix, WritesSome};
+ghost use Rattle.wot_engine.specs.Told.{WritesTaken};
+ghost use Rattle.wot_engine.specs.Transcript.{HasMost, TakesAtMost};
 ghost use Rattle.wot_engine.specs.Held.{Moves};
-ghost use Rattle.wot_engine.specs.Turn.{RepliesBehind, SaidBehind};
+ghost use Rattle.wot_engine.specs.Turn.{Says, SaysAll, unread};
 ghost use Rattle.wot_engine.specs.declared.run.Stop.TheVariants as stops;
+ghost use Rattle.wot_engine.specs.declared.run.Stop.TheVariants.{Memory as NoMemory, Read, TooMuch, Write};
 
 use crate::laws::each_line_has_one_outcome;
 use crate::machine::Machine;
@@ -66,8 +73,8 @@ fn say<D: Shelf, F: Fn(Ask) -> bool>(
     requires turnable { machine.old.engine.turns.count < 2 ^ 64 - 1 }
     requires judged { IsJudgedBy (rows_of policy.old) machine.old.engine.keyring }
     requires faithful { IsFaithful F.Fn policy.old }
-    ensures said { OnOk result (SaidBehind (rows_of policy.old) line text.now (kept machine.old)
-        (D.world shelf.old) out.old.items (kept machine.new) (D.world shelf.new) out.new.items) }
+    ensures said { OnOk result (Says (rows_of policy.old) line text.now
+        (ends kept machine) (ends D.world shelf) (ends vec_items out)) }
     ensures kept { OnErr result (out.new.items ≡ out.old.items) }
     ensures counted { machine.new.engine.keyring.changes ≤ machine.old.engine.keyring.changes + 1 }
     ensures turned { machine.new.engine.turns.count ≤ machine.old.engine.turns.count + 1 }
@@ -97,8 +104,8 @@ fn reply_to<D: Shelf, F: Fn(Ask) -> bool>(
     requires turnable { machine.old.engine.turns.count < 2 ^ 64 - 1 }
     requires judged { IsJudgedBy (rows_of policy.old) machine.old.engine.keyring }
     requires faithful { IsFaithful F.Fn policy.old }
-    ensures replies { OnOk result (RepliesBehind (rows_of policy.old) line text.now (kept machine.old)
-        (D.world shelf.old) out.old.items (kept machine.new) (D.world shelf.new) out.new.items) }
+    ensures replies { OnOk result (SaysAll (rows_of policy.old) line text.now
+        (ends kept machine) (ends D.world shelf) (ends vec_items out)) }
     ensures kept { OnErr result (out.new.items ≡ out.old.items) }
     ensures counted { machine.new.engine.keyring.changes ≤ machine.old.engine.keyring.changes + 1 }
     ensures turned { machine.new.engine.turns.count ≤ machine.old.engine.turns.count + 1 }
@@ -120,7 +127,8 @@ fn flush<K: Sink>(lines: &Lines, output: &mut K, out: &mut Vec<u8>) -> Result<()
     ensures moves { OnOk result (Moves (K.written output.old) out.old.items (K.written output.new) out.new.items) }
     ensures none { OnOk result (HasNoFeed lines.now.held → out.new.items ≡ []) }
     ensures few { OnOk result (length out.new.items < 65536) }
-    ensures cut { OnErr result (IfSome (K.written output.old) (λ old. GainsPrefix old (K.written output.new) out.old.items)) }
+    ensures cut { OnErr result (IfSome (K.written output.old)
+        (λ old. GainsPrefix old (K.written output.new) out.old.items)) }
     ensures later { K.faults output.old ≤ K.faults output.new }
     ensures cause { OnErr result (Rose (K.faults output.old) (K.faults output.new)) }
 {
@@ -134,7 +142,6 @@ fn flush<K: Sink>(lines: &Lines, output: &mut K, out: &mut Vec<u8>) -> Result<()
 
 /// Answers the lines of an input. The replies to all whole lines that are at hand are written together, before more is
 /// read. Where no memory is found for a line, the replies to those before it are written.
-#[tactic(auto, using(crate::proofs::Rules::turning))]
 pub fn run<S: Source, K: Sink, D: Shelf, F: Fn(Ask) -> bool>(
     alloc: Global,
     input: &mut S,
@@ -143,24 +150,23 @@ pub fn run<S: Source, K: Sink, D: Shelf, F: Fn(Ask) -> bool>(
     policy: &mut Policy<F>,
 ) -> Result<(), Stop>
     requires faithful { IsFaithful F.Fn policy.old }
-    ensures whole { AllTold (S.left input.old) (K.written output.old) (D.world shelf.old) (λ octets before world.
-        OnOk result (Answered (rows_of policy.old) world (lines_of octets) before (K.written output.new) × (S.left input.new ≡ Some []))) }
-    ensures shelf { AllTold (S.left input.old) (K.written output.old) (D.world shelf.old) (λ octets before world.
-        OnOk result (Leaves (rows_of policy.old) world (lines_of octets) (D.world shelf.old) (D.world shelf.new))) }
-    ensures prefix { AllTold (S.left input.old) (K.written output.old) (D.world shelf.old) (λ octets before world.
-        Begun (rows_of policy.old) world (lines_of octets) before (K.written output.new)) }
-    ensures first { AllTold (S.left input.old) (K.written output.old) (D.world shelf.old) (λ octets before world.
-        IsErrOf result Stop.Memory → AnsweredFirst (rows_of policy.old) world (lines_of octets) before (K.written output.new)) }
-    ensures source { IsErrOf result Stop.Read → Rose (S.faults input.old) (S.faults input.new) }
-    ensures taken { AllTold (S.left input.old) (K.written output.old) (D.world shelf.old) (λ octets before world.
-        IsErrOf result Stop.Read → AnsweredWhole (rows_of policy.old) world octets before (S.left input.new) (K.written output.new)) }
-    ensures sink { IsErrOf result Stop.Write → Rose (K.faults output.old) (K.faults output.new) }
-    ensures most { AllTold (S.left input.old) (K.written output.old) (D.world shelf.old) (λ octets before world.
-        IsErrOf result Stop.TooMuch → AnsweredMost (rows_of policy.old) world octets before (S.left input.new) (K.written output.new)) }
-    ensures most_only { AllTold (S.left input.old) (K.written output.old) (D.world shelf.old) (λ octets before world.
-        AnsweredMost (rows_of policy.old) world octets before (S.left input.new) (K.written output.new) →
-        IsErrOf result Stop.TooMuch ⊎ IsErrOf result Stop.Memory) }
-    ensures much { IsErrOf result Stop.TooMuch → HasMost (S.left input.old) }
+    ensures whole { OnOk result (WritesAll (rows_of policy.old)
+        (ends S.left input) (ends K.written output) (ends D.world shelf)) }
+    ensures shelf { OnOk result (MovesShelf (rows_of policy.old)
+        (ends S.left input) (ends K.written output) (ends D.world shelf)) }
+    ensures prefix { WritesPrefix (rows_of policy.old)
+        (ends S.left input) (ends K.written output) (ends D.world shelf) }
+    ensures first { IsErrOf result NoMemory → WritesSome (rows_of policy.old)
+        (ends S.left input) (ends K.written output) (ends D.world shelf) }
+    ensures source { IsErrOf result Read → Rose (S.faults input.old) (S.faults input.new) }
+    ensures taken { IsErrOf result Read → WritesTaken (rows_of policy.old)
+        (ends S.left input) (ends K.written output) (ends D.world shelf) }
+    ensures sink { IsErrOf result Write → Rose (K.faults output.old) (K.faults output.new) }
+    ensures most { IsErrOf result TooMuch → WritesMost (rows_of policy.old)
+        (ends S.left input) (ends K.written output) (ends D.world shelf) }
+    ensures most_only { OnMost (rows_of policy.old)
+        (ends S.left input) (ends K.written output) (ends D.world shelf) (IsMuchOrMemory result) }
+    ensures much { IsErrOf result TooMuch → HasMost (S.left input.old) }
     ensures at_most { TakesAtMost (S.left input.old) (S.left input.new) }
     ensures faithful { IsFaithful F.Fn policy.new }
     ensures rows { rows_of policy.new ≡ rows_of policy.old }
@@ -169,16 +175,66 @@ pub fn run<S: Source, K: Sink, D: Shelf, F: Fn(Ask) -> bool>(
     let mut lines = Lines::new(alloc)?;
     let mut machine = Machine::new(alloc);
     let mut out = Vec::new(alloc);
+    answer_lines(
+        &mut lines,
+        &mut machine,
+        &mut out,
+        input,
+        output,
+        shelf,
+        policy,
+    )
+}
+
+/// The same by a reader that has read nothing, a machine that was told no line, and a list that holds nothing.
+#[tactic(auto, using(crate::proofs::Rules::turning))]
+fn answer_lines<S: Source, K: Sink, D: Shelf, F: Fn(Ask) -> bool>(
+    lines: &mut Lines,
+    machine: &mut Machine,
+    out: &mut Vec<u8>,
+    input: &mut S,
+    output: &mut K,
+    shelf: &mut D,
+    policy: &mut Policy<F>,
+) -> Result<(), Stop>
+    requires unread { lines.old ≡ unread }
+    requires engine { machine.old.engine ≡ empty standard_limits }
+    requires cursors { machine.old.cursors ≡ [] }
+    requires watches { machine.old.watches ≡ [] }
+    requires nothing { out.old.items ≡ [] }
+    requires faithful { IsFaithful F.Fn policy.old }
+    ensures whole { OnOk result (WritesAll (rows_of policy.old)
+        (ends S.left input) (ends K.written output) (ends D.world shelf)) }
+    ensures shelf { OnOk result (MovesShelf (rows_of policy.old)
+        (ends S.left input) (ends K.written output) (ends D.world shelf)) }
+    ensures prefix { WritesPrefix (rows_of policy.old)
+        (ends S.left input) (ends K.written output) (ends D.world shelf) }
+    ensures first { IsErrOf result NoMemory → WritesSome (rows_of policy.old)
+        (ends S.left input) (ends K.written output) (ends D.world shelf) }
+    ensures source { IsErrOf result Read → Rose (S.faults input.old) (S.faults input.new) }
+    ensures taken { IsErrOf result Read → WritesTaken (rows_of policy.old)
+        (ends S.left input) (ends K.written output) (ends D.world shelf) }
+    ensures sink { IsErrOf result Write → Rose (K.faults output.old) (K.faults output.new) }
+    ensures most { IsErrOf result TooMuch → WritesMost (rows_of policy.old)
+        (ends S.left input) (ends K.written output) (ends D.world shelf) }
+    ensures most_only { OnMost (rows_of policy.old)
+        (ends S.left input) (ends K.written output) (ends D.world shelf) (IsMuchOrMemory result) }
+    ensures much { IsErrOf result TooMuch → HasMost (S.left input.old) }
+    ensures at_most { TakesAtMost (S.left input.old) (S.left input.new) }
+    ensures faithful { IsFaithful F.Fn policy.new }
+    ensures rows { rows_of policy.new ≡ rows_of policy.old }
+{
+    each_line_has_one_outcome();
     'lines: loop {
-        flush(&lines, output, &mut out)?;
+        flush(lines, output, out)?;
         let line = match lines.next(input) {
             Ok(Line::End) => return Ok(()),
             Ok(line) => line,
             Err(LinesFault::ReadFault) => return Err(Stop::Read),
             Err(LinesFault::TooMuch) => return Err(Stop::TooMuch),
         };
-        let Ok(()) = reply_to(&mut machine, line, lines.text(), shelf, policy, &mut out) else {
-            write_all(output, &out)?;
+        let Ok(()) = reply_to(machine, line, lines.text(), shelf, policy, out) else {
+            write_all(output, out)?;
             return Err(Stop::Memory);
         };
     }

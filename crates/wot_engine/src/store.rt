@@ -6,11 +6,11 @@ ghost use Rattle.wot_cert.specs.Text.{text_of};
 ghost use Rattle.wot_keyring.specs.Entry.{entry_in};
 ghost use Rattle.wot_keyring.specs.Held.{cert_in};
 ghost use Rattle.wot_script.specs.Replies.{is_short};
-ghost use Rattle.wot_script.specs.declared.command.Command.TheVariants as commands;
 ghost use Rattle.wot_certd.specs.Shelf.{IsWithin};
 ghost use Rattle.wot_cache.specs.State.{State, state_of};
-ghost use Rattle.wot_engine.specs.Entry.{MayPut, MayReplace, stores};
-ghost use Rattle.wot_engine.specs.Ran.{Did};
+ghost use Rattle.wot_engine.specs.Both.{ends};
+ghost use Rattle.wot_engine.specs.Entry.{MayPutTo, MayReplace, stores};
+ghost use Rattle.wot_engine.specs.Ran.{StoresBy, across, seen};
 ghost use Rattle.wot_engine.specs.Stored.{IsShort, answer_of, Puts, Stores, TellsCert, TellsUnwritten};
 ghost use Rattle.wot_engine.specs.Storing.{text_unless, united as united_of, united_with, unless_great, writing};
 
@@ -42,12 +42,10 @@ pub fn store<D: Shelf>(
     fpr: &Fpr,
     shelf: &mut D,
 ) -> Result<Reply, Memory>
-    ensures did { (rows : PolicyRows) → IfOk result (λ reply. Did rows (commands.Store fpr.now)
-        (state_of engine.now) (record { world = D.world shelf.old; faults = D.faults shelf.old }) reply
-        (state_of engine.now) (record { world = D.world shelf.new; faults = D.faults shelf.new })) }
+    ensures did { (rows : PolicyRows) → IfOk result (StoresBy rows fpr.now (state_of engine.now)
+        (ends (seen D.world D.faults) shelf)) }
     ensures untouched { cert_in (state_of engine.now).held fpr.now ≡ None → shelf.new ≡ shelf.old }
-    ensures entries { OnErr result
-        (MayPut (state_of engine.now) (stores fpr.now) (D.world shelf.old) (D.world shelf.new)) }
+    ensures entries { OnErr result (MayPutTo (state_of engine.now) (stores fpr.now) (ends D.world shelf)) }
     ensures later { D.faults shelf.old ≤ D.faults shelf.new }
     ensures short { IfOk result (λ reply. is_short reply ≡ true) }
 {
@@ -64,11 +62,9 @@ fn store_kept<D: Shelf>(
     kept: &Cert,
     shelf: &mut D,
 ) -> Result<Reply, Memory>
-    ensures stores { IfOk result (λ reply. Stores fpr.now kept.now
-        (record { world = D.world shelf.old; faults = D.faults shelf.old }) reply
-        (record { world = D.world shelf.new; faults = D.faults shelf.new })) }
+    ensures stores { IfOk result (across (Stores fpr.now kept.now) (ends (seen D.world D.faults) shelf)) }
     ensures entries { (s : State) → cert_in s.held fpr.now ≡ Some kept.now →
-        OnErr result (MayPut s (stores fpr.now) (D.world shelf.old) (D.world shelf.new)) }
+        OnErr result (MayPutTo s (stores fpr.now) (ends D.world shelf)) }
     ensures later { D.faults shelf.old ≤ D.faults shelf.new }
     ensures short { IfOk result (λ reply. is_short reply ≡ true) }
 {
@@ -86,9 +82,7 @@ fn store_kept<D: Shelf>(
 
 /// Puts octets under a name.
 fn put<D: Shelf>(name: &Name, octets: &[u8], shelf: &mut D) -> Result<Reply, Memory>
-    ensures puts { IfOk result (λ reply. Puts name.now octets.now
-        (record { world = D.world shelf.old; faults = D.faults shelf.old }) reply
-        (record { world = D.world shelf.new; faults = D.faults shelf.new })) }
+    ensures puts { IfOk result (across (Puts name.now octets.now) (ends (seen D.world D.faults) shelf)) }
     ensures entries { OnErr result (MayReplace name.now octets.now (D.world shelf.old) (D.world shelf.new)) }
     ensures later { D.faults shelf.old ≤ D.faults shelf.new }
     ensures short { IfOk result (λ reply. is_short reply ≡ true) }

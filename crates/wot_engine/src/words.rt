@@ -1,12 +1,14 @@
-ghost use Rattle.std.specs.Prelude.{◌≡◌, ◌≢◌, ◌⊎◌, ◌↔◌, ◌<◌, ◌≤◌, ◌^◌, [], ℕ, length, map, Some, IfSome, string_bytes};
+ghost use Rattle.std.specs.Prelude.{◌≡◌, ◌⊎◌, ◌↔◌, map, string_bytes};
 ghost use Rattle.wot_policy.specs.Kept.{IsFaithful, rows_of};
 ghost use Rattle.wot_io.specs.Counts.{Rose};
-ghost use Rattle.wot_io.specs.Input.{lines_of};
+ghost use Rattle.wot_engine.specs.Both.{ends};
 ghost use Rattle.wot_engine.specs.Ends.{status_at};
-ghost use Rattle.wot_engine.specs.Forms.{IsForm, IsRun, OnGenerated};
-ghost use Rattle.wot_engine.specs.Generated.{SummaryBegun, Summarized};
-ghost use Rattle.wot_engine.specs.Transcript.{Told, AllTold, TakesAtMost, Answered, AnsweredFirst, Begun, Leaves};
-ghost use Rattle.wot_engine.specs.Transcript.{AnsweredWhole, AnsweredMost};
+ghost use Rattle.wot_engine.specs.Forms.{IsForm};
+ghost use Rattle.wot_engine.specs.Generated.{BeginsSummary, WritesSummary};
+ghost use Rattle.wot_engine.specs.Told.{AreOfRun, Done, IsEither, IsUnfailed, OnScript, ReadsFew};
+ghost use Rattle.wot_engine.specs.Told.{MovesShelf, OnMost, WritesAll, WritesMost, WritesPrefix, WritesSome};
+ghost use Rattle.wot_engine.specs.Told.{WritesTaken};
+ghost use Rattle.wot_engine.specs.Transcript.{TakesAtMost};
 
 use crate::form::{Form, form_of};
 use crate::generated::generate;
@@ -37,31 +39,27 @@ pub fn run_words<S: Source, K: Sink, D: Shelf, F: Fn(Ask) -> bool>(
     requires faithful { IsFaithful F.Fn policy.old }
 
     // The headline: an input read to its end has its whole transcript written.
-    ensures whole { AllTold (S.left input.old) (K.written output.old) (D.world shelf.old) (λ octets before world.
-        IsRun (map string_bytes words.now) → result ≡ 0 →
-        Answered (rows_of policy.old) world (lines_of octets) before (K.written output.new) × (S.left input.new ≡ Some [])) }
+    ensures whole { Done 0 words.now result → WritesAll (rows_of policy.old)
+        (ends S.left input) (ends K.written output) (ends D.world shelf) }
 
     // The shelf is left as the lines of the input leave it.
-    ensures shelf { AllTold (S.left input.old) (K.written output.old) (D.world shelf.old) (λ octets before world.
-        IsRun (map string_bytes words.now) → result ≡ 0 →
-        Leaves (rows_of policy.old) world (lines_of octets) (D.world shelf.old) (D.world shelf.new)) }
+    ensures shelf { Done 0 words.now result → MovesShelf (rows_of policy.old)
+        (ends S.left input) (ends K.written output) (ends D.world shelf) }
 
     // Whatever the status, what was written is a prefix of the transcript.
-    ensures prefix { AllTold (S.left input.old) (K.written output.old) (D.world shelf.old) (λ octets before world.
-        IsRun (map string_bytes words.now) → Begun (rows_of policy.old) world (lines_of octets) before (K.written output.new)) }
+    ensures prefix { AreOfRun words.now → WritesPrefix (rows_of policy.old)
+        (ends S.left input) (ends K.written output) (ends D.world shelf) }
 
     // For want of memory no reply is cut: some first lines are answered whole.
-    ensures first { AllTold (S.left input.old) (K.written output.old) (D.world shelf.old) (λ octets before world.
-        IsRun (map string_bytes words.now) → result ≡ 5 →
-        AnsweredFirst (rows_of policy.old) world (lines_of octets) before (K.written output.new)) }
+    ensures first { Done 5 words.now result → WritesSome (rows_of policy.old)
+        (ends S.left input) (ends K.written output) (ends D.world shelf) }
 
-    // A generated run writes its three lines, and whatever the status a prefix of them. It leaves source and shelf alone.
-    ensures generated { OnGenerated (map string_bytes words.now) (λ start count. IfSome (K.written output.old) (λ before.
-        result ≡ 0 → Summarized (rows_of policy.old) start count before (K.written output.new))) }
-    ensures begun { OnGenerated (map string_bytes words.now) (λ start count. IfSome (K.written output.old) (λ before.
-        SummaryBegun (rows_of policy.old) start count before (K.written output.new))) }
-    ensures alone { OnGenerated (map string_bytes words.now) (λ start count. (input.new ≡ input.old) × (shelf.new ≡ shelf.old)) }
-    ensures ends { OnGenerated (map string_bytes words.now) (λ start count. (result ≡ 0) ⊎ (result ≡ 4) ⊎ (result ≡ 5)) }
+    // A generated run writes its three lines, and whatever the status a prefix of them. It leaves source and shelf
+    // alone.
+    ensures generated { result ≡ 0 → OnScript words.now (WritesSummary (rows_of policy.old) (ends K.written output)) }
+    ensures begun { OnScript words.now (BeginsSummary (rows_of policy.old) (ends K.written output)) }
+    ensures alone { OnScript words.now (λ start count. (input.new ≡ input.old) × (shelf.new ≡ shelf.old)) }
+    ensures ends { OnScript words.now (λ start count. (result ≡ 0) ⊎ (result ≡ 4) ⊎ (result ≡ 5)) }
 
     // Whatever the status, the source gives no more than 2^30 octets, and the policy comes back with the same rows.
     ensures at_most { TakesAtMost (S.left input.old) (S.left input.new) }
@@ -73,19 +71,17 @@ pub fn run_words<S: Source, K: Sink, D: Shelf, F: Fn(Ask) -> bool>(
     ensures usage { (result ≡ 2) ↔ (IsForm (map string_bytes words.now) → ⊥) }
     ensures untouched { result ≡ 2 → (input.new ≡ input.old) × (output.new ≡ output.old) × (shelf.new ≡ shelf.old) }
     ensures source { result ≡ 3 → Rose (S.faults input.old) (S.faults input.new) }
-    ensures taken { AllTold (S.left input.old) (K.written output.old) (D.world shelf.old) (λ octets before world.
-        result ≡ 3 → AnsweredWhole (rows_of policy.old) world octets before (S.left input.new) (K.written output.new)) }
+    ensures taken { result ≡ 3 → WritesTaken (rows_of policy.old)
+        (ends S.left input) (ends K.written output) (ends D.world shelf) }
     ensures sink { result ≡ 4 → Rose (K.faults output.old) (K.faults output.new) }
-    ensures most { AllTold (S.left input.old) (K.written output.old) (D.world shelf.old) (λ octets before world.
-        result ≡ 6 → AnsweredMost (rows_of policy.old) world octets before (S.left input.new) (K.written output.new)) }
-    ensures most_only { AllTold (S.left input.old) (K.written output.old) (D.world shelf.old) (λ octets before world.
-        AnsweredMost (rows_of policy.old) world octets before (S.left input.new) (K.written output.new) → (result ≡ 6) ⊎ (result ≡ 5)) }
+    ensures most { result ≡ 6 → WritesMost (rows_of policy.old)
+        (ends S.left input) (ends K.written output) (ends D.world shelf) }
+    ensures most_only { OnMost (rows_of policy.old)
+        (ends S.left input) (ends K.written output) (ends D.world shelf) (IsEither 6 5 result) }
 
     // Where nothing fails and memory is found, the input is read to its end.
-    ensures complete { Told (S.left input.old) (K.written output.old) (λ octets before.
-        IsForm (map string_bytes words.now) → length octets < 2 ^ 30
-        → (Rose (S.faults input.old) (S.faults input.new) → ⊥) → (Rose (K.faults output.old) (K.faults output.new) → ⊥)
-        → (result ≡ 0) ⊎ (result ≡ 5)) }
+    ensures complete { IsUnfailed words.now (ends S.faults input) (ends K.faults output) →
+        ReadsFew (S.left input.old) result }
 {
     each_line_has_one_outcome();
     match form_of(words) {

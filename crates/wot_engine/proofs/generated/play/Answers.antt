@@ -1,28 +1,41 @@
-use Rattle.std.proofs.Common.{◌∙◌, subst, arith}
-use Rattle.wot_policy.specs.declared.rows.PolicyRows.{PolicyRows}
-use Rattle.wot_policy.specs.Kept.{rows_of}
-use Rattle.wot_keyring.specs.Kept.{IsJudgedBy}
-use Rattle.wot_engine.specs.Machine.{kept}
-use Rattle.wot_engine.specs.Played.{Adds}
-use Rattle.wot_engine.specs.Scene.{Scene}
-use Rattle.wot_engine.proofs.Giving.{over}
-use Rattle.wot_engine.proofs.Playing.{goes_on}
+use Rattle.wot_engine.proofs.Stops.{unless_some}
 use Rattle.wot_engine.proofs.generated.play.Goals as goal
 
-pub lines-preserved : goal.lines-preserved
-lines-preserved g c =
-    let rows = rows_of c.args.policy.now in
-    let old : Scene = over (kept c.lines.machine) c.lines.shelf.world in
-    let new : Scene = over (kept c.add_line.new.machine) c.add_line.new.shelf.world in
-    let adds : Adds rows c.first_line.result.0.now old c.lines.tally new c.add_line.new.tally =
-    subst (λ (r : PolicyRows). Adds r c.first_line.result.0.now old c.lines.tally new c.add_line.new.tally) c.lines.invariant.rows c.in_ok-add_line.ensures.added in
-    record {
-      plays = goes_on rows c.args.text.now c.lines.rest.now c.first_line.result.1.now c.first_line.result.0.now old new c.lines.tally c.add_line.new.tally
-          c.lines.invariant.plays c.first_line.ensures.first adds;
-      changes = omega (arith, c.add_line.ensures.counted, c.first_line.ensures.shorter, c.lines.invariant.changes);
-      turns = omega (arith, c.add_line.ensures.turned, c.first_line.ensures.shorter, c.lines.invariant.turns);
-      amounts = omega (arith, c.add_line.ensures.amounts, c.first_line.ensures.shorter, c.lines.invariant.amounts);
-      judged = subst (λ (r : PolicyRows). IsJudgedBy r c.add_line.new.machine.engine.keyring) c.lines.invariant.rows c.add_line.ensures.judged;
-      rows = c.add_line.ensures.rows ∙ c.lines.invariant.rows;
-      faithful = c.add_line.ensures.faithful;
-    }
+pub add_lines-requires-clause-small : goal.add_lines-requires-clause-small
+add_lines-requires-clause-small g c = c.requires.small
+
+pub add_lines-requires-clause-engine : goal.add_lines-requires-clause-engine
+add_lines-requires-clause-engine g c = c.new-machine.ensures.start
+
+pub add_lines-requires-clause-cursors : goal.add_lines-requires-clause-cursors
+add_lines-requires-clause-cursors g c = c.new-machine.ensures.cursors
+
+pub add_lines-requires-clause-watches : goal.add_lines-requires-clause-watches
+add_lines-requires-clause-watches g c = c.new-machine.ensures.watches
+
+pub add_lines-requires-clause-none : goal.add_lines-requires-clause-none
+add_lines-requires-clause-none g c = c.new-tally.ensures.none
+
+pub add_lines-requires-clause-amounts : goal.add_lines-requires-clause-amounts
+add_lines-requires-clause-amounts g c = c.new-tally.ensures.amounts
+
+pub add_lines-requires-clause-faithful : goal.add_lines-requires-clause-faithful
+add_lines-requires-clause-faithful g c = c.requires.faithful
+
+pub returns-in_err-add_lines-clause-played : goal.returns-in_err-add_lines-clause-played
+returns-in_err-add_lines-clause-played g c = unless_some c.from_residual.result _ _ c.from_residual.ensures.1
+
+pub returns-in_err-add_lines-clause-faithful : goal.returns-in_err-add_lines-clause-faithful
+returns-in_err-add_lines-clause-faithful g c = c.add_lines.ensures.faithful
+
+pub returns-in_err-add_lines-clause-rows : goal.returns-in_err-add_lines-clause-rows
+returns-in_err-add_lines-clause-rows g c = c.add_lines.ensures.rows
+
+pub returns-clause-played : goal.returns-clause-played
+returns-clause-played g c = c.in_ok-add_lines.ensures.played
+
+pub returns-clause-faithful : goal.returns-clause-faithful
+returns-clause-faithful g c = c.add_lines.ensures.faithful
+
+pub returns-clause-rows : goal.returns-clause-rows
+returns-clause-rows g c = c.add_lines.ensures.rows

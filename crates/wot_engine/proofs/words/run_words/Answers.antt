@@ -5,7 +5,6 @@ use Rattle.wot_io.specs.Counts.{Rose}
 use Rattle.wot_engine.specs.Forms.{IsForm}
 use Rattle.wot_engine.proofs.Ending.{any_status, generated_begun, generated_complete, generated_ends, generated_whole, is_done, is_memory, is_much, is_read, is_write, much_or_memory, never_much, never_read, not_two, run_complete}
 use Rattle.wot_engine.proofs.Forms.{one_form, script_bounds}
-use Rattle.wot_engine.proofs.Giving.{all_told}
 use Rattle.wot_engine.proofs.Taking.{takes_nothing}
 use Rattle.wot_engine.proofs.Turns.{AllTold-weaker, Most-untouched}
 use Rattle.wot_engine.proofs.words.run_words.Goals as goal
@@ -13,9 +12,31 @@ use Rattle.wot_engine.proofs.words.run_words.Goals as goal
 -- ---- wrong arguments
 
 pub returns-in-None-clause-prefix : goal.returns-in-None-clause-prefix
-returns-in-None-clause-prefix g c =
-    all_told (g.S.Source.left c.args.input.now) (g.K.Sink.written c.args.output.now) (g.D.Shelf.world c.args.shelf.now) _
-    (λ input before world e f is form. absurd (c.in-None.ensures.form (inl form)))
+returns-in-None-clause-prefix g c form = absurd (c.in-None.ensures.form (inl form))
+
+pub returns-in-None-clause-whole : goal.returns-in-None-clause-whole
+returns-in-None-clause-whole g c done = absurd (c.in-None.ensures.form (inl done.0))
+
+pub returns-in-None-clause-shelf : goal.returns-in-None-clause-shelf
+returns-in-None-clause-shelf g c done = absurd (c.in-None.ensures.form (inl done.0))
+
+pub returns-in-None-clause-first : goal.returns-in-None-clause-first
+returns-in-None-clause-first g c done = absurd (c.in-None.ensures.form (inl done.0))
+
+pub returns-in-None-clause-generated : goal.returns-in-None-clause-generated
+returns-in-None-clause-generated g c e start count p = absurd (c.in-None.ensures.form (inr (start, count, p)))
+
+pub returns-in-None-clause-begun : goal.returns-in-None-clause-begun
+returns-in-None-clause-begun g c start count p = absurd (c.in-None.ensures.form (inr (start, count, p)))
+
+pub returns-in-None-clause-alone : goal.returns-in-None-clause-alone
+returns-in-None-clause-alone g c start count p = absurd (c.in-None.ensures.form (inr (start, count, p)))
+
+pub returns-in-None-clause-ends : goal.returns-in-None-clause-ends
+returns-in-None-clause-ends g c start count p = absurd (c.in-None.ensures.form (inr (start, count, p)))
+
+pub returns-in-None-clause-complete : goal.returns-in-None-clause-complete
+returns-in-None-clause-complete g c calm = absurd (c.in-None.ensures.form calm.0)
 
 pub returns-in-None-clause-most_only : goal.returns-in-None-clause-most_only
 returns-in-None-clause-most_only g c =
@@ -26,40 +47,28 @@ returns-in-None-clause-most_only g c =
 -- ---- a run
 
 pub returns-in-Some-Run-clause-whole : goal.returns-in-Some-Run-clause-whole
-returns-in-Some-Run-clause-whole g c =
-    AllTold-weaker (rows_of c.args.policy.now) (g.S.Source.left c.args.input.now) (g.K.Sink.written c.args.output.now) (g.D.Shelf.world c.args.shelf.now) _ _
-    (λ input before world t form e. is_done c.run.result _ (sym c.status_of.ensures ∙ e) t) c.run.ensures.whole
+returns-in-Some-Run-clause-whole g c done = is_done c.run.result _ (sym c.status_of.ensures ∙ done.1) c.run.ensures.whole
 
 pub returns-in-Some-Run-clause-shelf : goal.returns-in-Some-Run-clause-shelf
-returns-in-Some-Run-clause-shelf g c =
-    AllTold-weaker (rows_of c.args.policy.now) (g.S.Source.left c.args.input.now) (g.K.Sink.written c.args.output.now) (g.D.Shelf.world c.args.shelf.now) _ _
-    (λ input before world t form e. is_done c.run.result _ (sym c.status_of.ensures ∙ e) t) c.run.ensures.shelf
+returns-in-Some-Run-clause-shelf g c done = is_done c.run.result _ (sym c.status_of.ensures ∙ done.1) c.run.ensures.shelf
 
 pub returns-in-Some-Run-clause-prefix : goal.returns-in-Some-Run-clause-prefix
-returns-in-Some-Run-clause-prefix g c =
-    AllTold-weaker (rows_of c.args.policy.now) (g.S.Source.left c.args.input.now) (g.K.Sink.written c.args.output.now) (g.D.Shelf.world c.args.shelf.now) _ _
-    (λ input before world t form. t) c.run.ensures.prefix
+returns-in-Some-Run-clause-prefix g c form = c.run.ensures.prefix
 
 pub returns-in-Some-Run-clause-first : goal.returns-in-Some-Run-clause-first
-returns-in-Some-Run-clause-first g c =
-    AllTold-weaker (rows_of c.args.policy.now) (g.S.Source.left c.args.input.now) (g.K.Sink.written c.args.output.now) (g.D.Shelf.world c.args.shelf.now) _ _
-    (λ input before world t form e. t (is_memory c.run.result (sym c.status_of.ensures ∙ e))) c.run.ensures.first
+returns-in-Some-Run-clause-first g c done = c.run.ensures.first (is_memory c.run.result (sym c.status_of.ensures ∙ done.1))
 
 pub returns-in-Some-Run-clause-source : goal.returns-in-Some-Run-clause-source
 returns-in-Some-Run-clause-source g c e = c.run.ensures.source (is_read c.run.result (sym c.status_of.ensures ∙ e))
 
 pub returns-in-Some-Run-clause-taken : goal.returns-in-Some-Run-clause-taken
-returns-in-Some-Run-clause-taken g c =
-    AllTold-weaker (rows_of c.args.policy.now) (g.S.Source.left c.args.input.now) (g.K.Sink.written c.args.output.now) (g.D.Shelf.world c.args.shelf.now) _ _
-    (λ input before world t e. t (is_read c.run.result (sym c.status_of.ensures ∙ e))) c.run.ensures.taken
+returns-in-Some-Run-clause-taken g c e = c.run.ensures.taken (is_read c.run.result (sym c.status_of.ensures ∙ e))
 
 pub returns-in-Some-Run-clause-sink : goal.returns-in-Some-Run-clause-sink
 returns-in-Some-Run-clause-sink g c e = c.run.ensures.sink (is_write c.run.result (sym c.status_of.ensures ∙ e))
 
 pub returns-in-Some-Run-clause-most : goal.returns-in-Some-Run-clause-most
-returns-in-Some-Run-clause-most g c =
-    AllTold-weaker (rows_of c.args.policy.now) (g.S.Source.left c.args.input.now) (g.K.Sink.written c.args.output.now) (g.D.Shelf.world c.args.shelf.now) _ _
-    (λ input before world t e. t (is_much c.run.result (sym c.status_of.ensures ∙ e))) c.run.ensures.most
+returns-in-Some-Run-clause-most g c e = c.run.ensures.most (is_much c.run.result (sym c.status_of.ensures ∙ e))
 
 pub returns-in-Some-Run-clause-most_only : goal.returns-in-Some-Run-clause-most_only
 returns-in-Some-Run-clause-most_only g c =
@@ -68,7 +77,7 @@ returns-in-Some-Run-clause-most_only g c =
 
 pub returns-in-Some-Run-clause-complete : goal.returns-in-Some-Run-clause-complete
 returns-in-Some-Run-clause-complete g c =
-    run_complete c.run.result c.status_of.result (g.S.Source.left c.args.input.now) (g.K.Sink.written c.args.output.now)
+    run_complete c.run.result c.status_of.result (g.S.Source.left c.args.input.now)
     (IsForm (map string_bytes c.args.words.now))
     (Rose (g.S.Source.faults c.args.input.now) (g.S.Source.faults c.run.new.input))
     (Rose (g.K.Sink.faults c.args.output.now) (g.K.Sink.faults c.run.new.output))
@@ -85,7 +94,7 @@ pub returns-in-Some-Run-clause-untouched : goal.returns-in-Some-Run-clause-untou
 returns-in-Some-Run-clause-untouched g c e = absurd (not_two c.run.result c.status_of.result c.status_of.ensures e)
 
 pub returns-in-Some-Run-clause-generated : goal.returns-in-Some-Run-clause-generated
-returns-in-Some-Run-clause-generated g c start count p = absurd (one_form (map string_bytes c.args.words.now) start count (rw c.in-Some-Run.field-0-is at c.in-Some-Run.ensures.form) p)
+returns-in-Some-Run-clause-generated g c e start count p = absurd (one_form (map string_bytes c.args.words.now) start count (rw c.in-Some-Run.field-0-is at c.in-Some-Run.ensures.form) p)
 
 pub returns-in-Some-Run-clause-begun : goal.returns-in-Some-Run-clause-begun
 returns-in-Some-Run-clause-begun g c start count p = absurd (one_form (map string_bytes c.args.words.now) start count (rw c.in-Some-Run.field-0-is at c.in-Some-Run.ensures.form) p)
@@ -99,24 +108,20 @@ returns-in-Some-Run-clause-ends g c start count p = absurd (one_form (map string
 -- ---- a generated run
 
 pub returns-in-Some-Generate-clause-whole : goal.returns-in-Some-Generate-clause-whole
-returns-in-Some-Generate-clause-whole g c =
-    all_told (g.S.Source.left c.args.input.now) (g.K.Sink.written c.args.output.now) (g.D.Shelf.world c.args.shelf.now) _
-    (λ input before world e f is form. absurd (one_form (map string_bytes c.args.words.now) c.in-Some-Generate.start c.in-Some-Generate.count form (rw c.in-Some-Generate.field-0-is at c.in-Some-Generate.ensures.form)))
+returns-in-Some-Generate-clause-whole g c done =
+    absurd (one_form (map string_bytes c.args.words.now) c.in-Some-Generate.start c.in-Some-Generate.count done.0 (rw c.in-Some-Generate.field-0-is at c.in-Some-Generate.ensures.form))
 
 pub returns-in-Some-Generate-clause-shelf : goal.returns-in-Some-Generate-clause-shelf
-returns-in-Some-Generate-clause-shelf g c =
-    all_told (g.S.Source.left c.args.input.now) (g.K.Sink.written c.args.output.now) (g.D.Shelf.world c.args.shelf.now) _
-    (λ input before world e f is form. absurd (one_form (map string_bytes c.args.words.now) c.in-Some-Generate.start c.in-Some-Generate.count form (rw c.in-Some-Generate.field-0-is at c.in-Some-Generate.ensures.form)))
+returns-in-Some-Generate-clause-shelf g c done =
+    absurd (one_form (map string_bytes c.args.words.now) c.in-Some-Generate.start c.in-Some-Generate.count done.0 (rw c.in-Some-Generate.field-0-is at c.in-Some-Generate.ensures.form))
 
 pub returns-in-Some-Generate-clause-prefix : goal.returns-in-Some-Generate-clause-prefix
-returns-in-Some-Generate-clause-prefix g c =
-    all_told (g.S.Source.left c.args.input.now) (g.K.Sink.written c.args.output.now) (g.D.Shelf.world c.args.shelf.now) _
-    (λ input before world e f is form. absurd (one_form (map string_bytes c.args.words.now) c.in-Some-Generate.start c.in-Some-Generate.count form (rw c.in-Some-Generate.field-0-is at c.in-Some-Generate.ensures.form)))
+returns-in-Some-Generate-clause-prefix g c form =
+    absurd (one_form (map string_bytes c.args.words.now) c.in-Some-Generate.start c.in-Some-Generate.count form (rw c.in-Some-Generate.field-0-is at c.in-Some-Generate.ensures.form))
 
 pub returns-in-Some-Generate-clause-first : goal.returns-in-Some-Generate-clause-first
-returns-in-Some-Generate-clause-first g c =
-    all_told (g.S.Source.left c.args.input.now) (g.K.Sink.written c.args.output.now) (g.D.Shelf.world c.args.shelf.now) _
-    (λ input before world e f is form. absurd (one_form (map string_bytes c.args.words.now) c.in-Some-Generate.start c.in-Some-Generate.count form (rw c.in-Some-Generate.field-0-is at c.in-Some-Generate.ensures.form)))
+returns-in-Some-Generate-clause-first g c done =
+    absurd (one_form (map string_bytes c.args.words.now) c.in-Some-Generate.start c.in-Some-Generate.count done.0 (rw c.in-Some-Generate.field-0-is at c.in-Some-Generate.ensures.form))
 
 pub returns-in-Some-Generate-clause-generated : goal.returns-in-Some-Generate-clause-generated
 returns-in-Some-Generate-clause-generated g c =
@@ -135,17 +140,15 @@ pub returns-in-Some-Generate-clause-source : goal.returns-in-Some-Generate-claus
 returns-in-Some-Generate-clause-source g c e = absurd (never_read c.generate.result c.status_of-in-Some-Generate.result c.status_of-in-Some-Generate.ensures c.generate.ensures.ends e)
 
 pub returns-in-Some-Generate-clause-taken : goal.returns-in-Some-Generate-clause-taken
-returns-in-Some-Generate-clause-taken g c =
-    all_told (g.S.Source.left c.args.input.now) (g.K.Sink.written c.args.output.now) (g.D.Shelf.world c.args.shelf.now) _
-    (λ input before world e f is three. absurd (never_read c.generate.result c.status_of-in-Some-Generate.result c.status_of-in-Some-Generate.ensures c.generate.ensures.ends three))
+returns-in-Some-Generate-clause-taken g c e =
+    absurd (never_read c.generate.result c.status_of-in-Some-Generate.result c.status_of-in-Some-Generate.ensures c.generate.ensures.ends e)
 
 pub returns-in-Some-Generate-clause-sink : goal.returns-in-Some-Generate-clause-sink
 returns-in-Some-Generate-clause-sink g c e = c.generate.ensures.sink (is_write c.generate.result (sym c.status_of-in-Some-Generate.ensures ∙ e))
 
 pub returns-in-Some-Generate-clause-most : goal.returns-in-Some-Generate-clause-most
-returns-in-Some-Generate-clause-most g c =
-    all_told (g.S.Source.left c.args.input.now) (g.K.Sink.written c.args.output.now) (g.D.Shelf.world c.args.shelf.now) _
-    (λ input before world e f is six. absurd (never_much c.generate.result c.status_of-in-Some-Generate.result c.status_of-in-Some-Generate.ensures c.generate.ensures.ends six))
+returns-in-Some-Generate-clause-most g c e =
+    absurd (never_much c.generate.result c.status_of-in-Some-Generate.result c.status_of-in-Some-Generate.ensures c.generate.ensures.ends e)
 
 pub returns-in-Some-Generate-clause-most_only : goal.returns-in-Some-Generate-clause-most_only
 returns-in-Some-Generate-clause-most_only g c =
@@ -170,7 +173,7 @@ returns-in-Some-Generate-clause-untouched g c e = absurd (not_two c.generate.res
 
 pub returns-in-Some-Generate-clause-complete : goal.returns-in-Some-Generate-clause-complete
 returns-in-Some-Generate-clause-complete g c =
-    generated_complete c.generate.result c.status_of-in-Some-Generate.result (g.S.Source.left c.args.input.now) (g.K.Sink.written c.args.output.now)
+    generated_complete c.generate.result c.status_of-in-Some-Generate.result (g.S.Source.left c.args.input.now)
     (IsForm (map string_bytes c.args.words.now))
     (Rose (g.S.Source.faults c.args.input.now) (g.S.Source.faults c.args.input.now))
     (Rose (g.K.Sink.faults c.args.output.now) (g.K.Sink.faults c.generate.new.output))

@@ -4,7 +4,7 @@ use Rattle.wot_keyring.specs.Kept.{IsJudgedBy}
 use Rattle.wot_engine.specs.Machine.{kept}
 use Rattle.wot_engine.proofs.Giving.{over}
 use Rattle.wot_engine.proofs.Playing.{Plays}
-use Rattle.wot_engine.proofs.generated.play.Given as goal
+use Rattle.wot_engine.proofs.generated.add_lines.Given as goal
 
 abbrev pub invariant-lines : goal.invariant-lines
 invariant-lines g l = record {
