@@ -7,6 +7,7 @@ mod budget;
 mod dump;
 mod engine;
 mod key;
+mod making;
 mod networks;
 mod parts;
 mod present;
