@@ -17,7 +17,7 @@ use Rattle.wot_keyring.specs.declared.kept.Kept.{Kept}
 use Rattle.wot_keyring.specs.Keyring.{Certificates, Keyring, certificates_in, is_fpr, kept_at, stamp_at}
 use Rattle.wot_keyring.specs.Kept.{AreStamped}
 use Rattle.wot_keyring.specs.Later.{IsLater, IsLaterAt, IsUnaltered, SaysSame}
-use Rattle.wot_search.specs.Reach.{IsReach}
+use Rattle.wot_search.specs.Making.{IsMaking}
 use Rattle.wot_network.specs.Local.{AgreeAt, IsLocal}
 use Rattle.wot_network.specs.Told.{record_of}
 use Rattle.wot_cache.specs.declared.answers.KeptAnswer.{KeptAnswer}
@@ -166,13 +166,13 @@ reaching_turned k roots others turn next (Some r) more is =
     let past : r.turn ≤ turn = is.turned in
     record { counted = is.counted; turned = omega (arith, past, more); now = λ e f. absurd (omega (arith, past, more, f)) }
 
--- A table that is of now is the reach now.
+-- A making that is of now is one of the reach now.
 pub reaching_now : (k : Keyring) (roots amounts : Amounts) (turn t : ℕ) (r : KeptReach) → IsReaching k roots turn r → r.count ≡ k.changes → r.turn ≡ turn → r.time ≡ t
-    → roots ≡ amounts → IsReach (record_of (certificates_in k) k.verdicts t) amounts r.reach
+    → roots ≡ amounts → IsMaking (record_of (certificates_in k) k.verdicts t) amounts r.making
 reaching_now k roots amounts turn t r is count now time same =
-    subst (λ (rs : Amounts). IsReach (record_of (certificates_in k) k.verdicts t) rs r.reach) same
-    (subst (λ (s : ℕ). IsReach (record_of (certificates_in k) k.verdicts s) roots r.reach) time (is.now count now))
+    subst (λ (rs : Amounts). IsMaking (record_of (certificates_in k) k.verdicts t) rs r.making) same
+    (subst (λ (s : ℕ). IsMaking (record_of (certificates_in k) k.verdicts s) roots r.making) time (is.now count now))
 
 pub reaching_made : (k : Keyring) (roots : Amounts) (turn : ℕ) (r : KeptReach) → r.count ≡ k.changes → r.turn ≡ turn
-    → IsReach (record_of (certificates_in k) k.verdicts r.time) roots r.reach → IsReaching k roots turn r
+    → IsMaking (record_of (certificates_in k) k.verdicts r.time) roots r.making → IsReaching k roots turn r
 reaching_made k roots turn r count now here = record { counted = omega (arith, count); turned = omega (arith, now); now = λ e f. here }

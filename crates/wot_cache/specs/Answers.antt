@@ -11,7 +11,7 @@ use Rattle.wot_edge.specs.Roots.{root_amount}
 use Rattle.wot_keyring.specs.Keyring.{Keyring, certificates_in, stamp_at}
 use Rattle.wot_keyring.specs.Later.{IsLater}
 use Rattle.wot_network.specs.Told.{record_of}
-use Rattle.wot_search.specs.Reach.{IsReach}
+use Rattle.wot_search.specs.Making.{IsMaking}
 use Rattle.wot_cache.specs.declared.answers.KeptAnswer.{KeptAnswer}
 use Rattle.wot_cache.specs.declared.answers.KeptReach.{KeptReach}
 use Rattle.wot_cache.specs.declared.answers.Looked.{Looked}
@@ -106,13 +106,13 @@ pub record AreFew (entries : Entries) (looked : ℕ) : Type 0 where
 
 -- ---- a table of reach
 
--- Where the table was made at the count of changes and for the roots that there are now, its numbers are the reach from
+-- Where the making was begun at the count of changes and for the roots that there are now, it is one of the reach from
 -- these roots, by what the certificates and verdicts tell at its time.
 pub record IsReaching (k : Keyring) (roots : Amounts) (turn : ℕ) (r : KeptReach) : Type 0 where
   pub counted : r.count ≤ k.changes
   pub turned : r.turn ≤ turn
   pub now : r.count ≡ k.changes → r.turn ≡ turn
-      → IsReach (record_of (certificates_in k) k.verdicts r.time) roots r.reach
+      → IsMaking (record_of (certificates_in k) k.verdicts r.time) roots r.making
 
 -- ---- answers by view
 

@@ -6,6 +6,7 @@ ghost use Rattle.std.specs.Map.{keys_of, lookup};
 ghost use Rattle.std.specs.Ordering.{nat_cmp};
 ghost use Rattle.wot_edge.specs.Answer.{IsAnswer, amount_of};
 ghost use Rattle.wot_keyring.specs.Keyring.{Keyring as Held};
+ghost use Rattle.wot_search.specs.Making.{IsMaking};
 ghost use Rattle.wot_search.specs.Reach.{IsReach};
 ghost use Rattle.wot_network.specs.Net.{told_of};
 ghost use Rattle.wot_cache.specs.Answers.{AreFew, AreRight, AreRightIn, AreStill, AllStill, IsGood, IsOf, IsReaching, IsRight, IsSameBut};
@@ -23,7 +24,7 @@ use wot_auth::Answer;
 use wot_edge::Roots;
 use wot_keyring::Keyring;
 use wot_keyring::laws::later_is_order;
-use wot_search::{Consulted, Reach};
+use wot_search::{Consulted, Making, Reach};
 use wot_types::{Fpr, Memory, UserId};
 
 /// How many answers a view keeps.
@@ -244,46 +245,56 @@ fn give(
     }
 }
 
-/// A table of reach, and when it was made.
+/// How far the making of a table of reach has come, and when it was begun.
 #[derive(Drop)]
 pub struct KeptReach {
     pub count: u64,
     pub turn: u64,
     pub time: u32,
-    pub reach: Reach,
+    pub making: Making,
 }
 
 impl KeptReach {
-    /// A table that is of now, for the roots of this turn.
-    fn new(parts: &Parts<'_>, turn: u64, reach: Reach) -> KeptReach
-        requires reach { IsReach (told_of (present_in parts.now)) parts.now.roots.now reach }
+    /// One that is of now, for the roots of this turn.
+    fn new(parts: &Parts<'_>, turn: u64, making: Making) -> KeptReach
+        requires making { IsMaking (told_of (present_in parts.now)) parts.now.roots.now making }
         ensures reaching { IsReaching parts.now.keyring.now parts.now.roots.now turn result }
     {
         KeptReach {
             count: parts.keyring.changes(),
             turn,
             time: parts.t,
-            reach,
+            making,
         }
     }
 
-    /// The table, where it is of now and these are the roots.
+    /// Whether it is of now and these are the roots.
+    fn is_now(&self, parts: &Parts<'_>, roots: &[(Fpr, u8)], turn: u64) -> bool
+        requires reaching { IsReaching parts.now.keyring.now roots.now turn self.now }
+        ensures now { result ≡ true → IsMaking (told_of (present_in parts.now)) parts.now.roots.now self.now.making }
+    {
+        if self.count != parts.keyring.changes() || self.turn != turn || self.time != parts.t {
+            return false;
+        }
+        are_same(roots, parts.roots)
+    }
+
+    /// The table, where it is made, of now, and these are the roots.
     fn give(&self, parts: &Parts<'_>, roots: &[(Fpr, u8)], turn: u64) -> Option<&Reach>
         requires reaching { IsReaching parts.now.keyring.now roots.now turn self.now }
         ensures reach { IfSome result (λ reach. IsReach (told_of (present_in parts.now)) parts.now.roots.now reach.now) }
     {
-        if self.count != parts.keyring.changes() || self.turn != turn || self.time != parts.t {
-            return None;
+        if self.is_now(parts, roots, turn) {
+            self.making.reach()
+        } else {
+            None
         }
-        if !are_same(roots, parts.roots) {
-            return None;
-        }
-        Some(&self.reach)
     }
 }
 
 /// The answers of one view, each under the key of its question. Where one more answer, or its fingerprints, would be
-/// too many, all earlier ones go. Beside them a table of reach, within which more are found.
+/// too many, all earlier ones go. Beside them a table of reach, within which more are
+/// found, or how far its making has come.
 #[derive(Drop)]
 pub struct Answers {
     table: Table,
@@ -400,22 +411,46 @@ impl Answers {
         }
     }
 
-    /// Keeps a table of reach in place of an earlier one, if memory is found.
-    pub fn keep_reach(&mut self, alloc: Global, parts: &Parts<'_>, reach: Reach)
-        requires reach { IsReach (told_of (present_in parts.now)) parts.now.roots.now reach }
+    /// Keeps how far the making of a table of reach has come in place of an earlier one, if memory is found.
+    pub fn keep_making(&mut self, alloc: Global, parts: &Parts<'_>, making: Making)
+        requires making { IsMaking (told_of (present_in parts.now)) parts.now.roots.now making }
         requires right { AreRightIn parts.now.keyring.now self.old }
         ensures right { AreRightIn parts.now.keyring.now self.new }
     {
         if !self.settle(alloc, parts.roots) {
             return;
         }
-        self.budget.learn(&reach);
-        self.reach = Some(KeptReach::new(parts, self.turn, reach));
+        self.budget.learn(&making);
+        self.reach = Some(KeptReach::new(parts, self.turn, making));
+    }
+
+    /// Gives away how far the making of a table of reach has come, where it is one of the keyring as it is, of these
+    /// roots and of this time. None is kept then.
+    pub fn take_making(&mut self, parts: &Parts<'_>) -> Option<Making>
+        requires right { AreRightIn parts.now.keyring.now self.old }
+        ensures right { AreRightIn parts.now.keyring.now self.new }
+        ensures making { IfSome result (IsMaking (told_of (present_in parts.now)) parts.now.roots.now) }
+    {
+        match self.reach.take() {
+            Some(kept) => {
+                if kept.is_now(parts, self.roots.as_slice(), self.turn) {
+                    Some(kept.making)
+                } else {
+                    None
+                }
+            }
+            None => None,
+        }
     }
 
     /// How many looks searches may still take before a table of reach is made.
     pub fn looks(&self, parts: &Parts<'_>) -> u64 {
         self.budget.left(parts.keyring, self.turn, parts.t)
+    }
+
+    /// How many looks one search may take.
+    pub fn most_looks(&self, parts: &Parts<'_>) -> u64 {
+        self.budget.most(parts.keyring)
     }
 
     /// Notes how many looks are left after a search.

@@ -8,26 +8,17 @@ ghost use Rattle.wot_search.specs.Reach.{IsReach};
 ghost use Rattle.wot_cache.specs.Answers.{AreAllRight};
 ghost use Rattle.wot_cache.specs.Question.{asked_of, present_in, IsTold};
 
+use crate::making::{fprs_of, spend};
 use crate::parts::Parts;
 use crate::recall::{
-    AllAnswers, keep_reach, leave_looks, looks, reach_of, recall, remember, remember_now,
+    AllAnswers, keep_making, most_looks, reach_of, recall, remember, remember_now,
 };
 use crate::view::AskFault;
 use std::alloc::Global;
 use wot_auth::{Answer, authenticate_metered, authenticate_within};
 use wot_edge::laws::{answer_is_one, paths_fit, zero_is_no_path};
-use wot_keyring::Keyring;
-use wot_search::{Metered, Reach, make_reach};
+use wot_search::{Making, Metered, Reach, make_reach};
 use wot_types::{Fpr, Memory, ViewName};
-
-/// The fingerprints of the kept certificates.
-fn fprs_of(alloc: Global, keyring: &Keyring) -> Result<Vec<Fpr>, Memory> {
-    let mut fprs = Vec::new(alloc);
-    for cert in keyring.certs() {
-        fprs.push(cert.fpr())?;
-    }
-    Ok(fprs)
-}
 
 /// How far issuers reach, over these parts.
 fn made_reach(alloc: Global, parts: &Parts<'_>) -> Result<Reach, Memory>
@@ -110,13 +101,14 @@ fn search_far(
     let Ok(answer) = search_within(alloc, parts, &reach, target, wanted, uid) else {
         return Err(AskFault::Memory);
     };
-    keep_reach(alloc, answers, parts, view, reach);
+    keep_making(alloc, answers, parts, view, Making::Made(reach));
     remember_now(alloc, answers, parts, view, target, wanted, uid, &answer);
     Ok(answer)
 }
 
-/// The answer over these parts, by a search that looks at what leads to the target alone; where so much was looked at
-/// since the last change that a table of reach pays, by such a table. It is kept for the view.
+/// The answer over these parts, by a search that looks at what leads to the target alone; where that would look at more
+/// than a table of reach takes, within such a table. It is kept for the view. What was looked at since the last change
+/// is counted, and once a table pays, each search makes a part of one.
 fn search(
     alloc: Global,
     answers: &mut AllAnswers,
@@ -136,8 +128,8 @@ fn search(
     ensures memory { OnErr result (result ≡ Err AskFault.Memory) }
     ensures right { AreAllRight parts.now.keyring.now answers.new.entries }
 {
-    let left = looks(answers, parts, view).saturating_sub(made);
-    let mut metered = Metered::new(alloc, left);
+    let most = most_looks(answers, parts, view).saturating_sub(made);
+    let mut metered = Metered::new(alloc, most);
     match authenticate_metered(
         alloc,
         &parts.roads,
@@ -159,7 +151,8 @@ fn search(
                 &metered.consulted,
                 &answer,
             );
-            leave_looks(answers, parts, view, metered.left);
+            let looked = most.saturating_sub(metered.left).saturating_add(made);
+            spend(alloc, answers, parts, view, looked);
             Ok(answer)
         }
         Err(Memory) => {

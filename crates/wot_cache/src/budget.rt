@@ -1,6 +1,6 @@
 //! How much is looked at from a view before a table of reach pays.
 use wot_keyring::Keyring;
-use wot_search::Reach;
+use wot_search::Making;
 
 /// How many looks a table costs, for each certificate, where none was made yet.
 const LOOKS: u64 = 8;
@@ -34,6 +34,11 @@ impl Budget {
         if self.count == keyring.changes() && self.turn == turn && self.time == time {
             return self.left;
         }
+        self.most(keyring)
+    }
+
+    /// How many looks making a table takes.
+    pub fn most(&self, keyring: &Keyring) -> u64 {
         if self.edges > 0 {
             return self.edges;
         }
@@ -50,8 +55,10 @@ impl Budget {
         self.left = left;
     }
 
-    /// Notes how many edges a table has.
-    pub fn learn(&mut self, reach: &Reach) {
-        self.edges = reach.edges() as u64;
+    /// Notes how many edges a table has, once it is made.
+    pub fn learn(&mut self, making: &Making) {
+        if let Some(reach) = making.reach() {
+            self.edges = reach.edges() as u64;
+        }
     }
 }

@@ -9,6 +9,7 @@ mod dump;
 mod engine;
 mod key;
 pub mod laws;
+mod making;
 mod networks;
 mod parts;
 mod present;

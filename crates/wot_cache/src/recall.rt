@@ -6,6 +6,7 @@ ghost use Rattle.wot_keyring.specs.Keyring.{Keyring as Held};
 ghost use Rattle.wot_cache.specs.Answers.{AreAllRight, AreRightIn, IsFound, IsRight};
 ghost use Rattle.wot_cache.specs.Question.{asked_of, present_in, IsAnswerAround};
 ghost use Rattle.wot_network.specs.Net.{told_of};
+ghost use Rattle.wot_search.specs.Making.{IsMaking};
 ghost use Rattle.wot_search.specs.Reach.{IsReach};
 ghost use Rattle.wot_cache.specs.Views.{is_name};
 
@@ -18,7 +19,7 @@ use std::collections::BTreeMap;
 use wot_auth::Answer;
 use wot_edge::Roots;
 use wot_network::laws::records_agree;
-use wot_search::{Consulted, Reach};
+use wot_search::{Consulted, Making, Reach};
 use wot_types::{Fpr, Memory, UserId, ViewName};
 
 pub type AllAnswers = BTreeMap<ViewName, Answers, Global>;
@@ -202,41 +203,54 @@ pub fn reach_of<'a>(
     }
 }
 
-/// Keeps the first table of reach of a view.
-fn begin_reach(
+/// Keeps the first making of a table of reach of a view.
+fn begin_making(
     alloc: Global,
     answers: &mut AllAnswers,
     parts: &Parts<'_>,
     view: &ViewName,
-    reach: Reach,
+    making: Making,
 )
-    requires reach { IsReach (told_of (present_in parts.now)) parts.now.roots.now reach }
+    requires making { IsMaking (told_of (present_in parts.now)) parts.now.roots.now making }
     requires right { AreAllRight parts.now.keyring.now answers.old.entries }
     ensures right { AreAllRight parts.now.keyring.now answers.new.entries }
 {
     let mut of_view = Answers::new(alloc);
-    of_view.keep_reach(alloc, parts, reach);
+    of_view.keep_making(alloc, parts, making);
     match view.duplicate(alloc) {
         Ok(name) => put(answers, name, of_view),
         Err(Memory) => {}
     }
 }
 
-/// Keeps a table of reach for a view, if memory is found for it.
-pub fn keep_reach(
+/// Keeps how far the making of a table of reach for a view has come, if memory is found for it.
+pub fn keep_making(
     alloc: Global,
     answers: &mut AllAnswers,
     parts: &Parts<'_>,
     view: &ViewName,
-    reach: Reach,
+    making: Making,
 )
-    requires reach { IsReach (told_of (present_in parts.now)) parts.now.roots.now reach }
+    requires making { IsMaking (told_of (present_in parts.now)) parts.now.roots.now making }
     requires right { AreAllRight parts.now.keyring.now answers.old.entries }
     ensures right { AreAllRight parts.now.keyring.now answers.new.entries }
 {
     match answers.get_mut(view) {
-        Some(of_view) => of_view.keep_reach(alloc, parts, reach),
-        None => begin_reach(alloc, answers, parts, view, reach),
+        Some(of_view) => of_view.keep_making(alloc, parts, making),
+        None => begin_making(alloc, answers, parts, view, making),
+    }
+}
+
+/// Gives away how far the making of a table of reach for a view has come, where it is one of the keyring as it is, of
+/// these roots and of this time.
+pub fn take_making(answers: &mut AllAnswers, parts: &Parts<'_>, view: &ViewName) -> Option<Making>
+    requires right { AreAllRight parts.now.keyring.now answers.old.entries }
+    ensures right { AreAllRight parts.now.keyring.now answers.new.entries }
+    ensures making { IfSome result (IsMaking (told_of (present_in parts.now)) parts.now.roots.now) }
+{
+    match answers.get_mut(view) {
+        Some(of_view) => of_view.take_making(parts),
+        None => None,
     }
 }
 
@@ -245,6 +259,14 @@ pub fn looks(answers: &AllAnswers, parts: &Parts<'_>, view: &ViewName) -> u64 {
     match answers.get(view) {
         Some(of_view) => of_view.looks(parts),
         None => Budget::new().left(parts.keyring, 1, parts.t),
+    }
+}
+
+/// How many looks one search from a view may take.
+pub fn most_looks(answers: &AllAnswers, parts: &Parts<'_>, view: &ViewName) -> u64 {
+    match answers.get(view) {
+        Some(of_view) => of_view.most_looks(parts),
+        None => Budget::new().most(parts.keyring),
     }
 }
 

@@ -1,11 +1,8 @@
-use Rattle.std.proofs.Common.{◌∙◌}
-use Rattle.wot_cache.proofs.Grounds.{reaching_now}
+use Rattle.wot_network.specs.Net.{told_of}
+use Rattle.wot_cache.specs.Question.{present_in}
 use Rattle.wot_cache.proofs.answers.KeptReach.give.Goals as goal
 
-pub returns : goal.returns
-returns c =
+pub returns-then-is_now : goal.returns-then-is_now
+returns-then-is_now c =
     let p = c.args.parts.now in
-    record {
-      reach = reaching_now p.keyring.now c.args.roots.now p.roots.now c.args.turn p.t c.args.self.now c.requires.reaching (c.if-self-changes.false ∙ c.changes.ensures.changes)
-          c.if-self-turn.false c.if-self-parts.false (c.are_same.ensures.same c.if-not-are_same.false);
-    }
+    record { reach = c.reach.ensures.reach (told_of (present_in p)) p.roots.now (c.is_now.ensures.now c.if-is_now.true) }

@@ -6,5 +6,5 @@ use Rattle.wot_cache.proofs.answers.KeptReach.new.Goals as goal
 pub returns : goal.returns
 returns c =
     let p = c.args.parts.now in
-    let made : KeptReach = record { count = c.changes.result; turn = c.args.turn; time = p.t; reach = c.args.reach } in
-    record { reaching = reaching_made p.keyring.now p.roots.now c.args.turn made c.changes.ensures.changes refl c.requires.reach }
+    let made : KeptReach = record { count = c.changes.result; turn = c.args.turn; time = p.t; making = c.args.making } in
+    record { reaching = reaching_made p.keyring.now p.roots.now c.args.turn made c.changes.ensures.changes refl c.requires.making }

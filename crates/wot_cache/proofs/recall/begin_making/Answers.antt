@@ -2,10 +2,10 @@ use Rattle.std.specs.Prelude.{IfSome}
 use Rattle.std.proofs.Common.{Option, sym, subst}
 use Rattle.wot_cache.specs.declared.answers.KeptReach.{KeptReach}
 use Rattle.wot_cache.specs.Answers.{AreRight, Entries, IsReaching}
-use Rattle.wot_cache.proofs.recall.begin_reach.Goals as goal
+use Rattle.wot_cache.proofs.recall.begin_making.Goals as goal
 
-pub keep_reach-requires-clause-right : goal.keep_reach-requires-clause-right
-keep_reach-requires-clause-right c =
+pub keep_making-requires-clause-right : goal.keep_making-requires-clause-right
+keep_making-requires-clause-right c =
     let k = c.args.parts.now.keyring.now in
     let of_view = c.new-of_view.result in
     record {
@@ -14,4 +14,4 @@ keep_reach-requires-clause-right c =
     }
 
 pub returns-in-Ok : goal.returns-in-Ok
-returns-in-Ok c = record { right = c.put.ensures.right c.args.parts.now.keyring.now c.requires.right c.keep_reach.ensures.right }
+returns-in-Ok c = record { right = c.put.ensures.right c.args.parts.now.keyring.now c.requires.right c.keep_making.ensures.right }

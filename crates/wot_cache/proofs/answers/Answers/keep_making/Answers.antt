@@ -1,6 +1,6 @@
 use Rattle.std.proofs.Common.{sym, ap, subst, ◌∙◌}
 use Rattle.wot_cache.specs.Answers.{Amounts, AreRightIn, IsReaching, OfView}
-use Rattle.wot_cache.proofs.answers.Answers.keep_reach.Goals as goal
+use Rattle.wot_cache.proofs.answers.Answers.keep_making.Goals as goal
 
 pub returns-then-not-settle : goal.returns-then-not-settle
 returns-then-not-settle c = record { right = c.settle.ensures.right c.args.parts.now.keyring.now c.requires.right }

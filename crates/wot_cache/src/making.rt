@@ -1,0 +1,87 @@
+//! A view's table of reach, made in parts beside the searches that pay for it.
+ghost use Rattle.std.specs.Prelude.{◌≡◌, IfOk, IfSome};
+ghost use Rattle.wot_network.specs.Net.{told_of};
+ghost use Rattle.wot_network.specs.Roads.{present_of};
+ghost use Rattle.wot_search.specs.Making.{IsMaking};
+ghost use Rattle.wot_cache.specs.Answers.{AreAllRight};
+ghost use Rattle.wot_cache.specs.Question.{present_in};
+
+use crate::parts::Parts;
+use crate::recall::{AllAnswers, keep_making, leave_looks, looks, take_making};
+use std::alloc::Global;
+use wot_keyring::Keyring;
+use wot_search::Making;
+use wot_types::{Fpr, Memory, ViewName};
+
+/// For how many looks a table is made at least.
+const LEAST: u64 = 4096;
+
+/// The fingerprints of the kept certificates.
+pub fn fprs_of(alloc: Global, keyring: &Keyring) -> Result<Vec<Fpr>, Memory> {
+    let mut fprs = Vec::new(alloc);
+    for cert in keyring.certs() {
+        fprs.push(cert.fpr())?;
+    }
+    Ok(fprs)
+}
+
+/// A making that is taken further for so many looks, or a new one.
+fn advanced(
+    alloc: Global,
+    parts: &Parts<'_>,
+    taken: Option<Making>,
+    looks: u64,
+) -> Result<Making, Memory>
+    requires present { present_of parts.now.roads ≡ present_in parts.now }
+    requires taken { IfSome taken (IsMaking (told_of (present_in parts.now)) parts.now.roots.now) }
+    ensures making { IfOk result (IsMaking (told_of (present_in parts.now)) parts.now.roots.now) }
+{
+    match taken {
+        Some(making) => making.advanced(alloc, &parts.roads, parts.roots, looks),
+        None => {
+            let fprs = fprs_of(alloc, parts.keyring)?;
+            Ok(Making::Begun(fprs))
+        }
+    }
+}
+
+/// Makes more of the view's table of reach, for so many looks, if memory is found.
+fn make_more(
+    alloc: Global,
+    answers: &mut AllAnswers,
+    parts: &Parts<'_>,
+    view: &ViewName,
+    looks: u64,
+)
+    requires present { present_of parts.now.roads ≡ present_in parts.now }
+    requires right { AreAllRight parts.now.keyring.now answers.old.entries }
+    ensures right { AreAllRight parts.now.keyring.now answers.new.entries }
+{
+    let taken = take_making(answers, parts, view);
+    match advanced(alloc, parts, taken, looks) {
+        Ok(making) => keep_making(alloc, answers, parts, view, making),
+        Err(Memory) => {}
+    }
+}
+
+/// Takes away so many looks of those that searches from a view may take before a table of reach is made. Where none are
+/// left, as much of the table is made as was looked at: so a question takes about twice its search, and a table costs
+/// about what the searches beside it do.
+pub fn spend(
+    alloc: Global,
+    answers: &mut AllAnswers,
+    parts: &Parts<'_>,
+    view: &ViewName,
+    looked: u64,
+)
+    requires present { present_of parts.now.roads ≡ present_in parts.now }
+    requires right { AreAllRight parts.now.keyring.now answers.old.entries }
+    ensures right { AreAllRight parts.now.keyring.now answers.new.entries }
+{
+    let left = looks(answers, parts, view);
+    if left > 0 {
+        leave_looks(answers, parts, view, left.saturating_sub(looked));
+    } else {
+        make_more(alloc, answers, parts, view, looked.max(LEAST));
+    }
+}
