@@ -1,5 +1,7 @@
 -- What a command comes to that was run over a shelf.
 use Rattle.std.specs.Prelude.{◌≡◌, ℕ, true, Option, Some}
+use denote.MutBor.{MutBor}
+use denote.Triple.Both.{Both}
 use Rattle.wot_io.specs.Counts.{Rose}
 use Rattle.wot_types.specs.declared.fpr.Fpr.{Fpr}
 use Rattle.wot_policy.specs.declared.rows.PolicyRows.{PolicyRows}
@@ -8,7 +10,7 @@ use Rattle.wot_script.specs.declared.command.Command.TheVariants.{Store}
 use Rattle.wot_script.specs.declared.reply.Reply.{Reply}
 use Rattle.wot_certd.specs.World.{World}
 use Rattle.wot_cache.specs.State.{State}
-use Rattle.wot_engine.specs.Both.{Ends}
+use Rattle.wot_engine.specs.Both.{Ends, ends}
 use Rattle.wot_engine.specs.Entry.{IsServed, Use, has_failed, put_for, use_of}
 use Rattle.wot_engine.specs.LineStep.{Answers, Does}
 use Rattle.wot_engine.specs.Whole.{Whole}
@@ -22,6 +24,10 @@ pub record Seen : Type 0 where
 -- what a line sees of it, by these two
 abbrev pub seen : {D : Type 0} → (D → Option World) → (D → ℕ) → D → Seen
 seen world faults shelf = record { world = world shelf; faults = faults shelf }
+
+-- the same before a call and behind it
+abbrev pub over : {D : Type 0} → (D → Option World) → (D → ℕ) → Both (MutBor D) (MutBor D) → Ends Seen
+over world faults shelf = ends (seen world faults) shelf
 
 -- The shelf gave this where that command used it so, and by it this is so. A call failed only where the count of faults
 -- rose.

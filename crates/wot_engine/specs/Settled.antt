@@ -1,5 +1,5 @@
 -- Watches whose amounts are known without asking again, for as long as nothing that the answers rest on is altered.
-use Rattle.std.specs.Prelude.{◌≡◌, ◌≤◌, ℕ, true, List, Option, Some, None, is_some}
+use Rattle.std.specs.Prelude.{◌≡◌, ◌≢◌, ◌⊎◌, ◌≤◌, ℕ, true, List, Option, Some, None, is_some}
 use Rattle.std.specs.List.{AllByRecursion}
 use Rattle.wot_cache.specs.Basis.{Basis, RestsOn}
 use Rattle.wot_cache.specs.State.{Engine}
@@ -26,6 +26,10 @@ AreSettled engine watches (Some basis) = AllSettled engine basis watches
 -- The view of each of these is open.
 abbrev pub AreOpen : Engine → Watches → Type 0
 AreOpen engine watches = AllByRecursion (λ (e : List ℕ × Watch). is_some (view_at engine.views e.1.view) ≡ true) watches
+
+-- One of the two counts is another.
+abbrev pub CountsDiffer : Engine → ℕ → ℕ → Type 0
+CountsDiffer engine changes turns = (engine.keyring.changes ≢ changes) ⊎ (engine.turns.count ≢ turns)
 
 -- The reply is no amount of a watch, as one to a watch that begins.
 abbrev pub IsNoAmount : Reply → Type 0

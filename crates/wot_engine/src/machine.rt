@@ -1,4 +1,5 @@
-ghost use Rattle.std.specs.Prelude.{◌≡◌, ◌≢◌, ◌⊎◌, ◌≤◌, ◌<◌, ◌+◌, ◌-◌, ◌^◌, [], ◌++◌, length, vec_len, vec_capacity};
+ghost use Rattle.std.specs.Prelude.{◌≡◌, ◌≤◌, ◌<◌, ◌+◌, ◌-◌, ◌^◌, [], ◌++◌};
+ghost use Rattle.std.specs.Prelude.{length, vec_items, vec_len, vec_capacity};
 ghost use Rattle.std.specs.Prelude.{Some, None, false, true, IfOk, IfSome, IsOk, OnOk, OnErr};
 ghost use Rattle.std.specs.List.{AllByRecursion};
 ghost use Rattle.wot_types.specs.Limits.{standard_limits};
@@ -13,18 +14,19 @@ ghost use Rattle.wot_cache.specs.State.{empty, state_of, StaysButMarks};
 ghost use Rattle.wot_engine.specs.Lines.{heard, is_silent};
 ghost use Rattle.wot_engine.specs.Entry.{MayPut, entry_for, unused, use_of};
 ghost use Rattle.wot_engine.specs.LineStep.{Does};
-ghost use Rattle.wot_engine.specs.Ran.{Ran, Did};
-ghost use Rattle.wot_engine.specs.Stepped.{Replied, Stepped, TellsBehind};
+ghost use Rattle.wot_engine.specs.Both.{ends, itself};
+ghost use Rattle.wot_engine.specs.Ran.{Acts, over};
+ghost use Rattle.wot_engine.specs.Stepped.{Heeds, Replies, Runs, TellsBehind};
 ghost use Rattle.wot_engine.specs.Transcript.{octets_of};
-ghost use Rattle.wot_engine.specs.Machine.{kept, StaysKept};
-ghost use Rattle.wot_engine.specs.Pacing.{is_pacing, left_by, reply_in, settled};
+ghost use Rattle.wot_engine.specs.Machine.{kept, parts, PartsStay, StaysKept};
+ghost use Rattle.wot_engine.specs.Pacing.{is_pacing};
 ghost use Rattle.wot_engine.specs.Fresh.{IsDump, OnDump, IsMadeAnew};
 ghost use Rattle.wot_engine.specs.Made.{LineMakes, Makes};
 ghost use Rattle.wot_script.specs.declared.reply.Reply.TheVariants as replies;
-ghost use Rattle.wot_engine.specs.Settled.{IsNoAmount};
+ghost use Rattle.wot_engine.specs.Settled.{CountsDiffer, IsNoAmount};
 ghost use Rattle.wot_engine.specs.Served.{unserved};
 ghost use Rattle.wot_engine.specs.Watching.{AreLines, IsWatchLine, is_watching, told_all};
-ghost use Rattle.wot_engine.specs.Whole.{watched, whole_of, IsTurnedBy};
+ghost use Rattle.wot_engine.specs.Whole.{IsTurnedBy};
 
 use crate::absence::absence;
 use crate::answer::ask;
@@ -124,21 +126,22 @@ impl Machine {
         requires turnable { self.old.engine.turns.count < 2 ^ 64 - 1 }
         requires judged { IsJudgedBy (rows_of policy.old) self.old.engine.keyring }
         requires faithful { IsFaithful F.Fn policy.old }
-        ensures step { OnOk result (Stepped (rows_of policy.old) line.now
-            (kept self.old) (record { world = D.world shelf.old; faults = D.faults shelf.old }) out.old.items
-            (kept self.new) (record { world = D.world shelf.new; faults = D.faults shelf.new }) out.new.items) }
+        ensures step { OnOk result (Runs (rows_of policy.old) line.now
+            (ends kept self) (over D.world D.faults shelf) (ends vec_items out)) }
         ensures untouched { entry_for (state_of self.old.engine) (use_of (heard line.now)) ≡ None →
             shelf.new ≡ shelf.old }
         ensures entries { OnErr result (MayPut (state_of self.old.engine) (use_of (heard line.now))
             (D.world shelf.old) (D.world shelf.new)) }
         ensures later { D.faults shelf.old ≤ D.faults shelf.new }
         // The lines that the reply to `dump` holds make the state anew in a fresh machine, by whatever rows it judges.
-        ensures anew { OnOk result (IsDump line.now → (rows : PolicyRows) → IsMadeAnew rows (state_of self.old.engine)) }
+        ensures anew { OnOk result
+            (IsDump line.now → (rows : PolicyRows) → IsMadeAnew rows (state_of self.old.engine)) }
         ensures kept { OnErr result (StaysKept self.old self.new × (out.new.items ≡ out.old.items)) }
         ensures room { OnOk result (is_silent line.now ≡ false → vec_len out.old + 128 ≤ vec_capacity out.new) }
         // A line that leaves the state, as one that is silent or refused, or asks or lists, leaves stamps and counts
         // too.
-        ensures unchanged { state_of self.new.engine ≡ state_of self.old.engine → StaysButMarks self.old.engine self.new.engine }
+        ensures unchanged { state_of self.new.engine ≡ state_of self.old.engine →
+            StaysButMarks self.old.engine self.new.engine }
         // A question makes edges of what is stale for its view, and each other line makes none.
         ensures makes { LineMakes result (heard line.now) self.old.cursors self.old.engine self.new.engine
             self.old.made self.new.made }
@@ -168,21 +171,21 @@ impl Machine {
         requires turnable { self.old.engine.turns.count < 2 ^ 64 - 1 }
         requires judged { IsJudgedBy (rows_of policy.old) self.old.engine.keyring }
         requires faithful { IsFaithful F.Fn policy.old }
-        ensures replied { IfOk result (λ told. Replied (rows_of policy.old) line.now
-            (kept self.old) (record { world = D.world shelf.old; faults = D.faults shelf.old }) (reply_in told)
-            (watched (whole_of self.new.engine (left_by told self.new.cursors)) self.new.watches)
-            (record { world = D.world shelf.new; faults = D.faults shelf.new })) }
+        ensures replied { IfOk result (Replies (rows_of policy.old) line.now
+            (ends itself self) (over D.world D.faults shelf)) }
         ensures untouched { entry_for (state_of self.old.engine) (use_of (heard line.now)) ≡ None →
             shelf.new ≡ shelf.old }
         ensures entries { OnErr result (MayPut (state_of self.old.engine) (use_of (heard line.now))
             (D.world shelf.old) (D.world shelf.new)) }
         ensures later { D.faults shelf.old ≤ D.faults shelf.new }
         ensures words { IfOk result (λ told. IfSome told (λ told. HasWords told.reply)) }
-        ensures anew { OnOk result (IsDump line.now → (rows : PolicyRows) → IsMadeAnew rows (state_of self.old.engine)) }
+        ensures anew { OnOk result
+            (IsDump line.now → (rows : PolicyRows) → IsMadeAnew rows (state_of self.old.engine)) }
         ensures quiet { IfOk result (λ told.
             IfSome told (λ told. is_short told.reply ≡ false → StaysKept self.old self.new)) }
         ensures kept { OnErr result (StaysKept self.old self.new) }
-        ensures unchanged { state_of self.new.engine ≡ state_of self.old.engine → StaysButMarks self.old.engine self.new.engine }
+        ensures unchanged { state_of self.new.engine ≡ state_of self.old.engine →
+            StaysButMarks self.old.engine self.new.engine }
         ensures makes { LineMakes result (heard line.now) self.old.cursors self.old.engine self.new.engine
             self.old.made self.new.made }
         ensures counted { IsOneChange self.old.engine.keyring self.new.engine.keyring }
@@ -339,7 +342,7 @@ fn kept_on(basis: Option<Basis>, engine: &Engine, before: Counts, reply: &Reply)
     ensures more { IfSome result (λ _. before.certificates ≤ length engine.now.keyring.certs) }
     ensures none { IfSome result (λ _. IsNoAmount reply.now) }
     ensures counted { IfSome result (λ _. reply.now ≡ replies.Done →
-        (engine.now.keyring.changes ≢ before.changes) ⊎ (engine.now.turns.count ≢ before.turns)) }
+        CountsDiffer engine.now before.changes before.turns) }
 {
     if goes_on(engine, before, reply) {
         return basis;
@@ -353,7 +356,7 @@ fn goes_on(engine: &Engine, before: Counts, reply: &Reply) -> bool
     ensures more { result ≡ true → before.certificates ≤ length engine.now.keyring.certs }
     ensures none { result ≡ true → IsNoAmount reply.now }
     ensures counted { result ≡ true → reply.now ≡ replies.Done →
-        (engine.now.keyring.changes ≢ before.changes) ⊎ (engine.now.turns.count ≢ before.turns) }
+        CountsDiffer engine.now before.changes before.turns }
 {
     let now = Counts::of(engine);
     if now.certificates < before.certificates {
@@ -407,21 +410,17 @@ fn answer<D: Shelf, F: Fn(Ask) -> bool>(
     requires turnable { engine.old.turns.count < 2 ^ 64 - 1 }
     requires judged { IsJudgedBy (rows_of policy.old) engine.old.keyring }
     requires faithful { IsFaithful F.Fn policy.old }
-    ensures ran { IfOk result (λ told. Ran (rows_of policy.old) (command_of line.now)
-        (watched (whole_of engine.old cursors.old) watches.old)
-        (record { world = D.world shelf.old; faults = D.faults shelf.old }) told.reply
-        (watched (whole_of engine.new (settled told.moved cursors.new)) watches.new)
-        (record { world = D.world shelf.new; faults = D.faults shelf.new })) }
+    ensures ran { IfOk result (Heeds (rows_of policy.old) (command_of line.now)
+        (parts engine cursors watches) (over D.world D.faults shelf)) }
     ensures untouched { entry_for (state_of engine.old) (use_of (command_of line.now)) ≡ None → shelf.new ≡ shelf.old }
     ensures entries { OnErr result (MayPut (state_of engine.old) (use_of (command_of line.now))
         (D.world shelf.old) (D.world shelf.new)) }
     ensures later { D.faults shelf.old ≤ D.faults shelf.new }
     ensures words { IfOk result (λ told. HasWords told.reply) }
     ensures anew { OnOk result (IsDump line.now → (rows : PolicyRows) → IsMadeAnew rows (state_of engine.old)) }
-    ensures quiet { IfOk result (λ told. is_short told.reply ≡ false →
-        StaysButMarks engine.old engine.new × (cursors.new ≡ cursors.old) × (watches.new ≡ watches.old)) }
-    ensures kept { OnErr result
-        (StaysButMarks engine.old engine.new × (cursors.new ≡ cursors.old) × (watches.new ≡ watches.old)) }
+    ensures quiet { IfOk result (λ told.
+        is_short told.reply ≡ false → PartsStay (parts engine cursors watches)) }
+    ensures kept { OnErr result (PartsStay (parts engine cursors watches)) }
     ensures makes { LineMakes result (command_of line.now) cursors.old engine.old engine.new
         steps.old.made steps.new.made }
     ensures standard { engine.new.keyring.limits ≡ standard_limits }
@@ -459,20 +458,16 @@ fn act<D: Shelf, F: Fn(Ask) -> bool>(
     requires turnable { engine.old.turns.count < 2 ^ 64 - 1 }
     requires judged { IsJudgedBy (rows_of policy.old) engine.old.keyring }
     requires faithful { IsFaithful F.Fn policy.old }
-    ensures ran { IfOk result (λ told. Ran (rows_of policy.old) (Some command.now)
-        (watched (whole_of engine.old cursors.old) watches.old)
-        (record { world = D.world shelf.old; faults = D.faults shelf.old }) told.reply
-        (watched (whole_of engine.new (settled told.moved cursors.new)) watches.new)
-        (record { world = D.world shelf.new; faults = D.faults shelf.new })) }
+    ensures ran { IfOk result (Heeds (rows_of policy.old) (Some command.now)
+        (parts engine cursors watches) (over D.world D.faults shelf)) }
     ensures untouched { entry_for (state_of engine.old) (use_of (Some command.now)) ≡ None → shelf.new ≡ shelf.old }
     ensures entries { OnErr result (MayPut (state_of engine.old) (use_of (Some command.now))
         (D.world shelf.old) (D.world shelf.new)) }
     ensures later { D.faults shelf.old ≤ D.faults shelf.new }
     ensures anew { OnOk result (OnDump command.now ((rows : PolicyRows) → IsMadeAnew rows (state_of engine.old))) }
-    ensures quiet { IfOk result (λ told. is_short told.reply ≡ false →
-        StaysButMarks engine.old engine.new × (cursors.new ≡ cursors.old) × (watches.new ≡ watches.old)) }
-    ensures kept { OnErr result
-        (StaysButMarks engine.old engine.new × (cursors.new ≡ cursors.old) × (watches.new ≡ watches.old)) }
+    ensures quiet { IfOk result (λ told.
+        is_short told.reply ≡ false → PartsStay (parts engine cursors watches)) }
+    ensures kept { OnErr result (PartsStay (parts engine cursors watches)) }
     ensures makes { LineMakes result (Some command.now) cursors.old engine.old engine.new
         steps.old.made steps.new.made }
     ensures standard { engine.new.keyring.limits ≡ standard_limits }
@@ -515,9 +510,8 @@ fn obey<D: Shelf, F: Fn(Ask) -> bool>(
     requires turnable { engine.old.turns.count < 2 ^ 64 - 1 }
     requires judged { IsJudgedBy (rows_of policy.old) engine.old.keyring }
     requires faithful { IsFaithful F.Fn policy.old }
-    ensures did { IfOk result (λ reply. Did (rows_of policy.old) command.now
-        (state_of engine.old) (record { world = D.world shelf.old; faults = D.faults shelf.old }) reply
-        (state_of engine.new) (record { world = D.world shelf.new; faults = D.faults shelf.new })) }
+    ensures did { IfOk result (Acts (rows_of policy.old) command.now
+        (ends state_of engine) (over D.world D.faults shelf)) }
     ensures untouched { entry_for (state_of engine.old) (use_of (Some command.now)) ≡ None → shelf.new ≡ shelf.old }
     ensures entries { OnErr result (MayPut (state_of engine.old) (use_of (Some command.now))
         (D.world shelf.old) (D.world shelf.new)) }

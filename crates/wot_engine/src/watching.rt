@@ -163,12 +163,12 @@ fn amount_of(
     basis: &mut Basis,
 ) -> Result<Option<u32>, Memory>
     requires present { IsPresent engine.old basis.old }
-    ensures rests { IfOk result (λ amount. IfSome amount (λ n.
+    ensures rests { IfOk result (λ sum. IfSome sum (λ n.
         1 ≤ wanted → RestsOn engine.old basis.new view.now target.now wanted uid.now n)) }
-    ensures nothing { IfOk result (λ amount. IfSome amount (λ n. wanted ≡ 0 → n ≡ 0)) }
+    ensures nothing { IfOk result (λ sum. IfSome sum (λ n. wanted ≡ 0 → n ≡ 0)) }
     ensures grown { HasGrown basis.old basis.new }
-    ensures amount { IfOk result (λ amount.
-        HasAmount (state_of engine.old) (view_at engine.old.views view.now) target.now wanted uid.now amount) }
+    ensures amount { IfOk result
+        (HasAmount (state_of engine.old) (view_at engine.old.views view.now) target.now wanted uid.now) }
     ensures stays { StaysButMarks engine.old engine.new }
     ensures never_less { steps.old.made ≤ steps.new.made }
 {
