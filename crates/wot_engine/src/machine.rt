@@ -19,7 +19,7 @@ ghost use Rattle.wot_engine.specs.Ran.{Acts, over};
 ghost use Rattle.wot_engine.specs.Stepped.{Heeds, Replies, Runs, TellsBehind};
 ghost use Rattle.wot_engine.specs.Transcript.{octets_of};
 ghost use Rattle.wot_engine.specs.Machine.{kept, parts, PartsStay, StaysKept};
-ghost use Rattle.wot_engine.specs.Pacing.{is_pacing};
+ghost use Rattle.wot_engine.specs.Pacing.{is_pacing, settled};
 ghost use Rattle.wot_engine.specs.Fresh.{IsDump, OnDump, IsMadeAnew};
 ghost use Rattle.wot_engine.specs.Made.{LineMakes, Makes};
 ghost use Rattle.wot_script.specs.declared.reply.Reply.TheVariants as replies;
