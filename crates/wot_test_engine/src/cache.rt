@@ -15,7 +15,7 @@ use wot_types::{Fpr, Limit, Limits, Steps, ViewName};
 use wot_verdict::Verdict;
 
 /// R and T, each with a direct key signature, T with the user ID t, which R certified; the verdicts; and two views.
-pub(crate) static SCRIPT: [Line; 13] = [
+static SCRIPT: [Line; 13] = [
     Import(R_CERT),
     Import(T_CERT),
     T_BY_R,
@@ -78,7 +78,7 @@ pub(crate) fn run<F: Fn(Ask) -> bool>(
 }
 
 /// Does what these lines say, one after the other; whether each was done.
-pub(crate) fn run_all<F: Fn(Ask) -> bool>(
+fn run_all<F: Fn(Ask) -> bool>(
     alloc: Global,
     engine: &mut Engine,
     lines: &[Line],
@@ -112,12 +112,12 @@ fn engine_of(alloc: Global, lines: &[Line]) -> Option<Engine> {
     }
 }
 
-pub(crate) fn view_name(alloc: Global, text: &[u8]) -> Option<ViewName> {
+fn view_name(alloc: Global, text: &[u8]) -> Option<ViewName> {
     ViewName::read(alloc, text).ok()?
 }
 
 /// The amount of an answer about the user ID t of T, and how many paths and edges were made.
-pub(crate) fn amount_of(
+fn amount_of(
     engine: &mut Engine,
     view: &ViewName,
     wanted: u32,

@@ -1,77 +1,44 @@
 use std::alloc::Global;
-use wot_cert::{Assembled, Cert, Sig, assemble};
 use wot_edge::{Roots, Step};
-use wot_explain::{Bind, ExplainFault, Explained, Reason as Why, explain, list, list_after};
+use wot_explain::{Bind, ExplainFault, Explained, explain, list, list_after};
 use wot_keyring::Keyring;
 use wot_network::Network;
-use wot_packet::read_packets;
 use wot_policy::{Policy, admits, standard_rows};
-use wot_sample::Packet::{self, Signature, SignatureByHash, UserId};
-use wot_sample::Says::{By, KeyLasts, Lasts, Made, Reason};
-use wot_sample::{
-    A, CERTIFICATION, CERTIFICATION_REVOCATION, DIRECT, DIRECT_KEY, KEY_A, KEY_R, KEY_REVOCATION,
-    KEY_T, POSITIVE, R, SPANS, T,
-};
-use wot_types::{Fpr, Limits, Place, Steps, UserId as UserIdOctets};
+use wot_sample::{A, DIRECT, KEY_R, R, SPANS, T};
+use wot_types::{Fpr, Limits, Place, SigNumber, Steps, UserId};
 use wot_verdict::Verdict;
 
-/// What the verdicts on the signatures of user IDs say.
-#[derive(Clone, Copy)]
-enum Said {
-    /// Good by the issuer that the signature names, or else by the certificate's own key.
-    Named,
-    ByR,
-    Bad,
-    Nothing,
-}
-
-fn assembled(alloc: Global, text: &[u8]) -> Option<Assembled> {
-    match read_packets(alloc, text) {
-        Ok(packets) => {
-            if packets.len() < 1 << 28 {
-                assemble(alloc, &packets).ok()
-            } else {
-                None
-            }
-        }
-        Err(_) => None,
-    }
-}
-
-fn verdict(sig: &Sig, own: Fpr, said: Said) -> Option<Verdict> {
-    match said {
-        Said::Named => {
-            let named = match sig.facts() {
-                Some(facts) => facts.issuer,
-                None => None,
-            };
-            Some(Verdict::Good(named.unwrap_or(own)))
-        }
-        Said::ByR => Some(Verdict::Good(R)),
-        Said::Bad => Some(Verdict::Bad),
-        Said::Nothing => None,
-    }
-}
-
-fn say(keyring: &mut Keyring, sigs: &[Sig], own: Fpr, said: Said) -> Option<()> {
-    for sig in sigs {
-        if keyring.changes() >= 1000 {
-            return None;
-        }
-        if let Some(verdict) = verdict(sig, own, said) {
-            keyring.set_verdict(sig.number(), verdict).ok()?;
-        }
-    }
-    Some(())
-}
-
-fn say_all(keyring: &mut Keyring, cert: &Cert, said: Said) -> Option<()> {
-    say(keyring, cert.direct(), cert.fpr(), Said::Named)?;
-    for uid in cert.user_ids() {
-        say(keyring, uid.sigs(), cert.fpr(), said)?;
-    }
-    Some(())
-}
+/// By whom the signatures are good: the direct key signatures of R and T, and R's two certifications.
+static VERDICTS: [(SigNumber, Fpr); 4] = [
+    (
+        SigNumber(
+            *b"\x68\xd0\xeb\x5f\x8c\xa1\x39\x14\xfc\xdd\xf1\xb2\x3e\x5f\x60\x8b\
+              \xf9\x84\x76\x03\x83\x4d\xa2\x84\xf0\x1a\x70\x72\x08\x05\x12\x09",
+        ),
+        R,
+    ),
+    (
+        SigNumber(
+            *b"\x6f\x34\x0f\x6b\xdd\x37\x5d\x28\xb7\xed\xb4\x0f\x93\x0d\x95\xbf\
+              \x4a\xd3\x3f\x80\x74\x83\xdf\xd6\xa9\x60\x0c\x1a\xf4\xe3\x34\xbd",
+        ),
+        T,
+    ),
+    (
+        SigNumber(
+            *b"\x25\x60\x73\xaa\x3f\x6d\x5b\x58\xd7\x4f\xb2\x58\xad\xb2\xfe\x39\
+              \xcb\x0a\x84\x4c\x83\x55\xb0\xc4\xf2\xcb\xf1\x10\x0b\x12\xa3\x16",
+        ),
+        R,
+    ),
+    (
+        SigNumber(
+            *b"\x7d\x18\x06\xd2\xb9\x18\x0e\x0d\xe7\x0c\x95\x8d\x35\xb0\x93\xe5\
+              \x11\xb1\x80\x64\x3f\x76\x05\x77\x98\xa6\xab\xf9\x28\x7c\x72\xb2",
+        ),
+        R,
+    ),
+];
 
 fn imported(alloc: Global, text: &[u8]) -> Option<Keyring> {
     let rows = standard_rows();
@@ -86,15 +53,17 @@ fn imported(alloc: Global, text: &[u8]) -> Option<Keyring> {
     }
 }
 
-/// A keyring with the certificates of these packets, and the verdicts on their signatures.
-fn state(alloc: Global, issuer: &[Packet], target: &[Packet], said: Said) -> Option<Keyring> {
-    let mut text = wot_sample::text(alloc, issuer)?;
-    let more = wot_sample::text(alloc, target)?;
+/// A keyring with R, T and its user ID, on which two certifications by R stand, and the verdicts.
+fn judged(alloc: Global) -> Option<Keyring> {
+    let mut text = wot_sample::text(alloc, &[KEY_R, DIRECT])?;
+    let more = wot_sample::text(alloc, SPANS)?;
     text.extend_from_slice(&more).ok()?;
     let mut keyring = imported(alloc, &text)?;
-    let found = assembled(alloc, &text)?;
-    for cert in found.certs.as_slice() {
-        say_all(&mut keyring, cert, said)?;
+    for (number, fpr) in &VERDICTS {
+        if keyring.changes() >= 1000 {
+            return None;
+        }
+        keyring.set_verdict(*number, Verdict::Good(*fpr)).ok()?;
     }
     Some(keyring)
 }
@@ -162,208 +131,6 @@ fn size_of_piece(
     }
 }
 
-const ISSUER: &[Packet] = &[KEY_A, DIRECT];
-
-/// The issuer's certificate without a signature.
-const BARE: &[Packet] = &[KEY_A];
-
-const ENDED: &[Packet] = &[KEY_A, Signature(DIRECT_KEY, &[Made(1000), KeyLasts(1000)])];
-
-const HARD: &[Packet] = &[
-    KEY_A,
-    DIRECT,
-    Signature(KEY_REVOCATION, &[Made(9000), Reason(2)]),
-];
-
-const SOFT: &[Packet] = &[
-    KEY_A,
-    DIRECT,
-    Signature(KEY_REVOCATION, &[Made(2000), Reason(3)]),
-];
-
-const SOFT_LATER: &[Packet] = &[
-    KEY_A,
-    DIRECT,
-    Signature(KEY_REVOCATION, &[Made(2001), Reason(3)]),
-];
-
-/// T, of which A certified the user ID at 2000.
-const CERTIFIED: &[Packet] = &[
-    KEY_T,
-    DIRECT,
-    UserId(b"t"),
-    Signature(CERTIFICATION, &[Made(2000), By(A)]),
-];
-
-/// The same by a certification that says this.
-const UNSOUND: &[Packet] = &[
-    KEY_T,
-    DIRECT,
-    UserId(b"t"),
-    Signature(CERTIFICATION, &[By(A)]),
-];
-
-const BY_MD5: &[Packet] = &[
-    KEY_T,
-    DIRECT,
-    UserId(b"t"),
-    SignatureByHash(1, CERTIFICATION, &[Made(2000), By(A)]),
-];
-
-const SHORT: &[Packet] = &[
-    KEY_T,
-    DIRECT,
-    UserId(b"t"),
-    Signature(CERTIFICATION, &[Made(2000), Lasts(3000), By(A)]),
-];
-
-const REVOKED: &[Packet] = &[
-    KEY_T,
-    DIRECT,
-    UserId(b"t"),
-    Signature(CERTIFICATION, &[Made(2000), By(A)]),
-    Signature(CERTIFICATION_REVOCATION, &[Made(2000), By(A)]),
-];
-
-/// The revocation is R's, and the certification A's.
-const REVOKED_BY_ANOTHER: &[Packet] = &[
-    KEY_T,
-    DIRECT,
-    UserId(b"t"),
-    Signature(CERTIFICATION, &[Made(2000), By(A)]),
-    Signature(CERTIFICATION_REVOCATION, &[Made(2500), By(R)]),
-];
-
-const TWICE: &[Packet] = &[
-    KEY_T,
-    DIRECT,
-    UserId(b"t"),
-    Signature(CERTIFICATION, &[Made(2000), By(A)]),
-    Signature(CERTIFICATION, &[Made(3000), By(A)]),
-];
-
-/// The newer one doesn't last.
-const TWICE_SHORT: &[Packet] = &[
-    KEY_T,
-    DIRECT,
-    UserId(b"t"),
-    Signature(CERTIFICATION, &[Made(2000), By(A)]),
-    Signature(CERTIFICATION, &[Made(3000), Lasts(100), By(A)]),
-];
-
-const BEFORE_ISSUER: &[Packet] = &[
-    KEY_T,
-    DIRECT,
-    UserId(b"t"),
-    Signature(CERTIFICATION, &[Made(999), By(A)]),
-];
-
-/// A user ID alone.
-const NOTHING: &[Packet] = &[KEY_T, UserId(b"t")];
-
-const YOUNG: &[Packet] = &[KEY_T, Signature(DIRECT_KEY, &[Made(500)]), UserId(b"t")];
-
-const TARGET_ENDED: &[Packet] = &[
-    KEY_T,
-    Signature(DIRECT_KEY, &[Made(1000), KeyLasts(4000)]),
-    UserId(b"t"),
-];
-
-const TARGET_HARD: &[Packet] = &[
-    KEY_T,
-    DIRECT,
-    Signature(KEY_REVOCATION, &[Made(9000)]),
-    UserId(b"t"),
-];
-
-const TARGET_SOFT: &[Packet] = &[
-    KEY_T,
-    DIRECT,
-    Signature(KEY_REVOCATION, &[Made(5000), Reason(1)]),
-    UserId(b"t"),
-];
-
-const OWN_REVOKED: &[Packet] = &[
-    KEY_T,
-    DIRECT,
-    UserId(b"t"),
-    Signature(POSITIVE, &[Made(2000)]),
-    Signature(CERTIFICATION_REVOCATION, &[Made(2500)]),
-];
-
-/// The issuer's packets, the target's, what the verdicts on the user ID's signatures say, a time, the target's word,
-/// and the words of the certifications.
-type Case = (
-    &'static [Packet],
-    &'static [Packet],
-    Said,
-    u32,
-    u8,
-    &'static [u8],
-);
-
-static CASES: [Case; 26] = [
-    (ISSUER, CERTIFIED, Said::Named, 5000, 0, &[0]),
-    (ISSUER, UNSOUND, Said::Named, 5000, 0, &[1]),
-    (ISSUER, CERTIFIED, Said::Nothing, 5000, 0, &[2]),
-    (ISSUER, CERTIFIED, Said::Bad, 5000, 0, &[3]),
-    (ISSUER, CERTIFIED, Said::ByR, 5000, 0, &[4]),
-    (ISSUER, BY_MD5, Said::Named, 5000, 0, &[5]),
-    (ISSUER, CERTIFIED, Said::Named, 1999, 0, &[6]),
-    (ISSUER, SHORT, Said::Named, 4999, 0, &[0]),
-    (ISSUER, SHORT, Said::Named, 5000, 0, &[7]),
-    (ISSUER, REVOKED, Said::Named, 5000, 0, &[8]),
-    (ISSUER, REVOKED_BY_ANOTHER, Said::Named, 5000, 0, &[0]),
-    (ISSUER, TWICE, Said::Named, 5000, 0, &[9, 0]),
-    (ISSUER, TWICE_SHORT, Said::Named, 5000, 0, &[0, 7]),
-    (&[], CERTIFIED, Said::Named, 5000, 0, &[10]),
-    (BARE, CERTIFIED, Said::Named, 5000, 0, &[11]),
-    (ISSUER, BEFORE_ISSUER, Said::Named, 5000, 0, &[12]),
-    (ENDED, CERTIFIED, Said::Named, 5000, 0, &[13]),
-    (HARD, CERTIFIED, Said::Named, 5000, 0, &[14]),
-    (SOFT, CERTIFIED, Said::Named, 5000, 0, &[15]),
-    (SOFT_LATER, CERTIFIED, Said::Named, 5000, 0, &[0]),
-    (&[], NOTHING, Said::Named, 5000, 1, &[]),
-    (&[], YOUNG, Said::Named, 900, 2, &[]),
-    (&[], TARGET_ENDED, Said::Named, 5000, 3, &[]),
-    (&[], TARGET_HARD, Said::Named, 5000, 4, &[]),
-    (&[], TARGET_SOFT, Said::Named, 5000, 5, &[]),
-    (&[], OWN_REVOKED, Said::Named, 5000, 6, &[8]),
-];
-
-/// Whether these are the words of the certifications.
-fn have_words(certs: &[Why], words: &[u8]) -> bool {
-    if certs.len() != words.len() {
-        return false;
-    }
-    for (reason, word) in certs.iter().zip(words) {
-        if reason.1 != *word {
-            return false;
-        }
-    }
-    true
-}
-
-/// Whether T's user ID t is explained so.
-fn is_explained_so(alloc: Global, case: &Case) -> Option<bool> {
-    let (issuer, target, said, t, word, words) = *case;
-    let keyring = state(alloc, issuer, target, said)?;
-    let told = explained(alloc, &keyring, t, &T, b"t").ok()?;
-    Some(told.target == word && have_words(told.certs.as_slice(), words))
-}
-
-#[test]
-fn words_of_certifications_and_targets(rt: HostRuntime) {
-    let mut number = 0u32;
-    for case in &CASES {
-        assert!(rt;
-            is_explained_so(rt.alloc(), case) == Some(true),
-            "case {number}"
-        );
-        number = number.wrapping_add(1);
-    }
-}
-
 /// The edge of the certification that lasts.
 const EDGE: Step = Step {
     issuer: R,
@@ -400,7 +167,7 @@ fn is_bound(alloc: Global, keyring: &Keyring, roots: &Roots) -> Option<bool> {
 
 /// Whether pieces of the list have their sizes: from the front on, of no binding, and behind the one that there is.
 fn has_pieces(alloc: Global, keyring: &Keyring, roots: &Roots) -> Option<bool> {
-    let uid = UserIdOctets::new(alloc, b"t").ok()?;
+    let uid = UserId::new(alloc, b"t").ok()?;
     let place = Place { fpr: T, uid };
     let all = size_of_piece(alloc, keyring, 5000, roots, None, 5)?;
     let none = size_of_piece(alloc, keyring, 5000, roots, None, 0)?;
@@ -417,7 +184,7 @@ fn root_r(alloc: Global) -> Option<Roots> {
 /// Of two certifications by R the one that lasts is the edge, and the binding reaches its amount.
 #[test]
 fn an_edge_and_its_binding(rt: HostRuntime) {
-    let keyring = state(rt.alloc(), &[KEY_R, DIRECT], SPANS, Said::Named).expect(&rt, "a keyring");
+    let keyring = judged(rt.alloc()).expect(&rt, "a keyring");
     match explained(rt.alloc(), &keyring, 5000, &T, b"t") {
         Ok(told) => assert!(rt; has_edge(&told)),
         Err(_) => assert!(rt; false),

@@ -1,9 +1,8 @@
 //! Runs over devices that fail, and over inputs without an end.
 ghost use Rattle.std.specs.Prelude.{None};
 
-use crate::engine::{owned, sink_of, source_of, status_of};
+use crate::engine::{Row, empty_shelf, owned, shelf_of, sink_of, source_of, status_of};
 use crate::script::{FIELD, FIELD_FPR};
-use crate::shelf::{Row, shelf_of};
 use std::alloc::Global;
 use wot_io::{Failed, Sink, Source};
 use wot_sample::{KEY_R, T};
@@ -50,7 +49,7 @@ key c959bdbafa32a2f89a153b678cfde12197965a9a 0 0
 };
 
 /// Each stop leaves a prefix of what the same script writes where nothing fails. A shelf that fails stops nothing.
-static CASES: [Case; 17] = [
+static CASES: [Case; 19] = [
     KEYS,
     TWICE,
     LOAD,
@@ -146,6 +145,28 @@ key c959bdbafa32a2f89a153b678cfde12197965a9a 0 0
         written: b"fault shelf\nfault shelf\nkeys 0\n",
         ..LOAD
     },
+    // A certificate and another's key under a name, a failing call, and an entry that isn't there.
+    Case {
+        script: b"load c959bdbafa32a2f89a153b678cfde12197965a9a
+load 3c98b8180e0fcaca1032499082a5de8fa5d98232
+load 3c98b8180e0fcaca1032499082a5de8fa5d98232
+load 7f35c8dbd6b3eb2ffd59cbdd2e41ea291212ac38
+",
+        calls: &[3],
+        written: b"ok taken 1 skipped 0 new 1\nrefused misfiled\nfault shelf\nrefused absent\n",
+        ..LOAD
+    },
+    // A call that fails counts; other lines make no call.
+    Case {
+        script: b"keys
+load c959bdbafa32a2f89a153b678cfde12197965a9a
+#load c959bdbafa32a2f89a153b678cfde12197965a9a
+load c959bdbafa32a2f89a153b678cfde12197965a9a
+",
+        calls: &[1],
+        written: b"keys 0\nfault shelf\nok taken 1 skipped 0 new 1\n",
+        ..LOAD
+    },
 ];
 
 /// The shelf of all cases: a certificate, and another's key under a name.
@@ -156,7 +177,7 @@ fn ends_so(alloc: Global, case: &Case) -> Option<bool> {
     let words = owned(alloc, &["run", "folder"])?;
     let mut input = source_of(alloc, case.script, case.reads)?;
     let mut output = sink_of(alloc, case.writes)?;
-    let mut shelf = shelf_of(alloc, &ENTRIES, case.calls)?;
+    let mut shelf = shelf_of(alloc, &ENTRIES, case.calls, &[])?;
     let status = status_of(alloc, &words, &mut input, &mut output, &mut shelf);
     Some(status == case.status && output.written() == case.written)
 }
@@ -220,7 +241,7 @@ fn read_endless(alloc: Global) -> Option<(u8, u64, bool)> {
     let words = owned(alloc, &["run"])?;
     let mut input = Endless { given: 0 };
     let mut output = sink_of(alloc, &[])?;
-    let mut shelf = shelf_of(alloc, &[], &[])?;
+    let mut shelf = empty_shelf(alloc);
     let status = status_of(alloc, &words, &mut input, &mut output, &mut shelf);
     Some((status, input.given, output.written().is_empty()))
 }
@@ -236,7 +257,7 @@ fn refused(alloc: Global) -> Option<(u8, u64)> {
     let words = owned(alloc, &["run"])?;
     let mut input = source_of(alloc, KEYS.script, &[])?;
     let mut output = Refusing { faults: 0 };
-    let mut shelf = shelf_of(alloc, &[], &[])?;
+    let mut shelf = empty_shelf(alloc);
     let status = status_of(alloc, &words, &mut input, &mut output, &mut shelf);
     Some((status, output.faults))
 }

@@ -1,4 +1,4 @@
-use crate::engine::{outcome_of, owned, sink_of, source_of, status_of};
+use crate::engine::{owned, sink_of, source_of, status_of};
 use std::alloc::Global;
 use wot_certd::{MemoryShelf, Shelf};
 use wot_io::{MemorySink, MemorySource, Source};
@@ -46,21 +46,4 @@ fn a_generated_run(rt: HostRuntime) {
             "{fails:?}"
         );
     }
-}
-
-/// What is told of the script of the start 1 and of 2000 keys, as the plain model tells it.
-static TOLD_OF_MANY: &[u8] = b"gen 1 2000 lines 14798\namounts 185516\n\
-    transcript c28304dc1c2332912d9a980fbcd7921195170a82ff4951af7b628a7a97948715\n";
-
-fn is_told_of_many(alloc: Global) -> bool {
-    match outcome_of(alloc, &["gen", "1", "2000"], b"", &[], &[]) {
-        Some(outcome) => outcome.status == 0 && outcome.written.as_slice() == TOLD_OF_MANY,
-        None => false,
-    }
-}
-
-#[test]
-fn many_keys_twice(rt: HostRuntime) {
-    assert!(rt; is_told_of_many(rt.alloc()));
-    assert!(rt; is_told_of_many(rt.alloc()));
 }

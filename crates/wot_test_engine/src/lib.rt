@@ -4,8 +4,6 @@
 #[cfg(test)]
 mod cache;
 #[cfg(test)]
-mod cursors;
-#[cfg(test)]
 mod engine;
 #[cfg(test)]
 mod explain;
@@ -14,28 +12,14 @@ mod failing;
 #[cfg(test)]
 mod generated;
 #[cfg(test)]
-mod kept;
-#[cfg(test)]
 mod keyring;
 #[cfg(test)]
-mod layers;
-#[cfg(test)]
 mod made;
-#[cfg(test)]
-mod many;
-#[cfg(test)]
-mod policy;
 #[cfg(test)]
 mod rows;
 #[cfg(test)]
 mod script;
 #[cfg(test)]
-mod shelf;
-#[cfg(test)]
 mod storing;
 #[cfg(test)]
 mod together;
-#[cfg(test)]
-mod version_6;
-#[cfg(test)]
-mod watching;

@@ -1,32 +1,22 @@
-//! Scripts and replies whose certificates and verdicts are written down by name.
+//! Lines whose certificates and verdicts are written down by name.
 use std::alloc::Global;
 use wot_sample::Packet::{self, Other as Bare, Signature, UserId};
-use wot_sample::Says::{Made, Trust};
-use wot_sample::{CERTIFICATION, DIRECT, KEY, KEY_A, KEY_R, KEY_T};
+use wot_sample::Says::Made;
+use wot_sample::{CERTIFICATION, DIRECT, KEY, KEY_R, KEY_T};
 use wot_script::{Command, Octets, read_line};
 use wot_types::Fpr;
 
-/// A line of a script, or of what is replied.
+/// A line of a script.
 #[derive(Clone, Copy)]
 pub(crate) enum Line {
     /// Packets are imported.
     Import(&'static [Packet]),
-    /// The reply that exports packets.
-    Export(&'static [Packet]),
     /// Any other line, or several, with a line feed after each but the last.
     Other(&'static [u8]),
 }
 
 /// R with a direct key signature.
 pub(crate) const R_CERT: &[Packet] = &[KEY_R, DIRECT];
-
-/// A with a direct key signature and the user ID a, which R certified at 2000, with depth 1 and amount 120.
-pub(crate) const A_CERT: &[Packet] = &[
-    KEY_A,
-    DIRECT,
-    UserId(b"a"),
-    Signature(CERTIFICATION, &[Made(2000), Trust(1, 120)]),
-];
 
 /// T with a direct key signature and the user ID t, which somebody certified at 2000.
 pub(crate) const T_CERT: &[Packet] = &[
@@ -57,16 +47,6 @@ pub(crate) const R_BY_R: Line = Line::Other(
       good 7f35c8dbd6b3eb2ffd59cbdd2e41ea291212ac38",
 );
 
-pub(crate) const A_BY_A: Line = Line::Other(
-    b"verdict a749ae5e0740c6912fd3d7aa0551076010c77315bb0e8ce6bba6c239c1719f3a \
-      good 352e5f12059b4605a5b8f88f66d655c9133e1ca2",
-);
-
-pub(crate) const A_BY_R: Line = Line::Other(
-    b"verdict 5840f9f9f8f1cf0319951109612c55e5c55500f918ec27c1c184cd305eafe0a3 \
-      good 7f35c8dbd6b3eb2ffd59cbdd2e41ea291212ac38",
-);
-
 pub(crate) const T_BY_T: Line = Line::Other(
     b"verdict 6f340f6bdd375d28b7edb40f930d95bf4ad33f807483dfd6a9600c1af4e334bd \
       good 3c98b8180e0fcaca1032499082a5de8fa5d98232",
@@ -75,11 +55,6 @@ pub(crate) const T_BY_T: Line = Line::Other(
 pub(crate) const T_BY_R: Line = Line::Other(
     b"verdict 7331b37825bdca65502938381c08cd08d9da47de1940c67bdae7bdf1dfab72d5 \
       good 7f35c8dbd6b3eb2ffd59cbdd2e41ea291212ac38",
-);
-
-pub(crate) const T_BY_A: Line = Line::Other(
-    b"verdict 7331b37825bdca65502938381c08cd08d9da47de1940c67bdae7bdf1dfab72d5 \
-      good 352e5f12059b4605a5b8f88f66d655c9133e1ca2",
 );
 
 /// A verdict on a signature that no certificate has.
@@ -94,30 +69,28 @@ pub(crate) fn command_of(alloc: Global, line: &Line) -> Option<Command> {
             let octets = wot_sample::text(alloc, packets)?;
             Some(Command::Import(Octets::from_vec(octets)))
         }
-        Line::Export(_) => None,
         Line::Other(text) => read_line(alloc, text).ok(),
     }
 }
 
-/// Appends a word and the digits of these packets.
-fn push_packets(alloc: Global, word: &[u8], packets: &[Packet], text: &mut Vec<u8>) -> Option<()> {
+/// Appends the line that imports these packets.
+fn push_import(alloc: Global, packets: &[Packet], text: &mut Vec<u8>) -> Option<()> {
     let octets = wot_sample::text(alloc, packets)?;
     let digits = hex::encode(alloc, octets.as_slice()).ok()?;
-    text.extend_from_slice(word).ok()?;
+    text.extend_from_slice(b"import ").ok()?;
     text.extend_from_slice(digits.as_bytes()).ok()
 }
 
 /// Appends the text of a line, without its line feed.
-pub(crate) fn push_text(alloc: Global, line: &Line, text: &mut Vec<u8>) -> Option<()> {
+fn push_text(alloc: Global, line: &Line, text: &mut Vec<u8>) -> Option<()> {
     match line {
-        Line::Import(packets) => push_packets(alloc, b"import ", packets, text),
-        Line::Export(packets) => push_packets(alloc, b"export ", packets, text),
+        Line::Import(packets) => push_import(alloc, packets, text),
         Line::Other(octets) => text.extend_from_slice(octets).ok(),
     }
 }
 
 /// Appends these lines to a text, each with its line feed.
-pub(crate) fn push_lines(alloc: Global, lines: &[Line], text: &mut Vec<u8>) -> Option<()> {
+fn push_lines(alloc: Global, lines: &[Line], text: &mut Vec<u8>) -> Option<()> {
     for line in lines {
         push_text(alloc, line, text)?;
         text.push(b'\n').ok()?;

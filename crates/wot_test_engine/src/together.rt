@@ -1,8 +1,7 @@
 //! The replies to the lines that one read brought are written together, and before the next read.
 ghost use Rattle.std.specs.Prelude.{None};
 
-use crate::engine::{owned, sink_of, status_of};
-use crate::shelf::shelf_of;
+use crate::engine::{empty_shelf, owned, sink_of, status_of};
 use std::alloc::Global;
 use wot_io::{Failed, MemorySource, Sink, Source};
 
@@ -44,7 +43,7 @@ fn lines_of(alloc: Global, count: usize, piece: usize, fails: &[u64]) -> Option<
 /// The status of a run over an empty shelf.
 fn ran<S: Source, K: Sink>(alloc: Global, input: &mut S, output: &mut K) -> Option<u8> {
     let words = owned(alloc, &["run"])?;
-    let mut shelf = shelf_of(alloc, &[], &[])?;
+    let mut shelf = empty_shelf(alloc);
     Some(status_of(alloc, &words, input, output, &mut shelf))
 }
 
