@@ -34,7 +34,7 @@ const MOST: usize = 1024;
 const MOST_LOOKED: usize = 1_048_576;
 
 /// A consulted fingerprint, with its stamp in the keyring and its amount as a root.
-#[derive(Clone, Copy, Debug)]
+#[derive(Clone, Copy)]
 pub struct Looked {
     pub fpr: Fpr,
     pub stamp: u64,

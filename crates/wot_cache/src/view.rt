@@ -33,11 +33,11 @@ impl From<Memory> for ViewFault {
 }
 
 /// The view isn't open.
-#[derive(Clone, Copy, Debug, PartialEq, Eq)]
+#[derive(Clone, Copy, PartialEq, Eq)]
 pub struct NoView;
 
 /// Why there is no answer.
-#[derive(Clone, Copy, Debug, PartialEq, Eq)]
+#[derive(Clone, Copy, PartialEq, Eq)]
 pub enum AskFault {
     /// The view isn't open.
     View,

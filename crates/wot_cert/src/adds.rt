@@ -15,7 +15,7 @@ use crate::{Cert, Part, Sig};
 use std::cmp::Ordering;
 
 /// What a union adds.
-#[derive(Clone, Copy, Debug, PartialEq, Eq)]
+#[derive(Clone, Copy, PartialEq, Eq)]
 pub struct Adds {
     /// How many keys, components and signatures.
     pub items: u64,

@@ -16,7 +16,7 @@ pub enum CertFault {
 }
 
 /// Why two certificates were not united.
-#[derive(Clone, Copy, Debug, PartialEq, Eq)]
+#[derive(Clone, Copy, PartialEq, Eq)]
 pub enum MergeFault {
     /// Their key bodies differ.
     Clash,

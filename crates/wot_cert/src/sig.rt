@@ -47,7 +47,7 @@ impl Model for Sig {
 }
 
 /// Whether copies keep their marks of admission.
-#[derive(Clone, Copy, Debug, PartialEq, Eq)]
+#[derive(Clone, Copy, PartialEq, Eq)]
 pub(crate) enum Marks {
     Kept,
     Dropped,

@@ -9,7 +9,7 @@ use wot_types::Name;
 pub const LONGEST: usize = 8_388_608;
 
 /// What a shelf has under a name.
-#[derive(Debug, Drop)]
+#[derive(Drop)]
 pub enum Given {
     /// The octets of the entry.
     Bytes(Vec<u8>),
@@ -20,7 +20,7 @@ pub enum Given {
 }
 
 /// Why a call gave nothing.
-#[derive(Clone, Copy, Debug, PartialEq, Eq)]
+#[derive(Clone, Copy, PartialEq, Eq)]
 pub enum ShelfFault {
     /// The shelf failed.
     Failed,

@@ -15,7 +15,7 @@ use wot_edge::{Roads, Roots};
 use wot_types::{Fpr, Memory};
 
 /// What a check of claimed paths and of a table comes to.
-#[derive(Clone, Copy, Debug, PartialEq, Eq)]
+#[derive(Clone, Copy, PartialEq, Eq)]
 pub enum Checked {
     /// The paths are valid, each with the amount that those before it left, and the table shows
     /// that no more is left after them.

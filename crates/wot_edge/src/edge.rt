@@ -4,7 +4,7 @@ use std::marker::Model;
 use wot_types::{Fpr, Steps};
 
 /// What an edge tells: who certifies whose user ID, and how far and how much it is trusted.
-#[derive(Clone, Copy, Debug, PartialEq, Eq)]
+#[derive(Clone, Copy, PartialEq, Eq)]
 pub struct EdgeFacts {
     /// Who certifies.
     pub issuer: Fpr,

@@ -4,7 +4,7 @@ use crate::StepList;
 use wot_types::{Fpr, Memory};
 
 /// What a path tells of one of its edges.
-#[derive(Clone, Copy, Debug, PartialEq, Eq)]
+#[derive(Clone, Copy, PartialEq, Eq)]
 pub struct Step {
     pub issuer: Fpr,
     pub target: Fpr,

@@ -26,7 +26,7 @@ use wot_script::Reply;
 use wot_types::{Fpr, Limit, Limits, Memory, Name};
 
 /// Why nothing is written in place of an entry.
-#[derive(Debug, Drop)]
+#[derive(Drop)]
 pub enum Unwritten {
     /// This is answered.
     Told(Reply),

@@ -52,7 +52,7 @@ pub struct Explained {
     pub certs: ReasonList,
 }
 
-#[derive(Clone, Copy, Debug, PartialEq, Eq)]
+#[derive(Clone, Copy, PartialEq, Eq)]
 pub enum ExplainFault {
     /// The certificate or the user ID isn't there.
     Absent,

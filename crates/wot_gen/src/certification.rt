@@ -12,7 +12,7 @@ use wot_types::{Fpr, Memory, SigNumber};
 use wot_verdict::number_of;
 
 /// A certification of a user ID.
-#[derive(Debug, Drop)]
+#[derive(Drop)]
 pub struct Certification {
     pub packet: Octets,
     pub number: SigNumber,

@@ -22,7 +22,7 @@ use wot_types::{Fpr, Memory, UserId, ViewName};
 const MOMENT: u32 = 1_200_000_000;
 
 /// The name of a view.
-#[derive(Clone, Copy, Debug)]
+#[derive(Clone, Copy)]
 enum View {
     A,
     B,

@@ -4,7 +4,7 @@ use wot_script::Octets;
 use wot_types::{Fpr, SigNumber, UserId};
 
 /// A key with its one user ID and its direct key signature.
-#[derive(Debug, Drop)]
+#[derive(Drop)]
 pub struct Identity {
     /// The body of the key.
     pub body: Octets,

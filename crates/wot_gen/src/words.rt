@@ -6,7 +6,7 @@ use rand_core::utils::NextWord;
 use rand_xoshiro::SplitMix64;
 
 /// The words of SplitMix64 from a start on.
-#[derive(Debug, Drop)]
+#[derive(Drop)]
 pub struct Words {
     generator: SplitMix64,
     /// The eight octets of the generator's seed, as a little-endian number.

@@ -20,11 +20,11 @@ pub enum Refusal {
 }
 
 /// What was named isn't kept.
-#[derive(Clone, Copy, Debug, PartialEq, Eq)]
+#[derive(Clone, Copy, PartialEq, Eq)]
 pub struct Absent;
 
 /// Why a certificate was not exported.
-#[derive(Clone, Copy, Debug, PartialEq, Eq)]
+#[derive(Clone, Copy, PartialEq, Eq)]
 pub enum ExportFault {
     /// It isn't kept.
     Absent,

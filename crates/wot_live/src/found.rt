@@ -15,7 +15,7 @@ use wot_types::{Fpr, Memory};
 use wot_verdict::Verdicts;
 
 /// An issuer, and the place of a user ID.
-#[derive(Clone, Copy, Debug, PartialEq, Eq, PartialOrd, Ord)]
+#[derive(Clone, Copy, PartialEq, Eq, PartialOrd, Ord)]
 pub(crate) struct EdgePlace {
     issuer: Fpr,
     uid: u32,

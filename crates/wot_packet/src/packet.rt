@@ -5,7 +5,7 @@ ghost use Rattle.wot_packet.specs.declared.packet.ReadFault.TheVariants.{Memory}
 use std::alloc::{AllocError, AllocFailed};
 
 /// A packet of a text (RFC 9580, section 4.2).
-#[derive(Clone, Copy, Debug, PartialEq, Eq)]
+#[derive(Clone, Copy, PartialEq, Eq)]
 pub struct Packet<'a> {
     /// Its type, 0 to 63.
     pub kind: u8,
@@ -48,7 +48,7 @@ pub struct PacketFault {
 }
 
 /// Why a text was not read.
-#[derive(Clone, Copy, Debug, PartialEq, Eq)]
+#[derive(Clone, Copy, PartialEq, Eq)]
 pub enum ReadFault {
     /// The text is no list of packets; this is its first fault.
     Packet(PacketFault),

@@ -12,7 +12,7 @@ use crate::pattern::Pattern;
 use std::alloc::Global;
 
 /// What was read last of a branch.
-#[derive(Clone, Copy, Debug, PartialEq, Eq)]
+#[derive(Clone, Copy, PartialEq, Eq)]
 pub enum LastRead {
     Nothing,
     /// An atom, to which an operator may still apply.
@@ -22,7 +22,7 @@ pub enum LastRead {
 }
 
 /// What stands behind an atom.
-#[derive(Clone, Copy, Debug, PartialEq, Eq)]
+#[derive(Clone, Copy, PartialEq, Eq)]
 pub enum Operator {
     Star,
     Plus,

@@ -4,7 +4,7 @@ ghost use Rattle.wot_pattern.specs.declared.fault.PatternFault.TheVariants.{Memo
 use std::alloc::{AllocError, AllocFailed};
 
 /// Why a text gave no pattern.
-#[derive(Clone, Copy, Debug, PartialEq, Eq)]
+#[derive(Clone, Copy, PartialEq, Eq)]
 pub enum PatternFault {
     /// The text isn't a pattern.
     Unreadable,

@@ -1,7 +1,7 @@
 use crate::item::Item;
 
 /// An atom other than a group.
-#[derive(Debug, Drop)]
+#[derive(Drop)]
 pub enum Leaf {
     Exactly(char),
     Any,
@@ -11,7 +11,7 @@ pub enum Leaf {
 }
 
 /// A node of a tree, which stands behind the nodes that it is made of.
-#[derive(Debug, Drop)]
+#[derive(Drop)]
 pub enum Node {
     Nothing,
     Single(Leaf),

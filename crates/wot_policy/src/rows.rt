@@ -9,7 +9,7 @@ const SUBKEY_REVOCATION: u8 = 0x28;
 const CERTIFICATION_REVOCATION: u8 = 0x30;
 
 /// What a policy is asked about a signature.
-#[derive(Clone, Copy, Debug, PartialEq, Eq)]
+#[derive(Clone, Copy, PartialEq, Eq)]
 pub struct Ask {
     /// The kind of signature (RFC 9580, section 5.2.1).
     pub kind: u8,
@@ -20,7 +20,7 @@ pub struct Ask {
 }
 
 /// For which times of signing a hash algorithm counts.
-#[derive(Clone, Copy, Debug, PartialEq, Eq)]
+#[derive(Clone, Copy, PartialEq, Eq)]
 pub enum Row {
     Never,
     /// Before this moment, in seconds from 1970 on; not at the moment itself.
@@ -29,7 +29,7 @@ pub enum Row {
 }
 
 /// The rows by which signatures are admitted. Item h of either list is the row of the hash number h.
-#[derive(Clone, Copy, Debug, PartialEq, Eq)]
+#[derive(Clone, Copy, PartialEq, Eq)]
 pub struct PolicyRows {
     /// For the kinds of signature that take nothing back.
     pub plain: [Row; 256],

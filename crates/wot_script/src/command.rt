@@ -2,7 +2,7 @@ use crate::{ClaimLines, LabelLines, Octets};
 use wot_types::{Fpr, Name, SigNumber, UserId, ViewName};
 
 /// What a line asks for.
-#[derive(Debug, Drop, PartialEq, Eq)]
+#[derive(Drop, PartialEq, Eq)]
 pub enum Command {
     /// `import HEX`: unites the certificates of these octets with the keyring.
     Import(Octets),

@@ -8,7 +8,7 @@ use std::marker::Model;
 use wot_types::Memory;
 
 /// Lines of one kind, in order.
-#[derive(Debug, Drop)]
+#[derive(Drop)]
 pub struct Lines<T> {
     lines: Vec<T>,
 }

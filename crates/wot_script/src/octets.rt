@@ -5,7 +5,7 @@ use std::marker::Model;
 use wot_types::Memory;
 
 /// A list of octets.
-#[derive(Debug, Drop)]
+#[derive(Drop)]
 pub struct Octets {
     octets: Vec<u8>,
 }

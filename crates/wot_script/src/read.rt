@@ -19,7 +19,7 @@ use std::alloc::Global;
 use wot_types::{Fpr, Memory, Name, SigNumber, UserId, ViewName};
 
 /// Why a line gave no command.
-#[derive(Clone, Copy, Debug, PartialEq, Eq)]
+#[derive(Clone, Copy, PartialEq, Eq)]
 pub enum LineFault {
     /// It spells no command.
     Line,

@@ -2,7 +2,7 @@ use wot_edge::Step;
 use wot_types::Fpr;
 
 /// What a search looks for among the suffixes of fewest edges.
-#[derive(Clone, Copy, Debug, PartialEq, Eq)]
+#[derive(Clone, Copy, PartialEq, Eq)]
 pub enum Goal {
     /// The greatest amount.
     Widest,
@@ -12,7 +12,7 @@ pub enum Goal {
 
 /// What a search keeps of the suffix of an issuer: its first edge, how many edges it has, and the
 /// least of what is left of them. The rest of it is kept at the first edge's target.
-#[derive(Clone, Copy, Debug, PartialEq, Eq)]
+#[derive(Clone, Copy, PartialEq, Eq)]
 pub struct Node {
     pub step: Step,
     pub size: u8,
@@ -20,7 +20,7 @@ pub struct Node {
 }
 
 /// A root, and what a path from it would have.
-#[derive(Clone, Copy, Debug, PartialEq, Eq)]
+#[derive(Clone, Copy, PartialEq, Eq)]
 pub struct Choice {
     pub fpr: Fpr,
     pub width: u8,
@@ -28,7 +28,7 @@ pub struct Choice {
 
 /// What is demanded of an edge: to be on the wanted user ID, by its place among the target's; or
 /// to have a depth of at least so many edges, and an issuer other than the target.
-#[derive(Clone, Copy, Debug, PartialEq, Eq)]
+#[derive(Clone, Copy, PartialEq, Eq)]
 pub enum Demand {
     On(Option<u32>),
     Before(u8),

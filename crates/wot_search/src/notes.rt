@@ -27,7 +27,7 @@ impl Notes for Consulted {
 }
 
 /// Keeps nothing of what is looked at, and takes no memory: nobody asks for it later.
-#[derive(Clone, Copy, Debug)]
+#[derive(Clone, Copy)]
 pub struct Unnoted;
 
 impl Notes for Unnoted {

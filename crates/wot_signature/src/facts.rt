@@ -1,7 +1,7 @@
 use wot_types::Fpr;
 
 /// What a signature says by its hashed subpackets. Of several subpackets of one type the last known one counts.
-#[derive(Clone, Copy, Debug, PartialEq, Eq)]
+#[derive(Clone, Copy, PartialEq, Eq)]
 pub struct SigFacts {
     /// The kind of signature: 0x10 to 0x13 are certifications, 0x1F stands on the key, 0x20 and 0x30 revoke.
     pub kind: u8,

@@ -1,5 +1,5 @@
 /// Whether a key stands at a time, and what ends it.
-#[derive(Clone, Copy, Debug, PartialEq, Eq)]
+#[derive(Clone, Copy, PartialEq, Eq)]
 pub struct Standing {
     /// A signature of its own governs it.
     pub has: bool,

@@ -1,5 +1,5 @@
 /// Why octets are no list of subpackets. The first fault from the beginning is told.
-#[derive(Clone, Copy, Debug, PartialEq, Eq)]
+#[derive(Clone, Copy, PartialEq, Eq)]
 pub enum AreaFault {
     /// Octets of a length are missing.
     CutLength,

@@ -1,5 +1,5 @@
 /// A subpacket of a signature, as it lies in its area.
-#[derive(Clone, Copy, Debug, PartialEq, Eq)]
+#[derive(Clone, Copy, PartialEq, Eq)]
 pub struct Sub<'a> {
     /// Whether who doesn't know it must refuse the signature.
     pub critical: bool,

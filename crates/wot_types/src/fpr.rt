@@ -11,7 +11,7 @@ use crate::digits::digits_are_read;
 use std::cmp::Ordering;
 
 /// A key's fingerprint (RFC 9580, section 5.5.4). Fingerprints are ordered by their octets.
-#[derive(Clone, Copy, Debug, PartialEq, Eq)]
+#[derive(Clone, Copy, PartialEq, Eq)]
 pub enum Fpr {
     /// Of a version 4 key: a SHA-1 digest.
     V4([u8; 20]),

@@ -6,7 +6,7 @@ use crate::digits::digits_are_read;
 use std::cmp::Ordering;
 
 /// The number by which a signature is known: a SHA-256 digest. Numbers are ordered by their octets.
-#[derive(Clone, Copy, Debug, PartialEq, Eq, PartialOrd, Ord)]
+#[derive(Clone, Copy, PartialEq, Eq, PartialOrd, Ord)]
 pub struct SigNumber(pub [u8; 32]);
 
 impl SigNumber {

@@ -1,7 +1,7 @@
 use crate::{Fpr, UserId};
 
 /// A place in a listing of bindings: after this user ID of this key.
-#[derive(Debug, Drop, PartialEq, Eq)]
+#[derive(Drop, PartialEq, Eq)]
 pub struct Place {
     pub fpr: Fpr,
     pub uid: UserId,

@@ -9,7 +9,7 @@ use std::marker::Model;
 
 /// The name of a view: 1 to 32 of `a` to `z`, `0` to `9`, `-` and `_`. Names are ordered by their
 /// octets.
-#[derive(Debug, Drop)]
+#[derive(Drop)]
 pub struct ViewName {
     octets: Vec<u8>,
 }

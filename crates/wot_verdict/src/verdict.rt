@@ -1,7 +1,7 @@
 use wot_types::Fpr;
 
 /// What was said of a signature number.
-#[derive(Clone, Copy, Debug, PartialEq, Eq)]
+#[derive(Clone, Copy, PartialEq, Eq)]
 pub enum Verdict {
     /// The signature verifies with the key of this fingerprint.
     Good(Fpr),

@@ -16,7 +16,7 @@ use wot_types::{Memory, ViewName};
 const MOST: usize = 64;
 
 /// Why a watch doesn't begin.
-#[derive(Clone, Copy, Debug, PartialEq, Eq)]
+#[derive(Clone, Copy, PartialEq, Eq)]
 pub enum PutFault {
     /// As many watches as may be are there, and none has this name.
     Full,

@@ -115,7 +115,7 @@ fn outcome_of(
 fn entries_of_a_directory(rt: HostRuntime) {
     for (name, packets, expected) in &LOADED {
         let told = outcome_of(rt.alloc(), Limits::standard(), name, packets);
-        assert!(rt; told == Some(*expected), "{name:?}");
+        assert!(rt; told == Some(*expected));
     }
     let none = Limits {
         certificates: 0,
