@@ -115,6 +115,11 @@ pub record Shown (q : Question) (sums : Sums) (claims : List Claim) (paths : Lis
   pub below : AreBelow (255 * length paths) sums
   pub count : length paths + length rest ≡ length claims
 
+-- the same of some paths
+pub record SomeShown (q : Question) (sums : Sums) (claims : List Claim) (rest : List Claim) : Type 0 where
+  pub paths : List Path
+  pub shown : Shown q sums claims paths rest
+
 module _ (q : Question) (good : IsRecord q.told) where
   pub each_shows_one : (earlier : List Path) (claims : List Claim) (a b : List Path) → EachShows q earlier claims a → EachShows q earlier claims b → a ≡ b
   each_shows_one earlier [] [] [] s t = refl
@@ -127,14 +132,14 @@ module _ (q : Question) (good : IsRecord q.told) where
       let rest : a ≡ b = each_shows_one (earlier ++ y ∷ []) claims a b (subst (λ (p : Path). EachShows q (earlier ++ p ∷ []) claims a) first s.1) t.1 in
       ap (λ (p : Path). p ∷ a) first ∙ ap (λ (ps : List Path). y ∷ ps) rest
 
-  pub shown_none : (sums : Sums) (claims : List Claim) (paths : List Path) → paths ≡ [] → use_in sums ≡ use_of [] → AreBelow 0 sums → Shown q sums claims paths claims
-  shown_none sums claims paths e u b = subst (λ (ps : List Path). Shown q sums claims ps claims) (sym e) (record {
+  pub shown_none : (sums : Sums) (claims : List Claim) → use_in sums ≡ use_of [] → AreBelow 0 sums → Shown q sums claims [] claims
+  shown_none sums claims u b = record {
     goes = λ more t. t;
     only = λ all t. (all, refl, t);
     used = u;
     below = b;
     count = omega arith;
-  })
+  }
 
   first_shows : (earlier : List Path) (claim : Claim) (claims : List Claim) (paths : List Path) → EachShows q earlier (claim ∷ claims) paths
       → (path : Path) × (rest : List Path) × (paths ≡ path ∷ rest) × Shows q (use_of earlier) claim path × EachShows q (earlier ++ path ∷ []) claims rest
@@ -145,9 +150,9 @@ module _ (q : Question) (good : IsRecord q.told) where
   push_length [] x = refl
   push_length (y ∷ xs) x = let e = push_length xs x in omega (arith, e)
 
-  pub shown_more : (old new : Sums) (claims : List Claim) (paths more : List Path) (rest later : List Claim) (claim : Claim) (path : Path) → rest ≡ claim ∷ later → more ≡ paths ++ path ∷ []
-      → Shown q old claims paths rest → Shows q (use_in old) claim path → use_in new ≡ use_of (paths ++ path ∷ []) → AreBelow (255 * length paths + 255) new → Shown q new claims more later
-  shown_more old new claims paths more rest later claim path e m s shows u b = subst (λ (ps : List Path). Shown q new claims ps later) (sym m) (record {
+  pub shown_more : (old new : Sums) (claims : List Claim) (paths : List Path) (rest later : List Claim) (claim : Claim) (path : Path) → rest ≡ claim ∷ later
+      → Shown q old claims paths rest → Shows q (use_in old) claim path → use_in new ≡ use_of (paths ++ path ∷ []) → AreBelow (255 * length paths + 255) new → Shown q new claims (paths ++ path ∷ []) later
+  shown_more old new claims paths rest later claim path e s shows u b = record {
     goes = λ ps t. subst (λ (xs : List Path). EachShows q [] claims xs) (sym (append_assoc paths (path ∷ []) ps)) (s.goes (path ∷ ps) (subst (λ (cs : List Claim). EachShows q paths cs (path ∷ ps)) (sym e) (shows', t)));
     only = λ all t.
         let o = s.only all t in
@@ -160,7 +165,7 @@ module _ (q : Question) (good : IsRecord q.told) where
     used = u;
     below = below_push new paths path b;
     count = let l = push_length paths path in let c = s.count in let r : length rest ≡ length (claim ∷ later) = ap length e in omega (arith, l, c, r);
-  })
+  }
     where
       shows' : Shows q (use_of paths) claim path
       shows' = subst (λ (x : Use). Shows q x claim path) s.used shows

@@ -14,7 +14,7 @@ use wot_types::{Fpr, Memory};
 /// What is demanded of an edge: to be on the wanted user ID, by its place among the target's; or
 /// to have a depth of at least so many edges, a scope that holds, and an issuer other than the
 /// target.
-#[derive(Clone, Copy, PartialEq, Eq)]
+#[derive(Clone, Copy)]
 pub enum Demand {
     On(Option<u32>),
     Before(u8),

@@ -89,6 +89,5 @@ pub fn advance<R: Roads>(
         (Asking (R.told roads.now) asked.now (λ q used. GoesOn q used size growth.old growth.new)) }
 {
     let layer = mem::replace(&mut growth.layer, Vec::new(alloc));
-    extend_all(roads, asked, size, &layer, growth)?;
-    Ok(())
+    extend_all(roads, asked, size, &layer, growth)
 }

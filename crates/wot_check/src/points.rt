@@ -78,8 +78,7 @@ fn covers_below<R: Roads>(
     if label == 255 {
         return Ok(true);
     }
-    let covered = covers(roads, asked, label, table, at)?;
-    Ok(covered)
+    covers(roads, asked, label, table, at)
 }
 
 /// Whether so is each edge into each labelled fingerprint.
@@ -122,6 +121,5 @@ pub fn excludes<R: Roads>(roads: &R, asked: &Asked, table: &Table) -> Result<boo
     if !covers(roads, asked, 0, table, asked.target)? {
         return Ok(false);
     }
-    let covered = covers_all(roads, asked, table)?;
-    Ok(covered)
+    covers_all(roads, asked, table)
 }

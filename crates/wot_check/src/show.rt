@@ -106,7 +106,6 @@ pub fn show_all<R: Roads>(
         (λ used. AreUsedBy (asks (R.told roads.now uid.now) roots.now target.now) claims.now used) }
 {
     let mut used = unused(alloc);
-    let mut paths: Vec<Path> = Vec::new(alloc);
     let mut rest = claims;
     'rest: while let Some((claim, later)) = rest.split_first() {
         let asked = Asked {
@@ -117,10 +116,7 @@ pub fn show_all<R: Roads>(
         };
         match show(alloc, roads, &asked, claim)? {
             None => return Ok(None),
-            Some(path) => {
-                add(&mut used, &path)?;
-                paths.push(path)?;
-            }
+            Some(path) => add(&mut used, &path)?,
         }
         rest = later;
     }

@@ -12,7 +12,7 @@ use crate::pattern::Pattern;
 use std::alloc::Global;
 
 /// What was read last of a branch.
-#[derive(Clone, Copy, PartialEq, Eq)]
+#[derive(Clone, Copy)]
 pub enum LastRead {
     Nothing,
     /// An atom, to which an operator may still apply.
@@ -22,7 +22,7 @@ pub enum LastRead {
 }
 
 /// What stands behind an atom.
-#[derive(Clone, Copy, PartialEq, Eq)]
+#[derive(Clone, Copy)]
 pub enum Operator {
     Star,
     Plus,
@@ -144,9 +144,9 @@ impl Builder {
         ensures unreadable { IfErr result (λ e. e ≡ Unreadable → (s : State) (a : Reading) → Builds self.old s
             → s.last ≡ atom a → ⊥) }
     {
-        if self.last != LastRead::Atom {
+        let LastRead::Atom = self.last else {
             return Err(PatternFault::Unreadable);
-        }
+        };
         let node = match operator {
             Operator::Star => Node::Star,
             Operator::Plus => Node::Plus,

@@ -1,5 +1,5 @@
 /// What a tree lets through at one position of the text.
-#[derive(Clone, Copy, PartialEq, Eq)]
+#[derive(Clone, Copy)]
 pub struct Flow {
     /// It holds between this position and itself.
     pub empty: bool,

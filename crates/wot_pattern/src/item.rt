@@ -1,5 +1,5 @@
 /// An item of a range: the code points from one to the other, with both ends.
-#[derive(Clone, Copy, PartialEq, Eq)]
+#[derive(Clone, Copy)]
 pub struct Item {
     pub from: char,
     pub to: char,

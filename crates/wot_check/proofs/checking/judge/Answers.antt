@@ -1,5 +1,5 @@
-use Rattle.std.proofs.Common.{Option, length, sym, ap, subst}
-use Rattle.std.proofs.lemmas.Bool.{eqb-true, eq-eqb}
+use Rattle.std.proofs.Common.{◌∙◌, Option, length, sym, ap, subst}
+use Rattle.std.proofs.lemmas.Bool.{eqb-true, eq-eqb, false≢true}
 use Rattle.wot_edge.specs.Path.{asks}
 use Rattle.wot_edge.specs.Sums.{Sums}
 use Rattle.wot_check.specs.Trace.{AreUsedBy}
@@ -21,10 +21,7 @@ pub returns-then-not-in_order-clause-checked : goal.returns-then-not-in_order-cl
 returns-then-not-in_order-clause-checked g c =
     let q = asks (g.R.Roads.told c.args.roads.now c.args.uid.now) c.args.roots.now c.args.target.now in
     let claims = c.args.paths.now in
-    disordered_bad q claims (sym c.if-not-in_order.ensures.in_order) (λ e.
-    let t = eq-eqb (length claims) 0 (ap length e) in
-    let f = c.if-is_empty.ensures in
-    cc)
+    disordered_bad q claims (sym c.if-not-in_order.ensures.in_order) (λ e. false≢true (c.if-is_empty.ensures ∙ eq-eqb (length claims) 0 (ap length e)))
 
 pub returns-in-None-clause-checked : goal.returns-in-None-clause-checked
 returns-in-None-clause-checked g c =
@@ -44,4 +41,4 @@ returns-clause-checked g c =
     let q = asks (g.R.Roads.told c.args.roads.now c.args.uid.now) c.args.roots.now c.args.target.now in
     let claims = c.args.paths.now in
     let u = subst (λ (found : Option Sums). AreUsedBy q claims found) c.in-Some.is c.in_ok-show_all.ensures.used in
-    rejected q claims c.in-Some.used c.args.table.now u (sym c.if-not-in_order.ensures.in_order) (λ x. let t = c.in_ok-excludes-in-Some.ensures.1 x in let f = c.if-branch.false in cc)
+    rejected q claims c.in-Some.used c.args.table.now u (sym c.if-not-in_order.ensures.in_order) (λ x. false≢true (sym c.if-branch.false ∙ c.in_ok-excludes-in-Some.ensures.1 x))

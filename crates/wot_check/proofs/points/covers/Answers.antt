@@ -1,4 +1,5 @@
 use Rattle.std.proofs.Common.{◌≡◌, ◌+◌, inr, true, false, List, ℕ, refl, sym, subst, ◌∙◌}
+use Rattle.std.proofs.lemmas.Bool.{false≢true}
 use Rattle.wot_edge.specs.declared.edge.EdgeFacts.{EdgeFacts}
 use Rattle.wot_edge.specs.Record.{EachRow, Has, Row, edges_into}
 use Rattle.wot_check.specs.declared.demand.Demand.{Demand}
@@ -34,7 +35,7 @@ returns-then-not-branch g c =
     let t = into_target told c.rows-rest.ensures.lawful c.args.at.now edge h uid in
     let P : Demand → Type 0 = λ d. EachRow q.told edge (λ (row : Row). is_covered q.target used d (c.args.size + 1) c.args.table.now row ≡ false) in
     let each = subst P c.demanded-demand.ensures (λ row k e. c.in_ok-covers_edge.ensures row k e ∙ c.if-not-branch.true) in
-    (λ e. absurd cc, λ covers. absurd (covered_fails q used c.args.size c.args.table.now c.args.at.now edge (h uid) t each covers))
+    (λ e. absurd (false≢true e), λ covers. absurd (covered_fails q used c.args.size c.args.table.now c.args.at.now edge (h uid) t each covers))
 
 pub rest-preserved : goal.rest-preserved
 rest-preserved g c =

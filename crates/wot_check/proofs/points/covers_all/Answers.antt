@@ -1,4 +1,5 @@
-use Rattle.std.proofs.Common.{refl, subst}
+use Rattle.std.proofs.Common.{refl, subst, sym, ◌∙◌}
+use Rattle.std.proofs.lemmas.Bool.{false≢true}
 use Rattle.wot_check.specs.Asked.{question_of, used_in}
 use Rattle.wot_check.specs.Table.{Labels}
 use Rattle.wot_check.proofs.Rows.{within_first, within_later}
@@ -9,9 +10,9 @@ pub returns-then-not-branch : goal.returns-then-not-branch
 returns-then-not-branch g c =
     let q = question_of (g.R.Roads.told c.args.roads.now) c.args.asked.now in
     let h = within_first c.rest.rest c.args.table.now c.next.new.self (c.in-Some.fpr, c.in-Some.label) c.in-Some.ensures.steps c.rest.invariant.2.within in (
-      λ e. absurd cc,
+      λ e. absurd (false≢true e),
       λ others. absurd (labels_fail q (used_in c.args.asked.now) c.args.table.now c.iter-rest.ensures.table c.in-Some.fpr c.in-Some.label h
-          (λ f. let t = c.in_ok-covers_below.ensures.1 f in let n = c.if-not-branch.true in cc) others),
+          (λ f. false≢true (sym c.if-not-branch.true ∙ c.in_ok-covers_below.ensures.1 f)) others),
     )
 
 pub rest-preserved : goal.rest-preserved

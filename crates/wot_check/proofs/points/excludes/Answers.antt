@@ -1,3 +1,8 @@
+use Rattle.std.specs.Prelude.{◌↔◌}
+use Rattle.std.proofs.Common.{◌≡◌, ◌∙◌, Bool, true, sym}
+use Rattle.std.proofs.lemmas.Bool.{false≢true}
+use Rattle.std.proofs.lemmas.Result.{IfOk-weaker}
+use Rattle.wot_check.specs.Absence.{Excludes, OthersLabelled}
 use Rattle.wot_check.specs.Asked.{question_of, used_in}
 use Rattle.wot_check.proofs.Testing.{rooted_unspent, three_points, last_covered}
 use Rattle.wot_check.proofs.points.excludes.Goals as goal
@@ -7,19 +12,25 @@ returns-then-not-roots_spent g c =
     let told = g.R.Roads.told c.args.roads.now in
     let q = question_of told c.args.asked.now in
     let used = used_in c.args.asked.now in
-    (λ e. absurd cc, λ x. absurd (rooted_unspent q used c.args.table.now (c.if-not-roots_spent.ensures told) x.roots))
+    (λ e. absurd (false≢true e), λ x. absurd (rooted_unspent q used c.args.table.now (c.if-not-roots_spent.ensures told) x.roots))
 
 pub returns-then-not-branch : goal.returns-then-not-branch
 returns-then-not-branch g c =
     let q = question_of (g.R.Roads.told c.args.roads.now) c.args.asked.now in
     let used = used_in c.args.asked.now in
-    (λ e. absurd cc, λ x. let t = c.in_ok-covers.ensures.1 (last_covered q used c.args.table.now x) in let f = c.if-not-branch.true in absurd cc)
+    (λ e. absurd (false≢true e), λ x. absurd (false≢true (sym c.if-not-branch.true ∙ c.in_ok-covers.ensures.1 (last_covered q used c.args.table.now x))))
 
 pub returns : goal.returns
 returns g c =
     let told = g.R.Roads.told c.args.roads.now in
     let q = question_of told c.args.asked.now in
-    let used = used_in c.args.asked.now in (
-      λ e. three_points q used c.args.table.now c.iter-labels.ensures.table (c.if-not-roots_spent.ensures told) (c.in_ok-covers.ensures.0 c.if-not-branch.false) (c.in_ok-covered.ensures.0 e),
-      λ x. c.in_ok-covered.ensures.1 x.closes.others,
-    )
+    let used = used_in c.args.asked.now in
+    let table = c.args.table.now in
+    let P : Bool → Type 0 = λ meets. (meets ≡ true) ↔ OthersLabelled q used table in
+    let Q : Bool → Type 0 = λ meets. (meets ≡ true) ↔ Excludes q used table in
+    IfOk-weaker c.covers_all.result P Q
+    (λ meets h. (
+      λ e. three_points q used table c.iter-labels.ensures.table (c.if-not-roots_spent.ensures told) (c.in_ok-covers.ensures.0 c.if-not-branch.false) (h.0 e),
+      λ x. h.1 x.closes.others,
+    ))
+    c.covers_all.ensures

@@ -1,4 +1,5 @@
 use Rattle.std.proofs.Common.{inl, inr, List, sym, subst}
+use Rattle.std.proofs.lemmas.Bool.{false≢true}
 use Rattle.wot_edge.specs.declared.path.Step.{Step}
 use Rattle.wot_edge.specs.Path.{issuers}
 use Rattle.wot_edge.specs.Record.{Has}
@@ -11,10 +12,10 @@ rest-preserved c =
     let fpr = c.args.fpr.now in (
       λ h. c.rest.invariant.0 (subst (λ (steps : List Step). Has (issuers steps) fpr) (sym both) (inr h)),
       λ h. elim (subst (λ (steps : List Step). Has (issuers steps) fpr) both (c.rest.invariant.1 h)) [
-        | inl e ↦ let t = c.if-is_same.ensures.equal.1 e in absurd cc
+        | inl e ↦ absurd (false≢true (c.if-is_same.ensures.equal.1 e))
         | inr k ↦ k
       ],
     )
 
 pub returns : goal.returns
-returns c = (λ e. absurd cc, λ h. absurd (no_issuers c.rest.rest.now c.args.fpr.now c.in_default.ensures.cases (c.rest.invariant.1 h)))
+returns c = (λ e. absurd (false≢true e), λ h. absurd (no_issuers c.rest.rest.now c.args.fpr.now c.in_default.ensures.cases (c.rest.invariant.1 h)))

@@ -1,6 +1,7 @@
 use Rattle.std.proofs.Common.{None}
 use Rattle.wot_io.specs.ReaderState.{reader_state}
 use Rattle.wot_io.proofs.Cutting.{feed_answers, rest_answers, long_after, Took-after, Stops-moved, Stops-after}
+use Rattle.wot_io.proofs.Moving.{Took-moved}
 use Rattle.wot_io.proofs.lines.read_line.Goals as goal
 
 pub returns-in-Err-clause-stops : goal.returns-in-Err-clause-stops
@@ -41,3 +42,18 @@ pub returns-in-Ok-clause-ok : goal.returns-in-Ok-clause-ok
 returns-in-Ok-clause-ok g c =
     let moves = rw c.give_none.ensures.held at c.in-Ok-Over.ensures.moves in
     long_after (reader_state c.args.buffer.now c.args.intake.now None) (reader_state c.pass.new.buffer c.pass.new.intake None) (g.S.Source.left c.args.from.now) c.fill.new.buffer.held (g.S.Source.left c.fill.new.from) c.fill.new.intake.taken (g.S.Source.left c.pass.new.from) moves c.in-Ok.ensures.ok
+
+pub returns-in-Err-clause-took : goal.returns-in-Err-clause-took
+returns-in-Err-clause-took g c =
+    let moves = rw c.give_none.ensures.held at c.in-Err.ensures.moves in
+    Took-moved c.args.buffer.now.held (g.S.Source.left c.args.from.now) c.args.intake.now.taken c.fill.new.buffer.held (g.S.Source.left c.fill.new.from) c.fill.new.intake.taken moves
+
+pub returns-in-Ok-Feed-clause-took : goal.returns-in-Ok-Feed-clause-took
+returns-in-Ok-Feed-clause-took g c =
+    let moves = rw c.give_none.ensures.held at c.in-Ok-Feed.ensures.moves in
+    Took-moved c.args.buffer.now.held (g.S.Source.left c.args.from.now) c.args.intake.now.taken c.fill.new.buffer.held (g.S.Source.left c.fill.new.from) c.fill.new.intake.taken moves
+
+pub returns-in-Ok-End-clause-took : goal.returns-in-Ok-End-clause-took
+returns-in-Ok-End-clause-took g c =
+    let moves = rw c.give_none.ensures.held at c.in-Ok-End.ensures.moves in
+    Took-moved c.args.buffer.now.held (g.S.Source.left c.args.from.now) c.args.intake.now.taken c.fill.new.buffer.held (g.S.Source.left c.fill.new.from) c.fill.new.intake.taken moves
