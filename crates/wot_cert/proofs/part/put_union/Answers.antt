@@ -1,8 +1,11 @@
 use Rattle.std.proofs.Common.{sym}
 use Rattle.wot_cert.specs.Certificate.{part_cmp, unite_part}
-use Rattle.wot_cert.proofs.Walk.{step_less, step_equal, step_greater, end_left, end_right, rises, parts_total, parts_same}
+use Rattle.wot_cert.proofs.Walk.{begun, step_less, step_equal, step_greater, end_left, end_right, parts_total, parts_same}
 use Rattle.wot_cert.proofs.Copies.{part_pushed, parts_pushed}
-use Rattle.wot_cert.proofs.part.union_parts.Goals as goal
+use Rattle.wot_cert.proofs.part.put_union.Goals as goal
+
+pub walk-init : goal.walk-init
+walk-init c = begun part_cmp unite_part parts_total parts_same _ _ _ c.requires.a c.requires.b c.requires.empty
 
 pub walk-preserved-in-Less : goal.walk-preserved-in-Less
 walk-preserved-in-Less c =
@@ -18,14 +21,6 @@ walk-preserved c =
 
 pub returns-clause-union : goal.returns-clause-union
 returns-clause-union c = end_right part_cmp unite_part parts_total parts_same _ _ _ _ _ _ c.walk.invariant c.in_default.ensures.cases (parts_pushed _ _ _ c.in_ok-push_copies-2.ensures)
-
-pub returns-in_default-split_first-clause-rises : goal.returns-in_default-split_first-clause-rises
-returns-in_default-split_first-clause-rises c =
-    rises part_cmp unite_part parts_total parts_same c.args.a.now c.args.b.now _ (end_left part_cmp unite_part parts_total parts_same _ _ _ _ _ _ c.walk.invariant c.in_default-split_first.ensures.cases (parts_pushed _ _ _ c.in_ok-push_copies.ensures)) c.requires.a
-
-pub returns-clause-rises : goal.returns-clause-rises
-returns-clause-rises c =
-    rises part_cmp unite_part parts_total parts_same c.args.a.now c.args.b.now _ (end_right part_cmp unite_part parts_total parts_same _ _ _ _ _ _ c.walk.invariant c.in_default.ensures.cases (parts_pushed _ _ _ c.in_ok-push_copies-2.ensures)) c.requires.a
 
 pub returns-in_default-split_first-clause-union : goal.returns-in_default-split_first-clause-union
 returns-in_default-split_first-clause-union c =
