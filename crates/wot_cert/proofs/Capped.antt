@@ -23,17 +23,8 @@ counted_on octets left total c q x others h e k f = record {
   sum = sum_on h.done left x others total h.sum e;
 }
 
-zero_capped : 0 ≡ min 0 (2 ^ 64 - 1)
-zero_capped = refl
-
-pub counted_none : (total : ℕ) → Counted 0 total total
-counted_none total = record { done = 0; capped = zero_capped; sum = zero-add total }
-
 last : (octets done left total : ℕ) → octets ≡ min done (2 ^ 64 - 1) → done + left ≡ total → left ≡ 0 → octets ≡ min total (2 ^ 64 - 1)
 last octets done left total h e z = omega arith
-
-pub counted_all : (octets left total : ℕ) → Counted octets left total → left ≡ 0 → octets ≡ min total (2 ^ 64 - 1)
-counted_all octets left total h z = last octets h.done left total h.capped h.sum z
 
 joined : (k a d u t s n : ℕ) → n ≡ k + (d + u + t + s) → a ≡ min (k + d + u + t + s) (2 ^ 64 - 1) → a ≡ min n (2 ^ 64 - 1)
 joined k a d u t s n e h = omega arith
