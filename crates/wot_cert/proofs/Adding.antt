@@ -167,8 +167,6 @@ module _ {A : Type 0} (R : A → A → Ordering) (join : A → A → A) (o : IsT
     octets = left_ended R join o same wo _ a b left right w.octets n;
   }
 
-  }
-
   pub few_adds : (adds e : Adds) (p : ℕ) (a b left right ys : List A) (y : A) → ((x z : A) → wi x ≤ wi (join x z)) → ((x z : A) → ws x ≤ ws (join x z)) → ((x z : A) → wo x ≤ wo (join x z))
       → W adds a b left right → Ahead left right ys y → Weighs wi ws wo e y
       → sum_of wi (united R join a b) < p → sum_of ws (united R join a b) < p → sum_of wo (united R join a b) < p → IsFew p adds e
