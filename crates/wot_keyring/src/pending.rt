@@ -14,7 +14,7 @@ use wot_types::{Fpr, Memory, SigNumber};
 use wot_verdict::Verdicts;
 
 /// A sound signature that has no verdict, and what a verifier needs to find the key that made it.
-#[derive(Clone, Copy)]
+#[derive(Clone, Copy, PartialEq, Eq)]
 pub struct Pending {
     /// The number on which a verdict is waited for.
     pub number: SigNumber,
