@@ -19,9 +19,10 @@ pub walk-preserved : goal.walk-preserved
 walk-preserved c =
     step_greater part_cmp unite_part parts_total parts_same _ _ _ _ _ _ _ _ _ _ c.walk.invariant c.in-Some.ensures.cases.0 c.in-Some-split_first.ensures.cases.0 (sym c.in-Greater.ensures) (part_pushed _ _ _ c.in_ok-push_copy-in-Greater.ensures)
 
-pub returns-clause-union : goal.returns-clause-union
-returns-clause-union c = end_right part_cmp unite_part parts_total parts_same _ _ _ _ _ _ c.walk.invariant c.in_default.ensures.cases (parts_pushed _ _ _ c.in_ok-push_copies-2.ensures)
+pub returns : goal.returns
+returns c = record { union = end_right part_cmp unite_part parts_total parts_same _ _ _ _ _ _ c.walk.invariant c.in_default.ensures.cases (parts_pushed _ _ _ c.in_ok-push_copies-2.ensures) }
 
-pub returns-in_default-split_first-clause-union : goal.returns-in_default-split_first-clause-union
-returns-in_default-split_first-clause-union c =
-    end_left part_cmp unite_part parts_total parts_same _ _ _ _ _ _ c.walk.invariant c.in_default-split_first.ensures.cases (parts_pushed _ _ _ c.in_ok-push_copies.ensures)
+pub returns-in_default-split_first : goal.returns-in_default-split_first
+returns-in_default-split_first c = record {
+  union = end_left part_cmp unite_part parts_total parts_same _ _ _ _ _ _ c.walk.invariant c.in_default-split_first.ensures.cases (parts_pushed _ _ _ c.in_ok-push_copies.ensures);
+}
