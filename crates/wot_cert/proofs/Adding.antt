@@ -118,9 +118,6 @@ module _ {A : Type 0} (R : A → A → Ordering) (join : A → A → A) (o : IsT
   rest_rises : (right : List A) (y : A) (ys : List A) → right ≡ y ∷ ys → IsRising R right → IsRising R (y ∷ ys)
   rest_rises right y ys e h = rw e at h
 
-  pub first_fits : (right : List A) (y : A) (ys : List A) → right ≡ y ∷ ys → AllByRecursion Fits right → Fits y
-  first_fits right y ys e h = (rest_fits right y ys e h).0
-
   pub adding_less : (adds : Adds) (a b left right : List A) (x : A) (xs : List A) (y : A) (ys : List A) → W adds a b left right → left ≡ x ∷ xs → right ≡ y ∷ ys → R x y ≡ Less → W adds a b xs right
   adding_less adds a b left right x xs y ys w l r h = record {
     left_rises = (rest_rises left x xs l w.left_rises).1;
@@ -168,22 +165,6 @@ module _ {A : Type 0} (R : A → A → Ordering) (join : A → A → A) (o : IsT
     items = left_ended R join o same wi _ a b left right w.items n;
     signatures = left_ended R join o same ws _ a b left right w.signatures n;
     octets = left_ended R join o same wo _ a b left right w.octets n;
-  }
-
-  one_sum : (acc u t : ℕ) → u ≡ acc → 0 + u + t ≡ u + t
-  one_sum acc u t e = omega arith
-
-  started : (n u t : ℕ) → n ≡ 0 → n + u + t ≡ u + t
-  started n u t e = omega arith
-
-  pub adding_begun : (adds : Adds) (a b : List A) → IsRising R a → IsRising R b → AllByRecursion Fits b → adds.items ≡ 0 → adds.signatures ≡ 0 → adds.octets ≡ 0 → W adds a b a b
-  adding_begun adds a b h k f i j l = record {
-    left_rises = h;
-    right_rises = k;
-    fit = f;
-    items = record { inside = le_refl (sum_of wi a); sum = started _ _ _ i };
-    signatures = record { inside = le_refl (sum_of ws a); sum = started _ _ _ j };
-    octets = record { inside = le_refl (sum_of wo a); sum = started _ _ _ l };
   }
 
   pub few_adds : (adds e : Adds) (p : ℕ) (a b left right ys : List A) (y : A) → ((x z : A) → wi x ≤ wi (join x z)) → ((x z : A) → ws x ≤ ws (join x z)) → ((x z : A) → wo x ≤ wo (join x z))

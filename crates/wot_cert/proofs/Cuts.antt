@@ -70,11 +70,6 @@ short-drop ps zero h = h
 short-drop [] (suc i) h = tt
 short-drop (p ∷ ps) (suc i) h = short-drop ps i h.1
 
-pub short-take : (ps : List Spelled) (i : ℕ) → AreShort ps → AreShort (take i ps)
-short-take ps zero h = tt
-short-take [] (suc i) h = tt
-short-take (p ∷ ps) (suc i) h = (h.0, short-take ps i h.1)
-
 -- ---- one key more
 
 at-the-key : (p : Spelled) (ps : List Spelled) → is_key p.kind ≡ true → cut_at is_key (p ∷ ps) ≡ ([], (p, (cut_at is_key ps).0) ∷ (cut_at is_key ps).1)

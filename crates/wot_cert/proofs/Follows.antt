@@ -37,9 +37,6 @@ module _ {A : Type 0} (wi ws wo : A → ℕ) where
     octets = counts_on _ _ _ _ _ _ _ w.octets s.octets (ap (sum_of wo) e) f.octets;
   }
 
-  pub before_none : (first : Adds) (all : List A) → Before wi ws wo first first all all
-  before_none first all = record { then = λ last f. f }
-
   pub before_on : (first sum more next : Adds) (all rest others : List A) (x : A) → WeighsCapped wi ws wo more x → IsCappedSum next sum more → rest ≡ x ∷ others → Before wi ws wo first sum all rest → Before wi ws wo first next all others
   before_on first sum more next all rest others x w s e b = record { then = λ last f. b.then last (follow_on sum more next last x rest others w s e f) }
 

@@ -22,7 +22,6 @@ pub mod Drafts
 pub mod Sketches
 pub mod Cuts
 pub mod Completing
-pub mod Capped
 pub mod SpanLaw
 pub mod ReadingBack
 pub mod Alike

@@ -60,9 +60,6 @@ weight = part_weight if_sound (λ _. 0)
 same_weight : (s n m : ℕ) → s + n ≡ m → s + (0 + n) ≡ 0 + m
 same_weight s n m h = omega arith
 
-alone_weight : (s n : ℕ) → s + 0 ≡ n → s ≡ 0 + n
-alone_weight s n h = omega arith
-
 nothing_old : (ys : List Signature) → sound_new ys [] ≡ sum_of if_sound ys
 nothing_old [] = refl
 nothing_old (y ∷ ys) = ap (λ n. if_sound y + n) (nothing_old ys)

@@ -13,10 +13,6 @@ pub all_front : {A : Type 0} (P : A → Type 0) (xs ys : List A) → AllByRecurs
 all_front P [] ys h = tt
 all_front P (x ∷ xs) ys h = (h.0, all_front P xs ys h.1)
 
-pub all_last : {A : Type 0} (P : A → Type 0) (xs : List A) (y : A) → AllByRecursion P (xs ++ y ∷ []) → P y
-all_last P [] y h = h.0
-all_last P (x ∷ xs) y h = all_last P xs y h.1
-
 module _ {A : Type 0} (R : A → A → Ordering) (join : A → A → A) (change : A → A) where
   abbrev U : List A → List A → List A
   U xs ys = united R join xs (map change ys)
@@ -29,11 +25,6 @@ module _ {A : Type 0} (R : A → A → Ordering) (join : A → A → A) (change 
   pub union_on : (now next first left rest all : List A) (y : A) → U now left ≡ U first all → left ≡ rest ++ y ∷ [] → next ≡ put R join (change y) now → U next rest ≡ U first all
   union_on now next first left rest all y h e f =
       ap (λ (xs : List A). U xs rest) f ∙ sym (united_last now rest y) ∙ ap (U now) (sym e) ∙ h
-
-  pub union_all : (now first left all : List A) → U now left ≡ U first all → length left ≡ 0 → now ≡ U first all
-  union_all now first left all h n =
-      let e : left ≡ [] = nil_from_length left n in
-      ap (U now) (sym e) ∙ h
 
   -- What is put in once more weighs no more than the whole union.
   pub put_within : (m : A → ℕ) → ((x y : A) → m x ≤ m (join x y)) → (now first left rest all : List A) (y : A) → U now left ≡ U first all → left ≡ rest ++ y ∷ [] → sum_of m (put R join (change y) now) ≤ sum_of m (U first all)

@@ -20,14 +20,12 @@ ghost use Rattle.wot_policy.specs.Kept.{IsFaithful, rows_of};
 ghost use Rattle.wot_cert.specs.Whole.{IsCertificate, AreSigsAt, ArePartsOf};
 
 use crate::adds::added;
-use crate::complete::{ON_ATTRIBUTE, ON_KEY, ON_SUBKEY, ON_USER_ID, parts_with, sigs_with};
 use crate::draft::Draft;
 use crate::export::{append_cert, reads_back};
 use crate::judge::{judge_new, judge_new_parts};
 use crate::measure::totals_of;
-use crate::part::{copy_parts, union_parts};
 use crate::places::Places;
-use crate::sig::{Marks, copy_sigs, union_sigs};
+use crate::sig::Marks;
 use crate::{Adds, Growth, MergeFault, Part, Sig};
 use std::alloc::Global;
 use std::marker::Model;
@@ -73,12 +71,7 @@ impl Cert {
             return Ok(None);
         };
         let body = Vec::from_slice(alloc, body)?;
-        let places = Places {
-            direct: Vec::new(alloc),
-            user_ids: Vec::new(alloc),
-            attributes: Vec::new(alloc),
-            subkeys: Vec::new(alloc),
-        };
+        let places = Places::new(alloc);
         Ok(Some(Cert::whole(body, key, fpr, places)))
     }
 
@@ -94,17 +87,9 @@ impl Cert {
         let Some(fpr) = fingerprint(body) else {
             return Ok(None);
         };
-        let direct = sigs_with(alloc, body, ON_KEY, &[], &draft.sigs)?;
-        let user_ids = parts_with(alloc, body, ON_USER_ID, &draft.user_ids)?;
-        let attributes = parts_with(alloc, body, ON_ATTRIBUTE, &draft.attributes)?;
-        let subkeys = parts_with(alloc, body, ON_SUBKEY, &draft.subkeys)?;
+        let mut places = Places::new(alloc);
+        places.put_drafted(alloc, body, draft)?;
         let body = Vec::from_slice(alloc, body)?;
-        let places = Places {
-            direct,
-            user_ids,
-            attributes,
-            subkeys,
-        };
         Ok(Some(Cert::whole(body, key, fpr, places)))
     }
 
@@ -217,16 +202,8 @@ impl Cert {
         ensures { IfOk result (λ c. c ≡ with_each (copied marks) self.now) }
     {
         let body = Vec::from_slice(alloc, &self.body)?;
-        let direct = copy_sigs(alloc, &self.places.direct, marks)?;
-        let user_ids = copy_parts(alloc, &self.places.user_ids, marks)?;
-        let attributes = copy_parts(alloc, &self.places.attributes, marks)?;
-        let subkeys = copy_parts(alloc, &self.places.subkeys, marks)?;
-        let places = Places {
-            direct,
-            user_ids,
-            attributes,
-            subkeys,
-        };
+        let mut places = Places::new(alloc);
+        places.put_copies(alloc, &self.places, marks)?;
         Ok(Cert::whole(body, self.key, self.fpr, places))
     }
 
@@ -236,16 +213,8 @@ impl Cert {
         ensures { IfOk result (λ c. c ≡ unite self.now other.now) }
     {
         let body = Vec::from_slice(alloc, &self.body)?;
-        let direct = union_sigs(alloc, &self.places.direct, &other.places.direct)?;
-        let user_ids = union_parts(alloc, &self.places.user_ids, &other.places.user_ids)?;
-        let attributes = union_parts(alloc, &self.places.attributes, &other.places.attributes)?;
-        let subkeys = union_parts(alloc, &self.places.subkeys, &other.places.subkeys)?;
-        let places = Places {
-            direct,
-            user_ids,
-            attributes,
-            subkeys,
-        };
+        let mut places = Places::new(alloc);
+        places.put_unions(alloc, &self.places, &other.places)?;
         Ok(Cert::whole(body, self.key, self.fpr, places))
     }
 

@@ -1,4 +1,4 @@
-ghost use Rattle.std.specs.Prelude.{◌≡◌, ◌<◌, ◌^◌, ◌++◌, ◌∷◌, [], OnOk, IfOk, map, length};
+ghost use Rattle.std.specs.Prelude.{◌≡◌, ◌<◌, ◌^◌, ◌++◌, ◌∷◌, [], OnOk, map, length};
 ghost use Rattle.std.specs.List.{AllByRecursion};
 ghost use Rattle.wot_cert.specs.Certificate.{fresh};
 ghost use Rattle.wot_cert.specs.Drafting.{IsShort, IsShortGroup, body_cmp, group_cmp, part_drafted};
@@ -37,24 +37,25 @@ fn push_fresh(
     Ok(())
 }
 
-/// The signatures with these bodies at one place, in order.
-pub(crate) fn sigs_with(
+/// Puts the signatures with these bodies at one place, in order, into an empty list.
+pub(crate) fn put_fresh_sigs(
     alloc: Global,
+    sigs: &mut Vec<Sig>,
     key: &[u8],
     kind: u8,
     component: &[u8],
     bodies: &Bodies,
-) -> Result<Vec<Sig>, Memory>
+) -> Result<(), Memory>
+    requires empty { sigs.old.items ≡ [] }
     requires key { length key.now < 2 ^ 32 }
     requires component { length component.now < 2 ^ 32 }
     requires bodies { AllByRecursion IsShort (bodies_in bodies.now) }
-    ensures sigs { IfOk result (λ v. v.items ≡ map (fresh key.now kind component.now) (bodies_in bodies.now)) }
+    ensures sigs { OnOk result (sigs.new.items ≡ map (fresh key.now kind component.now) (bodies_in bodies.now)) }
 {
-    let mut sigs = Vec::new(alloc);
     for body in bodies {
-        push_fresh(alloc, &mut sigs, key, kind, component, body)?;
+        push_fresh(alloc, sigs, key, kind, component, body)?;
     }
-    Ok(sigs)
+    Ok(())
 }
 
 fn push_drafted(
@@ -77,21 +78,22 @@ fn push_drafted(
     Ok(())
 }
 
-/// The components of one kind, in order.
-pub(crate) fn parts_with(
+/// Puts the components of one kind, in order, into an empty list.
+pub(crate) fn put_fresh_parts(
     alloc: Global,
+    parts: &mut Vec<Part>,
     key: &[u8],
     kind: u8,
     groups: &Groups,
-) -> Result<Vec<Part>, Memory>
+) -> Result<(), Memory>
+    requires empty { parts.old.items ≡ [] }
     requires key { length key.now < 2 ^ 32 }
     requires groups { AllByRecursion IsShortGroup (groups_in groups.now.entries) }
     requires rises { AllByRecursion (λ g. IsRising body_cmp g.1) (groups_in groups.now.entries) }
-    ensures parts { IfOk result (λ v. v.items ≡ map (part_drafted key.now kind) (groups_in groups.now.entries)) }
+    ensures parts { OnOk result (parts.new.items ≡ map (part_drafted key.now kind) (groups_in groups.now.entries)) }
 {
-    let mut parts = Vec::new(alloc);
     for (body, sigs) in groups {
-        push_drafted(alloc, &mut parts, key, kind, body, sigs)?;
+        push_drafted(alloc, parts, key, kind, body, sigs)?;
     }
-    Ok(parts)
+    Ok(())
 }

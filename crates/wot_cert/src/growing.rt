@@ -98,9 +98,9 @@ fn put_sig<F: Fn(Ask) -> bool>(
     match find_sig(sigs, sig) {
         Ok(_) => Ok(()),
         Err(at) => {
-            let copy = sig.marked(alloc, false)?;
             sigs.reserve(1)?;
             log.reserve(1)?;
+            let copy = sig.marked(alloc, false)?;
             *totals = with(*totals, of_sig(sig));
             settle(sigs, log, at, copy, policy);
             Ok(())
@@ -208,8 +208,8 @@ fn copy_ready(alloc: Global, parts: &mut Vec<Part>, part: &Part) -> Result<Part,
     ensures len { vec_len parts.new ≡ vec_len parts.old }
     ensures room { OnOk result (vec_len parts.new < vec_capacity parts.new) }
 {
-    let copy = part.copied(alloc, Marks::Dropped)?;
     parts.reserve(1)?;
+    let copy = part.copied(alloc, Marks::Dropped)?;
     Ok(copy)
 }
 

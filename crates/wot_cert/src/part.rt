@@ -12,12 +12,12 @@ ghost use Rattle.wot_cert.specs.New.{judged_part, sound_new};
 ghost use Rattle.wot_cert.specs.Ranked.{IsRising};
 ghost use Rattle.wot_policy.specs.Kept.{IsFaithful, rows_of};
 
-use crate::complete::sigs_with;
+use crate::complete::put_fresh_sigs;
 use crate::draft::Bodies;
 use crate::growing::put_sigs;
 use crate::judge::judge_new;
 use crate::shrinking::take_sigs_back;
-use crate::sig::{Marks, copy_sigs, union_sigs};
+use crate::sig::{Marks, copy_sigs, put_union as put_union_of_sigs};
 use crate::{Adds, Sig};
 use std::alloc::Global;
 use std::cmp::Ordering;
@@ -73,9 +73,10 @@ impl Part {
         requires rises { IsRising body_cmp (bodies_in sigs.now) }
         ensures part { IfOk result (λ p. p ≡ part_drafted key.now kind (body.now, bodies_in sigs.now)) }
     {
-        let sigs = sigs_with(alloc, key, kind, body, sigs)?;
+        let mut on_it = Vec::new(alloc);
+        put_fresh_sigs(alloc, &mut on_it, key, kind, body, sigs)?;
         let body = Vec::from_slice(alloc, body)?;
-        Ok(Part { body, sigs })
+        Ok(Part { body, sigs: on_it })
     }
 
     pub(crate) fn copied(&self, alloc: Global, marks: Marks) -> Result<Part, Memory>
@@ -144,7 +145,8 @@ impl Part {
         ensures { IfOk result (λ p. p ≡ unite_part self.now other.now) }
     {
         let body = Vec::from_slice(alloc, &self.body)?;
-        let sigs = union_sigs(alloc, &self.sigs, &other.sigs)?;
+        let mut sigs = Vec::new(alloc);
+        put_union_of_sigs(alloc, &mut sigs, &self.sigs, &other.sigs)?;
         Ok(Part { body, sigs })
     }
 }
@@ -193,45 +195,41 @@ pub(crate) fn push_copies(
     Ok(())
 }
 
-pub(crate) fn copy_parts(alloc: Global, parts: &[Part], marks: Marks) -> Result<Vec<Part>, Memory>
-    ensures { IfOk result (λ v. v.items ≡ map (part_with (copied marks)) parts.now) }
-{
-    let mut out = Vec::new(alloc);
-    push_copies(alloc, &mut out, parts, marks)?;
-    Ok(out)
-}
-
-/// The union of two lists in order.
-pub(crate) fn union_parts(alloc: Global, a: &[Part], b: &[Part]) -> Result<Vec<Part>, Memory>
+/// Puts the union of two lists in order into an empty one.
+pub(crate) fn put_union(
+    alloc: Global,
+    out: &mut Vec<Part>,
+    a: &[Part],
+    b: &[Part],
+) -> Result<(), Memory>
+    requires empty { out.old.items ≡ [] }
     requires a { IsRising part_cmp a.now }
     requires b { IsRising part_cmp b.now }
-    ensures union { IfOk result (λ v. v.items ≡ unite_parts a.now b.now) }
-    ensures rises { IfOk result (λ v. IsRising part_cmp v.items) }
+    ensures union { OnOk result (out.new.items ≡ unite_parts a.now b.now) }
 {
-    let mut out = Vec::new(alloc);
     let mut left = a;
     let mut right = b;
     'walk: while let Some((x, xs)) = left.split_first() {
         let Some((y, ys)) = right.split_first() else {
-            push_copies(alloc, &mut out, left, Marks::Kept)?;
-            return Ok(out);
+            push_copies(alloc, out, left, Marks::Kept)?;
+            return Ok(());
         };
         match order(x, y) {
             Ordering::Less => {
-                push_copy(alloc, &mut out, x, Marks::Kept)?;
+                push_copy(alloc, out, x, Marks::Kept)?;
                 left = xs;
             }
             Ordering::Equal => {
-                push_union(alloc, &mut out, x, y)?;
+                push_union(alloc, out, x, y)?;
                 left = xs;
                 right = ys;
             }
             Ordering::Greater => {
-                push_copy(alloc, &mut out, y, Marks::Kept)?;
+                push_copy(alloc, out, y, Marks::Kept)?;
                 right = ys;
             }
         }
     }
-    push_copies(alloc, &mut out, right, Marks::Kept)?;
-    Ok(out)
+    push_copies(alloc, out, right, Marks::Kept)?;
+    Ok(())
 }

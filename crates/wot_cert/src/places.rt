@@ -1,11 +1,19 @@
-ghost use Rattle.std.specs.Prelude.{[], OnOk};
+ghost use Rattle.std.specs.Prelude.{◌≡◌, ◌<◌, ◌^◌, [], OnOk, length};
+ghost use Rattle.wot_cert.specs.Drafting.{IsWholeSketch, completed, seen};
 ghost use Rattle.wot_cert.specs.Growing.{AreUnited, AsksForCert, PlacesFollow, PlacesRise, StillLeadsBack, TakesBack};
+ghost use Rattle.wot_cert.specs.Parts.{AreBare, AreCopies, AreDrafted, AreUnions};
 ghost use Rattle.wot_cert.specs.Parts.{of_places};
 ghost use Rattle.wot_policy.specs.Kept.{IsFaithful, rows_of};
 
+use crate::complete::{
+    ON_ATTRIBUTE, ON_KEY, ON_SUBKEY, ON_USER_ID, put_fresh_parts, put_fresh_sigs,
+};
+use crate::draft::Draft;
 use crate::growing::{put_parts, put_sigs};
 use crate::growth::Growth;
+use crate::part::{push_copies as push_copies_of_parts, put_union as put_union_of_parts};
 use crate::shrinking::{take_parts_back, take_sigs_back};
+use crate::sig::{Marks, push_copies, put_union};
 use crate::{Adds, Cert, Part, Sig};
 use std::alloc::Global;
 use wot_policy::{Ask, Policy};
@@ -21,6 +29,74 @@ pub(crate) struct Places {
 }
 
 impl Places {
+    /// Places at which nothing stands.
+    pub(crate) fn new(alloc: Global) -> Places
+        ensures bare { AreBare result }
+    {
+        Places {
+            direct: Vec::new(alloc),
+            user_ids: Vec::new(alloc),
+            attributes: Vec::new(alloc),
+            subkeys: Vec::new(alloc),
+        }
+    }
+
+    /// Puts what the packets behind a key drafted where nothing stands.
+    pub(crate) fn put_drafted(
+        &mut self,
+        alloc: Global,
+        key: &[u8],
+        draft: &Draft,
+    ) -> Result<(), Memory>
+        requires bare { AreBare self.old }
+        requires short { length key.now < 2 ^ 32 }
+        requires whole { IsWholeSketch (seen draft.now) }
+        ensures drafted { OnOk result (AreDrafted key.now (seen draft.now) self.new) }
+    {
+        put_fresh_sigs(alloc, &mut self.direct, key, ON_KEY, &[], &draft.sigs)?;
+        put_fresh_parts(alloc, &mut self.user_ids, key, ON_USER_ID, &draft.user_ids)?;
+        put_fresh_parts(
+            alloc,
+            &mut self.attributes,
+            key,
+            ON_ATTRIBUTE,
+            &draft.attributes,
+        )?;
+        put_fresh_parts(alloc, &mut self.subkeys, key, ON_SUBKEY, &draft.subkeys)?;
+        Ok(())
+    }
+
+    /// Puts copies of what stands elsewhere where nothing stands.
+    pub(crate) fn put_copies(
+        &mut self,
+        alloc: Global,
+        from: &Places,
+        marks: Marks,
+    ) -> Result<(), Memory>
+        requires bare { AreBare self.old }
+        ensures copies { OnOk result (AreCopies marks from.now self.new) }
+    {
+        push_copies(alloc, &mut self.direct, &from.direct, marks)?;
+        push_copies_of_parts(alloc, &mut self.user_ids, &from.user_ids, marks)?;
+        push_copies_of_parts(alloc, &mut self.attributes, &from.attributes, marks)?;
+        push_copies_of_parts(alloc, &mut self.subkeys, &from.subkeys, marks)?;
+        Ok(())
+    }
+
+    /// Puts the unions of what stands elsewhere where nothing stands.
+    pub(crate) fn put_unions(&mut self, alloc: Global, a: &Places, b: &Places) -> Result<(), Memory>
+        requires bare { AreBare self.old }
+        requires a { PlacesRise a.now }
+        requires b { PlacesRise b.now }
+        ensures unions { OnOk result (AreUnions a.now b.now self.new) }
+    {
+        put_union(alloc, &mut self.direct, &a.direct, &b.direct)?;
+        put_union_of_parts(alloc, &mut self.user_ids, &a.user_ids, &b.user_ids)?;
+        put_union_of_parts(alloc, &mut self.attributes, &a.attributes, &b.attributes)?;
+        put_union_of_parts(alloc, &mut self.subkeys, &a.subkeys, &b.subkeys)?;
+        Ok(())
+    }
+
     /// Puts what a certificate has in its places, judged where it is new. After `Memory` the growth leads back.
     pub(crate) fn grow<F: Fn(Ask) -> bool>(
         &mut self,

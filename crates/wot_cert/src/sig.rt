@@ -47,7 +47,7 @@ impl Model for Sig {
 }
 
 /// Whether copies keep their marks of admission.
-#[derive(Clone, Copy, PartialEq, Eq)]
+#[derive(Clone, Copy)]
 pub(crate) enum Marks {
     Kept,
     Dropped,
@@ -218,37 +218,42 @@ pub(crate) fn copy_sigs(alloc: Global, sigs: &[Sig], marks: Marks) -> Result<Vec
     Ok(out)
 }
 
-/// The union of two lists in order.
-pub(crate) fn union_sigs(alloc: Global, a: &[Sig], b: &[Sig]) -> Result<Vec<Sig>, Memory>
+/// Puts the union of two lists in order into an empty one.
+pub(crate) fn put_union(
+    alloc: Global,
+    out: &mut Vec<Sig>,
+    a: &[Sig],
+    b: &[Sig],
+) -> Result<(), Memory>
+    requires empty { out.old.items ≡ [] }
     requires a { IsRising sig_cmp a.now }
     requires b { IsRising sig_cmp b.now }
-    ensures union { IfOk result (λ v. v.items ≡ unite_sigs a.now b.now) }
-    ensures rises { IfOk result (λ v. IsRising sig_cmp v.items) }
+    ensures union { OnOk result (out.new.items ≡ unite_sigs a.now b.now) }
+    ensures rises { OnOk result (IsRising sig_cmp out.new.items) }
 {
-    let mut out = Vec::new(alloc);
     let mut left = a;
     let mut right = b;
     'walk: while let Some((x, xs)) = left.split_first() {
         let Some((y, ys)) = right.split_first() else {
-            push_copies(alloc, &mut out, left, Marks::Kept)?;
-            return Ok(out);
+            push_copies(alloc, out, left, Marks::Kept)?;
+            return Ok(());
         };
         match order(x, y) {
             Ordering::Less => {
-                push_copy(alloc, &mut out, x, Marks::Kept)?;
+                push_copy(alloc, out, x, Marks::Kept)?;
                 left = xs;
             }
             Ordering::Equal => {
-                push_copy(alloc, &mut out, x, Marks::Kept)?;
+                push_copy(alloc, out, x, Marks::Kept)?;
                 left = xs;
                 right = ys;
             }
             Ordering::Greater => {
-                push_copy(alloc, &mut out, y, Marks::Kept)?;
+                push_copy(alloc, out, y, Marks::Kept)?;
                 right = ys;
             }
         }
     }
-    push_copies(alloc, &mut out, right, Marks::Kept)?;
-    Ok(out)
+    push_copies(alloc, out, right, Marks::Kept)?;
+    Ok(())
 }

@@ -21,7 +21,7 @@ use Rattle.wot_keyring.specs.Kept.{AreSortedByFpr}
 use Rattle.wot_key.specs.Key.{fpr_of}
 use Rattle.wot_policy.specs.declared.rows.PolicyRows.{PolicyRows}
 use Rattle.wot_cert.specs.Judged.{sound_of}
-use Rattle.wot_keyring.specs.declared.in_place.Step.{Step}
+use Rattle.wot_keyring.specs.declared.staging.Grown.{Grown}
 use Rattle.wot_keyring.specs.Staging.{LeadsBack, IsLog, IsGrownAt, IsStaged, MayShrink, StillLeadsBack, found_by, found_for, joined, kept_as, kept_with, shrunk_found, smaller, sound_in}
 use Rattle.wot_keyring.proofs.Logs.{log_more}
 use Rattle.wot_keyring.proofs.Steps.{weighs_by}
@@ -91,7 +91,7 @@ set_here (e ∷ es) fpr x found =
     ]) found
 
 -- What one of the kept ones became, among all.
-pub grown_at : (rows : PolicyRows) (stamp limit : ℕ) (c : Certificate) (es es' : Entries) (fpr : Fpr) (x y : Kept) (s : Step)
+pub grown_at : (rows : PolicyRows) (stamp limit : ℕ) (c : Certificate) (es es' : Entries) (fpr : Fpr) (x y : Kept) (s : Grown)
     → IsStaged rows stamp limit (Some x) c (record { kept = y; before = s.before; after = s.after; items = s.items; keys = 0 })
     → Some x ≡ lookup (is_fpr fpr) es → fpr ≡ fpr_of c.key → AreSortedByFpr es → es' ≡ set_value (is_fpr fpr) es y → IsGrownAt rows stamp limit c es es' s
 grown_at rows stamp limit c es es' fpr x y s staged found e sorted n = record {

@@ -92,19 +92,11 @@ module _ (holders holders' : Holders) (number : SigNumber) (fpr : Fpr) (put : (n
 
 -- ---- several numbers noted
 
-pub notes_begin : (i : Index) (all : SigNumber → Fpr → Bool) → NotesOn i i all all
-notes_begin i all exact = (exact, λ n q. refl)
-
 pub notes_on : (old mid new : Index) (one rest rest' all : SigNumber → Fpr → Bool) → NotesOn old mid rest all → ((n : SigNumber) (q : Fpr) → rest n q ≡ (one n q || rest' n q)) → Notes mid new one → NotesOn old new rest' all
 notes_on old mid new one rest rest' all before split step exact =
     let s = step exact in
     let b = before s.0 in
     (b.0, λ n q. ap (λ t. t || rest' n q) (s.1 n q) ∙ or_more (is_noted mid n q) (one n q) (rest' n q) ∙ ap (λ t. is_noted mid n q || t) (sym (split n q)) ∙ b.1 n q)
-
-pub notes_done : (old new : Index) (rest all : SigNumber → Fpr → Bool) → NotesOn old new rest all → ((n : SigNumber) (q : Fpr) → rest n q ≡ false) → Notes old new all
-notes_done old new rest all before none exact =
-    let b = before exact in
-    (b.0, λ n q. sym (or_false (is_noted new n q)) ∙ ap (λ t. is_noted new n q || t) (sym (none n q)) ∙ b.1 n q)
 
 pub notes_both : (old mid new : Index) (one other : SigNumber → Fpr → Bool) → Notes old mid one → Notes mid new other → Notes old new (λ n q. one n q || other n q)
 notes_both old mid new one other first second exact =
@@ -154,18 +146,3 @@ noted_cert i0 i1 i2 i3 i4 r c f d u a s ef ed eu ea es first second third last =
     last
 
 -- ---- numbers taken out
-
-pub unless_either : (a b : Bool) (o : Option Fpr) → unless b (unless a o) ≡ unless (a || b) o
-unless_either true true o = refl
-unless_either true false o = refl
-unless_either false b o = refl
-
--- the last number of a log
-pub logged_last : (holders mid : Holders) (log ws : List SigNumber) (number : SigNumber) → log ≡ ws ++ number ∷ [] → ((n : SigNumber) → holder_of mid n ≡ unless (is_number n number) (holder_of holders n)) → (n : SigNumber) → holder_without ws mid n ≡ holder_without log holders n
-logged_last holders mid log ws number l out n =
-    ap (unless (is_logged n ws)) (out n)
-    ∙ unless_either (is_number n number) (is_logged n ws) (holder_of holders n)
-    ∙ ap (λ b. unless b (holder_of holders n)) (at_end (is_number n number) (is_logged n ws) ∙ sym (ap (is_logged n) l ∙ list_any-append (is_number n) ws (number ∷ [])))
-  where
-    at_end : (a b : Bool) → a || b ≡ b || (a || false)
-    at_end a b = ap (λ c. a || c) (sym (or_false b)) ∙ or_passed b a false

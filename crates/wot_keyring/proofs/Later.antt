@@ -64,9 +64,6 @@ later_itself k = record {
   at = λ fpr. inl (record { kept = refl; said = λ x e. says_same k.verdicts (all_sigs x.cert) });
 }
 
-pub later_same : (old new : Keyring) → new ≡ old → IsLater old new
-later_same old new e = subst (λ (k : Keyring). IsLater old k) (sym e) (later_itself old)
-
 unaltered_on : (old mid new : Keyring) (fpr : Fpr) → IsUnaltered old mid fpr → IsUnaltered mid new fpr → IsUnaltered old new fpr
 unaltered_on old mid new fpr h k = record {
   kept = k.kept ∙ h.kept;

@@ -16,7 +16,6 @@ pub mod Transport
 pub mod Unchanged
 pub mod Marks
 pub mod Within
-pub mod Reading
 pub mod Trying
 pub mod Accepting
 pub mod Accepted

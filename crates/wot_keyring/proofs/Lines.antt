@@ -21,9 +21,6 @@ pub record PutSoFar (before now : List ℕ) (all rest : List Command) : Type 0 w
   pub left : made ++ lines_of rest ≡ lines_of all
   pub lined : AreLines rest → AreLines all
 
-pub none_put : (before : List ℕ) (all : List Command) → PutSoFar before before all all
-none_put before all = record { made = []; text = sym (append-nil before); left = refl; lined = λ h. h }
-
 pub one_put : (before now next : List ℕ) (all : List Command) (c : Command) (rest : List Command) → PutSoFar before now all (c ∷ rest)
     → next ≡ now ++ command_line_of c → IsLine c → PutSoFar before next all rest
 one_put before now next all c rest so_far added line = record {
@@ -32,13 +29,6 @@ one_put before now next all c rest so_far added line = record {
   left = append_assoc so_far.made (command_line_of c) (lines_of rest) ∙ so_far.left;
   lined = λ h. so_far.lined (line, h);
 }
-
-pub all_put : (before now : List ℕ) (all : List Command) → PutSoFar before now all [] → now ≡ before ++ lines_of all
-all_put before now all so_far = so_far.text ∙ ap (λ made. before ++ made) (sym (append-nil so_far.made) ∙ so_far.left)
-
--- What was there before is got back.
-pub undone : (before now : List ℕ) (all rest : List Command) → PutSoFar before now all rest → take (length before) now ≡ before
-undone before now all rest so_far = ap (take (length before)) so_far.text ∙ take-append_seam before so_far.made
 
 -- ---- the lines of certificates and of verdicts
 

@@ -162,19 +162,6 @@ one_logged stamp left rest all c old mid new step before one = record {
     by q (inl a) = inl (or_left (before.done q) _ a)
     by q (inr b) = named q (either (is_fpr (fpr_of c.key) q) (is_named_in rest q) (ap (λ (cs : List Certificate). is_named_in cs q) (sym step) ∙ b))
 
-pub all_logged : (stamp : ℕ) (left all : List Certificate) (old new : Log) → left ≡ [] → LogsUpTo stamp left all old new → LogsAt stamp (is_named_in all) old new
-all_logged stamp left all old new none done = record {
-  from = done.logs.from;
-  past = done.logs.past;
-  kept = done.logs.kept;
-  logged = λ q h k. by q h (done.split q k);
-  rising = done.logs.rising;
-}
-  where
-    by : (q : Fpr) → new.from < stamp → (done.done q ≡ true) ⊎ (is_named_in left q ≡ true) → is_logged_at stamp q new.entries.items ≡ true
-    by q h (inl a) = done.logs.logged q h a
-    by q h (inr b) = let e : false ≡ true = ap (λ (cs : List Certificate). is_named_in cs q) (sym none) ∙ b in cc
-
 -- ---- it stays the log of what is kept
 
 risen_on : (changes stamp : ℕ) (es : Logged) → changes ≤ stamp → AllByRecursion (λ (e : ℕ × Fpr). e.0 ≤ changes) es → AllByRecursion (λ (e : ℕ × Fpr). e.0 ≤ stamp) es

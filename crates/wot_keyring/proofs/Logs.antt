@@ -31,9 +31,6 @@ log_less first (v ∷ ws) w es' log =
 
 -- ---- one step back
 
-absurd_found : (o : Option Kept) → o ≡ None → is_some o ≡ true → ⊥
-absurd_found o e f = let g : is_some {T = Kept} None ≡ true = subst (λ (x : Option Kept). is_some x ≡ true) e f in cc
-
 same_place : (fpr : Fpr) → fpr_cmp fpr fpr ≡ Equal
 same_place fpr = tied_itself fpr_total fpr
 

@@ -71,12 +71,6 @@ module _ (united : (a b : Certificate) → IsCertificate a → IsCertificate b �
       let step = notes exact in
       step.1 n q ∙ ap (λ b. b || stands_among cs n q) (before step.0 n q) ∙ sym (stands_all n q es cs all whole none)
 
--- Where nothing more is noted, nothing changes.
-pub indexed_same : (old new : Index) (es : Entries) → NotesNothing old new → IsIndexOf old es → IsIndexOf new es
-indexed_same old new es nothing before exact n q =
-    let step = nothing exact in
-    ap (λ (p : Option Fpr). is_holder p q) (step.1 n) ∙ before step.0 n q
-
 -- ---- a certificate taken out
 
 place_is : (holder : Option Fpr) (p q : Fpr) → is_holder holder p ≡ true → is_holder holder q ≡ is_fpr p q

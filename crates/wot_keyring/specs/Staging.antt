@@ -24,7 +24,7 @@ use Rattle.wot_cert.specs.Judged.{IsJudged, judged, sound_of}
 use Rattle.wot_cert.specs.Text.{size_of}
 use Rattle.wot_keyring.specs.declared.kept.Kept.{Kept}
 use Rattle.wot_keyring.specs.declared.in_place.Leap.{Leap}
-use Rattle.wot_keyring.specs.declared.in_place.Step.{Step}
+use Rattle.wot_keyring.specs.declared.staging.Grown.{Grown}
 use Rattle.wot_keyring.specs.declared.staging.Before.{Before}
 use Rattle.wot_keyring.specs.declared.staging.Before.TheVariants.{Was, Smaller}
 use Rattle.wot_keyring.specs.declared.staging.Was.{Was as TheWas}
@@ -273,7 +273,7 @@ pub record GrowsTo (rows : PolicyRows) (stamp limit : ℕ) (c : Certificate) (ol
   pub was : leap.stamp ≡ old.stamp
 
 -- The same among the kept ones.
-pub record IsGrownAt (rows : PolicyRows) (stamp limit : ℕ) (c : Certificate) (es es' : Entries) (s : Step)
+pub record IsGrownAt (rows : PolicyRows) (stamp limit : ℕ) (c : Certificate) (es es' : Entries) (s : Grown)
     : Type 0 where
   pub kept : Kept
   pub put : es' ≡ insert_entry fpr_cmp es (fpr_of c.key) kept
@@ -286,5 +286,5 @@ pub record IsGrownAt (rows : PolicyRows) (stamp limit : ℕ) (c : Certificate) (
   })
 
 -- The same by these terms.
-abbrev pub IsGrownOn : PolicyRows → Terms → Certificate → Entries → Entries → Step → Type 0
+abbrev pub IsGrownOn : PolicyRows → Terms → Certificate → Entries → Entries → Grown → Type 0
 IsGrownOn rows terms c es es' s = IsGrownAt rows terms.stamp terms.limit c es es' s

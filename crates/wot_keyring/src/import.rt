@@ -12,7 +12,7 @@ use wot_policy::{Ask, Policy};
 use wot_types::Name;
 
 /// What an import did.
-#[derive(Clone, Copy, PartialEq, Eq)]
+#[derive(Clone, Copy)]
 pub struct Imported {
     /// The readable keys among the packets.
     pub taken: u64,

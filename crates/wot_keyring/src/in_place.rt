@@ -7,7 +7,7 @@ ghost use Rattle.wot_keyring.specs.Staging.{IsGrownOn, IsTally, StillLeadsBack, 
 
 use crate::kept::Kept;
 use crate::keyring::find;
-use crate::staging::{Before, Fault, Terms, Was, note, stamp_of};
+use crate::staging::{Before, Fault, Grown, Terms, Was, note, stamp_of};
 use crate::tally::{Tally, Weight, are_held, count, weigh_cert};
 use std::alloc::Global;
 use std::collections::BTreeMap;
@@ -80,14 +80,6 @@ fn grow_kept<F: Fn(Ask) -> bool>(
     }
 }
 
-/// What became of a kept certificate.
-#[derive(Clone, Copy)]
-struct Step {
-    before: Weight,
-    after: Weight,
-    items: u64,
-}
-
 /// Unites the kept certificate of a fingerprint with another, and notes what it grew by, where there is room.
 fn grow_at<F: Fn(Ask) -> bool>(
     alloc: Global,
@@ -96,7 +88,7 @@ fn grow_at<F: Fn(Ask) -> bool>(
     cert: &Cert,
     terms: &Terms,
     policy: &mut Policy<F>,
-) -> Result<Step, Fault>
+) -> Result<Grown, Fault>
     requires faithful { IsFaithful F.Fn policy.old }
     requires sorted { AreSortedByFpr certs.old.entries }
     requires room { vec_len log.old < vec_capacity log.old }
@@ -125,7 +117,7 @@ fn grow_at<F: Fn(Ask) -> bool>(
                         before: Before::Smaller(growth, stamp),
                     },
                 );
-                Ok(Step {
+                Ok(Grown {
                     before,
                     after,
                     items,

@@ -182,11 +182,11 @@ fn begin(alloc: Global, certs: &BTreeMap<Fpr, Kept, Global>, cert: &Cert) -> Res
 
 /// What a union did.
 #[derive(Clone, Copy)]
-struct Grown {
-    before: Weight,
-    after: Weight,
+pub(crate) struct Grown {
+    pub before: Weight,
+    pub after: Weight,
     /// The components and signatures that are new.
-    items: u64,
+    pub items: u64,
 }
 
 /// Unites a certificate with another, by a policy.

@@ -21,7 +21,7 @@ pub(crate) const KEY_REVOCATION: u8 = 0x20;
 const CERTIFICATION_REVOCATION: u8 = 0x30;
 
 /// By which signature a key binds: to itself, or to a user ID.
-#[derive(Clone, Copy, PartialEq, Eq)]
+#[derive(Clone, Copy)]
 pub(crate) enum Binding {
     DirectKey,
     Certification,

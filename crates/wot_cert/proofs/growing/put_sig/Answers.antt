@@ -19,8 +19,8 @@ returns-in-Ok-clause-put g c =
     let told = c.in-Ok.ensures s refl in
     sym (ap (put sig_cmp kept s) (sym c.deref.ensures.value) ∙ told.1 s ∙ set_same c.deref.result.now c.in-Ok.field-0 s told.0 ∙ c.deref.ensures.value)
 
-pub returns-in_ok-reserve-in-Err-2-clause-back : goal.returns-in_ok-reserve-in-Err-2-clause-back
-returns-in_ok-reserve-in-Err-2-clause-back g c =
+pub returns-in_ok-copy-in-Err-clause-back : goal.returns-in_ok-copy-in-Err-clause-back
+returns-in_ok-copy-in-Err-clause-back g c =
     let xs = c.args.sigs.now.items in
     let at = c.in-Err.at in
     let y : Signature = judged_sig (rows_of c.args.policy.now) c.in_ok-copy-in-Err.copy in
@@ -29,8 +29,8 @@ returns-in_ok-reserve-in-Err-2-clause-back g c =
     put_back c.args.log.now.items c.settle.new.log.items at xs c.settle.new.sigs.items y within (c.settle.ensures.logged ∙ ap (λ (l : List ℕ). l ++ at ∷ []) c.reserve-in-Err.ensures.items)
     (c.settle.ensures.put ∙ ap (λ (l : List Signature). insert l at y) c.reserve.ensures.items)
 
-pub returns-in_ok-reserve-in-Err-2-clause-follow : goal.returns-in_ok-reserve-in-Err-2-clause-follow
-returns-in_ok-reserve-in-Err-2-clause-follow g c =
+pub returns-in_ok-copy-in-Err-clause-follow : goal.returns-in_ok-copy-in-Err-clause-follow
+returns-in_ok-copy-in-Err-clause-follow g c =
     let xs = c.args.sigs.now.items in
     let at = c.in-Err.at in
     let y : Signature = judged_sig (rows_of c.args.policy.now) c.in_ok-copy-in-Err.copy in
@@ -39,8 +39,8 @@ returns-in_ok-reserve-in-Err-2-clause-follow g c =
     follow_insert (λ _. 1) (λ _. 1) sig_size c.args.totals.now c.of_sig.result c.with.result c.args.sig.now y xs c.settle.new.sigs.items at c.of_sig.ensures c.with.ensures within
     (c.settle.ensures.put ∙ ap (λ (l : List Signature). insert l at y) c.reserve.ensures.items) refl refl (ap sig_size c.in_ok-copy-in-Err.ensures.marked)
 
-pub returns-in_ok-reserve-in-Err-2-clause-asked : goal.returns-in_ok-reserve-in-Err-2-clause-asked
-returns-in_ok-reserve-in-Err-2-clause-asked g c =
+pub returns-in_ok-copy-in-Err-clause-asked : goal.returns-in_ok-copy-in-Err-clause-asked
+returns-in_ok-copy-in-Err-clause-asked g c =
     let xs = c.args.sigs.now.items in
     let at = c.in-Err.at in
     let copy = c.in_ok-copy-in-Err.copy in

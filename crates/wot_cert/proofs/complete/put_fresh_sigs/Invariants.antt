@@ -2,7 +2,7 @@ use Rattle.std.proofs.Common.{◌≡◌, ◌++◌, map}
 use Rattle.std.specs.List.{AllByRecursion}
 use Rattle.wot_cert.specs.Certificate.{fresh}
 use Rattle.wot_cert.specs.Drafting.{IsShort, bodies_in}
-use Rattle.wot_cert.proofs.complete.sigs_with.Given as goal
+use Rattle.wot_cert.proofs.complete.put_fresh_sigs.Given as goal
 
 abbrev pub invariant-loop-body : goal.invariant-loop-body
 invariant-loop-body l = record {

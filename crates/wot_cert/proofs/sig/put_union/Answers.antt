@@ -1,8 +1,11 @@
 use Rattle.std.proofs.Common.{sym}
 use Rattle.wot_cert.specs.Certificate.{sig_cmp, kept}
-use Rattle.wot_cert.proofs.Walk.{step_less, step_equal, step_greater, end_left, end_right, rises, sigs_total, kept_same}
+use Rattle.wot_cert.proofs.Walk.{begun, step_less, step_equal, step_greater, end_left, end_right, rises, sigs_total, kept_same}
 use Rattle.wot_cert.proofs.Copies.{sigs_pushed}
-use Rattle.wot_cert.proofs.sig.union_sigs.Goals as goal
+use Rattle.wot_cert.proofs.sig.put_union.Goals as goal
+
+pub walk-init : goal.walk-init
+walk-init c = begun sig_cmp kept sigs_total kept_same _ _ _ c.requires.a c.requires.b c.requires.empty
 
 pub walk-preserved-in-Less : goal.walk-preserved-in-Less
 walk-preserved-in-Less c =
