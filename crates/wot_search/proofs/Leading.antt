@@ -7,10 +7,10 @@ use Rattle.std.proofs.lemmas.List.Elements.{All-push}
 use Rattle.wot_types.specs.declared.fpr.Fpr.{Fpr}
 use Rattle.wot_edge.specs.declared.edge.EdgeFacts.{EdgeFacts}
 use Rattle.wot_edge.specs.declared.path.Step.{Step}
-use Rattle.wot_edge.specs.Record.{Record, Row, Has, edges_into}
+use Rattle.wot_edge.specs.Record.{Record, Row, Has, edges_into, rows_into}
 use Rattle.wot_edge.specs.Path.{Reaches, step_of}
 use Rattle.wot_search.specs.declared.onward.Onward.{Onward as Places}
-use Rattle.wot_search.specs.Onward.{AreAllIn, AreOnward, Covers, IsAt, leads_on}
+use Rattle.wot_search.specs.Onward.{AreAllIn, AreOnward, AreUsableAt, Covers, IsAt, IsUsable, IsUsableAt, LeadsOnInto, leads_on}
 use Rattle.wot_search.specs.Quest.{Quest}
 use Rattle.wot_search.specs.Suffix.{Found}
 use Rattle.wot_search.specs.Layer.{Onward}
@@ -154,5 +154,39 @@ covers_end told number fpr edges places k rows le from uid =
       | inr done ↦ done
     ])
 
-pub onward_added : (told : List ℕ → Record) (number : Fpr → ℕ) (old new : List Places) (one : Places) → AreOnward told number old → Covers told number one.fpr one.places.items → new ≡ old ++ one ∷ [] → AreOnward told number new
-onward_added told number old new one are covers e = subst (AreOnward told number) (sym e) (All-push (λ (x : Places). Covers told number x.fpr x.places.items) old one are covers)
+pub onward_added : (told : List ℕ → Record) (number : Fpr → ℕ) (old new : List Places) (one : Places) → AreOnward told number old → LeadsOnInto told number one.fpr one → new ≡ old ++ one ∷ [] → AreOnward told number new
+onward_added told number old new one are leads e = subst (AreOnward told number) (sym e) (All-push (λ (x : Places). LeadsOnInto told number x.fpr x) old one are leads)
+
+-- ---- whether the edges at places are usable
+
+module _ (told : List ℕ → Record) (fpr : Fpr) (edges : List EdgeFacts) (rows : (uid : List ℕ) → edges ≡ edges_into (told uid) fpr) (place : ℕ) (edge : EdgeFacts) (is : edge ≡ get_or edges place edge) (into : edge.target ≡ fpr) where
+  -- the edge that is at the place
+  pub usable_at : IsUsable told edge → IsUsableAt told fpr place
+  usable_at usable uid row h at =
+      let same : edge ≡ row.edge = at_one edges place edge row.edge is (subst (λ (es : List EdgeFacts). IsAt es place row.edge) (sym (rows uid)) at) in
+      usable uid row (subst (λ (f : Fpr). Has (rows_into (told uid) f) row) (sym into) h) (sym same)
+
+  pub at_usable : place < length edges → IsUsableAt told fpr place → IsUsable told edge
+  at_usable lt usable uid row h e =
+      let at : IsAt edges place row.edge = subst (IsAt edges place) (sym e) (lt, is) in
+      usable uid row (subst (λ (f : Fpr). Has (rows_into (told uid) f) row) into h) (subst (λ (es : List EdgeFacts). IsAt es place row.edge) (rows uid) at)
+
+module _ (told : List ℕ → Record) (fpr : Fpr) (places : List ℕ) where
+  -- those before the k-th place are
+  abbrev pub UsableTo : ℕ → Type 0
+  UsableTo k = (place : ℕ) → Has places place → Has (drop k places) place ⊎ IsUsableAt told fpr place
+
+  pub usable_more : (k : ℕ) → k < length places → UsableTo k → IsUsableAt told fpr (get_or places k 0) → UsableTo (k + 1)
+  usable_more k lt from usable place h = elim (from place h) [
+    | inl there ↦ elim (subst (λ (ps : List ℕ). Has ps place) (drop_more places k 0 lt) there) [
+      | inl f ↦ inr (subst (IsUsableAt told fpr) (sym f) usable)
+      | inr more ↦ inl more
+    ]
+    | inr done ↦ inr done
+  ]
+
+  pub usable_end : (k : ℕ) → length places ≤ k → UsableTo k → AreUsableAt told fpr places
+  usable_end k le from place h = elim (from place h) [
+    | inl there ↦ absurd (subst (λ (ps : List ℕ). Has ps place) (drop_all k places le) there)
+    | inr done ↦ done
+  ]

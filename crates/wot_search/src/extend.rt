@@ -1,5 +1,5 @@
-ghost use Rattle.std.specs.Prelude.{◌<◌, OnOk};
-ghost use Rattle.wot_search.specs.Onward.{Covers};
+ghost use Rattle.std.specs.Prelude.{◌≡◌, ◌<◌, true, OnOk};
+ghost use Rattle.wot_search.specs.Onward.{AreUsableAt, Covers};
 ghost use Rattle.wot_search.specs.Quest.{LeadsOn, quest_of};
 ghost use Rattle.wot_search.specs.Reach.{number_at};
 ghost use Rattle.wot_search.specs.Looked.{Gains, IsNear, Widens};
@@ -7,6 +7,7 @@ ghost use Rattle.wot_search.specs.Growth.{KeepsNoted, GrowsInto, TakesInto, Sees
 
 use crate::consider::consider;
 use crate::demand::demand;
+use crate::node::Hint;
 use crate::notes::Notes;
 use crate::quest::Quest;
 use crate::reached::{Reached, width_at};
@@ -40,7 +41,17 @@ pub fn extend<R: Roads, N: Notes>(
         return extend_all(roads, quest, size, at, start, reached, notes);
     }
     match quest.reach.onward(place, at) {
-        Some(places) => extend_onward(roads, quest, size, at, start, places, reached, notes),
+        Some(onward) => extend_onward(
+            roads,
+            quest,
+            size,
+            at,
+            start,
+            &onward.places,
+            onward.usable,
+            reached,
+            notes,
+        ),
         None => extend_all(roads, quest, size, at, start, reached, notes),
     }
 }
@@ -72,15 +83,19 @@ fn extend_all<R: Roads, N: Notes>(
     let mut place = start;
     notes.note(at)?;
     'edges: for edge in edges {
+        let hint = Hint {
+            place,
+            usable: false,
+        };
         consider(
-            roads, quest, demand, size, width, place, edge, reached, notes,
+            roads, quest, demand, size, width, hint, edge, reached, notes,
         )?;
         place = place.saturating_add(1);
     }
     Ok(())
 }
 
-/// Considers the edges at these places, which are all that lead on.
+/// Considers the edges at these places, which are all that lead on. They may be known to be usable.
 fn extend_onward<R: Roads, N: Notes>(
     roads: &R,
     quest: &Quest,
@@ -88,12 +103,14 @@ fn extend_onward<R: Roads, N: Notes>(
     at: &Fpr,
     start: usize,
     places: &[usize],
+    usable: bool,
     reached: &mut Reached,
     notes: &mut N,
 ) -> Result<(), Memory>
     requires some { 0 < size }
     requires size { size < 255 }
     requires covers { Covers (R.told roads.now) (number_at quest.now.reach.now) at.now places.now }
+    requires usable { usable ≡ true → AreUsableAt (R.told roads.now) at.now places.now }
     ensures grown { OnOk result (GrowsInto (quest_of (R.told roads.now) quest.now) size at.now
         reached.old reached.new) }
     ensures taken { OnOk result (TakesInto (quest_of (R.told roads.now) quest.now) size at.now
@@ -111,10 +128,13 @@ fn extend_onward<R: Roads, N: Notes>(
     'places: for place in places {
         let i = *place;
         if i < edges.len() {
-            let near = start.saturating_add(i);
+            let hint = Hint {
+                place: start.saturating_add(i),
+                usable,
+            };
             let edge = &edges[i];
             consider(
-                roads, quest, demand, size, width, near, edge, reached, notes,
+                roads, quest, demand, size, width, hint, edge, reached, notes,
             )?;
         }
     }

@@ -1,8 +1,8 @@
 // Which edges lead on, so that a search needn't look at the others: most certifications make no introducer.
-ghost use Rattle.std.specs.Prelude.{◌≡◌, ℕ, List, IfOk, IfSome, OnOk};
+ghost use Rattle.std.specs.Prelude.{◌≡◌, ℕ, List, true, IfOk, IfSome, OnOk};
 ghost use Rattle.wot_types.specs.declared.fpr.Fpr.{Fpr as Print};
 ghost use Rattle.wot_edge.specs.Record.{Record};
-ghost use Rattle.wot_search.specs.Onward.{AreOnward, Covers, leads_on};
+ghost use Rattle.wot_search.specs.Onward.{AreOnward, AreUsableAt, Covers, IsUsableAt, LeadsOnInto, leads_on};
 ghost use Rattle.wot_search.specs.Reach.{number_of};
 ghost use Rattle.wot_search.specs.Slots.{AreSlots};
 
@@ -18,31 +18,29 @@ use wot_types::{Fpr, Memory};
 pub struct Onward {
     pub fpr: Fpr,
     pub places: Vec<usize, Global>,
+    /// Whether these edges are known to be usable, so that a search needn't ask.
+    pub usable: bool,
 }
 
 impl Onward {
-    /// The places, if they are of this fingerprint.
-    pub(crate) fn places_if(&self, fpr: &Fpr) -> Option<&[usize]>
-        ensures covers { (told : List ℕ → Record) (number : Print → ℕ) → Covers told number self.now.fpr self.now.places.items
-            → IfSome result (λ places. Covers told number fpr.now places.now) }
+    /// These, if they are of this fingerprint.
+    pub(crate) fn of_fpr(&self, fpr: &Fpr) -> Option<&Onward>
+        ensures leads { (told : List ℕ → Record) (number : Print → ℕ) → LeadsOnInto told number self.now.fpr self.now
+            → IfSome result (λ one. LeadsOnInto told number fpr.now one.now) }
     {
-        if self.fpr == *fpr {
-            Some(&self.places)
-        } else {
-            None
-        }
+        if self.fpr == *fpr { Some(self) } else { None }
     }
 }
 
 /// Those at a place, if they are of this fingerprint.
-pub(crate) fn places_at<'a>(onward: &'a [Onward], place: usize, fpr: &Fpr) -> Option<&'a [usize]>
-    ensures covers { (told : List ℕ → Record) (number : Print → ℕ) → AreOnward told number onward.now
-        → IfSome result (λ places. Covers told number fpr.now places.now) }
+pub(crate) fn onward_at<'a>(onward: &'a [Onward], place: usize, fpr: &Fpr) -> Option<&'a Onward>
+    ensures leads { (told : List ℕ → Record) (number : Print → ℕ) → AreOnward told number onward.now
+        → IfSome result (λ one. LeadsOnInto told number fpr.now one.now) }
 {
     if place >= onward.len() {
         return None;
     }
-    onward[place].places_if(fpr)
+    onward[place].of_fpr(fpr)
 }
 
 /// Whether an edge leads on.
@@ -75,6 +73,29 @@ fn places_of<R: Roads>(
     Ok(places)
 }
 
+/// Whether the edge at a place among those into a fingerprint is usable.
+pub(crate) fn is_usable_at<R: Roads>(roads: &R, fpr: &Fpr, place: usize) -> bool
+    ensures usable { result ≡ true → IsUsableAt (R.told roads.now) fpr.now place }
+{
+    let edges = roads.rows(fpr);
+    if place >= edges.len() {
+        return false;
+    }
+    roads.usable(&edges[place])
+}
+
+/// Whether those at these places all are.
+fn are_usable_at<R: Roads>(roads: &R, fpr: &Fpr, places: &[usize]) -> bool
+    ensures usable { result ≡ true → AreUsableAt (R.told roads.now) fpr.now places.now }
+{
+    'places: for place in places {
+        if !is_usable_at(roads, fpr, *place) {
+            return false;
+        }
+    }
+    true
+}
+
 /// Appends those of one fingerprint.
 pub(crate) fn put_onward<R: Roads>(
     alloc: Global,
@@ -89,6 +110,11 @@ pub(crate) fn put_onward<R: Roads>(
     ensures onward { OnOk result (AreOnward (R.told roads.now) (number_of numbers.now.entries) onward.new.items) }
 {
     let places = places_of(alloc, roads, fpr, slots, numbers)?;
-    onward.push(Onward { fpr: *fpr, places })?;
+    let usable = are_usable_at(roads, fpr, &places);
+    onward.push(Onward {
+        fpr: *fpr,
+        places,
+        usable,
+    })?;
     Ok(())
 }

@@ -1,4 +1,4 @@
-use Rattle.std.proofs.Common.{◌≡◌, ◌+◌, inl, inr, List, get_or, sym, subst, arith}
+use Rattle.std.proofs.Common.{◌≡◌, ◌+◌, inl, inr, List, [], get_or, sym, subst, arith}
 use Rattle.wot_types.specs.declared.fpr.Fpr.{Fpr}
 use Rattle.wot_edge.specs.declared.edge.EdgeFacts.{EdgeFacts}
 use Rattle.wot_edge.specs.Record.{Has}
@@ -8,7 +8,7 @@ use Rattle.wot_search.specs.Onward.{AreAllIn}
 use Rattle.wot_search.specs.Looked.{IsNear}
 use Rattle.wot_search.specs.Reached.{look}
 use Rattle.wot_search.proofs.Extending.{has_at, edge_known, taken_all, noted_all, near_issuer}
-use Rattle.wot_search.proofs.Leading.{get_same, places_end, places_all, noted_places-end, noted_places-all}
+use Rattle.wot_search.proofs.Leading.{at_usable, get_same, places_end, places_all, noted_places-end, noted_places-all}
 use Rattle.wot_search.proofs.Placing.{PlacesKept, kept_start, kept_more, kept_skip}
 use Rattle.wot_search.proofs.extend.extend_onward.Goals as goal
 use Rattle.wot_search.proofs.extend.extend_onward.Goals.{then-i-edges+in_ok-consider, else-i-edges}
@@ -19,6 +19,18 @@ consider-requires-clause-row g c id =
     let x = c.index-edges-i.result in
     let has = subst (λ (e : EdgeFacts). Has edges e) (sym c.index-edges-i.is) (has_at edges _ x c.if-i-edges.true) in
     (edge_known (g.R.Roads.told c.args.roads.now) c.rows-edges.ensures.lawful c.args.at.now edges c.rows-edges.ensures.rows x has id).0
+
+pub consider-requires-clause-known : goal.consider-requires-clause-known
+consider-requires-clause-known g c yes =
+    let told = g.R.Roads.told c.args.roads.now in
+    let edges = c.rows-edges.result.now in
+    let x = c.index-edges-i.result in
+    let k = c.places.place-index in
+    let lt = c.if-i-edges.true in
+    let has = subst (λ (e : EdgeFacts). Has edges e) (sym c.index-edges-i.is) (has_at edges _ x lt) in
+    let into = (edge_known told c.rows-edges.ensures.lawful c.args.at.now edges c.rows-edges.ensures.rows x has []).1 in
+    at_usable told c.args.at.now edges c.rows-edges.ensures.rows (get_or c.args.places.now k 0) x c.index-edges-i.is into lt
+    (c.requires.usable yes (get_or c.args.places.now k 0) (has_at c.args.places.now k 0 c.places-test.true))
 
 pub returns-in_err-consider-clause-gains : goal.returns-in_err-consider-clause-gains
 returns-in_err-consider-clause-gains g c fpr h =
