@@ -3,7 +3,6 @@
 ghost use Rattle.wot_search.specs.Making.{AreKeysOf};
 
 use crate::checking::Numbering;
-use crate::onward::is_usable_at;
 use crate::slots::Slots;
 use std::alloc::Global;
 use std::collections::BTreeMap;
@@ -246,6 +245,15 @@ impl Passing {
         }
         self.next = to;
     }
+}
+
+/// Whether the edge at a place among those into a fingerprint is usable.
+fn is_usable_at<R: Roads>(roads: &R, fpr: &Fpr, row: usize) -> bool {
+    let edges = roads.rows(fpr);
+    if row >= edges.len() {
+        return false;
+    }
+    roads.usable(&edges[row])
 }
 
 /// Whether the edge of a link is usable.
