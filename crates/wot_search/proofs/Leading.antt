@@ -58,7 +58,7 @@ module _ (told : List ℕ → Record) (number : Fpr → ℕ) (edge : EdgeFacts) 
 
 -- they were gathered
 pub record LeadTo (told : List ℕ → Record) (number : Fpr → ℕ) (fpr : Fpr) (edges : List EdgeFacts) (one : Onward) (k : ℕ) : Type 0 where
-  pub fpr : one.fpr ≡ fpr
+  pub same : one.fpr ≡ fpr
   pub into : (edge : EdgeFacts) → Has one.edges.items edge → Has edges edge
   pub covers : (edge : EdgeFacts) → Has edges edge → leads_on number edge ≡ true → Has (drop k edges) edge ⊎ Has one.edges.items edge
   pub usable : AreUsableIf told one.usable one.edges.items
@@ -69,7 +69,7 @@ has_get edges k edge lt is = subst (λ (e : EdgeFacts). Has edges e) (sym is) (h
 module _ (told : List ℕ → Record) (number : Fpr → ℕ) (fpr : Fpr) (edges : List EdgeFacts) where
   pub lead_start : (one : Onward) → one.fpr ≡ fpr → one.edges.items ≡ [] → LeadTo told number fpr edges one 0
   lead_start one same none = record {
-    fpr = same;
+    same = same;
     into = λ edge h. absurd (subst (λ (xs : List EdgeFacts). Has xs edge) none h);
     covers = λ edge h lead. inl h;
     usable = λ yes edge h. absurd (subst (λ (xs : List EdgeFacts). Has xs edge) none h);
@@ -77,7 +77,7 @@ module _ (told : List ℕ → Record) (number : Fpr → ℕ) (fpr : Fpr) (edges 
 
   pub lead_more : (old new : Onward) (k : ℕ) (edge : EdgeFacts) → k < length edges → edge ≡ get_or edges k edge → LeadTo told number fpr edges old k → AddsLead told number edge old new → LeadTo told number fpr edges new (k + 1)
   lead_more old new k edge lt is from adds = record {
-    fpr = adds.fpr ∙ from.fpr;
+    same = adds.fpr ∙ from.same;
     into = λ other h. elim (adds.only other h) [
       | inl k ↦ from.into other k
       | inr e ↦ subst (λ (x : EdgeFacts). Has edges x) (sym e) (has_get edges k edge lt is)
@@ -95,7 +95,7 @@ module _ (told : List ℕ → Record) (number : Fpr → ℕ) (fpr : Fpr) (edges 
   }
 
   pub lead_end : (one : Onward) (k : ℕ) → ((uid : List ℕ) → edges ≡ edges_into (told uid) fpr) → length edges ≤ k → LeadTo told number fpr edges one k → LeadsOnInto told number one.fpr one
-  lead_end one k rows le from = subst (λ (f : Fpr). LeadsOnInto told number f one) (sym from.fpr) (record {
+  lead_end one k rows le from = subst (λ (f : Fpr). LeadsOnInto told number f one) (sym from.same) (record {
     into = λ uid edge h. subst (λ (xs : List EdgeFacts). Has xs edge) (rows uid) (from.into edge h);
     covers = λ uid edge h lead. elim (from.covers edge (subst (λ (xs : List EdgeFacts). Has xs edge) (sym (rows uid)) h) lead) [
       | inl there ↦ absurd (subst (λ (xs : List EdgeFacts). Has xs edge) (drop_all k edges le) there)

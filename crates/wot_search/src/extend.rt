@@ -1,6 +1,6 @@
 ghost use Rattle.std.specs.Prelude.{◌≡◌, ◌<◌, ℕ, List, OnOk};
 ghost use Rattle.wot_edge.specs.Record.{IsRecord};
-ghost use Rattle.wot_search.specs.Onward.{AreUsableIf, MatterBefore};
+ghost use Rattle.wot_search.specs.Onward.{AreUsableIf, LeadsOnInto, MatterBefore};
 ghost use Rattle.wot_search.specs.Quest.{LeadsOn, quest_of};
 ghost use Rattle.wot_search.specs.Reach.{number_at};
 ghost use Rattle.wot_search.specs.Looked.{Gains, IsNear, Widens};
@@ -10,6 +10,7 @@ use crate::consider::consider;
 use crate::demand::demand;
 use crate::node::Hint;
 use crate::notes::Notes;
+use crate::onward::Onward;
 use crate::quest::Quest;
 use crate::reached::{Reached, width_at};
 use wot_edge::{Edge, Roads};
@@ -65,16 +66,44 @@ pub fn extend<R: Roads, N: Notes>(
         return extend_all(roads, quest, size, at, start, reached, notes);
     }
     match quest.reach.onward(place, at) {
-        Some(onward) => {
-            let hints = Hints {
-                start,
-                places: &onward.places,
-                usable: onward.usable,
-            };
-            extend_by(roads, quest, size, at, &onward.edges, hints, reached, notes)
-        }
+        Some(onward) => extend_onward(roads, quest, size, at, start, onward, reached, notes),
         None => extend_all(roads, quest, size, at, start, reached, notes),
     }
+}
+
+/// Considers the edges that lead on into a fingerprint.
+fn extend_onward<R: Roads, N: Notes>(
+    roads: &R,
+    quest: &Quest,
+    size: u8,
+    at: &Fpr,
+    start: usize,
+    onward: &Onward,
+    reached: &mut Reached,
+    notes: &mut N,
+) -> Result<(), Memory>
+    requires some { 0 < size }
+    requires size { size < 255 }
+    requires lawful { (id : List ℕ) → IsRecord (R.told roads.now id) }
+    requires leads { LeadsOnInto (R.told roads.now) (number_at quest.now.reach.now) at.now onward.now }
+    ensures grown { OnOk result (GrowsInto (quest_of (R.told roads.now) quest.now) size at.now
+        reached.old reached.new) }
+    ensures taken { OnOk result (TakesInto (quest_of (R.told roads.now) quest.now) size at.now
+        reached.old reached.new) }
+    ensures noted { OnOk result (KeepsNoted reached.old reached.new (N.noted notes.old) (N.noted notes.new)) }
+    ensures seen { OnOk result (SeesInto (R.told roads.now) quest.now size at.now reached.old
+        (N.noted notes.old) (N.noted notes.new)) }
+    ensures grows { Widens (N.noted notes.old) (N.noted notes.new) }
+    ensures gains { Gains (IsNear (R.told roads.now quest.now.uid.now) at.now) (N.noted notes.old) (N.noted notes.new) }
+{
+    let edges = onward.edges.as_slice();
+    let places = onward.places.as_slice();
+    let hints = Hints {
+        start,
+        places,
+        usable: onward.usable,
+    };
+    extend_by(roads, quest, size, at, edges, hints, reached, notes)
 }
 
 /// Considers each edge into a fingerprint; their numbers begin here in the table.

@@ -16,11 +16,11 @@ consider-requires-clause-row g c id =
     (edge_into (g.R.Roads.told c.args.roads.now id) (c.requires.lawful id) c.args.at.now x (c.requires.matter.into id x has)).0
 
 pub consider-requires-clause-known : goal.consider-requires-clause-known
-consider-requires-clause-known g c yes =
+consider-requires-clause-known g c known =
     let edges = c.args.edges.now in
     let x = c.edge-item.result in
     let has = subst (λ (e : EdgeFacts). Has edges e) (sym c.edge-item.is) (has_at edges c.edges.edge-index x c.edges-test.true) in
-    c.requires.usable (sym c.hint_of-hint.ensures.usable ∙ yes) x has
+    c.requires.usable (sym c.hint_of-hint.ensures.usable ∙ known) x has
 
 pub returns-in_err-consider-clause-gains : goal.returns-in_err-consider-clause-gains
 returns-in_err-consider-clause-gains g c fpr h =
