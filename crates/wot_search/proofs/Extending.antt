@@ -1,17 +1,20 @@
 -- The edges into one fingerprint, one after the other.
-use Rattle.std.proofs.Common.{◌≡◌, ◌⊎◌, inl, inr, ℕ, suc, zero, ◌+◌, ◌<◌, ◌≤◌, Bool, cond, List, [], ◌∷◌, length, get_or, drop, refl, sym, ap, subst, ◌∙◌, arith}
+use Rattle.std.proofs.Common.{◌≡◌, ◌⊎◌, inl, inr, ℕ, suc, zero, ◌+◌, ◌<◌, ◌≤◌, Bool, cond, List, [], ◌∷◌, length, get_or, drop, refl, sym, ap, subst, ◌∙◌, arith, true, le-leb}
+use Rattle.std.specs.Prelude.{nat_le}
+use Rattle.std.proofs.lemmas.Bool.{and_from}
 use Rattle.std.proofs.lemmas.List.{drop_more, drop_all}
 use Rattle.wot_types.specs.declared.fpr.Fpr.{Fpr}
 use Rattle.wot_edge.specs.declared.edge.EdgeFacts.{EdgeFacts}
 use Rattle.wot_edge.specs.declared.path.Step.{Step}
-use Rattle.wot_edge.specs.Record.{Record, Has, IsRecord, rows_into, edges_into}
-use Rattle.wot_edge.specs.Path.{start, step_of, step_left}
+use Rattle.wot_edge.specs.Record.{Record, Row, Has, IsRecord, rows_into, edges_into}
+use Rattle.wot_edge.specs.Path.{Reaches, start, step_of, step_left}
 use Rattle.wot_search.specs.declared.reached.Reached.{Reached}
 use Rattle.wot_search.specs.Quest.{Quest}
 use Rattle.wot_search.specs.Suffix.{Found, Kept, width}
 use Rattle.wot_search.specs.Choice.{node_width}
 use Rattle.wot_search.specs.Layer.{Covered, IsGrowing, Onward}
 use Rattle.wot_search.specs.Looked.{IsSeen, IsNear, Widens}
+use Rattle.wot_search.specs.Onward.{leads_on}
 use Rattle.wot_search.specs.Reached.{look}
 use Rattle.wot_search.specs.Growth.{IsRest, Advances, IsTaken, IsNoted, AreTaken, wide_of}
 use Rattle.wot_search.proofs.Considering.{suc-zero, row_there, row_edge}
@@ -24,13 +27,26 @@ has_at [] i d lt = absurd (omega (arith, lt))
 has_at (x ∷ xs) zero d lt = inl refl
 has_at (x ∷ xs) (suc i) d lt = inr (has_at xs i d (omega (arith, lt)))
 
--- an edge of the rows is one of those into its target
+-- an edge into a fingerprint is one of those into its target
+pub edge_into : (told : Record) → IsRecord told → (at : Fpr) (edge : EdgeFacts) → Has (edges_into told at) edge → Has (edges_into told edge.target) edge × (edge.target ≡ at)
+edge_into told good at edge h =
+    let r = row_there told at edge h in
+    let t : edge.target ≡ at = ap (λ (x : EdgeFacts). x.target) (sym r.2) ∙ good.into at r.0 r.1 in
+    (subst (λ (f : Fpr). Has (edges_into told f) edge) (sym t) h, t)
+
 pub edge_known : (told : List ℕ → Record) → ((id : List ℕ) → IsRecord (told id)) → (at : Fpr) (edges : List EdgeFacts) → ((id : List ℕ) → edges ≡ edges_into (told id) at) → (edge : EdgeFacts) → Has edges edge → (id : List ℕ) → Has (edges_into (told id) edge.target) edge × (edge.target ≡ at)
-edge_known told good at edges e edge h id =
-    let h' = subst (λ (xs : List EdgeFacts). Has xs edge) (e id) h in
-    let r = row_there (told id) at edge h' in
-    let t : edge.target ≡ at = ap (λ (x : EdgeFacts). x.target) (sym r.2) ∙ (good id).into at r.0 r.1 in
-    (subst (λ (f : Fpr). Has (edges_into (told id) f) edge) (sym t) h', t)
+edge_known told good at edges e edge h id = edge_into (told id) (good id) at edge (subst (λ (xs : List EdgeFacts). Has xs edge) (e id) h)
+
+-- an edge that may stand before others leads on
+leads : (quest : Quest) (row : Row) (rest : List Step) → 0 < length rest → Reaches quest.question row rest → length rest < quest.reach row.edge.issuer → leads_on quest.reach row.edge ≡ true
+leads quest row [] some r far = absurd (omega (arith, some))
+leads quest row (next ∷ rest) some r far =
+    let deep = r.0 in
+    and_from (nat_le 1 row.edge.depth) (nat_le 2 (quest.reach row.edge.issuer)) (le-leb 1 row.edge.depth (omega (arith, deep))) (le-leb 2 (quest.reach row.edge.issuer) (omega (arith, far)))
+
+-- each edge into a fingerprint that may matter before so many others is one of these
+abbrev pub HasAllBefore : Quest → ℕ → Fpr → List EdgeFacts → Type 0
+HasAllBefore quest size at edges = (edge : EdgeFacts) → Has (edges_into quest.question.told at) edge → (0 < size → leads_on quest.reach edge ≡ true) → Has edges edge
 
 -- the width of the rest
 pub width_is : (quest : Quest) (found : Found) (size : ℕ) (at : Fpr) (rest : List Step) → Kept quest found rest → length rest ≡ size → start quest.question.target rest ≡ at → width quest.used rest ≡ wide_of size (found at)
@@ -59,13 +75,14 @@ module _ (quest : Quest) (size : ℕ) where
   pub taken_end : (now : Found) (edges : List EdgeFacts) (i : ℕ) (rest : List Step) → length edges ≤ i → TakenFrom now edges i rest → TakenAll now edges rest
   taken_end now edges i rest le from = from now (onward_refl quest size now) (subst (λ (xs : List EdgeFacts). TakenAll now xs rest) (sym (drop_all i edges le)) (λ e h. absurd h))
 
-  pub taken_all : (found : Found) (edges : List EdgeFacts) (at : Fpr) (rest : List Step) → edges ≡ edges_into quest.question.told at → start quest.question.target rest ≡ at → TakenAll found edges rest → AreTaken quest found rest
-  taken_all found edges at rest e there all step s =
-      let h = subst (λ (f : Fpr). Has (rows_into quest.question.told f) s.stands.row) there s.stands.into in
-      let has = subst (λ (xs : List EdgeFacts). Has xs s.stands.row.edge) (sym e) (row_edge quest.question.told at s.stands.row h) in
-      let left : quest.least ≤ step_left quest.used (step_of s.stands.row.edge) = subst (λ (z : Step). quest.least ≤ step_left quest.used z) (sym s.stands.shown) s.left in
-      let far : length rest < quest.reach s.stands.row.edge.issuer = subst (λ (z : Step). length rest < quest.reach z.issuer) (sym s.stands.shown) s.high in
-      subst (λ (z : Step). Covered quest found (z ∷ rest)) s.stands.shown (all s.stands.row.edge has s.stands.row s.stands.into refl s.stands.usable s.stands.reaches left far)
+  pub taken_all : (found : Found) (edges : List EdgeFacts) (at : Fpr) (rest : List Step) → HasAllBefore quest size at edges → length rest ≡ size → start quest.question.target rest ≡ at → TakenAll found edges rest → AreTaken quest found rest
+  taken_all found edges at rest matter long there all step s =
+      let row = s.stands.row in
+      let h = subst (λ (f : Fpr). Has (rows_into quest.question.told f) row) there s.stands.into in
+      let left : quest.least ≤ step_left quest.used (step_of row.edge) = subst (λ (z : Step). quest.least ≤ step_left quest.used z) (sym s.stands.shown) s.left in
+      let far : length rest < quest.reach row.edge.issuer = subst (λ (z : Step). length rest < quest.reach z.issuer) (sym s.stands.shown) s.high in
+      let has = matter row.edge (row_edge quest.question.told at row h) (λ some. leads quest row rest (omega (arith, some, long)) s.stands.reaches far) in
+      subst (λ (z : Step). Covered quest found (z ∷ rest)) s.stands.shown (all row.edge has row s.stands.into refl s.stands.usable s.stands.reaches left far)
 
   pub rest_now : (old now : Reached) (at : Fpr) (wide : ℕ) (edge : EdgeFacts) (rest : List Step) → Kept quest (look old.nodes) rest → length rest ≡ size → start quest.question.target rest ≡ at → wide ≡ wide_of size (look old.nodes at) → edge.target ≡ at → Advances quest size old now → IsRest quest (look now.nodes) size edge.target wide rest
   rest_now old now at wide edge rest k l there w t a = record {
@@ -103,16 +120,17 @@ module _ (quest : Quest) where
     | inr noted ↦ noted
   ]
 
-  pub noted_all : (set : Fpr → Type 0) (edges : List EdgeFacts) (at : Fpr) (rest : List Step) → edges ≡ edges_into quest.question.told at → start quest.question.target rest ≡ at → set at → NotedAll set edges rest → IsSeen quest set rest
-  noted_all set edges at rest e there it all = record {
+  pub noted_all : (size : ℕ) (set : Fpr → Type 0) (edges : List EdgeFacts) (at : Fpr) (rest : List Step) → HasAllBefore quest size at edges → length rest ≡ size → start quest.question.target rest ≡ at → set at → NotedAll set edges rest → IsSeen quest set rest
+  noted_all size set edges at rest matter long there it all = record {
     it = subst set (sym there) it;
     issuers = λ row h r le far.
         let h' = subst (λ (f : Fpr). Has (rows_into quest.question.told f) row) there h in
-        all row.edge (subst (λ (xs : List EdgeFacts). Has xs row.edge) (sym e) (row_edge quest.question.told at row h')) row h refl r le far;
+        let has = matter row.edge (row_edge quest.question.told at row h') (λ some. leads quest row rest (omega (arith, some, long)) r far) in
+        all row.edge has row h refl r le far;
   }
 
 -- the issuer of an edge into a fingerprint is near it
-pub near_issuer : (told : Record) (at : Fpr) (edges : List EdgeFacts) (edge : EdgeFacts) → edges ≡ edges_into told at → Has edges edge → IsNear told at edge.issuer
-near_issuer told at edges edge e h =
-    let r = row_there told at edge (subst (λ (xs : List EdgeFacts). Has xs edge) e h) in
+pub near_issuer : (told : Record) (at : Fpr) (edge : EdgeFacts) → Has (edges_into told at) edge → IsNear told at edge.issuer
+near_issuer told at edge h =
+    let r = row_there told at edge h in
     inr (r.0, r.1, ap (λ (x : EdgeFacts). x.issuer) (sym r.2))

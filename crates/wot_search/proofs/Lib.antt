@@ -12,7 +12,6 @@ pub mod Local
 pub mod Considering
 pub mod Extending
 pub mod Leading
-pub mod Placing
 pub mod Growing
 pub mod Finding
 pub mod Nexting

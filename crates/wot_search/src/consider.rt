@@ -1,4 +1,4 @@
-ghost use Rattle.std.specs.Prelude.{◌≡◌, ◌<◌, ℕ, List, IfOk, OnOk};
+ghost use Rattle.std.specs.Prelude.{◌≡◌, ◌<◌, ℕ, List, true, IfOk, OnOk};
 ghost use Rattle.wot_edge.specs.Record.{Record, Has, IsRecord, edges_into};
 ghost use Rattle.wot_search.specs.Demand.{demand_of};
 ghost use Rattle.wot_search.specs.Quest.{quest_of};
@@ -6,9 +6,10 @@ ghost use Rattle.wot_search.specs.Reached.{look};
 ghost use Rattle.wot_search.specs.Growth.{wanted_of, may_stand_of, KeepsNoted, EachRow, PutsIfStands};
 ghost use Rattle.wot_search.specs.Growth.{GrowsByEdge, TakesEdge, SeesEdge};
 ghost use Rattle.wot_search.specs.Looked.{Gains, Widens};
+ghost use Rattle.wot_search.specs.Onward.{IsUsable};
 
 use crate::demand::{candidate, keeps};
-use crate::node::{Demand, Node};
+use crate::node::{Demand, Hint, Node};
 use crate::notes::Notes;
 use crate::quest::Quest;
 use crate::reached::{Reached, node_at, put};
@@ -45,13 +46,32 @@ fn wanted(
     }
 }
 
-/// Whether an edge is usable and, but for the last of a path, its scope holds.
-fn may_stand<R: Roads>(roads: &R, quest: &Quest, size: u8, edge: &Edge) -> Result<bool, Memory>
+/// Whether an edge is usable, which isn't asked where it is known to be.
+fn is_usable<R: Roads>(roads: &R, known: bool, edge: &Edge) -> bool
     requires row { (id : List ℕ) → Has (edges_into (R.told roads.now id) edge.now.target) edge.now }
+    requires known { known ≡ true → IsUsable (R.told roads.now) edge.now }
+    ensures usable { (id : List ℕ) → EachRow (R.told roads.now id) edge.now (λ row. row.usable ≡ result) }
+{
+    if known {
+        return true;
+    }
+    roads.usable(edge)
+}
+
+/// Whether an edge is usable and, but for the last of a path, its scope holds.
+fn may_stand<R: Roads>(
+    roads: &R,
+    quest: &Quest,
+    size: u8,
+    known: bool,
+    edge: &Edge,
+) -> Result<bool, Memory>
+    requires row { (id : List ℕ) → Has (edges_into (R.told roads.now id) edge.now.target) edge.now }
+    requires known { known ≡ true → IsUsable (R.told roads.now) edge.now }
     ensures { IfOk result (λ stands. EachRow (R.told roads.now quest.now.uid.now) edge.now
         (λ row. may_stand_of size row ≡ stands)) }
 {
-    if !roads.usable(edge) {
+    if !is_usable(roads, known, edge) {
         return Ok(false);
     }
     if size == 0 {
@@ -65,12 +85,14 @@ fn keep<R: Roads, N: Notes>(
     roads: &R,
     quest: &Quest,
     size: u8,
+    known: bool,
     edge: &Edge,
     node: Node,
     reached: &mut Reached,
     notes: &mut N,
 ) -> Result<(), Memory>
     requires row { (id : List ℕ) → Has (edges_into (R.told roads.now id) edge.now.target) edge.now }
+    requires known { known ≡ true → IsUsable (R.told roads.now) edge.now }
     ensures put { OnOk result (PutsIfStands (R.told roads.now quest.now.uid.now) size edge.now
         reached.old reached.new node) }
     ensures has { OnOk result (N.noted notes.new node.step.issuer) }
@@ -78,26 +100,27 @@ fn keep<R: Roads, N: Notes>(
     ensures gains { Gains (λ fpr. fpr ≡ node.step.issuer) (N.noted notes.old) (N.noted notes.new) }
 {
     notes.note(&node.step.issuer)?;
-    if may_stand(roads, quest, size, edge)? {
+    if may_stand(roads, quest, size, known, edge)? {
         return put(reached, node);
     }
     Ok(())
 }
 
-/// Considers an edge before a suffix of so many edges and of so much. How far its issuer reaches is found at once where
-/// it is at this place of the table.
+/// Considers an edge before a suffix of so many edges and of so much. How far its issuer reaches, and whether it is
+/// usable, are looked up only where the hint doesn't tell.
 pub fn consider<R: Roads, N: Notes>(
     roads: &R,
     quest: &Quest,
     demand: Demand,
     size: u8,
     width: u8,
-    place: usize,
+    hint: Hint,
     edge: &Edge,
     reached: &mut Reached,
     notes: &mut N,
 ) -> Result<(), Memory>
     requires row { (id : List ℕ) → Has (edges_into (R.told roads.now id) edge.now.target) edge.now }
+    requires known { hint.usable ≡ true → IsUsable (R.told roads.now) edge.now }
     requires lawful { (id : List ℕ) → IsRecord (R.told roads.now id) }
     requires demand { demand ≡ demand_of (quest_of (R.told roads.now) quest.now).question size }
     requires size { size < 255 }
@@ -111,10 +134,18 @@ pub fn consider<R: Roads, N: Notes>(
     ensures grows { Widens (N.noted notes.old) (N.noted notes.new) }
     ensures gains { Gains (λ fpr. fpr ≡ edge.now.issuer) (N.noted notes.old) (N.noted notes.new) }
 {
-    match wanted(quest, demand, size, width, place, &edge.facts(), reached) {
+    match wanted(
+        quest,
+        demand,
+        size,
+        width,
+        hint.place,
+        &edge.facts(),
+        reached,
+    ) {
         None => Ok(()),
         Some(node) => {
-            keep(roads, quest, size, edge, node, reached, notes)?;
+            keep(roads, quest, size, hint.usable, edge, node, reached, notes)?;
             Ok(())
         }
     }

@@ -1,5 +1,6 @@
-ghost use Rattle.std.specs.Prelude.{◌<◌, OnOk};
-ghost use Rattle.wot_search.specs.Onward.{Covers};
+ghost use Rattle.std.specs.Prelude.{◌≡◌, ◌<◌, ℕ, List, OnOk};
+ghost use Rattle.wot_edge.specs.Record.{IsRecord};
+ghost use Rattle.wot_search.specs.Onward.{AreUsableIf, LeadsOnInto, MatterBefore};
 ghost use Rattle.wot_search.specs.Quest.{LeadsOn, quest_of};
 ghost use Rattle.wot_search.specs.Reach.{number_at};
 ghost use Rattle.wot_search.specs.Looked.{Gains, IsNear, Widens};
@@ -7,11 +8,35 @@ ghost use Rattle.wot_search.specs.Growth.{KeepsNoted, GrowsInto, TakesInto, Sees
 
 use crate::consider::consider;
 use crate::demand::demand;
+use crate::node::Hint;
 use crate::notes::Notes;
+use crate::onward::Onward;
 use crate::quest::Quest;
 use crate::reached::{Reached, width_at};
-use wot_edge::Roads;
+use wot_edge::{Edge, Roads};
 use wot_types::{Fpr, Memory};
+
+/// What a table of reach tells of edges into a fingerprint.
+#[derive(Clone, Copy)]
+struct Hints<'a> {
+    /// Where the numbers of the issuers of all edges into the fingerprint begin.
+    start: usize,
+    /// The places of these edges among all; where there are none, they are all.
+    places: &'a [usize],
+    /// Whether they are known to be usable.
+    usable: bool,
+}
+
+/// What it tells of one of them.
+fn hint_of(hints: Hints<'_>, index: usize) -> Hint
+    ensures usable { result.usable ≡ hints.entry.usable }
+{
+    let place = hints.places.get(index).copied().unwrap_or(index);
+    Hint {
+        place: hints.start.saturating_add(place),
+        usable: hints.usable,
+    }
+}
 
 /// Considers each edge into a fingerprint of the layer before that may stand there.
 pub fn extend<R: Roads, N: Notes>(
@@ -23,6 +48,7 @@ pub fn extend<R: Roads, N: Notes>(
     notes: &mut N,
 ) -> Result<(), Memory>
     requires size { size < 255 }
+    requires lawful { (id : List ℕ) → IsRecord (R.told roads.now id) }
     requires onward { LeadsOn (R.told roads.now) quest.now }
     ensures grown { OnOk result (GrowsInto (quest_of (R.told roads.now) quest.now) size at.now
         reached.old reached.new) }
@@ -40,9 +66,44 @@ pub fn extend<R: Roads, N: Notes>(
         return extend_all(roads, quest, size, at, start, reached, notes);
     }
     match quest.reach.onward(place, at) {
-        Some(places) => extend_onward(roads, quest, size, at, start, places, reached, notes),
+        Some(onward) => extend_onward(roads, quest, size, at, start, onward, reached, notes),
         None => extend_all(roads, quest, size, at, start, reached, notes),
     }
+}
+
+/// Considers the edges that lead on into a fingerprint.
+fn extend_onward<R: Roads, N: Notes>(
+    roads: &R,
+    quest: &Quest,
+    size: u8,
+    at: &Fpr,
+    start: usize,
+    onward: &Onward,
+    reached: &mut Reached,
+    notes: &mut N,
+) -> Result<(), Memory>
+    requires some { 0 < size }
+    requires size { size < 255 }
+    requires lawful { (id : List ℕ) → IsRecord (R.told roads.now id) }
+    requires leads { LeadsOnInto (R.told roads.now) (number_at quest.now.reach.now) at.now onward.now }
+    ensures grown { OnOk result (GrowsInto (quest_of (R.told roads.now) quest.now) size at.now
+        reached.old reached.new) }
+    ensures taken { OnOk result (TakesInto (quest_of (R.told roads.now) quest.now) size at.now
+        reached.old reached.new) }
+    ensures noted { OnOk result (KeepsNoted reached.old reached.new (N.noted notes.old) (N.noted notes.new)) }
+    ensures seen { OnOk result (SeesInto (R.told roads.now) quest.now size at.now reached.old
+        (N.noted notes.old) (N.noted notes.new)) }
+    ensures grows { Widens (N.noted notes.old) (N.noted notes.new) }
+    ensures gains { Gains (IsNear (R.told roads.now quest.now.uid.now) at.now) (N.noted notes.old) (N.noted notes.new) }
+{
+    let edges = onward.edges.as_slice();
+    let places = onward.places.as_slice();
+    let hints = Hints {
+        start,
+        places,
+        usable: onward.usable,
+    };
+    extend_by(roads, quest, size, at, edges, hints, reached, notes)
 }
 
 /// Considers each edge into a fingerprint; their numbers begin here in the table.
@@ -55,7 +116,7 @@ fn extend_all<R: Roads, N: Notes>(
     reached: &mut Reached,
     notes: &mut N,
 ) -> Result<(), Memory>
-    requires { size < 255 }
+    requires size { size < 255 }
     ensures grown { OnOk result (GrowsInto (quest_of (R.told roads.now) quest.now) size at.now
         reached.old reached.new) }
     ensures taken { OnOk result (TakesInto (quest_of (R.told roads.now) quest.now) size at.now
@@ -67,33 +128,29 @@ fn extend_all<R: Roads, N: Notes>(
     ensures gains { Gains (IsNear (R.told roads.now quest.now.uid.now) at.now) (N.noted notes.old) (N.noted notes.new) }
 {
     let edges = roads.rows(at);
-    let demand = demand(roads, quest, size);
-    let width = width_at(reached, size, at);
-    let mut place = start;
-    notes.note(at)?;
-    'edges: for edge in edges {
-        consider(
-            roads, quest, demand, size, width, place, edge, reached, notes,
-        )?;
-        place = place.saturating_add(1);
-    }
-    Ok(())
+    let hints = Hints {
+        start,
+        places: &[],
+        usable: false,
+    };
+    extend_by(roads, quest, size, at, edges, hints, reached, notes)
 }
 
-/// Considers the edges at these places, which are all that lead on.
-fn extend_onward<R: Roads, N: Notes>(
+/// Considers these edges into a fingerprint, which are all that matter.
+fn extend_by<R: Roads, N: Notes>(
     roads: &R,
     quest: &Quest,
     size: u8,
     at: &Fpr,
-    start: usize,
-    places: &[usize],
+    edges: &[Edge],
+    hints: Hints<'_>,
     reached: &mut Reached,
     notes: &mut N,
 ) -> Result<(), Memory>
-    requires some { 0 < size }
     requires size { size < 255 }
-    requires covers { Covers (R.told roads.now) (number_at quest.now.reach.now) at.now places.now }
+    requires lawful { (id : List ℕ) → IsRecord (R.told roads.now id) }
+    requires matter { MatterBefore (R.told roads.now) (number_at quest.now.reach.now) size at.now edges.now }
+    requires usable { AreUsableIf (R.told roads.now) hints.usable edges.now }
     ensures grown { OnOk result (GrowsInto (quest_of (R.told roads.now) quest.now) size at.now
         reached.old reached.new) }
     ensures taken { OnOk result (TakesInto (quest_of (R.told roads.now) quest.now) size at.now
@@ -104,19 +161,16 @@ fn extend_onward<R: Roads, N: Notes>(
     ensures grows { Widens (N.noted notes.old) (N.noted notes.new) }
     ensures gains { Gains (IsNear (R.told roads.now quest.now.uid.now) at.now) (N.noted notes.old) (N.noted notes.new) }
 {
-    let edges = roads.rows(at);
     let demand = demand(roads, quest, size);
     let width = width_at(reached, size, at);
+    let mut index: usize = 0;
     notes.note(at)?;
-    'places: for place in places {
-        let i = *place;
-        if i < edges.len() {
-            let near = start.saturating_add(i);
-            let edge = &edges[i];
-            consider(
-                roads, quest, demand, size, width, near, edge, reached, notes,
-            )?;
-        }
+    'edges: for edge in edges {
+        let hint = hint_of(hints, index);
+        consider(
+            roads, quest, demand, size, width, hint, edge, reached, notes,
+        )?;
+        index = index.saturating_add(1);
     }
     Ok(())
 }

@@ -1,4 +1,5 @@
-ghost use Rattle.std.specs.Prelude.{◌<◌, OnOk};
+ghost use Rattle.std.specs.Prelude.{◌<◌, ℕ, List, OnOk};
+ghost use Rattle.wot_edge.specs.Record.{IsRecord};
 ghost use Rattle.wot_search.specs.Quest.{LeadsOn, quest_of};
 ghost use Rattle.wot_search.specs.Looked.{Gains, IsNearOne, Widens};
 ghost use Rattle.wot_search.specs.Growth.{KeepsNoted, GrowsByLayer, TakesLayer, SeesLayer};
@@ -23,6 +24,7 @@ fn grow<R: Roads, N: Notes>(
     notes: &mut N,
 ) -> Result<(), Memory>
     requires size { size < 255 }
+    requires lawful { (id : List ℕ) → IsRecord (R.told roads.now id) }
     requires onward { LeadsOn (R.told roads.now) quest.now }
     ensures grown { OnOk result (GrowsByLayer (quest_of (R.told roads.now) quest.now) size layer.now
         reached.old reached.new) }
@@ -51,6 +53,7 @@ pub fn advance<R: Roads, N: Notes>(
     notes: &mut N,
 ) -> Result<(), Memory>
     requires size { size < 255 }
+    requires lawful { (id : List ℕ) → IsRecord (R.told roads.now id) }
     requires onward { LeadsOn (R.told roads.now) quest.now }
     ensures after { OnOk result (GoesOn (R.told roads.now) quest.now size reached.old reached.new
         (N.noted notes.old) (N.noted notes.new)) }

@@ -26,6 +26,14 @@ pub struct Choice {
     pub width: u8,
 }
 
+/// What a table of reach tells of an edge: the place where its issuer's number is found at once, and whether the edge is
+/// known to be usable.
+#[derive(Clone, Copy)]
+pub struct Hint {
+    pub place: usize,
+    pub usable: bool,
+}
+
 /// What is demanded of an edge: to be on the wanted user ID, by its place among the target's; or
 /// to have a depth of at least so many edges, and an issuer other than the target.
 #[derive(Clone, Copy, PartialEq, Eq)]

@@ -1,4 +1,4 @@
-ghost use Rattle.std.specs.Prelude.{IfOk, OnOk};
+ghost use Rattle.std.specs.Prelude.{ℕ, List, IfOk, OnOk};
 ghost use Rattle.wot_edge.specs.Record.{IsRecord};
 ghost use Rattle.wot_edge.specs.Sums.{use_in};
 ghost use Rattle.wot_search.specs.Asked.{AreNextLocally, IsWithin, LeadsToAsked, question_of};
@@ -30,6 +30,7 @@ fn layers_of<R: Roads>(
     quest: &Quest,
     count: u8,
 ) -> Result<Reached, Memory>
+    requires lawful { (id : List ℕ) → IsRecord (R.told roads.now id) }
     requires onward { LeadsOn (R.told roads.now) quest.now }
     ensures after { IfOk result (λ reached. IsAfter (quest_of (R.told roads.now) quest.now) count reached
         (λ fpr. Unit {0})) }
@@ -113,6 +114,7 @@ pub(crate) fn offers_by<R: Roads>(
     quest: &Quest,
     size: u8,
 ) -> Result<Vec<Path>, Memory>
+    requires lawful { (id : List ℕ) → IsRecord (R.told roads.now id) }
     requires onward { LeadsOn (R.told roads.now) quest.now }
     ensures { IfOk result (λ paths. AreFoundOffers (quest_of (R.told roads.now) quest.now) size
         quest.now.roots.now paths.items) }

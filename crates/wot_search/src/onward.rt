@@ -1,8 +1,8 @@
 // Which edges lead on, so that a search needn't look at the others: most certifications make no introducer.
-ghost use Rattle.std.specs.Prelude.{◌≡◌, ℕ, List, IfOk, IfSome, OnOk};
+ghost use Rattle.std.specs.Prelude.{◌≡◌, ◌++◌, ◌∷◌, [], ℕ, List, true, IfOk, IfSome, OnOk};
 ghost use Rattle.wot_types.specs.declared.fpr.Fpr.{Fpr as Print};
-ghost use Rattle.wot_edge.specs.Record.{Record};
-ghost use Rattle.wot_search.specs.Onward.{AreOnward, Covers, leads_on};
+ghost use Rattle.wot_edge.specs.Record.{Record, Has, edges_into};
+ghost use Rattle.wot_search.specs.Onward.{AddsLead, AreOnward, IsUsableIf, LeadsOnInto, leads_on};
 ghost use Rattle.wot_search.specs.Reach.{number_of};
 ghost use Rattle.wot_search.specs.Slots.{AreSlots};
 
@@ -10,39 +10,52 @@ use crate::slots::{Slots, number_by};
 use std::alloc::Global;
 use std::collections::BTreeMap;
 use wot_edge::{Edge, Roads};
-use wot_types::{Fpr, Memory};
+use wot_types::{Fpr, Memory, Steps};
 
-/// The places of those edges into a fingerprint that may stand before another edge, by their depths and how far their
-/// issuers reach.
+/// Those edges into a fingerprint that may stand before another edge, by their depths and how far their issuers reach.
+/// They are kept beside the network, so that a search finds them at once.
 #[derive(Drop)]
 pub struct Onward {
     pub fpr: Fpr,
+    pub edges: Vec<Edge, Global>,
+    /// The place of each among all edges into the fingerprint.
     pub places: Vec<usize, Global>,
+    /// Whether these edges are known to be usable, so that a search needn't ask.
+    pub usable: bool,
 }
 
 impl Onward {
-    /// The places, if they are of this fingerprint.
-    pub(crate) fn places_if(&self, fpr: &Fpr) -> Option<&[usize]>
-        ensures covers { (told : List ℕ → Record) (number : Print → ℕ) → Covers told number self.now.fpr self.now.places.items
-            → IfSome result (λ places. Covers told number fpr.now places.now) }
+    /// None yet.
+    fn new(alloc: Global, fpr: &Fpr) -> Onward
+        ensures fpr { result.fpr ≡ fpr.now }
+        ensures edges { result.edges.items ≡ [] }
     {
-        if self.fpr == *fpr {
-            Some(&self.places)
-        } else {
-            None
+        Onward {
+            fpr: *fpr,
+            edges: Vec::new(alloc),
+            places: Vec::new(alloc),
+            usable: true,
         }
+    }
+
+    /// These, if they are of this fingerprint.
+    pub(crate) fn of_fpr(&self, fpr: &Fpr) -> Option<&Onward>
+        ensures leads { (told : List ℕ → Record) (number : Print → ℕ) → LeadsOnInto told number self.now.fpr self.now
+            → IfSome result (λ one. LeadsOnInto told number fpr.now one.now) }
+    {
+        if self.fpr == *fpr { Some(self) } else { None }
     }
 }
 
 /// Those at a place, if they are of this fingerprint.
-pub(crate) fn places_at<'a>(onward: &'a [Onward], place: usize, fpr: &Fpr) -> Option<&'a [usize]>
-    ensures covers { (told : List ℕ → Record) (number : Print → ℕ) → AreOnward told number onward.now
-        → IfSome result (λ places. Covers told number fpr.now places.now) }
+pub(crate) fn onward_at<'a>(onward: &'a [Onward], place: usize, fpr: &Fpr) -> Option<&'a Onward>
+    ensures leads { (told : List ℕ → Record) (number : Print → ℕ) → AreOnward told number onward.now
+        → IfSome result (λ one. LeadsOnInto told number fpr.now one.now) }
 {
     if place >= onward.len() {
         return None;
     }
-    onward[place].places_if(fpr)
+    onward[place].of_fpr(fpr)
 }
 
 /// Whether an edge leads on.
@@ -54,25 +67,75 @@ fn is_onward(slots: &Slots, numbers: &BTreeMap<Fpr, u8>, edge: &Edge) -> bool
     1 <= facts.depth && 2 <= number_by(slots, numbers, &facts.issuer)
 }
 
-/// The places of the edges into a fingerprint that lead on.
-fn places_of<R: Roads>(
+/// Whether an edge is usable, and those before it are.
+fn is_usable_too<R: Roads>(roads: &R, usable: bool, edge: &Edge) -> bool
+    requires row { (id : List ℕ) → Has (edges_into (R.told roads.now id) edge.now.target) edge.now }
+    ensures usable { IsUsableIf (R.told roads.now) usable result edge.now }
+{
+    if !usable {
+        return false;
+    }
+    roads.usable(edge)
+}
+
+/// Appends an edge.
+fn put_edge<R: Roads>(
+    roads: &R,
+    edge: &Edge,
+    place: usize,
+    onward: &mut Onward,
+) -> Result<(), Memory>
+    requires row { (id : List ℕ) → Has (edges_into (R.told roads.now id) edge.now.target) edge.now }
+    ensures fpr { onward.new.fpr ≡ onward.old.fpr }
+    ensures edges { OnOk result (onward.new.edges.items ≡ onward.old.edges.items ++ edge.now ∷ []) }
+    ensures usable { OnOk result (IsUsableIf (R.told roads.now) onward.old.usable onward.new.usable edge.now) }
+{
+    onward
+        .edges
+        .push(Edge::make(edge.facts(), &mut Steps::new()))?;
+    onward.places.push(place)?;
+    onward.usable = is_usable_too(roads, onward.usable, edge);
+    Ok(())
+}
+
+/// Appends an edge if it leads on.
+fn put_if<R: Roads>(
+    roads: &R,
+    slots: &Slots,
+    numbers: &BTreeMap<Fpr, u8>,
+    edge: &Edge,
+    place: usize,
+    onward: &mut Onward,
+) -> Result<(), Memory>
+    requires slots { AreSlots numbers.now.entries slots.now.slots.items }
+    requires row { (id : List ℕ) → Has (edges_into (R.told roads.now id) edge.now.target) edge.now }
+    ensures adds { OnOk result (AddsLead (R.told roads.now) (number_of numbers.now.entries) edge.now
+        onward.old onward.new) }
+{
+    if !is_onward(slots, numbers, edge) {
+        return Ok(());
+    }
+    put_edge(roads, edge, place, onward)?;
+    Ok(())
+}
+
+/// The edges into a fingerprint that lead on.
+fn onward_of<R: Roads>(
     alloc: Global,
     roads: &R,
     fpr: &Fpr,
     slots: &Slots,
     numbers: &BTreeMap<Fpr, u8>,
-) -> Result<Vec<usize>, Memory>
+) -> Result<Onward, Memory>
     requires slots { AreSlots numbers.now.entries slots.now.slots.items }
-    ensures covers { IfOk result (λ places. Covers (R.told roads.now) (number_of numbers.now.entries) fpr.now places.items) }
+    ensures leads { IfOk result (λ one. LeadsOnInto (R.told roads.now) (number_of numbers.now.entries) one.fpr one) }
 {
-    let mut places = Vec::new(alloc);
+    let mut onward = Onward::new(alloc, fpr);
     let edges = roads.rows(fpr);
     'places: for place in 0..edges.len() {
-        if is_onward(slots, numbers, &edges[place]) {
-            places.push(place)?;
-        }
+        put_if(roads, slots, numbers, &edges[place], place, &mut onward)?;
     }
-    Ok(places)
+    Ok(onward)
 }
 
 /// Appends those of one fingerprint.
@@ -88,7 +151,7 @@ pub(crate) fn put_onward<R: Roads>(
     requires onward { AreOnward (R.told roads.now) (number_of numbers.now.entries) onward.old.items }
     ensures onward { OnOk result (AreOnward (R.told roads.now) (number_of numbers.now.entries) onward.new.items) }
 {
-    let places = places_of(alloc, roads, fpr, slots, numbers)?;
-    onward.push(Onward { fpr: *fpr, places })?;
+    let one = onward_of(alloc, roads, fpr, slots, numbers)?;
+    onward.push(one)?;
     Ok(())
 }

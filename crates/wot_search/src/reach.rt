@@ -2,10 +2,10 @@ ghost use Rattle.std.specs.Prelude.{◌≡◌, ◌<◌, ℕ, List, [], true, fal
 ghost use Rattle.wot_types.specs.declared.fpr.Fpr.{Fpr as Print};
 ghost use Rattle.wot_edge.specs.Record.{Record, Has, edges_into};
 ghost use Rattle.wot_edge.specs.Roots.{root_amount};
-ghost use Rattle.wot_search.specs.Onward.{AreOnward, Covers};
+ghost use Rattle.wot_search.specs.Onward.{AreOnward, LeadsOnInto};
 ghost use Rattle.wot_search.specs.Reach.{Allows, HasEnough, IsReach, number_at, number_of};
 
-use crate::onward::{Onward, places_at, put_onward};
+use crate::onward::{Onward, onward_at, put_onward};
 use crate::rows::{Rows, add_row};
 use crate::slots::{Slots, number_in};
 use std::alloc::Global;
@@ -86,12 +86,12 @@ impl Reach {
     }
 
     /// The places of the edges into a fingerprint that lead on, if it is at this place.
-    pub(crate) fn onward(&self, place: Option<usize>, fpr: &Fpr) -> Option<&[usize]>
-        ensures covers { (told : List ℕ → Record) → AreOnward told (number_at self.now) self.now.onward
-            → IfSome result (λ places. Covers told (number_at self.now) fpr.now places.now) }
+    pub(crate) fn onward(&self, place: Option<usize>, fpr: &Fpr) -> Option<&Onward>
+        ensures leads { (told : List ℕ → Record) → AreOnward told (number_at self.now) self.now.onward
+            → IfSome result (λ one. LeadsOnInto told (number_at self.now) fpr.now one.now) }
     {
         match place {
-            Some(place) => places_at(&self.onward, place, fpr),
+            Some(place) => onward_at(&self.onward, place, fpr),
             None => None,
         }
     }

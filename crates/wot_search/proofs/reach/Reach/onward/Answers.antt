@@ -7,7 +7,7 @@ use Rattle.wot_search.proofs.reach.Reach.onward.Goals as goal
 
 pub returns-in-Some : goal.returns-in-Some
 returns-in-Some c = record {
-  covers = λ told are.
+  leads = λ told are.
       let same : c.args.self.now.onward ≡ c.deref.result.now = ap (λ (table : Table). table.onward) (sym c.self.view_is) ∙ sym c.deref.ensures.value in
-      c.places_at.ensures.covers told (number_at c.args.self.now) (subst (AreOnward told (number_at c.args.self.now)) same are);
+      c.onward_at.ensures.leads told (number_at c.args.self.now) (subst (AreOnward told (number_at c.args.self.now)) same are);
 }

@@ -8,7 +8,7 @@ use Rattle.wot_search.specs.Layer.{IsGrowing}
 use Rattle.wot_search.specs.Looked.{Gains, IsNear, Widens}
 use Rattle.wot_search.specs.Growth.{AreNoted, GrowsInto}
 use Rattle.wot_search.proofs.Extending.{TakenFrom, NotedFrom}
-use Rattle.wot_search.proofs.extend.extend_all.Given as goal
+use Rattle.wot_search.proofs.extend.extend_by.Given as goal
 
 abbrev pub invariant-edges : goal.invariant-edges
 invariant-edges g l =
