@@ -9,8 +9,9 @@ ghost use Rattle.wot_keyring.specs.Keyring.{Keyring as Held};
 ghost use Rattle.wot_search.specs.Making.{IsMaking};
 ghost use Rattle.wot_search.specs.Reach.{IsReach};
 ghost use Rattle.wot_network.specs.Net.{told_of};
-ghost use Rattle.wot_cache.specs.Answers.{AreFew, AreRight, AreRightIn, AreStill, AllStill, IsGood, IsOf, IsReaching, IsRight, IsSameBut};
-ghost use Rattle.wot_cache.specs.Answers.{Amounts, Answers as IsTheAnswer, IsFound, look, looked_by, looked_in};
+ghost use Rattle.wot_cache.specs.Answers.{AllStill, AreFew, AreRight, AreRightIn, AreStill, StayRight, StayRightWith};
+ghost use Rattle.wot_cache.specs.Answers.{Answers as IsTheAnswer, IsFound, IsGood, IsOf, IsReaching, IsRight};
+ghost use Rattle.wot_cache.specs.Answers.{look, looked_by, looked_in, IsSameBut};
 ghost use Rattle.wot_cache.specs.Question.{asked_of, present_in};
 
 use crate::budget::Budget;
@@ -198,8 +199,7 @@ fn make_room(table: &mut Table, looked: usize, count: usize) -> usize
     ensures few { AreFew table.new.entries result }
     ensures room { length table.new.entries < 1024 }
     ensures fits { result + count ≤ 1048576 }
-    ensures right { (k : Held) (roots : Amounts) (turn : ℕ) → AreRight k roots turn table.old.entries →
-        AreRight k roots turn table.new.entries }
+    ensures right { StayRight table.old.entries table.new.entries }
 {
     if table.len() < MOST && looked + count <= MOST_LOOKED {
         return looked;
@@ -214,8 +214,7 @@ fn add(table: &mut Table, looked: usize, answer: KeptAnswer) -> usize
     requires room { length table.old.entries < 1024 }
     requires fits { looked + looked_in answer ≤ 1048576 }
     ensures few { AreFew table.new.entries result }
-    ensures right { (k : Held) (roots : Amounts) (turn : ℕ) → AreRight k roots turn table.old.entries → IsRight k answer →
-        IsGood k roots turn answer → AreRight k roots turn table.new.entries }
+    ensures right { StayRightWith answer table.old.entries table.new.entries }
 {
     let count = count_looked(&answer);
     match replace(table, answer) {

@@ -3,7 +3,7 @@ ghost use Rattle.std.specs.Prelude.{◌≡◌, [], IfOk, IfSome};
 ghost use Rattle.std.specs.Map.{remove_entry};
 ghost use Rattle.wot_edge.specs.Answer.{IsAnswer, amount_of};
 ghost use Rattle.wot_keyring.specs.Keyring.{Keyring as Held};
-ghost use Rattle.wot_cache.specs.Answers.{AreAllRight, AreRightIn, IsFound, IsRight};
+ghost use Rattle.wot_cache.specs.Answers.{AllStayRightWith, AreAllRight, AreRightIn, IsFound, IsRight};
 ghost use Rattle.wot_cache.specs.Question.{asked_of, present_in, IsAnswerAround};
 ghost use Rattle.wot_network.specs.Net.{told_of};
 ghost use Rattle.wot_search.specs.Making.{IsMaking};
@@ -113,7 +113,8 @@ fn without_grounds(
 }
 
 fn put(answers: &mut AllAnswers, view: ViewName, of_view: Answers)
-    ensures right { (k : Held) → AreAllRight k answers.old.entries → AreRightIn k of_view → AreAllRight k answers.new.entries }
+    ensures right { (k : Held) → AreAllRight k answers.old.entries → AreRightIn k of_view →
+        AreAllRight k answers.new.entries }
 {
     // Without memory nothing is kept.
     let _ = answers.insert(view, of_view);
@@ -121,8 +122,7 @@ fn put(answers: &mut AllAnswers, view: ViewName, of_view: Answers)
 
 /// Keeps the first answer of a view.
 fn begin(alloc: Global, answers: &mut AllAnswers, view: &ViewName, roots: &Roots, kept: KeptAnswer)
-    ensures right { (k : Held) → AreAllRight k answers.old.entries → IsRight k kept → IsFound k roots.now kept →
-        AreAllRight k answers.new.entries }
+    ensures right { AllStayRightWith kept roots.now answers.old.entries answers.new.entries }
 {
     let mut of_view = Answers::new(alloc);
     of_view.keep(alloc, roots, kept);
@@ -133,8 +133,7 @@ fn begin(alloc: Global, answers: &mut AllAnswers, view: &ViewName, roots: &Roots
 }
 
 fn keep(alloc: Global, answers: &mut AllAnswers, view: &ViewName, roots: &Roots, kept: KeptAnswer)
-    ensures right { (k : Held) → AreAllRight k answers.old.entries → IsRight k kept → IsFound k roots.now kept →
-        AreAllRight k answers.new.entries }
+    ensures right { AllStayRightWith kept roots.now answers.old.entries answers.new.entries }
 {
     match answers.get_mut(view) {
         Some(of_view) => of_view.keep(alloc, roots, kept),
