@@ -144,8 +144,3 @@ AllAnswers = List (List ℕ × OfView)
 
 abbrev pub AreAllRight : Keyring → AllAnswers → Type 0
 AreAllRight k views = AllByRecursion (λ (e : List ℕ × OfView). AreRightIn k e.1) views
-
--- They are right afterwards, with this answer by these roots more, wherever they were before and it is.
-abbrev pub AllStayRightWith : KeptAnswer → Amounts → AllAnswers → AllAnswers → Type 0
-AllStayRightWith a roots old new =
-    (k : Keyring) → AreAllRight k old → IsRight k a → IsFound k roots a → AreAllRight k new
