@@ -281,7 +281,7 @@ impl KeptReach {
     /// The table, where it is made, of now, and these are the roots.
     fn give(&self, parts: &Parts<'_>, roots: &[(Fpr, u8)], turn: u64) -> Option<&Reach>
         requires reaching { IsReaching parts.now.keyring.now roots.now turn self.now }
-        ensures reach { IfSome result (λ reach. IsReach (told_of (present_in parts.now)) parts.now.roots.now reach.now) }
+        ensures reach { IfSome result (λ r. IsReach (told_of (present_in parts.now)) parts.now.roots.now r.now) }
     {
         if self.is_now(parts, roots, turn) {
             self.making.reach()
@@ -402,7 +402,7 @@ impl Answers {
     /// The table of reach, where it is of the keyring as it is, of these roots and of this time.
     pub fn reach(&self, parts: &Parts<'_>) -> Option<&Reach>
         requires right { AreRightIn parts.now.keyring.now self.now }
-        ensures reach { IfSome result (λ reach. IsReach (told_of (present_in parts.now)) parts.now.roots.now reach.now) }
+        ensures reach { IfSome result (λ r. IsReach (told_of (present_in parts.now)) parts.now.roots.now r.now) }
     {
         match &self.reach {
             Some(kept) => kept.give(parts, self.roots.as_slice(), self.turn),
