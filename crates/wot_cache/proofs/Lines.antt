@@ -1,6 +1,5 @@
 -- Lines that are put one by one.
-use Rattle.std.proofs.Common.{◌≡◌, ℕ, ◌+◌, ◌*◌, ◌≤◌, ◌<◌, ◌^◌, List, [], ◌∷◌, ◌++◌, length, take, arith, length-append, refl, sym, ap, ◌∙◌, append_assoc, append-nil}
-use Rattle.std.proofs.Math.Seq.{take-append_seam}
+use Rattle.std.proofs.Common.{◌≡◌, ℕ, ◌+◌, ◌*◌, ◌≤◌, ◌<◌, ◌^◌, List, [], ◌∷◌, ◌++◌, length, arith, length-append, refl, sym, ap, ◌∙◌, append_assoc, append-nil}
 use Rattle.std.proofs.lemmas.Grind.{flat_map-append}
 use Rattle.std.proofs.lemmas.List.{length-map}
 use Rattle.std.specs.List.{AllByRecursion, flat_map}
@@ -42,13 +41,6 @@ some_put before now next all cs rest so_far added lines = record {
   lined = λ h. so_far.lined (both_lines cs rest lines h);
 }
 
-pub all_put : (before now : List ℕ) (all : List Command) → PutSoFar before now all [] → now ≡ before ++ lines_of all
-all_put before now all so_far = so_far.text ∙ ap (λ made. before ++ made) (sym (append-nil so_far.made) ∙ so_far.left)
-
--- What was there before is got back.
-pub undone : (before now : List ℕ) (all rest : List Command) → PutSoFar before now all rest → take (length before) now ≡ before
-undone before now all rest so_far = ap (take (length before)) so_far.text ∙ take-append_seam before so_far.made
-
 -- ---- views
 
 -- The commands of all these views but the rest were put.
@@ -56,9 +48,6 @@ pub record ViewsPut (before now : List ℕ) (all rest : Views) (count : ℕ) : T
   pub lines : PutSoFar before now (flat_map view_commands all) (flat_map view_commands rest)
   pub counted : count + length (flat_map view_commands rest) ≡ length (flat_map view_commands all)
   pub roots : HaveRoots rest → HaveRoots all
-
-pub no_view_put : (before : List ℕ) (all : Views) → ViewsPut before before all all 0
-no_view_put before all = record { lines = none_put before (flat_map view_commands all); counted = omega arith; roots = λ h. h }
 
 length-view_commands : (e : List ℕ × View) (rest : List Command) → length (view_commands e ++ rest) ≡ 1 + length e.1.roots + length rest
 length-view_commands e rest = omega (arith, length-append (view_commands e) rest, length-map e.1.roots (root_of e.0))
@@ -103,8 +92,3 @@ dumped engine before mid now first last =
 pub dumped_lines : (engine : Engine) → AreLines (keyrings.commands_of (held_of engine.keyring)) → AreLines (flat_map view_commands engine.views)
     → AreLines (commands_of (state_of engine))
 dumped_lines engine first last = both_lines (keyrings.commands_of (held_of engine.keyring)) (flat_map view_commands engine.views) first last
-
-pub dumped_count : (engine : Engine) (held opened : ℕ) → held ≡ length (keyrings.commands_of (held_of engine.keyring))
-    → opened ≡ length (flat_map view_commands engine.views) → held + opened ≡ length (commands_of (state_of engine))
-dumped_count engine held opened h k =
-    omega (arith, h, k, length-append (keyrings.commands_of (held_of engine.keyring)) (flat_map view_commands engine.views))

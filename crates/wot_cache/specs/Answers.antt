@@ -90,6 +90,16 @@ Entries = List (ℕ × KeptAnswer)
 abbrev pub AreRight : Keyring → Amounts → ℕ → Entries → Type 0
 AreRight k roots turn entries = AllByRecursion (λ (e : ℕ × KeptAnswer). IsRight k e.1 × IsGood k roots turn e.1) entries
 
+-- They are right afterwards, wherever they were before.
+abbrev pub StayRight : Entries → Entries → Type 0
+StayRight old new =
+    (k : Keyring) (roots : Amounts) (turn : ℕ) → AreRight k roots turn old → AreRight k roots turn new
+
+-- So they are with this answer more, where it is right and good too.
+abbrev pub StayRightWith : KeptAnswer → Entries → Entries → Type 0
+StayRightWith a old new = (k : Keyring) (roots : Amounts) (turn : ℕ) → AreRight k roots turn old
+    → IsRight k a → IsGood k roots turn a → AreRight k roots turn new
+
 -- how many fingerprints are kept with an answer
 abbrev pub looked_in : KeptAnswer → ℕ
 looked_in a = option_map_or (λ (looked : Vec Looked Global). length looked.items) a.looked 0

@@ -9,8 +9,9 @@ ghost use Rattle.wot_keyring.specs.Keyring.{Keyring as Held};
 ghost use Rattle.wot_search.specs.Making.{IsMaking};
 ghost use Rattle.wot_search.specs.Reach.{IsReach};
 ghost use Rattle.wot_network.specs.Net.{told_of};
-ghost use Rattle.wot_cache.specs.Answers.{AreFew, AreRight, AreRightIn, AreStill, AllStill, IsGood, IsOf, IsReaching, IsRight, IsSameBut};
-ghost use Rattle.wot_cache.specs.Answers.{Amounts, Answers as IsTheAnswer, IsFound, look, looked_by, looked_in};
+ghost use Rattle.wot_cache.specs.Answers.{AllStill, AreFew, AreRight, AreRightIn, AreStill, StayRight, StayRightWith};
+ghost use Rattle.wot_cache.specs.Answers.{Answers as IsTheAnswer, IsFound, IsGood, IsOf, IsReaching, IsRight};
+ghost use Rattle.wot_cache.specs.Answers.{look, looked_by, looked_in, IsSameBut};
 ghost use Rattle.wot_cache.specs.Question.{asked_of, present_in};
 
 use crate::budget::Budget;
@@ -198,8 +199,7 @@ fn make_room(table: &mut Table, looked: usize, count: usize) -> usize
     ensures few { AreFew table.new.entries result }
     ensures room { length table.new.entries < 1024 }
     ensures fits { result + count ≤ 1048576 }
-    ensures right { (k : Held) (roots : Amounts) (turn : ℕ) → AreRight k roots turn table.old.entries →
-        AreRight k roots turn table.new.entries }
+    ensures right { StayRight table.old.entries table.new.entries }
 {
     if table.len() < MOST && looked + count <= MOST_LOOKED {
         return looked;
@@ -214,8 +214,7 @@ fn add(table: &mut Table, looked: usize, answer: KeptAnswer) -> usize
     requires room { length table.old.entries < 1024 }
     requires fits { looked + looked_in answer ≤ 1048576 }
     ensures few { AreFew table.new.entries result }
-    ensures right { (k : Held) (roots : Amounts) (turn : ℕ) → AreRight k roots turn table.old.entries → IsRight k answer →
-        IsGood k roots turn answer → AreRight k roots turn table.new.entries }
+    ensures right { StayRightWith answer table.old.entries table.new.entries }
 {
     let count = count_looked(&answer);
     match replace(table, answer) {
@@ -282,7 +281,7 @@ impl KeptReach {
     /// The table, where it is made, of now, and these are the roots.
     fn give(&self, parts: &Parts<'_>, roots: &[(Fpr, u8)], turn: u64) -> Option<&Reach>
         requires reaching { IsReaching parts.now.keyring.now roots.now turn self.now }
-        ensures reach { IfSome result (λ reach. IsReach (told_of (present_in parts.now)) parts.now.roots.now reach.now) }
+        ensures reach { IfSome result (λ r. IsReach (told_of (present_in parts.now)) parts.now.roots.now r.now) }
     {
         if self.is_now(parts, roots, turn) {
             self.making.reach()
@@ -403,7 +402,7 @@ impl Answers {
     /// The table of reach, where it is of the keyring as it is, of these roots and of this time.
     pub fn reach(&self, parts: &Parts<'_>) -> Option<&Reach>
         requires right { AreRightIn parts.now.keyring.now self.now }
-        ensures reach { IfSome result (λ reach. IsReach (told_of (present_in parts.now)) parts.now.roots.now reach.now) }
+        ensures reach { IfSome result (λ r. IsReach (told_of (present_in parts.now)) parts.now.roots.now r.now) }
     {
         match &self.reach {
             Some(kept) => kept.give(parts, self.roots.as_slice(), self.turn),

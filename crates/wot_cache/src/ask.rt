@@ -5,14 +5,13 @@ ghost use Rattle.wot_edge.specs.Record.{IsRecord};
 ghost use Rattle.wot_network.specs.Net.{told_of};
 ghost use Rattle.wot_network.specs.Roads.{present_of};
 ghost use Rattle.wot_search.specs.Reach.{IsReach};
-ghost use Rattle.wot_cache.specs.Answers.{AreAllRight};
+ghost use Rattle.wot_cache.specs.Answers.{AreAllRight, AreRightIn};
 ghost use Rattle.wot_cache.specs.Question.{asked_of, present_in, IsTold};
 
+use crate::answers::Answers;
 use crate::making::{fprs_of, spend};
 use crate::parts::Parts;
-use crate::recall::{
-    AllAnswers, keep_making, most_looks, reach_of, recall, remember, remember_now,
-};
+use crate::recall::{AllAnswers, begin, remember, remember_now};
 use crate::view::AskFault;
 use std::alloc::Global;
 use wot_auth::{Answer, authenticate_metered, authenticate_within};
@@ -53,9 +52,8 @@ fn search_within(
 /// found.
 fn search_kept(
     alloc: Global,
-    answers: &AllAnswers,
+    of_view: &Answers,
     parts: &Parts<'_>,
-    view: &ViewName,
     target: &Fpr,
     wanted: u32,
     uid: &[u8],
@@ -63,11 +61,11 @@ fn search_kept(
     requires wanted { 1 ≤ wanted }
     requires few { length parts.now.roots.now ≤ 64 }
     requires present { present_of parts.now.roads ≡ present_in parts.now }
-    requires right { AreAllRight parts.now.keyring.now answers.now.entries }
+    requires right { AreRightIn parts.now.keyring.now of_view.now }
     ensures answer { IfSome result (λ a. IsAnswer (asked_of parts.now target.now uid.now) wanted a.paths) }
     ensures sum { IfSome result (λ a. a.sum ≡ amount_of a.paths) }
 {
-    let Some(reach) = reach_of(answers, parts, view) else {
+    let Some(reach) = of_view.reach(parts) else {
         return None;
     };
     match search_within(alloc, parts, reach, target, wanted, uid) {
@@ -79,9 +77,8 @@ fn search_kept(
 /// The answer within a table of reach that is made for it, and kept for the view with the answer.
 fn search_far(
     alloc: Global,
-    answers: &mut AllAnswers,
+    of_view: &mut Answers,
     parts: &Parts<'_>,
-    view: &ViewName,
     target: &Fpr,
     wanted: u32,
     uid: &[u8],
@@ -89,11 +86,11 @@ fn search_far(
     requires wanted { 1 ≤ wanted }
     requires few { length parts.now.roots.now ≤ 64 }
     requires present { present_of parts.now.roads ≡ present_in parts.now }
-    requires right { AreAllRight parts.now.keyring.now answers.old.entries }
+    requires right { AreRightIn parts.now.keyring.now of_view.old }
     ensures answer { IfOk result (λ a. IsAnswer (asked_of parts.now target.now uid.now) wanted a.paths) }
     ensures sum { IfOk result (λ a. a.sum ≡ amount_of a.paths) }
     ensures memory { OnErr result (result ≡ Err AskFault.Memory) }
-    ensures right { AreAllRight parts.now.keyring.now answers.new.entries }
+    ensures right { AreRightIn parts.now.keyring.now of_view.new }
 {
     let Ok(reach) = made_reach(alloc, parts) else {
         return Err(AskFault::Memory);
@@ -101,8 +98,8 @@ fn search_far(
     let Ok(answer) = search_within(alloc, parts, &reach, target, wanted, uid) else {
         return Err(AskFault::Memory);
     };
-    keep_making(alloc, answers, parts, view, Making::Made(reach));
-    remember_now(alloc, answers, parts, view, target, wanted, uid, &answer);
+    of_view.keep_making(alloc, parts, Making::Made(reach));
+    remember_now(alloc, of_view, parts, target, wanted, uid, &answer);
     Ok(answer)
 }
 
@@ -111,9 +108,8 @@ fn search_far(
 /// is counted, and once a table pays, each search makes a part of one.
 fn search(
     alloc: Global,
-    answers: &mut AllAnswers,
+    of_view: &mut Answers,
     parts: &Parts<'_>,
-    view: &ViewName,
     target: &Fpr,
     wanted: u32,
     uid: &[u8],
@@ -122,13 +118,13 @@ fn search(
     requires wanted { 1 ≤ wanted }
     requires few { length parts.now.roots.now ≤ 64 }
     requires present { present_of parts.now.roads ≡ present_in parts.now }
-    requires right { AreAllRight parts.now.keyring.now answers.old.entries }
+    requires right { AreRightIn parts.now.keyring.now of_view.old }
     ensures answer { IfOk result (λ a. IsAnswer (asked_of parts.now target.now uid.now) wanted a.paths) }
     ensures sum { IfOk result (λ a. a.sum ≡ amount_of a.paths) }
     ensures memory { OnErr result (result ≡ Err AskFault.Memory) }
-    ensures right { AreAllRight parts.now.keyring.now answers.new.entries }
+    ensures right { AreRightIn parts.now.keyring.now of_view.new }
 {
-    let most = most_looks(answers, parts, view).saturating_sub(made);
+    let most = of_view.most_looks(parts).saturating_sub(made);
     let mut metered = Metered::new(alloc, most);
     match authenticate_metered(
         alloc,
@@ -142,9 +138,8 @@ fn search(
         Ok(answer) => {
             remember(
                 alloc,
-                answers,
+                of_view,
                 parts,
-                view,
                 target,
                 wanted,
                 uid,
@@ -152,14 +147,14 @@ fn search(
                 &answer,
             );
             let looked = most.saturating_sub(metered.left).saturating_add(made);
-            spend(alloc, answers, parts, view, looked);
+            spend(alloc, of_view, parts, looked);
             Ok(answer)
         }
         Err(Memory) => {
             if metered.left > 0 {
                 return Err(AskFault::Memory);
             }
-            search_far(alloc, answers, parts, view, target, wanted, uid)
+            search_far(alloc, of_view, parts, target, wanted, uid)
         }
     }
 }
@@ -167,9 +162,8 @@ fn search(
 /// The same answer, within the table that is kept for the view where there is one.
 fn find_new(
     alloc: Global,
-    answers: &mut AllAnswers,
+    of_view: &mut Answers,
     parts: &Parts<'_>,
-    view: &ViewName,
     target: &Fpr,
     wanted: u32,
     uid: &[u8],
@@ -178,23 +172,48 @@ fn find_new(
     requires wanted { 1 ≤ wanted }
     requires few { length parts.now.roots.now ≤ 64 }
     requires present { present_of parts.now.roads ≡ present_in parts.now }
-    requires right { AreAllRight parts.now.keyring.now answers.old.entries }
+    requires right { AreRightIn parts.now.keyring.now of_view.old }
     ensures answer { IfOk result (λ a. IsAnswer (asked_of parts.now target.now uid.now) wanted a.paths) }
     ensures sum { IfOk result (λ a. a.sum ≡ amount_of a.paths) }
     ensures memory { OnErr result (result ≡ Err AskFault.Memory) }
-    ensures right { AreAllRight parts.now.keyring.now answers.new.entries }
+    ensures right { AreRightIn parts.now.keyring.now of_view.new }
 {
-    match search_kept(alloc, answers, parts, view, target, wanted, uid) {
+    match search_kept(alloc, of_view, parts, target, wanted, uid) {
         Some(answer) => {
-            remember_now(alloc, answers, parts, view, target, wanted, uid, &answer);
+            remember_now(alloc, of_view, parts, target, wanted, uid, &answer);
             Ok(answer)
         }
-        None => search(alloc, answers, parts, view, target, wanted, uid, made),
+        None => search(alloc, of_view, parts, target, wanted, uid, made),
     }
 }
 
 /// The same answer, from the kept ones where it is there.
 fn find(
+    alloc: Global,
+    of_view: &mut Answers,
+    parts: &Parts<'_>,
+    target: &Fpr,
+    wanted: u32,
+    uid: &[u8],
+    made: u64,
+) -> Result<Answer, AskFault>
+    requires wanted { 1 ≤ wanted }
+    requires few { length parts.now.roots.now ≤ 64 }
+    requires present { present_of parts.now.roads ≡ present_in parts.now }
+    requires right { AreRightIn parts.now.keyring.now of_view.old }
+    ensures answer { IfOk result (λ a. IsAnswer (asked_of parts.now target.now uid.now) wanted a.paths) }
+    ensures sum { IfOk result (λ a. a.sum ≡ amount_of a.paths) }
+    ensures memory { OnErr result (result ≡ Err AskFault.Memory) }
+    ensures right { AreRightIn parts.now.keyring.now of_view.new }
+{
+    match of_view.give(alloc, parts, target, wanted, uid) {
+        Some(answer) => Ok(answer),
+        None => find_new(alloc, of_view, parts, target, wanted, uid, made),
+    }
+}
+
+/// The first answer from a view. With it the answers of the view are kept, if memory is found for them.
+fn find_first(
     alloc: Global,
     answers: &mut AllAnswers,
     parts: &Parts<'_>,
@@ -213,9 +232,35 @@ fn find(
     ensures memory { OnErr result (result ≡ Err AskFault.Memory) }
     ensures right { AreAllRight parts.now.keyring.now answers.new.entries }
 {
-    match recall(alloc, answers, parts, view, target, wanted, uid) {
-        Some(answer) => Ok(answer),
-        None => find_new(alloc, answers, parts, view, target, wanted, uid, made),
+    let mut of_view = Answers::new(alloc);
+    let found = find(alloc, &mut of_view, parts, target, wanted, uid, made);
+    begin(alloc, answers, view, of_view);
+    found
+}
+
+/// The answer from a view, whether or not answers are kept for it.
+fn find_any(
+    alloc: Global,
+    answers: &mut AllAnswers,
+    parts: &Parts<'_>,
+    view: &ViewName,
+    target: &Fpr,
+    wanted: u32,
+    uid: &[u8],
+    made: u64,
+) -> Result<Answer, AskFault>
+    requires wanted { 1 ≤ wanted }
+    requires few { length parts.now.roots.now ≤ 64 }
+    requires present { present_of parts.now.roads ≡ present_in parts.now }
+    requires right { AreAllRight parts.now.keyring.now answers.old.entries }
+    ensures answer { IfOk result (λ a. IsAnswer (asked_of parts.now target.now uid.now) wanted a.paths) }
+    ensures sum { IfOk result (λ a. a.sum ≡ amount_of a.paths) }
+    ensures memory { OnErr result (result ≡ Err AskFault.Memory) }
+    ensures right { AreAllRight parts.now.keyring.now answers.new.entries }
+{
+    match answers.get_mut(view) {
+        Some(of_view) => find(alloc, of_view, parts, target, wanted, uid, made),
+        None => find_first(alloc, answers, parts, view, target, wanted, uid, made),
     }
 }
 
@@ -242,5 +287,5 @@ pub fn answer(
     answer_is_one();
     zero_is_no_path();
     paths_fit();
-    find(alloc, answers, parts, view, target, wanted, uid, made)
+    find_any(alloc, answers, parts, view, target, wanted, uid, made)
 }

@@ -7,7 +7,7 @@ const LOOKS: u64 = 8;
 
 /// The looks that searches may take after a change, until a table of reach is made: as many as making it takes, so that
 /// no more than twice is spent.
-#[derive(Clone, Copy)]
+#[derive(Drop)]
 pub struct Budget {
     // For which keyring, roots and time.
     count: u64,

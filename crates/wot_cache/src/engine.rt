@@ -23,7 +23,8 @@ ghost use Rattle.wot_cache.specs.Parts.{ArePartsOf};
 ghost use Rattle.wot_cache.specs.Question.{AreWithinRoots, IsLocalTo, IsOnlyAnswer, OfQuestion, TellsSpent};
 ghost use Rattle.wot_cache.specs.State.{empty, marks_at, state_of, IsStateAfter, OtherMarksStay};
 ghost use Rattle.wot_cache.specs.Turns.{turn_at, IsOneTurn, IsOneClosing};
-ghost use Rattle.wot_cache.specs.Views.{view_at, with_time, time_fault, with_root, root_fault, without_view, TellsFault, TellsOpen};
+ghost use Rattle.wot_cache.specs.Views.{view_at, with_time, time_fault, with_root, root_fault, without_view};
+ghost use Rattle.wot_cache.specs.Views.{TellsFault, TellsOpen};
 
 mod load;
 mod resting;
@@ -113,7 +114,8 @@ impl Engine {
         ensures imported { OnOk result (self.new.keyring ≡ imported (rows_of policy.old) self.old.keyring bytes.now) }
         ensures state { OnOk result (IsStateAfter (importing (rows_of policy.old) bytes.now) self.old self.new) }
         ensures kept { OnErr result (self.new ≡ self.old) }
-        ensures asked { AsksFor result (rows_of policy.old) self.old.keyring bytes.now (λ k. policy.new ≡ asked_more k policy.old) }
+        ensures asked { AsksFor result (rows_of policy.old) self.old.keyring bytes.now
+            (λ k. policy.new ≡ asked_more k policy.old) }
         ensures judged { IsJudgedBy (rows_of policy.old) self.new.keyring }
         ensures faithful { IsFaithful F.Fn policy.new }
         ensures counted { IsOneChange self.old.keyring self.new.keyring }
@@ -222,11 +224,11 @@ impl Engine {
         ensures keyring { self.new.keyring ≡ self.old.keyring }
         ensures marks { self.new.marks ≡ self.old.marks }
     {
+        self.turns.begin(view.duplicate(self.alloc)?)?;
         let opened = View {
             time: t,
             roots: Roots::new(self.alloc),
         };
-        self.turns.begin(view.duplicate(self.alloc)?)?;
         match views::open(self.alloc, &mut self.networked.views, view, opened) {
             Ok(()) => Ok(()),
             Err(Memory) => {
@@ -242,7 +244,8 @@ impl Engine {
         requires turnable { self.old.turns.count < 2 ^ 64 - 1 }
         ensures rooted { OnOk result (self.new.views ≡ with_root self.old.views view.now fpr.now amount) }
         ensures turned { OnOk result (IsOneTurn view.now self.old.views self.old.turns self.new.views self.new.turns) }
-        ensures fault { TellsFault result (root_fault self.old.keyring.limits (view_at self.old.views view.now) fpr.now amount) }
+        ensures fault { TellsFault result
+            (root_fault self.old.keyring.limits (view_at self.old.views view.now) fpr.now amount) }
         ensures kept { OnErr result (self.new ≡ self.old) }
         ensures keyring { self.new.keyring ≡ self.old.keyring }
         ensures marks { self.new.marks ≡ self.old.marks }
@@ -364,16 +367,19 @@ impl Engine {
         steps: &mut Steps,
     ) -> Result<Answer, AskFault>
         requires wanted { 1 ≤ wanted }
-        ensures answer { IfOk result (λ a. OfQuestion self.old view.now target.now uid.now (λ q. IsAnswer q wanted a.paths)) }
+        ensures answer { IfOk result (λ a. OfQuestion self.old view.now target.now uid.now
+            (λ q. IsAnswer q wanted a.paths)) }
         // No other list of paths is an answer to it.
-        ensures one { IfOk result (λ a. OfQuestion self.old view.now target.now uid.now (λ q. IsOnlyAnswer q wanted a.paths)) }
+        ensures one { IfOk result (λ a. OfQuestion self.old view.now target.now uid.now
+            (λ q. IsOnlyAnswer q wanted a.paths)) }
         ensures sum { IfOk result (λ a. a.sum ≡ amount_of a.paths) }
         // The amount is 0 exactly where there is no valid path of positive amount at all.
         ensures zero { IfOk result (λ a. OfQuestion self.old view.now target.now uid.now (λ q. TellsSpent q a.sum)) }
         // No path takes more of an edge than those before it left, and all together take no more of a root than its
         // amount.
         ensures pairs { IfOk result (λ a. AllFit [] a.paths) }
-        ensures roots { IfOk result (λ a. IfSome (view_at self.old.views view.now) (λ v. AreWithinRoots v.roots a.paths)) }
+        ensures roots { IfOk result (λ a. IfSome (view_at self.old.views view.now)
+            (λ v. AreWithinRoots v.roots a.paths)) }
         ensures open { TellsOpen result (view_at self.old.views view.now) }
         ensures refreshed { IsRefreshed result view.now self.old self.new steps.old.made steps.new.made }
         ensures made_most { steps.new.made ≤ steps.old.made + signatures_in self.old.keyring }
@@ -418,7 +424,8 @@ impl Engine {
     /// it was.
     pub fn parts(&mut self, view: &ViewName, steps: &mut Steps) -> Result<Parts<'_>, AskFault>
         ensures* refreshed { sem 𝓛 (RestsRefreshed self.entry result view.now steps.old.made steps.new.made) }
-        ensures parts { IfOk result (λ p. IsSomeAnd (view_at self.old.views view.now) (λ v. ArePartsOf self.old.keyring v p)) }
+        ensures parts { IfOk result (λ p. IsSomeAnd (view_at self.old.views view.now)
+            (λ v. ArePartsOf self.old.keyring v p)) }
         ensures few { IfOk result (λ p. length p.roots.now ≤ 64) }
         ensures entries { IfOk result (λ p. (u : List ℕ) → AreEntries (told_of (present_of p.roads) u)) }
         ensures lawful { IfOk result (λ p. (u : List ℕ) → IsRecord (told_of (present_of p.roads) u)) }

@@ -3,7 +3,8 @@ ghost use Rattle.std.specs.Prelude.{◌≤◌, ℕ, List, length};
 ghost use Rattle.wot_types.specs.declared.fpr.Fpr.{Fpr};
 ghost use Rattle.wot_keyring.specs.Import.{IsOneChange};
 ghost use Rattle.wot_keyring.specs.Keyring.{Keyring};
-ghost use Rattle.wot_cache.specs.Basis.{ClosingGoesOn, IsKeptOn, IsKeyringOn, OtherViewsStay, RestsOnLater, RestsOnMore, TurnGoesOn};
+ghost use Rattle.wot_cache.specs.Basis.{ClosingGoesOn, IsKeptOn, IsKeyringOn, OtherViewsStay, TurnGoesOn};
+ghost use Rattle.wot_cache.specs.Basis.{RestsOnLater, RestsOnMore};
 ghost use Rattle.wot_cache.specs.State.{Engine, StaysButMarks};
 ghost use Rattle.wot_cache.specs.Views.{Views, with_root, with_time};
 

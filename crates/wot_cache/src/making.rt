@@ -3,15 +3,15 @@ ghost use Rattle.std.specs.Prelude.{◌≡◌, IfOk, IfSome};
 ghost use Rattle.wot_network.specs.Net.{told_of};
 ghost use Rattle.wot_network.specs.Roads.{present_of};
 ghost use Rattle.wot_search.specs.Making.{IsMaking};
-ghost use Rattle.wot_cache.specs.Answers.{AreAllRight};
+ghost use Rattle.wot_cache.specs.Answers.{AreRightIn};
 ghost use Rattle.wot_cache.specs.Question.{present_in};
 
+use crate::answers::Answers;
 use crate::parts::Parts;
-use crate::recall::{AllAnswers, keep_making, leave_looks, looks, take_making};
 use std::alloc::Global;
 use wot_keyring::Keyring;
 use wot_search::Making;
-use wot_types::{Fpr, Memory, ViewName};
+use wot_types::{Fpr, Memory};
 
 /// For how many looks a table is made at least.
 const LEAST: u64 = 4096;
@@ -46,20 +46,14 @@ fn advanced(
 }
 
 /// Makes more of the view's table of reach, for so many looks, if memory is found.
-fn make_more(
-    alloc: Global,
-    answers: &mut AllAnswers,
-    parts: &Parts<'_>,
-    view: &ViewName,
-    looks: u64,
-)
+fn make_more(alloc: Global, of_view: &mut Answers, parts: &Parts<'_>, looks: u64)
     requires present { present_of parts.now.roads ≡ present_in parts.now }
-    requires right { AreAllRight parts.now.keyring.now answers.old.entries }
-    ensures right { AreAllRight parts.now.keyring.now answers.new.entries }
+    requires right { AreRightIn parts.now.keyring.now of_view.old }
+    ensures right { AreRightIn parts.now.keyring.now of_view.new }
 {
-    let taken = take_making(answers, parts, view);
+    let taken = of_view.take_making(parts);
     match advanced(alloc, parts, taken, looks) {
-        Ok(making) => keep_making(alloc, answers, parts, view, making),
+        Ok(making) => of_view.keep_making(alloc, parts, making),
         Err(Memory) => {}
     }
 }
@@ -67,21 +61,15 @@ fn make_more(
 /// Takes away so many looks of those that searches from a view may take before a table of reach is made. Where none are
 /// left, as much of the table is made as was looked at: so a question takes about twice its search, and a table costs
 /// about what the searches beside it do.
-pub fn spend(
-    alloc: Global,
-    answers: &mut AllAnswers,
-    parts: &Parts<'_>,
-    view: &ViewName,
-    looked: u64,
-)
+pub fn spend(alloc: Global, of_view: &mut Answers, parts: &Parts<'_>, looked: u64)
     requires present { present_of parts.now.roads ≡ present_in parts.now }
-    requires right { AreAllRight parts.now.keyring.now answers.old.entries }
-    ensures right { AreAllRight parts.now.keyring.now answers.new.entries }
+    requires right { AreRightIn parts.now.keyring.now of_view.old }
+    ensures right { AreRightIn parts.now.keyring.now of_view.new }
 {
-    let left = looks(answers, parts, view);
+    let left = of_view.looks(parts);
     if left > 0 {
-        leave_looks(answers, parts, view, left.saturating_sub(looked));
+        of_view.leave_looks(parts, left.saturating_sub(looked));
     } else {
-        make_more(alloc, answers, parts, view, looked.max(LEAST));
+        make_more(alloc, of_view, parts, looked.max(LEAST));
     }
 }

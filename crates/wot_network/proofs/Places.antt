@@ -53,19 +53,10 @@ FoundSo u user_ids revoked place left rest =
     (test : Component → Bool) → revoked ≡ places_where test 0 user_ids
     → (left ≡ places_where test place rest) × (list_any (is_unrevoked u test) user_ids ≡ list_any (is_unrevoked u test) rest)
 
-pub found_first : (u : List ℕ) (user_ids : List Component) (revoked : List ℕ) → FoundSo u user_ids revoked 0 revoked user_ids
-found_first u user_ids revoked test e = (e, refl)
-
 skipped : (a b c : Bool) → not b && a ≡ false → (a && not b) || c ≡ c
 skipped true true c h = refl
 skipped true false c h = cc
 skipped false b c h = refl
-
-taken : (a b c : Bool) → not b && a ≡ true → (a && not b) || c ≡ true
-taken true true c h = cc
-taken true false c h = refl
-taken false true c h = cc
-taken false false c h = cc
 
 module _ (u : List ℕ) (user_ids : List Component) (revoked : List ℕ) (place : ℕ) (left : List ℕ) (rest others : List Component) (uid : Component) (step : rest ≡ uid ∷ others) (so : FoundSo u user_ids revoked place left rest) where
   places_are : (test : Component → Bool) → revoked ≡ places_where test 0 user_ids → left ≡ places_where test place (uid ∷ others)
@@ -84,9 +75,6 @@ module _ (u : List ℕ) (user_ids : List Component) (revoked : List ℕ) (place 
     behind ∙ ap (behind_first place) (places_are test e) ∙ behind_is test place uid others,
     any_is test e ∙ skipped (is_user_id u uid) (is_first place left) _ none,
   )
-
-  pub found_here : not (is_first place left) && is_user_id u uid ≡ true → (test : Component → Bool) → revoked ≡ places_where test 0 user_ids → list_any (is_unrevoked u test) user_ids ≡ true
-  found_here is test e = any_is test e ∙ taken (is_user_id u uid) (is_first place left) _ is
 
 pub first_false : (a b : Bool) → a ≡ false → a && b ≡ false
 first_false true b h = cc

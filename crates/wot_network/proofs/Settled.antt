@@ -49,10 +49,6 @@ none_less b = omega arith
 true_false : {b : Bool} → b ≡ true → b ≡ false → ⊥
 true_false h k = cc
 
-not_below : (f : Fpr) (keys : List Fpr) → AllByRecursion (λ y. fpr_cmp f y ≡ Less) keys → among f keys ≡ false
-not_below f [] below = refl
-not_below f (y ∷ keys) below = ap (λ b. b || among f keys) (ap is_eq below.0) ∙ not_below f keys below.1
-
 below_one : (f q : Fpr) (keys : List Fpr) → AllByRecursion (λ y. fpr_cmp f y ≡ Less) keys → among q keys ≡ true → fpr_cmp f q ≡ Less
 below_one f q [] below h = absurd cc
 below_one f q (y ∷ keys) below h = by (is_fpr q y) refl h (below_one f q keys below.1)

@@ -255,13 +255,6 @@ done_on k t old new fpr left rest split before stay done q x f = by (before q x 
     by (inl c) = inl (stay q x f c)
     by (inr l) = one (split q l)
 
-pub all_done : (k : Keyring) (t : ℕ) (lines : Lines) (left : Fpr → Bool) → ((q : Fpr) → left q ≡ true → ⊥) → AreDoneBut k t lines left → AreDone k t lines
-all_done k t lines left none done q x f = by (done q x f)
-  where
-    by : (has_current (marks_of lines) t q x.stamp ≡ true) ⊎ (left q ≡ true) → has_current (marks_of lines) t q x.stamp ≡ true
-    by (inl c) = c
-    by (inr l) = absurd (none q l)
-
 either : (a b : Bool) → a || b ≡ true → (a ≡ true) ⊎ (b ≡ true)
 either true b h = inl refl
 either false b h = inr h

@@ -15,9 +15,6 @@ AreAround window lines = AllByRecursion (λ (e : Fpr × Line). IsInside window e
 abbrev pub InsideBut : Span → Lines → Lines → Type 0
 InsideBut window all rest = (w : Span) → IsInside w window → AreAround w rest → AreAround w all
 
-pub nothing_yet : (window : Span) (all : Lines) → InsideBut window all all
-nothing_yet window all w inside around = around
-
 pub one_more : (window window' : Span) (all rest later : Lines) (fpr : Fpr) (line : Line) → rest ≡ (fpr, line) ∷ later → IsInside window' window → IsInside window' line.span → InsideBut window all rest → InsideBut window' all later
 one_more window window' all rest later fpr line step narrow span before w inside around =
     before w (λ t h. narrow t (inside t h)) (subst (AreAround w) (sym step) ((λ t h. span t (inside t h)), around))
