@@ -12,7 +12,8 @@ const FOUND: &str = "amount 120 paths 1\n\
     path 120 steps 1 root 7f35c8dbd6b3eb2ffd59cbdd2e41ea291212ac38\n\
     step 7f35c8dbd6b3eb2ffd59cbdd2e41ea291212ac38 3c98b8180e0fcaca1032499082a5de8fa5d98232 0 120 t\n";
 
-/// Lines, and their replies: R certifies the user ID t of T, and nobody has the signature on which the last verdicts are.
+/// Lines, and their replies: R certifies the user ID t of T, and nobody has the signature on which the last verdicts
+/// are.
 static EXCHANGES: [(&str, &str); 12] = [
     (
         "import c60704000003e81b01c210041f1b0800060502000003e800000000",

@@ -10,8 +10,8 @@ use wot_io::{
 };
 
 /// What `next` answers up to the end, or up to the fourth fault, as text: a line is `t..|`; `l` is
-/// `Long`, `.` the end, `r` and `m` are the faults. A `!` follows where `text` gives something after another answer than
-/// `Text`.
+/// `Long`, `.` the end, `r` and `m` are the faults. A `!` follows where `text` gives something after another answer
+/// than `Text`.
 fn answers<S: Source>(alloc: Global, source: &mut S) -> Option<Vec<u8>> {
     let mut lines = Lines::new(alloc).ok()?;
     let mut seen = Vec::new(alloc);

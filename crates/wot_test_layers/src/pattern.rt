@@ -262,8 +262,8 @@ fn matcher_of(alloc: Global, pattern: &str) -> Option<Matcher> {
     Matcher::new(alloc, parse(alloc, pattern).ok()?).ok()
 }
 
-/// Texts of so many `a`, and what `^(a*)*$` answers: a repetition of a repetition has as many readings there as there are
-/// subsets of the places.
+/// Texts of so many `a`, and what `^(a*)*$` answers: a repetition of a repetition has as many readings there as there
+/// are subsets of the places.
 static NESTED: [(u32, &str, Answer); 2] = [(2000, "", Matches), (2000, "b", Differs)];
 
 /// What a pattern answers to so many `a` and an end.
