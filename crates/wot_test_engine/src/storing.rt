@@ -2,7 +2,7 @@
 use crate::engine::{Row, owned, shelf_of, sink_of, source_of, status_of};
 use std::alloc::Global;
 use wot_certd::{Given, MemoryShelf, Shelf};
-use wot_sample::{DIRECT, KEY_T, Packet, T};
+use wot_sample::{KEY_T, Packet, T};
 use wot_types::Name;
 
 const T_NAME: Name = Name::Cert(T);

@@ -1,11 +1,11 @@
 //! The lines `absence` and `check`, and the replies to them.
-use crate::script::{is_printed_without_words, is_read_as, reads_as, rows_that_hold};
-use crate::types::name;
+use crate::script::{is_printed_without_words, rows_that_hold};
 use std::alloc::Global;
 use wot_script::{
     ClaimLine, ClaimLines, ClaimStepLine, ClaimStepLines, Command, LabelLine, LabelLines, Reply,
+    read_line,
 };
-use wot_types::{Fpr, UserId};
+use wot_types::Fpr;
 
 /// Lines as in the table of the other commands.
 const LINES: &str = "\
@@ -50,17 +50,40 @@ const CHECK: &str = "check v 1212121212121212121212121212121212121212 \
     60/1212121212121212121212121212121212121212.7/efefefefefefefefefefefefefefefefefefefef.0 \
     1212121212121212121212121212121212121212=2,efefefefefefefefefefefefefefefefefefefef=1 t";
 
+fn are_claims(claims: &[ClaimLine]) -> bool {
+    match claims {
+        [ClaimLine(60, steps)] => match steps.items() {
+            [first, last] => { first.0 == ISSUER && first.1 == 7 && last.0 == OTHER && last.1 == 0 }
+            _ => false,
+        },
+        _ => false,
+    }
+}
+
+fn are_labels(labels: &[LabelLine]) -> bool {
+    match labels {
+        [first, last] => first.0 == ISSUER && first.1 == 2 && last.0 == OTHER && last.1 == 1,
+        _ => false,
+    }
+}
+
 /// Whether that line's fields are read so.
-fn is_check(alloc: Global) -> Option<bool> {
-    let view = name(alloc, b"v")?;
-    let uid = UserId::new(alloc, b"t").ok()?;
-    let wanted = Command::Check(view, ISSUER, claims(alloc)?, labels(alloc)?, uid);
-    Some(reads_as(alloc, CHECK.as_bytes(), wanted))
+fn is_check(alloc: Global) -> bool {
+    match read_line(alloc, CHECK.as_bytes()) {
+        Ok(Command::Check(view, target, claims, labels, uid)) => {
+            view.octets() == b"v".as_slice()
+                && target == ISSUER
+                && are_claims(claims.items())
+                && are_labels(labels.items())
+                && uid.octets() == b"t".as_slice()
+        }
+        _ => false,
+    }
 }
 
 #[test]
 fn fields_of_claims_stand_in_their_order(rt: HostRuntime) {
-    assert!(rt; is_check(rt.alloc()) == Some(true));
+    assert!(rt; is_check(rt.alloc()));
 }
 
 const MISSED: &str = "absence missed 60\nclaim \

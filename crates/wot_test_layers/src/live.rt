@@ -4,9 +4,9 @@ use wot_cert::{Cert, Span};
 use wot_edge::{Edge, EdgeFacts};
 use wot_live::{Rows, rows};
 use wot_sample::Packet::{self, Signature, SignatureByHash, UserId};
-use wot_sample::Says::{By, Final, Lasts, Made, Scope, Trust};
+use wot_sample::Says::{By, Made};
 use wot_sample::{
-    A, CERTIFICATION, CERTIFICATION_REVOCATION, DIRECT, KEY_T, OWN_USER_IDS_REVOKED, POSITIVE, R,
+    A, CERTIFICATION, CERTIFICATION_REVOCATION, DIRECT, KEY_T, OWN_USER_IDS_REVOKED, R,
     SEVERAL_ISSUERS, SPANS, T,
 };
 use wot_types::Steps;

@@ -10,8 +10,6 @@ pub(crate) const B: u8 = b'b';
 
 pub(crate) const C: u8 = b'c';
 
-pub(crate) const S: u8 = b's';
-
 pub(crate) const T: u8 = b't';
 
 pub(crate) const U: u8 = b'u';

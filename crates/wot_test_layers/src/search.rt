@@ -2,7 +2,7 @@ ghost use Rattle.std.specs.Prelude.{IfOk};
 ghost use Rattle.wot_edge.specs.Plain.{told_of};
 ghost use Rattle.wot_search.specs.Reach.{IsReach};
 
-use crate::roads::{A, B, C, Row, S, T, U, key, network, roots_of};
+use crate::roads::{A, B, C, Row, T, key, network, roots_of};
 use std::alloc::Global;
 use wot_edge::plain::PlainRoads;
 use wot_edge::{Path, Roads, Roots, Used};

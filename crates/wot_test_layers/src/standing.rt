@@ -2,7 +2,7 @@ use crate::certificates::{good, judged};
 use std::alloc::Global;
 use wot_cert::{Part, Span};
 use wot_sample::Packet::{self, Signature, UserId};
-use wot_sample::Says::{By, Final, KeyLasts, Lasts, Made, Primary, Reason};
+use wot_sample::Says::{KeyLasts, Lasts, Made, Primary, Reason};
 use wot_sample::{
     A, CERTIFICATION_REVOCATION, DIRECT, DIRECT_KEY, KEY_A, KEY_REVOCATION, KEY_T,
     OWN_USER_IDS_REVOKED, POSITIVE, R, SEVERAL_ISSUERS, SPANS, T,
