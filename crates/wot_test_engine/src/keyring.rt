@@ -176,13 +176,8 @@ static OF_ONE: [(&[&[Packet]], Outcome); 3] = [
 
 #[test]
 fn imports_one_after_the_other(rt: HostRuntime) {
-    let mut number = 0u32;
     for (lists, expected) in &OUTCOMES {
-        assert!(rt;
-            outcome(rt.alloc(), Limits::standard(), lists) == *expected,
-            "{number}"
-        );
-        number = number.wrapping_add(1);
+        assert!(rt; outcome(rt.alloc(), Limits::standard(), lists) == *expected);
     }
 }
 

@@ -122,5 +122,5 @@ fn edges_are_made_once(rt: HostRuntime) {
     let mut policy = Policy::new(rows, |ask| admits(&rows, ask));
     let mut machine = Machine::new(rt.alloc());
     let told = first_other(rt.alloc(), &mut machine, &mut policy);
-    assert!(rt; told == Some((LINES, 1, 1)), "{told:?}");
+    assert!(rt; told == Some((LINES, 1, 1)));
 }

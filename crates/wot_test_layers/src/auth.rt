@@ -192,9 +192,7 @@ fn is_answered(alloc: Global, case: &Case<'_>) -> Result<bool, Memory> {
 
 #[test]
 fn answers_to_questions(rt: HostRuntime) {
-    let mut number = 0u32;
     for case in &CASES {
-        assert!(rt; is_answered(rt.alloc(), case) == Ok(true), "case {number}");
-        number = number.wrapping_add(1);
+        assert!(rt; is_answered(rt.alloc(), case) == Ok(true));
     }
 }

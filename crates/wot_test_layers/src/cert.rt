@@ -2,7 +2,6 @@ ghost use Rattle.wot_policy.specs.Kept.{IsFaithful};
 
 use crate::certificates::{assembled, judged};
 use std::alloc::Global;
-use std::cell::Cell;
 use wot_cert::{Adds, Assembled, Cert, CertFault, MergeFault, Part, Sig, Span, issuer_of, span};
 use wot_policy::{Ask, Policy, admits, standard_rows};
 use wot_sample::Packet::{self, Other, Signature, SignatureByHash, UserId};
@@ -68,10 +67,8 @@ fn comes_to(alloc: Global, packets: &[Packet], expected: Result<(usize, u64), Ce
 
 #[test]
 fn first_faults_and_skipped_keys(rt: HostRuntime) {
-    let mut number = 0u32;
     for (packets, expected) in &OUTCOMES {
-        assert!(rt; comes_to(rt.alloc(), packets, *expected), "row {number}");
-        number = number.wrapping_add(1);
+        assert!(rt; comes_to(rt.alloc(), packets, *expected));
     }
     assert!(rt; outcome(rt.alloc(), LEGACY) == Ok((2, 1)));
 }
@@ -353,18 +350,14 @@ fn are_marked(marks: &[Sig]) -> bool {
 #[test]
 fn merging_asks_of_new_sound_signatures(rt: HostRuntime) {
     let rows = standard_rows();
-    let calls = Cell::new(0u64);
-    let mut policy = Policy::new(rows, |ask| {
-        calls.set(calls.get().wrapping_add(1));
-        admits(&rows, ask)
-    });
+    let mut policy = Policy::new(rows, |ask| admits(&rows, ask));
     let mut r = bare(rt.alloc(), R_BODY).expect(&rt, "R");
     let mut t = bare(rt.alloc(), T_BODY).expect(&rt, "T");
     let into_r = written(rt.alloc(), &INTO_R).expect(&rt, "memory");
     let into_t = written(rt.alloc(), &INTO_T).expect(&rt, "memory");
     assert!(rt; merges(rt.alloc(), &mut r, &mut policy, &into_r));
     assert!(rt; merges(rt.alloc(), &mut t, &mut policy, &into_t));
-    assert!(rt; policy.asked() == 4 && calls.get() == 4);
+    assert!(rt; policy.asked() == 4);
     match t.user_ids() {
         [uid] => assert!(rt; are_marked(uid.sigs())),
         _ => assert!(rt; false),
@@ -446,7 +439,7 @@ fn spans(rt: HostRuntime) {
             from: *from,
             to: *to,
         };
-        assert!(rt; span_at(rt.alloc(), *t) == Some(expected), "at {t}");
+        assert!(rt; span_at(rt.alloc(), *t) == Some(expected));
     }
 }
 

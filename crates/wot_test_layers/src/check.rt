@@ -200,10 +200,8 @@ fn is_so(alloc: Global, case: &Case) -> Result<bool, Memory> {
 
 #[test]
 fn tables_of_absence(rt: HostRuntime) {
-    let mut number = 0u32;
     for case in &CASES {
-        assert!(rt; is_so(rt.alloc(), case) == Ok(true), "case {number}");
-        number = number.wrapping_add(1);
+        assert!(rt; is_so(rt.alloc(), case) == Ok(true));
     }
 }
 

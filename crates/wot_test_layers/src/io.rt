@@ -89,10 +89,7 @@ fn lines_are_the_parts_between_line_feeds(rt: HostRuntime) {
     rows();
     for (input, want) in &PARTS {
         for piece in [1, 5, 65536] {
-            assert!(rt;
-                is_told(rt.alloc(), input, piece, 0, want) == Some(true),
-                "{input:?} in {piece}"
-            );
+            assert!(rt; is_told(rt.alloc(), input, piece, 0, want) == Some(true));
         }
     }
 }
@@ -106,10 +103,7 @@ static FAULTS: [(&[u8], u64, &[u8]); 2] = [
 #[test]
 fn a_read_fault_is_answered_again(rt: HostRuntime) {
     for (input, failing, want) in &FAULTS {
-        assert!(rt;
-            is_told(rt.alloc(), input, 5, *failing, want) == Some(true),
-            "{failing}"
-        );
+        assert!(rt; is_told(rt.alloc(), input, 5, *failing, want) == Some(true));
     }
 }
 

@@ -67,10 +67,7 @@ fn is_read(alloc: Global, header: &[u8], kind: u8, length: usize) -> Option<bool
 #[test]
 fn each_form_is_read(rt: HostRuntime) {
     for (header, kind, length) in &FORMS {
-        assert!(rt;
-            is_read(rt.alloc(), header, *kind, *length) == Some(true),
-            "{header:?}"
-        );
+        assert!(rt; is_read(rt.alloc(), header, *kind, *length) == Some(true));
     }
 }
 
@@ -117,10 +114,7 @@ fn fault_of(alloc: Global, text: &[u8]) -> Option<(u8, usize)> {
 #[test]
 fn first_faults_are_told(rt: HostRuntime) {
     for (text, number, at) in &FAULTS {
-        assert!(rt;
-            fault_of(rt.alloc(), text) == Some((*number, *at)),
-            "{text:?}"
-        );
+        assert!(rt; fault_of(rt.alloc(), text) == Some((*number, *at)));
     }
 }
 
@@ -137,9 +131,6 @@ fn is_written(alloc: Global, length: usize, header: &[u8]) -> Option<bool> {
 #[test]
 fn the_shortest_is_written(rt: HostRuntime) {
     for (length, header) in &SHORTEST {
-        assert!(rt;
-            is_written(rt.alloc(), *length, header) == Some(true),
-            "{header:?}"
-        );
+        assert!(rt; is_written(rt.alloc(), *length, header) == Some(true));
     }
 }

@@ -241,10 +241,7 @@ static BOUNDS: [(u32, &str, &str, Answer); 4] = [
 fn bounds_are_exact(rt: HostRuntime) {
     for (count, first, second, expected) in &BOUNDS {
         let pattern = repeated(rt.alloc(), *count, first, second).expect(&rt, "memory");
-        assert!(rt;
-            answer_to(rt.alloc(), &pattern, "x") == *expected,
-            "{count} of {first}"
-        );
+        assert!(rt; answer_to(rt.alloc(), &pattern, "x") == *expected);
     }
 }
 
@@ -276,10 +273,7 @@ fn answer_to_many(alloc: Global, count: u32, end: &str) -> Option<Answer> {
 #[test]
 fn nested_repetitions_take_no_turn_twice(rt: HostRuntime) {
     for (count, end, expected) in &NESTED {
-        assert!(rt;
-            answer_to_many(rt.alloc(), *count, end) == Some(*expected),
-            "{end}"
-        );
+        assert!(rt; answer_to_many(rt.alloc(), *count, end) == Some(*expected));
     }
 }
 
@@ -288,6 +282,6 @@ fn matches_again(rt: HostRuntime) {
     one_reading();
     let mut matcher = matcher_of(rt.alloc(), "^(a|bc)+$").expect(&rt, "a matcher");
     for (text, expected) in &AGAIN {
-        assert!(rt; matcher.matches(text) == *expected, "{text}");
+        assert!(rt; matcher.matches(text) == *expected);
     }
 }

@@ -62,7 +62,7 @@ fn is_admitted_so(rows: &PolicyRows, hash: u8) -> bool {
 fn standard_rows_by_kind_and_around_their_end(rt: HostRuntime) {
     let rows = standard_rows();
     for hash in 0..=u8::MAX {
-        assert!(rt; is_admitted_so(&rows, hash), "hash {hash}");
+        assert!(rt; is_admitted_so(&rows, hash));
     }
 }
 

@@ -50,10 +50,7 @@ fn holds(alloc: Global, patterns: &[&[u8]], uid: &[u8]) -> Option<bool> {
 #[test]
 fn scope_of_patterns(rt: HostRuntime) {
     for (patterns, uid, expected) in &ROWS {
-        assert!(rt;
-            holds(rt.alloc(), patterns, uid) == Some(*expected),
-            "{uid:?}"
-        );
+        assert!(rt; holds(rt.alloc(), patterns, uid) == Some(*expected));
     }
     // A body that isn't readable has no pattern.
     assert!(rt; in_scope(rt.alloc(), b"no body", b"Ann") == Ok(true));

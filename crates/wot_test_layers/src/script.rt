@@ -234,10 +234,7 @@ const SHORT: [(Reply, &str); 11] = [
 #[test]
 fn replies_of_one_line_are_printed(rt: HostRuntime) {
     for (reply, text) in &SHORT {
-        assert!(rt;
-            is_printed_without_words(rt.alloc(), reply, text.as_bytes()),
-            "{text}"
-        );
+        assert!(rt; is_printed_without_words(rt.alloc(), reply, text.as_bytes()));
     }
 }
 

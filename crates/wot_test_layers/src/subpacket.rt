@@ -31,7 +31,7 @@ static AREAS: [(&[u8], Result<usize, AreaFault>); 7] = [
 #[test]
 fn areas_are_lists_or_have_a_first_fault(rt: HostRuntime) {
     for (octets, expected) in &AREAS {
-        assert!(rt; count_in(octets) == *expected, "in {octets:?}");
+        assert!(rt; count_in(octets) == *expected);
     }
 }
 
@@ -66,10 +66,7 @@ fn is_read(alloc: Global, spelled: &[u8], size: usize) -> Option<bool> {
 #[test]
 fn every_length_is_read(rt: HostRuntime) {
     for (spelled, size) in &LENGTHS {
-        assert!(rt;
-            is_read(rt.alloc(), spelled, *size) == Some(true),
-            "{spelled:?}"
-        );
+        assert!(rt; is_read(rt.alloc(), spelled, *size) == Some(true));
     }
 }
 

@@ -34,10 +34,7 @@ static NUMBERED: [(u8, &[u8], &[u8], &str); 3] = [
 fn numbers_as_another_program_gives_them(rt: HostRuntime) {
     for (kind, component, signature, digits) in &NUMBERED {
         let number = number_of(KEY, *kind, component, signature);
-        assert!(rt;
-            SigNumber::read(digits.as_bytes()) == Some(number),
-            "kind {kind}"
-        );
+        assert!(rt; SigNumber::read(digits.as_bytes()) == Some(number));
     }
 }
 

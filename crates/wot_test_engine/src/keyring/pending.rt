@@ -31,10 +31,10 @@ const BY_ITSELF: &[u8] = b"2aa3e95976d1ce6c264d48ca102f71612e54f4d50195cce8b91d2
 
 /// A keyring with these signatures, of which the self-certification is judged.
 fn keyring_of(alloc: Global) -> Option<Keyring> {
+    let number = SigNumber::read(BY_ITSELF)?;
     let rows = standard_rows();
     let mut policy = Policy::new(rows, |ask| admits(&rows, ask));
     let mut keyring = Keyring::new(alloc, Limits::standard());
-    let number = SigNumber::read(BY_ITSELF)?;
     let first = import_packets(alloc, &mut keyring, WITH_DIRECT, &mut policy).is_ok();
     let second = import_packets(alloc, &mut keyring, CERTIFIED, &mut policy).is_ok();
     let judged = keyring.changes() < 1000 && keyring.set_verdict(number, Verdict::Good(T)).is_ok();

@@ -73,10 +73,7 @@ static HASHED: [(&[u8], SigFacts); 9] = [
 #[test]
 fn only_hashed_areas_give_facts(rt: HostRuntime) {
     for (hashed, expected) in &HASHED {
-        assert!(rt;
-            says(rt.alloc(), hashed, &[], Some(*expected)),
-            "{hashed:?}"
-        );
+        assert!(rt; says(rt.alloc(), hashed, &[], Some(*expected)));
     }
     assert!(rt;
         says(

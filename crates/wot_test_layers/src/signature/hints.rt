@@ -31,10 +31,7 @@ fn has_hint(alloc: Global, hashed: &[u8], unhashed: &[u8], expected: Option<[u8;
 #[test]
 fn hints_are_the_last_key_ids(rt: HostRuntime) {
     for (hashed, unhashed, expected) in &ROWS {
-        assert!(rt;
-            has_hint(rt.alloc(), hashed, unhashed, *expected),
-            "{hashed:?}, {unhashed:?}"
-        );
+        assert!(rt; has_hint(rt.alloc(), hashed, unhashed, *expected));
     }
     assert!(rt; hint(&[]).is_none());
 }

@@ -29,10 +29,7 @@ fn has_patterns(alloc: Global, hashed: &[u8], expected: &[u8]) -> Option<bool> {
 #[test]
 fn pattern_texts_come_in_order(rt: HostRuntime) {
     for (hashed, expected) in &ROWS {
-        assert!(rt;
-            has_patterns(rt.alloc(), hashed, expected) == Some(true),
-            "of {hashed:?}"
-        );
+        assert!(rt; has_patterns(rt.alloc(), hashed, expected) == Some(true));
     }
     assert!(rt; scopes(&[]).next().is_none());
 }

@@ -79,20 +79,11 @@ static LONG_TYPES: [(u8, u8, Option<SigFacts>); 3] = [
 #[test]
 fn types_have_their_number_of_octets(rt: HostRuntime) {
     for (kind, size, expected) in &TYPES {
-        assert!(rt;
-            is_type(rt.alloc(), *kind, *size, Some(*expected)),
-            "{kind}"
-        );
-        assert!(rt;
-            is_type(rt.alloc(), *kind, size.saturating_sub(1), None),
-            "{kind}"
-        );
-        assert!(rt;
-            is_type(rt.alloc(), *kind, size.saturating_add(1), None),
-            "{kind}"
-        );
+        assert!(rt; is_type(rt.alloc(), *kind, *size, Some(*expected)));
+        assert!(rt; is_type(rt.alloc(), *kind, size.saturating_sub(1), None));
+        assert!(rt; is_type(rt.alloc(), *kind, size.saturating_add(1), None));
     }
     for (kind, size, expected) in &LONG_TYPES {
-        assert!(rt; is_type(rt.alloc(), *kind, *size, *expected), "{kind}");
+        assert!(rt; is_type(rt.alloc(), *kind, *size, *expected));
     }
 }

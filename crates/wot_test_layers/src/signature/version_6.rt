@@ -75,10 +75,7 @@ fn tells_issuer(alloc: Global, front: &[u8], count: usize, issuer: Option<Fpr>) 
 #[test]
 fn an_issuer_of_version_6(rt: HostRuntime) {
     for (front, count, issuer) in &ISSUERS {
-        assert!(rt;
-            tells_issuer(rt.alloc(), front, *count, *issuer) == Some(true),
-            "{front:?}"
-        );
+        assert!(rt; tells_issuer(rt.alloc(), front, *count, *issuer) == Some(true));
     }
 }
 
