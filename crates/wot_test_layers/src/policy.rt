@@ -38,7 +38,12 @@ static KINDS: [(u8, bool); 18] = [
 ];
 
 fn expected(revokes: bool, hash: u8, made: u32) -> bool {
-    COUNTED.iter().any(|(number, still)| *number == hash && (*still || revokes || made < END))
+    for (number, still) in &COUNTED {
+        if *number == hash {
+            return *still || revokes || made < END;
+        }
+    }
+    false
 }
 
 /// Whether the standard rows admit this hash number exactly where they should, at each moment and for each kind.
