@@ -347,6 +347,12 @@ fn are_marked(marks: &[Sig]) -> bool {
     }
 }
 
+const BY_SHA_256: Ask = Ask {
+    kind: 0x10,
+    hash: 8,
+    made: 2000,
+};
+
 #[test]
 fn merging_asks_of_new_sound_signatures(rt: HostRuntime) {
     let rows = standard_rows();
@@ -357,7 +363,7 @@ fn merging_asks_of_new_sound_signatures(rt: HostRuntime) {
     let into_t = written(rt.alloc(), &INTO_T).expect(&rt, "memory");
     assert!(rt; merges(rt.alloc(), &mut r, &mut policy, &into_r));
     assert!(rt; merges(rt.alloc(), &mut t, &mut policy, &into_t));
-    assert!(rt; policy.asked() == 4);
+    assert!(rt; policy.asked() == 4 && policy.judge(BY_SHA_256) && policy.asked() == 5);
     match t.user_ids() {
         [uid] => assert!(rt; are_marked(uid.sigs())),
         _ => assert!(rt; false),

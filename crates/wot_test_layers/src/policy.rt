@@ -1,4 +1,4 @@
-use wot_policy::{Ask, Policy, PolicyRows, admits, standard_rows};
+use wot_policy::{Ask, PolicyRows, admits, standard_rows};
 
 /// The moment at which SHA-1 and RIPEMD-160 end.
 const END: u32 = 1_359_676_800;
@@ -69,22 +69,4 @@ fn standard_rows_by_kind_and_around_their_end(rt: HostRuntime) {
     for hash in 0..=u8::MAX {
         assert!(rt; is_admitted_so(&rows, hash));
     }
-}
-
-/// A certification by this hash number.
-fn by_hash(hash: u8) -> Ask {
-    Ask {
-        kind: 0x10,
-        hash,
-        made: 7,
-    }
-}
-
-#[test]
-fn each_question_is_counted(rt: HostRuntime) {
-    let rows = standard_rows();
-    let mut policy = Policy::new(rows, |ask| admits(&rows, ask));
-    assert!(rt; policy.asked() == 0);
-    assert!(rt; policy.judge(by_hash(8)) && policy.asked() == 1);
-    assert!(rt; !policy.judge(by_hash(7)) && policy.asked() == 2);
 }
