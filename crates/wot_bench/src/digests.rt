@@ -1,15 +1,10 @@
-//! The toolchain's own crates, alone: `wot_bench hex SIZE COUNT` reads the digits of that many octets, and
-//! `wot_bench sha1 SIZE COUNT` and `wot_bench sha2 SIZE COUNT` hash them, COUNT times each.
-use crate::time::{Counts, since};
+use memchr::memchr_iter;
 use sha1::Sha1;
 use sha2::{Digest, Sha256};
-use std::alloc::Global;
-use std::io;
-use std::rt::Clock;
-use std::time::Instant;
+use std::alloc::{AllocError, Global};
 
 /// As random as those of keys and signatures: each 32 are the digest of those before.
-fn octets_of(alloc: Global, size: usize) -> io::Result<Vec<u8>> {
+pub fn octets_of(alloc: Global, size: usize) -> Result<Vec<u8>, AllocError> {
     let mut octets = Vec::new(alloc);
     let mut digest = Sha256::digest([0x5au8].as_slice());
     for _ in 0..size.div_ceil(32) {
@@ -20,40 +15,51 @@ fn octets_of(alloc: Global, size: usize) -> io::Result<Vec<u8>> {
     Ok(octets)
 }
 
-/// The octets that were read, and the nanoseconds.
-pub fn hex<R: AllocGlobal + Clock>(rt: &R, size: usize, count: usize) -> io::Result<Counts> {
-    let octets = octets_of(rt.alloc(), size)?;
-    let digits = hex::encode(rt.alloc(), octets.as_slice())?;
-    let start = Instant::now(rt)?;
+/// How many octets their digits gave.
+fn decode(alloc: Global, digits: &[u8], count: usize) -> u64 {
     let mut read = 0u64;
     for _ in 0..count {
-        if let Ok(octets) = hex::decode(rt.alloc(), digits.as_bytes()) {
+        if let Ok(octets) = hex::decode(alloc, digits) {
             read = read.wrapping_add(octets.len() as u64);
         }
     }
-    Ok([read, since(rt, start)?, 0, 0, 0, 0])
+    read
 }
 
-/// The nanoseconds, and an octet of all digests.
-pub fn sha1<R: AllocGlobal + Clock>(rt: &R, size: usize, count: usize) -> io::Result<Counts> {
-    let octets = vec![in rt.alloc(); 0x5au8; size]?;
-    let start = Instant::now(rt)?;
-    let mut last = 0u8;
+pub fn hex(alloc: Global, octets: &[u8], count: usize) -> u64 {
+    match hex::encode(alloc, octets) {
+        Ok(digits) => decode(alloc, digits.as_bytes(), count),
+        Err(_) => 0,
+    }
+}
+
+/// The sum of the digests' first octets.
+pub fn sha1(octets: &[u8], count: usize) -> u64 {
+    let mut sum = 0u64;
     for _ in 0..count {
         let mut hasher = Sha1::new();
-        hasher.update(&octets);
-        last ^= hasher.finalize()[0];
+        hasher.update(octets);
+        sum = sum.wrapping_add(u64::from(hasher.finalize()[0]));
     }
-    Ok([since(rt, start)?, u64::from(last), 0, 0, 0, 0])
+    sum
 }
 
 /// The same by SHA-256.
-pub fn sha2<R: AllocGlobal + Clock>(rt: &R, size: usize, count: usize) -> io::Result<Counts> {
-    let octets = vec![in rt.alloc(); 0x5au8; size]?;
-    let start = Instant::now(rt)?;
-    let mut last = 0u8;
+pub fn sha2(octets: &[u8], count: usize) -> u64 {
+    let mut sum = 0u64;
     for _ in 0..count {
-        last ^= Sha256::digest(octets.as_slice())[0];
+        sum = sum.wrapping_add(u64::from(Sha256::digest(octets)[0]));
     }
-    Ok([since(rt, start)?, u64::from(last), 0, 0, 0, 0])
+    sum
+}
+
+/// How many line feeds the search finds.
+pub fn memchr(octets: &[u8], count: usize) -> u64 {
+    let mut found = 0u64;
+    for _ in 0..count {
+        for _ in memchr_iter(b'\n', octets) {
+            found = found.wrapping_add(1);
+        }
+    }
+    found
 }

@@ -1,19 +1,12 @@
-//! The benches: `wot_bench NAME ..` does the bench of that name and prints what it counted, six numbers, of which those
-//! that it doesn't use are 0. Times are nanoseconds.
+//! What the toolchain's own crates take alone, for the scripts in `bench/`, which set it beside the program:
+//! `wot_bench WHAT SIZE COUNT` does WHAT to SIZE octets, COUNT times, and prints a number that it found. WHAT is `hex`,
+//! which reads their digits, `sha1`, `sha2`, or `memchr`, which searches for line feeds.
 #![tactic(auto)]
 
-mod certificates;
 mod digests;
-mod lines;
-mod live;
-mod packets;
-mod paths;
-mod patterns;
-mod signatures;
-mod time;
 
+use std::alloc::Global;
 use std::{env, io};
-use time::Counts;
 
 /// The word at a place, or none.
 fn word(words: &[String], place: usize) -> &str {
@@ -27,38 +20,14 @@ fn number(words: &[String], place: usize) -> usize {
     word(words, place).parse::<usize>().unwrap_or(0)
 }
 
-/// What the bench of that name counts over the program's pieces.
-fn of_pieces(rt: &HostRuntime, words: &[String]) -> io::Result<Counts> {
-    let (first, second) = (number(words, 2), number(words, 3));
-    match word(words, 1) {
-        "certificates" => certificates::bench(rt, first),
-        "merging" => certificates::merging(rt, first),
-        "lines" => lines::bench(rt, first, second),
-        "packets" => packets::bench(rt, first),
-        "paths" => paths::bench(
-            rt,
-            word(words, 2),
-            second,
-            number(words, 4),
-            number(words, 5),
-        ),
-        "rows" => live::bench(rt, first, second),
-        "signatures" => signatures::bench(rt, first),
-        _ => of_texts(rt, words),
-    }
-}
-
-/// The same over patterns, and over what the toolchain's crates do alone.
-fn of_texts(rt: &HostRuntime, words: &[String]) -> io::Result<Counts> {
-    let (first, second, third) = (number(words, 2), number(words, 3), number(words, 4));
-    match word(words, 1) {
-        "hex" => digests::hex(rt, first, second),
-        "sha1" => digests::sha1(rt, first, second),
-        "sha2" => digests::sha2(rt, first, second),
-        "packets-copied" => packets::bench_copy(rt, first),
-        "pattern_text" => patterns::on_text(rt, word(words, 2), second, third),
-        "pattern_uids" => patterns::on_uids(rt, word(words, 2), word(words, 3), third),
-        _ => Err(time::failed()),
+/// What was found; 0 where no bench has that name.
+fn bench(alloc: Global, name: &str, octets: &[u8], count: usize) -> u64 {
+    match name {
+        "hex" => digests::hex(alloc, octets, count),
+        "sha1" => digests::sha1(octets, count),
+        "sha2" => digests::sha2(octets, count),
+        "memchr" => digests::memchr(octets, count),
+        _ => 0,
     }
 }
 
@@ -67,9 +36,7 @@ fn main(rt: HostRuntime) -> io::Result<()> {
     for word in env::args(&rt)? {
         words.push(word)?;
     }
-    if words.len() < 2 {
-        return println!(rt; "no bench was named");
-    }
-    let [a, b, c, d, e, f] = of_pieces(&rt, &words)?;
-    println!(rt; "{a} {b} {c} {d} {e} {f}")
+    let octets = digests::octets_of(rt.alloc(), number(&words, 2))?;
+    let found = bench(rt.alloc(), word(&words, 1), &octets, number(&words, 3));
+    println!(rt; "{found}")
 }

@@ -1,5 +1,5 @@
 use crate::Says;
-use crate::signature::{signature, signature_v6};
+use crate::signature::signature;
 use std::alloc::Global;
 
 /// One packet of a certificate.
@@ -7,16 +7,12 @@ use std::alloc::Global;
 pub enum Packet {
     /// A public key of version 4, made at 1000, of public key algorithm 27 and with this one octet of material.
     Key(u8),
-    /// The same of version 6.
-    KeyV6(u8),
     /// A user ID.
     UserId(&'static [u8]),
     /// A signature of this kind by SHA2-256, and what its hashed subpackets say, in order.
     Signature(u8, &'static [Says]),
     /// The same by the hash algorithm of this number, which stands first.
     SignatureByHash(u8, u8, &'static [Says]),
-    /// A signature of version 6 of this kind by SHA2-256, what its hashed subpackets say, and its salt.
-    SignatureV6(u8, &'static [Says], &'static [u8]),
     /// Any other packet: its type and its body.
     Other(u8, &'static [u8]),
 }
@@ -34,7 +30,6 @@ pub fn text(alloc: Global, packets: &[Packet]) -> Option<Vec<u8>> {
 fn put_packet(alloc: Global, packet: &Packet, out: &mut Vec<u8>) -> Option<()> {
     match packet {
         Packet::Key(material) => put(6, &[4, 0, 0, 3, 232, 27, *material], out),
-        Packet::KeyV6(material) => put(6, &[6, 0, 0, 3, 232, 27, 0, 0, 0, 1, *material], out),
         Packet::UserId(body) => put(13, body, out),
         Packet::Signature(kind, says) => put(2, &signature(alloc, *kind, 8, says)?, out),
         Packet::SignatureByHash(hash, kind, says) => put(
@@ -42,9 +37,6 @@ fn put_packet(alloc: Global, packet: &Packet, out: &mut Vec<u8>) -> Option<()> {
             &signature(alloc, *kind, *hash, says)?,
             out,
         ),
-        Packet::SignatureV6(kind, says, salt) => {
-            put(2, &signature_v6(alloc, *kind, says, salt)?, out)
-        }
         Packet::Other(kind, body) => put(*kind, body, out),
     }
 }

@@ -44,26 +44,6 @@ pub(crate) fn signature(
     Some(body)
 }
 
-/// The body of a version 6 signature with this salt; otherwise as that of version 4.
-pub(crate) fn signature_v6(
-    alloc: Global,
-    kind: u8,
-    says: &'static [Says],
-    salt: &[u8],
-) -> Option<Vec<u8>> {
-    let hashed = area(alloc, says)?;
-    let length = u32::try_from(hashed.len()).ok()?;
-    let salt_length = u8::try_from(salt.len()).ok()?;
-    let mut body = Vec::new(alloc);
-    body.extend_from_slice(&[6, kind, 27, 8]).ok()?;
-    body.extend_from_slice(&length.to_be_bytes()).ok()?;
-    body.extend_from_slice(&hashed).ok()?;
-    body.extend_from_slice(&[0, 0, 0, 0, 0, 0, salt_length])
-        .ok()?;
-    body.extend_from_slice(salt).ok()?;
-    Some(body)
-}
-
 fn area(alloc: Global, says: &'static [Says]) -> Option<Vec<u8>> {
     let mut area = Vec::new(alloc);
     for said in says {

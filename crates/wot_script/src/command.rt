@@ -2,7 +2,7 @@ use crate::{ClaimLines, LabelLines, Octets};
 use wot_types::{Fpr, Name, SigNumber, UserId, ViewName};
 
 /// What a line asks for.
-#[derive(Drop, PartialEq, Eq)]
+#[derive(Drop)]
 pub enum Command {
     /// `import HEX`: unites the certificates of these octets with the keyring.
     Import(Octets),

@@ -88,21 +88,3 @@ impl<T: Drop> Lines<T> {
         Ok(())
     }
 }
-
-impl<T: PartialEq> PartialEq for Lines<T> {
-    ghost use Rattle.std.specs.Cmp.Lexicographic.{lists_per, pointwise};
-
-    ghost eq = { pointwise T.eq };
-
-    ghost laws = { lists_per T.laws };
-
-    fn eq(&self, other: &Lines<T>) -> bool {
-        self.items() == other.items()
-    }
-}
-
-impl<T: Eq> Eq for Lines<T> {
-    ghost use Rattle.std.specs.Cmp.Lexicographic.{lists_equiv};
-
-    ghost laws = { lists_equiv T.Eq.laws };
-}

@@ -59,24 +59,3 @@ impl Octets {
         self.octets.as_slice()
     }
 }
-
-impl PartialEq for Octets {
-    ghost use Rattle.std.specs.Prelude.{nat_eq};
-    ghost use Rattle.std.specs.Cmp.Lexicographic.{pointwise};
-    ghost use Rattle.std.specs.Cmp.{partial_equiv_from_equiv};
-    ghost use Rattle.std.proofs.lemmas.Cmp.{nat_list_eq_equiv};
-
-    ghost eq = { pointwise nat_eq };
-
-    ghost laws = { partial_equiv_from_equiv nat_list_eq_equiv };
-
-    fn eq(&self, other: &Octets) -> bool {
-        self.items() == other.items()
-    }
-}
-
-impl Eq for Octets {
-    ghost use Rattle.std.proofs.lemmas.Cmp.{nat_list_eq_equiv};
-
-    ghost laws = { nat_list_eq_equiv };
-}

@@ -19,7 +19,7 @@ use std::alloc::Global;
 use wot_types::{Fpr, Memory, Name, SigNumber, UserId, ViewName};
 
 /// Why a line gave no command.
-#[derive(Clone, Copy, PartialEq, Eq)]
+#[derive(Clone, Copy)]
 pub enum LineFault {
     /// It spells no command.
     Line,

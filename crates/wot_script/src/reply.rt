@@ -99,7 +99,7 @@ pub enum AnswerLine {
 pub struct BindLine(pub u32, pub Fpr, pub UserId);
 
 /// Why a certification counts, or doesn't.
-#[derive(Clone, Copy, PartialEq, Eq)]
+#[derive(Clone, Copy)]
 pub enum ReasonLine {
     /// Its number, and the number of the first word that applies.
     Word(SigNumber, u8),
@@ -108,11 +108,11 @@ pub enum ReasonLine {
 }
 
 /// A signature that has no verdict: its number, its certificate, and a hint of its issuer.
-#[derive(Clone, Copy, PartialEq, Eq)]
+#[derive(Clone, Copy)]
 pub struct PendingLine(pub SigNumber, pub Fpr, pub Hint);
 
 /// What a signature says of its issuer.
-#[derive(Clone, Copy, PartialEq, Eq)]
+#[derive(Clone, Copy)]
 pub enum Hint {
     /// The fingerprint.
     Full(Fpr),
@@ -123,18 +123,18 @@ pub enum Hint {
 }
 
 /// A certificate: its fingerprint, the number of its user IDs, the number of its signatures.
-#[derive(Clone, Copy, PartialEq, Eq)]
+#[derive(Clone, Copy)]
 pub struct KeyLine(pub Fpr, pub u64, pub u64);
 
 /// A path that is claimed: its amount, 1 to 255, and its steps from the root on, 1 to 255 of them.
-#[derive(Drop, PartialEq, Eq)]
+#[derive(Drop)]
 pub struct ClaimLine(pub u8, pub ClaimStepLines);
 
 /// A step that is claimed: its issuer, and the place of the user ID that it certifies among the target's, in the
 /// order of their octets. The target is the issuer of the next step, and of the last one the target of the claim.
-#[derive(Clone, Copy, PartialEq, Eq)]
+#[derive(Clone, Copy)]
 pub struct ClaimStepLine(pub Fpr, pub u32);
 
 /// A label of a table of absence: a fingerprint, and its number, 1 to 255.
-#[derive(Clone, Copy, PartialEq, Eq)]
+#[derive(Clone, Copy)]
 pub struct LabelLine(pub Fpr, pub u8);

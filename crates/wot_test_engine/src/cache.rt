@@ -22,13 +22,13 @@ static SCRIPT: [Line; 13] = [
     T_BY_T,
     R_BY_R,
     NOBODY_BAD,
-    Other(b"view q time 1500"),
-    Other(b"view p time 4000"),
-    Other(b"view p root 7f35c8dbd6b3eb2ffd59cbdd2e41ea291212ac38 120"),
-    Other(b"view p root 3c98b8180e0fcaca1032499082a5de8fa5d98232 60"),
-    Other(b"view q root 7f35c8dbd6b3eb2ffd59cbdd2e41ea291212ac38 255"),
-    Other(b"view p time 5000"),
-    Other(b"view p root 352e5f12059b4605a5b8f88f66d655c9133e1ca2 1"),
+    Other("view q time 1500"),
+    Other("view p time 4000"),
+    Other("view p root 7f35c8dbd6b3eb2ffd59cbdd2e41ea291212ac38 120"),
+    Other("view p root 3c98b8180e0fcaca1032499082a5de8fa5d98232 60"),
+    Other("view q root 7f35c8dbd6b3eb2ffd59cbdd2e41ea291212ac38 255"),
+    Other("view p time 5000"),
+    Other("view p root 352e5f12059b4605a5b8f88f66d655c9133e1ca2 1"),
 ];
 
 /// What it comes to: certificates by fingerprint, verdicts by number, and views by name with their roots by
@@ -40,12 +40,12 @@ static DUMPED: [Line; 12] = [
     R_BY_R,
     T_BY_T,
     T_BY_R,
-    Other(b"view p time 5000"),
-    Other(b"view p root 352e5f12059b4605a5b8f88f66d655c9133e1ca2 1"),
-    Other(b"view p root 3c98b8180e0fcaca1032499082a5de8fa5d98232 60"),
-    Other(b"view p root 7f35c8dbd6b3eb2ffd59cbdd2e41ea291212ac38 120"),
-    Other(b"view q time 1500"),
-    Other(b"view q root 7f35c8dbd6b3eb2ffd59cbdd2e41ea291212ac38 255"),
+    Other("view p time 5000"),
+    Other("view p root 352e5f12059b4605a5b8f88f66d655c9133e1ca2 1"),
+    Other("view p root 3c98b8180e0fcaca1032499082a5de8fa5d98232 60"),
+    Other("view p root 7f35c8dbd6b3eb2ffd59cbdd2e41ea291212ac38 120"),
+    Other("view q time 1500"),
+    Other("view q root 7f35c8dbd6b3eb2ffd59cbdd2e41ea291212ac38 255"),
 ];
 
 /// Does what a command says to an engine that changed seldom; whether it was done.

@@ -8,11 +8,10 @@ use crate::script::{R_CERT, UNREADABLE};
 use std::alloc::Global;
 use wot_cert::CertFault;
 use wot_keyring::{Keyring, Refusal};
-use wot_packet::{PacketFault, Why};
 use wot_policy::{Ask, Policy, admits, standard_rows};
 use wot_sample::Packet::{self, Other, Signature, SignatureByHash, UserId};
 use wot_sample::Says::{Made, Subpacket};
-use wot_sample::{A, CERTIFICATION, DIRECT, KEY_A, KEY_R, KEY_T, MARKER, R, TRUST};
+use wot_sample::{A, CERTIFICATION, DIRECT, KEY_A, KEY_R, KEY_T, R, TRUST};
 use wot_types::{Limit, Limits, SigNumber};
 use wot_verdict::Verdict;
 
@@ -95,25 +94,11 @@ fn outcome(alloc: Global, limits: Limits, lists: &[&[Packet]]) -> Outcome
     )
 }
 
-/// Octets that are no packets, where their first fault is, and which.
-static MALFORMED: [(&[u8], Why); 5] = [
-    (b"\xc6\x07\x04\x00\x00\x03\xe8\x1b", Why::CutBody),
-    (b"\x40", Why::NotAPacket),
-    (b"\xc6", Why::CutLength),
-    (b"\xc6\xe0", Why::Partial),
-    (b"\x9b", Why::Indeterminate),
-];
-
 /// Two keys, and behind them what has no place.
 const REFUSED: &[Packet] = &[KEY_R, KEY_A, Other(8, b"\x00")];
 
 /// Two keys, and between them one that isn't readable.
 const WITH_SKIPPED: &[Packet] = &[KEY_R, Other(TRUST, b"\x00\x00"), UNREADABLE, KEY_A];
-
-/// The same in packets of the old format (RFC 9580, section 4.2.2).
-const WITH_SKIPPED_OLD: &[u8] =
-    b"\x98\x07\x04\x00\x00\x03\xe8\x1b\x01\xb0\x02\x00\x00\x98\x06\x03\x00\x00\x03\xe8\x01\
-    \x98\x07\x04\x00\x00\x03\xe8\x1b\x02";
 
 /// The first key with a direct key signature.
 const WITH_DIRECT: &[Packet] = R_CERT;
@@ -151,29 +136,8 @@ const SECOND_KEY: &[Packet] = &[KEY_A];
 
 const BOTH_KEYS: &[Packet] = &[KEY_R, KEY_A];
 
-/// Packets, and what a fresh keyring answers.
-static ANSWERS: [(&[Packet], Answer); 8] = [
-    (REFUSED, Err(Refusal::Cert(CertFault::Compressed))),
-    (
-        &[KEY_R, KEY_A, Other(5, b"\x00")],
-        Err(Refusal::Cert(CertFault::Secret)),
-    ),
-    (
-        &[KEY_R, KEY_A, Other(9, b"\x00")],
-        Err(Refusal::Cert(CertFault::Kind(9, 18))),
-    ),
-    (&[], Err(Refusal::Cert(CertFault::Empty))),
-    (
-        &[Other(MARKER, b"PGP")],
-        Err(Refusal::Cert(CertFault::Empty)),
-    ),
-    (&[UserId(b"t")], Err(Refusal::Cert(CertFault::Order(0)))),
-    (WITH_SKIPPED, Ok((2, 1, 2))),
-    (WITH_DIRECT, Ok((1, 0, 2))),
-];
-
 /// Packets that are imported in turn (none are refused and change nothing), and the outcome of the last.
-static OUTCOMES: [(&[&[Packet]], Outcome); 9] = [
+static OUTCOMES: [(&[&[Packet]], Outcome); 7] = [
     (&[WITH_DIRECT], (Ok((1, 0, 2)), 1, 1, 1, 0)),
     (&[WITH_DIRECT, WITH_DIRECT], (Ok((1, 0, 0)), 1, 1, 1, 0)),
     (
@@ -194,8 +158,6 @@ static OUTCOMES: [(&[&[Packet]], Outcome); 9] = [
         ],
         (Ok((1, 0, 1)), 3, 3, 1, 0),
     ),
-    (&[WITH_SKIPPED], (Ok((2, 1, 2)), 0, 1, 1, 1)),
-    (&[WITH_SKIPPED, WITH_SKIPPED], (Ok((2, 1, 0)), 0, 1, 1, 1)),
     (
         &[WITH_SKIPPED, WITH_SKIPPED, WITH_DIRECT],
         (Ok((1, 0, 1)), 1, 2, 2, 1),
@@ -212,39 +174,10 @@ static OF_ONE: [(&[&[Packet]], Outcome); 3] = [
     (&[FIRST_KEY, FIRST_KEY], (Ok((1, 0, 0)), 0, 1, 1, 0)),
 ];
 
-/// What a fresh keyring answers to octets.
-fn answer_to(alloc: Global, octets: &[u8]) -> Answer {
-    let rows = standard_rows();
-    let mut policy = Policy::new(rows, |ask| admits(&rows, ask));
-    let mut keyring = Keyring::new(alloc, Limits::standard());
-    import(alloc, &mut keyring, octets, &mut policy)
-}
-
-#[test]
-fn answers_of_fresh_keyrings(rt: HostRuntime) {
-    for (octets, why) in &MALFORMED {
-        let fault = PacketFault { at: 0, why: *why };
-        assert!(rt;
-            answer_to(rt.alloc(), octets) == Err(Refusal::Packet(fault)),
-            "{octets:?}"
-        );
-    }
-    for (packets, expected) in &ANSWERS {
-        let octets = wot_sample::text(rt.alloc(), packets).expect(&rt, "octets");
-        assert!(rt; answer_to(rt.alloc(), &octets) == *expected, "{octets:?}");
-    }
-    assert!(rt; answer_to(rt.alloc(), WITH_SKIPPED_OLD) == Ok((2, 1, 2)));
-}
-
 #[test]
 fn imports_one_after_the_other(rt: HostRuntime) {
-    let mut number = 0u32;
     for (lists, expected) in &OUTCOMES {
-        assert!(rt;
-            outcome(rt.alloc(), Limits::standard(), lists) == *expected,
-            "{number}"
-        );
-        number = number.wrapping_add(1);
+        assert!(rt; outcome(rt.alloc(), Limits::standard(), lists) == *expected);
     }
 }
 
@@ -337,7 +270,7 @@ fn first_other<F: Fn(Ask) -> bool>(
 
 /// A verdict raises the stamp of the certificate on which its signature stands at that time, and of no other, but for
 /// one that says what was said before; each change is logged for what it altered alone.
-static VERDICTS: [(Told, State); 15] = [
+static VERDICTS: [(Told, State); 9] = [
     (Told::Set(Verdict::Good(R)), (true, 1, 0, 0, 0)),
     (Told::Import(WITH_DIRECT), (true, 2, 2, 0, 1)),
     (Told::Import(SECOND_KEY), (true, 3, 2, 3, 1)),
@@ -347,12 +280,6 @@ static VERDICTS: [(Told, State); 15] = [
     (Told::Import(FIRST_KEY), (true, 7, 7, 3, 1)),
     (Told::Clear, (true, 8, 7, 3, 0)),
     (Told::Clear, (false, 8, 7, 3, 0)),
-    (Told::Import(WITH_DIRECT), (true, 9, 9, 3, 1)),
-    (Told::Set(Verdict::Good(R)), (true, 10, 10, 3, 1)),
-    (Told::Set(Verdict::Good(R)), (true, 10, 10, 3, 1)),
-    (Told::Set(Verdict::Bad), (true, 11, 11, 3, 1)),
-    (Told::Import(WITH_DIRECT), (true, 11, 11, 3, 1)),
-    (Told::Clear, (true, 12, 12, 3, 1)),
 ];
 
 #[test]

@@ -10,11 +10,11 @@ mod explain;
 #[cfg(test)]
 mod failing;
 #[cfg(test)]
-mod generated;
-#[cfg(test)]
 mod keyring;
 #[cfg(test)]
 mod made;
+#[cfg(test)]
+mod network;
 #[cfg(test)]
 mod rows;
 #[cfg(test)]

@@ -1,5 +1,5 @@
 //! Kept rows: a change that touches no certificate, and a new question after it, make no edge anew.
-ghost use Rattle.std.specs.Prelude.{◌≡◌, ◌≤◌};
+ghost use Rattle.std.specs.Prelude.{◌≡◌};
 ghost use Rattle.wot_keyring.specs.Kept.{IsJudgedBy};
 ghost use Rattle.wot_policy.specs.Kept.{IsFaithful, rows_of};
 
@@ -12,7 +12,8 @@ const FOUND: &str = "amount 120 paths 1\n\
     path 120 steps 1 root 7f35c8dbd6b3eb2ffd59cbdd2e41ea291212ac38\n\
     step 7f35c8dbd6b3eb2ffd59cbdd2e41ea291212ac38 3c98b8180e0fcaca1032499082a5de8fa5d98232 0 120 t\n";
 
-/// Lines, and their replies: R certifies the user ID t of T, and nobody has the signature on which the last verdicts are.
+/// Lines, and their replies: R certifies the user ID t of T, and nobody has the signature on which the last verdicts
+/// are.
 static EXCHANGES: [(&str, &str); 12] = [
     (
         "import c60704000003e81b01c210041f1b0800060502000003e800000000",
@@ -121,5 +122,5 @@ fn edges_are_made_once(rt: HostRuntime) {
     let mut policy = Policy::new(rows, |ask| admits(&rows, ask));
     let mut machine = Machine::new(rt.alloc());
     let told = first_other(rt.alloc(), &mut machine, &mut policy);
-    assert!(rt; told == Some((LINES, 1, 1)), "{told:?}");
+    assert!(rt; told == Some((LINES, 1, 1)));
 }

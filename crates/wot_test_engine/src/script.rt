@@ -12,7 +12,7 @@ pub(crate) enum Line {
     /// Packets are imported.
     Import(&'static [Packet]),
     /// Any other line, or several, with a line feed after each but the last.
-    Other(&'static [u8]),
+    Other(&'static str),
 }
 
 /// R with a direct key signature.
@@ -43,23 +43,23 @@ pub(crate) const UNREADABLE: Packet = Bare(KEY, b"\x03\x00\x00\x03\xe8\x01");
 /// Verdicts: in each the signature on the first key's certificate is good by the second key. Where both are one, it is
 /// the direct key signature, else the certification of the certificate's user ID.
 pub(crate) const R_BY_R: Line = Line::Other(
-    b"verdict 68d0eb5f8ca13914fcddf1b23e5f608bf9847603834da284f01a707208051209 \
+    "verdict 68d0eb5f8ca13914fcddf1b23e5f608bf9847603834da284f01a707208051209 \
       good 7f35c8dbd6b3eb2ffd59cbdd2e41ea291212ac38",
 );
 
 pub(crate) const T_BY_T: Line = Line::Other(
-    b"verdict 6f340f6bdd375d28b7edb40f930d95bf4ad33f807483dfd6a9600c1af4e334bd \
+    "verdict 6f340f6bdd375d28b7edb40f930d95bf4ad33f807483dfd6a9600c1af4e334bd \
       good 3c98b8180e0fcaca1032499082a5de8fa5d98232",
 );
 
 pub(crate) const T_BY_R: Line = Line::Other(
-    b"verdict 7331b37825bdca65502938381c08cd08d9da47de1940c67bdae7bdf1dfab72d5 \
+    "verdict 7331b37825bdca65502938381c08cd08d9da47de1940c67bdae7bdf1dfab72d5 \
       good 7f35c8dbd6b3eb2ffd59cbdd2e41ea291212ac38",
 );
 
 /// A verdict on a signature that no certificate has.
 pub(crate) const NOBODY_BAD: Line = Line::Other(
-    b"verdict 0000000000000000000000000000000000000000000000000000000000000009 bad",
+    "verdict 0000000000000000000000000000000000000000000000000000000000000009 bad",
 );
 
 /// The command of a line.
@@ -69,7 +69,7 @@ pub(crate) fn command_of(alloc: Global, line: &Line) -> Option<Command> {
             let octets = wot_sample::text(alloc, packets)?;
             Some(Command::Import(Octets::from_vec(octets)))
         }
-        Line::Other(text) => read_line(alloc, text).ok(),
+        Line::Other(text) => read_line(alloc, text.as_bytes()).ok(),
     }
 }
 
@@ -85,7 +85,7 @@ fn push_import(alloc: Global, packets: &[Packet], text: &mut Vec<u8>) -> Option<
 fn push_text(alloc: Global, line: &Line, text: &mut Vec<u8>) -> Option<()> {
     match line {
         Line::Import(packets) => push_import(alloc, packets, text),
-        Line::Other(octets) => text.extend_from_slice(octets).ok(),
+        Line::Other(line) => text.extend_from_slice(line.as_bytes()).ok(),
     }
 }
 

@@ -1,7 +1,7 @@
 //! The replies to the lines that one read brought are written together, and before the next read.
 ghost use Rattle.std.specs.Prelude.{None};
 
-use crate::engine::{empty_shelf, owned, sink_of, status_of};
+use crate::engine::{empty_shelf, owned, status_of};
 use std::alloc::Global;
 use wot_io::{Failed, MemorySource, Sink, Source};
 
@@ -28,8 +28,8 @@ impl Sink for Counting {
     }
 }
 
-/// A source of so many lines `keys`, that gives so many octets a read, and fails in the reads with these numbers.
-fn lines_of(alloc: Global, count: usize, piece: usize, fails: &[u64]) -> Option<MemorySource> {
+/// A source of so many lines `keys`, that gives so many octets a read.
+fn lines_of(alloc: Global, count: usize, piece: usize) -> Option<MemorySource> {
     if piece == 0 {
         return None;
     }
@@ -37,7 +37,7 @@ fn lines_of(alloc: Global, count: usize, piece: usize, fails: &[u64]) -> Option<
     for _ in 0..count {
         script.extend_from_slice(b"keys\n").ok()?;
     }
-    Some(MemorySource::new(script, piece, fails.to_vec(alloc).ok()?))
+    Some(MemorySource::new(script, piece, Vec::new(alloc)))
 }
 
 /// The status of a run over an empty shelf.
@@ -51,10 +51,8 @@ fn ran<S: Source, K: Sink>(alloc: Global, input: &mut S, output: &mut K) -> Opti
 /// to each line has seven.
 type Case = (usize, usize, &'static [(usize, usize)]);
 
-static CASES: [Case; 5] = [
+static CASES: [Case; 3] = [
     (1000, 65_536, &[(1, 7000)]),
-    (1000, 5, &[(1000, 7)]),
-    (1000, 1, &[(1000, 7)]),
     (6, 7, &[(2, 7), (1, 14), (2, 7)]),
     // 9,363 replies have more than 65,536 octets. They are written before the line behind theirs is answered.
     (10_000, 65_536, &[(1, 65_541), (1, 4459)]),
@@ -69,7 +67,7 @@ fn is_written(alloc: Global, case: &Case) -> Option<bool> {
             want.push(*size).ok()?;
         }
     }
-    let mut input = lines_of(alloc, *count, *piece, &[])?;
+    let mut input = lines_of(alloc, *count, *piece)?;
     let mut output = Counting {
         offered: Vec::new(alloc),
         faults: 0,
@@ -78,35 +76,9 @@ fn is_written(alloc: Global, case: &Case) -> Option<bool> {
     Some(status == 0 && output.offered.as_slice() == want.as_slice())
 }
 
-/// The reads and writes that fail, the status, and what is written. Of three lines the first read brings two whole ones,
-/// and the sink takes three octets a write.
-type Stop = (&'static [u64], &'static [u64], u8, &'static [u8]);
-
-static STOPS: [Stop; 9] = [
-    (&[], &[], 0, b"keys 0\nkeys 0\nkeys 0\n"),
-    (&[1], &[], 3, b""),
-    (&[2], &[], 3, b"keys 0\nkeys 0\n"),
-    (&[3], &[], 3, b"keys 0\nkeys 0\nkeys 0\n"),
-    (&[], &[1], 4, b""),
-    (&[], &[3], 4, b"keys 0"),
-    (&[2], &[5], 4, b"keys 0\nkeys "),
-    (&[2], &[6], 3, b"keys 0\nkeys 0\n"),
-    (&[3], &[6], 4, b"keys 0\nkeys 0\n"),
-];
-
-fn is_stopped(alloc: Global, stop: &Stop) -> Option<bool> {
-    let (reads, writes, status, written) = stop;
-    let mut input = lines_of(alloc, 3, 12, reads)?;
-    let mut output = sink_of(alloc, writes)?;
-    Some(ran(alloc, &mut input, &mut output)? == *status && output.written() == *written)
-}
-
 #[test]
 fn replies_are_written_together(rt: HostRuntime) {
     for case in &CASES {
         assert!(rt; is_written(rt.alloc(), case) == Some(true));
-    }
-    for stop in &STOPS {
-        assert!(rt; is_stopped(rt.alloc(), stop) == Some(true));
     }
 }

@@ -1,0 +1,473 @@
+ghost use Rattle.wot_policy.specs.Kept.{IsFaithful};
+
+use crate::certificates::{assembled, judged};
+use std::alloc::Global;
+use wot_cert::{Adds, Assembled, Cert, CertFault, MergeFault, Part, Sig, Span, issuer_of, span};
+use wot_policy::{Ask, Policy, admits, standard_rows};
+use wot_sample::Packet::{self, Other, Signature, SignatureByHash, UserId};
+use wot_sample::Says::{Lasts, Made, Subpacket, Trust};
+use wot_sample::{
+    ATTRIBUTE, CERTIFICATION, DIRECT, KEY, KEY_A, KEY_R, KEY_T, MARKER, PADDING, SIGNATURE, SUBKEY,
+    TRUST,
+};
+use wot_types::{Fpr, SigNumber};
+use wot_verdict::{Verdict, Verdicts};
+
+/// The certificates of these packets.
+fn of_packets(alloc: Global, packets: &[Packet]) -> Option<Assembled> {
+    let text = wot_sample::text(alloc, packets)?;
+    assembled(alloc, &text).ok()
+}
+
+/// Packets, and how many certificates and skipped keys they give, or the first fault in the order of the packets.
+static OUTCOMES: [(&[Packet], Result<(usize, u64), CertFault>); 8] = [
+    (&[KEY_R, KEY_A], Ok((2, 0))),
+    (
+        &[KEY_R, KEY_A, Other(8, b"\x00")],
+        Err(CertFault::Compressed),
+    ),
+    (&[KEY_R, KEY_A, Other(5, b"\x00")], Err(CertFault::Secret)),
+    (
+        &[KEY_R, KEY_A, Other(9, b"\x00")],
+        Err(CertFault::Kind(9, 18)),
+    ),
+    (&[], Err(CertFault::Empty)),
+    (&[Other(MARKER, b"PGP")], Err(CertFault::Empty)),
+    (&[UserId(b"t")], Err(CertFault::Order(0))),
+    // Faults inside what is skipped, and the first of two.
+    (
+        &[
+            Other(KEY, b"\x03\x00\x00\x03\xe8\x01"),
+            UserId(b"t"),
+            Other(9, b""),
+        ],
+        Err(CertFault::Kind(9, 11)),
+    ),
+];
+
+/// Keys and a trust packet, with lengths in the legacy format; the second key isn't of version 4.
+const LEGACY: &[u8] =
+    b"\x98\x07\x04\x00\x00\x03\xe8\x1b\x01\xb0\x02\x00\x00\x98\x06\x03\x00\x00\x03\xe8\x01\x98\x07\x04\x00\x00\x03\
+      \xe8\x1b\x02";
+
+fn outcome(alloc: Global, text: &[u8]) -> Result<(usize, u64), CertFault> {
+    match assembled(alloc, text) {
+        Ok(assembled) => Ok((assembled.certs.as_slice().len(), assembled.skipped)),
+        Err(fault) => Err(fault),
+    }
+}
+
+/// Whether packets are assembled so.
+fn comes_to(alloc: Global, packets: &[Packet], expected: Result<(usize, u64), CertFault>) -> bool {
+    match wot_sample::text(alloc, packets) {
+        Some(text) => outcome(alloc, &text) == expected,
+        None => false,
+    }
+}
+
+#[test]
+fn first_faults_and_skipped_keys(rt: HostRuntime) {
+    for (packets, expected) in &OUTCOMES {
+        assert!(rt; comes_to(rt.alloc(), packets, *expected));
+    }
+    assert!(rt; outcome(rt.alloc(), LEGACY) == Ok((2, 1)));
+}
+
+/// Packets, and those of the first certificate of each: in order, without doubles.
+static TEXTS: [(&[Packet], &[Packet]); 1] = [
+    // Signatures in every place, among markers, padding and what is dropped, with doubles and a user ID that comes
+    // twice.
+    (
+        &[
+            KEY_R,
+            Other(SIGNATURE, b"zz"),
+            Other(SIGNATURE, b"aa"),
+            UserId(b"t"),
+            Other(SIGNATURE, b"cc"),
+            Other(MARKER, b"PGP"),
+            Other(SIGNATURE, b"bb"),
+            Other(44, b"?"),
+            Other(SIGNATURE, b"dd"),
+            Other(PADDING, b""),
+            Other(SIGNATURE, b"ee"),
+            Other(ATTRIBUTE, b"at"),
+            Other(SIGNATURE, b"ff"),
+            Other(SUBKEY, b"sub"),
+            Other(SIGNATURE, b"gg"),
+            UserId(b"a"),
+            UserId(b"t"),
+            Other(SIGNATURE, b"cc"),
+            Other(SIGNATURE, b"ab"),
+            Other(TRUST, b"x"),
+            Other(SIGNATURE, b"aa"),
+        ],
+        &[
+            KEY_R,
+            Other(SIGNATURE, b"aa"),
+            Other(SIGNATURE, b"zz"),
+            UserId(b"a"),
+            UserId(b"t"),
+            Other(SIGNATURE, b"aa"),
+            Other(SIGNATURE, b"ab"),
+            Other(SIGNATURE, b"bb"),
+            Other(SIGNATURE, b"cc"),
+            Other(ATTRIBUTE, b"at"),
+            Other(SIGNATURE, b"ff"),
+            Other(SUBKEY, b"sub"),
+            Other(SIGNATURE, b"gg"),
+        ],
+    ),
+];
+
+/// Texts, and the text of the first certificate of each, in the shortest spelling.
+static SPELLED: [(&[u8], &[u8]); 1] = [
+    // Lengths in the legacy format.
+    (LEGACY, b"\xc6\x07\x04\x00\x00\x03\xe8\x1b\x01"),
+];
+
+/// Whether the first certificate of a text, and a copy of it, is written so.
+fn is_written_so(alloc: Global, text: &[u8], expected: &[u8]) -> Option<bool> {
+    let found = assembled(alloc, text).ok()?;
+    let cert = found.certs.as_slice().first()?;
+    let copy = cert.duplicate(alloc).ok()?;
+    let mut out = Vec::new(alloc);
+    copy.export(&mut out).ok()?;
+    Some(out.as_slice() == expected && cert.size() == expected.len() as u64)
+}
+
+/// The same of packets.
+fn are_written_so(alloc: Global, packets: &[Packet], expected: &[Packet]) -> Option<bool> {
+    let text = wot_sample::text(alloc, packets)?;
+    let expected = wot_sample::text(alloc, expected)?;
+    is_written_so(alloc, &text, &expected)
+}
+
+#[test]
+fn texts_in_order(rt: HostRuntime) {
+    for (packets, expected) in &TEXTS {
+        assert!(rt; are_written_so(rt.alloc(), packets, expected) == Some(true));
+    }
+    for (text, expected) in &SPELLED {
+        assert!(rt; is_written_so(rt.alloc(), text, expected) == Some(true));
+    }
+}
+
+/// One signature body on a key, and on a user ID, an attribute and a subkey of the same octets.
+const IN_EVERY_PLACE: &[Packet] = &[
+    KEY_R,
+    DIRECT,
+    UserId(b"t"),
+    DIRECT,
+    Other(ATTRIBUTE, b"t"),
+    DIRECT,
+    Other(SUBKEY, b"t"),
+    DIRECT,
+];
+
+/// Its four numbers.
+const NUMBERS: [SigNumber; 4] = [
+    SigNumber([
+        104, 208, 235, 95, 140, 161, 57, 20, 252, 221, 241, 178, 62, 95, 96, 139, 249, 132, 118, 3,
+        131, 77, 162, 132, 240, 26, 112, 114, 8, 5, 18, 9,
+    ]),
+    SigNumber([
+        227, 114, 83, 191, 177, 190, 138, 36, 99, 208, 27, 87, 108, 215, 205, 218, 70, 2, 132, 160,
+        249, 84, 167, 48, 91, 91, 170, 107, 157, 17, 160, 196,
+    ]),
+    SigNumber([
+        75, 97, 169, 105, 116, 131, 180, 242, 14, 178, 20, 69, 115, 148, 10, 57, 199, 197, 35, 150,
+        238, 148, 79, 203, 229, 76, 90, 56, 41, 80, 104, 5,
+    ]),
+    SigNumber([
+        108, 64, 40, 242, 234, 112, 90, 191, 200, 236, 42, 77, 29, 51, 180, 134, 171, 175, 223, 83,
+        37, 186, 91, 94, 51, 107, 168, 170, 223, 234, 145, 159,
+    ]),
+];
+
+fn first_number(parts: &[Part]) -> Option<SigNumber> {
+    Some(parts.first()?.sigs().first()?.number())
+}
+
+fn numbers_are_told(alloc: Global) -> Option<bool> {
+    let found = of_packets(alloc, IN_EVERY_PLACE)?;
+    let cert = found.certs.as_slice().first()?;
+    let [on_key, on_user_id, on_attribute, on_subkey] = NUMBERS;
+    Some(
+        cert.direct().first()?.number() == on_key
+            && first_number(cert.user_ids()) == Some(on_user_id)
+            && first_number(cert.attributes()) == Some(on_attribute)
+            && first_number(cert.subkeys()) == Some(on_subkey),
+    )
+}
+
+#[test]
+fn a_number_for_each_place(rt: HostRuntime) {
+    assert!(rt; numbers_are_told(rt.alloc()) == Some(true));
+}
+
+/// Kind, hash number, time made, depth, amount, and whether it is sound.
+type Facts = Option<(u8, u8, u32, u8, u8, bool)>;
+
+/// Keys with one signature, and what that says.
+static FACTS: [(&[Packet], Facts); 2] = [
+    (
+        &[
+            KEY_R,
+            Signature(CERTIFICATION, &[Made(2000), Trust(1, 120)]),
+        ],
+        Some((16, 8, 2000, 1, 120, true)),
+    ),
+    (&[KEY_R, Other(SIGNATURE, b"\x03")], None),
+];
+
+/// What the first signature on the key of the first certificate says.
+fn facts_of(alloc: Global, packets: &[Packet]) -> Option<Facts> {
+    let found = of_packets(alloc, packets)?;
+    match found.certs.as_slice().first()?.direct().first()?.facts() {
+        Some(f) => Some(Some((f.kind, f.hash, f.made, f.depth, f.amount, f.sound))),
+        None => Some(None),
+    }
+}
+
+#[test]
+fn facts_of_signatures(rt: HostRuntime) {
+    for (packets, expected) in &FACTS {
+        assert!(rt; facts_of(rt.alloc(), packets) == Some(*expected));
+    }
+}
+
+/// The key R with a direct key signature; T with one and an unsound signature on `t`; T with one of hash number 1
+/// there; T with that and one of hash number 8; and another key.
+const R_WITH_DIRECT: &[Packet] = &[KEY_R, DIRECT];
+
+const T_WITH_UNSOUND: &[Packet] = &[
+    KEY_T,
+    DIRECT,
+    UserId(b"t"),
+    Signature(CERTIFICATION, &[Made(2000), Subpacket(0xe5, b"")]),
+];
+
+const T_WITH_OLD_HASH: &[Packet] = &[
+    KEY_T,
+    UserId(b"t"),
+    SignatureByHash(1, CERTIFICATION, &[Made(2000)]),
+];
+
+const T_WITH_BOTH_HASHES: &[Packet] = &[
+    KEY_T,
+    UserId(b"t"),
+    Signature(CERTIFICATION, &[Made(2000)]),
+    SignatureByHash(1, CERTIFICATION, &[Made(2000)]),
+];
+
+const OTHER_KEY: &[Packet] = &[KEY_A];
+
+/// Merges the first certificate of a text, where both are small.
+fn merge_text<F: Fn(Ask) -> bool>(
+    alloc: Global,
+    cert: &mut Cert,
+    text: &[u8],
+    policy: &mut Policy<F>,
+) -> Result<u64, MergeFault>
+    requires { IsFaithful F.Fn policy.old }
+    ensures { IsFaithful F.Fn policy.new }
+{
+    let Ok(found) = assembled(alloc, text) else {
+        return Err(MergeFault::Memory);
+    };
+    let Some(other) = found.certs.as_slice().first() else {
+        return Err(MergeFault::Memory);
+    };
+    if cert.size() >= 1000 || other.size() >= 1000 {
+        return Err(MergeFault::Memory);
+    }
+    cert.merge(alloc, other, policy)
+}
+
+/// Packets to merge, the answer, and how often the policy was asked by then.
+type Merge = (&'static [Packet], Result<u64, MergeFault>, u64);
+
+/// The same with the octets of the packets.
+type Written = (Vec<u8>, Result<u64, MergeFault>, u64);
+
+fn written(alloc: Global, rows: &[Merge]) -> Option<Vec<Written>> {
+    let mut all = Vec::new(alloc);
+    for case in rows {
+        let text = wot_sample::text(alloc, case.0)?;
+        all.push((text, case.1, case.2)).ok()?;
+    }
+    Some(all)
+}
+
+static INTO_R: [Merge; 3] = [
+    (R_WITH_DIRECT, Ok(1), 1),
+    (R_WITH_DIRECT, Ok(0), 1),
+    (OTHER_KEY, Err(MergeFault::Clash), 1),
+];
+
+static INTO_T: [Merge; 5] = [
+    (T_WITH_UNSOUND, Ok(3), 2),
+    (T_WITH_OLD_HASH, Ok(1), 3),
+    (T_WITH_UNSOUND, Ok(0), 3),
+    (T_WITH_BOTH_HASHES, Ok(1), 4),
+    (R_WITH_DIRECT, Err(MergeFault::Clash), 4),
+];
+
+/// Whether these merges answer so.
+fn merges<F: Fn(Ask) -> bool>(
+    alloc: Global,
+    cert: &mut Cert,
+    policy: &mut Policy<F>,
+    rows: &[Written],
+) -> bool
+    requires { IsFaithful F.Fn policy.old }
+    ensures { IsFaithful F.Fn policy.new }
+{
+    for case in rows {
+        if merge_text(alloc, cert, &case.0, policy) != case.1 || policy.asked() != case.2 {
+            return false;
+        }
+    }
+    true
+}
+
+fn bare(alloc: Global, key: &[u8]) -> Option<Cert> {
+    Cert::bare(alloc, key).ok().flatten()
+}
+
+const R_BODY: &[u8] = b"\x04\x00\x00\x03\xe8\x1b\x01";
+
+const T_BODY: &[u8] = b"\x04\x00\x00\x03\xe8\x1b\x04";
+
+/// Whether these marks are those of an old hash, a new one, and an unsound signature.
+fn are_marked(marks: &[Sig]) -> bool {
+    match marks {
+        [old, new, unsound] => !old.admitted() && new.admitted() && !unsound.admitted(),
+        _ => false,
+    }
+}
+
+const BY_SHA_256: Ask = Ask {
+    kind: 0x10,
+    hash: 8,
+    made: 2000,
+};
+
+#[test]
+fn merging_asks_of_new_sound_signatures(rt: HostRuntime) {
+    let rows = standard_rows();
+    let mut policy = Policy::new(rows, |ask| admits(&rows, ask));
+    let mut r = bare(rt.alloc(), R_BODY).expect(&rt, "R");
+    let mut t = bare(rt.alloc(), T_BODY).expect(&rt, "T");
+    let into_r = written(rt.alloc(), &INTO_R).expect(&rt, "memory");
+    let into_t = written(rt.alloc(), &INTO_T).expect(&rt, "memory");
+    assert!(rt; merges(rt.alloc(), &mut r, &mut policy, &into_r));
+    assert!(rt; merges(rt.alloc(), &mut t, &mut policy, &into_t));
+    assert!(rt; policy.asked() == 4 && policy.judge(BY_SHA_256) && policy.asked() == 5);
+    match t.user_ids() {
+        [uid] => assert!(rt; are_marked(uid.sigs())),
+        _ => assert!(rt; false),
+    }
+}
+
+/// The text of a certificate.
+fn text_of(alloc: Global, cert: &Cert) -> Option<Vec<u8>> {
+    let mut out = Vec::new(alloc);
+    cert.export(&mut out).ok()?;
+    Some(out)
+}
+
+/// The key R and nothing else.
+const KEY_ALONE: &[u8] = b"\xc6\x07\x04\x00\x00\x03\xe8\x1b\x01";
+
+fn clash(alloc: Global) -> Option<bool> {
+    let mut r = bare(alloc, R_BODY)?;
+    let mut t = bare(alloc, T_BODY)?;
+    let clashes = r.unite(alloc, &t) == Err(MergeFault::Clash);
+    let both = clashes && t.unite(alloc, &r) == Err(MergeFault::Clash);
+    Some(both && text_of(alloc, &r)?.as_slice() == KEY_ALONE)
+}
+
+#[test]
+fn other_keys_clash(rt: HostRuntime) {
+    assert!(rt; clash(rt.alloc()) == Some(true));
+}
+
+/// What the union of the first certificates of two lists of packets would add to the first.
+fn adds_of(alloc: Global, packets: &[Packet], more: &[Packet]) -> Option<Adds> {
+    let one = of_packets(alloc, packets)?;
+    let other = of_packets(alloc, more)?;
+    let one = one.certs.as_slice().first()?;
+    let other = other.certs.as_slice().first()?;
+    if !one.has_key_of(other) || one.size() >= 1000 || other.size() >= 1000 {
+        return None;
+    }
+    Some(one.adds(other))
+}
+
+#[test]
+fn what_a_union_adds(rt: HostRuntime) {
+    let expected = Adds {
+        items: 2,
+        signatures: 2,
+        octets: 36,
+    };
+    assert!(rt; adds_of(rt.alloc(), T_WITH_UNSOUND, T_WITH_BOTH_HASHES) == Some(expected));
+}
+
+/// A key made at 1000 with a direct key signature, and on `t` a signature made at 2000 and one made at 3000 that
+/// lasts 100.
+const WITH_TIMES: &[Packet] = &[
+    KEY_T,
+    DIRECT,
+    UserId(b"t"),
+    Signature(CERTIFICATION, &[Made(2000), Trust(0, 60)]),
+    Signature(CERTIFICATION, &[Made(3000), Lasts(100), Trust(0, 120)]),
+];
+
+/// A time, and the ends of its span.
+static TIMES: [(u32, u32, u32); 4] = [
+    (999, 0, 999),
+    (2500, 2000, 2999),
+    (3050, 3000, 3099),
+    (5000, 3100, 4294967295),
+];
+
+fn span_at(alloc: Global, t: u32) -> Option<Span> {
+    let found = of_packets(alloc, WITH_TIMES)?;
+    Some(span(found.certs.as_slice().first()?, t))
+}
+
+#[test]
+fn spans(rt: HostRuntime) {
+    for (t, from, to) in &TIMES {
+        let expected = Span {
+            from: *from,
+            to: *to,
+        };
+        assert!(rt; span_at(rt.alloc(), *t) == Some(expected));
+    }
+}
+
+fn issuer_on_key(cert: &Cert, verdicts: &Verdicts) -> Option<Fpr> {
+    issuer_of(cert.direct().first()?, verdicts)
+}
+
+/// There is an issuer once there is a verdict, and none once the signature's mark is gone.
+fn issuers_are_told(alloc: Global) -> Option<bool> {
+    let mut judged = judged(alloc, R_WITH_DIRECT)?;
+    let mut verdicts = Verdicts::new(alloc);
+    let before = issuer_on_key(&judged, &verdicts);
+    let number = judged.direct().first()?.number();
+    verdicts.set(number, Verdict::Good(Fpr::V4([7; 20]))).ok()?;
+    let good = issuer_on_key(&judged, &verdicts);
+    judged.unite(alloc, &bare(alloc, R_BODY)?).ok()?;
+    let unmarked = issuer_on_key(&judged, &verdicts);
+    let same = judged.direct().first()?.number() == number;
+    Some(before.is_none() && good == Some(Fpr::V4([7; 20])) && unmarked.is_none() && same)
+}
+
+#[test]
+fn issuers(rt: HostRuntime) {
+    assert!(rt; issuers_are_told(rt.alloc()) == Some(true));
+}

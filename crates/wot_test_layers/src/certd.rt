@@ -1,0 +1,141 @@
+use std::alloc::Global;
+use std::rt::{Env, Files};
+use std::{env, fs};
+use wot_certd::{FolderShelf, Given, MemoryShelf, Shelf, ShelfFault, fpr_of, name_of};
+use wot_types::{Fpr, Name};
+
+const CERT: Name = Name::Cert(Fpr::V4(
+    *b"\xc9\x59\xbd\xba\xfa\x32\xa2\xf8\x9a\x15\x3b\x67\x8c\xfd\xe1\x21\x97\x96\x5a\x9a",
+));
+
+const PLACE: &str = "c9/59bdbafa32a2f89a153b678cfde12197965a9a";
+
+/// The fingerprint of RFC 9580, appendix A.3.
+const SIX: Name = Name::Cert(Fpr::V6(
+    *b"\xcb\x18\x6c\x4f\x06\x09\xa6\x97\xe4\xd5\x2d\xfa\x6c\x72\x2b\x0c\
+      \x1f\x1e\x27\xc1\x8a\x56\x70\x8f\x65\x25\xec\x27\xba\xd9\xac\xc9",
+));
+
+static PLACES: [(Name, &str); 3] = [
+    (CERT, PLACE),
+    (
+        SIX,
+        "cb/186c4f0609a697e4d52dfa6c722b0c1f1e27c18a56708f6525ec27bad9acc9",
+    ),
+    (Name::TrustRoot, "trust-root"),
+];
+
+/// Whether an entry's place is spelled so, both ways.
+fn is_its_place(alloc: Global, name: &Name, place: &str) -> bool {
+    match name_of(alloc, name) {
+        Ok(text) => text.as_str() == place && fpr_of(place) == Some(*name),
+        Err(_) => false,
+    }
+}
+
+#[test]
+fn names_are_their_places(rt: HostRuntime) {
+    for (name, place) in &PLACES {
+        assert!(rt; is_its_place(rt.alloc(), name, place));
+    }
+    assert!(rt; fpr_of("c959bdbafa32a2f89a153b678cfde12197965a9a").is_none());
+}
+
+/// Whether a read gives these octets.
+fn gives<S: Shelf>(shelf: &mut S, name: &Name, octets: &[u8]) -> bool {
+    match shelf.read(name) {
+        Ok(Given::Bytes(given)) => given.as_slice() == octets,
+        _ => false,
+    }
+}
+
+fn is_absent<S: Shelf>(shelf: &mut S, name: &Name) -> bool {
+    match shelf.read(name) {
+        Ok(Given::Absent) => true,
+        _ => false,
+    }
+}
+
+fn fails<S: Shelf>(shelf: &mut S, name: &Name) -> bool {
+    match shelf.read(name) {
+        Err(ShelfFault::Failed) => true,
+        _ => false,
+    }
+}
+
+const FAILED: Result<(), ShelfFault> = Err(ShelfFault::Failed);
+
+/// A shelf in memory whose third, fourth and sixth calls fail, the sixth late.
+fn failing_shelf(alloc: Global) -> Option<MemoryShelf> {
+    let fails = [3, 4, 6].to_vec(alloc).ok()?;
+    let late = [2, 6].to_vec(alloc).ok()?;
+    let mut shelf = MemoryShelf::new(alloc, fails, late);
+    shelf.put(CERT, [7].to_vec(alloc).ok()?).ok()?;
+    Some(shelf)
+}
+
+/// A call that fails early leaves the entry, and one that fails late has replaced it.
+fn calls_answer(shelf: &mut MemoryShelf) -> bool {
+    gives(shelf, &CERT, b"\x07")
+        && is_absent(shelf, &Name::TrustRoot)
+        && fails(shelf, &CERT)
+        && shelf.replace(&CERT, b"\x08") == FAILED
+        && gives(shelf, &CERT, b"\x07")
+        && shelf.replace(&CERT, b"\x09") == FAILED
+        && gives(shelf, &CERT, b"\x09")
+        && shelf.replace(&CERT, b"").is_ok()
+        && gives(shelf, &CERT, b"")
+        && is_absent(shelf, &Name::TrustRoot)
+}
+
+#[test]
+fn calls_of_a_shelf_in_memory(rt: HostRuntime) {
+    let mut shelf = failing_shelf(rt.alloc()).expect(&rt, "memory");
+    assert!(rt; calls_answer(&mut shelf));
+}
+
+/// Makes a folder of its own for a test.
+fn new_folder<R: Files + Env + AllocGlobal>(rt: &R) -> Option<String> {
+    let base = env::temp_dir(rt).ok()?;
+    for number in 0..1000u32 {
+        let folder = format!(in rt.alloc(); "{}/wot_certd_{number}", base.display()).ok()?;
+        if fs::create_dir(rt, folder.as_str()).is_ok() {
+            return Some(folder);
+        }
+    }
+    None
+}
+
+/// A file that is missing, one that is written and replaced, and a folder in a file's place.
+fn is_a_shelf<R: Files + AllocGlobal>(rt: &R, base: &str) -> Option<bool> {
+    let mut shelf = FolderShelf::new(rt.alloc(), rt, base).ok()?;
+    let written = is_absent(&mut shelf, &CERT)
+        && shelf.replace(&CERT, b"\x01\x02").is_ok()
+        && gives(&mut shelf, &CERT, b"\x01\x02")
+        && shelf.replace(&CERT, b"\x03").is_ok()
+        && gives(&mut shelf, &CERT, b"\x03");
+    fs::create_dir(rt, format!(in rt.alloc(); "{base}/trust-root").ok()?).ok()?;
+    Some(
+        written
+            && fails(&mut shelf, &Name::TrustRoot)
+            && shelf.replace(&Name::TrustRoot, b"\x04") == FAILED,
+    )
+}
+
+/// The entry is a file at its place, and what couldn't be put in its place is gone.
+fn has_its_file<R: Files + AllocGlobal>(rt: &R, base: &str) -> Option<bool> {
+    let octets = fs::read(rt, format!(in rt.alloc(); "{base}/{PLACE}").ok()?).ok()?;
+    let left = fs::exists(rt, format!(in rt.alloc(); "{base}/_trust-root.0").ok()?).ok()?;
+    Some(octets.as_slice() == b"\x03".as_slice() && !left)
+}
+
+/// A file that may not be read, and files of the most octets and of one more, are for a test of the program, over a
+/// prepared directory.
+#[test]
+fn a_folder(rt: HostRuntime) {
+    let folder = new_folder(&rt).expect(&rt, "a folder");
+    let base = format!(in rt.alloc(); "{folder}/pgp.cert.d").expect(&rt, "memory");
+    assert!(rt; is_a_shelf(&rt, &base) == Some(true));
+    assert!(rt; has_its_file(&rt, &base) == Some(true));
+    assert!(rt; fs::remove_dir_all(&rt, folder.as_str()).is_ok());
+}

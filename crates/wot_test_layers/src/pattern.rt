@@ -1,0 +1,287 @@
+use std::alloc::Global;
+use wot_pattern::{Matcher, PatternFault, one_reading, parse};
+use wot_types::Memory;
+
+#[derive(Clone, Copy, PartialEq, Eq)]
+enum Answer {
+    Matches,
+    Differs,
+    Unreadable,
+    NoMemory,
+}
+
+use Answer::{Differs, Matches, Unreadable};
+
+/// The answer that a row's first character tells.
+fn answer_of(sign: char) -> Answer {
+    match sign {
+        '=' => Matches,
+        '!' => Differs,
+        _ => Unreadable,
+    }
+}
+
+fn answer_to(alloc: Global, pattern: &str, text: &str) -> Answer {
+    match parse(alloc, pattern) {
+        Err(PatternFault::Unreadable) => Answer::Unreadable,
+        Err(PatternFault::Memory) => Answer::NoMemory,
+        Ok(pattern) => match Matcher::new(alloc, pattern) {
+            Err(Memory) => Answer::NoMemory,
+            Ok(mut matcher) => {
+                if matcher.matches(text) {
+                    Answer::Matches
+                } else {
+                    Answer::Differs
+                }
+            }
+        },
+    }
+}
+
+/// Patterns, each behind its answer (`=` matches, `!` differs, `?` unreadable), and behind a tab the texts. The answers
+/// were computed by another program, with sets of positions and no passes.
+const ROWS: &str = "\
+    =\t\n\
+    =\tabc\n\
+    =a*\tbbb\n\
+    !^a+$\taab\n\
+    =^a+$\taaa\n\
+    !^a+$\t\n\
+    !a+\t\n\
+    =a+\tba\n\
+    =a?b\tb\n\
+    !^a?$\taa\n\
+    =^a*$\taaaa\n\
+    =b\tab\n\
+    !^b\tab\n\
+    !a$\tab\n\
+    =a$\tba\n\
+    =^\t\n\
+    =$\t\n\
+    =^$\t\n\
+    !^$\ta\n\
+    !a^\ta\n\
+    !$a\ta\n\
+    !(^|x)b\tab\n\
+    =(^|x)b\txb\n\
+    =(^|x)b\tb\n\
+    =^*\ta\n\
+    =$?a\ta\n\
+    =a^*b\tab\n\
+    =()\tx\n\
+    =^()$\t\n\
+    =|\tx\n\
+    =^(|a)$\t\n\
+    =^(a||b)$\tb\n\
+    !^(a||b)$\tc\n\
+    =ab|cd\txcdx\n\
+    !ab|cd\tacbd\n\
+    =^(ab|cd)+$\tabcdab\n\
+    !^(ab|cd)+$\tabcdb\n\
+    ?a**\ta\n\
+    ?*\ta\n\
+    ?+a\ta\n\
+    ?a|?\ta\n\
+    ?(*)\ta\n\
+    ?a+?\ta\n\
+    ?(\t\n\
+    ?)\t\n\
+    ?(a\ta\n\
+    ?a)\ta\n\
+    ?())\t\n\
+    ?a\\\ta\n\
+    ?[\t[\n\
+    ?[]\t]\n\
+    ?[^\t^\n\
+    ?[^]\t]\n\
+    ?[a\ta\n\
+    ?[c-a]\tb\n\
+    ?[a-\ta\n\
+    ?[a-b\ta\n\
+    ![^]]\t]\n\
+    =[^]]\ta\n\
+    ![^^]\t^\n\
+    =[^^]\ta\n\
+    =[a^]\t^\n\
+    =[]x]\t]\n\
+    =[]x]\tx\n\
+    ![]x]\ta\n\
+    ![x]]\tx\n\
+    =[x]]\tx]\n\
+    =[]-a]\t`\n\
+    ![]-a]\t-\n\
+    ![]-a]\tb\n\
+    =[-a]\t-\n\
+    ![-a]\tA\n\
+    =[--a]\t-\n\
+    =[--a]\ta\n\
+    ![--a]\t0\n\
+    ![^-a]\t-\n\
+    =[^-a]\tb\n\
+    =[a-c-]\t-\n\
+    =[a-c-]\tb\n\
+    ![a-c-]\td\n\
+    =[a-]\t-\n\
+    =[a-]\ta\n\
+    ![a-]\tb\n\
+    =[+--]\t,\n\
+    ![+--]\t.\n\
+    =[a-c]\ta\n\
+    =[a-c]\tc\n\
+    ![a-c]\td\n\
+    =[a-a]\ta\n\
+    ![a-c-e]\td\n\
+    =[a-c-e]\t-\n\
+    =[\\n]\t\\\n\
+    =[\\n]\tn\n\
+    =[\\]\t\\\n\
+    =[\\-a]\t`\n\
+    =[*.(|$]\t$\n\
+    ![*.(|$]\t+\n\
+    =^(a?)*$\taaa\n\
+    !^(a?)*$\tab\n\
+    =^((a*)*)*$\taaaa\n\
+    !^((a*)*)*$\taab\n\
+    =(^)*a\tba\n\
+    !^(^)*a\tba\n\
+    =a($)*\tab\n\
+    !a($)+\tab\n\
+    =(($)*|(^)+)*b\tab\n\
+    !^(a*)*$\taaaaaaaaaaaaaaaab\n\
+    =(|a)*b\taaab\n\
+    =(|a)*b\taab\n\
+    !^(|a)*b$\taacb\n\
+    =^(a*b?)+c$\taabababc\n\
+    =^((a|b)*c?)*d$\tabcabd\n\
+    =^((a+)?b)*$\tabbaab\n\
+    !^((a+)?b)*$\tabba\n\
+    =^.$\té\n\
+    =^.$\t😀\n\
+    !^..$\t😀\n\
+    =^[à-ï]$\té\n\
+    !^[à-ï]$\tð\n\
+    =^[^a]$\t😀\n\
+    =^[😀-😂]$\t😁\n\
+    =^[a-😀]$\té\n\
+    =é+\teéé\n\
+    =^\\é$\té\n\
+    !a\tA\n\
+    ![a-z]\tQ\n\
+    !\\.\ta\n\
+    =\\.\t.\n\
+    =\\(\\[\\*\t([*\n\
+    =a\\|b\ta|b\n\
+    =^\\\\$\t\\\n\
+    =a]b\ta]b\n\
+    =a-b{2}\ta-b{2}\n\
+    =^\0$\t\0\n\
+    =<[^>]+[@.]example\\.org>$\tAnn <ann@example.org>\n\
+    !<[^>]+[@.]example\\.org>$\tAnn <ann@example.org.net>\n\
+    !<[^>]+[@.]example\\.org>$\tAnn <ann@example.org> \n\
+    =<[^>]+[@.]example\\.org>$\tAnn <ann@mail.example.org>\n\
+    !<[^>]+[@.]example\\.org>$\tAnn <ann@badexample.org>\n\
+    !<[^>]+[@.]example\\.org>$\t<@example.org>\n\
+";
+
+/// How many rows of a table hold, up to the first that doesn't.
+fn rows_that_hold(alloc: Global, table: &str) -> Option<u32> {
+    let (mut pattern, mut text) = (String::new(alloc), String::new(alloc));
+    let (mut answer, mut is_behind, mut held) = (None, false, 0u32);
+    for character in table.chars() {
+        match (answer, character) {
+            (None, sign) => answer = Some(answer_of(sign)),
+            (Some(answered), '\n') => {
+                if answer_to(alloc, &pattern, &text) != answered {
+                    return Some(held);
+                }
+                pattern.clear();
+                text.clear();
+                (answer, is_behind) = (None, false);
+                held = held.saturating_add(1);
+            }
+            (Some(_), '\t') => is_behind = true,
+            (Some(_), other) => {
+                if is_behind {
+                    text.push(other).ok()?;
+                } else {
+                    pattern.push(other).ok()?;
+                }
+            }
+        }
+    }
+    Some(held)
+}
+
+#[test]
+fn answers_as_another_program(rt: HostRuntime) {
+    assert!(rt; rows_that_hold(rt.alloc(), ROWS) == Some(140));
+}
+
+/// The text of so many times the one part and then so many times the other.
+fn repeated(alloc: Global, count: u32, first: &str, second: &str) -> Option<String> {
+    let mut text = String::new(alloc);
+    for _ in 0..count {
+        text.push_str(first).ok()?;
+    }
+    for _ in 0..count {
+        text.push_str(second).ok()?;
+    }
+    Some(text)
+}
+
+/// Patterns at their bounds, in so many times two parts, and what they answer of `x`.
+static BOUNDS: [(u32, &str, &str, Answer); 4] = [
+    (64, "(", ")", Matches),
+    (65, "(", ")", Unreadable),
+    (1024, "a", "", Differs),
+    (1025, "a", "", Unreadable),
+];
+
+#[test]
+fn bounds_are_exact(rt: HostRuntime) {
+    for (count, first, second, expected) in &BOUNDS {
+        let pattern = repeated(rt.alloc(), *count, first, second).expect(&rt, "memory");
+        assert!(rt; answer_to(rt.alloc(), &pattern, "x") == *expected);
+    }
+}
+
+/// Texts that one matcher is asked of in turn, and whether `^(a|bc)+$` matches.
+static AGAIN: [(&str, bool); 6] = [
+    ("abc", true),
+    ("abb", false),
+    ("", false),
+    ("bca", true),
+    ("abcb", false),
+    ("a", true),
+];
+
+fn matcher_of(alloc: Global, pattern: &str) -> Option<Matcher> {
+    Matcher::new(alloc, parse(alloc, pattern).ok()?).ok()
+}
+
+/// Texts of so many `a`, and what `^(a*)*$` answers: a repetition of a repetition has as many readings there as there
+/// are subsets of the places.
+static NESTED: [(u32, &str, Answer); 2] = [(2000, "", Matches), (2000, "b", Differs)];
+
+/// What a pattern answers to so many `a` and an end.
+fn answer_to_many(alloc: Global, count: u32, end: &str) -> Option<Answer> {
+    let mut text = repeated(alloc, count, "a", "")?;
+    text.push_str(end).ok()?;
+    Some(answer_to(alloc, "^(a*)*$", text.as_str()))
+}
+
+#[test]
+fn nested_repetitions_take_no_turn_twice(rt: HostRuntime) {
+    for (count, end, expected) in &NESTED {
+        assert!(rt; answer_to_many(rt.alloc(), *count, end) == Some(*expected));
+    }
+}
+
+#[test]
+fn matches_again(rt: HostRuntime) {
+    one_reading();
+    let mut matcher = matcher_of(rt.alloc(), "^(a|bc)+$").expect(&rt, "a matcher");
+    for (text, expected) in &AGAIN {
+        assert!(rt; matcher.matches(text) == *expected);
+    }
+}

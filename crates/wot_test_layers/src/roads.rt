@@ -1,0 +1,66 @@
+//! Networks and roots of keys that are repeated octets.
+use std::alloc::Global;
+use wot_edge::plain::PlainRoads;
+use wot_edge::{Edge, EdgeFacts, Roots};
+use wot_types::{Fpr, Memory, Steps};
+
+pub(crate) const A: u8 = b'a';
+
+pub(crate) const B: u8 = b'b';
+
+pub(crate) const C: u8 = b'c';
+
+pub(crate) const T: u8 = b't';
+
+pub(crate) const U: u8 = b'u';
+
+/// An edge: issuer, target, user ID, depth, amount.
+#[derive(Clone, Copy)]
+pub(crate) struct Row(pub u8, pub u8, pub u8, pub u8, pub u8);
+
+pub(crate) fn key(octet: u8) -> Fpr {
+    Fpr::V4([octet; 20])
+}
+
+/// An edge. Those of `scoped` have a scope in which the user ID `t` is alone, and those of `gone` aren't usable.
+fn edge(row: &Row, scoped: u8, gone: u8) -> Edge {
+    let facts = EdgeFacts {
+        issuer: key(row.0),
+        target: key(row.1),
+        uid: row.2 as u32,
+        sig: 0,
+        made: if row.0 == gone { 0 } else { 2000 },
+        depth: row.3,
+        amount: row.4,
+        scoped: row.0 == scoped,
+    };
+    Edge::make(facts, &mut Steps::new())
+}
+
+/// The network of these edges, which are in the order of their issuers.
+pub(crate) fn network(
+    alloc: Global,
+    rows: &[Row],
+    scoped: u8,
+    gone: u8,
+) -> Result<PlainRoads, Memory> {
+    let mut roads = PlainRoads::new(alloc, T);
+    for target in 1..100u8 {
+        let mut edges = Vec::new(alloc);
+        for row in rows {
+            if row.1 == target {
+                edges.push(edge(row, scoped, gone))?;
+            }
+        }
+        let _put = roads.put(key(target), true, edges)?;
+    }
+    Ok(roads)
+}
+
+pub(crate) fn roots_of(alloc: Global, amounts: &[(u8, u8)]) -> Result<Roots, Memory> {
+    let mut roots = Roots::new(alloc);
+    for (octet, amount) in amounts {
+        roots.set(key(*octet), *amount)?;
+    }
+    Ok(roots)
+}

@@ -1,0 +1,37 @@
+use crate::signature::bodies::certification;
+use std::alloc::Global;
+use wot_signature::hint;
+
+const ONE: &[u8] = &[0x09, 0x10, 1, 2, 3, 4, 5, 6, 7, 8];
+
+const TWO: &[u8] = &[
+    0x09, 0x10, 1, 1, 1, 1, 1, 1, 1, 1, 0x09, 0x90, 1, 2, 3, 4, 5, 6, 7, 9,
+];
+
+/// Behind the key ID the octets are no list of subpackets.
+const BROKEN: &[u8] = &[0x09, 0x10, 1, 2, 3, 4, 5, 6, 7, 8, 0x00];
+
+const ID: Option<[u8; 8]> = Some([1, 2, 3, 4, 5, 6, 7, 8]);
+
+/// A hashed and an unhashed area, and the hint of a certification with them.
+static ROWS: [(&[u8], &[u8], Option<[u8; 8]>); 3] = [
+    (ONE, &[], ID),
+    (ONE, TWO, ID),
+    (&[], BROKEN, None),
+];
+
+/// Whether a certification with these areas has this hint.
+fn has_hint(alloc: Global, hashed: &[u8], unhashed: &[u8], expected: Option<[u8; 8]>) -> bool {
+    match certification(alloc, hashed, unhashed) {
+        Ok(body) => hint(&body) == expected,
+        Err(_) => false,
+    }
+}
+
+#[test]
+fn hints_are_the_last_key_ids(rt: HostRuntime) {
+    for (hashed, unhashed, expected) in &ROWS {
+        assert!(rt; has_hint(rt.alloc(), hashed, unhashed, *expected));
+    }
+    assert!(rt; hint(&[]).is_none());
+}

@@ -1,0 +1,81 @@
+use std::alloc::Global;
+use wot_subpacket::*;
+
+fn count_in(octets: &[u8]) -> Result<usize, AreaFault> {
+    match Area::new(octets) {
+        Ok(area) => Ok(area.iter().count()),
+        Err(fault) => Err(fault),
+    }
+}
+
+const CUT_LENGTH: Result<usize, AreaFault> = Err(AreaFault::CutLength);
+
+const ZERO: Result<usize, AreaFault> = Err(AreaFault::Zero);
+
+const CUT_BODY: Result<usize, AreaFault> = Err(AreaFault::CutBody);
+
+/// How many subpackets each area has, or its first fault.
+static AREAS: [(&[u8], Result<usize, AreaFault>); 7] = [
+    (&[0x00], ZERO),
+    (&[0x05, 0x02, 0x00, 0x00], CUT_BODY),
+    (&[0xc0], CUT_LENGTH),
+    (&[0xff, 0x00, 0x00, 0x00], CUT_LENGTH),
+    (&[0xff, 0xff, 0xff, 0xff, 0xff, 0x02], CUT_BODY),
+    (&[0x01, 0xe5, 0x01, 0x65], Ok(2)),
+    (
+        &[0xff, 0x00, 0x00, 0x00, 0x02, 0x65, 0x00, 0x01, 0x65],
+        Ok(2),
+    ),
+];
+
+#[test]
+fn areas_are_lists_or_have_a_first_fault(rt: HostRuntime) {
+    for (octets, expected) in &AREAS {
+        assert!(rt; count_in(octets) == *expected);
+    }
+}
+
+/// Each spelled length with the number of octets that it leaves for the body, all of which are read.
+static LENGTHS: [(&[u8], usize); 3] = [
+    (&[0xc0, 0x00], 191),
+    (&[0xdf, 0xff], 8382),
+    (&[0xff, 0x00, 0x00, 0xff, 0x00], 65279),
+];
+
+/// Whether a subpacket of this spelled length is read with all its octets, and the one behind it.
+fn is_read(alloc: Global, spelled: &[u8], size: usize) -> Option<bool> {
+    let body = vec![in alloc; 0x61u8; size].ok()?;
+    let mut octets = spelled.to_vec(alloc).ok()?;
+    octets.push(0x86).ok()?;
+    octets.extend_from_slice(&body).ok()?;
+    octets.extend_from_slice(&[0x01, 0x02]).ok()?;
+    let mut subs = Area::new(&octets).ok()?.iter();
+    let first = Sub {
+        critical: true,
+        kind: 6,
+        body: &body,
+    };
+    let second = Sub {
+        critical: false,
+        kind: 2,
+        body: &[],
+    };
+    Some(subs.next() == Some(first) && subs.next() == Some(second) && subs.next().is_none())
+}
+
+#[test]
+fn every_length_is_read(rt: HostRuntime) {
+    for (spelled, size) in &LENGTHS {
+        assert!(rt; is_read(rt.alloc(), spelled, *size) == Some(true));
+    }
+}
+
+#[test]
+fn the_longest_area_is_read(rt: HostRuntime) {
+    let mut octets = Vec::new(rt.alloc());
+    for _ in 0..32767 {
+        assert!(rt; octets.extend_from_slice(&[0x01, 0x65]).is_ok());
+    }
+    assert!(rt; count_in(&octets) == Ok(32767));
+    assert!(rt; octets.push(0x01).is_ok() && count_in(&octets) == CUT_BODY);
+}

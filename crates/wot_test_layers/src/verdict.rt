@@ -1,0 +1,71 @@
+use wot_types::{Fpr, SigNumber};
+use wot_verdict::{Verdict, Verdicts, number_of};
+
+/// A key, and a direct key signature and a certification in their short forms.
+const KEY: &[u8] = b"\x04\x00\x00\x03\xe8\x1b\x01";
+
+const DIRECT: &[u8] = b"\x04\x1f\x1b\x08\x00\x06\x05\x02\x00\x00\x03\xe8\x00\x00\x00\x00";
+
+const CERTIFICATION: &[u8] = b"\x04\x10\x1b\x08\x00\x06\x05\x02\x00\x00\x07\xd0\x00\x00\x00\x00";
+
+/// A place and a signature body there, and its number as Python's hashlib gives it.
+static NUMBERED: [(u8, &[u8], &[u8], &str); 3] = [
+    (
+        0,
+        b"",
+        DIRECT,
+        "68d0eb5f8ca13914fcddf1b23e5f608bf9847603834da284f01a707208051209",
+    ),
+    (
+        1,
+        b"t",
+        CERTIFICATION,
+        "d9dd447fe8c293fc41431da4440b0a20fa46eb9de02df8050b8d7483bdc48992",
+    ),
+    (
+        3,
+        b"t",
+        CERTIFICATION,
+        "e916cc1d11aeb9fd07f6af6834b41d818b2d535102f4e07375394bf2842da78d",
+    ),
+];
+
+#[test]
+fn numbers_as_another_program_gives_them(rt: HostRuntime) {
+    for (kind, component, signature, digits) in &NUMBERED {
+        let number = number_of(KEY, *kind, component, signature);
+        assert!(rt; SigNumber::read(digits.as_bytes()) == Some(number));
+    }
+}
+
+const FIRST: SigNumber = SigNumber([1; 32]);
+
+const SECOND: SigNumber = SigNumber([2; 32]);
+
+const GOOD: Verdict = Verdict::Good(Fpr::V4([7; 20]));
+
+fn are_these(verdicts: &Verdicts, first: Option<Verdict>, count: usize) -> bool {
+    let mut entries = verdicts.iter();
+    let begin = match first {
+        Some(verdict) => entries.next() == Some((FIRST, verdict)),
+        None => true,
+    };
+    begin
+        && entries.next() == Some((SECOND, GOOD))
+        && entries.next().is_none()
+        && verdicts.get(&FIRST) == first
+        && verdicts.len() == count
+}
+
+#[test]
+fn verdicts_are_a_map_in_order(rt: HostRuntime) {
+    let mut verdicts = Verdicts::new(rt.alloc());
+    assert!(rt;
+        verdicts.set(SECOND, GOOD) == Ok(true) && verdicts.set(FIRST, Verdict::Bad) == Ok(true)
+    );
+    assert!(rt; verdicts.set(FIRST, Verdict::Bad) == Ok(false));
+    assert!(rt; are_these(&verdicts, Some(Verdict::Bad), 2));
+    assert!(rt; verdicts.set(FIRST, GOOD) == Ok(true) && are_these(&verdicts, Some(GOOD), 2));
+    assert!(rt; verdicts.clear(&FIRST) && !verdicts.clear(&FIRST));
+    assert!(rt; are_these(&verdicts, None, 1));
+}
