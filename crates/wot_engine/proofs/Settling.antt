@@ -273,12 +273,6 @@ sum_has s None target wanted uid sum some seen is = absurd (cc seen)
 sum_has s (Some view) target wanted uid sum some seen is =
     amount_has s (Some view) target wanted uid is.0 sum some refl is.1 is.2
 
--- ---- a machine
-
--- At the counts of now a basis of no answers is present.
-pub present_empty : (engine : Engine) (basis : Basis) → basis ≡ bases.empty_at engine → bases.IsPresent engine basis
-present_empty engine basis e = subst (bases.IsPresent engine) (sym e) (record { changes = refl; turns = refl })
-
 -- ---- the loop that gathers watch lines
 
 -- seen from the engine as it was before marks were made
@@ -311,9 +305,6 @@ grown_not basis = record { changes = refl; turns = refl; fprs = λ fpr e. e; who
 abbrev pub SettlesSoFar : Engine → Basis → Watches → Watches → List Reply → Type 0
 SettlesSoFar engine basis all rest lines =
     lines ≡ [] → (more : Basis) → HasGrown basis more → AllSettled engine more rest → AllSettled engine more all
-
-pub settles_none : (engine : Engine) (basis : Basis) (watches : Watches) (lines : List Reply) → SettlesSoFar engine basis watches watches lines
-settles_none engine basis watches lines none more grown all = all
 
 -- a watch without a line
 pub settles_still : RestsOnMore → (engine : Engine) (old new : Basis) (all rest : Watches) (name : List ℕ) (watch : Watch) (lines : List Reply)
