@@ -15,7 +15,7 @@ use wot_types::{Memory, Place, ViewName};
 const MOST: usize = 16;
 
 /// Why a cursor doesn't begin.
-#[derive(Clone, Copy, PartialEq, Eq)]
+#[derive(Clone, Copy)]
 pub enum BeginFault {
     /// As many cursors as may be are there, and none has this name.
     Full,

@@ -1,5 +1,5 @@
 /// What a listing rests on: the keyring's count of changes, and the turn of its view.
-#[derive(Clone, Copy, PartialEq, Eq)]
+#[derive(Clone, Copy)]
 pub struct Stamps {
     pub keyring: u64,
     pub view: u64,

@@ -23,10 +23,6 @@ use Rattle.wot_engine.proofs.Turns.{First-here, Stood, Turned, cut_most, turned,
 
 -- ---- what is held
 
-pub moves_nothing : (written : Option (List ℕ)) (held : List ℕ) → Moves written held written held
-moves_nothing None held = tt
-moves_nothing (Some before) held = record { more = []; written_is = ap (λ (x : List ℕ). Some x) (sym (append-nil before)); parts = refl }
-
 pub moves_all : (written after : Option (List ℕ)) (held left : List ℕ) → Becomes written (λ before. before ++ held) after → left ≡ [] → Moves written held after left
 moves_all None after held left b none = tt
 moves_all (Some before) after held left b none = record { more = held; written_is = b; parts = sym (ap (λ (x : List ℕ). held ++ x) none ∙ append-nil held) }

@@ -45,21 +45,9 @@ stamps_now s view now k t =
 -- ---- of a cursor that is there, over a view that is open
 
 module _ (found : Option Cursor) (cursor : Cursor) (s : Whole) (name : List ℕ) (count : ℕ) (is : Some cursor ≡ found) (shown : is_some (view_at s.state.views cursor.view) ≡ true) where
-  from_view : (told : Told) (o : Option View) → is_some o ≡ true → ((view : View) → GoesBy (age_of cursor.stamps (stamps_in s cursor.view)) s name count cursor view told.reply (settled told.moved s.cursors))
-      → GoesFrom o s name count cursor told.reply (settled told.moved s.cursors)
-  from_view told None there goes = absurd cc
-  from_view told (Some view) there goes = goes view
-
   from_cursor : (told : Told) → GoesFrom (view_at s.state.views cursor.view) s name count cursor told.reply (settled told.moved s.cursors)
       → Goes found s name count told.reply (settled told.moved s.cursors)
   from_cursor told goes = subst (λ (o : Option Cursor). Goes o s name count told.reply (settled told.moved s.cursors)) is goes
-
-  -- the first number that differs is told
-  pub stale_by : (age : Age) (told : Told) → age_of cursor.stamps (stamps_in s cursor.view) ≡ age
-      → ((view : View) → GoesBy age s name count cursor view told.reply (settled told.moved s.cursors)) → Goes found s name count told.reply (settled told.moved s.cursors)
-  stale_by age told e goes =
-      from_cursor told (from_view told (view_at s.state.views cursor.view) shown (λ view.
-      subst (λ (a : Age). GoesBy a s name count cursor view told.reply (settled told.moved s.cursors)) (sym e) (goes view)))
 
   -- where both are the same the piece is given
   pub given_by : {E : Type 0} (r : Result Told E) → age_of cursor.stamps (stamps_in s cursor.view) ≡ ages.Same
@@ -73,15 +61,6 @@ module _ (found : Option Cursor) (cursor : Cursor) (s : Whole) (name : List ℕ)
       by told (Some view) there g = subst (λ (a : Age). GoesBy a s name count cursor view told.reply (settled told.moved s.cursors)) (sym e) g
 
 -- ---- pieces
-
--- where nothing is wanted nothing is given
-pub gives_nothing : (s : Whole) (name : List ℕ) (count : ℕ) (cursor : Cursor) (told : Told) → (cursor.wanted == 0) ≡ true → told.reply ≡ piece [] → told.moved ≡ None
-    → IfSome (view_at s.state.views cursor.view) (λ view. GivesPiece s name count cursor view told.reply (settled told.moved s.cursors))
-gives_nothing s name count cursor told none r m = by (view_at s.state.views cursor.view)
-  where
-    by : (o : Option View) → IfSome o (λ view. GivesPiece s name count cursor view told.reply (settled told.moved s.cursors))
-    by None = tt
-    by (Some view) = rw none (left s told (piece []) r m)
 
 positive : (n : ℕ) → 1 ≤ n → (n == 0) ≡ false
 positive n some = by (n == 0) refl

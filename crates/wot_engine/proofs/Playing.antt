@@ -70,13 +70,6 @@ module _ (rows : PolicyRows) where
       some_is : (x y : World) → Some x ≡ Some y → x ≡ y
       some_is x y e = cc
 
-  -- the reply to a line was added
-  pub adds_some : {T E : Type 0} (r : Result T E) (line : List ℕ) (old new : Whole) (before after : Seen) (had has : Tally) (reply : Reply)
-      → Replied rows line old before (Some reply) new after → ((replies : List Reply) → Tells had replies → OnOk r (Tells has (replies ++ reply ∷ [])))
-      → OnOk r (AddsReply rows line old before had new after has)
-  adds_some (Ok value) line old new before after had has reply replied tells = record { reply = Some reply; replied = replied; tells = tells }
-  adds_some (Err fault) line old new before after had has reply replied tells = tt
-
   pub adds_none : (line : List ℕ) (old new : Whole) (before after : Seen) (tally : Tally) → Replied rows line old before None new after
       → AddsReply rows line old before tally new after tally
   adds_none line old new before after tally replied = record {

@@ -44,6 +44,13 @@ all_later later old new basis watches on =
       rests = λ some. later old new basis watch.view watch.target watch.wanted watch.uid watch.told on (s.rests some);
     }) watches
 
+-- the same of a basis that is known or not, and of watches that are as they were
+pub settled_still : RestsOnLater → (old new : Engine) (watches left : Watches) (basis : Option Basis) → IsKeptOn old new
+    → left ≡ watches → AreSettled old watches basis → AreSettled new left basis
+settled_still later old new watches left None on same s = tt
+settled_still later old new watches left (Some basis) on same s =
+    subst (AllSettled new basis) (sym same) (all_later later old new basis watches on s)
+
 -- on a basis that was moved on
 pub all_carried : (engine : Engine) (old new : Basis) (watches : Watches) → bases.CarriesOn engine old new
     → AllSettled engine old watches → AllSettled engine new watches
@@ -266,12 +273,6 @@ sum_has s None target wanted uid sum some seen is = absurd (cc seen)
 sum_has s (Some view) target wanted uid sum some seen is =
     amount_has s (Some view) target wanted uid is.0 sum some refl is.1 is.2
 
--- ---- a machine
-
--- At the counts of now a basis of no answers is present.
-pub present_empty : (engine : Engine) (basis : Basis) → basis ≡ bases.empty_at engine → bases.IsPresent engine basis
-present_empty engine basis e = subst (bases.IsPresent engine) (sym e) (record { changes = refl; turns = refl })
-
 -- ---- the loop that gathers watch lines
 
 -- seen from the engine as it was before marks were made
@@ -304,9 +305,6 @@ grown_not basis = record { changes = refl; turns = refl; fprs = λ fpr e. e; who
 abbrev pub SettlesSoFar : Engine → Basis → Watches → Watches → List Reply → Type 0
 SettlesSoFar engine basis all rest lines =
     lines ≡ [] → (more : Basis) → HasGrown basis more → AllSettled engine more rest → AllSettled engine more all
-
-pub settles_none : (engine : Engine) (basis : Basis) (watches : Watches) (lines : List Reply) → SettlesSoFar engine basis watches watches lines
-settles_none engine basis watches lines none more grown all = all
 
 -- a watch without a line
 pub settles_still : RestsOnMore → (engine : Engine) (old new : Basis) (all rest : Watches) (name : List ℕ) (watch : Watch) (lines : List Reply)

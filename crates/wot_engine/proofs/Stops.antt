@@ -44,10 +44,6 @@ pub unless_ok : {T E : Type 0} (r : Result T E) (Q : E → Type 0) (P : Type 0) 
 unless_ok (Ok value) Q P h = absurd h
 unless_ok (Err e) Q P h = tt
 
-pub unless_some : {T E : Type 0} (r : Result T E) (Q : E → Type 0) (P : T → Type 0) → IsErrAnd r Q → IfOk r P
-unless_some (Ok value) Q P h = absurd h
-unless_some (Err e) Q P h = tt
-
 -- a count rose that had not sunk before
 pub rose_on : (first mid last : ℕ) → first ≤ mid → mid ≤ last → Rose mid last → Rose first last
 rose_on first mid last a b rose = λ lt. grind (arith, a, b, rose, lt)

@@ -62,11 +62,6 @@ module _ (rows : PolicyRows) (start count : ℕ) where
       let some = some_summary law in
       record { text = some.0; is_summary = some.1; size = 0; written = ap (λ (x : List ℕ). Some x) (sym (append-nil before)) }
 
-  pub cut_short : (written after : Option (List ℕ)) (text : List ℕ) → IsSummary rows start count text → IfSome written (λ before. GainsPrefix before after text)
-      → IfSome written (λ before. SummaryBegun rows start count before after)
-  cut_short None after text s g = tt
-  cut_short (Some before) after text s g = record { text = text; is_summary = s; size = g.0; written = g.2 }
-
   pub all_written : (written after : Option (List ℕ)) (text : List ℕ) → IsSummary rows start count text → Becomes written (λ before. before ++ text) after
       → IfSome written (λ before. Summarized rows start count before after)
   all_written None after text s b = tt

@@ -375,9 +375,6 @@ watching_some some s command e =
 abbrev pub AreSoFar : State → Watches → Watches → List Reply → Type 0
 AreSoFar s all rest lines = (others : List Reply) → AreLines s rest others → AreLines s all (lines ++ others)
 
-pub so_far_none : (s : State) (watches : Watches) → AreSoFar s watches watches []
-so_far_none s watches others p = p
-
 -- a watch without a line
 pub so_far_still : (s : State) (all rest : Watches) (name : List ℕ) (watch : Watch) (lines : List Reply) → AreSoFar s all ((name, watch) ∷ rest) lines
     → IsLine s name watch None → AreSoFar s all rest lines
@@ -419,11 +416,6 @@ amount_has s (Some view) target wanted uid paths sum some seen answer is = (sum,
         → MatchBool z (sum ≡ 0) ((paths : List Path) × IsAnswer (question_in s view target uid) wanted paths × (sum ≡ amount_of paths))
     by true e = let none : wanted ≡ 0 = eqb-true wanted 0 e in absurd (omega (arith, none, some))
     by false e = (paths, answer, is)
-
--- where nothing is wanted
-pub nothing_has : (s : State) (o : Option View) (target : Fpr) (wanted : ℕ) (uid : List ℕ) → (wanted == 0) ≡ true → is_some o ≡ true → HasAmount s o target wanted uid (Some 0)
-nothing_has s None target wanted uid none seen = absurd (cc seen)
-nothing_has s (Some view) target wanted uid none seen = (0, rw none refl, refl)
 
 -- ---- loops over watch lines
 
@@ -481,24 +473,3 @@ pub opens_unopened : (s : Whole) (name view : List ℕ) (target : Fpr) (wanted :
     → Opens s name view target wanted uid o replies.View s.watches
 opens_unopened s name view target wanted uid o none =
     subst (λ (o : Option View). Opens s name view target wanted uid o replies.View s.watches) (sym none) (refl, refl)
-
--- ---- the line of one watch
-
-pub line_gone : (s : State) (name : List ℕ) (watch : Watch) (told : List ℕ) → HasAmount s (view_at s.views watch.view) watch.target watch.wanted watch.uid None → told ≡ name
-    → IsLine s name watch (Some (replies.WatchGone told))
-line_gone s name watch told has same = (None, has, ap (λ (n : List ℕ). Some (replies.WatchGone n)) same)
-
-by_same : (name : List ℕ) (amount told : ℕ) → (amount == told) ≡ true → None ≡ line_by name told (Some amount)
-by_same name amount told e = ap (λ (b : Bool). if b then None else Some (replies.WatchAmount name amount)) (sym e)
-
-by_other : (name : List ℕ) (amount told : ℕ) → (amount == told) ≡ false → Some (replies.WatchAmount name amount) ≡ line_by name told (Some amount)
-by_other name amount told e = ap (λ (b : Bool). if b then None else Some (replies.WatchAmount name amount)) (sym e)
-
-pub line_same : (s : State) (name : List ℕ) (watch : Watch) (amount : ℕ) → HasAmount s (view_at s.views watch.view) watch.target watch.wanted watch.uid (Some amount)
-    → (amount == watch.told) ≡ true → IsLine s name watch None
-line_same s name watch amount has e = (Some amount, has, by_same name amount watch.told e)
-
-pub line_other : (s : State) (name : List ℕ) (watch : Watch) (amount : ℕ) (told : List ℕ) → HasAmount s (view_at s.views watch.view) watch.target watch.wanted watch.uid (Some amount)
-    → (amount == watch.told) ≡ false → told ≡ name → IsLine s name watch (Some (replies.WatchAmount told amount))
-line_other s name watch amount told has e same =
-    (Some amount, has, ap (λ (n : List ℕ). Some (replies.WatchAmount n amount)) same ∙ by_other name amount watch.told e)

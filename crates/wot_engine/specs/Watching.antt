@@ -10,10 +10,11 @@ use Rattle.wot_script.specs.declared.reply.Reply.{Reply}
 use Rattle.wot_script.specs.declared.reply.Reply.TheVariants as replies
 use Rattle.wot_cache.specs.declared.view.View.{View}
 use Rattle.wot_cache.specs.Question.{question_in}
-use Rattle.wot_cache.specs.State.{State}
+use Rattle.wot_cache.specs.State.{Engine, State}
 use Rattle.wot_cache.specs.Views.{view_at}
+use Rattle.wot_cursor.specs.Cursors.{Cursors}
 use Rattle.wot_watch.specs.Watches.{Watch, Watches, is_full, watch_at, with_told, with_watch, without_watch}
-use Rattle.wot_engine.specs.Whole.{Whole}
+use Rattle.wot_engine.specs.Whole.{Whole, watched, whole_of}
 
 -- ---- amounts
 
@@ -121,3 +122,9 @@ Watching s (WatchOn name view target wanted uid) reply watches =
     Opens s name view target wanted uid (view_at s.state.views view) reply watches
 Watching s (WatchOff name) reply watches = TakesOff s name reply watches
 Watching s _ reply watches = watches ≡ s.watches
+
+-- What is told of a watch that is to begin over an engine, and the watches that it leaves, whatever the cursors are.
+abbrev pub OpensOver : Engine → Watches → List ℕ → List ℕ → Fpr → ℕ → List ℕ → Reply → Watches → Type 0
+OpensOver engine old name view target wanted uid reply watches =
+    (cursors : Cursors)
+    → Watching (watched (whole_of engine cursors) old) (WatchOn name view target wanted uid) reply watches

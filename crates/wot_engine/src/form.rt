@@ -8,7 +8,7 @@ ghost use Rattle.wot_engine.specs.Forms.{IsFormOf};
 const MOST_KEYS: u64 = 2000;
 
 /// What the words ask for.
-#[derive(Clone, Copy, PartialEq, Eq)]
+#[derive(Clone, Copy)]
 pub enum Form {
     /// To answer the lines of the input.
     Run,

@@ -69,7 +69,8 @@ fn summary_of<F: Fn(Ask) -> bool>(
 {
     let mut text = Vec::new(alloc);
     let lines = script(alloc, start, count, &mut text)?;
-    let tally = play(alloc, &text, policy)?;
+    let mut tally = Tally::new(alloc);
+    play(alloc, &text, policy, &mut tally)?;
     let amounts = tally.amounts;
     let digest = tally.digest();
     let mut out = Vec::new(alloc);
@@ -77,26 +78,27 @@ fn summary_of<F: Fn(Ask) -> bool>(
     Ok(out)
 }
 
-/// Answers the lines of a text by a machine of its own, over an empty shelf.
+/// Answers the lines of a text by a machine of its own, over an empty shelf, by a tally of nothing.
 fn play<F: Fn(Ask) -> bool>(
     alloc: Global,
     text: &[u8],
     policy: &mut Policy<F>,
-) -> Result<Tally, Memory>
+    tally: &mut Tally,
+) -> Result<(), Memory>
     requires small { length text.now < 2 ^ 30 }
+    requires none { Tells tally.old [] }
+    requires amounts { tally.old.amounts ≡ 0 }
     requires faithful { IsFaithful F.Fn policy.old }
-    ensures played { IfOk result (λ tally. IsPlayed (rows_of policy.old) (lines_of text.now) tally) }
+    ensures played { OnOk result (IsPlayed (rows_of policy.old) (lines_of text.now) tally.new) }
     ensures faithful { IsFaithful F.Fn policy.new }
     ensures rows { rows_of policy.new ≡ rows_of policy.old }
 {
     let mut machine = Machine::new(alloc);
     let mut shelf = MemoryShelf::new(alloc, Vec::new(alloc), Vec::new(alloc));
-    let mut tally = Tally::new(alloc);
-    add_lines(&mut machine, text, &mut shelf, policy, &mut tally)?;
-    Ok(tally)
+    add_lines(&mut machine, text, &mut shelf, policy, tally)
 }
 
-/// The same by a machine that was told no line, over a shelf without entries, and by a tally of nothing.
+/// The same by a machine that was told no line, over a shelf without entries.
 fn add_lines<F: Fn(Ask) -> bool>(
     machine: &mut Machine,
     text: &[u8],

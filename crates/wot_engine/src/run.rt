@@ -28,7 +28,7 @@ use wot_script::{Reply, print_reply};
 use wot_types::Memory;
 
 /// Why a run ended before its input did.
-#[derive(Clone, Copy, PartialEq, Eq)]
+#[derive(Clone, Copy)]
 pub enum Stop {
     /// The source failed.
     Read,

@@ -1,17 +1,16 @@
 //! `watch W on V FPR N UID`, `watch W off`, and the watch lines behind each line.
 ghost use Rattle.std.specs.Prelude.{◌≡◌, ◌≤◌, [], None, true, IfOk, IfSome, OnErr};
 ghost use Rattle.std.specs.List.{AllByRecursion};
-ghost use Rattle.wot_script.specs.declared.command.Command.TheVariants.{WatchOff, WatchOn};
+ghost use Rattle.wot_script.specs.declared.command.Command.TheVariants.{WatchOff};
 ghost use Rattle.wot_script.specs.Replies.{is_short};
 ghost use Rattle.wot_cache.specs.Basis.{HasGrown, IsPresent, RestsOn};
 ghost use Rattle.wot_cache.specs.Marks.{IsRefreshed};
 ghost use Rattle.wot_cache.specs.State.{StaysButMarks, state_of};
 ghost use Rattle.wot_cache.specs.Views.{view_at};
-ghost use Rattle.wot_cursor.specs.Cursors.{Cursors as TheCursors};
 ghost use Rattle.wot_engine.specs.Settled.{AllSettled, AreOpen, AreSettled, IsSettled};
 ghost use Rattle.wot_engine.specs.Watching.{AreLines, BeginsWatch, HasAmount, IsLine, IsWatchLine};
-ghost use Rattle.wot_engine.specs.Watching.{Watching, told_all, told_by};
-ghost use Rattle.wot_engine.specs.Whole.{Whole, watched, whole_of};
+ghost use Rattle.wot_engine.specs.Watching.{OpensOver, Watching, told_all, told_by};
+ghost use Rattle.wot_engine.specs.Whole.{Whole, watched};
 
 use std::alloc::Global;
 use wot_cache::laws::{kept_on_is_order, rests_on};
@@ -33,9 +32,8 @@ pub fn on(
     uid: &UserId,
 ) -> Result<Reply, Memory>
     requires wanted { 1 ≤ wanted }
-    ensures watching { (cursors : TheCursors) → IfOk result (λ reply.
-        Watching (watched (whole_of engine.old cursors) watches.old)
-        (WatchOn name.now view.now target.now wanted uid.now) reply watches.new) }
+    ensures watching { IfOk result (λ reply.
+        OpensOver engine.old watches.old name.now view.now target.now wanted uid.now reply watches.new) }
     ensures stays { StaysButMarks engine.old engine.new }
     ensures refreshed { IsRefreshed result view.now engine.old engine.new steps.old.made steps.new.made }
     ensures short { IfOk result (λ reply. is_short reply ≡ true) }

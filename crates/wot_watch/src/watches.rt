@@ -16,7 +16,7 @@ use wot_types::{Memory, ViewName};
 const MOST: usize = 64;
 
 /// Why a watch doesn't begin.
-#[derive(Clone, Copy, PartialEq, Eq)]
+#[derive(Clone, Copy)]
 pub enum PutFault {
     /// As many watches as may be are there, and none has this name.
     Full,

@@ -1,4 +1,3 @@
-use Rattle.wot_engine.proofs.Stops.{unless_some}
 use Rattle.wot_engine.proofs.generated.play.Goals as goal
 
 pub add_lines-requires-clause-small : goal.add_lines-requires-clause-small
@@ -14,25 +13,16 @@ pub add_lines-requires-clause-watches : goal.add_lines-requires-clause-watches
 add_lines-requires-clause-watches g c = c.new-machine.ensures.watches
 
 pub add_lines-requires-clause-none : goal.add_lines-requires-clause-none
-add_lines-requires-clause-none g c = c.new-tally.ensures.none
+add_lines-requires-clause-none g c = c.requires.none
 
 pub add_lines-requires-clause-amounts : goal.add_lines-requires-clause-amounts
-add_lines-requires-clause-amounts g c = c.new-tally.ensures.amounts
+add_lines-requires-clause-amounts g c = c.requires.amounts
 
 pub add_lines-requires-clause-faithful : goal.add_lines-requires-clause-faithful
 add_lines-requires-clause-faithful g c = c.requires.faithful
 
-pub returns-in_err-add_lines-clause-played : goal.returns-in_err-add_lines-clause-played
-returns-in_err-add_lines-clause-played g c = unless_some c.from_residual.result _ _ c.from_residual.ensures.1
-
-pub returns-in_err-add_lines-clause-faithful : goal.returns-in_err-add_lines-clause-faithful
-returns-in_err-add_lines-clause-faithful g c = c.add_lines.ensures.faithful
-
-pub returns-in_err-add_lines-clause-rows : goal.returns-in_err-add_lines-clause-rows
-returns-in_err-add_lines-clause-rows g c = c.add_lines.ensures.rows
-
 pub returns-clause-played : goal.returns-clause-played
-returns-clause-played g c = c.in_ok-add_lines.ensures.played
+returns-clause-played g c = c.add_lines.ensures.played
 
 pub returns-clause-faithful : goal.returns-clause-faithful
 returns-clause-faithful g c = c.add_lines.ensures.faithful

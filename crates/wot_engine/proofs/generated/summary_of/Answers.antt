@@ -8,9 +8,15 @@ use Rattle.wot_engine.proofs.generated.summary_of.Goals as goal
 pub returns-clause-summary : goal.returns-clause-summary
 returns-clause-summary g c =
     let text = text_of (commands_of c.args.start c.args.count) in
-    let told = summary c.args.start c.args.count c.in_ok-lines.lines c.in_ok-tally.tally.amounts c.digest-digest.result in
-    summed (rows_of c.args.policy.now) c.args.start c.args.count c.in_ok-lines.lines c.in_ok-tally.tally.amounts c.digest-digest.result c.put_summary.new.out.items c.deref.result.now
-    c.in_ok-tally.tally c.in_ok-lines.ensures.read_back
+    let told = summary c.args.start c.args.count c.in_ok-lines.lines c.play.new.tally.amounts c.digest-digest.result in
+    summed (rows_of c.args.policy.now) c.args.start c.args.count c.in_ok-lines.lines c.play.new.tally.amounts c.digest-digest.result c.put_summary.new.out.items c.deref.result.now
+    c.play.new.tally c.in_ok-lines.ensures.read_back
     (c.deref.ensures.value ∙ c.in_ok-lines.ensures.appended ∙ ap (λ (x : List ℕ). x ++ text) c.new-text.ensures.items)
-    c.in_ok-lines.ensures.lines c.in_ok-tally.ensures.played refl c.digest-digest.ensures
+    c.in_ok-lines.ensures.lines c.in_ok-play.ensures.played refl c.digest-digest.ensures
     (c.in_ok-put_summary.ensures.put ∙ ap (λ (x : List ℕ). x ++ told) c.new-out.ensures.items)
+
+pub play-requires-clause-none : goal.play-requires-clause-none
+play-requires-clause-none g c = c.new-tally.ensures.none
+
+pub play-requires-clause-amounts : goal.play-requires-clause-amounts
+play-requires-clause-amounts g c = c.new-tally.ensures.amounts

@@ -44,7 +44,7 @@ pub returns-in-WatchOn-clause-ran : goal.returns-in-WatchOn-clause-ran
 returns-in-WatchOn-clause-ran g c =
     watched_told c.on.result c.plain.result (rows_of c.args.policy.now) c.args.command.now c.args.engine.now c.on.new.engine c.args.cursors.now c.args.watches.now c.on.new.watches
     (record { world = g.D.Shelf.world c.args.shelf.now; faults = g.D.Shelf.faults c.args.shelf.now }) c.plain.ensures.told c.plain.ensures.same (rw c.in-WatchOn.is refl)
-    c.on.ensures.stays (rw c.in-WatchOn.is (c.on.ensures.watching c.args.cursors.now))
+    c.on.ensures.stays (rw c.in-WatchOn.is (if_ok c.on.result _ _ (λ reply opens. opens c.args.cursors.now) c.on.ensures.watching))
 
 pub returns-in-WatchOff-clause-ran : goal.returns-in-WatchOff-clause-ran
 returns-in-WatchOff-clause-ran g c =

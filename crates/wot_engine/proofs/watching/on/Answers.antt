@@ -8,9 +8,9 @@ use Rattle.wot_engine.proofs.Watched.{opens_answered, opens_unopened}
 use Rattle.wot_engine.proofs.watching.on.Goals as goal
 
 pub returns-in-Ok-clause-watching : goal.returns-in-Ok-clause-watching
-returns-in-Ok-clause-watching c cursors =
+returns-in-Ok-clause-watching c =
     let a = c.args in
-    if_ok c.begin.result _ _ (λ reply begins.
+    if_ok c.begin.result _ _ (λ reply begins cursors.
     opens_answered
     (watched (whole_of a.engine.now cursors) a.watches.now) a.name.now a.view.now a.target.now a.wanted a.uid.now
     (view_at a.engine.now.views a.view.now)
