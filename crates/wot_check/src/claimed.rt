@@ -9,7 +9,7 @@ use wot_types::{Fpr, Memory};
 /// What is claimed of a step: who certifies, and the place of the user ID among the target's, in the
 /// order of their octets. The target is the issuer of the next step, and of the last one the target
 /// of the path.
-#[derive(Clone, Copy)]
+#[derive(Clone, Copy, PartialEq, Eq)]
 pub struct ClaimedStep {
     pub issuer: Fpr,
     pub place: u32,

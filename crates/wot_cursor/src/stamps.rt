@@ -1,5 +1,5 @@
 /// What a listing rests on: the keyring's count of changes, and the turn of its view.
-#[derive(Clone, Copy)]
+#[derive(Clone, Copy, PartialEq, Eq)]
 pub struct Stamps {
     pub keyring: u64,
     pub view: u64,

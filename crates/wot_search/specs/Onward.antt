@@ -6,8 +6,8 @@ use Rattle.wot_edge.specs.declared.edge.EdgeFacts.{EdgeFacts}
 use Rattle.wot_edge.specs.Record.{Record, EachRow, Has, edges_into}
 use Rattle.wot_search.specs.declared.onward.Onward.{Onward}
 
--- An edge with n edges after it has a depth of at least n, and an issuer whose number is above n: so with one or more it
--- has a depth of at least 1, and an issuer whose number is at least 2.
+-- An edge with n edges after it has a depth of at least n, and an issuer whose number is above n: so with one or more
+-- it has a depth of at least 1, and an issuer whose number is at least 2.
 abbrev pub leads_on : (Fpr → ℕ) → EdgeFacts → Bool
 leads_on number edge = nat_le 1 edge.depth && nat_le 2 (number edge.issuer)
 
@@ -22,7 +22,8 @@ AreInto told fpr edges = (uid : List ℕ) (edge : EdgeFacts) → Has edges edge 
 -- each edge into a fingerprint that leads on is one of these
 abbrev pub Covers : (List ℕ → Record) → (Fpr → ℕ) → Fpr → List EdgeFacts → Type 0
 Covers told number fpr edges =
-    (uid : List ℕ) (edge : EdgeFacts) → Has (edges_into (told uid) fpr) edge → leads_on number edge ≡ true → Has edges edge
+    (uid : List ℕ) (edge : EdgeFacts) → Has (edges_into (told uid) fpr) edge
+    → leads_on number edge ≡ true → Has edges edge
 
 -- what is known where these are known to be usable
 abbrev pub AreUsableIf : (List ℕ → Record) → Bool → List EdgeFacts → Type 0
@@ -50,8 +51,10 @@ pub record AddsLead (told : List ℕ → Record) (number : Fpr → ℕ) (edge : 
   pub only : (other : EdgeFacts) → Has new.edges.items other → Has old.edges.items other ⊎ (other ≡ edge)
   pub usable : AreUsableIf told old.usable old.edges.items → AreUsableIf told new.usable new.edges.items
 
--- of the edges into a fingerprint these are all that matter before so many others: before one or more those that lead on
-pub record MatterBefore (told : List ℕ → Record) (number : Fpr → ℕ) (size : ℕ) (fpr : Fpr) (edges : List EdgeFacts) : Type 0 where
+-- of the edges into a fingerprint these are all that matter before so many others: before one or more those that lead
+-- on
+pub record MatterBefore (told : List ℕ → Record) (number : Fpr → ℕ) (size : ℕ) (fpr : Fpr) (edges : List EdgeFacts)
+    : Type 0 where
   pub into : AreInto told fpr edges
   pub all : (uid : List ℕ) (edge : EdgeFacts) → Has (edges_into (told uid) fpr) edge
       → (0 < size → leads_on number edge ≡ true) → Has edges edge

@@ -30,8 +30,8 @@ pub record HasEnough (told : List ℕ → Record) (roots : List (Fpr × ℕ)) (n
   pub edges : (uid : List ℕ) (row : Row) → Has (rows_into (told uid) fpr) row → row.usable ≡ true → 0 < row.edge.amount
       → min row.edge.depth (number row.edge.issuer - 1) ≤ number fpr
 
--- These numbers are the reach of all records, scopes left aside, and of the roots: on a path from a root no issuer stands
--- further before the target than its number.
+-- These numbers are the reach of all records, scopes left aside, and of the roots: on a path from a root no issuer
+-- stands further before the target than its number.
 abbrev pub HaveEnough : (List ℕ → Record) → List (Fpr × ℕ) → (Fpr → ℕ) → Type 0
 HaveEnough told roots number = (fpr : Fpr) → HasEnough told roots number fpr
 

@@ -26,8 +26,8 @@ pub struct Choice {
     pub width: u8,
 }
 
-/// What a table of reach tells of an edge: the place where its issuer's number is found at once, and whether the edge is
-/// known to be usable.
+/// What a table of reach tells of an edge: the place where its issuer's number is found at once, and whether the edge
+/// is known to be usable.
 #[derive(Clone, Copy)]
 pub struct Hint {
     pub place: usize,

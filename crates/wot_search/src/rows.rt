@@ -1,5 +1,5 @@
-// The numbers of a table a third time, in the order of edges: a search that goes over the edges into a fingerprint finds
-// those of their issuers side by side.
+// The numbers of a table a third time, in the order of edges: a search that goes over the edges into a fingerprint
+// finds those of their issuers side by side.
 ghost use Rattle.std.specs.Prelude.{ℕ, List};
 ghost use Rattle.wot_types.specs.declared.fpr.Fpr.{Fpr as Print};
 ghost use Rattle.wot_search.specs.Slots.{AreSlots, TellsIfSome};
@@ -37,7 +37,8 @@ impl Rows {
 
     /// The number in the slot at a place, if it is this fingerprint's.
     pub(crate) fn number(&self, place: usize, fpr: &Fpr) -> Option<u8>
-        ensures tells { (numbers : List (Print × ℕ)) → AreSlots numbers self.now.slots.items → TellsIfSome numbers fpr.now result }
+        ensures tells { (numbers : List (Print × ℕ)) → AreSlots numbers self.now.slots.items
+            → TellsIfSome numbers fpr.now result }
     {
         number_from(&self.slots, place, fpr)
     }

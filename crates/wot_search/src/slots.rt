@@ -52,7 +52,8 @@ impl Slots {
 
     /// The number of a fingerprint; `None` also where it isn't found.
     pub(crate) fn find(&self, fpr: &Fpr) -> Option<u8>
-        ensures tells { (numbers : List (Print × ℕ)) → AreSlots numbers self.now.slots.items → TellsIfSome numbers fpr.now result }
+        ensures tells { (numbers : List (Print × ℕ)) → AreSlots numbers self.now.slots.items
+            → TellsIfSome numbers fpr.now result }
     {
         match self.place(fpr) {
             None => None,
@@ -124,7 +125,8 @@ fn put_slot(slots: &mut Vec<Slot>, numbers: &BTreeMap<Fpr, u8>, fpr: &Fpr) -> Re
 /// The number of a slot, if it is this fingerprint's.
 #[tactic(auto, using(crate::proofs::Slotting::tells_equal))]
 fn number_if(slot: &Slot, fpr: &Fpr) -> Option<u8>
-    ensures tells { (numbers : List (Print × ℕ)) → Tells numbers slot.now.fpr slot.now.number → TellsIfSome numbers fpr.now result }
+    ensures tells { (numbers : List (Print × ℕ)) → Tells numbers slot.now.fpr slot.now.number
+        → TellsIfSome numbers fpr.now result }
 {
     if slot.fpr == *fpr {
         Some(slot.number)

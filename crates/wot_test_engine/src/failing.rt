@@ -49,7 +49,7 @@ key c959bdbafa32a2f89a153b678cfde12197965a9a 0 0
 };
 
 /// Each stop leaves a prefix of what the same script writes where nothing fails. A shelf that fails stops nothing.
-static CASES: [Case; 12] = [
+static CASES: [Case; 19] = [
     KEYS,
     TWICE,
     LOAD,
@@ -71,6 +71,18 @@ static CASES: [Case; 12] = [
         ..TWICE
     },
     Case {
+        reads: &[4],
+        ..TWICE
+    },
+    // A line that was begun when the read failed isn't answered.
+    Case {
+        script: "keys\nkeys",
+        reads: &[3],
+        status: 3,
+        written: "keys 0\n",
+        ..TWICE
+    },
+    Case {
         writes: &[1],
         status: 4,
         written: "",
@@ -88,12 +100,25 @@ static CASES: [Case; 12] = [
         written: "keys 0",
         ..KEYS
     },
+    Case {
+        writes: &[4],
+        status: 4,
+        written: "keys 0\n",
+        ..TWICE
+    },
     // Of two devices that fail, the one that fails first is told.
     Case {
         reads: &[2],
         writes: &[3],
         status: 4,
         written: "keys 0",
+        ..TWICE
+    },
+    Case {
+        reads: &[2],
+        writes: &[4],
+        status: 3,
+        written: "keys 0\n",
         ..TWICE
     },
     Case {
@@ -105,6 +130,21 @@ key c959bdbafa32a2f89a153b678cfde12197965a9a 0 0
 ",
         ..LOAD
     },
+    // What was loaded stays where a later call fails.
+    Case {
+        calls: &[2],
+        written: "ok taken 1 skipped 0 new 1
+fault shelf
+keys 1
+key c959bdbafa32a2f89a153b678cfde12197965a9a 0 0
+",
+        ..LOAD
+    },
+    Case {
+        calls: &[1, 2],
+        written: "fault shelf\nfault shelf\nkeys 0\n",
+        ..LOAD
+    },
     // A certificate and another's key under a name, a failing call, and an entry that isn't there.
     Case {
         script: "load c959bdbafa32a2f89a153b678cfde12197965a9a
@@ -114,6 +154,17 @@ load 7f35c8dbd6b3eb2ffd59cbdd2e41ea291212ac38
 ",
         calls: &[3],
         written: "ok taken 1 skipped 0 new 1\nrefused misfiled\nfault shelf\nrefused absent\n",
+        ..LOAD
+    },
+    // A call that fails counts; other lines make no call.
+    Case {
+        script: "keys
+load c959bdbafa32a2f89a153b678cfde12197965a9a
+#load c959bdbafa32a2f89a153b678cfde12197965a9a
+load c959bdbafa32a2f89a153b678cfde12197965a9a
+",
+        calls: &[1],
+        written: "keys 0\nfault shelf\nok taken 1 skipped 0 new 1\n",
         ..LOAD
     },
 ];

@@ -10,6 +10,8 @@ mod explain;
 #[cfg(test)]
 mod failing;
 #[cfg(test)]
+mod generated;
+#[cfg(test)]
 mod keyring;
 #[cfg(test)]
 mod made;

@@ -1,4 +1,5 @@
-use wot_policy::{Ask, PolicyRows, admits, standard_rows};
+use std::cell::Cell;
+use wot_policy::{Ask, Policy, PolicyRows, Row, admits, standard_rows};
 
 /// The moment at which SHA-1 and RIPEMD-160 end.
 const END: u32 = 1_359_676_800;
@@ -68,5 +69,33 @@ fn standard_rows_by_kind_and_around_their_end(rt: HostRuntime) {
     let rows = standard_rows();
     for hash in 0..=u8::MAX {
         assert!(rt; is_admitted_so(&rows, hash));
+    }
+}
+
+#[test]
+fn each_question_asks_the_closure_once(rt: HostRuntime) {
+    let rows = PolicyRows {
+        plain: [Row::Before(7); 256],
+        revoking: [Row::Never; 256],
+    };
+    let calls = Cell::new(0u64);
+    let mut policy = Policy::new(rows, |ask| {
+        calls.set(calls.get().wrapping_add(1));
+        admits(&rows, ask)
+    });
+    assert!(rt; policy.asked() == 0);
+    assert!(rt; policy.judge(made_at(6)));
+    assert!(rt; policy.asked() == 1 && calls.get() == 1);
+    assert!(rt; !policy.judge(made_at(7)));
+    assert!(rt; policy.asked() == 2 && calls.get() == 2);
+    assert!(rt; !policy.judge(made_at(u32::MAX)));
+    assert!(rt; policy.asked() == 3 && calls.get() == 3);
+}
+
+fn made_at(made: u32) -> Ask {
+    Ask {
+        kind: 0x10,
+        hash: 1,
+        made,
     }
 }

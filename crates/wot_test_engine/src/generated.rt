@@ -1,0 +1,46 @@
+use crate::engine::{owned, sink_of, source_of, status_of};
+use std::alloc::Global;
+use wot_certd::{MemoryShelf, Shelf};
+use wot_io::{MemorySink, MemorySource, Source};
+use wot_types::Name;
+
+/// What is told of the script of the start 7 and of 12 keys, as the plain model tells it.
+static TOLD: &[u8] = b"gen 7 12 lines 90\namounts 2161\n\
+    transcript c40141de642fca20d9a8ee5e5d7242b3d0b591689054d331a7388d12dd6c448c\n";
+
+/// Writes that fail, the status, and how much of what is told is written.
+static ENDS: [(&[u64], u8, usize); 3] = [(&[], 0, 107), (&[1], 4, 0), (&[3], 4, 6)];
+
+/// A shelf whose first call fails.
+fn failing_shelf(alloc: Global) -> Option<MemoryShelf> {
+    let fails = [1].to_vec(alloc).ok()?;
+    Some(MemoryShelf::new(alloc, fails, Vec::new(alloc)))
+}
+
+/// Whether as many octets are written of what is told.
+fn is_told(output: &MemorySink, size: usize) -> bool {
+    output.written().len() == size && TOLD.starts_with(output.written())
+}
+
+/// Whether neither source nor shelf was called.
+fn are_untouched(input: &mut MemorySource, shelf: &mut MemoryShelf) -> bool {
+    input.read(&mut [0; 5]) == Ok(5) && shelf.read(&Name::TrustRoot).is_err()
+}
+
+/// Whether the run ends so, with writes that fail.
+fn ends_so(alloc: Global, fails: &[u64], wanted: u8, size: usize) -> Option<bool> {
+    let words = owned(alloc, &["gen", "7", "12"])?;
+    let mut input = source_of(alloc, b"keys\n", &[])?;
+    let mut output = sink_of(alloc, fails)?;
+    let mut shelf = failing_shelf(alloc)?;
+    let status = status_of(alloc, &words, &mut input, &mut output, &mut shelf);
+    let untouched = are_untouched(&mut input, &mut shelf);
+    Some(status == wanted && untouched && is_told(&output, size))
+}
+
+#[test]
+fn a_generated_run(rt: HostRuntime) {
+    for (fails, status, size) in &ENDS {
+        assert!(rt; ends_so(rt.alloc(), fails, *status, *size) == Some(true));
+    }
+}
