@@ -44,13 +44,6 @@ all_later later old new basis watches on =
       rests = λ some. later old new basis watch.view watch.target watch.wanted watch.uid watch.told on (s.rests some);
     }) watches
 
--- the same of a basis that is known or not, and of watches that are as they were
-pub settled_still : RestsOnLater → (old new : Engine) (watches left : Watches) (basis : Option Basis) → IsKeptOn old new
-    → left ≡ watches → AreSettled old watches basis → AreSettled new left basis
-settled_still later old new watches left None on same s = tt
-settled_still later old new watches left (Some basis) on same s =
-    subst (AllSettled new basis) (sym same) (all_later later old new basis watches on s)
-
 -- on a basis that was moved on
 pub all_carried : (engine : Engine) (old new : Basis) (watches : Watches) → bases.CarriesOn engine old new
     → AllSettled engine old watches → AllSettled engine new watches

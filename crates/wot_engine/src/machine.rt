@@ -43,7 +43,7 @@ use crate::told::{Moved, Told, alone, plain, settle};
 use crate::watching::{are_settled, off, on, tell_all, watch_lines};
 use std::alloc::Global;
 use std::marker::Model;
-use wot_cache::laws::{change_goes_on, kept_on_is_order, rests_on, views_go_on};
+use wot_cache::laws::{change_goes_on, rests_on, views_go_on};
 use wot_cache::{Basis, Engine};
 use wot_certd::Shelf;
 use wot_cursor::Cursors;
@@ -203,7 +203,7 @@ impl Machine {
         change_goes_on();
         views_go_on();
         rests_on();
-        kept_on_is_order();
+        let basis = self.basis.take();
         let before = Counts::of(&self.engine);
         let told = answer(
             self.alloc,
@@ -215,7 +215,7 @@ impl Machine {
             shelf,
             policy,
         )?;
-        keep_basis(&mut self.basis, &self.engine, before, &told.reply);
+        self.basis = kept_on(basis, &self.engine, before, &told.reply);
         Ok(Some(told))
     }
 
@@ -336,18 +336,18 @@ impl Counts {
     }
 }
 
-/// Forgets the basis, unless what was settled before a line still is.
-fn keep_basis(basis: &mut Option<Basis>, engine: &Engine, before: Counts, reply: &Reply)
-    ensures same { IfSome basis.new (λ kept. basis.old ≡ Some kept) }
-    ensures more { IfSome basis.new (λ _. before.certificates ≤ length engine.now.keyring.certs) }
-    ensures none { IfSome basis.new (λ _. IsNoAmount reply.now) }
-    ensures counted { IfSome basis.new (λ _. reply.now ≡ replies.Done →
+/// The basis, where what was settled before a line still is.
+fn kept_on(basis: Option<Basis>, engine: &Engine, before: Counts, reply: &Reply) -> Option<Basis>
+    ensures same { IfSome result (λ kept. basis ≡ Some kept) }
+    ensures more { IfSome result (λ _. before.certificates ≤ length engine.now.keyring.certs) }
+    ensures none { IfSome result (λ _. IsNoAmount reply.now) }
+    ensures counted { IfSome result (λ _. reply.now ≡ replies.Done →
         CountsDiffer engine.now before.changes before.turns) }
 {
     if goes_on(engine, before, reply) {
-        return;
+        return basis;
     }
-    *basis = None;
+    None
 }
 
 /// Whether what was settled before a line still is, by its reply: no certificate is gone, no watch began, and no view

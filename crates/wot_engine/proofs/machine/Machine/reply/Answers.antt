@@ -7,9 +7,10 @@ use Rattle.wot_engine.specs.Lines.{heard, is_silent}
 use Rattle.wot_engine.specs.Machine.{Machine, kept}
 use Rattle.wot_engine.specs.Made.{LineMakes}
 use Rattle.wot_engine.specs.Pacing.{settled}
+use Rattle.wot_engine.specs.Settled.{AreSettled}
 use Rattle.wot_engine.proofs.Making.{line_makes_as, makes_heard}
 use Rattle.wot_engine.proofs.Running.{replied_long, replied_silent}
-use Rattle.wot_engine.proofs.Settling.{settled_still, settled_told}
+use Rattle.wot_engine.proofs.Settling.{settled_told}
 use Rattle.wot_engine.proofs.machine.Machine.reply.Goals as goal
 
 pub returns-clause-makes : goal.returns-clause-makes
@@ -42,19 +43,9 @@ invariant_of-self-2 g c =
       c.answer.ensures.standard,
       settled_told (rows_of c.args.policy.now) c.views_go_on.ensures.turned c.rests_on.ensures.later c.change_goes_on.ensures old new
           c.self.inside.cursors (settled c.in_ok-told.told.moved c.answer.new.cursors) c.self.inside.watches c.answer.new.watches
-          (command_of c.args.line.now) ran.given c.in_ok-told.told.reply c.self.inside.basis c.keep_basis.new.basis
+          (command_of c.args.line.now) ran.given c.in_ok-told.told.reply c.take-basis.result c.kept_on.result
           c.of-before.result.certificates c.of-before.result.changes c.of-before.result.turns ran.answers c.answer.ensures.counted
           c.of-before.ensures.certificates c.of-before.ensures.changes c.of-before.ensures.turns
-          c.keep_basis.ensures.same c.keep_basis.ensures.more c.keep_basis.ensures.none c.keep_basis.ensures.counted
-          c.self.invariant.1,
-    )
-
--- for want of memory
-pub invariant_of-self : goal.invariant_of-self
-invariant_of-self g c =
-    let old = c.self.inside.engine in
-    let new = c.answer.new.engine in (
-      c.answer.ensures.standard,
-      settled_still c.rests_on.ensures.later old new c.self.inside.watches c.answer.new.watches c.self.inside.basis
-          (c.kept_on_is_order.ensures.still old new c.in_err-told.ensures.kept.0) c.in_err-told.ensures.kept.1.1 c.self.invariant.1,
+          c.kept_on.ensures.same c.kept_on.ensures.more c.kept_on.ensures.none c.kept_on.ensures.counted
+          (subst (AreSettled old c.self.inside.watches) (sym c.take-basis.ensures.value) c.self.invariant.1),
     )
