@@ -9,9 +9,9 @@ use wot_io::{
     write_all,
 };
 
-/// What `next` answers up to the end, or up to the fourth fault, as text: a line is `t..|`; `l` is
-/// `Long`, `.` the end, `r` and `m` are the faults. A `!` follows where `text` gives something after another answer
-/// than `Text`.
+/// What `next` answers up to the end, or up to the fourth fault, as text: a line is `t..|`, or `T|` where it is as long
+/// as a line may be; `l` is `Long`, `.` the end, `r` and `m` are the faults. A `!` follows where `text` gives something
+/// after another answer than `Text`.
 fn answers<S: Source>(alloc: Global, source: &mut S) -> Option<Vec<u8>> {
     let mut lines = Lines::new(alloc).ok()?;
     let mut seen = Vec::new(alloc);
@@ -52,7 +52,13 @@ fn tell(answer: Result<Line, LinesFault>, text: &[u8], seen: &mut Vec<u8>) -> Op
     Some(())
 }
 
+/// How long a line may be.
+const LONGEST: usize = 16_777_216;
+
 fn tell_text(text: &[u8], seen: &mut Vec<u8>) -> Option<()> {
+    if text.len() == LONGEST {
+        return seen.extend_from_slice(b"T|").ok();
+    }
     seen.push(b't').ok()?;
     seen.extend_from_slice(text).ok()?;
     seen.push(b'|').ok()
@@ -67,14 +73,19 @@ fn rows()
     ensures feed_at_the_end { lines_of (codes "keys" ++ 10 ∷ []) ≡ codes "keys" ∷ [] }
 {}
 
-static PARTS: [(&[u8], &[u8]); 4] = [
+static PARTS: [(&[u8], &[u8]); 9] = [
     (b"", b"."),
+    (b"\n", b"t|."),
+    (b"keys", b"tkeys|."),
+    (b"keys\n", b"tkeys|."),
     (b"\n\nab\n\n", b"t|t|tab|t|."),
     (b"a\r\n\rb\r", b"ta\r|t\rb\r|."),
     (
         b"# a comment\nimport 00\nkeys",
         b"t# a comment|timport 00|tkeys|.",
     ),
+    (b"12345\n1234\n123456\n", b"t12345|t1234|t123456|."),
+    (b"\0\xff\n\x0b\n", b"t\0\xff|t\x0b|."),
 ];
 
 /// Whether the lines of these octets, in pieces of so many, are told so, where the read of this number fails.
@@ -95,9 +106,12 @@ fn lines_are_the_parts_between_line_feeds(rt: HostRuntime) {
 }
 
 /// Octets, the read that fails, and what is answered.
-static FAULTS: [(&[u8], u64, &[u8]); 2] = [
+static FAULTS: [(&[u8], u64, &[u8]); 5] = [
+    (b"ab\ncd\nef\n", 1, b"rrrr"),
     (b"ab\ncd\nef\n", 2, b"tab|rrrr"),
+    (b"ab\ncd\nef\n", 3, b"tab|tcd|tef|rrrr"),
     (b"ab\ncd\nef", 3, b"tab|tcd|rrrr"),
+    (b"ab\ncd\nef", 5, b"tab|tcd|tef|."),
 ];
 
 #[test]
@@ -105,6 +119,85 @@ fn a_read_fault_is_answered_again(rt: HostRuntime) {
     for (input, failing, want) in &FAULTS {
         assert!(rt; is_told(rt.alloc(), input, 5, *failing, want) == Some(true));
     }
+}
+
+/// So many octets, with line feeds at these places, in pieces of so many. It keeps how much room
+/// was offered last, and whether it was ever other than a whole piece.
+#[derive(Drop)]
+struct Long<'a> {
+    size: u64,
+    feeds: &'a [u64],
+    piece: usize,
+    at: u64,
+    offered: usize,
+    whole: bool,
+}
+
+impl Source for Long<'_> {
+    ghost left = { λ _. None };
+
+    ghost faults = { λ _. 0 };
+
+    fn read(&mut self, to: &mut [u8]) -> Result<usize, Failed> {
+        self.whole = self.whole && self.offered == 65536;
+        self.offered = to.len();
+        let left = self.size.saturating_sub(self.at);
+        let n = self
+            .piece
+            .min(to.len())
+            .min(usize::try_from(left).unwrap_or(0));
+        let (prefix, _) = to.split_at_mut(n);
+        let _ = prefix.fill(b'x');
+        for feed in self.feeds {
+            let place = usize::try_from(feed.wrapping_sub(self.at)).unwrap_or(n);
+            if place < prefix.len() {
+                prefix[place] = b'\n';
+            }
+        }
+        self.at = self.at.wrapping_add(n as u64);
+        Ok(n)
+    }
+}
+
+const MOST: u64 = 1_073_741_824;
+
+/// A size, the places of line feeds, the size of pieces, and what is answered.
+static LONG_INPUTS: [(u64, &[u64], usize, &[u8]); 8] = [
+    (16_777_220, &[16_777_216, 16_777_218], 65536, b"T|tx|tx|."),
+    (16_777_220, &[16_777_217, 16_777_219], 65536, b"ltx|."),
+    (16_777_216, &[], 65535, b"T|."),
+    (16_777_217, &[], 65535, b"l."),
+    (MOST - 1, &[MOST - 3], 65535, b"ltx|."),
+    (MOST, &[MOST - 3], 65535, b"lmmmm"),
+    (MOST, &[MOST - 3, MOST - 1], 65536, b"ltx|mmmm"),
+    (MOST + 1, &[], 65536, b"mmmm"),
+];
+
+fn long_source<'a>(size: u64, feeds: &'a [u64], piece: usize) -> Long<'a> {
+    Long {
+        size,
+        feeds,
+        piece,
+        at: 0,
+        offered: 65536,
+        whole: true,
+    }
+}
+
+#[test]
+fn long_lines_and_many_octets(rt: HostRuntime) {
+    for (size, feeds, piece, want) in &LONG_INPUTS {
+        let mut source = long_source(*size, feeds, *piece);
+        assert!(rt; is_answered(rt.alloc(), &mut source, want));
+        assert!(rt; source.at <= MOST);
+    }
+}
+
+#[test]
+fn each_read_offers_a_whole_piece_or_what_remains(rt: HostRuntime) {
+    let mut source = long_source(MOST, &[], 65535);
+    assert!(rt; is_answered(rt.alloc(), &mut source, b"mmmm"));
+    assert!(rt; source.at == MOST && source.whole && source.offered == 16384);
 }
 
 /// Takes so many octets of each piece, and keeps how many it was offered.
@@ -130,8 +223,10 @@ impl Sink for Recorder {
 }
 
 /// The size of pieces, octets, whether all are written, and how many each write was offered.
-static OFFERS: [(usize, &[u8], bool, &[usize]); 2] = [
+static OFFERS: [(usize, &[u8], bool, &[usize]); 4] = [
     (2, b"abcde", true, &[5, 3, 1]),
+    (9, b"abcde", true, &[5]),
+    (2, b"", true, &[]),
     (0, b"abcde", false, &[5]),
 ];
 
@@ -148,6 +243,29 @@ fn is_offered(alloc: Global, piece: usize, octets: &[u8], want: bool, offers: &[
 fn each_write_offers_all_that_remain(rt: HostRuntime) {
     for (piece, octets, want, offers) in &OFFERS {
         assert!(rt; is_offered(rt.alloc(), *piece, octets, *want, offers));
+    }
+}
+
+/// The room of a sink, the write that fails, whether all is written, and what is.
+static PREFIXES: [(usize, u64, bool, &[u8]); 5] = [
+    (100, 9, true, b"abcdefgh"),
+    (100, 1, false, b""),
+    (100, 3, false, b"abcdef"),
+    (7, 9, false, b"abcdefg"),
+    (0, 9, false, b""),
+];
+
+/// Whether a sink with this room takes all of eight octets, and which, where the write of this number fails.
+fn takes(alloc: Global, room: usize, failing: u64, want: bool, written: &[u8]) -> Option<bool> {
+    let fails = [failing].to_vec(alloc).ok()?;
+    let mut sink = MemorySink::new(alloc, 3, room, fails).ok()?;
+    Some(write_all(&mut sink, b"abcdefgh").is_ok() == want && sink.written() == written)
+}
+
+#[test]
+fn a_write_fault_leaves_a_prefix(rt: HostRuntime) {
+    for (room, failing, want, written) in &PREFIXES {
+        assert!(rt; takes(rt.alloc(), *room, *failing, *want, written) == Some(true));
     }
 }
 
