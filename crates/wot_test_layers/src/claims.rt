@@ -50,12 +50,16 @@ const CHECK: &str = "check v 1212121212121212121212121212121212121212 \
     60/1212121212121212121212121212121212121212.7/efefefefefefefefefefefefefefefefefefefef.0 \
     1212121212121212121212121212121212121212=2,efefefefefefefefefefefefefefefefefefefef=1 t";
 
+fn are_steps(steps: &[ClaimStepLine]) -> bool {
+    match steps {
+        [first, last] => first.0 == ISSUER && first.1 == 7 && last.0 == OTHER && last.1 == 0,
+        _ => false,
+    }
+}
+
 fn are_claims(claims: &[ClaimLine]) -> bool {
     match claims {
-        [ClaimLine(60, steps)] => match steps.items() {
-            [first, last] => { first.0 == ISSUER && first.1 == 7 && last.0 == OTHER && last.1 == 0 }
-            _ => false,
-        },
+        [claim] => claim.0 == 60 && are_steps(claim.1.items()),
         _ => false,
     }
 }
