@@ -1,5 +1,5 @@
 -- The edges into one fingerprint that lead on, gathered one after the other.
-use Rattle.std.proofs.Common.{◌≡◌, ◌⊎◌, inl, inr, ℕ, ◌+◌, ◌<◌, ◌≤◌, Bool, true, false, List, [], ◌∷◌, ◌++◌, length, get_or, drop, refl, sym, subst, ◌∙◌, arith}
+use Rattle.std.proofs.Common.{◌≡◌, ◌⊎◌, inl, inr, ℕ, ◌+◌, ◌<◌, ◌≤◌, Bool, true, false, List, [], ◌∷◌, ◌++◌, length, get_or, drop, refl, sym, subst, ◌∙◌}
 use Rattle.std.proofs.lemmas.List.{drop_more, drop_all}
 use Rattle.std.proofs.lemmas.List.Elements.{All-push}
 use Rattle.wot_types.specs.declared.fpr.Fpr.{Fpr}
@@ -27,8 +27,9 @@ has_either (z ∷ xs) x y (inl e) = inl (inl e)
 has_either (z ∷ xs) x y (inr h) = elim (has_either xs x y h) [ inl k ↦ inl (inr k) | inr e ↦ inr e ]
 
 module _ (told : List ℕ → Record) (number : Fpr → ℕ) (edge : EdgeFacts) where
-  pub adds_edge : (old new : Onward) → new.fpr ≡ old.fpr → new.edges.items ≡ old.edges.items ++ edge ∷ [] → IsUsableIf told old.usable new.usable edge → AddsLead told number edge old new
-  adds_edge old new same e usable = record {
+  pub adds_edge : (old new : Onward) → new.fpr ≡ old.fpr → new.edges.items ≡ old.edges.items ++ edge ∷ [] → IsUsableIf told old.usable new.usable edge → IsUsableIf told old.all_usable new.all_usable edge → AddsLead told number edge old new
+  adds_edge old new same e usable all = record {
+    all = all;
     fpr = same;
     put = λ yes. subst (λ (xs : List EdgeFacts). Has xs edge) (sym e) (has_last old.edges.items edge);
     keeps = λ other h. subst (λ (xs : List EdgeFacts). Has xs other) (sym e) (has_more old.edges.items other edge h);
@@ -45,8 +46,9 @@ module _ (told : List ℕ → Record) (number : Fpr → ℕ) (edge : EdgeFacts) 
   clash true e f = absurd cc
   clash false e f = absurd cc
 
-  pub adds_none : (one : Onward) → leads_on number edge ≡ false → AddsLead told number edge one one
-  adds_none one not = record {
+  pub adds_none : (one : Onward) (all : Bool) → IsUsableIf told one.all_usable all edge → leads_on number edge ≡ false → AddsLead told number edge one (record one { all_usable = all })
+  adds_none one all is not = record {
+    all = is;
     fpr = refl;
     put = λ yes. absurd (clash (leads_on number edge) yes not);
     keeps = λ other h. h;
@@ -62,6 +64,7 @@ pub record LeadTo (told : List ℕ → Record) (number : Fpr → ℕ) (fpr : Fpr
   pub into : (edge : EdgeFacts) → Has one.edges.items edge → Has edges edge
   pub covers : (edge : EdgeFacts) → Has edges edge → leads_on number edge ≡ true → Has (drop k edges) edge ⊎ Has one.edges.items edge
   pub usable : AreUsableIf told one.usable one.edges.items
+  pub all : one.all_usable ≡ true → (edge : EdgeFacts) → Has edges edge → Has (drop k edges) edge ⊎ IsUsable told edge
 
 has_get : (edges : List EdgeFacts) (k : ℕ) (edge : EdgeFacts) → k < length edges → edge ≡ get_or edges k edge → Has edges edge
 has_get edges k edge lt is = subst (λ (e : EdgeFacts). Has edges e) (sym is) (has_at edges k edge lt)
@@ -72,6 +75,7 @@ module _ (told : List ℕ → Record) (number : Fpr → ℕ) (fpr : Fpr) (edges 
     same = same;
     into = λ edge h. absurd (subst (λ (xs : List EdgeFacts). Has xs edge) none h);
     covers = λ edge h lead. inl h;
+    all = λ yes edge h. inl h;
     usable = λ yes edge h. absurd (subst (λ (xs : List EdgeFacts). Has xs edge) none h);
   }
 
@@ -92,6 +96,17 @@ module _ (told : List ℕ → Record) (number : Fpr → ℕ) (fpr : Fpr) (edges 
       | inr done ↦ inr (adds.keeps other done)
     ];
     usable = adds.usable from.usable;
+    all = λ yes other h.
+        let both = adds.all yes in
+        elim (from.all both.0 other h) [
+          | inl there ↦ elim (subst (λ (xs : List EdgeFacts). Has xs other) (drop_more edges k edge lt) there) [
+            | inl f ↦
+                let same : edge ≡ other = is ∙ sym f in
+                inr (subst (IsUsable told) same both.1)
+            | inr more ↦ inl more
+          ]
+          | inr done ↦ inr done
+        ];
   }
 
   pub lead_end : (one : Onward) (k : ℕ) → ((uid : List ℕ) → edges ≡ edges_into (told uid) fpr) → length edges ≤ k → LeadTo told number fpr edges one k → LeadsOnInto told number one.fpr one
@@ -102,6 +117,10 @@ module _ (told : List ℕ → Record) (number : Fpr → ℕ) (fpr : Fpr) (edges 
       | inr done ↦ done
     ];
     usable = from.usable;
+    all = λ uid yes edge h. elim (from.all yes edge (subst (λ (xs : List EdgeFacts). Has xs edge) (sym (rows uid)) h)) [
+      | inl there ↦ absurd (subst (λ (xs : List EdgeFacts). Has xs edge) (drop_all k edges le) there)
+      | inr done ↦ done
+    ];
   })
 
 pub onward_added : (told : List ℕ → Record) (number : Fpr → ℕ) (old new : List Onward) (one : Onward) → AreOnward told number old → LeadsOnInto told number one.fpr one → new ≡ old ++ one ∷ [] → AreOnward told number new

@@ -24,3 +24,4 @@ pub mod Collecting
 pub mod Enough
 pub mod Slotting
 pub mod Checked
+pub mod OneSearch

@@ -64,7 +64,7 @@ least_is_left used amount most (step ∷ rest) le =
     and_from (nat_le amount (step_left used step)) (is_left used amount rest) (le-leb amount (step_left used step) (omega (arith, le)))
     (least_is_left used amount most rest (omega (arith, le)))
 
-least_most : (used : Use) (most : ℕ) (steps : List Step) → least_left used most steps ≤ most
+pub least_most : (used : Use) (most : ℕ) (steps : List Step) → least_left used most steps ≤ most
 least_most used most [] = omega arith
 least_most used most (step ∷ rest) = let a = least_most used most rest in omega (arith, a)
 

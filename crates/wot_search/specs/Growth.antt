@@ -1,6 +1,6 @@
 -- How a layer grows, edge by edge.
 use Rattle.std.specs.Prelude.{◌≡◌, ℕ, ◌<◌, ◌≤◌, nat_eq, ◌&&◌, ◌||◌, ◌++◌, suc, Bool, true}
-use Rattle.std.specs.Prelude.{false, is_some, List, [], ◌∷◌, length, Option, Some, None, cond, if◌then◌else◌}
+use Rattle.std.specs.Prelude.{false, is_some, List, [], ◌∷◌, length, Option, Some, None, IfSome, cond, if◌then◌else◌}
 use Rattle.wot_types.specs.declared.fpr.Fpr.{Fpr}
 use Rattle.wot_types.specs.Fpr.{same_fpr}
 use Rattle.wot_edge.specs.declared.edge.EdgeFacts.{EdgeFacts}
@@ -226,6 +226,10 @@ TurnsTo quest size reached found =
 abbrev pub IsResult : Quest → Option Path → Type 0
 IsResult quest None = (other : List Step) → Rooted quest other → ⊥
 IsResult quest (Some path) = IsFirstPath quest (length path.steps) path
+
+-- where a path was found, what is known after as many layers as it has edges
+abbrev pub IsAfterPath : Quest → Reached → (Fpr → Type 0) → Option Path → Type 0
+IsAfterPath quest reached set found = IfSome found (λ (path : Path). IsAfter quest (length path.steps) reached set)
 
 -- all that matters was looked at
 abbrev pub IsLookedBy : Quest → (Fpr → Type 0) → Option Path → Type 0

@@ -1,5 +1,6 @@
 -- A table of reach in the making: what is known of it before all fingerprints are checked.
-use Rattle.std.specs.Prelude.{ℕ, List, drop, ◌⊎◌}
+use Rattle.std.specs.Prelude.{ℕ, List, drop, ◌⊎◌, Option, IfSome}
+use Rattle.std.specs.Borrow.{Bor}
 use Rattle.std.specs.List.{AllByRecursion}
 use Rattle.wot_types.specs.declared.fpr.Fpr.{Fpr}
 use Rattle.wot_edge.specs.Record.{Record, Has}
@@ -7,7 +8,7 @@ use Rattle.wot_search.specs.declared.checking.Checking.{Checking}
 use Rattle.wot_search.specs.declared.making.Making.{Making}
 use Rattle.wot_search.specs.declared.making.Making.TheVariants as stages
 use Rattle.wot_search.specs.Onward.{AreOnward}
-use Rattle.wot_search.specs.Reach.{HasEnough, IsReach, number_at}
+use Rattle.wot_search.specs.Reach.{HasEnough, IsReach, Table, number_at}
 
 -- the numbers are those of these fingerprints, or of some of them
 abbrev pub AreKeysOf : List Fpr → List (Fpr × ℕ) → Type 0
@@ -33,3 +34,9 @@ IsMaking told roots (stages.Passing passing) = Unit {0}
 IsMaking told roots (stages.Numbering numbering) = AreKeysOf numbering.fprs.items numbering.table
 IsMaking told roots (stages.Checking checking) = IsChecking told roots checking
 IsMaking told roots (stages.Made reach) = IsReach told roots reach
+
+-- what is found of it is the reach
+abbrev pub GivesReach : Making → Option (Bor Table) → Type 0
+GivesReach making found =
+    (told : List ℕ → Record) (roots : List (Fpr × ℕ)) → IsMaking told roots making
+    → IfSome found (λ (reach : Bor Table). IsReach told roots reach.now)

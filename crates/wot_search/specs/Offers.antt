@@ -124,6 +124,10 @@ AreOfferedBy quest found size (root ∷ roots) paths =
     (offer : Option Path) × (others : List Path) × IsOfferIf quest found size root.0 offer
     × AreOfferedBy quest found size roots others × (paths ≡ with_offer offer others)
 
+-- each suffix that was found has at least so much
+abbrev pub AreWide : ℕ → Found → Type 0
+AreWide amount found = (fpr : Fpr) (node : Node) → found fpr ≡ Some node → amount ≤ node.width
+
 -- the same of what a search found in so many layers
 pub record AreFoundOffers (quest : Quest) (size : ℕ) (roots : List (Fpr × ℕ)) (paths : List Path) : Type 0 where
   pub reached : Reached

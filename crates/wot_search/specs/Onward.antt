@@ -1,5 +1,6 @@
 -- Edges that lead on: that may stand before another one on a path within reach.
-use Rattle.std.specs.Prelude.{◌≡◌, ◌⊎◌, ℕ, ◌<◌, nat_le, ◌&&◌, Bool, true, List}
+use Rattle.std.specs.Prelude.{◌≡◌, ◌⊎◌, ℕ, ◌<◌, nat_le, ◌&&◌, Bool, true, List, Option, IfSome}
+use Rattle.std.specs.Borrow.{Bor}
 use Rattle.std.specs.List.{All}
 use Rattle.wot_types.specs.declared.fpr.Fpr.{Fpr}
 use Rattle.wot_edge.specs.declared.edge.EdgeFacts.{EdgeFacts}
@@ -29,6 +30,10 @@ Covers told number fpr edges =
 abbrev pub AreUsableIf : (List ℕ → Record) → Bool → List EdgeFacts → Type 0
 AreUsableIf told usable edges = usable ≡ true → (edge : EdgeFacts) → Has edges edge → IsUsable told edge
 
+-- the same of all edges into a fingerprint
+abbrev pub AreAllUsableIf : (List ℕ → Record) → Bool → Fpr → Type 0
+AreAllUsableIf told usable fpr = (uid : List ℕ) → AreUsableIf told usable (edges_into (told uid) fpr)
+
 -- where all are known to be usable, so were those before, and so is this edge
 abbrev pub IsUsableIf : (List ℕ → Record) → Bool → Bool → EdgeFacts → Type 0
 IsUsableIf told old new edge = new ≡ true → (old ≡ true) × IsUsable told edge
@@ -38,18 +43,26 @@ pub record LeadsOnInto (told : List ℕ → Record) (number : Fpr → ℕ) (fpr 
   pub into : AreInto told fpr one.edges.items
   pub covers : Covers told number fpr one.edges.items
   pub usable : AreUsableIf told one.usable one.edges.items
+  pub all : AreAllUsableIf told one.all_usable fpr
 
 -- so it is of each of these
 abbrev pub AreOnward : (List ℕ → Record) → (Fpr → ℕ) → List Onward → Type 0
 AreOnward told number onward = All (λ (one : Onward). LeadsOnInto told number one.fpr one) onward
 
--- an edge was appended if it leads on
+-- what is found for a fingerprint among these is of that fingerprint
+abbrev pub GivesOnward : (Fpr → ℕ) → List Onward → Fpr → Option (Bor Onward) → Type 0
+GivesOnward number onward fpr found =
+    (told : List ℕ → Record) → AreOnward told number onward
+    → IfSome found (λ (one : Bor Onward). LeadsOnInto told number fpr one.now)
+
+-- an edge was looked at, and appended if it leads on
 pub record AddsLead (told : List ℕ → Record) (number : Fpr → ℕ) (edge : EdgeFacts) (old new : Onward) : Type 0 where
   pub fpr : new.fpr ≡ old.fpr
   pub put : leads_on number edge ≡ true → Has new.edges.items edge
   pub keeps : (other : EdgeFacts) → Has old.edges.items other → Has new.edges.items other
   pub only : (other : EdgeFacts) → Has new.edges.items other → Has old.edges.items other ⊎ (other ≡ edge)
   pub usable : AreUsableIf told old.usable old.edges.items → AreUsableIf told new.usable new.edges.items
+  pub all : IsUsableIf told old.all_usable new.all_usable edge
 
 -- of the edges into a fingerprint these are all that matter before so many others: before one or more those that lead
 -- on

@@ -85,14 +85,14 @@ fn keep<R: Roads, N: Notes>(
     roads: &R,
     quest: &Quest,
     size: u8,
-    known: bool,
+    hint: Hint,
     edge: &Edge,
     node: Node,
     reached: &mut Reached,
     notes: &mut N,
 ) -> Result<(), Memory>
     requires row { (id : List ℕ) → Has (edges_into (R.told roads.now id) edge.now.target) edge.now }
-    requires known { known ≡ true → IsUsable (R.told roads.now) edge.now }
+    requires known { hint.usable ≡ true → IsUsable (R.told roads.now) edge.now }
     ensures put { OnOk result (PutsIfStands (R.told roads.now quest.now.uid.now) size edge.now
         reached.old reached.new node) }
     ensures has { OnOk result (N.noted notes.new node.step.issuer) }
@@ -100,8 +100,8 @@ fn keep<R: Roads, N: Notes>(
     ensures gains { Gains (λ fpr. fpr ≡ node.step.issuer) (N.noted notes.old) (N.noted notes.new) }
 {
     notes.note(&node.step.issuer)?;
-    if may_stand(roads, quest, size, known, edge)? {
-        return put(reached, node);
+    if may_stand(roads, quest, size, hint.usable, edge)? {
+        return put(reached, node, quest.reach.issuer_place(hint.place));
     }
     Ok(())
 }
@@ -145,7 +145,7 @@ pub fn consider<R: Roads, N: Notes>(
     ) {
         None => Ok(()),
         Some(node) => {
-            keep(roads, quest, size, hint.usable, edge, node, reached, notes)?;
+            keep(roads, quest, size, hint, edge, node, reached, notes)?;
             Ok(())
         }
     }

@@ -1,6 +1,6 @@
 ghost use Rattle.std.specs.Prelude.{◌≡◌, ◌<◌, ℕ, List, OnOk};
 ghost use Rattle.wot_edge.specs.Record.{IsRecord};
-ghost use Rattle.wot_search.specs.Onward.{AreUsableIf, LeadsOnInto, MatterBefore};
+ghost use Rattle.wot_search.specs.Onward.{AreAllUsableIf, AreUsableIf, LeadsOnInto, MatterBefore};
 ghost use Rattle.wot_search.specs.Quest.{LeadsOn, quest_of};
 ghost use Rattle.wot_search.specs.Reach.{number_at};
 ghost use Rattle.wot_search.specs.Looked.{Gains, IsNear, Widens};
@@ -38,12 +38,14 @@ fn hint_of(hints: Hints<'_>, index: usize) -> Hint
     }
 }
 
-/// Considers each edge into a fingerprint of the layer before that may stand there.
+/// Considers each edge into a fingerprint of the layer before that may stand there. Its place in the table of reach may
+/// be known.
 pub fn extend<R: Roads, N: Notes>(
     roads: &R,
     quest: &Quest,
     size: u8,
     at: &Fpr,
+    known: Option<u32>,
     reached: &mut Reached,
     notes: &mut N,
 ) -> Result<(), Memory>
@@ -60,14 +62,18 @@ pub fn extend<R: Roads, N: Notes>(
     ensures grows { Widens (N.noted notes.old) (N.noted notes.new) }
     ensures gains { Gains (IsNear (R.told roads.now quest.now.uid.now) at.now) (N.noted notes.old) (N.noted notes.new) }
 {
-    let place = quest.reach.place(at);
+    let place = quest.reach.place_known(known, at);
     let start = quest.reach.start(place);
-    if size == 0 {
-        return extend_all(roads, quest, size, at, start, reached, notes);
-    }
     match quest.reach.onward(place, at) {
-        Some(onward) => extend_onward(roads, quest, size, at, start, onward, reached, notes),
-        None => extend_all(roads, quest, size, at, start, reached, notes),
+        Some(onward) => {
+            if size == 0 {
+                let usable = onward.all_usable;
+                extend_all(roads, quest, size, at, start, usable, reached, notes)
+            } else {
+                extend_onward(roads, quest, size, at, start, onward, reached, notes)
+            }
+        }
+        None => extend_all(roads, quest, size, at, start, false, reached, notes),
     }
 }
 
@@ -106,17 +112,19 @@ fn extend_onward<R: Roads, N: Notes>(
     extend_by(roads, quest, size, at, edges, hints, reached, notes)
 }
 
-/// Considers each edge into a fingerprint; their numbers begin here in the table.
+/// Considers each edge into a fingerprint, of which all may be known to be usable; their numbers begin here in the table.
 fn extend_all<R: Roads, N: Notes>(
     roads: &R,
     quest: &Quest,
     size: u8,
     at: &Fpr,
     start: usize,
+    usable: bool,
     reached: &mut Reached,
     notes: &mut N,
 ) -> Result<(), Memory>
     requires size { size < 255 }
+    requires usable { AreAllUsableIf (R.told roads.now) usable at.now }
     ensures grown { OnOk result (GrowsInto (quest_of (R.told roads.now) quest.now) size at.now
         reached.old reached.new) }
     ensures taken { OnOk result (TakesInto (quest_of (R.told roads.now) quest.now) size at.now
@@ -131,7 +139,7 @@ fn extend_all<R: Roads, N: Notes>(
     let hints = Hints {
         start,
         places: &[],
-        usable: false,
+        usable,
     };
     extend_by(roads, quest, size, at, edges, hints, reached, notes)
 }

@@ -1,7 +1,7 @@
 ghost use Rattle.std.specs.Prelude.{◌≡◌, ℕ, List, [], ◌∷◌, IfOk};
 ghost use Rattle.wot_edge.specs.Leads.{Leads};
 ghost use Rattle.wot_edge.specs.Record.{IsRecord};
-ghost use Rattle.wot_search.specs.Growth.{IsSmall, IsResult, IsLookedBy};
+ghost use Rattle.wot_search.specs.Growth.{IsAfterPath, IsSmall, IsResult, IsLookedBy};
 ghost use Rattle.wot_search.specs.Looked.{Gains, Widens};
 ghost use Rattle.wot_search.specs.Quest.{LeadsOn, quest_of};
 
@@ -25,11 +25,11 @@ pub(crate) fn begin(alloc: Global, target: &Fpr) -> Result<Reached, Memory>
     Ok(Reached {
         nodes: BTreeMap::new(alloc),
         layer,
+        places: Vec::new(alloc),
     })
 }
 
-/// The first path of which so much is left: of fewest edges, and then as the goal says. It looks at
-/// one layer after the other, up to the first one that holds a root.
+/// The first path of which so much is left: of fewest edges, and then as the goal says.
 pub fn first<R: Roads, N: Notes>(
     alloc: Global,
     roads: &R,
@@ -46,12 +46,36 @@ pub fn first<R: Roads, N: Notes>(
         (N.noted notes.old) (N.noted notes.new) }
 {
     let mut reached = begin(alloc, quest.target)?;
+    first_from(alloc, roads, quest, &mut reached, notes)
+}
+
+/// The same from the target alone. It looks at one layer after the other, up to the first one that holds a root, and
+/// leaves what it found.
+pub(crate) fn first_from<R: Roads, N: Notes>(
+    alloc: Global,
+    roads: &R,
+    quest: &Quest,
+    reached: &mut Reached,
+    notes: &mut N,
+) -> Result<Option<Path>, Memory>
+    requires lawful { (id : List ℕ) → IsRecord (R.told roads.now id) }
+    requires onward { LeadsOn (R.told roads.now) quest.now }
+    requires small { IsSmall (quest_of (R.told roads.now) quest.now) }
+    requires nodes { reached.old.nodes.entries ≡ [] }
+    requires layer { reached.old.layer.items ≡ quest.now.target.now ∷ [] }
+    ensures first { IfOk result (λ found. IsResult (quest_of (R.told roads.now) quest.now) found) }
+    ensures after { IfOk result (IsAfterPath (quest_of (R.told roads.now) quest.now) reached.new (N.noted notes.new)) }
+    ensures looked { IfOk result (IsLookedBy (quest_of (R.told roads.now) quest.now) (N.noted notes.new)) }
+    ensures grows { Widens (N.noted notes.old) (N.noted notes.new) }
+    ensures leads { Gains (Leads (R.told roads.now quest.now.uid.now) quest.now.target.now)
+        (N.noted notes.old) (N.noted notes.new) }
+{
     'layers: for size in 0..255u8 {
-        advance(alloc, roads, quest, size, &mut reached, notes)?;
+        advance(alloc, roads, quest, size, reached, notes)?;
         if reached.layer.is_empty() {
             return Ok(None);
         }
-        match turn(alloc, quest, &reached, size + 1)? {
+        match turn(alloc, quest, reached, size + 1)? {
             None => {}
             Some(path) => return Ok(Some(path)),
         }

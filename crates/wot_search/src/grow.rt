@@ -14,12 +14,13 @@ use std::mem;
 use wot_edge::Roads;
 use wot_types::{Fpr, Memory};
 
-/// Considers each edge into each fingerprint of a layer.
+/// Considers each edge into each fingerprint of a layer. Their places in the table of reach may be known.
 fn grow<R: Roads, N: Notes>(
     roads: &R,
     quest: &Quest,
     size: u8,
     layer: &[Fpr],
+    places: &[Option<u32>],
     reached: &mut Reached,
     notes: &mut N,
 ) -> Result<(), Memory>
@@ -37,8 +38,11 @@ fn grow<R: Roads, N: Notes>(
     ensures gains { Gains (IsNearOne (R.told roads.now quest.now.uid.now) layer.now)
         (N.noted notes.old) (N.noted notes.new) }
 {
+    let mut index: usize = 0;
     'layer: for at in layer {
-        extend(roads, quest, size, at, reached, notes)?;
+        let known = places.get(index).copied().unwrap_or(None);
+        extend(roads, quest, size, at, known, reached, notes)?;
+        index = index.saturating_add(1);
     }
     Ok(())
 }
@@ -63,6 +67,7 @@ pub fn advance<R: Roads, N: Notes>(
     ensures leads { GainsAfter (R.told roads.now) quest.now size reached.old (N.noted notes.old) (N.noted notes.new) }
 {
     let layer = mem::replace(&mut reached.layer, Vec::new(alloc));
-    grow(roads, quest, size, &layer, reached, notes)?;
+    let places = mem::replace(&mut reached.places, Vec::new(alloc));
+    grow(roads, quest, size, &layer, &places, reached, notes)?;
     Ok(())
 }

@@ -2,7 +2,7 @@
 ghost use Rattle.std.specs.Prelude.{ℕ, List, IfOk, IfSome};
 ghost use Rattle.wot_types.specs.declared.fpr.Fpr.{Fpr as Print};
 ghost use Rattle.wot_edge.specs.Record.{Record};
-ghost use Rattle.wot_search.specs.Making.{IsChecking, IsMaking};
+ghost use Rattle.wot_search.specs.Making.{GivesReach, IsChecking, IsMaking};
 ghost use Rattle.wot_search.specs.Reach.{IsReach};
 
 use crate::checking::{Checking, Numbering};
@@ -34,8 +34,7 @@ pub enum Making {
 impl Making {
     /// The table, once it is made.
     pub fn reach(&self) -> Option<&Reach>
-        ensures reach { (told : List ℕ → Record) (roots : List (Print × ℕ)) → IsMaking told roots self.now
-            → IfSome result (λ reach. IsReach told roots reach.now) }
+        ensures reach { GivesReach self.now result }
     {
         match self {
             Making::Made(reach) => Some(reach),

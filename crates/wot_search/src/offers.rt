@@ -1,15 +1,18 @@
-ghost use Rattle.std.specs.Prelude.{ℕ, List, IfOk, OnOk};
+ghost use Rattle.std.specs.Prelude.{◌≡◌, ℕ, List, nat_le, true, IfOk, OnOk};
+ghost use Rattle.std.specs.List.{list_all};
+ghost use Rattle.std.specs.Map.{values_of};
 ghost use Rattle.wot_edge.specs.Record.{IsRecord};
+ghost use Rattle.wot_edge.specs.Roots.{NoneOver};
 ghost use Rattle.wot_edge.specs.Sums.{use_in};
 ghost use Rattle.wot_search.specs.Asked.{AreNextLocally, IsWithin, LeadsToAsked, question_of};
 ghost use Rattle.wot_search.specs.Growth.{IsAfter};
 ghost use Rattle.wot_search.specs.Looked.{Gains, Widens};
-ghost use Rattle.wot_search.specs.Offers.{AddsOffer, AreFoundOffers, AreNextFor, AreOfferedBy, IsOfferIf};
+ghost use Rattle.wot_search.specs.Offers.{AddsOffer, AreFoundOffers, AreNextFor, AreOfferedBy, AreWide, IsOfferIf};
 ghost use Rattle.wot_search.specs.Quest.{LeadsOn, WhateverTold, quest_of};
 ghost use Rattle.wot_search.specs.Reached.{look};
 
 use crate::asked::Asked;
-use crate::first::{begin, first};
+use crate::first::{begin, first, first_from};
 use crate::grow::advance;
 use crate::left::left_of_root;
 use crate::next::bound_amounts;
@@ -20,7 +23,7 @@ use crate::reached::{Reached, node_at};
 use crate::turn::path_from;
 use std::alloc::Global;
 use std::collections::BTreeMap;
-use wot_edge::{Path, Roads, Used};
+use wot_edge::{Path, Roads, Roots, Used};
 use wot_types::{Fpr, Memory};
 
 /// What a search finds in so many layers. Nothing is noted of what it looks at.
@@ -124,11 +127,8 @@ pub(crate) fn offers_by<R: Roads>(
     Ok(paths)
 }
 
-/// Next paths that one search finds: the next one, and after it, of each later root, the one that is next once less is
-/// left of the roots before it, while as much is left of its own root and of its edges. None where no valid path of
-/// positive amount is left. The search passes over each issuer where it would stand further before the target than its
-/// reach. Each fingerprint that was looked at is noted.
-pub fn next_paths_within<R: Roads, N: Notes>(
+/// The same by two searches: one finds the greatest amount, and one the least lists of this amount.
+fn next_paths_by_two<R: Roads, N: Notes>(
     alloc: Global,
     roads: &R,
     asked: &Asked,
@@ -176,6 +176,97 @@ pub fn next_paths_within<R: Roads, N: Notes>(
             };
             let size = path.steps.as_slice().len() as u8;
             let paths = offers_by(alloc, roads, &least, size)?;
+            Ok(paths)
+        }
+    }
+}
+
+/// Whether no root has more.
+fn is_most(roots: &Roots, amount: u8) -> bool
+    ensures most { result ≡ true → NoneOver amount roots.now }
+{
+    'roots: for (_fpr, most) in roots.iter() {
+        if amount < most {
+            return false;
+        }
+    }
+    true
+}
+
+/// Whether each node has at least so much.
+fn are_wide(nodes: &BTreeMap<Fpr, Node>, amount: u8) -> bool
+    ensures wide { result ≡ list_all (λ node. nat_le amount node.width) (values_of nodes.now.entries) }
+{
+    nodes.values().all(|node| amount <= node.width)
+}
+
+/// Whether a path of so much is of the greatest amount, and as much is left of all that was found.
+fn serves(roots: &Roots, nodes: &BTreeMap<Fpr, Node>, amount: u8) -> bool
+    ensures most { result ≡ true → NoneOver amount roots.now }
+    ensures wide { result ≡ true → AreWide amount (look nodes.now) }
+{
+    if !is_most(roots, amount) {
+        return false;
+    }
+    are_wide(nodes, amount)
+}
+
+/// Next paths that one search finds: the next one, and after it, of each later root, the one that is next once less is
+/// left of the roots before it, while as much is left of its own root and of its edges. None where no valid path of
+/// positive amount is left. The search passes over each issuer where it would stand further before the target than its
+/// reach. Each fingerprint that was looked at is noted.
+///
+/// Where all amounts are the same, as most are, the first search finds both the greatest amount and the least lists.
+pub fn next_paths_within<R: Roads, N: Notes>(
+    alloc: Global,
+    roads: &R,
+    asked: &Asked,
+    used: &Used,
+    notes: &mut N,
+) -> Result<Vec<Path>, Memory>
+    requires reach { IsWithin (R.told roads.now) asked.now }
+    ensures next { IfOk result (λ paths. AreNextFor (question_of (R.told roads.now) asked.now) (use_in used.now)
+        paths.items) }
+    ensures grows { Widens (N.noted notes.old) (N.noted notes.new) }
+    ensures leads { Gains (LeadsToAsked (R.told roads.now) asked.now) (N.noted notes.old) (N.noted notes.new) }
+
+    // Where nothing is left out, they are also those of each question that agrees on a set that has what is noted.
+    ensures local { IfOk result (λ paths. AreNextLocally (R.told roads.now) asked.now used.now (N.noted notes.new)
+        paths.items) }
+    ensures lawful { IfOk result (λ paths. IsRecord (R.told roads.now asked.now.uid.now)) }
+{
+    if asked.reach.is_everywhere() {
+        return next_paths_by_two(alloc, roads, asked, used, notes);
+    }
+    notes.note(asked.target)?;
+    if !roads.in_order(asked.target, asked.uid) {
+        return Ok(Vec::new(alloc));
+    }
+    bound_amounts(asked.roots);
+    // The order of the roots, as a fact.
+    let _count = asked.roots.len();
+    let any = Quest {
+        roots: asked.roots,
+        used,
+        reach: asked.reach,
+        target: asked.target,
+        uid: asked.uid,
+        goal: Goal::Least,
+        least: 1,
+    };
+    let mut reached = begin(alloc, asked.target)?;
+    match first_from(alloc, roads, &any, &mut reached, notes)? {
+        None => Ok(Vec::new(alloc)),
+        Some(path) => {
+            if !serves(asked.roots, &reached.nodes, path.amount) {
+                return next_paths_by_two(alloc, roads, asked, used, notes);
+            }
+            let least = Quest {
+                least: path.amount,
+                ..any
+            };
+            let size = path.steps.as_slice().len() as u8;
+            let paths = offers_of(alloc, &least, &reached.nodes, size)?;
             Ok(paths)
         }
     }

@@ -2,7 +2,7 @@
 ghost use Rattle.std.specs.Prelude.{◌≡◌, ◌++◌, ◌∷◌, [], ℕ, List, true, IfOk, IfSome, OnOk};
 ghost use Rattle.wot_types.specs.declared.fpr.Fpr.{Fpr as Print};
 ghost use Rattle.wot_edge.specs.Record.{Record, Has, edges_into};
-ghost use Rattle.wot_search.specs.Onward.{AddsLead, AreOnward, IsUsableIf, LeadsOnInto, leads_on};
+ghost use Rattle.wot_search.specs.Onward.{AddsLead, AreOnward, GivesOnward, IsUsableIf, LeadsOnInto, leads_on};
 ghost use Rattle.wot_search.specs.Reach.{number_of};
 ghost use Rattle.wot_search.specs.Slots.{AreSlots};
 
@@ -22,6 +22,8 @@ pub struct Onward {
     pub places: Vec<usize, Global>,
     /// Whether these edges are known to be usable, so that a search needn't ask.
     pub usable: bool,
+    /// Whether all edges into the fingerprint are.
+    pub all_usable: bool,
 }
 
 impl Onward {
@@ -35,13 +37,13 @@ impl Onward {
             edges: Vec::new(alloc),
             places: Vec::new(alloc),
             usable: true,
+            all_usable: true,
         }
     }
 
     /// These, if they are of this fingerprint.
     pub(crate) fn of_fpr(&self, fpr: &Fpr) -> Option<&Onward>
-        ensures leads { (told : List ℕ → Record) (number : Print → ℕ) → LeadsOnInto told number self.now.fpr self.now
-            → IfSome result (λ one. LeadsOnInto told number fpr.now one.now) }
+        ensures same { IfSome result (λ one. (one.now ≡ self.now) × (self.now.fpr ≡ fpr.now)) }
     {
         if self.fpr == *fpr { Some(self) } else { None }
     }
@@ -49,8 +51,7 @@ impl Onward {
 
 /// Those at a place, if they are of this fingerprint.
 pub(crate) fn onward_at<'a>(onward: &'a [Onward], place: usize, fpr: &Fpr) -> Option<&'a Onward>
-    ensures leads { (told : List ℕ → Record) (number : Print → ℕ) → AreOnward told number onward.now
-        → IfSome result (λ one. LeadsOnInto told number fpr.now one.now) }
+    ensures leads { (number : Print → ℕ) → GivesOnward number onward.now fpr.now result }
 {
     if place >= onward.len() {
         return None;
@@ -87,6 +88,7 @@ fn put_edge<R: Roads>(
 ) -> Result<(), Memory>
     requires row { (id : List ℕ) → Has (edges_into (R.told roads.now id) edge.now.target) edge.now }
     ensures fpr { onward.new.fpr ≡ onward.old.fpr }
+    ensures all { onward.new.all_usable ≡ onward.old.all_usable }
     ensures edges { OnOk result (onward.new.edges.items ≡ onward.old.edges.items ++ edge.now ∷ []) }
     ensures usable { OnOk result (IsUsableIf (R.told roads.now) onward.old.usable onward.new.usable edge.now) }
 {
@@ -98,7 +100,7 @@ fn put_edge<R: Roads>(
     Ok(())
 }
 
-/// Appends an edge if it leads on.
+/// Looks at an edge, and appends it if it leads on.
 fn put_if<R: Roads>(
     roads: &R,
     slots: &Slots,
@@ -112,6 +114,7 @@ fn put_if<R: Roads>(
     ensures adds { OnOk result (AddsLead (R.told roads.now) (number_of numbers.now.entries) edge.now
         onward.old onward.new) }
 {
+    onward.all_usable = is_usable_too(roads, onward.all_usable, edge);
     if !is_onward(slots, numbers, edge) {
         return Ok(());
     }

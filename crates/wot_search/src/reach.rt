@@ -2,7 +2,7 @@ ghost use Rattle.std.specs.Prelude.{◌≡◌, ◌<◌, ℕ, List, [], true, fal
 ghost use Rattle.wot_types.specs.declared.fpr.Fpr.{Fpr as Print};
 ghost use Rattle.wot_edge.specs.Record.{Record, Has, edges_into};
 ghost use Rattle.wot_edge.specs.Roots.{root_amount};
-ghost use Rattle.wot_search.specs.Onward.{AreOnward, LeadsOnInto};
+ghost use Rattle.wot_search.specs.Onward.{AreOnward, GivesOnward};
 ghost use Rattle.wot_search.specs.Reach.{Allows, HasEnough, IsReach, number_at, number_of};
 
 use crate::onward::{Onward, onward_at, put_onward};
@@ -51,6 +51,11 @@ impl Reach {
         }
     }
 
+    /// Whether it has no numbers, and so leaves nothing out.
+    pub(crate) fn is_everywhere(&self) -> bool {
+        self.rows.is_empty()
+    }
+
     /// How many edges before a target a fingerprint may stand at most.
     pub fn get(&self, fpr: &Fpr) -> u8
         ensures number { result ≡ number_at self.now fpr.now }
@@ -64,6 +69,19 @@ impl Reach {
     /// At which place of the table a fingerprint is, if it is found.
     pub(crate) fn place(&self, fpr: &Fpr) -> Option<usize> {
         self.slots.place(fpr)
+    }
+
+    /// The same where it may be known already.
+    pub(crate) fn place_known(&self, known: Option<u32>, fpr: &Fpr) -> Option<usize> {
+        match known {
+            Some(place) => Some(place as usize),
+            None => self.place(fpr),
+        }
+    }
+
+    /// At which place of the table the issuer is whose number is at this place, if that is known.
+    pub(crate) fn issuer_place(&self, place: usize) -> Option<u32> {
+        self.rows.issuer(place)
     }
 
     /// Where the numbers of the issuers of the edges into the fingerprint at a place begin, for
@@ -85,10 +103,9 @@ impl Reach {
         }
     }
 
-    /// The places of the edges into a fingerprint that lead on, if it is at this place.
+    /// The edges into a fingerprint that lead on, if it is at this place.
     pub(crate) fn onward(&self, place: Option<usize>, fpr: &Fpr) -> Option<&Onward>
-        ensures leads { (told : List ℕ → Record) → AreOnward told (number_at self.now) self.now.onward
-            → IfSome result (λ one. LeadsOnInto told (number_at self.now) fpr.now one.now) }
+        ensures leads { GivesOnward (number_at self.now) self.now.onward fpr.now result }
     {
         match place {
             Some(place) => onward_at(&self.onward, place, fpr),

@@ -13,6 +13,8 @@ use wot_types::{Fpr, Memory};
 pub struct Reached {
     pub nodes: BTreeMap<Fpr, Node, Global>,
     pub layer: Vec<Fpr, Global>,
+    /// At which place of the table of reach each of the last layer is, where that is known: no more than a hint.
+    pub places: Vec<Option<u32>, Global>,
 }
 
 /// What was found for an issuer.
@@ -45,8 +47,9 @@ pub fn width_at(reached: &Reached, size: u8, at: &Fpr) -> u8
     }
 }
 
-/// Keeps a node for its issuer; where it is the first one there, the issuer is of the last layer.
-pub fn put(reached: &mut Reached, node: Node) -> Result<(), Memory>
+/// Keeps a node for its issuer, which may be known to be at this place; where it is the first one there, the issuer is
+/// of the last layer.
+pub fn put(reached: &mut Reached, node: Node, place: Option<u32>) -> Result<(), Memory>
     ensures nodes { OnOk result (PutsNode reached.old reached.new node) }
     ensures layer { OnOk result (PutsIssuer reached.old reached.new node.step.issuer) }
 {
@@ -54,6 +57,7 @@ pub fn put(reached: &mut Reached, node: Node) -> Result<(), Memory>
     let before = reached.nodes.insert(issuer, node)?;
     if before.is_none() {
         reached.layer.push(issuer)?;
+        reached.places.push(place)?;
     }
     Ok(())
 }

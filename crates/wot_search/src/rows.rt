@@ -27,11 +27,24 @@ impl Rows {
         }
     }
 
+    /// Whether there are none.
+    pub(crate) fn is_empty(&self) -> bool {
+        self.slots.is_empty()
+    }
+
     /// Where the slots of the edges into the fingerprint at a place begin, if it has some.
     pub(crate) fn start(&self, place: usize) -> usize {
         match self.starts.get(place) {
             Some(start) => *start as usize,
             None => usize::MAX,
+        }
+    }
+
+    /// At which place of the table the issuer of the slot at a place is, if that is known.
+    pub(crate) fn issuer(&self, place: usize) -> Option<u32> {
+        match self.slots.get(place) {
+            Some(slot) => slot.place,
+            None => None,
         }
     }
 
@@ -92,6 +105,11 @@ fn put_issuer(
     ensures rows { AreSlots numbers.now.entries rows.new.items }
 {
     let number = number_by(slots, numbers, fpr);
-    rows.push(Slot { fpr: *fpr, number })?;
+    let place = slots.short_place(fpr);
+    rows.push(Slot {
+        fpr: *fpr,
+        number,
+        place,
+    })?;
     Ok(())
 }

@@ -13,6 +13,8 @@ use wot_types::{Fpr, Memory};
 pub(crate) struct Slot {
     pub(crate) fpr: Fpr,
     pub(crate) number: u8,
+    /// At which place of the table it is, where that is known.
+    pub(crate) place: Option<u32>,
 }
 
 /// Slots in the order of their fingerprints, in parts of about one, and where each part begins. Fingerprints that crowd
@@ -68,6 +70,14 @@ impl Slots {
             Some(start) => place_from(&self.slots, *start as usize, fpr),
         }
     }
+
+    /// The same in four octets.
+    pub(crate) fn short_place(&self, fpr: &Fpr) -> Option<u32> {
+        match self.place(fpr) {
+            Some(place) => u32::try_from(place).ok(),
+            None => None,
+        }
+    }
 }
 
 /// In which of so many parts a fingerprint is, by its first two octets.
@@ -118,6 +128,7 @@ fn put_slot(slots: &mut Vec<Slot>, numbers: &BTreeMap<Fpr, u8>, fpr: &Fpr) -> Re
     slots.push(Slot {
         fpr: *fpr,
         number: number_in(numbers, fpr),
+        place: None,
     })?;
     Ok(())
 }

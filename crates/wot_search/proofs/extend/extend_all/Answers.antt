@@ -1,7 +1,12 @@
 use Rattle.std.proofs.Common.{List, sym, subst}
 use Rattle.wot_edge.specs.declared.edge.EdgeFacts.{EdgeFacts}
 use Rattle.wot_edge.specs.Record.{Has}
+use Rattle.wot_search.specs.Onward.{AreUsableIf}
 use Rattle.wot_search.proofs.extend.extend_all.Goals as goal
+
+pub extend_by-requires-clause-usable : goal.extend_by-requires-clause-usable
+extend_by-requires-clause-usable g c =
+    subst (AreUsableIf (g.R.Roads.told c.args.roads.now) c.args.usable) (sym (c.rows-edges.ensures.rows c.args.quest.now.uid.now)) (c.requires.usable c.args.quest.now.uid.now)
 
 pub extend_by-requires-clause-matter : goal.extend_by-requires-clause-matter
 extend_by-requires-clause-matter g c = record {

@@ -5,8 +5,8 @@ use Rattle.wot_types.specs.declared.fpr.Fpr.{Fpr}
 use Rattle.wot_types.specs.FprLaws.{same_cmp}
 use Rattle.wot_search.proofs.reached.put.Goals as goal
 
-pub returns-in_ok-push-clause-nodes : goal.returns-in_ok-push-clause-nodes
-returns-in_ok-push-clause-nodes c fpr =
+pub returns-in_ok-push-2-clause-nodes : goal.returns-in_ok-push-2-clause-nodes
+returns-in_ok-push-2-clause-nodes c fpr =
     let P : (Fpr → Fpr → Ordering) → Type 0 = λ cmp. lookup (is_at (cmp fpr)) c.insert.new.self.entries ≡ cond (is_at (cmp c.args.node.step.issuer) fpr) (Some c.args.node) (lookup (is_at (cmp fpr)) c.args.reached.now.nodes.entries) in
     subst P same_cmp (c.in_ok-before.ensures.updates.0 fpr)
 

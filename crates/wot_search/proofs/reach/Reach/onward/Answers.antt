@@ -1,6 +1,4 @@
-use Rattle.std.proofs.Common.{◌≡◌, List, ℕ, ap, sym, subst, ◌∙◌}
-use Rattle.std.specs.Prelude.{IfSome}
-use Rattle.wot_search.specs.declared.onward.Onward.{Onward}
+use Rattle.std.proofs.Common.{◌≡◌, ap, sym, subst, ◌∙◌}
 use Rattle.wot_search.specs.Onward.{AreOnward}
 use Rattle.wot_search.specs.Reach.{Table, number_at}
 use Rattle.wot_search.proofs.reach.Reach.onward.Goals as goal
@@ -9,5 +7,5 @@ pub returns-in-Some : goal.returns-in-Some
 returns-in-Some c = record {
   leads = λ told are.
       let same : c.args.self.now.onward ≡ c.deref.result.now = ap (λ (table : Table). table.onward) (sym c.self.view_is) ∙ sym c.deref.ensures.value in
-      c.onward_at.ensures.leads told (number_at c.args.self.now) (subst (AreOnward told (number_at c.args.self.now)) same are);
+      c.onward_at.ensures.leads (number_at c.args.self.now) told (subst (AreOnward told (number_at c.args.self.now)) same are);
 }

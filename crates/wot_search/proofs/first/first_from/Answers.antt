@@ -6,7 +6,7 @@ use Rattle.wot_search.specs.Quest.{quest_of}
 use Rattle.wot_search.specs.Reached.{look}
 use Rattle.wot_search.specs.Growth.{IsAfter, IsTurn}
 use Rattle.wot_search.proofs.Finding.{after_begin, unrooted_begin, empty_result, empty_looked, first_result, last_result, looked_fewer, none_there, turned}
-use Rattle.wot_search.proofs.first.first.Goals as goal
+use Rattle.wot_search.proofs.first.first_from.Goals as goal
 
 pub returns-then-is_empty-clause-first : goal.returns-then-is_empty-clause-first
 returns-then-is_empty-clause-first g c =
@@ -64,9 +64,9 @@ layers-preserved g c =
 pub layers-init : goal.layers-init
 layers-init g c =
     let quest = quest_of (g.R.Roads.told c.args.roads.now) c.args.quest.now in
-    let reached = c.in_ok-reached.reached in
+    let reached = c.args.reached.now in
     record {
-      after = after_begin quest reached (g.N.Notes.noted c.args.notes.now) c.in_ok-reached.ensures.nodes c.in_ok-reached.ensures.layer;
+      after = after_begin quest reached (g.N.Notes.noted c.args.notes.now) c.requires.nodes c.requires.layer;
       unrooted = unrooted_begin quest (look reached.nodes);
       grows = λ fpr h. h;
       leads = λ fpr h. inl h;
@@ -111,3 +111,16 @@ returns-in-Some-clause-grows g c fpr h = c.in_ok-advance.ensures.grows fpr (c.la
 
 pub returns-in-Some-clause-leads : goal.returns-in-Some-clause-leads
 returns-in-Some-clause-leads g c fpr h = elim (c.in_ok-advance.ensures.leads c.layers.invariant.after fpr h) [ inl k ↦ c.layers.invariant.leads fpr k | inr l ↦ inr l ]
+
+pub returns-in-Some-clause-after : goal.returns-in-Some-clause-after
+returns-in-Some-clause-after g c =
+    let quest = quest_of (g.R.Roads.told c.args.roads.now) c.args.quest.now in
+    let found = look c.advance.new.reached.nodes in
+    let inv = c.layers.invariant in
+    let ok = c.in_ok-advance.ensures in
+    let after = ok.after inv.after in
+    let turn = turned quest c.layers.size c.advance.new.reached (g.N.Notes.noted c.advance.new.notes) _ (c.requires.lawful c.args.quest.now.uid.now) c.requires.small after (ok.unrooted inv.after inv.unrooted) (c.in_ok-turn.ensures (g.R.Roads.told c.args.roads.now)) in
+    let f = subst (λ (o : Option Path). IsTurn quest found (c.layers.size + 1) o) c.in-Some.is turn in
+    let l = f.long in
+    let n : suc c.layers.size ≡ length c.in-Some.path.steps = omega (arith, l) in
+    subst (λ (m : ℕ). IsAfter quest m c.advance.new.reached (g.N.Notes.noted c.advance.new.notes)) n after

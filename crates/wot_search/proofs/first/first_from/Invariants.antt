@@ -4,7 +4,7 @@ use Rattle.wot_search.specs.Looked.{Gains, Widens}
 use Rattle.wot_search.specs.Quest.{quest_of}
 use Rattle.wot_search.specs.Reached.{look}
 use Rattle.wot_search.specs.Growth.{IsAfter, IsUnrooted}
-use Rattle.wot_search.proofs.first.first.Given as goal
+use Rattle.wot_search.proofs.first.first_from.Given as goal
 
 abbrev pub invariant-layers : goal.invariant-layers
 invariant-layers g l =
