@@ -12,12 +12,12 @@ use Rattle.wot_io.specs.Given as given
 use Rattle.wot_io.specs.declared.lines.Line.{Line}
 use Rattle.wot_policy.specs.declared.rows.PolicyRows.{PolicyRows}
 use Rattle.wot_certd.specs.World.{World}
-use Rattle.wot_engine.specs.Whole.{Whole, beginning}
+use Rattle.wot_machine.specs.Whole.{Whole, beginning}
+use Rattle.wot_machine.specs.Law.{OneOutcome}
+use Rattle.wot_machine.specs.Transcript.{AllTold, AnsweredFirst, AnsweredMost, Begun, octets_of}
+use Rattle.wot_machine.proofs.Giving.{all_told, all_weaker}
 use Rattle.wot_engine.specs.Held.{Moves, MovesOf}
-use Rattle.wot_engine.specs.Law.{OneOutcome}
 use Rattle.wot_engine.specs.Turn.{Replies}
-use Rattle.wot_engine.specs.Transcript.{AllTold, AnsweredFirst, AnsweredMost, Begun, octets_of}
-use Rattle.wot_engine.proofs.Giving.{all_told, all_weaker}
 use Rattle.wot_engine.proofs.Progress.{Stands, starts, takes_more, took_on}
 use Rattle.wot_engine.proofs.Turns.{First-here, Stood, Turned, cut_most, turned, wrote}
 

@@ -10,19 +10,19 @@ use Rattle.wot_gen.specs.declared.tally.Tally.{Tally}
 use Rattle.wot_gen.specs.Summary.{Tells, amount_in}
 use Rattle.wot_types.specs.Limits.{standard_limits}
 use Rattle.wot_cache.specs.State.{empty}
-use Rattle.wot_engine.specs.Machine.{Machine, kept}
-use Rattle.wot_engine.specs.Whole.{Whole, watched, whole_of}
-use Rattle.wot_engine.specs.Entry.{use_of}
+use Rattle.wot_machine.specs.Machine.{Machine, kept}
+use Rattle.wot_machine.specs.Whole.{Whole, watched, whole_of}
+use Rattle.wot_machine.specs.Entry.{use_of}
+use Rattle.wot_machine.specs.Lines.{heard}
+use Rattle.wot_machine.specs.Ran.{Seen}
+use Rattle.wot_machine.specs.Scene.{Scene, Step, opening}
+use Rattle.wot_machine.specs.Stepped.{Replied}
+use Rattle.wot_machine.specs.Transcript.{Run, listed}
+use Rattle.wot_machine.specs.Watching as watching
+use Rattle.wot_machine.proofs.Giving.{Goes, goes, over}
+use Rattle.wot_machine.proofs.Runs.{Run-append}
 use Rattle.wot_engine.specs.Generated.{no_entries}
-use Rattle.wot_engine.specs.Lines.{heard}
 use Rattle.wot_engine.specs.Played.{Adds, AddsReply, AddsTold, IsPlayed}
-use Rattle.wot_engine.specs.Ran.{Seen}
-use Rattle.wot_engine.specs.Scene.{Scene, Step, opening}
-use Rattle.wot_engine.specs.Stepped.{Replied}
-use Rattle.wot_engine.specs.Transcript.{Run, listed}
-use Rattle.wot_engine.specs.Watching as watching
-use Rattle.wot_engine.proofs.Giving.{Goes, goes, over}
-use Rattle.wot_engine.proofs.Runs.{Run-append}
 
 -- ---- watch lines
 

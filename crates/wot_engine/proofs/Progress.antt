@@ -9,13 +9,13 @@ use Rattle.wot_io.specs.Source.{Loses, LosesOf}
 use Rattle.wot_script.specs.declared.reply.Reply.{Reply}
 use Rattle.wot_script.specs.Replies.{reply_text}
 use Rattle.wot_certd.specs.World.{World}
-use Rattle.wot_engine.specs.Whole.{Whole, beginning}
-use Rattle.wot_engine.specs.Law.{OneOutcome}
-use Rattle.wot_engine.specs.Scene.{Scene, Step, opening}
-use Rattle.wot_engine.specs.Transcript.{Run, RepliesTo, Answered, AnsweredFirst, Begun, AnsweredWhole, AnsweredMost, IsNow, Leaves, listed, octets_of}
-use Rattle.wot_engine.proofs.Giving.{over}
-use Rattle.wot_engine.proofs.Runs.{Run-some, Run-append}
-use Rattle.wot_engine.proofs.CutLines.{lines_of-feed, whole_lines_of-feed, whole_lines_of-none, lines_of-last}
+use Rattle.wot_machine.specs.Whole.{Whole, beginning}
+use Rattle.wot_machine.specs.Law.{OneOutcome}
+use Rattle.wot_machine.specs.Scene.{Scene, Step, opening}
+use Rattle.wot_machine.specs.Transcript.{Run, RepliesTo, Answered, AnsweredFirst, Begun, AnsweredWhole, AnsweredMost, IsNow, Leaves, listed, octets_of}
+use Rattle.wot_machine.proofs.Giving.{over}
+use Rattle.wot_machine.proofs.Runs.{Run-some, Run-append}
+use Rattle.wot_machine.proofs.CutLines.{lines_of-feed, whole_lines_of-feed, whole_lines_of-none, lines_of-last}
 use Rattle.wot_policy.specs.declared.rows.PolicyRows.{PolicyRows}
 
 pub joined : (before : List ℕ) (some others : List Reply) → (before ++ octets_of some) ++ octets_of others ≡ before ++ octets_of (some ++ others)

@@ -10,8 +10,8 @@ use Rattle.wot_certd.specs.World.{World}
 use Rattle.wot_cache.specs.State.{Engine, empty}
 use Rattle.wot_cursor.specs.Cursors.{Cursors}
 use Rattle.wot_watch.specs.Watches.{Watches}
-use Rattle.wot_engine.specs.Machine.{Machine, kept}
-use Rattle.wot_engine.specs.Whole.{Whole, beginning, watched, whole_of}
+use Rattle.wot_machine.specs.Machine.{Machine, kept}
+use Rattle.wot_machine.specs.Whole.{Whole, beginning, watched, whole_of}
 use Rattle.wot_engine.specs.Turn.{Replies, RepliesBehind}
 use Rattle.wot_engine.proofs.Held.{Held, Held-init}
 

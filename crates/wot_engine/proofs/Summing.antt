@@ -14,12 +14,12 @@ use Rattle.wot_script.specs.Spelling.{spelling}
 use Rattle.wot_gen.specs.Script.{IsReadBack, commands_of, line_of, text_of}
 use Rattle.wot_gen.specs.declared.tally.Tally.{Tally}
 use Rattle.wot_gen.specs.Summary.{Tells, amounts_in, summary, transcript_digest}
+use Rattle.wot_machine.specs.Law.{OneOutcome}
+use Rattle.wot_machine.specs.Transcript.{RepliesTo}
+use Rattle.wot_machine.proofs.CutLines.{lines_of-feed}
+use Rattle.wot_machine.proofs.Runs.{RepliesTo-some}
 use Rattle.wot_engine.specs.Generated.{IsSummary, SummaryBegun, Summarized, no_entries, script_lines}
-use Rattle.wot_engine.specs.Law.{OneOutcome}
 use Rattle.wot_engine.specs.Played.{IsPlayed}
-use Rattle.wot_engine.specs.Transcript.{RepliesTo}
-use Rattle.wot_engine.proofs.CutLines.{lines_of-feed}
-use Rattle.wot_engine.proofs.Runs.{RepliesTo-some}
 
 -- each command is one line
 pub lines_counted : (commands : List Command) → AllByRecursion IsReadBack commands → length (lines_of (text_of commands)) ≡ length commands

@@ -3,7 +3,7 @@ use Rattle.std.proofs.Common.{◌≡◌, ℕ, ◌≤◌, ◌^◌, List, [], leng
 use Rattle.wot_io.specs.Fill.{Took}
 use Rattle.wot_io.specs.Source.{Loses, LosesOf}
 use Rattle.wot_io.specs.ReaderState.{ReaderState}
-use Rattle.wot_engine.specs.Transcript.{HasMost, TakesAtMost}
+use Rattle.wot_machine.specs.Transcript.{HasMost, TakesAtMost}
 use Rattle.wot_engine.proofs.Replying.{fresh}
 
 loses_nothing : (left : Option (List ℕ)) → Loses left left []

@@ -11,20 +11,20 @@ use Rattle.wot_io.specs.declared.lines.Line.TheVariants.{Text, Long, End}
 use Rattle.wot_script.specs.declared.reply.Reply.{Reply}
 use Rattle.wot_script.specs.Replies.{reply_text}
 use Rattle.wot_certd.specs.World.{World}
-use Rattle.wot_engine.specs.Whole.{Whole, beginning}
-use Rattle.wot_engine.specs.Entry.{IsServed, Use, unused, use_of}
-use Rattle.wot_engine.specs.Law.{OneOutcome}
-use Rattle.wot_engine.specs.Lines.{heard}
-use Rattle.wot_engine.specs.LineStep.{LineStep}
-use Rattle.wot_engine.specs.Scene.{Step, opening}
-use Rattle.wot_engine.specs.Served.{Served}
+use Rattle.wot_machine.specs.Whole.{Whole, beginning}
+use Rattle.wot_machine.specs.Entry.{IsServed, Use, unused, use_of}
+use Rattle.wot_machine.specs.Law.{OneOutcome}
+use Rattle.wot_machine.specs.Lines.{heard}
+use Rattle.wot_machine.specs.LineStep.{LineStep}
+use Rattle.wot_machine.specs.Scene.{Step, opening}
+use Rattle.wot_machine.specs.Served.{Served}
+use Rattle.wot_machine.specs.Watching.{Tells}
+use Rattle.wot_machine.specs.Transcript.{Run, Answered, AnsweredFirst, Begun, AnsweredWhole, AnsweredMost, AllTold, IsNow, Leaves, listed, octets_of}
+use Rattle.wot_machine.proofs.Giving.{IsUncalled, all_told, all_weaker, goes, may_call, over}
+use Rattle.wot_machine.proofs.Runs.{Run-one, Run-prefix}
+use Rattle.wot_machine.proofs.Stepping.{heard_long}
 use Rattle.wot_engine.specs.Turn.{Replies}
-use Rattle.wot_engine.specs.Watching.{Tells}
-use Rattle.wot_engine.specs.Transcript.{Run, Answered, AnsweredFirst, Begun, AnsweredWhole, AnsweredMost, AllTold, IsNow, Leaves, listed, octets_of}
-use Rattle.wot_engine.proofs.Giving.{IsUncalled, all_told, all_weaker, goes, may_call, over}
-use Rattle.wot_engine.proofs.Runs.{Run-one, Run-prefix}
 use Rattle.wot_engine.proofs.Progress.{Stands, starts, goes_on, so_far, comes_next, at_end, leaves, at_first, at_stop, at_most}
-use Rattle.wot_engine.proofs.Stepping.{heard_long}
 use Rattle.wot_policy.specs.declared.rows.PolicyRows.{PolicyRows}
 
 module _ (rows : PolicyRows) where

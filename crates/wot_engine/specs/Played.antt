@@ -6,14 +6,14 @@ use Rattle.wot_certd.specs.Memory.{ShelfMemory}
 use Rattle.wot_certd.specs.World.{World}
 use Rattle.wot_gen.specs.declared.tally.Tally.{Tally}
 use Rattle.wot_gen.specs.Summary.{Tells}
-use Rattle.wot_engine.specs.Both.{Ends}
+use Rattle.wot_machine.specs.Both.{Ends}
+use Rattle.wot_machine.specs.Scene.{Scene, Step}
+use Rattle.wot_machine.specs.Ran.{Seen}
+use Rattle.wot_machine.specs.Stepped.{Replied}
+use Rattle.wot_machine.specs.Transcript.{RepliesTo, listed}
+use Rattle.wot_machine.specs.Watching as watching
+use Rattle.wot_machine.specs.Whole.{Whole}
 use Rattle.wot_engine.specs.Generated.{no_entries}
-use Rattle.wot_engine.specs.Scene.{Scene, Step}
-use Rattle.wot_engine.specs.Ran.{Seen}
-use Rattle.wot_engine.specs.Stepped.{Replied}
-use Rattle.wot_engine.specs.Transcript.{RepliesTo, listed}
-use Rattle.wot_engine.specs.Watching as watching
-use Rattle.wot_engine.specs.Whole.{Whole}
 
 -- The line had its step, and its reply and the watch lines behind it were added to the tally.
 pub record Adds (rows : PolicyRows) (line : List ℕ) (old : Scene) (before : Tally) (new : Scene) (after : Tally)

@@ -4,9 +4,9 @@ use Rattle.wot_io.specs.Counts.{Rose}
 use Rattle.wot_io.specs.Input.{lines_of}
 use Rattle.wot_policy.specs.declared.rows.PolicyRows.{PolicyRows}
 use Rattle.wot_certd.specs.World.{World}
-use Rattle.wot_engine.specs.Both.{Ends}
+use Rattle.wot_machine.specs.Both.{Ends}
+use Rattle.wot_machine.specs.Transcript.{AllTold, Answered, AnsweredFirst, AnsweredMost, AnsweredWhole, Begun, Leaves}
 use Rattle.wot_engine.specs.Forms.{IsForm, IsRun, OnGenerated}
-use Rattle.wot_engine.specs.Transcript.{AllTold, Answered, AnsweredFirst, AnsweredMost, AnsweredWhole, Begun, Leaves}
 
 -- what a source has left, or what was written to a sink
 abbrev pub Octets : Type 0

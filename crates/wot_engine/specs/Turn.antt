@@ -6,14 +6,14 @@ use Rattle.wot_io.specs.declared.lines.Line.TheVariants.{Text, Long, End}
 use Rattle.wot_policy.specs.declared.rows.PolicyRows.{PolicyRows}
 use Rattle.wot_script.specs.declared.reply.Reply.{Reply}
 use Rattle.wot_certd.specs.World.{World}
-use Rattle.wot_engine.specs.Both.{Ends}
-use Rattle.wot_engine.specs.Entry.{IsServed, Use, unused, use_of}
-use Rattle.wot_engine.specs.Lines.{heard, longest}
-use Rattle.wot_engine.specs.LineStep.{LineStep}
-use Rattle.wot_engine.specs.Served.{Served}
-use Rattle.wot_engine.specs.Watching.{Tells}
-use Rattle.wot_engine.specs.Whole.{Whole}
-use Rattle.wot_engine.specs.Transcript.{listed, octets_of}
+use Rattle.wot_machine.specs.Both.{Ends}
+use Rattle.wot_machine.specs.Entry.{IsServed, Use, unused, use_of}
+use Rattle.wot_machine.specs.Lines.{heard, longest}
+use Rattle.wot_machine.specs.LineStep.{LineStep}
+use Rattle.wot_machine.specs.Served.{Served}
+use Rattle.wot_machine.specs.Watching.{Tells}
+use Rattle.wot_machine.specs.Whole.{Whole}
+use Rattle.wot_machine.specs.Transcript.{listed, octets_of}
 
 -- the reader of lines before the first one
 abbrev pub unread : ReaderState

@@ -1,33 +1,14 @@
-//! The machine that answers lines, and the program's top call.
+//! The program's top call: a run of the machine over a source and a sink.
 #![tactic(auto)]
 
-mod absence;
-mod answer;
-mod bindings;
-mod checking;
-mod commands;
 mod form;
-mod fresh;
 mod generated;
-mod laws;
-mod listing;
-mod load;
-mod machine;
-mod pacing;
-mod pending;
-mod reasons;
-mod refusal;
 mod run;
-mod store;
-mod told;
-mod watching;
 mod words;
 
-pub use fresh::dump_makes_the_state_anew;
-pub use laws::{
-    answers_depend_on_what_is_present, claims_of_absence_hold, each_input_has_one_transcript,
-    each_line_has_one_outcome, pieces_join_to_the_list, reached_states_are_judged,
-    watches_are_true,
-};
-pub use machine::Machine;
 pub use words::run_words;
+pub use wot_machine::{
+    Machine, answers_depend_on_what_is_present, claims_of_absence_hold, dump_makes_the_state_anew,
+    each_input_has_one_transcript, each_line_has_one_outcome, pieces_join_to_the_list,
+    reached_states_are_judged, watches_are_true,
+};

@@ -1,22 +1,22 @@
 ghost use Rattle.std.specs.Prelude.{◌≡◌, ◌⊎◌, ◌↔◌, map, string_bytes};
 ghost use Rattle.wot_policy.specs.Kept.{IsFaithful, rows_of};
 ghost use Rattle.wot_io.specs.Counts.{Rose};
-ghost use Rattle.wot_engine.specs.Both.{ends};
+ghost use Rattle.wot_machine.specs.Both.{ends};
+ghost use Rattle.wot_machine.specs.Transcript.{TakesAtMost};
 ghost use Rattle.wot_engine.specs.Ends.{status_at};
 ghost use Rattle.wot_engine.specs.Forms.{IsForm};
 ghost use Rattle.wot_engine.specs.Generated.{BeginsSummary, WritesSummary};
 ghost use Rattle.wot_engine.specs.Told.{AreOfRun, Done, IsEither, IsUnfailed, OnScript, ReadsFew};
 ghost use Rattle.wot_engine.specs.Told.{MovesShelf, OnMost, WritesAll, WritesMost, WritesPrefix, WritesSome};
 ghost use Rattle.wot_engine.specs.Told.{WritesTaken};
-ghost use Rattle.wot_engine.specs.Transcript.{TakesAtMost};
 
 use crate::form::{Form, form_of};
 use crate::generated::generate;
-use crate::laws::each_line_has_one_outcome;
 use crate::run::{Stop, run};
 use std::alloc::Global;
 use wot_certd::Shelf;
 use wot_io::{Sink, Source};
+use wot_machine::each_line_has_one_outcome;
 use wot_policy::{Ask, Policy};
 
 /// Runs the program on the words after its name, and answers its exit status:

@@ -3,10 +3,10 @@ use Rattle.wot_policy.specs.declared.rows.PolicyRows.{PolicyRows}
 use Rattle.wot_policy.specs.Kept.{rows_of}
 use Rattle.wot_keyring.specs.Kept.{IsJudgedBy}
 use Rattle.wot_cache.specs.State.{Engine}
-use Rattle.wot_engine.specs.Machine.{kept}
+use Rattle.wot_machine.specs.Machine.{kept}
+use Rattle.wot_machine.specs.Scene.{Scene}
+use Rattle.wot_machine.proofs.Giving.{over}
 use Rattle.wot_engine.specs.Played.{Adds}
-use Rattle.wot_engine.specs.Scene.{Scene}
-use Rattle.wot_engine.proofs.Giving.{over}
 use Rattle.wot_engine.proofs.Playing.{goes_on, starts_with}
 use Rattle.wot_engine.proofs.Replying.{judged}
 use Rattle.wot_engine.proofs.Stops.{unless_ok}

@@ -1,9 +1,9 @@
 use Rattle.std.proofs.Common.{Some, refl}
 use Rattle.wot_policy.specs.Kept.{rows_of}
-use Rattle.wot_engine.specs.Machine.{kept}
-use Rattle.wot_engine.specs.Ran.{Seen}
+use Rattle.wot_machine.specs.Machine.{kept}
+use Rattle.wot_machine.specs.Ran.{Seen}
+use Rattle.wot_machine.proofs.Running.{told_settled}
 use Rattle.wot_engine.proofs.Playing.{adds_none}
-use Rattle.wot_engine.proofs.Running.{told_settled}
 use Rattle.wot_engine.proofs.generated.add_reply.Goals as goal
 
 pub returns-in_ok-add-in-Some-clause-added : goal.returns-in_ok-add-in-Some-clause-added

@@ -8,10 +8,10 @@ use Rattle.wot_policy.specs.declared.rows.PolicyRows.{PolicyRows}
 use Rattle.wot_policy.specs.Kept.{rows_of}
 use Rattle.wot_keyring.specs.Kept.{IsJudgedBy}
 use Rattle.wot_certd.specs.World.{World}
-use Rattle.wot_engine.specs.Machine.{kept}
-use Rattle.wot_engine.specs.Transcript.{AllTold, Begun}
+use Rattle.wot_machine.specs.Machine.{kept}
+use Rattle.wot_machine.specs.Transcript.{AllTold, Begun}
+use Rattle.wot_machine.proofs.Giving.{told_always}
 use Rattle.wot_engine.specs.declared.run.Stop.TheVariants.{Memory, Read, TooMuch, Write}
-use Rattle.wot_engine.proofs.Giving.{told_always}
 use Rattle.wot_engine.proofs.Held.{Held, Held-begun, Held-cut, Held-first, Held-most, Held-moves, Held-none, Held-reply, Held-written, nothing_held}
 use Rattle.wot_engine.proofs.Stops.{never, never_ok, on_err, rose_on, stopped}
 use Rattle.wot_engine.proofs.Turns.{Answered-end, Answered-stop, AllTold-weaker, Begun-here, Left-end, Most-end, Most-stop, Stood}

@@ -3,11 +3,11 @@ use Rattle.wot_io.specs.declared.lines.Line.{Line}
 use Rattle.wot_policy.specs.declared.rows.PolicyRows.{PolicyRows}
 use Rattle.wot_policy.specs.Kept.{rows_of}
 use Rattle.wot_certd.specs.World.{World}
-use Rattle.wot_engine.specs.Machine.{kept}
-use Rattle.wot_engine.specs.Stepped.{TellsBehind}
-use Rattle.wot_engine.specs.Transcript.{listed, octets_of}
+use Rattle.wot_machine.specs.Machine.{kept}
+use Rattle.wot_machine.specs.Stepped.{TellsBehind}
+use Rattle.wot_machine.specs.Transcript.{listed, octets_of}
+use Rattle.wot_machine.specs.Whole.{Whole}
 use Rattle.wot_engine.specs.Turn.{RepliesBehind, SaidBehind}
-use Rattle.wot_engine.specs.Whole.{Whole}
 use Rattle.wot_engine.proofs.Progress.{joined}
 use Rattle.wot_engine.proofs.run.reply_to.Goals as goal
 

@@ -7,13 +7,13 @@ use Rattle.wot_policy.specs.Kept.{rows_of}
 use Rattle.wot_script.specs.declared.reply.Reply.TheVariants as replies
 use Rattle.wot_script.specs.Replies.{reply_text}
 use Rattle.wot_certd.specs.World.{World}
-use Rattle.wot_engine.specs.Machine.{kept}
-use Rattle.wot_engine.specs.Whole.{Whole}
-use Rattle.wot_engine.specs.Ran.{Seen}
-use Rattle.wot_engine.specs.Served.{unserved}
-use Rattle.wot_engine.specs.Stepped.{Stepped}
+use Rattle.wot_machine.specs.Machine.{kept}
+use Rattle.wot_machine.specs.Whole.{Whole}
+use Rattle.wot_machine.specs.Ran.{Seen}
+use Rattle.wot_machine.specs.Served.{unserved}
+use Rattle.wot_machine.specs.Stepped.{Stepped}
+use Rattle.wot_machine.proofs.Stepping.{one_reply, too_long}
 use Rattle.wot_engine.specs.Turn.{SaidBehind}
-use Rattle.wot_engine.proofs.Stepping.{one_reply, too_long}
 use Rattle.wot_engine.proofs.run.say.Goals as goal
 
 -- the refusal of a line that is too long, where there is memory

@@ -1,9 +1,0 @@
-use Rattle.std.proofs.Common.{◌≡◌, ◌≤◌, ◌+◌, ◌*◌, length}
-use Rattle.wot_engine.specs.Absent.{sum_in}
-use Rattle.wot_engine.proofs.checking.sum.Given as goal
-
-abbrev pub invariant-claims : goal.invariant-claims
-invariant-claims l = (l.sum + sum_in l.left ≡ sum_in l.fn.claims) × (l.sum + 255 * length l.left ≤ 255 * length l.fn.claims)
-
-abbrev pub decreases-claims : goal.decreases-claims
-decreases-claims l = length l.left

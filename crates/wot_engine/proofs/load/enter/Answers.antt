@@ -1,9 +1,0 @@
-use Rattle.wot_policy.specs.Kept.{rows_of}
-use Rattle.wot_engine.proofs.Refusing.{if_ok, load_gives}
-use Rattle.wot_engine.proofs.load.enter.Goals as goal
-
-pub returns-in-Err-clause-gives : goal.returns-in-Err-clause-gives
-returns-in-Err-clause-gives g c =
-    if_ok c.reply_to.result _ _ (λ reply is.
-    load_gives c.args.name.now (rows_of c.args.policy.now) c.args.engine.now c.load.new.self c.args.octets.now c.in-Err.refusal reply
-    c.requires.standard c.in-Err.ensures.answer c.in-Err.ensures.kept is) c.reply_to.ensures.reply

@@ -1,8 +1,0 @@
-ghost use Rattle.wot_policy.specs.declared.rows.PolicyRows.{PolicyRows};
-ghost use Rattle.wot_cache.specs.State.{Engine};
-ghost use Rattle.wot_engine.specs.Fresh.{DumpMakesAnew};
-
-/// A law: what `Engine::dump` promises of an engine with the standard limits makes its state anew, line by line.
-pub fn dump_makes_the_state_anew()
-    ensures { (rows : PolicyRows) (engine : Engine) → DumpMakesAnew rows engine }
-{}

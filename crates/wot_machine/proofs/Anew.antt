@@ -1,0 +1,325 @@
+-- The lines of a dump, answered from the start on.
+use Rattle.std.proofs.Common.{◌≡◌, ℕ, suc, Bool, true, false, List, [], ◌∷◌, length, map, Option, Some, None, Result, Ok, Err, refl, sym, ap, ◌∙◌, subst, append_assoc}
+use Rattle.std.specs.Prelude.{if◌then◌else◌, IsSomeAnd}
+use Rattle.std.specs.Option.{option_map}
+use Rattle.std.specs.List.{AllByRecursion}
+use Rattle.std.proofs.lemmas.Bool.{ne_eqb}
+use Rattle.std.proofs.lemmas.Option.{same_Some}
+use Rattle.wot_types.specs.declared.limits.Limits.{Limits}
+use Rattle.wot_types.specs.declared.number.SigNumber.{SigNumber}
+use Rattle.wot_types.specs.declared.limits.Limit.TheVariants as words
+use Rattle.wot_types.specs.Limits.{standard_limits}
+use Rattle.wot_io.specs.Input as inputs
+use Rattle.wot_policy.specs.declared.rows.PolicyRows.{PolicyRows}
+use Rattle.wot_script.specs.declared.command.Command.{Command}
+use Rattle.wot_script.specs.declared.command.Command.TheVariants.{Import, Load, Store, Remove, Good, Bad, Unjudge, Time, Root, Close, Ask, Explain, Pending, Keys, Export, Dump, Absence, Check, CursorOver, CursorNext, CursorClose, WatchOn, WatchOff}
+use Rattle.wot_script.specs.declared.reply.Reply.{Reply}
+use Rattle.wot_script.specs.declared.reply.Reply.TheVariants as replies
+use Rattle.wot_script.specs.Replies.{is_refusal}
+use Rattle.wot_script.specs.Spelling.{IsHeard, spelling}
+use Rattle.wot_verdict.specs.declared.verdict.Verdict.{Verdict}
+use Rattle.wot_verdict.specs.declared.verdict.Verdict.TheVariants as said
+use Rattle.wot_keyring.specs.declared.import.Imported.{Imported}
+use Rattle.wot_keyring.specs.declared.refusal.Refusal.{Refusal}
+use Rattle.wot_keyring.specs.Dump as keyrings
+use Rattle.wot_keyring.specs.Dump.{AreLines, IsLine, after_all, command_line_of, lines_of, unless_over}
+use Rattle.wot_keyring.specs.Held.{Held, verdict_set}
+use Rattle.wot_keyring.specs.Import.{answer_to, importing}
+use Rattle.wot_keyring.specs.Verdict.{is_over}
+use Rattle.wot_certd.specs.World.{World}
+use Rattle.wot_cache.specs.declared.view.ViewFault.{ViewFault}
+use Rattle.wot_cache.specs.Views.{root_fault, time_fault, view_at}
+use Rattle.wot_cache.specs.State.{Engine, State, start, state_of, with_held, rooting, timing}
+use Rattle.wot_cache.specs.Dump.{CarriesOver, IsRestored, after, commands_of, unless_refused}
+use Rattle.wot_machine.specs.Entry.{unused, use_of}
+use Rattle.wot_machine.specs.Lines.{is_silent}
+use Rattle.wot_machine.specs.Outcome.{Outcome, done, imports, set_verdict, only, unless}
+use Rattle.wot_machine.specs.LineStep.{Answers, Does, Gives, Obeys}
+use Rattle.wot_machine.specs.Pacing.{is_pacing}
+use Rattle.wot_machine.specs.Watching.{is_watching}
+use Rattle.wot_machine.specs.Whole.{Whole, beginning}
+use Rattle.wot_machine.specs.Scene.{Step}
+use Rattle.wot_machine.specs.Served.{unserved}
+use Rattle.wot_machine.specs.Transcript.{Run}
+use Rattle.wot_machine.specs.Fresh.{IsMadeAnew, dumped}
+use Rattle.wot_machine.proofs.CutLines.{lines_of-feed}
+use Rattle.wot_machine.proofs.Giving.{over, uncalled_step}
+use Rattle.wot_machine.proofs.Paced.{paces_plain}
+use Rattle.wot_machine.proofs.Watched.{tells_nothing, watching_plain}
+use Rattle.wot_machine.proofs.Stepping.{heard_read, looked_at}
+use Rattle.wot_machine.proofs.Wholes.{counted_some, turned_some}
+
+-- a reply that is no refusal
+record Takes (P : Reply → State → Type 0) (new : State) : Type 0 where
+  reply : Reply
+  well : is_refusal reply ≡ false
+  does : P reply new
+
+taken : (rows : PolicyRows) (s : State) (octets : List ℕ) (answer : Result Imported Refusal) (new : State)
+    → option_map (with_held s) (keyrings.unless_refused answer (importing rows octets s.held)) ≡ Some new → Takes (Gives (imports rows s octets answer)) new
+taken rows s octets (Ok counts) new e = record {
+  reply = replies.Taken counts.taken counts.skipped counts.fresh;
+  well = refl;
+  does = (refl, sym (same_Some (with_held s (importing rows octets s.held)) new e));
+}
+taken rows s octets (Err refusal) new e = absurd (cc e)
+
+chosen : (b : Bool) (refused : Outcome) (s new : State) (held : Held) → option_map (with_held s) (if b then None else Some held) ≡ Some new
+    → Takes (Gives (if b then refused else done (with_held s held))) new
+chosen true refused s new held e = absurd (cc e)
+chosen false refused s new held e = record { reply = replies.Done; well = refl; does = (refl, sym (same_Some (with_held s held) new e)) }
+
+allowed : (s : State) (fault : Option ViewFault) (done new : State) → unless_refused fault done ≡ Some new → Takes (Gives (unless s fault done)) new
+allowed s (Some fault) done new e = absurd (cc e)
+allowed s None done new e = record { reply = replies.Done; well = refl; does = (refl, sym (same_Some done new e)) }
+
+judged_so : (s : State) (number : SigNumber) (verdict : Verdict) (new : State)
+    → option_map (with_held s) (unless_over standard_limits number verdict s.held) ≡ Some new → Takes (Gives (set_verdict s number verdict)) new
+judged_so s number verdict new e =
+    chosen (is_over standard_limits s.held.verdicts number) (only s (replies.Full words.Verdicts)) s new (verdict_set number verdict s.held) e
+
+-- a command that isn't refused does what the machine does
+accepted : (rows : PolicyRows) (command : Command) (s new : State) → after rows standard_limits command s ≡ Some new → Takes (Does rows s command unserved) new
+accepted rows (Import octets) s new e = taken rows s octets (answer_to rows standard_limits s.held.certs octets) new e
+accepted rows (Good number fpr) s new e = judged_so s number (said.Good fpr) new e
+accepted rows (Bad number) s new e = judged_so s number said.Bad new e
+accepted rows (Time view t) s new e = allowed s (time_fault standard_limits s.views view) (timing view t s) new e
+accepted rows (Root view fpr amount) s new e = allowed s (root_fault standard_limits (view_at s.views view) fpr amount) (rooting view fpr amount s) new e
+accepted rows (Load name) s new e = absurd (cc e)
+accepted rows (Store fpr) s new e = absurd (cc e)
+accepted rows (Remove fpr) s new e = absurd (cc e)
+accepted rows (Unjudge number) s new e = absurd (cc e)
+accepted rows (Close view) s new e = absurd (cc e)
+accepted rows (Ask view fpr wanted uid) s new e = absurd (cc e)
+accepted rows (Command.List view wanted) s new e = absurd (cc e)
+accepted rows (Explain view fpr uid) s new e = absurd (cc e)
+accepted rows (Absence view fpr wanted uid) s new e = absurd (cc e)
+accepted rows (Check view fpr claims labels uid) s new e = absurd (cc e)
+accepted rows Pending s new e = absurd (cc e)
+accepted rows Keys s new e = absurd (cc e)
+accepted rows (Export fpr) s new e = absurd (cc e)
+accepted rows Dump s new e = absurd (cc e)
+accepted rows (CursorOver cursor view wanted) s new e = absurd (cc e)
+accepted rows (CursorNext cursor count) s new e = absurd (cc e)
+accepted rows (CursorClose cursor) s new e = absurd (cc e)
+accepted rows (WatchOn watch view fpr wanted uid) s new e = absurd (cc e)
+accepted rows (WatchOff watch) s new e = absurd (cc e)
+
+-- nor does it call the shelf
+uncalled : (rows : PolicyRows) (command : Command) (s new : State) → after rows standard_limits command s ≡ Some new → use_of (Some command) ≡ unused
+uncalled rows (Load name) s new e = absurd (cc e)
+uncalled rows (Store fpr) s new e = absurd (cc e)
+uncalled rows (Import octets) s new e = refl
+uncalled rows (Good number fpr) s new e = refl
+uncalled rows (Bad number) s new e = refl
+uncalled rows (Time view t) s new e = refl
+uncalled rows (Root view fpr amount) s new e = refl
+uncalled rows (Remove fpr) s new e = refl
+uncalled rows (Unjudge number) s new e = refl
+uncalled rows (Close view) s new e = refl
+uncalled rows (Ask view fpr wanted uid) s new e = refl
+uncalled rows (Command.List view wanted) s new e = refl
+uncalled rows (Explain view fpr uid) s new e = refl
+uncalled rows (Absence view fpr wanted uid) s new e = refl
+uncalled rows (Check view fpr claims labels uid) s new e = refl
+uncalled rows Pending s new e = refl
+uncalled rows Keys s new e = refl
+uncalled rows (Export fpr) s new e = refl
+uncalled rows Dump s new e = refl
+uncalled rows (CursorOver cursor view wanted) s new e = refl
+uncalled rows (CursorNext cursor count) s new e = refl
+uncalled rows (CursorClose cursor) s new e = refl
+uncalled rows (WatchOn watch view fpr wanted uid) s new e = refl
+uncalled rows (WatchOff watch) s new e = refl
+
+-- nor is it one of a cursor
+unpaced : (rows : PolicyRows) (command : Command) (s new : State) → after rows standard_limits command s ≡ Some new → is_pacing command ≡ false
+unpaced rows (Import octets) s new e = refl
+unpaced rows (Load name) s new e = refl
+unpaced rows (Store fpr) s new e = refl
+unpaced rows (Remove fpr) s new e = refl
+unpaced rows (Good number fpr) s new e = refl
+unpaced rows (Bad number) s new e = refl
+unpaced rows (Unjudge number) s new e = refl
+unpaced rows (Time view t) s new e = refl
+unpaced rows (Root view fpr amount) s new e = refl
+unpaced rows (Close view) s new e = refl
+unpaced rows (Ask view target wanted uid) s new e = refl
+unpaced rows (Command.List view wanted) s new e = refl
+unpaced rows (Explain view fpr uid) s new e = refl
+unpaced rows (Absence view target wanted uid) s new e = refl
+unpaced rows (Check view target claims labels uid) s new e = refl
+unpaced rows Pending s new e = refl
+unpaced rows Keys s new e = refl
+unpaced rows (Export fpr) s new e = refl
+unpaced rows Dump s new e = refl
+unpaced rows (CursorOver cursor view wanted) s new e = absurd (cc e)
+unpaced rows (CursorNext cursor count) s new e = absurd (cc e)
+unpaced rows (CursorClose cursor) s new e = absurd (cc e)
+unpaced rows (WatchOn watch view fpr wanted uid) s new e = refl
+unpaced rows (WatchOff watch) s new e = refl
+
+-- nor is it one of a watch
+unwatched : (rows : PolicyRows) (command : Command) (s new : State) → after rows standard_limits command s ≡ Some new → is_watching command ≡ false
+unwatched rows (Import octets) s new e = refl
+unwatched rows (Load name) s new e = refl
+unwatched rows (Store fpr) s new e = refl
+unwatched rows (Remove fpr) s new e = refl
+unwatched rows (Good number fpr) s new e = refl
+unwatched rows (Bad number) s new e = refl
+unwatched rows (Unjudge number) s new e = refl
+unwatched rows (Time view t) s new e = refl
+unwatched rows (Root view fpr amount) s new e = refl
+unwatched rows (Close view) s new e = refl
+unwatched rows (Ask view target wanted uid) s new e = refl
+unwatched rows (Command.List view wanted) s new e = refl
+unwatched rows (Explain view fpr uid) s new e = refl
+unwatched rows (Absence view target wanted uid) s new e = refl
+unwatched rows (Check view target claims labels uid) s new e = refl
+unwatched rows Pending s new e = refl
+unwatched rows Keys s new e = refl
+unwatched rows (Export fpr) s new e = refl
+unwatched rows Dump s new e = refl
+unwatched rows (CursorOver cursor view wanted) s new e = refl
+unwatched rows (CursorNext cursor count) s new e = refl
+unwatched rows (CursorClose cursor) s new e = refl
+unwatched rows (WatchOn watch view fpr wanted uid) s new e = absurd (cc e)
+unwatched rows (WatchOff watch) s new e = absurd (cc e)
+
+-- ---- lines
+
+heard : (line : List ℕ) → IsHeard line → is_silent line ≡ false
+heard [] h = absurd h
+heard (octet ∷ octets) h = ne_eqb octet 35 h
+
+cut_lines : (commands : List Command) → AreLines commands → inputs.lines_of (lines_of commands) ≡ map spelling commands
+cut_lines [] lines = refl
+cut_lines (c ∷ commands) lines =
+    ap inputs.lines_of (append_assoc (spelling c) (10 ∷ []) (lines_of commands))
+    ∙ lines_of-feed (spelling c) (lines_of commands) lines.0.no_feed
+    ∙ ap (λ (rest : List (List ℕ)). spelling c ∷ rest) (cut_lines commands lines.1)
+
+-- ---- all that is kept
+
+-- After that command all that is kept has this state, and the same cursors and watches.
+record Leads (rows : PolicyRows) (old : Whole) (c : Command) (reply : Reply) (new : State) : Type 0 where
+  whole : Whole
+  state : whole.state ≡ new
+  cursors : whole.cursors ≡ old.cursors
+  watches : whole.watches ≡ old.watches
+  obeys : Obeys rows old c unserved reply whole
+
+leads : (rows : PolicyRows) (old : Whole) (c : Command) (reply : Reply) (new : State) → is_pacing c ≡ false → is_watching c ≡ false
+    → Does rows old.state c unserved reply new → Leads rows old c reply new
+leads rows old c reply new plain still does =
+    let count = counted_some old new.held in
+    let turns = turned_some c old.state.views new.views old.turns in
+    record {
+      whole = record { state = new; changes = count.0; turns = turns.0; cursors = old.cursors; watches = old.watches };
+      state = refl;
+      cursors = refl;
+      watches = refl;
+      obeys = record {
+        does = does;
+        counted = count.1;
+        turned = turns.1;
+        paces = paces_plain old c reply plain;
+        watching = watching_plain old c reply still;
+      };
+    }
+
+-- the step of a command's line, over a shelf of any world
+stepped : (rows : PolicyRows) (c : Command) (s new : Whole) (reply : Reply) → IsLine c → use_of (Some c) ≡ unused → Obeys rows s c unserved reply new → new.watches ≡ [] → (world : World)
+    → Step rows (over s world) (spelling c) (Some reply) [] (over new world)
+stepped rows c s new reply line none obeys unwatched world =
+    let Answered : Option Command → Type 0 = λ o. Answers rows s o unserved reply new in
+    let is_heard : is_silent (spelling c) ≡ false = heard (spelling c) line.heard in
+    uncalled_step rows world s new new (spelling c) (Some reply) [] (ap use_of (heard_read (spelling c) line.short is_heard ∙ line.read) ∙ none)
+    (looked_at rows s (spelling c) unserved reply new line.short is_heard (subst Answered (sym line.read) obeys)) (tells_nothing new unwatched)
+
+-- ---- runs
+
+record Runs (rows : PolicyRows) (s : Whole) (commands : List Command) (new : State) : Type 0 where
+  replies_are : List Reply
+  whole : Whole
+  state : whole.state ≡ new
+  cursors : whole.cursors ≡ s.cursors
+  watches : whole.watches ≡ []
+  run : (world : World) → Run rows (over s world) (map spelling commands) replies_are (over whole world)
+  each : length replies_are ≡ length (map spelling commands)
+  well : AllByRecursion (λ reply. is_refusal reply ≡ false) replies_are
+
+refused_stays : (rows : PolicyRows) (l : Limits) (commands : List Command) → after_all (after rows l) commands None ≡ None
+refused_stays rows l [] = refl
+refused_stays rows l (command ∷ commands) = refl
+
+further : (rows : PolicyRows) (c : Command) (commands : List Command) (s : Whole) (new : State) → s.watches ≡ [] → IsLine c
+    → ((mid : Whole) → mid.watches ≡ [] → after_all (after rows standard_limits) commands (Some mid.state) ≡ Some new → Runs rows mid commands new)
+    → (o : Option State) → after rows standard_limits c s.state ≡ o → after_all (after rows standard_limits) commands o ≡ Some new → Runs rows s (c ∷ commands) new
+further rows c commands s new none line rest None was e = let stays = refused_stays rows standard_limits commands in absurd (cc (stays, e))
+further rows c commands s new none line rest (Some mid) was e =
+    let t : Takes (Does rows s.state c unserved) mid = accepted rows c s.state mid was in
+    let l : Leads rows s c t.reply mid = leads rows s c t.reply mid (unpaced rows c s.state mid was) (unwatched rows c s.state mid was) t.does in
+    let still : l.whole.watches ≡ [] = l.watches ∙ none in
+    let more : Runs rows l.whole commands new = rest l.whole still (ap (λ (x : State). after_all (after rows standard_limits) commands (Some x)) l.state ∙ e) in
+    record {
+      replies_are = t.reply ∷ more.replies_are;
+      whole = more.whole;
+      state = more.state;
+      cursors = more.cursors ∙ l.cursors;
+      watches = more.watches;
+      run = λ world. (
+        Some t.reply,
+        [],
+        over l.whole world,
+        more.replies_are,
+        stepped rows c s l.whole t.reply line (uncalled rows c s.state mid was) l.obeys still world,
+        more.run world,
+        refl,
+      );
+      each = ap suc more.each;
+      well = (t.well, more.well);
+    }
+
+runs : (rows : PolicyRows) (commands : List Command) (s : Whole) (new : State) → s.watches ≡ [] → AreLines commands
+    → after_all (after rows standard_limits) commands (Some s.state) ≡ Some new → Runs rows s commands new
+runs rows [] s new none lines e = record {
+  replies_are = [];
+  whole = s;
+  state = same_Some s.state new e;
+  cursors = refl;
+  watches = none;
+  run = λ world. (refl, refl);
+  each = refl;
+  well = tt;
+}
+runs rows (c ∷ commands) s new none lines e =
+    further rows c commands s new none lines.0 (λ mid still. runs rows commands mid new still lines.1) (after rows standard_limits c s.state) refl e
+
+reached : (rows : PolicyRows) (l : Limits) (s : State) → IsSomeAnd (after_all (after rows l) (commands_of s) (Some start)) (CarriesOver rows s)
+    → (new : State) × CarriesOver rows s new × (after_all (after rows l) (commands_of s) (Some start) ≡ Some new)
+reached rows l s there = by (after_all (after rows l) (commands_of s) (Some start)) there
+  where
+    by : (o : Option State) → IsSomeAnd o (CarriesOver rows s) → (new : State) × CarriesOver rows s new × (o ≡ Some new)
+    by None there = absurd there
+    by (Some new) there = (new, there, refl)
+
+pub made_anew : (rows : PolicyRows) (engine : Engine) → engine.keyring.limits ≡ standard_limits → IsRestored rows engine
+    → AreLines (commands_of (state_of engine)) → IsMadeAnew rows (state_of engine)
+made_anew rows engine standard restored lines =
+    let s : State = state_of engine in
+    let From : Limits → Type 0 = λ l. IsSomeAnd (after_all (after rows l) (commands_of s) (Some start)) (CarriesOver rows s) in
+    let there = reached rows standard_limits s (subst From standard restored) in
+    let all : Runs rows beginning (commands_of s) there.0 = runs rows (commands_of s) beginning there.0 refl lines there.2 in
+    let cut : map spelling (commands_of s) ≡ dumped s = sym (cut_lines (commands_of s) lines) in
+    let Ran : List (List ℕ) → Type 0 = λ lines. (world : World) → Run rows (over beginning world) lines all.replies_are (over all.whole world) in
+    record {
+      replies = all.replies_are;
+      new = all.whole;
+      same = subst (λ (new : State). CarriesOver rows s new) (sym all.state) there.1;
+      cursors = all.cursors;
+      watches = all.watches;
+      run = subst Ran cut all.run;
+      each = all.each ∙ ap length cut;
+      well = all.well;
+    }

@@ -1,0 +1,40 @@
+pub mod CutLines
+mod Known
+mod Wholes
+mod Paced
+pub mod Pieces
+pub mod Watched
+mod Stays
+mod Named
+mod Marked
+mod Absences
+mod Claiming
+mod Outcomes
+pub mod Runs
+pub mod Stepping
+mod Storing
+pub mod Giving
+pub mod Putting
+mod Refusing
+pub mod Running
+mod Keeping
+pub mod Making
+mod Short
+pub mod Unchanged
+mod Anew
+mod Dumping
+mod Alike
+mod Worded
+mod Refusals
+mod Entries
+mod Rising
+mod Behind
+mod Viewed
+mod Hearing
+mod Joining
+mod Exchanges
+mod Begun
+mod StaleTold
+mod Telling
+mod Worth
+mod Settling

@@ -1,0 +1,348 @@
+-- Where a reply says that something is stale, its two numbers differ; and only commands of watches are replied the amount
+-- of a watch.
+use Rattle.std.proofs.Common.{◌≡◌, ℕ, Bool, true, false, cond, List, [], Option, Some, None, Result, Ok, Err, refl, sym}
+use Rattle.std.proofs.Common.{subst}
+use Rattle.std.specs.Prelude.{IfErr, MatchBool, ◌==◌, is_some, nat_le}
+use Rattle.wot_types.specs.declared.fpr.Fpr.{Fpr}
+use Rattle.wot_types.specs.declared.limits.Limit.TheVariants as words
+use Rattle.wot_types.specs.declared.name.Name.{Name}
+use Rattle.wot_types.specs.declared.name.Name.TheVariants as names
+use Rattle.wot_types.specs.declared.number.SigNumber.{SigNumber}
+use Rattle.wot_types.specs.Limits.{standard_limits}
+use Rattle.wot_policy.specs.declared.rows.PolicyRows.{PolicyRows}
+use Rattle.wot_verdict.specs.Verdicts.{verdict_at}
+use Rattle.wot_verdict.specs.declared.verdict.Verdict.{Verdict}
+use Rattle.wot_verdict.specs.declared.verdict.Verdict.TheVariants as verdicts
+use Rattle.wot_edge.specs.Answer.{amount_of}
+use Rattle.wot_edge.specs.Path.{Question}
+use Rattle.wot_edge.specs.declared.path.Path.{Path}
+use Rattle.wot_check.specs.declared.checking.Checked.{Checked}
+use Rattle.wot_check.specs.declared.checking.Checked.TheVariants as answers
+use Rattle.wot_cert.specs.Certificate.{Certificate}
+use Rattle.wot_cert.specs.declared.fault.CertFault.{CertFault}
+use Rattle.wot_cert.specs.declared.fault.CertFault.TheVariants as certs
+use Rattle.wot_keyring.specs.declared.import.Imported.{Imported}
+use Rattle.wot_keyring.specs.declared.refusal.Refusal.{Refusal}
+use Rattle.wot_keyring.specs.declared.refusal.Refusal.TheVariants as refusals
+use Rattle.wot_keyring.specs.Held.{cert_in, removing, verdict_cleared, verdict_set}
+use Rattle.wot_keyring.specs.Import.{answer_to, answer_under, is_entry}
+use Rattle.wot_keyring.specs.Verdict.{is_over}
+use Rattle.wot_keyring.specs.Entry.{entry_in}
+use Rattle.wot_watch.specs.Watches as watching
+use Rattle.wot_watch.specs.Watches.{Watches, watch_at, with_watch, without_watch}
+use Rattle.wot_script.specs.declared.command.Command.{Command}
+use Rattle.wot_script.specs.declared.command.Command.TheVariants.{Import, Load, Store, Remove, Good, Bad, Unjudge}
+use Rattle.wot_script.specs.declared.command.Command.TheVariants.{Time, Root, WatchOn, WatchOff}
+use Rattle.wot_script.specs.declared.command.Command.TheVariants.{Close, Ask, Explain, Pending, Keys, Export, Dump}
+use Rattle.wot_script.specs.declared.command.Command.TheVariants.{Absence, Check, CursorOver, CursorNext, CursorClose}
+use Rattle.wot_script.specs.declared.reply.ClaimLine.{ClaimLine}
+use Rattle.wot_script.specs.declared.reply.LabelLine.{LabelLine}
+use Rattle.wot_script.specs.declared.reply.Reply.{Reply}
+use Rattle.wot_script.specs.declared.reply.Reply.TheVariants as replies
+use Rattle.wot_certd.specs.World.{Answer}
+use Rattle.wot_cache.specs.declared.view.View.{View}
+use Rattle.wot_cache.specs.declared.view.ViewFault.{ViewFault}
+use Rattle.wot_cache.specs.declared.view.ViewFault.TheVariants as faults
+use Rattle.wot_cache.specs.Question.{question_in}
+use Rattle.wot_cache.specs.State.{State, closing, rooting, timing, with_held}
+use Rattle.wot_cache.specs.Views.{root_fault, time_fault, view_at}
+use Rattle.wot_cursor.specs.Age.{age_of}
+use Rattle.wot_cursor.specs.Cursors.{Cursor, Cursors, begun, cursor_at, is_full, with_cursor, without_cursor}
+use Rattle.wot_cursor.specs.declared.stamps.Age.{Age}
+use Rattle.wot_cursor.specs.declared.stamps.Age.TheVariants as ages
+use Rattle.wot_explain.specs.declared.explained.Explained.{Explained}
+use Rattle.wot_explain.specs.Explaining.{explanation}
+use Rattle.wot_explain.specs.Piece.{piece_of}
+use Rattle.wot_machine.specs.Absent.{Checks, Misses, TellsAbsence, verdict_on}
+use Rattle.wot_machine.specs.Answer.{Asks}
+use Rattle.wot_machine.specs.Joined.{DoNumbersDiffer}
+use Rattle.wot_machine.specs.LineStep.{Does, Gives, LineStep, Obeys}
+use Rattle.wot_machine.specs.Listing.{Lists, explain, explained, explained_from, pending}
+use Rattle.wot_machine.specs.Outcome.{Outcome, cert_refusal, clear_verdict, close, done, dump, export, exported, import}
+use Rattle.wot_machine.specs.Outcome.{imports, keys, load, only, refusal, remove, root, set_verdict, time, unless}
+use Rattle.wot_machine.specs.Outcome.{view_refusal}
+use Rattle.wot_machine.specs.Pacing.{Begins, Ends, GivesPiece, Goes, GoesBy, GoesFrom, Leaves, Paces, behind, is_pacing}
+use Rattle.wot_machine.specs.Pacing.{piece, stamps_in}
+use Rattle.wot_machine.specs.Served.{Served}
+use Rattle.wot_machine.specs.Storing.{store, stored, stored_from, text_unless, united_with, writing}
+use Rattle.wot_machine.specs.Watching.{LeavesWatches, Opens, TakesOff, Watching, is_watching, opened}
+use Rattle.wot_machine.specs.Whole.{Whole}
+use Rattle.wot_machine.specs.Worth.{amount_in}
+use Rattle.wot_machine.proofs.Hearing.{told_by}
+use Rattle.wot_machine.proofs.Joining.{Aged, aged}
+use Rattle.wot_machine.proofs.Paced.{paced_cases}
+use Rattle.wot_machine.proofs.Watched.{watched_cases}
+
+-- ---- outcomes
+
+abbrev D : Reply → Type 0
+D (replies.WatchAmount name amount) = ⊥
+D reply = DoNumbersDiffer reply
+
+differ : (reply : Reply) → D reply → DoNumbersDiffer reply
+differ (replies.WatchAmount name amount) d = tt
+differ reply d = d
+
+no_amount : (name : List ℕ) (reply : Reply) → D reply → amount_in name reply ≡ []
+no_amount name (replies.WatchAmount other amount) d = absurd d
+no_amount name reply d = refl
+
+cert_fault : (fault : CertFault) → D (cert_refusal fault)
+cert_fault certs.Compressed = tt
+cert_fault certs.Secret = tt
+cert_fault (certs.Kind kind offset) = tt
+cert_fault (certs.Order offset) = tt
+cert_fault certs.Empty = tt
+cert_fault certs.Memory = tt
+
+refused : (told : Refusal) → D (refusal told)
+refused (refusals.Packet fault) = tt
+refused (refusals.Cert fault) = cert_fault fault
+refused refusals.Misfiled = tt
+refused refusals.Clash = tt
+refused (refusals.Full limit) = tt
+refused refusals.Memory = tt
+
+view_fault : (fault : ViewFault) → D (view_refusal fault)
+view_fault faults.View = tt
+view_fault faults.Absent = tt
+view_fault (faults.Full limit) = tt
+view_fault faults.Memory = tt
+
+either : (b : Bool) (a c : Outcome) → D a.reply → D c.reply → D (cond b a c).reply
+either true a c p q = p
+either false a c p q = q
+
+unless_told : (s new : State) (fault : Option ViewFault) → D (unless s fault new).reply
+unless_told s new None = tt
+unless_told s new (Some fault) = view_fault fault
+
+imports_told : (rows : PolicyRows) (s : State) (octets : List ℕ) (answer : Result Imported Refusal)
+    → D (imports rows s octets answer).reply
+imports_told rows s octets (Ok counts) = tt
+imports_told rows s octets (Err told) = refused told
+
+load_told : (rows : PolicyRows) (s : State) (name : Name) (answer : Answer) → D (load rows s name answer).reply
+load_told rows s name Answer.fault = tt
+load_told rows s name Answer.absent = tt
+load_told rows s name Answer.long = tt
+load_told rows s name (Answer.entry octets) = imports_told rows s octets (answer_under (is_entry name) rows standard_limits s.held.certs octets)
+
+text_told : (r : Result Certificate Refusal) → IfErr (text_unless r) D
+text_told (Ok c) = tt
+text_told (Err told) = refused told
+
+writing_told : (fpr : Fpr) (kept : Certificate) (answer : Answer) → IfErr (writing fpr kept answer) D
+writing_told fpr kept Answer.fault = tt
+writing_told fpr kept Answer.absent = tt
+writing_told fpr kept Answer.long = tt
+writing_told fpr kept (Answer.entry octets) = text_told (united_with kept (entry_in (names.Cert fpr) octets))
+
+stored_told : (fails : Bool) (r : Result (List ℕ) Reply) → IfErr r D → D (stored fails r)
+stored_told fails (Err reply) d = d
+stored_told true (Ok octets) d = tt
+stored_told false (Ok octets) d = tt
+
+store_told : (kept : Option Certificate) (fpr : Fpr) (given : Served) → D (stored_from kept fpr given)
+store_told None fpr given = tt
+store_told (Some kept) fpr given = stored_told given.fails (writing fpr kept given.read) (writing_told fpr kept given.read)
+
+explained_told : (told : Option Explained) → D (explained told)
+explained_told None = tt
+explained_told (Some told) = tt
+
+explain_told : (s : State) (view : Option View) (fpr : Fpr) (uid : List ℕ) → D (explained_from s view fpr uid)
+explain_told s None fpr uid = tt
+explain_told s (Some view) fpr uid = explained_told (explanation s.held.certs s.held.verdicts view.time fpr uid)
+
+export_told : (c : Option Certificate) → D (exported c)
+export_told None = tt
+export_told (Some c) = tt
+
+given : (outcome : Outcome) (reply : Reply) (new : State) → D outcome.reply → Gives outcome reply new → D reply
+given outcome reply new d g = subst D (sym g.0) d
+
+set_told : (s : State) (number : SigNumber) (v : Verdict) (reply : Reply) (new : State)
+    → Gives (set_verdict s number v) reply new → D reply
+set_told s number v reply new =
+    given (set_verdict s number v) reply new
+    (either (is_over standard_limits s.held.verdicts number) (only s (replies.Full words.Verdicts)) (done (with_held s (verdict_set number v s.held))) tt tt)
+
+-- ---- questions
+
+asks_told : (s : State) (view : Option View) (target : Fpr) (wanted : ℕ) (uid : List ℕ) (reply : Reply)
+    → Asks s view target wanted uid reply → D reply
+asks_told s None target wanted uid reply a = subst D (sym a) tt
+asks_told s (Some view) target wanted uid reply a = subst D (sym a.2) tt
+
+lists_told : (s : State) (view : Option View) (wanted : ℕ) (reply : Reply) → Lists s view wanted reply → D reply
+lists_told s None wanted reply l = subst D (sym l) tt
+lists_told s (Some view) wanted reply l = subst D (sym l.2) tt
+
+absence_told : (b : Bool) (q : Question) (paths : List Path) (reply : Reply) → TellsAbsence b q paths reply → D reply
+absence_told true q paths reply t = subst D (sym t) tt
+absence_told false q paths reply t = subst D (sym t.3) tt
+
+misses_told : (s : State) (view : Option View) (target : Fpr) (wanted : ℕ) (uid : List ℕ) (reply : Reply)
+    → Misses s view target wanted uid reply → D reply
+misses_told s None target wanted uid reply m = subst D (sym m) tt
+misses_told s (Some view) target wanted uid reply m = absence_told (nat_le wanted (amount_of m.0)) (question_in s view target uid) m.0 reply m.2
+
+verdict_told : (claims : List ClaimLine) (checked : Checked) → D (verdict_on claims checked)
+verdict_told claims answers.Yes = tt
+verdict_told claims answers.BadPaths = tt
+verdict_told claims answers.BadTable = tt
+
+checks_told : (s : State) (view : Option View) (target : Fpr) (claims : List ClaimLine) (labels : List LabelLine) (uid : List ℕ) (reply : Reply)
+    → Checks s view target claims labels uid reply → D reply
+checks_told s None target claims labels uid reply c = subst D (sym c) tt
+checks_told s (Some view) target claims labels uid reply c = subst D (sym c.2) (verdict_told claims c.0)
+
+-- ---- commands that aren't of cursors
+
+does_told : (rows : PolicyRows) (s : State) (command : Command) (answer : Served) (reply : Reply) (new : State)
+    → is_pacing command ≡ false → is_watching command ≡ false
+    → Does rows s command answer reply new → D reply
+does_told rows s (Import octets) answer reply new plain still g =
+    given (import rows s octets) reply new (imports_told rows s octets (answer_to rows standard_limits s.held.certs octets)) g
+does_told rows s (Load name) answer reply new plain still g = given (load rows s name answer.read) reply new (load_told rows s name answer.read) g
+does_told rows s (Store fpr) answer reply new plain still g = given (store s fpr answer) reply new (store_told (cert_in s.held fpr) fpr answer) g
+does_told rows s (Remove fpr) answer reply new plain still g =
+    given (remove s fpr) reply new (either (is_some (cert_in s.held fpr)) (done (with_held s (removing fpr s.held))) (only s replies.Absent) tt tt) g
+does_told rows s (Good number fpr) answer reply new plain still g = set_told s number (verdicts.Good fpr) reply new g
+does_told rows s (Bad number) answer reply new plain still g = set_told s number verdicts.Bad reply new g
+does_told rows s (Unjudge number) answer reply new plain still g =
+    given (clear_verdict s number) reply new
+    (either (is_some (verdict_at s.held.verdicts number)) (done (with_held s (verdict_cleared number s.held))) (only s replies.Absent) tt tt) g
+does_told rows s (Time view t) answer reply new plain still g =
+    given (time s view t) reply new (unless_told s (timing view t s) (time_fault standard_limits s.views view)) g
+does_told rows s (Root view fpr amount) answer reply new plain still g =
+    given (root s view fpr amount) reply new
+    (unless_told s (rooting view fpr amount s) (root_fault standard_limits (view_at s.views view) fpr amount)) g
+does_told rows s (Close view) answer reply new plain still g =
+    given (close s view) reply new (either (is_some (view_at s.views view)) (done (closing view s)) (only s replies.View) tt tt) g
+does_told rows s (Ask view target wanted uid) answer reply new plain still g = asks_told s (view_at s.views view) target wanted uid reply g.0
+does_told rows s (Command.List view wanted) answer reply new plain still g = lists_told s (view_at s.views view) wanted reply g.0
+does_told rows s (Absence view target wanted uid) answer reply new plain still g = misses_told s (view_at s.views view) target wanted uid reply g.0
+does_told rows s (Check view target claims labels uid) answer reply new plain still g =
+    checks_told s (view_at s.views view) target claims labels uid reply g.0
+does_told rows s (Explain view fpr uid) answer reply new plain still g =
+    given (explain s view fpr uid) reply new (explain_told s (view_at s.views view) fpr uid) g
+does_told rows s Pending answer reply new plain still g = given (pending s) reply new tt g
+does_told rows s Keys answer reply new plain still g = given (keys s) reply new tt g
+does_told rows s (Export fpr) answer reply new plain still g = given (export s fpr) reply new (export_told (cert_in s.held fpr)) g
+does_told rows s Dump answer reply new plain still g = given (dump s) reply new tt g
+does_told rows s (CursorOver cursor view wanted) answer reply new plain still g = absurd (cc plain)
+does_told rows s (CursorNext cursor count) answer reply new plain still g = absurd (cc plain)
+does_told rows s (CursorClose cursor) answer reply new plain still g = absurd (cc plain)
+does_told rows s (WatchOn watch view target wanted uid) answer reply new plain still g = absurd (cc still)
+does_told rows s (WatchOff watch) answer reply new plain still g = absurd (cc still)
+
+-- ---- cursors
+
+left : (told reply : Reply) (old cursors : Cursors) → D told → Leaves told old reply cursors → D reply
+left told reply old cursors d l = subst D (sym l.0) d
+
+if_told : (b : Bool) (P Q : Type 0) (reply : Reply) → (P → D reply) → (Q → D reply) → MatchBool b P Q → D reply
+if_told true P Q reply f g p = f p
+if_told false P Q reply f g q = g q
+
+begins_told : (s : Whole) (name view : List ℕ) (wanted : ℕ) (o : Option View) (reply : Reply) (cursors : Cursors)
+    → Begins s name view wanted o reply cursors → D reply
+begins_told s name view wanted None reply cursors l = left replies.View reply s.cursors cursors tt l
+begins_told s name view wanted (Some there) reply cursors l =
+    if_told (is_full s.cursors name) _ _ reply (left replies.FullCursors reply s.cursors cursors tt)
+    (left replies.Done reply (with_cursor s.cursors name (begun view wanted (stamps_in s view))) cursors tt) l
+
+gives_told : (s : Whole) (name : List ℕ) (count : ℕ) (cursor : Cursor) (view : View) (reply : Reply) (cursors : Cursors)
+    → GivesPiece s name count cursor view reply cursors → D reply
+gives_told s name count cursor view reply cursors g =
+    if_told (cursor.wanted == 0) _ _ reply (left (piece []) reply s.cursors cursors tt)
+    (λ p. left (piece (piece_of cursor.place count p.0)) reply (behind s.cursors name (piece_of cursor.place count p.0)) cursors tt p.2) g
+
+goes_by : (s : Whole) (name : List ℕ) (count : ℕ) (cursor : Cursor) (view : View) (reply : Reply) (cursors : Cursors) (age : Age)
+    → Aged cursor.stamps (stamps_in s cursor.view) age → GoesBy age s name count cursor view reply cursors → D reply
+goes_by s name count cursor view reply cursors ages.Same a g = gives_told s name count cursor view reply cursors g
+goes_by s name count cursor view reply cursors (ages.Keyring was now) a g = left (replies.StaleKeyring was now) reply s.cursors cursors a.2 g
+goes_by s name count cursor view reply cursors (ages.View was now) a g = left (replies.StaleView was now) reply s.cursors cursors a.2 g
+
+goes_from : (s : Whole) (name : List ℕ) (count : ℕ) (cursor : Cursor) (o : Option View) (reply : Reply) (cursors : Cursors)
+    → GoesFrom o s name count cursor reply cursors → D reply
+goes_from s name count cursor None reply cursors g = left replies.View reply s.cursors cursors tt g
+goes_from s name count cursor (Some view) reply cursors g =
+    goes_by s name count cursor view reply cursors (age_of cursor.stamps (stamps_in s cursor.view)) (aged cursor.stamps (stamps_in s cursor.view)) g
+
+goes_told : (s : Whole) (name : List ℕ) (count : ℕ) (o : Option Cursor) (reply : Reply) (cursors : Cursors)
+    → Goes o s name count reply cursors → D reply
+goes_told s name count None reply cursors g = left replies.NoCursor reply s.cursors cursors tt g
+goes_told s name count (Some cursor) reply cursors g = goes_from s name count cursor (view_at s.state.views cursor.view) reply cursors g
+
+ends_told : (s : Whole) (name : List ℕ) (reply : Reply) (cursors : Cursors) → Ends s name reply cursors → D reply
+ends_told s name reply cursors l =
+    if_told (is_some (cursor_at s.cursors name)) _ _ reply (left replies.Done reply (without_cursor s.cursors name) cursors tt)
+    (left replies.NoCursor reply s.cursors cursors tt) l
+
+paces_told : (s : Whole) (command : Command) (reply : Reply) (cursors : Cursors) → is_pacing command ≡ true
+    → Paces s command reply cursors → D reply
+paces_told s command reply cursors e p =
+    paced_cases (λ (c : Command). Paces s c reply cursors → D reply)
+    (λ name view wanted. begins_told s name view wanted (view_at s.state.views view) reply cursors)
+    (λ name count. goes_told s name count (cursor_at s.cursors name) reply cursors) (λ name. ends_told s name reply cursors) command e p
+
+-- ---- watches
+
+abbrev E : Reply → Type 0
+E reply = DoNumbersDiffer reply
+
+if_differ : (b : Bool) (P Q : Type 0) (reply : Reply) → (P → E reply) → (Q → E reply) → MatchBool b P Q → E reply
+if_differ true P Q reply f g p = f p
+if_differ false P Q reply f g q = g q
+
+watched_left : (told reply : Reply) (left watches : Watches) → E told → LeavesWatches told left reply watches → E reply
+watched_left told reply left watches d l = subst E (sym l.0) d
+
+opens_told : (s : Whole) (name view : List ℕ) (target : Fpr) (wanted : ℕ) (uid : List ℕ) (o : Option View) (reply : Reply) (watches : Watches)
+    → Opens s name view target wanted uid o reply watches → E reply
+opens_told s name view target wanted uid None reply watches l = watched_left replies.View reply s.watches watches tt l
+opens_told s name view target wanted uid (Some there) reply watches p =
+    if_differ (watching.is_full s.watches name) _ _ reply (watched_left replies.FullWatches reply s.watches watches tt)
+    (watched_left (replies.WatchAmount name p.0) reply (with_watch s.watches name (opened view target wanted uid p.0)) watches tt) p.2
+
+off_told : (s : Whole) (name : List ℕ) (reply : Reply) (watches : Watches) → TakesOff s name reply watches → E reply
+off_told s name reply watches l =
+    if_differ (is_some (watch_at s.watches name)) _ _ reply (watched_left replies.Done reply (without_watch s.watches name) watches tt)
+    (watched_left replies.NoWatch reply s.watches watches tt) l
+
+watching_told : (s : Whole) (command : Command) (reply : Reply) (watches : Watches) → is_watching command ≡ true
+    → Watching s command reply watches → E reply
+watching_told s command reply watches e p =
+    watched_cases (λ (c : Command). Watching s c reply watches → E reply)
+    (λ name view target wanted uid. opens_told s name view target wanted uid (view_at s.state.views view) reply watches)
+    (λ name. off_told s name reply watches) command e p
+
+-- ---- lines
+
+unwatched_told : (rows : PolicyRows) (old : Whole) (command : Command) (answer : Served) (reply : Reply) (new : Whole)
+    → is_watching command ≡ false → Obeys rows old command answer reply new → D reply
+unwatched_told rows old command answer reply new f o = by (is_pacing command) refl
+  where
+    by : (b : Bool) → is_pacing command ≡ b → D reply
+    by true e = paces_told old command reply new.cursors e o.paces
+    by false e = does_told rows old.state command answer reply new.state e f o.does
+
+obeys_told : (rows : PolicyRows) (old : Whole) (command : Command) (answer : Served) (reply : Reply) (new : Whole)
+    → Obeys rows old command answer reply new → E reply
+obeys_told rows old command answer reply new o = by (is_watching command) refl
+  where
+    by : (b : Bool) → is_watching command ≡ b → E reply
+    by true e = watching_told old command reply new.watches e o.watching
+    by false e = differ reply (unwatched_told rows old command answer reply new e o)
+
+pub numbers_differ : (rows : PolicyRows) (old : Whole) (line : List ℕ) (answer : Served) (reply : Reply) (new : Whole)
+    → LineStep rows old line answer (Some reply) new → DoNumbersDiffer reply
+numbers_differ rows old line answer reply new step =
+    told_by rows E tt tt old line answer reply new (λ command o. obeys_told rows old command answer reply new o) step
+
+pub untold : (rows : PolicyRows) (old : Whole) (command : Command) (answer : Served) (reply : Reply) (new : Whole)
+    → is_watching command ≡ false → Obeys rows old command answer reply new → (name : List ℕ) → amount_in name reply ≡ []
+untold rows old command answer reply new f o name = no_amount name reply (unwatched_told rows old command answer reply new f o)

@@ -1,0 +1,41 @@
+use Rattle.std.proofs.Common.{Result, Ok, ap, subst, sym, ◌∙◌}
+use Rattle.wot_types.specs.declared.memory.Memory.{Memory}
+use Rattle.wot_keyring.specs.Keyring.{Keyring}
+use Rattle.wot_cache.specs.State.{Engine, StaysButMarks}
+use Rattle.wot_machine.specs.Machine.{Machine, kept}
+use Rattle.wot_machine.specs.Stepped.{TellsBehind}
+use Rattle.wot_machine.specs.Watching.{told_all}
+use Rattle.wot_machine.proofs.Making.{same_state}
+use Rattle.wot_machine.proofs.Running.{tells_behind}
+use Rattle.wot_machine.proofs.Settling.{tells_nothing}
+use Rattle.wot_machine.proofs.machine.Machine.tell.Goals as goal
+
+pub returns-clause-tells : goal.returns-clause-tells
+returns-clause-tells c =
+    let done : Result (Unit {0}) Memory = Ok tt in
+    let same = c.is_settled.ensures.same in
+    let mid : Machine = c.is_settled.new.self in
+    let old : Engine = mid.engine in
+    let new : Engine = c.told.new.self.engine in
+    let stays : StaysButMarks old new = subst (λ (e : Engine). StaysButMarks old e)
+    (sym c.told.ensures.engine) c.in_ok-lines.ensures.stays in
+    let has = c.extend_from_slice.new.self.items in
+    subst (λ (m : Machine). TellsBehind (kept m) c.args.out.now.items (kept c.told.new.self) has) same
+    (tells_behind done old new mid.cursors c.told.new.self.cursors mid.watches
+    c.told.new.self.watches c.in_ok-lines.lines.items
+    c.args.out.now.items c.extend_from_slice.new.self.items (same_state old new stays)
+    (ap (λ (k : Keyring). k.changes) stays.keyring) stays.turns
+    (c.told.ensures.cursors ∙ c.in_ok-lines.ensures.cursors) c.in_ok-lines.ensures.lines
+    (c.told.ensures.told ∙ (λ i. told_all (c.in_ok-lines.ensures.watches i) (c.deref-3.ensures.value i)))
+    (cc (
+      c.in_ok-extend_from_slice.ensures.items,
+      c.deref-2.ensures.value,
+      c.in_ok-text.ensures.text,
+      c.deref.ensures.value,
+    )))
+
+pub returns-then-is_settled-clause-tells : goal.returns-then-is_settled-clause-tells
+returns-then-is_settled-clause-tells c =
+    let had = c.args.out.now.items in
+    subst (λ (m : Machine). TellsBehind (kept c.args.self.now) had (kept m) had) (sym c.is_settled.ensures.same)
+    (tells_nothing (kept c.args.self.now) had (c.is_settled.ensures.settled c.if-is_settled.true))

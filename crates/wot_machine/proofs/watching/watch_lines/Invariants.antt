@@ -1,0 +1,19 @@
+use Rattle.std.proofs.Common.{◌≤◌}
+use Rattle.std.specs.List.{AllByRecursion}
+use Rattle.wot_cache.specs.Basis.{IsPresent}
+use Rattle.wot_cache.specs.State.{StaysButMarks, state_of}
+use Rattle.wot_machine.specs.Watching.{IsWatchLine}
+use Rattle.wot_machine.proofs.Settling.{SettlesSoFar}
+use Rattle.wot_machine.proofs.Watched.{AreSoFar}
+use Rattle.wot_machine.proofs.watching.watch_lines.Given as goal
+
+abbrev pub invariant-rest : goal.invariant-rest
+invariant-rest l =
+    (goal.iterator-rest).can_next l.rest
+    × (goal.iterator-rest).is_finite l.rest
+    × AreSoFar (state_of l.fn.engine) l.fn.watches l.rest l.lines.items
+    × AllByRecursion IsWatchLine l.lines.items
+    × StaysButMarks l.fn.engine l.engine
+    × (l.fn.steps.made ≤ l.steps.made)
+    × IsPresent l.fn.engine l.basis
+    × SettlesSoFar l.fn.engine l.basis l.fn.watches l.rest l.lines.items

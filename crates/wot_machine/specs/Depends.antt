@@ -1,0 +1,67 @@
+-- On what an answer depends.
+use Rattle.std.specs.Prelude.{◌≡◌, ℕ, List, map, Option, Some}
+use Rattle.wot_types.specs.declared.fpr.Fpr.{Fpr}
+use Rattle.wot_policy.specs.declared.rows.PolicyRows.{PolicyRows}
+use Rattle.wot_script.specs.declared.command.Command.{Command}
+use Rattle.wot_script.specs.declared.command.Command.TheVariants.{Ask, Explain, Absence, Check}
+use Rattle.wot_script.specs.declared.reply.Reply.{Reply}
+use Rattle.wot_script.specs.Grammar.{command_of}
+use Rattle.wot_cert.specs.Certificate.{Certificate, unmarked}
+use Rattle.wot_certd.specs.World.{World}
+use Rattle.wot_keyring.specs.Keyring.{Certificates}
+use Rattle.wot_cache.specs.State.{State}
+use Rattle.wot_cache.specs.Views.{view_at}
+use Rattle.wot_machine.specs.LineStep.{LineStep}
+use Rattle.wot_machine.specs.Scene.{opening}
+use Rattle.wot_machine.specs.Served.{Served}
+use Rattle.wot_machine.specs.Transcript.{Run}
+use Rattle.wot_machine.specs.Whole.{Whole}
+
+-- A history leads to the state: lines, answered from the start on, with a shelf of some world.
+pub record IsReached (rows : PolicyRows) (s : Whole) : Type 0 where
+  pub world : World
+  pub after : World
+  pub lines : List (List ℕ)
+  pub replies : List Reply
+  pub run : Run rows (opening world) lines replies (record { whole = s; world = after })
+
+-- the certificates by fingerprint, without their signatures' marks of admission
+abbrev pub bare : Certificates → Certificates
+bare certs = map (λ (e : Fpr × Certificate). (e.0, unmarked e.1)) certs
+
+-- Seen from the view of that name two states are alike: they hold the same certificates but for marks, and the same
+-- verdicts, and the view has the same time and roots in both, or is open in neither. The other views may be any.
+pub record AreAlike (name : List ℕ) (one other : State) : Type 0 where
+  pub certs : bare one.held.certs ≡ bare other.held.certs
+  pub verdicts : one.held.verdicts ≡ other.held.verdicts
+  pub view : view_at one.views name ≡ view_at other.views name
+
+-- a command that asks from the view of that name: for an answer, a list, reasons, or why an amount is missed and
+-- whether that is so
+abbrev pub AsksFrom : List ℕ → Command → Type 0
+AsksFrom name (Ask view target wanted uid) = view ≡ name
+AsksFrom name (Command.List view wanted) = view ≡ name
+AsksFrom name (Explain view fpr uid) = view ≡ name
+AsksFrom name (Absence view target wanted uid) = view ≡ name
+AsksFrom name (Check view target claims labels uid) = view ≡ name
+AsksFrom name _ = ⊥
+
+-- a line that asks from the view of that name
+pub record IsAsk (name line : List ℕ) : Type 0 where
+  pub command : Command
+  pub asks : AsksFrom name command
+  pub read : command_of line ≡ Some command
+
+-- The replies to this line are the same, whatever the shelf gives.
+abbrev pub AreRepliesAlike : PolicyRows → Whole → Whole → List ℕ → Type 0
+AreRepliesAlike rows one other line =
+    (given told : Served) (reply second : Option Reply) (new third : Whole)
+    → LineStep rows one line given reply new → LineStep rows other line told second third → reply ≡ second
+
+-- An answer depends only on the certificates, the verdicts, and the roots and the time of the asking view then present:
+-- whatever histories lead to two states that are alike from a view, each question from it has the same reply in both.
+abbrev pub DependsOnWhatIsPresent : PolicyRows → Type 0
+DependsOnWhatIsPresent rows =
+    (name : List ℕ) (one other : Whole) → IsReached rows one → IsReached rows other
+    → AreAlike name one.state other.state
+    → (line : List ℕ) → IsAsk name line → AreRepliesAlike rows one other line

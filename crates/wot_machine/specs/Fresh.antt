@@ -1,0 +1,49 @@
+-- What a dump does in a fresh machine.
+use Rattle.std.specs.Prelude.{◌≡◌, false, List, [], ℕ, length, codes}
+use Rattle.std.specs.List.{AllByRecursion}
+use Rattle.wot_io.specs.Input as inputs
+use Rattle.wot_policy.specs.declared.rows.PolicyRows.{PolicyRows}
+use Rattle.wot_script.specs.declared.command.Command.{Command}
+use Rattle.wot_script.specs.declared.command.Command.TheVariants.{Dump}
+use Rattle.wot_script.specs.declared.reply.Reply.{Reply}
+use Rattle.wot_script.specs.Replies.{is_refusal}
+use Rattle.wot_types.specs.Limits.{standard_limits}
+use Rattle.wot_keyring.specs.Dump.{AreLines, lines_of}
+use Rattle.wot_certd.specs.World.{World}
+use Rattle.wot_cache.specs.State.{Engine, State, state_of}
+use Rattle.wot_cache.specs.Dump.{CarriesOver, IsRestored, commands_of}
+use Rattle.wot_machine.specs.Scene.{opening}
+use Rattle.wot_machine.specs.Transcript.{Run}
+use Rattle.wot_machine.specs.Whole.{Whole}
+
+-- the line of the command `dump`
+abbrev pub IsDump : List ℕ → Type 0
+IsDump line = line ≡ codes "dump"
+
+-- That is so where the command is `dump`.
+abbrev pub OnDump : Command → Type 0 → Type 0
+OnDump Dump P = P
+OnDump _ P = Unit {0}
+
+-- the lines of a dump of this state
+abbrev pub dumped : State → List (List ℕ)
+dumped s = inputs.lines_of (lines_of (commands_of s))
+
+-- The lines of a dump of this state, answered from the start on, lead to a state with all that a dump carries over, its
+-- signatures judged by the rows, and to no cursor. Each line has a reply, and none is a refusal. The shelf may be any,
+-- and no line reads it.
+pub record IsMadeAnew (rows : PolicyRows) (s : State) : Type 0 where
+  pub replies : List Reply
+  pub new : Whole
+  pub same : CarriesOver rows s new.state
+  pub cursors : new.cursors ≡ []
+  pub watches : new.watches ≡ []
+  pub run : (world : World) → Run rows (opening world) (dumped s) replies (record { whole = new; world = world })
+  pub each : length replies ≡ length (dumped s)
+  pub well : AllByRecursion (λ reply. is_refusal reply ≡ false) replies
+
+-- What `Engine::dump` promises of an engine with the standard limits makes its state anew.
+abbrev pub DumpMakesAnew : PolicyRows → Engine → Type 0
+DumpMakesAnew rows engine =
+    engine.keyring.limits ≡ standard_limits → IsRestored rows engine → AreLines (commands_of (state_of engine))
+    → IsMadeAnew rows (state_of engine)

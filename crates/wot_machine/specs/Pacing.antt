@@ -1,0 +1,148 @@
+-- The commands of cursors: a list in pieces, between the lines of others.
+use Rattle.std.specs.Prelude.{◌≡◌, ◌==◌, ℕ, Bool, true, false, MatchBool, List, [], ◌∷◌, length, map}
+use Rattle.std.specs.Prelude.{Option, Some, None, Result, IfOk, IfSome, is_some}
+use Rattle.std.specs.Option.{unwrap_or}
+use Rattle.wot_types.specs.declared.place.Place.{Place}
+use Rattle.wot_script.specs.declared.command.Command.{Command}
+use Rattle.wot_script.specs.declared.command.Command.TheVariants.{CursorOver, CursorNext, CursorClose}
+use Rattle.wot_script.specs.declared.reply.Reply.{Reply}
+use Rattle.wot_script.specs.declared.reply.Reply.TheVariants as replies
+use Rattle.wot_keyring.specs.Keyring.{certificates_in}
+use Rattle.wot_network.specs.Net.{told_of}
+use Rattle.wot_network.specs.Roads.{present_of}
+use Rattle.wot_cache.specs.declared.parts.Parts.{Parts}
+use Rattle.wot_cache.specs.declared.view.View.{View}
+use Rattle.wot_cache.specs.Turns.{turn_at}
+use Rattle.wot_cache.specs.Views.{view_at}
+use Rattle.wot_cursor.specs.Age.{age_of}
+use Rattle.wot_cursor.specs.Cursors.{Cursor, Cursors, begun, cursor_at, is_full}
+use Rattle.wot_cursor.specs.Cursors.{with_cursor, with_place, without_cursor}
+use Rattle.wot_cursor.specs.declared.stamps.Age.{Age}
+use Rattle.wot_cursor.specs.declared.stamps.Age.TheVariants as ages
+use Rattle.wot_cursor.specs.declared.stamps.Stamps.{Stamps}
+use Rattle.wot_explain.specs.declared.bind.Bind.{Bind}
+use Rattle.wot_explain.specs.Listing.{pairs_in}
+use Rattle.wot_explain.specs.Piece.{IsThePiece, piece_of}
+use Rattle.wot_machine.specs.declared.told.Moved.{Moved}
+use Rattle.wot_machine.specs.declared.told.Told.{Told}
+use Rattle.wot_machine.specs.Listing.{AreBindings, bind_line}
+use Rattle.wot_machine.specs.Whole.{Whole}
+
+-- what a listing from a view rests on now: the count of changes, and the view's turn
+abbrev pub stamps_in : Whole → List ℕ → Stamps
+stamps_in s view = record { keyring = s.changes; view = unwrap_or (turn_at s.turns view) 0 }
+
+-- This is the reply, and these are the cursors.
+abbrev pub Leaves : Reply → Cursors → Reply → Cursors → Type 0
+Leaves told left reply cursors = (reply ≡ told) × (cursors ≡ left)
+
+-- ---- `cursor C over V N`
+
+-- from an open view the cursor begins, or begins anew, unless it would be one too many
+abbrev pub Begins : Whole → List ℕ → List ℕ → ℕ → Option View → Reply → Cursors → Type 0
+Begins s name view wanted None reply cursors = Leaves replies.View s.cursors reply cursors
+Begins s name view wanted (Some there) reply cursors =
+    MatchBool (is_full s.cursors name) (Leaves replies.FullCursors s.cursors reply cursors)
+    (Leaves replies.Done (with_cursor s.cursors name (begun view wanted (stamps_in s view))) reply cursors)
+
+-- ---- `cursor C next K`
+
+abbrev pub place_of : Bind → Place
+place_of bind = record { fpr = bind.fpr; uid = bind.uid }
+
+-- where the last of these bindings stands
+abbrev pub last_place : Bind → List Bind → Place
+last_place bind [] = place_of bind
+last_place bind (next ∷ binds) = last_place next binds
+
+-- The cursor stands at the last of these bindings, and where it stood where there is none.
+abbrev pub behind : Cursors → List ℕ → List Bind → Cursors
+behind cursors name [] = cursors
+behind cursors name (bind ∷ binds) = with_place cursors name (last_place bind binds)
+
+-- a line for each binding of the piece
+abbrev pub piece : List Bind → Reply
+piece binds = replies.Piece (length binds) (map bind_line binds)
+
+-- The first of the bindings behind the cursor's place, as many as this or all, of the list that `list` gives. Where
+-- nothing is wanted, as no line wants it, nothing is given.
+abbrev pub GivesPiece : Whole → List ℕ → ℕ → Cursor → View → Reply → Cursors → Type 0
+GivesPiece s name count cursor view reply cursors =
+    MatchBool (cursor.wanted == 0) (Leaves (piece []) s.cursors reply cursors)
+    ((all : List Bind) × AreBindings s.state view cursor.wanted all
+    × Leaves (piece (piece_of cursor.place count all)) (behind s.cursors name (piece_of cursor.place count all))
+    reply cursors)
+
+-- so where all is as it was at the beginning; else the first number that differs is told
+abbrev pub GoesBy : Age → Whole → List ℕ → ℕ → Cursor → View → Reply → Cursors → Type 0
+GoesBy ages.Same s name count cursor view reply cursors = GivesPiece s name count cursor view reply cursors
+GoesBy (ages.Keyring was now) s name count cursor view reply cursors =
+    Leaves (replies.StaleKeyring was now) s.cursors reply cursors
+GoesBy (ages.View was now) s name count cursor view reply cursors =
+    Leaves (replies.StaleView was now) s.cursors reply cursors
+
+abbrev pub GoesFrom : Option View → Whole → List ℕ → ℕ → Cursor → Reply → Cursors → Type 0
+GoesFrom None s name count cursor reply cursors = Leaves replies.View s.cursors reply cursors
+GoesFrom (Some view) s name count cursor reply cursors =
+    GoesBy (age_of cursor.stamps (stamps_in s cursor.view)) s name count cursor view reply cursors
+
+-- refused where the cursor isn't there, and then where its view isn't open
+abbrev pub Goes : Option Cursor → Whole → List ℕ → ℕ → Reply → Cursors → Type 0
+Goes None s name count reply cursors = Leaves replies.NoCursor s.cursors reply cursors
+Goes (Some cursor) s name count reply cursors =
+    GoesFrom (view_at s.state.views cursor.view) s name count cursor reply cursors
+
+-- the cursors, where that one moved
+abbrev pub settled : Option Moved → Cursors → Cursors
+settled None cursors = cursors
+settled (Some moved) cursors = with_place cursors moved.cursor moved.place
+
+-- That is so of the reply that comes of a command, and of the cursors once it was told.
+abbrev pub OnTold : {E : Type 0} → Result Told E → Cursors → (Reply → Cursors → Type 0) → Type 0
+OnTold result cursors P = IfOk result (λ told. P told.reply (settled told.moved cursors))
+
+-- From the cursor's view, if it is open, the piece is given.
+abbrev pub Gives : Whole → List ℕ → ℕ → Cursor → Reply → Cursors → Type 0
+Gives s name count cursor reply cursors =
+    IfSome (view_at s.state.views cursor.view) (λ view. GivesPiece s name count cursor view reply cursors)
+
+-- What is told is the piece of whatever is the list over these parts, and the cursor goes behind it.
+abbrev pub TellsPiece : Parts → List ℕ → ℕ → Cursor → Told → Type 0
+TellsPiece parts name count cursor told =
+    (binds : List Bind)
+    × IsThePiece (told_of (present_of parts.roads)) parts.roots.now cursor.wanted
+    (pairs_in (certificates_in parts.keyring.now)) cursor.place count binds
+    × (told.reply ≡ piece binds) × ((cursors : Cursors) → settled told.moved cursors ≡ behind cursors name binds)
+
+-- the reply to a line that was looked at, and the cursors once it was told; nothing of one that was passed over
+abbrev pub reply_in : Option Told → Option Reply
+reply_in None = None
+reply_in (Some told) = Some told.reply
+
+abbrev pub left_by : Option Told → Cursors → Cursors
+left_by None cursors = cursors
+left_by (Some told) cursors = settled told.moved cursors
+
+-- whether this is a command of a cursor
+abbrev pub is_pacing : Command → Bool
+is_pacing (CursorOver name view wanted) = true
+is_pacing (CursorNext name count) = true
+is_pacing (CursorClose name) = true
+is_pacing _ = false
+
+-- ---- `cursor C close`
+
+abbrev pub Ends : Whole → List ℕ → Reply → Cursors → Type 0
+Ends s name reply cursors =
+    MatchBool (is_some (cursor_at s.cursors name)) (Leaves replies.Done (without_cursor s.cursors name) reply cursors)
+    (Leaves replies.NoCursor s.cursors reply cursors)
+
+-- ---- all commands
+
+-- What a command makes of the cursors. Those of cursors have their reply by it, and no other touches them.
+abbrev pub Paces : Whole → Command → Reply → Cursors → Type 0
+Paces s (CursorOver name view wanted) reply cursors =
+    Begins s name view wanted (view_at s.state.views view) reply cursors
+Paces s (CursorNext name count) reply cursors = Goes (cursor_at s.cursors name) s name count reply cursors
+Paces s (CursorClose name) reply cursors = Ends s name reply cursors
+Paces s _ reply cursors = cursors ≡ s.cursors

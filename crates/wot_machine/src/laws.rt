@@ -1,0 +1,112 @@
+//! Laws of the machine. Each function does nothing: its contract is the law.
+ghost use Rattle.std.specs.Prelude.{ℕ, List};
+ghost use Rattle.wot_policy.specs.declared.rows.PolicyRows.{PolicyRows};
+ghost use Rattle.wot_script.specs.declared.reply.Reply.{Reply};
+ghost use Rattle.wot_certd.specs.World.{World};
+ghost use Rattle.wot_machine.specs.Absent.{AreClaimsAccepted, DoClaimsLeaveNothing};
+ghost use Rattle.wot_machine.specs.Depends.{DependsOnWhatIsPresent};
+ghost use Rattle.wot_machine.specs.Joined.{NextsAreTold, PiecesJoin, RunsAreExchanges, StaleNumbersDiffer};
+ghost use Rattle.wot_machine.specs.Law.{HaveOneOutcome, HaveOnlyWatchLines, HaveOutcomes, HaveWatchLines};
+ghost use Rattle.wot_machine.specs.Law.{LeadToStates, RefusalsLeaveAll};
+ghost use Rattle.wot_machine.specs.Transcript.{HasOneTranscript, StayJudged, Transcript};
+ghost use Rattle.wot_machine.specs.Worth.{QuietLinesTellNothing, WatchLinesAreNews, WatchesAreTrue};
+
+use wot_cert::laws::judging;
+use wot_check::laws::{
+    accepted_paths_leave_nothing, check_is_one, least_table_is_one, least_tables_are_accepted,
+};
+use wot_edge::laws::answer_is_one;
+use wot_explain::laws::list_is_one;
+use wot_network::laws::record_is_lawful;
+use wot_script::laws::lines_spell_commands;
+
+/// Whatever the shelf gives, each line has a reply or none, and a state after it, and in a state that can be only one
+/// of each. What comes after a state that can be, as the one before the first line, can be too. So it is with the
+/// watch lines of a state.
+pub fn each_line_has_one_outcome()
+    ensures some { (rows : PolicyRows) → HaveOutcomes rows }
+    ensures one { (rows : PolicyRows) → HaveOneOutcome rows }
+    ensures stays { (rows : PolicyRows) → LeadToStates rows }
+    ensures tells { HaveWatchLines }
+    ensures tells_one { HaveOnlyWatchLines }
+{
+    answer_is_one();
+    record_is_lawful();
+    list_is_one();
+    least_table_is_one();
+    check_is_one();
+    lines_spell_commands();
+}
+
+/// A line that is refused, or in which the shelf failed, leaves certificates, verdicts, views, counts, cursors and
+/// watches as they were.
+pub fn refused_lines_leave_the_state()
+    ensures { (rows : PolicyRows) → RefusalsLeaveAll rows }
+{}
+
+/// Over a shelf of each world, each input has exactly one transcript.
+pub fn each_input_has_one_transcript()
+    ensures some { (rows : PolicyRows) (world : World) (input : List ℕ)
+        → (replies : List Reply) × Transcript rows world input replies }
+    ensures one { (rows : PolicyRows) (world : World) (input : List ℕ) → HasOneTranscript rows world input }
+{
+    each_line_has_one_outcome();
+}
+
+/// In each state that lines lead to from the start on, every signature has the mark that the rows give it, so that
+/// judging them anew changes nothing. So what the lines of a dump make anew there is this very state.
+pub fn reached_states_are_judged()
+    ensures { (rows : PolicyRows) → StayJudged rows }
+{
+    judging();
+}
+
+/// Each answer depends only on the certificates, the verdicts, and the roots and the time of the asking view then
+/// present. What else two histories did, and whatever other views are open, the same question has the same reply.
+pub fn answers_depend_on_what_is_present()
+    ensures present { (rows : PolicyRows) → DependsOnWhatIsPresent rows }
+{
+    judging();
+    reached_states_are_judged();
+    each_line_has_one_outcome();
+}
+
+/// Claims of absence hold. What a reply `absence missed` claims is accepted by `check` from the same view in the same
+/// state; and after the paths of a claim that is accepted no valid path of positive amount is left.
+pub fn claims_of_absence_hold()
+    ensures accepted { AreClaimsAccepted }
+    ensures nothing { DoClaimsLeaveNothing }
+{
+    least_tables_are_accepted();
+    accepted_paths_leave_nothing();
+    record_is_lawful();
+}
+
+/// The pieces of a cursor join to the list. Whatever lines come between, by anyone, what a cursor gave since its
+/// beginning is, piece behind piece, what `list` replies in the state at its beginning, from the first binding on, and
+/// all of that once a piece was shorter than asked. Each other reply to its `next` says that its view isn't open, or
+/// that it is stale, with the number at its beginning and the present one. Such numbers differ, in every state.
+pub fn pieces_join_to_the_list()
+    ensures runs { (rows : PolicyRows) → RunsAreExchanges rows }
+    ensures join { (rows : PolicyRows) → PiecesJoin rows }
+    ensures next { (rows : PolicyRows) → NextsAreTold rows }
+    ensures differ { (rows : PolicyRows) → StaleNumbersDiffer rows }
+{
+    record_is_lawful();
+    list_is_one();
+    lines_spell_commands();
+}
+
+/// Watches are true. After each line, whoever wrote it, the view of each watch that is there is open, and the amount
+/// last told of it, or its opening amount where none was told since, is that of the answer to its question as things
+/// are now. The watch lines behind a line stand in the order of the names; each tells an amount that is another than
+/// the one told last, or that the watch is gone. Behind a line that leaves all that is kept stands none.
+pub fn watches_are_true()
+    ensures now { (rows : PolicyRows) → WatchesAreTrue rows }
+    ensures news { (rows : PolicyRows) → WatchLinesAreNews rows }
+    ensures quiet { (rows : PolicyRows) → QuietLinesTellNothing rows }
+{
+    answer_is_one();
+    record_is_lawful();
+    lines_spell_commands();
+}

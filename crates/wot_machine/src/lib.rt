@@ -1,0 +1,29 @@
+//! The machine that answers lines.
+#![tactic(auto)]
+
+mod absence;
+mod answer;
+mod bindings;
+mod checking;
+mod commands;
+mod fresh;
+mod laws;
+mod listing;
+mod load;
+mod machine;
+mod pacing;
+mod pending;
+mod reasons;
+mod refusal;
+mod store;
+mod told;
+mod watching;
+
+pub use fresh::dump_makes_the_state_anew;
+pub use laws::{
+    answers_depend_on_what_is_present, claims_of_absence_hold, each_input_has_one_transcript,
+    each_line_has_one_outcome, pieces_join_to_the_list, reached_states_are_judged,
+    watches_are_true,
+};
+pub use machine::Machine;
+pub use told::{Moved, Told};

@@ -1,0 +1,610 @@
+ghost use Rattle.std.specs.Prelude.{◌≡◌, ◌≤◌, ◌<◌, ◌+◌, ◌-◌, ◌^◌, [], ◌++◌};
+ghost use Rattle.std.specs.Prelude.{length, vec_items, vec_len, vec_capacity};
+ghost use Rattle.std.specs.Prelude.{Some, None, false, true, IfOk, IfSome, IsOk, OnOk, OnErr};
+ghost use Rattle.std.specs.List.{AllByRecursion};
+ghost use Rattle.wot_types.specs.Limits.{standard_limits};
+ghost use Rattle.wot_policy.specs.declared.rows.PolicyRows.{PolicyRows};
+ghost use Rattle.wot_policy.specs.Kept.{IsFaithful, rows_of};
+ghost use Rattle.wot_keyring.specs.Kept.{IsJudgedBy};
+ghost use Rattle.wot_keyring.specs.Import.{IsOneChange};
+ghost use Rattle.wot_script.specs.Grammar.{command_of};
+ghost use Rattle.wot_script.specs.Spelling.{HasSpelling, IsWithin};
+ghost use Rattle.wot_script.specs.Replies.{HasWords, is_short, reply_text};
+ghost use Rattle.wot_cache.specs.State.{empty, state_of, StaysButMarks};
+ghost use Rattle.wot_machine.specs.Lines.{heard, is_silent};
+ghost use Rattle.wot_machine.specs.Entry.{MayPut, entry_for, unused, use_of};
+ghost use Rattle.wot_machine.specs.LineStep.{Does};
+ghost use Rattle.wot_machine.specs.Both.{ends, itself};
+ghost use Rattle.wot_machine.specs.Ran.{Acts, over};
+ghost use Rattle.wot_machine.specs.Stepped.{Heeds, Replies, Runs, TellsBehind};
+ghost use Rattle.wot_machine.specs.Transcript.{octets_of};
+ghost use Rattle.wot_machine.specs.Machine.{kept, parts, PartsStay, StaysKept};
+ghost use Rattle.wot_machine.specs.Pacing.{is_pacing, settled};
+ghost use Rattle.wot_machine.specs.Fresh.{IsDump, OnDump, IsMadeAnew};
+ghost use Rattle.wot_machine.specs.Made.{LineMakes, Makes};
+ghost use Rattle.wot_script.specs.declared.reply.Reply.TheVariants as replies;
+ghost use Rattle.wot_machine.specs.Settled.{CountsDiffer, IsNoAmount};
+ghost use Rattle.wot_machine.specs.Served.{unserved};
+ghost use Rattle.wot_machine.specs.Watching.{AreLines, IsWatchLine, is_watching, told_all};
+ghost use Rattle.wot_machine.specs.Whole.{IsTurnedBy};
+
+use crate::absence::absence;
+use crate::answer::ask;
+use crate::bindings::list;
+use crate::checking::check;
+use crate::commands::{clear_verdict, close, import, remove, root, set_verdict, time};
+use crate::listing::{dump, export, keys};
+use crate::load::load;
+use crate::pacing::{close as close_cursor, next, over};
+use crate::pending::pending;
+use crate::reasons::explain;
+use crate::store::store;
+use crate::told::{Moved, Told, alone, plain, settle};
+use crate::watching::{are_settled, off, on, tell_all, watch_lines};
+use std::alloc::Global;
+use std::marker::Model;
+use wot_cache::laws::{change_goes_on, rests_on, views_go_on};
+use wot_cache::{Basis, Engine};
+use wot_certd::Shelf;
+use wot_cursor::Cursors;
+use wot_policy::{Ask, Policy};
+use wot_script::{Command, LineFault, Reply, print_reply, read_line};
+use wot_types::{Limits, Memory, Steps};
+use wot_verdict::Verdict;
+use wot_watch::Watches;
+
+/// The most octets of a line, without its line feed.
+const LONGEST: usize = 16_777_216;
+
+/// The room that a reply of one line needs at most.
+const ROOM: usize = 128;
+
+/// The machine between two lines: one engine, with the standard limits, over which the lines of all clients go, and
+/// their cursors.
+#[derive(Drop)]
+pub struct Machine {
+    alloc: Global,
+    engine: Engine,
+    cursors: Cursors,
+    watches: Watches,
+    steps: Steps,
+    // What the amounts last told rest on, where that is known.
+    basis: Option<Basis>,
+}
+
+impl Model for Machine {
+    ghost use Rattle.std.specs.Prelude.{◌≡◌};
+    ghost use Rattle.wot_types.specs.Limits.{standard_limits};
+    ghost use Rattle.wot_machine.specs.Machine.{Machine as TheMachine};
+    ghost use Rattle.wot_machine.specs.Settled.{AreSettled};
+
+    ghost Value = { TheMachine };
+
+    ghost view = { λ a. record { engine = a.engine; cursors = a.cursors; watches = a.watches; made = a.steps.made } };
+
+    ghost invariant = { λ a. (a.engine.keyring.limits ≡ standard_limits) × AreSettled a.engine a.watches a.basis };
+}
+
+impl Machine {
+    /// A machine that keeps nothing yet.
+    pub fn new(alloc: Global) -> Machine
+        ensures start { result.engine ≡ empty standard_limits }
+        ensures cursors { result.cursors ≡ [] }
+        ensures watches { result.watches ≡ [] }
+        ensures made { result.made ≡ 0 }
+    {
+        Machine {
+            alloc,
+            engine: Engine::new(alloc, Limits::standard()),
+            cursors: Cursors::new(alloc),
+            watches: Watches::new(alloc),
+            steps: Steps::new(),
+            basis: None,
+        }
+    }
+
+    /// How many edges were made for all questions so far. The count stands still at `u64::MAX`.
+    pub fn made(&self) -> u64
+        ensures made { result ≡ self.now.made }
+    {
+        self.steps.made
+    }
+
+    /// One line, without its line feed; its reply is appended. After `Memory` `out` is as before, and so is the machine
+    /// but for marks and the count of edges made. Room for 128 octets is taken in `out` before anything changes. A
+    /// `load` line calls the shelf once, and a `store` line twice at most; no other calls it. After `Memory` an entry
+    /// that a `store` line puts may stand there already.
+    #[tactic(auto, using(crate::proofs::Unchanged::unchanged))]
+    pub fn line<D: Shelf, F: Fn(Ask) -> bool>(
+        &mut self,
+        line: &[u8],
+        shelf: &mut D,
+        policy: &mut Policy<F>,
+        out: &mut Vec<u8>,
+    ) -> Result<(), Memory>
+        requires countable { self.old.engine.keyring.changes < 2 ^ 64 - 1 }
+        requires turnable { self.old.engine.turns.count < 2 ^ 64 - 1 }
+        requires judged { IsJudgedBy (rows_of policy.old) self.old.engine.keyring }
+        requires faithful { IsFaithful F.Fn policy.old }
+        ensures step { OnOk result (Runs (rows_of policy.old) line.now
+            (ends kept self) (over D.world D.faults shelf) (ends vec_items out)) }
+        ensures untouched { entry_for (state_of self.old.engine) (use_of (heard line.now)) ≡ None →
+            shelf.new ≡ shelf.old }
+        ensures entries { OnErr result (MayPut (state_of self.old.engine) (use_of (heard line.now))
+            (D.world shelf.old) (D.world shelf.new)) }
+        ensures later { D.faults shelf.old ≤ D.faults shelf.new }
+        // The lines that the reply to `dump` holds make the state anew in a fresh machine, by whatever rows it judges.
+        ensures anew { OnOk result
+            (IsDump line.now → (rows : PolicyRows) → IsMadeAnew rows (state_of self.old.engine)) }
+        ensures kept { OnErr result (StaysKept self.old self.new × (out.new.items ≡ out.old.items)) }
+        ensures room { OnOk result (is_silent line.now ≡ false → vec_len out.old + 128 ≤ vec_capacity out.new) }
+        // A line that leaves the state, as one that is silent or refused, or asks or lists, leaves stamps and counts
+        // too.
+        ensures unchanged { state_of self.new.engine ≡ state_of self.old.engine →
+            StaysButMarks self.old.engine self.new.engine }
+        // A question makes edges of what is stale for its view, and each other line makes none.
+        ensures makes { LineMakes result (heard line.now) self.old.cursors self.old.engine self.new.engine
+            self.old.made self.new.made }
+        ensures counted { IsOneChange self.old.engine.keyring self.new.engine.keyring }
+        ensures turned { self.new.engine.turns.count ≤ self.old.engine.turns.count + 1 }
+        ensures judged { IsJudgedBy (rows_of policy.old) self.new.engine.keyring }
+        ensures faithful { IsFaithful F.Fn policy.new }
+        ensures rows { rows_of policy.new ≡ rows_of policy.old }
+    {
+        out.reserve(ROOM)?;
+        match self.reply(line, shelf, policy)? {
+            Some(told) => self.put(told, out),
+            None => Ok(()),
+        }
+    }
+
+    /// The reply to a line, without its line feed; none to one that is passed over. After `Memory` the machine is as
+    /// before but for marks and the count of edges made. A cursor moves once its piece was told ([`Machine::settle`]).
+    #[tactic(auto, using(crate::proofs::Unchanged::unchanged))]
+    pub fn reply<D: Shelf, F: Fn(Ask) -> bool>(
+        &mut self,
+        line: &[u8],
+        shelf: &mut D,
+        policy: &mut Policy<F>,
+    ) -> Result<Option<Told>, Memory>
+        requires countable { self.old.engine.keyring.changes < 2 ^ 64 - 1 }
+        requires turnable { self.old.engine.turns.count < 2 ^ 64 - 1 }
+        requires judged { IsJudgedBy (rows_of policy.old) self.old.engine.keyring }
+        requires faithful { IsFaithful F.Fn policy.old }
+        ensures replied { IfOk result (Replies (rows_of policy.old) line.now
+            (ends itself self) (over D.world D.faults shelf)) }
+        ensures untouched { entry_for (state_of self.old.engine) (use_of (heard line.now)) ≡ None →
+            shelf.new ≡ shelf.old }
+        ensures entries { OnErr result (MayPut (state_of self.old.engine) (use_of (heard line.now))
+            (D.world shelf.old) (D.world shelf.new)) }
+        ensures later { D.faults shelf.old ≤ D.faults shelf.new }
+        ensures words { IfOk result (λ told. IfSome told (λ told. HasWords told.reply)) }
+        ensures anew { OnOk result
+            (IsDump line.now → (rows : PolicyRows) → IsMadeAnew rows (state_of self.old.engine)) }
+        ensures quiet { IfOk result (λ told.
+            IfSome told (λ told. is_short told.reply ≡ false → StaysKept self.old self.new)) }
+        ensures kept { OnErr result (StaysKept self.old self.new) }
+        ensures unchanged { state_of self.new.engine ≡ state_of self.old.engine →
+            StaysButMarks self.old.engine self.new.engine }
+        ensures makes { LineMakes result (heard line.now) self.old.cursors self.old.engine self.new.engine
+            self.old.made self.new.made }
+        ensures counted { IsOneChange self.old.engine.keyring self.new.engine.keyring }
+        ensures turned { self.new.engine.turns.count ≤ self.old.engine.turns.count + 1 }
+        ensures judged { IsJudgedBy (rows_of policy.old) self.new.engine.keyring }
+        ensures faithful { IsFaithful F.Fn policy.new }
+        ensures rows { rows_of policy.new ≡ rows_of policy.old }
+    {
+        if line.len() > LONGEST {
+            return Ok(Some(alone(Reply::Long)));
+        }
+        if test_silent(line) {
+            return Ok(None);
+        }
+        change_goes_on();
+        views_go_on();
+        rests_on();
+        let basis = self.basis.take();
+        let before = Counts::of(&self.engine);
+        let told = answer(
+            self.alloc,
+            &mut self.engine,
+            &mut self.cursors,
+            &mut self.watches,
+            &mut self.steps,
+            line,
+            shelf,
+            policy,
+        )?;
+        self.basis = kept_on(basis, &self.engine, before, &told.reply);
+        Ok(Some(told))
+    }
+
+    /// Appends a reply, and moves the cursor of which it is a piece. After `Memory` all is as before.
+    fn put(&mut self, told: Told, out: &mut Vec<u8>) -> Result<(), Memory>
+        requires words { HasWords told.reply }
+        ensures appended { OnOk result (out.new.items ≡ out.old.items ++ reply_text told.reply) }
+        ensures settled { OnOk result (self.new.cursors ≡ settled told.moved self.old.cursors) }
+        ensures kept { OnErr result ((self.new.cursors ≡ self.old.cursors) × (out.new.items ≡ out.old.items)) }
+        ensures sure { is_short told.reply ≡ true → vec_len out.old + 128 ≤ vec_capacity out.old → IsOk result }
+        ensures room { vec_capacity out.old ≤ vec_capacity out.new }
+        ensures engine { self.new.engine ≡ self.old.engine }
+        ensures watches { self.new.watches ≡ self.old.watches }
+        ensures made { self.new.made ≡ self.old.made }
+    {
+        let Told { reply, moved } = told;
+        print_reply(&reply, out)?;
+        self.settle(moved);
+        Ok(())
+    }
+
+    /// Moves the cursor that gave a piece which was told.
+    pub fn settle(&mut self, moved: Option<Moved>)
+        ensures settled { self.new.cursors ≡ settled moved self.old.cursors }
+        ensures engine { self.new.engine ≡ self.old.engine }
+        ensures watches { self.new.watches ≡ self.old.watches }
+        ensures made { self.new.made ≡ self.old.made }
+    {
+        settle(moved, &mut self.cursors);
+    }
+
+    /// Appends the watch lines of what is kept, by name of watch: one for each watch whose amount isn't the one last
+    /// told, and one for each whose view isn't open. They are told then, and the latter watches are taken away. After
+    /// `Memory` `out` is as before, and so is the machine but for marks and the count of edges made.
+    pub fn tell(&mut self, out: &mut Vec<u8>) -> Result<(), Memory>
+        ensures tells { OnOk result (TellsBehind (kept self.old) out.old.items (kept self.new) out.new.items) }
+        ensures kept { OnErr result (StaysKept self.old self.new × (out.new.items ≡ out.old.items)) }
+        ensures stays { StaysButMarks self.old.engine self.new.engine }
+        ensures never_less { self.old.made ≤ self.new.made }
+    {
+        if self.is_settled() {
+            return Ok(());
+        }
+        let lines = self.watch_lines()?;
+        let text = text_of(self.alloc, &lines)?;
+        out.extend_from_slice(&text)?;
+        self.told(&lines);
+        Ok(())
+    }
+
+    /// Whether no watch has a line, where that is known without asking anything.
+    fn is_settled(&mut self) -> bool
+        ensures settled { result ≡ true → AreLines (state_of self.old.engine) self.old.watches [] }
+        ensures same { self.new ≡ self.old }
+    {
+        are_settled(&self.engine, &self.watches, &mut self.basis)
+    }
+
+    /// The watch lines, none of which is told yet.
+    pub fn watch_lines(&mut self) -> Result<Vec<Reply>, Memory>
+        ensures lines { IfOk result (λ lines. AreLines (state_of self.old.engine) self.old.watches lines.items) }
+        ensures each { IfOk result (λ lines. AllByRecursion IsWatchLine lines.items) }
+        ensures stays { StaysButMarks self.old.engine self.new.engine }
+        ensures cursors { self.new.cursors ≡ self.old.cursors }
+        ensures watches { self.new.watches ≡ self.old.watches }
+        ensures never_less { self.old.made ≤ self.new.made }
+    {
+        self.basis = None;
+        let mut basis = Basis::new(self.alloc, &self.engine);
+        let steps = &mut self.steps;
+        let lines = watch_lines(
+            self.alloc,
+            &mut self.engine,
+            steps,
+            &self.watches,
+            &mut basis,
+        )?;
+        if lines.is_empty() {
+            self.basis = Some(basis);
+        }
+        Ok(lines)
+    }
+
+    /// These watch lines were told.
+    pub fn told(&mut self, lines: &[Reply])
+        ensures told { self.new.watches ≡ told_all self.old.watches lines.now }
+        ensures engine { self.new.engine ≡ self.old.engine }
+        ensures cursors { self.new.cursors ≡ self.old.cursors }
+        ensures made { self.new.made ≡ self.old.made }
+    {
+        if lines.is_empty() {
+            return;
+        }
+        self.basis = None;
+        tell_all(&mut self.watches, lines);
+    }
+}
+
+/// What an engine counts, by which it is seen whether a line may have closed a view or taken a certificate out.
+#[derive(Clone, Copy)]
+struct Counts {
+    certificates: usize,
+    changes: u64,
+    turns: u64,
+}
+
+impl Counts {
+    fn of(engine: &Engine) -> Counts
+        ensures certificates { result.certificates ≡ length engine.now.keyring.certs }
+        ensures changes { result.changes ≡ engine.now.keyring.changes }
+        ensures turns { result.turns ≡ engine.now.turns.count }
+    {
+        Counts {
+            certificates: engine.keyring().len(),
+            changes: engine.keyring().changes(),
+            turns: engine.turns(),
+        }
+    }
+}
+
+/// The basis, where what was settled before a line still is.
+fn kept_on(basis: Option<Basis>, engine: &Engine, before: Counts, reply: &Reply) -> Option<Basis>
+    ensures same { IfSome result (λ kept. basis ≡ Some kept) }
+    ensures more { IfSome result (λ _. before.certificates ≤ length engine.now.keyring.certs) }
+    ensures none { IfSome result (λ _. IsNoAmount reply.now) }
+    ensures counted { IfSome result (λ _. reply.now ≡ replies.Done →
+        CountsDiffer engine.now before.changes before.turns) }
+{
+    if goes_on(engine, before, reply) {
+        return basis;
+    }
+    None
+}
+
+/// Whether what was settled before a line still is, by its reply: no certificate is gone, no watch began, and no view
+/// was closed, since a line that closes one is replied `ok` and counts nothing.
+fn goes_on(engine: &Engine, before: Counts, reply: &Reply) -> bool
+    ensures more { result ≡ true → before.certificates ≤ length engine.now.keyring.certs }
+    ensures none { result ≡ true → IsNoAmount reply.now }
+    ensures counted { result ≡ true → reply.now ≡ replies.Done →
+        CountsDiffer engine.now before.changes before.turns }
+{
+    let now = Counts::of(engine);
+    if now.certificates < before.certificates {
+        return false;
+    }
+    match reply {
+        Reply::WatchAmount(_, _) => false,
+        Reply::Done => now.changes != before.changes || now.turns != before.turns,
+        _ => true,
+    }
+}
+
+/// The octets of watch lines.
+fn text_of(alloc: Global, lines: &[Reply]) -> Result<Vec<u8>, Memory>
+    requires each { AllByRecursion IsWatchLine lines.now }
+    ensures text { IfOk result (λ text. text.items ≡ octets_of lines.now) }
+{
+    let mut text = Vec::new(alloc);
+    let mut rest = lines;
+    'rest: while let Some((line, others)) = rest.split_first() {
+        print_reply(line, &mut text)?;
+        rest = others;
+    }
+    Ok(text)
+}
+
+/// Whether a line is empty or a comment.
+fn test_silent(line: &[u8]) -> bool
+    ensures silent { result ≡ is_silent line.now }
+{
+    match line {
+        [] => true,
+        [octet, ..] => *octet == b'#',
+    }
+}
+
+/// Does what a line asks for. A reply that may be long comes with no change but that a cursor moves once it was told.
+fn answer<D: Shelf, F: Fn(Ask) -> bool>(
+    alloc: Global,
+    engine: &mut Engine,
+    cursors: &mut Cursors,
+    watches: &mut Watches,
+    steps: &mut Steps,
+    line: &[u8],
+    shelf: &mut D,
+    policy: &mut Policy<F>,
+) -> Result<Told, Memory>
+    requires short { length line.now ≤ 16777216 }
+    requires standard { engine.old.keyring.limits ≡ standard_limits }
+    requires countable { engine.old.keyring.changes < 2 ^ 64 - 1 }
+    requires turnable { engine.old.turns.count < 2 ^ 64 - 1 }
+    requires judged { IsJudgedBy (rows_of policy.old) engine.old.keyring }
+    requires faithful { IsFaithful F.Fn policy.old }
+    ensures ran { IfOk result (Heeds (rows_of policy.old) (command_of line.now)
+        (parts engine cursors watches) (over D.world D.faults shelf)) }
+    ensures untouched { entry_for (state_of engine.old) (use_of (command_of line.now)) ≡ None → shelf.new ≡ shelf.old }
+    ensures entries { OnErr result (MayPut (state_of engine.old) (use_of (command_of line.now))
+        (D.world shelf.old) (D.world shelf.new)) }
+    ensures later { D.faults shelf.old ≤ D.faults shelf.new }
+    ensures words { IfOk result (λ told. HasWords told.reply) }
+    ensures anew { OnOk result (IsDump line.now → (rows : PolicyRows) → IsMadeAnew rows (state_of engine.old)) }
+    ensures quiet { IfOk result (λ told.
+        is_short told.reply ≡ false → PartsStay (parts engine cursors watches)) }
+    ensures kept { OnErr result (PartsStay (parts engine cursors watches)) }
+    ensures makes { LineMakes result (command_of line.now) cursors.old engine.old engine.new
+        steps.old.made steps.new.made }
+    ensures standard { engine.new.keyring.limits ≡ standard_limits }
+    ensures counted { IsOneChange engine.old.keyring engine.new.keyring }
+    ensures turned { engine.new.turns.count ≤ engine.old.turns.count + 1 }
+    ensures still { state_of engine.new ≡ state_of engine.old → engine.new.turns ≡ engine.old.turns }
+    ensures judged { IsJudgedBy (rows_of policy.old) engine.new.keyring }
+    ensures faithful { IsFaithful F.Fn policy.new }
+    ensures rows { rows_of policy.new ≡ rows_of policy.old }
+{
+    match read_line(alloc, line) {
+        Ok(command) => act(
+            alloc, engine, cursors, watches, steps, &command, shelf, policy,
+        ),
+        Err(LineFault::Line) => Ok(alone(Reply::Line)),
+        Err(LineFault::Memory) => Err(Memory),
+    }
+}
+
+/// Runs a command, which may be one of a cursor or of a watch.
+fn act<D: Shelf, F: Fn(Ask) -> bool>(
+    alloc: Global,
+    engine: &mut Engine,
+    cursors: &mut Cursors,
+    watches: &mut Watches,
+    steps: &mut Steps,
+    command: &Command,
+    shelf: &mut D,
+    policy: &mut Policy<F>,
+) -> Result<Told, Memory>
+    requires within { IsWithin 16777216 command.now }
+    requires spelled { HasSpelling command.now }
+    requires standard { engine.old.keyring.limits ≡ standard_limits }
+    requires countable { engine.old.keyring.changes < 2 ^ 64 - 1 }
+    requires turnable { engine.old.turns.count < 2 ^ 64 - 1 }
+    requires judged { IsJudgedBy (rows_of policy.old) engine.old.keyring }
+    requires faithful { IsFaithful F.Fn policy.old }
+    ensures ran { IfOk result (Heeds (rows_of policy.old) (Some command.now)
+        (parts engine cursors watches) (over D.world D.faults shelf)) }
+    ensures untouched { entry_for (state_of engine.old) (use_of (Some command.now)) ≡ None → shelf.new ≡ shelf.old }
+    ensures entries { OnErr result (MayPut (state_of engine.old) (use_of (Some command.now))
+        (D.world shelf.old) (D.world shelf.new)) }
+    ensures later { D.faults shelf.old ≤ D.faults shelf.new }
+    ensures anew { OnOk result (OnDump command.now ((rows : PolicyRows) → IsMadeAnew rows (state_of engine.old))) }
+    ensures quiet { IfOk result (λ told.
+        is_short told.reply ≡ false → PartsStay (parts engine cursors watches)) }
+    ensures kept { OnErr result (PartsStay (parts engine cursors watches)) }
+    ensures makes { LineMakes result (Some command.now) cursors.old engine.old engine.new
+        steps.old.made steps.new.made }
+    ensures standard { engine.new.keyring.limits ≡ standard_limits }
+    ensures counted { IsOneChange engine.old.keyring engine.new.keyring }
+    ensures turned { engine.new.turns.count ≤ engine.old.turns.count + 1 }
+    ensures still { state_of engine.new ≡ state_of engine.old → engine.new.turns ≡ engine.old.turns }
+    ensures judged { IsJudgedBy (rows_of policy.old) engine.new.keyring }
+    ensures faithful { IsFaithful F.Fn policy.new }
+    ensures rows { rows_of policy.new ≡ rows_of policy.old }
+{
+    match command {
+        Command::CursorOver(name, view, wanted) => {
+            over(alloc, engine, cursors, name, view, *wanted)
+        }
+        Command::CursorNext(name, count) => next(alloc, engine, steps, cursors, name, *count),
+        Command::CursorClose(name) => Ok(close_cursor(engine, cursors, name)),
+        Command::WatchOn(name, view, target, wanted, uid) => plain(on(
+            alloc, engine, steps, watches, name, view, target, *wanted, uid,
+        )),
+        Command::WatchOff(name) => Ok(alone(off(watches, name))),
+        _ => plain(obey(alloc, engine, steps, command, shelf, policy)),
+    }
+}
+
+/// Runs a command, which may call the shelf.
+fn obey<D: Shelf, F: Fn(Ask) -> bool>(
+    alloc: Global,
+    engine: &mut Engine,
+    steps: &mut Steps,
+    command: &Command,
+    shelf: &mut D,
+    policy: &mut Policy<F>,
+) -> Result<Reply, Memory>
+    requires plain { is_pacing command.now ≡ false }
+    requires unwatched { is_watching command.now ≡ false }
+    requires within { IsWithin 16777216 command.now }
+    requires spelled { HasSpelling command.now }
+    requires standard { engine.old.keyring.limits ≡ standard_limits }
+    requires countable { engine.old.keyring.changes < 2 ^ 64 - 1 }
+    requires turnable { engine.old.turns.count < 2 ^ 64 - 1 }
+    requires judged { IsJudgedBy (rows_of policy.old) engine.old.keyring }
+    requires faithful { IsFaithful F.Fn policy.old }
+    ensures did { IfOk result (Acts (rows_of policy.old) command.now
+        (ends state_of engine) (over D.world D.faults shelf)) }
+    ensures untouched { entry_for (state_of engine.old) (use_of (Some command.now)) ≡ None → shelf.new ≡ shelf.old }
+    ensures entries { OnErr result (MayPut (state_of engine.old) (use_of (Some command.now))
+        (D.world shelf.old) (D.world shelf.new)) }
+    ensures later { D.faults shelf.old ≤ D.faults shelf.new }
+    ensures anew { OnOk result (OnDump command.now ((rows : PolicyRows) → IsMadeAnew rows (state_of engine.old))) }
+    ensures quiet { IfOk result (λ reply. is_short reply ≡ false → StaysButMarks engine.old engine.new) }
+    ensures kept { OnErr result (StaysButMarks engine.old engine.new) }
+    ensures makes { Makes result command.now engine.old engine.new steps.old.made steps.new.made }
+    ensures standard { engine.new.keyring.limits ≡ standard_limits }
+    ensures counted { IsOneChange engine.old.keyring engine.new.keyring }
+    ensures turned { OnOk result
+        (IsTurnedBy command.now engine.old.views engine.old.turns engine.new.views engine.new.turns) }
+    ensures judged { IsJudgedBy (rows_of policy.old) engine.new.keyring }
+    ensures faithful { IsFaithful F.Fn policy.new }
+    ensures rows { rows_of policy.new ≡ rows_of policy.old }
+{
+    match command {
+        Command::Load(name) => load(engine, name, shelf, policy),
+        Command::Store(fpr) => store(alloc, engine, fpr, shelf),
+        _ => run(alloc, engine, steps, command, policy),
+    }
+}
+
+/// Runs a command that leaves the shelf alone.
+fn run<F: Fn(Ask) -> bool>(
+    alloc: Global,
+    engine: &mut Engine,
+    steps: &mut Steps,
+    command: &Command,
+    policy: &mut Policy<F>,
+) -> Result<Reply, Memory>
+    requires alone { use_of (Some command.now) ≡ unused }
+    requires plain { is_pacing command.now ≡ false }
+    requires unwatched { is_watching command.now ≡ false }
+    requires within { IsWithin 16777216 command.now }
+    requires spelled { HasSpelling command.now }
+    requires standard { engine.old.keyring.limits ≡ standard_limits }
+    requires countable { engine.old.keyring.changes < 2 ^ 64 - 1 }
+    requires turnable { engine.old.turns.count < 2 ^ 64 - 1 }
+    requires judged { IsJudgedBy (rows_of policy.old) engine.old.keyring }
+    requires faithful { IsFaithful F.Fn policy.old }
+    ensures does { IfOk result (λ told.
+        Does (rows_of policy.old) (state_of engine.old) command.now unserved told (state_of engine.new)) }
+    ensures anew { OnOk result (OnDump command.now ((rows : PolicyRows) → IsMadeAnew rows (state_of engine.old))) }
+    ensures quiet { IfOk result (λ reply. is_short reply ≡ false → StaysButMarks engine.old engine.new) }
+    ensures kept { OnErr result (StaysButMarks engine.old engine.new) }
+    ensures makes { Makes result command.now engine.old engine.new steps.old.made steps.new.made }
+    ensures standard { engine.new.keyring.limits ≡ standard_limits }
+    ensures counted { IsOneChange engine.old.keyring engine.new.keyring }
+    ensures turned { OnOk result
+        (IsTurnedBy command.now engine.old.views engine.old.turns engine.new.views engine.new.turns) }
+    ensures judged { IsJudgedBy (rows_of policy.old) engine.new.keyring }
+    ensures faithful { IsFaithful F.Fn policy.new }
+    ensures rows { rows_of policy.new ≡ rows_of policy.old }
+{
+    match command {
+        Command::Import(octets) => import(engine, octets.items(), policy),
+        Command::Load(_) | Command::Store(_) => unreachable!(),
+        Command::Remove(fpr) => Ok(remove(engine, fpr)),
+        Command::Good(number, fpr) => set_verdict(engine, *number, Verdict::Good(*fpr)),
+        Command::Bad(number) => set_verdict(engine, *number, Verdict::Bad),
+        Command::Unjudge(number) => Ok(clear_verdict(engine, number)),
+        Command::Time(view, t) => time(engine, view, *t),
+        Command::Root(view, fpr, amount) => root(engine, view, fpr, *amount),
+        Command::Close(view) => Ok(close(engine, view)),
+        Command::Ask(view, target, wanted, uid) => {
+            ask(alloc, engine, steps, view, target, *wanted, uid.octets())
+        }
+        Command::List(view, wanted) => list(alloc, engine, steps, view, *wanted),
+        Command::Explain(view, fpr, uid) => {
+            explain(alloc, engine, steps, view, fpr, uid.octets())
+        }
+        Command::Absence(view, target, wanted, uid) => {
+            absence(alloc, engine, steps, view, target, *wanted, uid.octets())
+        }
+        Command::Check(view, target, claims, labels, uid) => check(
+            alloc,
+            engine,
+            steps,
+            view,
+            target,
+            claims,
+            labels,
+            uid.octets(),
+        ),
+        Command::Pending => pending(alloc, engine),
+        Command::Keys => keys(alloc, engine),
+        Command::Export(fpr) => export(alloc, engine, fpr),
+        Command::Dump => dump(alloc, engine),
+        Command::CursorOver(_, _, _)
+        | Command::CursorNext(_, _)
+        | Command::CursorClose(_)
+        | Command::WatchOn(_, _, _, _, _)
+        | Command::WatchOff(_) => unreachable!(),
+    }
+}

@@ -1,0 +1,167 @@
+//! `cursor C over V N`, `cursor C next K`, `cursor C close`.
+ghost use Rattle.std.specs.Prelude.{◌≡◌, ◌≤◌, Some, true, length, IfOk, OnErr, is_some};
+ghost use Rattle.wot_script.specs.declared.command.Command.TheVariants.{CursorOver, CursorNext, CursorClose};
+ghost use Rattle.wot_script.specs.Replies.{is_short};
+ghost use Rattle.wot_cache.specs.State.{StaysButMarks};
+ghost use Rattle.wot_cache.specs.Views.{view_at};
+ghost use Rattle.wot_cursor.specs.Cursors.{Cursors as TheCursors, cursor_at};
+ghost use Rattle.wot_machine.specs.Pacing.{Gives, OnTold, Paces, TellsPiece, behind, settled};
+ghost use Rattle.wot_machine.specs.Made.{PieceMakes};
+ghost use Rattle.wot_machine.specs.Whole.{whole_of};
+
+use crate::bindings::bind_lines;
+use crate::told::{Moved, Told, alone};
+use std::alloc::Global;
+use wot_cache::{AskFault, Engine, Parts};
+use wot_cursor::{Age, BeginFault, Cursor, Cursors, Stamps, age};
+use wot_explain::laws::list_is_one;
+use wot_explain::{Bind, list_after};
+use wot_script::{BindLines, Reply};
+use wot_types::{Memory, Place, Steps, UserId, ViewName};
+
+/// `cursor C over V N`.
+pub fn over(
+    alloc: Global,
+    engine: &Engine,
+    cursors: &mut Cursors,
+    name: &ViewName,
+    view: &ViewName,
+    wanted: u32,
+) -> Result<Told, Memory>
+    ensures begins { OnTold result cursors.new
+        (Paces (whole_of engine.now cursors.old) (CursorOver name.now view.now wanted)) }
+    ensures short { IfOk result (λ told. is_short told.reply ≡ true) }
+    ensures kept { OnErr result (cursors.new ≡ cursors.old) }
+{
+    let Some(turn) = engine.turn(view) else {
+        return Ok(alone(Reply::View));
+    };
+    let stamps = Stamps {
+        keyring: engine.keyring().changes(),
+        view: turn,
+    };
+    let name = name.duplicate(alloc)?;
+    let view = view.duplicate(alloc)?;
+    match cursors.begin(name, view, wanted, stamps) {
+        Ok(()) => Ok(alone(Reply::Done)),
+        Err(BeginFault::Full) => Ok(alone(Reply::FullCursors)),
+        Err(BeginFault::Memory) => Err(Memory),
+    }
+}
+
+/// `cursor C close`. Takes no memory.
+pub fn close(engine: &Engine, cursors: &mut Cursors, name: &ViewName) -> Told
+    ensures ends { Paces (whole_of engine.now cursors.old) (CursorClose name.now)
+        result.reply (settled result.moved cursors.new) }
+    ensures short { is_short result.reply ≡ true }
+{
+    let _changes = engine.keyring().changes();
+    if cursors.get(name).is_none() {
+        return alone(Reply::NoCursor);
+    }
+    let _ = cursors.end(name);
+    alone(Reply::Done)
+}
+
+/// `cursor C next K`.
+pub fn next(
+    alloc: Global,
+    engine: &mut Engine,
+    steps: &mut Steps,
+    cursors: &Cursors,
+    name: &ViewName,
+    count: u32,
+) -> Result<Told, Memory>
+    ensures goes { OnTold result cursors.now (Paces (whole_of engine.old cursors.now) (CursorNext name.now count)) }
+    ensures stays { StaysButMarks engine.old engine.new }
+    ensures makes { PieceMakes result (cursor_at cursors.now name.now) engine.old engine.new
+        steps.old.made steps.new.made }
+{
+    let Some(cursor) = cursors.get(name) else {
+        return Ok(alone(Reply::NoCursor));
+    };
+    let Some(turn) = engine.turn(cursor.view()) else {
+        return Ok(alone(Reply::View));
+    };
+    let now = Stamps {
+        keyring: engine.keyring().changes(),
+        view: turn,
+    };
+    match age(cursor.stamps(), now) {
+        Age::Same => give(alloc, engine, steps, cursor, name, count),
+        Age::Keyring(was, now) => Ok(alone(Reply::StaleKeyring(was, now))),
+        Age::View(was, now) => Ok(alone(Reply::StaleView(was, now))),
+    }
+}
+
+/// The next piece of a cursor whose list is the one of its beginning.
+fn give(
+    alloc: Global,
+    engine: &mut Engine,
+    steps: &mut Steps,
+    cursor: &Cursor,
+    name: &ViewName,
+    count: u32,
+) -> Result<Told, Memory>
+    requires open { is_some (view_at engine.old.views cursor.now.view) ≡ true }
+    ensures gives { (cursors : TheCursors) → OnTold result cursors
+        (Gives (whole_of engine.old cursors) name.now count cursor.now) }
+    ensures stays { StaysButMarks engine.old engine.new }
+    ensures makes { PieceMakes result (Some cursor.now) engine.old engine.new steps.old.made steps.new.made }
+{
+    // No line begins a cursor that wants nothing.
+    if cursor.wanted() == 0 {
+        return Ok(alone(Reply::Piece(0, BindLines::new(alloc))));
+    }
+    list_is_one();
+    match engine.parts(cursor.view(), steps) {
+        Ok(parts) => piece(alloc, &parts, cursor, name, count),
+        Err(AskFault::View) => Ok(alone(Reply::View)),
+        Err(AskFault::Memory) => Err(Memory),
+    }
+}
+
+/// The piece over the parts that are seen from the cursor's view.
+fn piece(
+    alloc: Global,
+    parts: &Parts<'_>,
+    cursor: &Cursor,
+    name: &ViewName,
+    count: u32,
+) -> Result<Told, Memory>
+    requires wanted { 1 ≤ cursor.now.wanted }
+    requires few { length parts.now.roots.now ≤ 64 }
+    ensures piece { IfOk result (λ told. TellsPiece parts.now name.now count cursor.now told) }
+{
+    let wanted = cursor.wanted();
+    let after = cursor.place();
+    let binds = list_after(
+        alloc,
+        parts.keyring,
+        &parts.roads,
+        parts.roots,
+        wanted,
+        after,
+        count,
+    )?;
+    let moved = moved_behind(alloc, name, &binds)?;
+    let lines = bind_lines(alloc, binds)?;
+    let reply = Reply::Piece(lines.items().len() as u64, lines);
+    Ok(Told { reply, moved })
+}
+
+/// Where the cursor stands once these bindings were told.
+fn moved_behind(alloc: Global, name: &ViewName, binds: &[Bind]) -> Result<Option<Moved>, Memory>
+    ensures moved { IfOk result (λ moved. (cursors : TheCursors) →
+        settled moved cursors ≡ behind cursors name.now binds.now) }
+{
+    let Some(last) = binds.last() else {
+        return Ok(None);
+    };
+    let place = Place {
+        fpr: last.fpr,
+        uid: UserId::new(alloc, last.uid.octets())?,
+    };
+    let cursor = name.duplicate(alloc)?;
+    Ok(Some(Moved { cursor, place }))
+}

@@ -1,0 +1,49 @@
+//! What comes of a line: its reply, and where a cursor stands once that was told.
+ghost use Rattle.std.specs.Prelude.{◌≡◌, None, Ok, IfOk, is_ok};
+ghost use Rattle.wot_machine.specs.Pacing.{settled};
+
+use wot_cursor::Cursors;
+use wot_script::Reply;
+use wot_types::{Memory, Place, ViewName};
+
+/// The last binding that a cursor gave.
+#[derive(Drop)]
+pub struct Moved {
+    pub cursor: ViewName,
+    pub place: Place,
+}
+
+/// A reply. Where it is a piece, the cursor moves when it was told, so that one that finds no memory is told again.
+#[derive(Drop)]
+pub struct Told {
+    pub reply: Reply,
+    pub moved: Option<Moved>,
+}
+
+/// A reply that moves no cursor.
+pub fn alone(reply: Reply) -> Told
+    ensures reply { result.reply ≡ reply }
+    ensures moved { result.moved ≡ None }
+{
+    Told { reply, moved: None }
+}
+
+/// The same of a reply, or of want of memory.
+pub fn plain(reply: Result<Reply, Memory>) -> Result<Told, Memory>
+    ensures told { IfOk reply (λ r. result ≡ Ok (record { reply = r; moved = None })) }
+    ensures same { is_ok result ≡ is_ok reply }
+{
+    match reply {
+        Ok(reply) => Ok(alone(reply)),
+        Err(Memory) => Err(Memory),
+    }
+}
+
+/// Moves the cursor.
+pub fn settle(moved: Option<Moved>, cursors: &mut Cursors)
+    ensures settled { cursors.new ≡ settled moved cursors.old }
+{
+    if let Some(Moved { cursor, place }) = moved {
+        let _ = cursors.advance(&cursor, place);
+    }
+}
