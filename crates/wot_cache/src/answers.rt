@@ -267,23 +267,23 @@ impl KeptReach {
         }
     }
 
-    /// Whether it is of now and these are the roots.
-    fn is_now(&self, parts: &Parts<'_>, roots: &[(Fpr, u8)], turn: u64) -> bool
-        requires reaching { IsReaching parts.now.keyring.now roots.now turn self.now }
+    /// Whether it is of now, for the roots of this turn.
+    fn is_now(&self, parts: &Parts<'_>, turn: u64) -> bool
+        requires reaching { IsReaching parts.now.keyring.now parts.now.roots.now turn self.now }
         ensures now { result ≡ true → IsMaking (told_of (present_in parts.now)) parts.now.roots.now self.now.making }
     {
-        if self.count != parts.keyring.changes() || self.turn != turn || self.time != parts.t {
+        if self.count != parts.keyring.changes() || self.turn != turn {
             return false;
         }
-        are_same(roots, parts.roots)
+        self.time == parts.t
     }
 
-    /// The table, where it is made, of now, and these are the roots.
-    fn give(&self, parts: &Parts<'_>, roots: &[(Fpr, u8)], turn: u64) -> Option<&Reach>
-        requires reaching { IsReaching parts.now.keyring.now roots.now turn self.now }
+    /// The table, where it is made and of now, for the roots of this turn.
+    fn give(&self, parts: &Parts<'_>, turn: u64) -> Option<&Reach>
+        requires reaching { IsReaching parts.now.keyring.now parts.now.roots.now turn self.now }
         ensures reach { IfSome result (λ r. IsReach (told_of (present_in parts.now)) parts.now.roots.now r.now) }
     {
-        if self.is_now(parts, roots, turn) {
+        if self.is_now(parts, turn) {
             self.making.reach()
         } else {
             None
@@ -332,8 +332,9 @@ impl Answers {
         }
     }
 
-    /// Makes these the roots by which answers are found good. Whether they are; not where no memory is found.
-    fn settle(&mut self, alloc: Global, roots: &Roots) -> bool
+    /// Makes these the roots by which answers are found good. Whether they are; not where no memory is found. Each call
+    /// below is for the roots that were settled last.
+    pub fn settle(&mut self, alloc: Global, roots: &Roots) -> bool
         ensures roots { result ≡ true → self.new.roots ≡ roots.now }
         ensures right { (k : Held) → AreRightIn k self.old → AreRightIn k self.new }
     {
@@ -355,20 +356,18 @@ impl Answers {
     /// no memory is found.
     pub fn give(
         &mut self,
-        alloc: Global,
         parts: &Parts<'_>,
         target: &Fpr,
         wanted: u32,
         uid: &[u8],
     ) -> Option<Answer>
         requires right { AreRightIn parts.now.keyring.now self.old }
+        requires settled { self.old.roots ≡ parts.now.roots.now }
         ensures right { AreRightIn parts.now.keyring.now self.new }
+        ensures settled { self.new.roots ≡ self.old.roots }
         ensures answer { IfSome result (λ a. IsAnswer (asked_of parts.now target.now uid.now) wanted a.paths) }
         ensures sum { IfSome result (λ a. a.sum ≡ amount_of a.paths) }
     {
-        if !self.settle(alloc, parts.roots) {
-            return None;
-        }
         give(&mut self.table, parts, self.turn, target, wanted, uid)
     }
 
@@ -382,16 +381,14 @@ impl Answers {
         }
     }
 
-    /// Keeps an answer that is good by these roots, unless it consulted too much or no memory is found.
-    pub fn keep(&mut self, alloc: Global, roots: &Roots, answer: KeptAnswer)
-        ensures right { (k : Held) → AreRightIn k self.old → IsRight k answer → IsFound k roots.now answer →
+    /// Keeps an answer that is good by the roots, unless it consulted too much or no memory is found.
+    pub fn keep(&mut self, answer: KeptAnswer)
+        ensures right { (k : Held) → AreRightIn k self.old → IsRight k answer → IsFound k self.old.roots answer →
             AreRightIn k self.new }
+        ensures settled { self.new.roots ≡ self.old.roots }
     {
         let count = count_looked(&answer);
         if MOST_LOOKED < count {
-            return;
-        }
-        if !self.settle(alloc, roots) {
             return;
         }
         let turn = self.turn;
@@ -402,23 +399,23 @@ impl Answers {
     /// The table of reach, where it is of the keyring as it is, of these roots and of this time.
     pub fn reach(&self, parts: &Parts<'_>) -> Option<&Reach>
         requires right { AreRightIn parts.now.keyring.now self.now }
+        requires settled { self.now.roots ≡ parts.now.roots.now }
         ensures reach { IfSome result (λ r. IsReach (told_of (present_in parts.now)) parts.now.roots.now r.now) }
     {
         match &self.reach {
-            Some(kept) => kept.give(parts, self.roots.as_slice(), self.turn),
+            Some(kept) => kept.give(parts, self.turn),
             None => None,
         }
     }
 
-    /// Keeps how far the making of a table of reach has come in place of an earlier one, if memory is found.
-    pub fn keep_making(&mut self, alloc: Global, parts: &Parts<'_>, making: Making)
+    /// Keeps how far the making of a table of reach has come in place of an earlier one.
+    pub fn keep_making(&mut self, parts: &Parts<'_>, making: Making)
         requires making { IsMaking (told_of (present_in parts.now)) parts.now.roots.now making }
         requires right { AreRightIn parts.now.keyring.now self.old }
+        requires settled { self.old.roots ≡ parts.now.roots.now }
         ensures right { AreRightIn parts.now.keyring.now self.new }
+        ensures settled { self.new.roots ≡ self.old.roots }
     {
-        if !self.settle(alloc, parts.roots) {
-            return;
-        }
         self.budget.learn(&making);
         self.reach = Some(KeptReach::new(parts, self.turn, making));
     }
@@ -427,12 +424,14 @@ impl Answers {
     /// roots and of this time. None is kept then.
     pub fn take_making(&mut self, parts: &Parts<'_>) -> Option<Making>
         requires right { AreRightIn parts.now.keyring.now self.old }
+        requires settled { self.old.roots ≡ parts.now.roots.now }
         ensures right { AreRightIn parts.now.keyring.now self.new }
+        ensures settled { self.new.roots ≡ self.old.roots }
         ensures making { IfSome result (IsMaking (told_of (present_in parts.now)) parts.now.roots.now) }
     {
         match self.reach.take() {
             Some(kept) => {
-                if kept.is_now(parts, self.roots.as_slice(), self.turn) {
+                if kept.is_now(parts, self.turn) {
                     Some(kept.making)
                 } else {
                     None

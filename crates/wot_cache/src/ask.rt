@@ -62,6 +62,7 @@ fn search_kept(
     requires few { length parts.now.roots.now ≤ 64 }
     requires present { present_of parts.now.roads ≡ present_in parts.now }
     requires right { AreRightIn parts.now.keyring.now of_view.now }
+    requires settled { of_view.now.roots ≡ parts.now.roots.now }
     ensures answer { IfSome result (λ a. IsAnswer (asked_of parts.now target.now uid.now) wanted a.paths) }
     ensures sum { IfSome result (λ a. a.sum ≡ amount_of a.paths) }
 {
@@ -87,6 +88,7 @@ fn search_far(
     requires few { length parts.now.roots.now ≤ 64 }
     requires present { present_of parts.now.roads ≡ present_in parts.now }
     requires right { AreRightIn parts.now.keyring.now of_view.old }
+    requires settled { of_view.old.roots ≡ parts.now.roots.now }
     ensures answer { IfOk result (λ a. IsAnswer (asked_of parts.now target.now uid.now) wanted a.paths) }
     ensures sum { IfOk result (λ a. a.sum ≡ amount_of a.paths) }
     ensures memory { OnErr result (result ≡ Err AskFault.Memory) }
@@ -98,7 +100,7 @@ fn search_far(
     let Ok(answer) = search_within(alloc, parts, &reach, target, wanted, uid) else {
         return Err(AskFault::Memory);
     };
-    of_view.keep_making(alloc, parts, Making::Made(reach));
+    of_view.keep_making(parts, Making::Made(reach));
     remember_now(alloc, of_view, parts, target, wanted, uid, &answer);
     Ok(answer)
 }
@@ -119,6 +121,7 @@ fn search(
     requires few { length parts.now.roots.now ≤ 64 }
     requires present { present_of parts.now.roads ≡ present_in parts.now }
     requires right { AreRightIn parts.now.keyring.now of_view.old }
+    requires settled { of_view.old.roots ≡ parts.now.roots.now }
     ensures answer { IfOk result (λ a. IsAnswer (asked_of parts.now target.now uid.now) wanted a.paths) }
     ensures sum { IfOk result (λ a. a.sum ≡ amount_of a.paths) }
     ensures memory { OnErr result (result ≡ Err AskFault.Memory) }
@@ -173,6 +176,7 @@ fn find_new(
     requires few { length parts.now.roots.now ≤ 64 }
     requires present { present_of parts.now.roads ≡ present_in parts.now }
     requires right { AreRightIn parts.now.keyring.now of_view.old }
+    requires settled { of_view.old.roots ≡ parts.now.roots.now }
     ensures answer { IfOk result (λ a. IsAnswer (asked_of parts.now target.now uid.now) wanted a.paths) }
     ensures sum { IfOk result (λ a. a.sum ≡ amount_of a.paths) }
     ensures memory { OnErr result (result ≡ Err AskFault.Memory) }
@@ -206,7 +210,10 @@ fn find(
     ensures memory { OnErr result (result ≡ Err AskFault.Memory) }
     ensures right { AreRightIn parts.now.keyring.now of_view.new }
 {
-    match of_view.give(alloc, parts, target, wanted, uid) {
+    if !of_view.settle(alloc, parts.roots) {
+        return Err(AskFault::Memory);
+    }
+    match of_view.give(parts, target, wanted, uid) {
         Some(answer) => Ok(answer),
         None => find_new(alloc, of_view, parts, target, wanted, uid, made),
     }

@@ -49,11 +49,12 @@ fn advanced(
 fn make_more(alloc: Global, of_view: &mut Answers, parts: &Parts<'_>, looks: u64)
     requires present { present_of parts.now.roads ≡ present_in parts.now }
     requires right { AreRightIn parts.now.keyring.now of_view.old }
+    requires settled { of_view.old.roots ≡ parts.now.roots.now }
     ensures right { AreRightIn parts.now.keyring.now of_view.new }
 {
     let taken = of_view.take_making(parts);
     match advanced(alloc, parts, taken, looks) {
-        Ok(making) => of_view.keep_making(alloc, parts, making),
+        Ok(making) => of_view.keep_making(parts, making),
         Err(Memory) => {}
     }
 }
@@ -64,6 +65,7 @@ fn make_more(alloc: Global, of_view: &mut Answers, parts: &Parts<'_>, looks: u64
 pub fn spend(alloc: Global, of_view: &mut Answers, parts: &Parts<'_>, looked: u64)
     requires present { present_of parts.now.roads ≡ present_in parts.now }
     requires right { AreRightIn parts.now.keyring.now of_view.old }
+    requires settled { of_view.old.roots ≡ parts.now.roots.now }
     ensures right { AreRightIn parts.now.keyring.now of_view.new }
 {
     let left = of_view.looks(parts);

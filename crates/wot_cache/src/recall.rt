@@ -100,10 +100,12 @@ pub fn remember(
     requires answer { IsAnswer (asked_of parts.now target.now uid.now) wanted answer.now.paths }
     requires local { IsAnswerAround (asked_of parts.now target.now uid.now) wanted answer.now.paths consulted.now }
     requires right { AreRightIn parts.now.keyring.now of_view.old }
+    requires settled { of_view.old.roots ≡ parts.now.roots.now }
     ensures right { AreRightIn parts.now.keyring.now of_view.new }
+    ensures settled { of_view.new.roots ≡ of_view.old.roots }
 {
     match with_grounds(alloc, parts, target, wanted, uid, consulted, answer) {
-        Ok(kept) => of_view.keep(alloc, parts.roots, kept),
+        Ok(kept) => of_view.keep(kept),
         Err(Memory) => {}
     }
 }
@@ -121,10 +123,12 @@ pub fn remember_now(
     requires sum { answer.now.sum ≡ amount_of answer.now.paths }
     requires answer { IsAnswer (asked_of parts.now target.now uid.now) wanted answer.now.paths }
     requires right { AreRightIn parts.now.keyring.now of_view.old }
+    requires settled { of_view.old.roots ≡ parts.now.roots.now }
     ensures right { AreRightIn parts.now.keyring.now of_view.new }
+    ensures settled { of_view.new.roots ≡ of_view.old.roots }
 {
     match without_grounds(alloc, parts, target, wanted, uid, answer) {
-        Ok(kept) => of_view.keep(alloc, parts.roots, kept),
+        Ok(kept) => of_view.keep(kept),
         Err(Memory) => {}
     }
 }
