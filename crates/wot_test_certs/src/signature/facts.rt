@@ -73,10 +73,11 @@ static HASHED: [(&[u8], SigFacts); 9] = [
 #[test]
 fn only_hashed_areas_give_facts(rt: HostRuntime) {
     for (hashed, expected) in &HASHED {
-        assert!(rt; says(rt.alloc(), hashed, &[], Some(*expected)));
+        assert!(rt; says(&rt, rt.alloc(), hashed, &[], Some(*expected)));
     }
     assert!(rt;
         says(
+            &rt,
             rt.alloc(),
             &MADE_2000,
             &[0x03, 0x05, 0x01, 0x78],

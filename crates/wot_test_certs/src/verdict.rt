@@ -44,28 +44,26 @@ const SECOND: SigNumber = SigNumber([2; 32]);
 
 const GOOD: Verdict = Verdict::Good(Fpr::V4([7; 20]));
 
-fn are_these(verdicts: &Verdicts, first: Option<Verdict>, count: usize) -> bool {
+fn are_these(verdicts: &Verdicts, expected: &[(SigNumber, Verdict)]) -> bool {
     let mut entries = verdicts.iter();
-    let begin = match first {
-        Some(verdict) => entries.next() == Some((FIRST, verdict)),
-        None => true,
-    };
-    begin
-        && entries.next() == Some((SECOND, GOOD))
-        && entries.next().is_none()
-        && verdicts.get(&FIRST) == first
-        && verdicts.len() == count
+    for entry in expected {
+        if entries.next() != Some(*entry) {
+            return false;
+        }
+    }
+    entries.next().is_none() && verdicts.len() == expected.len()
 }
 
 #[test]
 fn verdicts_are_a_map_in_order(rt: HostRuntime) {
     let mut verdicts = Verdicts::new(rt.alloc());
-    assert!(rt;
-        verdicts.set(SECOND, GOOD) == Ok(true) && verdicts.set(FIRST, Verdict::Bad) == Ok(true)
-    );
+    assert!(rt; verdicts.set(SECOND, GOOD) == Ok(true));
+    assert!(rt; verdicts.set(FIRST, Verdict::Bad) == Ok(true));
     assert!(rt; verdicts.set(FIRST, Verdict::Bad) == Ok(false));
-    assert!(rt; are_these(&verdicts, Some(Verdict::Bad), 2));
-    assert!(rt; verdicts.set(FIRST, GOOD) == Ok(true) && are_these(&verdicts, Some(GOOD), 2));
+    assert!(rt; verdicts.get(&FIRST) == Some(Verdict::Bad));
+    assert!(rt; are_these(&verdicts, &[(FIRST, Verdict::Bad), (SECOND, GOOD)]));
+    assert!(rt; verdicts.set(FIRST, GOOD) == Ok(true) && verdicts.get(&FIRST) == Some(GOOD));
+    assert!(rt; are_these(&verdicts, &[(FIRST, GOOD), (SECOND, GOOD)]));
     assert!(rt; verdicts.clear(&FIRST) && !verdicts.clear(&FIRST));
-    assert!(rt; are_these(&verdicts, None, 1));
+    assert!(rt; verdicts.get(&FIRST).is_none() && are_these(&verdicts, &[(SECOND, GOOD)]));
 }
