@@ -45,23 +45,11 @@ static LOADED: [(Name, &[Packet], (Answer, u64, u64)); 5] = [
     ),
 ];
 
-/// The same of packets.
-fn outcome_of(
-    alloc: Global,
-    limits: Limits,
-    name: &Name,
-    packets: &[Packet],
-) -> Option<(Answer, u64, u64)>
-    requires { AreSmall limits }
-{
-    let octets = wot_sample::text(alloc, packets)?;
-    Some(outcome(alloc, limits, name, &octets))
-}
-
 #[test]
 fn entries_of_a_directory(rt: HostRuntime) {
     for (name, packets, expected) in &LOADED {
-        let told = outcome_of(rt.alloc(), Limits::standard(), name, packets);
-        assert!(rt; told == Some(*expected));
+        let octets = wot_sample::text(rt.alloc(), packets).expect(&rt, "memory");
+        let told = outcome(rt.alloc(), Limits::standard(), name, &octets);
+        assert!(rt; told == *expected);
     }
 }
