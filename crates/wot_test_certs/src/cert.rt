@@ -1,5 +1,6 @@
 ghost use Rattle.wot_policy.specs.Kept.{IsFaithful};
 
+use crate::assertion::expect_that;
 use crate::certificates::{assembled, bare, first, judged, of_packets};
 use std::alloc::Global;
 use std::cell::Cell;
@@ -57,9 +58,9 @@ fn outcome(alloc: Global, text: &[u8]) -> Result<(usize, u64), CertFault> {
 fn first_faults_and_skipped_keys(rt: HostRuntime) {
     for (packets, expected) in &OUTCOMES {
         let text = wot_sample::text(rt.alloc(), packets).expect(&rt, "memory");
-        assert!(rt; outcome(rt.alloc(), &text) == *expected);
+        expect_that(&rt, outcome(rt.alloc(), &text) == *expected);
     }
-    assert!(rt; outcome(rt.alloc(), LEGACY) == Ok((2, 1)));
+    expect_that(&rt, outcome(rt.alloc(), LEGACY) == Ok((2, 1)));
 }
 
 /// Packets, and those of the first certificate of each: in order, without doubles.
@@ -133,10 +134,10 @@ fn are_written_so(rt: &impl Abort, alloc: Global, packets: &[Packet], expected: 
 #[test]
 fn texts_in_order(rt: HostRuntime) {
     for (packets, expected) in &TEXTS {
-        assert!(rt; are_written_so(&rt, rt.alloc(), packets, expected));
+        expect_that(&rt, are_written_so(&rt, rt.alloc(), packets, expected));
     }
     for (text, expected) in &SPELLED {
-        assert!(rt; is_written_so(&rt, rt.alloc(), text, expected));
+        expect_that(&rt, is_written_so(&rt, rt.alloc(), text, expected));
     }
 }
 
@@ -199,7 +200,7 @@ fn are_numbered(cert: &Cert) -> bool {
 #[test]
 fn a_number_for_each_place(rt: HostRuntime) {
     let found = of_packets(&rt, rt.alloc(), IN_EVERY_PLACE);
-    assert!(rt; are_numbered(first(&rt, &found)));
+    expect_that(&rt, are_numbered(first(&rt, &found)));
 }
 
 /// Kind, hash number, time made, depth, amount, and whether it is sound.
@@ -230,7 +231,7 @@ fn facts_of(rt: &impl Abort, alloc: Global, packets: &[Packet]) -> Facts {
 #[test]
 fn facts_of_signatures(rt: HostRuntime) {
     for (packets, expected) in &FACTS {
-        assert!(rt; facts_of(&rt, rt.alloc(), packets) == *expected);
+        expect_that(&rt, facts_of(&rt, rt.alloc(), packets) == *expected);
     }
 }
 
@@ -350,15 +351,18 @@ fn merging_asks_of_new_sound_signatures(rt: HostRuntime) {
     let mut t = bare(&rt, rt.alloc(), T_BODY);
     let into_r = written(&rt, rt.alloc(), &INTO_R);
     let into_t = written(&rt, rt.alloc(), &INTO_T);
-    assert!(rt; merges(&rt, rt.alloc(), &mut r, &mut policy, &into_r));
-    assert!(rt; merges(&rt, rt.alloc(), &mut t, &mut policy, &into_t));
-    assert!(rt; policy.asked() == 4 && calls.get() == 4 && are_marked(sigs_of(t.user_ids())));
+    expect_that(&rt, merges(&rt, rt.alloc(), &mut r, &mut policy, &into_r));
+    expect_that(&rt, merges(&rt, rt.alloc(), &mut t, &mut policy, &into_t));
+    expect_that(
+        &rt,
+        policy.asked() == 4 && calls.get() == 4 && are_marked(sigs_of(t.user_ids())),
+    );
 }
 
 /// The text of a certificate.
 fn text_of(rt: &impl Abort, alloc: Global, cert: &Cert) -> Vec<u8> {
     let mut out = Vec::new(alloc);
-    assert!(rt; cert.export(&mut out).is_ok());
+    expect_that(rt, cert.export(&mut out).is_ok());
     out
 }
 
@@ -369,9 +373,9 @@ const KEY_ALONE: &[u8] = b"\xc6\x07\x04\x00\x00\x03\xe8\x1b\x01";
 fn other_keys_clash(rt: HostRuntime) {
     let mut r = bare(&rt, rt.alloc(), R_BODY);
     let mut t = bare(&rt, rt.alloc(), T_BODY);
-    assert!(rt; r.unite(rt.alloc(), &t) == Err(MergeFault::Clash));
-    assert!(rt; t.unite(rt.alloc(), &r) == Err(MergeFault::Clash));
-    assert!(rt; text_of(&rt, rt.alloc(), &r).as_slice() == KEY_ALONE);
+    expect_that(&rt, r.unite(rt.alloc(), &t) == Err(MergeFault::Clash));
+    expect_that(&rt, t.unite(rt.alloc(), &r) == Err(MergeFault::Clash));
+    expect_that(&rt, text_of(&rt, rt.alloc(), &r).as_slice() == KEY_ALONE);
 }
 
 /// What the union of the first certificates of two lists of packets would add to the first.
@@ -390,7 +394,10 @@ fn what_a_union_adds(rt: HostRuntime) {
         signatures: 2,
         octets: 36,
     };
-    assert!(rt; adds_of(&rt, rt.alloc(), T_WITH_UNSOUND, T_WITH_BOTH_HASHES) == expected);
+    expect_that(
+        &rt,
+        adds_of(&rt, rt.alloc(), T_WITH_UNSOUND, T_WITH_BOTH_HASHES) == expected,
+    );
 }
 
 /// A key made at 1000 with a direct key signature, and on `t` a signature made at 2000 and one made at 3000 that
@@ -419,7 +426,7 @@ fn spans(rt: HostRuntime) {
             from: *from,
             to: *to,
         };
-        assert!(rt; span(first(&rt, &found), *t) == expected);
+        expect_that(&rt, span(first(&rt, &found), *t) == expected);
     }
 }
 
@@ -433,18 +440,23 @@ fn issuers(rt: HostRuntime) {
     let mut judged = judged(&rt, rt.alloc(), R_WITH_DIRECT);
     let mut verdicts = Verdicts::new(rt.alloc());
     let [number, _, _, _] = &NUMBERS;
-    assert!(rt; issuer_on_key(&judged, &verdicts).is_none());
-    assert!(rt;
+    expect_that(&rt, issuer_on_key(&judged, &verdicts).is_none());
+    expect_that(
+        &rt,
         verdicts
             .set(*number, Verdict::Good(Fpr::V4([7; 20])))
-            .is_ok()
+            .is_ok(),
     );
-    assert!(rt; issuer_on_key(&judged, &verdicts) == Some(Fpr::V4([7; 20])));
-    assert!(rt;
+    expect_that(
+        &rt,
+        issuer_on_key(&judged, &verdicts) == Some(Fpr::V4([7; 20])),
+    );
+    expect_that(
+        &rt,
         judged
             .unite(rt.alloc(), &bare(&rt, rt.alloc(), R_BODY))
-            .is_ok()
+            .is_ok(),
     );
-    assert!(rt; issuer_on_key(&judged, &verdicts).is_none());
-    assert!(rt; is_numbered(judged.direct(), number));
+    expect_that(&rt, issuer_on_key(&judged, &verdicts).is_none());
+    expect_that(&rt, is_numbered(judged.direct(), number));
 }

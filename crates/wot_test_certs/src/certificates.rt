@@ -1,4 +1,5 @@
 //! Certificates made of named packets.
+use crate::assertion::expect_that;
 use std::alloc::Global;
 use std::process::Abort;
 use wot_cert::{Assembled, Cert, CertFault, Sig, assemble};
@@ -46,7 +47,7 @@ pub(crate) fn judged(rt: &impl Abort, alloc: Global, packets: &[Packet]) -> Cert
     assert!(rt; cert.size() < 1000 && first.size() < 1000);
     let rows = standard_rows();
     let mut policy = Policy::new(rows, |ask| admits(&rows, ask));
-    assert!(rt; cert.merge(alloc, first, &mut policy).is_ok());
+    expect_that(rt, cert.merge(alloc, first, &mut policy).is_ok());
     cert
 }
 
@@ -55,7 +56,7 @@ fn say_good(rt: &impl Abort, verdicts: &mut Verdicts, sigs: &[Sig], own: Fpr) {
     for sig in sigs {
         let facts = sig.facts().expect(rt, "facts");
         let good = Verdict::Good(facts.issuer.unwrap_or(own));
-        assert!(rt; verdicts.set(sig.number(), good).is_ok());
+        expect_that(rt, verdicts.set(sig.number(), good).is_ok());
     }
 }
 

@@ -1,3 +1,4 @@
+use crate::assertion::expect_that;
 use crate::certificates::{good, judged};
 use std::alloc::Global;
 use std::process::Abort;
@@ -196,6 +197,6 @@ fn is_told(rt: &impl Abort, alloc: Global, case: &Case) -> bool {
 #[test]
 fn rows_and_spans(rt: HostRuntime) {
     for case in &CASES {
-        assert!(rt; is_told(&rt, rt.alloc(), case));
+        expect_that(&rt, is_told(&rt, rt.alloc(), case));
     }
 }

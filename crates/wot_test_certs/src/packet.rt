@@ -1,3 +1,4 @@
+use crate::assertion::expect_that;
 use std::alloc::Global;
 use std::process::Abort;
 use wot_packet::{Packet, ReadFault, read_packets, write_packet};
@@ -69,7 +70,7 @@ fn is_read(rt: &impl Abort, alloc: Global, header: &[u8], kind: u8, length: usiz
 #[test]
 fn each_form_is_read(rt: HostRuntime) {
     for (header, kind, length) in &FORMS {
-        assert!(rt; is_read(&rt, rt.alloc(), header, *kind, *length));
+        expect_that(&rt, is_read(&rt, rt.alloc(), header, *kind, *length));
     }
 }
 
@@ -101,7 +102,7 @@ static LISTS: [(&[u8], &[Packet<'static>]); 1] = [
 #[test]
 fn lists_are_read(rt: HostRuntime) {
     for (text, packets) in &LISTS {
-        assert!(rt; reads_as(rt.alloc(), text, packets));
+        expect_that(&rt, reads_as(rt.alloc(), text, packets));
     }
 }
 
@@ -116,7 +117,7 @@ fn fault_of(alloc: Global, text: &[u8]) -> Option<(u8, usize)> {
 #[test]
 fn first_faults_are_told(rt: HostRuntime) {
     for (text, number, at) in &FAULTS {
-        assert!(rt; fault_of(rt.alloc(), text) == Some((*number, *at)));
+        expect_that(&rt, fault_of(rt.alloc(), text) == Some((*number, *at)));
     }
 }
 
@@ -133,6 +134,6 @@ fn is_written(rt: &impl Abort, alloc: Global, length: usize, header: &[u8]) -> b
 #[test]
 fn the_shortest_is_written(rt: HostRuntime) {
     for (length, header) in &SHORTEST {
-        assert!(rt; is_written(&rt, rt.alloc(), *length, header));
+        expect_that(&rt, is_written(&rt, rt.alloc(), *length, header));
     }
 }

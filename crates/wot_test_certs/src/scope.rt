@@ -1,3 +1,4 @@
+use crate::assertion::expect_that;
 use crate::signature::bodies::{MADE_2000, certification};
 use std::alloc::Global;
 use std::process::Abort;
@@ -46,8 +47,8 @@ fn is_held(rt: &impl Abort, alloc: Global, patterns: &[&[u8]], uid: &[u8]) -> bo
 #[test]
 fn scope_of_patterns(rt: HostRuntime) {
     for (patterns, uid, expected) in &ROWS {
-        assert!(rt; is_held(&rt, rt.alloc(), patterns, uid) == *expected);
+        expect_that(&rt, is_held(&rt, rt.alloc(), patterns, uid) == *expected);
     }
     // A body that isn't readable has no pattern.
-    assert!(rt; in_scope(rt.alloc(), b"no body", b"Ann") == Ok(true));
+    expect_that(&rt, in_scope(rt.alloc(), b"no body", b"Ann") == Ok(true));
 }

@@ -1,3 +1,4 @@
+use crate::assertion::expect_that;
 use crate::certificates::{good, judged};
 use std::alloc::Global;
 use std::process::Abort;
@@ -139,7 +140,7 @@ fn stands_so(rt: &impl Abort, alloc: Global, case: &Case) -> bool {
 #[test]
 fn standings_and_spans(rt: HostRuntime) {
     for case in &CASES {
-        assert!(rt; stands_so(&rt, rt.alloc(), case));
+        expect_that(&rt, stands_so(&rt, rt.alloc(), case));
     }
 }
 
@@ -167,7 +168,7 @@ fn is_used_so(rt: &impl Abort, alloc: Global, case: &Use) -> bool {
 #[test]
 fn usable_and_in_order(rt: HostRuntime) {
     for case in &USES {
-        assert!(rt; is_used_so(&rt, rt.alloc(), case));
+        expect_that(&rt, is_used_so(&rt, rt.alloc(), case));
     }
 }
 
@@ -210,6 +211,6 @@ fn is_certified_so(rt: &impl Abort, alloc: Global, case: &Certified) -> bool {
 #[test]
 fn certifiers_of_user_ids(rt: HostRuntime) {
     for case in &CERTIFIED {
-        assert!(rt; is_certified_so(&rt, rt.alloc(), case));
+        expect_that(&rt, is_certified_so(&rt, rt.alloc(), case));
     }
 }

@@ -1,3 +1,4 @@
+use crate::assertion::expect_that;
 use std::alloc::Global;
 use std::process::Abort;
 use wot_subpacket::*;
@@ -32,7 +33,7 @@ static AREAS: [(&[u8], Result<usize, AreaFault>); 7] = [
 #[test]
 fn areas_are_lists_or_have_a_first_fault(rt: HostRuntime) {
     for (octets, expected) in &AREAS {
-        assert!(rt; count_in(octets) == *expected);
+        expect_that(&rt, count_in(octets) == *expected);
     }
 }
 
@@ -75,13 +76,16 @@ fn are_two(octets: &[u8], body: &[u8]) -> bool {
 #[test]
 fn every_length_is_read(rt: HostRuntime) {
     for (spelled, size) in &LENGTHS {
-        assert!(rt; is_read(&rt, rt.alloc(), spelled, *size));
+        expect_that(&rt, is_read(&rt, rt.alloc(), spelled, *size));
     }
 }
 
 #[test]
 fn the_longest_area_is_read(rt: HostRuntime) {
     let mut octets = vec![in rt.alloc(); 0x01u8; 65534].expect(&rt, "memory");
-    assert!(rt; count_in(&octets) == Ok(32767));
-    assert!(rt; octets.push(0x01).is_ok() && count_in(&octets) == CUT_BODY);
+    expect_that(&rt, count_in(&octets) == Ok(32767));
+    expect_that(
+        &rt,
+        octets.push(0x01).is_ok() && count_in(&octets) == CUT_BODY,
+    );
 }

@@ -1,3 +1,4 @@
+use crate::assertion::expect_that;
 use wot_types::{Fpr, SigNumber};
 use wot_verdict::{Verdict, Verdicts, number_of};
 
@@ -34,7 +35,7 @@ static NUMBERED: [(u8, &[u8], &[u8], &str); 3] = [
 fn numbers_as_another_program_gives_them(rt: HostRuntime) {
     for (kind, component, signature, digits) in &NUMBERED {
         let number = number_of(KEY, *kind, component, signature);
-        assert!(rt; SigNumber::read(digits.as_bytes()) == Some(number));
+        expect_that(&rt, SigNumber::read(digits.as_bytes()) == Some(number));
     }
 }
 
@@ -57,13 +58,22 @@ fn are_these(verdicts: &Verdicts, expected: &[(SigNumber, Verdict)]) -> bool {
 #[test]
 fn verdicts_are_a_map_in_order(rt: HostRuntime) {
     let mut verdicts = Verdicts::new(rt.alloc());
-    assert!(rt; verdicts.set(SECOND, GOOD) == Ok(true));
-    assert!(rt; verdicts.set(FIRST, Verdict::Bad) == Ok(true));
-    assert!(rt; verdicts.set(FIRST, Verdict::Bad) == Ok(false));
-    assert!(rt; verdicts.get(&FIRST) == Some(Verdict::Bad));
-    assert!(rt; are_these(&verdicts, &[(FIRST, Verdict::Bad), (SECOND, GOOD)]));
-    assert!(rt; verdicts.set(FIRST, GOOD) == Ok(true) && verdicts.get(&FIRST) == Some(GOOD));
-    assert!(rt; are_these(&verdicts, &[(FIRST, GOOD), (SECOND, GOOD)]));
-    assert!(rt; verdicts.clear(&FIRST) && !verdicts.clear(&FIRST));
-    assert!(rt; verdicts.get(&FIRST).is_none() && are_these(&verdicts, &[(SECOND, GOOD)]));
+    expect_that(&rt, verdicts.set(SECOND, GOOD) == Ok(true));
+    expect_that(&rt, verdicts.set(FIRST, Verdict::Bad) == Ok(true));
+    expect_that(&rt, verdicts.set(FIRST, Verdict::Bad) == Ok(false));
+    expect_that(&rt, verdicts.get(&FIRST) == Some(Verdict::Bad));
+    expect_that(
+        &rt,
+        are_these(&verdicts, &[(FIRST, Verdict::Bad), (SECOND, GOOD)]),
+    );
+    expect_that(
+        &rt,
+        verdicts.set(FIRST, GOOD) == Ok(true) && verdicts.get(&FIRST) == Some(GOOD),
+    );
+    expect_that(&rt, are_these(&verdicts, &[(FIRST, GOOD), (SECOND, GOOD)]));
+    expect_that(&rt, verdicts.clear(&FIRST) && !verdicts.clear(&FIRST));
+    expect_that(
+        &rt,
+        verdicts.get(&FIRST).is_none() && are_these(&verdicts, &[(SECOND, GOOD)]),
+    );
 }

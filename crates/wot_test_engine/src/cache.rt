@@ -2,6 +2,7 @@ ghost use Rattle.std.specs.Prelude.{◌≡◌};
 ghost use Rattle.wot_keyring.specs.Kept.{IsJudgedBy};
 ghost use Rattle.wot_policy.specs.Kept.{IsFaithful, rows_of};
 
+use crate::assertion::expect_that;
 use crate::made::{none_asked, played};
 use crate::script::Line::{self, Import, Other};
 use crate::script::{NOBODY_BAD, R_BY_R, R_CERT, T_BY_R, T_BY_T, T_CERT, text_of};
@@ -119,8 +120,8 @@ fn is_dumped(rt: &impl Abort, alloc: Global, lines: &[Line], expected: &[u8]) ->
 #[test]
 fn a_dump_makes_the_state_anew(rt: HostRuntime) {
     let expected = text_of(&rt, rt.alloc(), &DUMPED);
-    assert!(rt; is_dumped(&rt, rt.alloc(), &SCRIPT, &expected));
-    assert!(rt; is_dumped(&rt, rt.alloc(), &DUMPED, &expected));
+    expect_that(&rt, is_dumped(&rt, rt.alloc(), &SCRIPT, &expected));
+    expect_that(&rt, is_dumped(&rt, rt.alloc(), &DUMPED, &expected));
 }
 
 /// A certificate that is held is written, and one that isn't is absent.
@@ -129,9 +130,12 @@ fn a_certificate_is_exported(rt: HostRuntime) {
     let engine = engine_of(&rt, rt.alloc(), &SCRIPT);
     let expected = wot_sample::text(rt.alloc(), R_CERT).expect(&rt, "memory");
     let mut text = Vec::new(rt.alloc());
-    assert!(rt; engine.keyring().export(&R, &mut text) == Ok(()));
-    assert!(rt; engine.keyring().export(&A, &mut text) == Err(ExportFault::Absent));
-    assert!(rt; text == expected);
+    expect_that(&rt, engine.keyring().export(&R, &mut text) == Ok(()));
+    expect_that(
+        &rt,
+        engine.keyring().export(&A, &mut text) == Err(ExportFault::Absent),
+    );
+    expect_that(&rt, text == expected);
 }
 
 /// Sets the time of a view, in an engine to which little was done.
@@ -177,8 +181,8 @@ fn answers_are_those_of_the_present(rt: HostRuntime) {
     let mut engine = engine_of(&rt, rt.alloc(), &SCRIPT);
     let p = view_name(&rt, rt.alloc(), b"p");
     let q = view_name(&rt, rt.alloc(), b"q");
-    assert!(rt; times_are_told(&mut engine, &p, &q));
-    assert!(rt; changes_are_told(&mut engine, &p));
+    expect_that(&rt, times_are_told(&mut engine, &p, &q));
+    expect_that(&rt, changes_are_told(&mut engine, &p));
 }
 
 /// Whether the roads are those of the certification of t.
@@ -215,10 +219,13 @@ fn roads_of_a_view(rt: HostRuntime) {
     let p = view_name(&rt, rt.alloc(), b"p");
     let z = view_name(&rt, rt.alloc(), b"z");
     let mut steps = Steps::new();
-    assert!(rt; has_roads(&mut engine, &p, &mut steps) && has_parts(&mut engine, &p, &mut steps));
-    assert!(rt; engine.roads(&z, &mut steps).is_err());
-    assert!(rt; engine.parts(&z, &mut steps).is_err());
-    assert!(rt; steps.made == 1 && engine.time(&p) == Some(5000));
+    expect_that(
+        &rt,
+        has_roads(&mut engine, &p, &mut steps) && has_parts(&mut engine, &p, &mut steps),
+    );
+    expect_that(&rt, engine.roads(&z, &mut steps).is_err());
+    expect_that(&rt, engine.parts(&z, &mut steps).is_err());
+    expect_that(&rt, steps.made == 1 && engine.time(&p) == Some(5000));
 }
 
 fn opens_within_limits(engine: &mut Engine, p: &ViewName, q: &ViewName) -> bool {
@@ -259,9 +266,15 @@ fn views_within_their_limits(rt: HostRuntime) {
     let mut engine = Engine::new(rt.alloc(), limits);
     let p = view_name(&rt, rt.alloc(), b"p");
     let q = view_name(&rt, rt.alloc(), b"q");
-    assert!(rt; opens_within_limits(&mut engine, &p, &q) && has_view(&engine, &p, 7, 6, 1));
-    assert!(rt; closes(&mut engine, &p, &q));
-    assert!(rt; engine.turns() == 4 && engine.turn(&p).is_none());
-    assert!(rt; set_time(&mut engine, &p, 8) == Ok(()) && has_view(&engine, &p, 8, 0, 0));
-    assert!(rt; engine.turns() == 5 && engine.turn(&p) == Some(5));
+    expect_that(
+        &rt,
+        opens_within_limits(&mut engine, &p, &q) && has_view(&engine, &p, 7, 6, 1),
+    );
+    expect_that(&rt, closes(&mut engine, &p, &q));
+    expect_that(&rt, engine.turns() == 4 && engine.turn(&p).is_none());
+    expect_that(
+        &rt,
+        set_time(&mut engine, &p, 8) == Ok(()) && has_view(&engine, &p, 8, 0, 0),
+    );
+    expect_that(&rt, engine.turns() == 5 && engine.turn(&p) == Some(5));
 }

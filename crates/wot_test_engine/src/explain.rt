@@ -1,3 +1,4 @@
+use crate::assertion::expect_that;
 use std::alloc::Global;
 use std::process::Abort;
 use wot_edge::{Roads, Roots, Step};
@@ -46,7 +47,7 @@ fn imported(rt: &impl Abort, alloc: Global, text: &[u8]) -> Keyring {
     let mut policy = Policy::new(rows, |ask| admits(&rows, ask));
     let mut keyring = Keyring::new(alloc, Limits::standard());
     assert!(rt; text.len() < 1000);
-    assert!(rt; keyring.import(alloc, text, &mut policy).is_ok());
+    expect_that(rt, keyring.import(alloc, text, &mut policy).is_ok());
     keyring
 }
 
@@ -58,7 +59,10 @@ fn judged(rt: &impl Abort, alloc: Global) -> Keyring {
     let mut keyring = imported(rt, alloc, &text);
     for (number, fpr) in &VERDICTS {
         assert!(rt; keyring.changes() < 1000);
-        assert!(rt; keyring.set_verdict(*number, Verdict::Good(*fpr)).is_ok());
+        expect_that(
+            rt,
+            keyring.set_verdict(*number, Verdict::Good(*fpr)).is_ok(),
+        );
     }
     keyring
 }
@@ -136,22 +140,28 @@ fn is_absent(alloc: Global, keyring: &Keyring, fpr: &Fpr, uid: &[u8]) -> bool {
 fn an_edge_and_what_is_absent(rt: HostRuntime) {
     let keyring = judged(&rt, rt.alloc());
     match explained(rt.alloc(), &keyring, 5000, &T, b"t") {
-        Ok(told) => assert!(rt; has_edge(&told)),
-        Err(_) => assert!(rt; false),
+        Ok(told) => expect_that(&rt, has_edge(&told)),
+        Err(_) => expect_that(&rt, false),
     }
-    assert!(rt; is_absent(rt.alloc(), &keyring, &T, b"u"));
-    assert!(rt; is_absent(rt.alloc(), &keyring, &A, b"t"));
+    expect_that(&rt, is_absent(rt.alloc(), &keyring, &T, b"u"));
+    expect_that(&rt, is_absent(rt.alloc(), &keyring, &A, b"t"));
 }
 
 #[test]
 fn a_binding_and_its_list(rt: HostRuntime) {
     let keyring = judged(&rt, rt.alloc());
     let mut roots = Roots::new(rt.alloc());
-    assert!(rt; roots.set(R, 120).is_ok());
+    expect_that(&rt, roots.set(R, 120).is_ok());
     let uid = UserId::new(rt.alloc(), b"t").expect(&rt, "memory");
     let place = Place { fpr: T, uid };
     let mut network = Network::new(rt.alloc(), 5000);
-    assert!(rt; network.refresh(&keyring, 5000, &mut Steps::new()).is_ok());
+    expect_that(
+        &rt,
+        network.refresh(&keyring, 5000, &mut Steps::new()).is_ok(),
+    );
     let roads = network.roads(&keyring);
-    assert!(rt; is_listed(&rt, rt.alloc(), &keyring, &roads, &roots, &place));
+    expect_that(
+        &rt,
+        is_listed(&rt, rt.alloc(), &keyring, &roads, &roots, &place),
+    );
 }

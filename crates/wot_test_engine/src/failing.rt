@@ -1,6 +1,7 @@
 //! Runs over devices that fail, and over inputs without an end.
 ghost use Rattle.std.specs.Prelude.{None};
 
+use crate::assertion::expect_that;
 use crate::engine::{Row, empty_shelf, owned, shelf_of, sink_of, source_of, status_of};
 use crate::script::{FIELD, FIELD_FPR};
 use std::alloc::Global;
@@ -186,7 +187,7 @@ fn ends_so(rt: &impl Abort, alloc: Global, case: &Case) -> bool {
 #[test]
 fn devices_that_fail(rt: HostRuntime) {
     for case in &CASES {
-        assert!(rt; ends_so(&rt, rt.alloc(), case));
+        expect_that(&rt, ends_so(&rt, rt.alloc(), case));
     }
 }
 
@@ -242,8 +243,14 @@ fn endless_comments(rt: HostRuntime) {
     let mut input = Endless { given: 0 };
     let mut output = sink_of(&rt, rt.alloc(), &[]);
     let mut shelf = empty_shelf(rt.alloc());
-    assert!(rt; status_of(rt.alloc(), &words, &mut input, &mut output, &mut shelf) == 6);
-    assert!(rt; input.given == 1_073_741_824 && output.written().is_empty());
+    expect_that(
+        &rt,
+        status_of(rt.alloc(), &words, &mut input, &mut output, &mut shelf) == 6,
+    );
+    expect_that(
+        &rt,
+        input.given == 1_073_741_824 && output.written().is_empty(),
+    );
 }
 
 /// A fault is counted once.
@@ -253,6 +260,9 @@ fn a_sink_that_takes_nothing(rt: HostRuntime) {
     let mut input = source_of(&rt, rt.alloc(), KEYS.script.as_bytes(), &[]);
     let mut output = Refusing { faults: 0 };
     let mut shelf = empty_shelf(rt.alloc());
-    assert!(rt; status_of(rt.alloc(), &words, &mut input, &mut output, &mut shelf) == 4);
-    assert!(rt; output.faults == 1);
+    expect_that(
+        &rt,
+        status_of(rt.alloc(), &words, &mut input, &mut output, &mut shelf) == 4,
+    );
+    expect_that(&rt, output.faults == 1);
 }

@@ -1,3 +1,4 @@
+use crate::assertion::expect_that;
 use crate::engine::{owned, sink_of, source_of, status_of};
 use std::alloc::Global;
 use std::process::Abort;
@@ -41,6 +42,6 @@ fn ends_so(rt: &impl Abort, alloc: Global, fails: &[u64], wanted: u8, size: usiz
 #[test]
 fn a_generated_run(rt: HostRuntime) {
     for (fails, status, size) in &ENDS {
-        assert!(rt; ends_so(&rt, rt.alloc(), fails, *status, *size));
+        expect_that(&rt, ends_so(&rt, rt.alloc(), fails, *status, *size));
     }
 }

@@ -4,6 +4,7 @@ ghost use Rattle.std.specs.Prelude.{◌≡◌};
 ghost use Rattle.wot_keyring.specs.Kept.{IsJudgedBy};
 ghost use Rattle.wot_policy.specs.Kept.{IsFaithful, rows_of};
 
+use crate::assertion::expect_that;
 use crate::cache::run;
 use std::alloc::Global;
 use std::process::Abort;
@@ -147,7 +148,7 @@ pub(crate) fn played(rt: &impl Abort, alloc: Global, count: &mut Count, text: &[
     let rows = standard_rows();
     let mut policy = Policy::new(rows, |ask| admits(&rows, ask));
     let mut engine = Engine::new(alloc, Limits::standard());
-    assert!(rt; play_all(alloc, &mut engine, count, text, &mut policy));
+    expect_that(rt, play_all(alloc, &mut engine, count, text, &mut policy));
     engine
 }
 
@@ -156,7 +157,7 @@ pub(crate) fn played(rt: &impl Abort, alloc: Global, count: &mut Count, text: &[
 fn edges_of_a_generated_script(rt: HostRuntime) {
     let mut count = none_asked();
     let mut text = Vec::new(rt.alloc());
-    assert!(rt; script(rt.alloc(), 7, 50, &mut text).is_ok());
+    expect_that(&rt, script(rt.alloc(), 7, 50, &mut text).is_ok());
     let _engine = played(&rt, rt.alloc(), &mut count, &text);
-    assert!(rt; count.asked == 108);
+    expect_that(&rt, count.asked == 108);
 }

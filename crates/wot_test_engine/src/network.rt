@@ -1,3 +1,4 @@
+use crate::assertion::expect_that;
 use wot_edge::Roads;
 use wot_keyring::Keyring;
 use wot_network::Network;
@@ -18,10 +19,19 @@ fn nothing_is_told_of_an_empty_keyring(rt: HostRuntime) {
     let mut keyring = Keyring::new(rt.alloc(), Limits::standard());
     let mut network = Network::new(rt.alloc(), 5000);
     let mut steps = Steps::new();
-    assert!(rt; network.refresh(&keyring, 5000, &mut steps).is_ok());
-    assert!(rt; network.refresh(&keyring, 6000, &mut steps).is_ok() && network.time() == 6000);
+    expect_that(&rt, network.refresh(&keyring, 5000, &mut steps).is_ok());
+    expect_that(
+        &rt,
+        network.refresh(&keyring, 6000, &mut steps).is_ok() && network.time() == 6000,
+    );
     let verdict = Verdict::Good(NOBODY);
-    assert!(rt; keyring.set_verdict(SigNumber([1; 32]), verdict).is_ok());
-    assert!(rt; network.refresh(&keyring, 6000, &mut steps).is_ok() && steps.made == 0);
-    assert!(rt; tells_nothing(&network.roads(&keyring)));
+    expect_that(
+        &rt,
+        keyring.set_verdict(SigNumber([1; 32]), verdict).is_ok(),
+    );
+    expect_that(
+        &rt,
+        network.refresh(&keyring, 6000, &mut steps).is_ok() && steps.made == 0,
+    );
+    expect_that(&rt, tells_nothing(&network.roads(&keyring)));
 }

@@ -1,4 +1,5 @@
 //! Certificates that are stored in a shelf that fails.
+use crate::assertion::expect_that;
 use crate::engine::{Row, owned, shelf_of, sink_of, source_of, status_of};
 use std::alloc::Global;
 use std::process::Abort;
@@ -79,6 +80,6 @@ fn is_stored(rt: &impl Abort, alloc: Global, case: &Case) -> bool {
 #[test]
 fn certificates_are_stored(rt: HostRuntime) {
     for case in &CASES {
-        assert!(rt; is_stored(&rt, rt.alloc(), case));
+        expect_that(&rt, is_stored(&rt, rt.alloc(), case));
     }
 }

@@ -1,6 +1,7 @@
 //! The replies to the lines that one read brought are written together, and before the next read.
 ghost use Rattle.std.specs.Prelude.{None};
 
+use crate::assertion::expect_that;
 use crate::engine::{empty_shelf, owned, status_of};
 use std::alloc::Global;
 use std::process::Abort;
@@ -79,6 +80,6 @@ fn is_written(rt: &impl Abort, alloc: Global, case: &Case) -> bool {
 #[test]
 fn replies_are_written_together(rt: HostRuntime) {
     for case in &CASES {
-        assert!(rt; is_written(&rt, rt.alloc(), case));
+        expect_that(&rt, is_written(&rt, rt.alloc(), case));
     }
 }

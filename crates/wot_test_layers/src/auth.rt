@@ -1,3 +1,4 @@
+use crate::assertion::expect_that;
 use crate::roads::{Row, T as ON_T, U as ON_U, key, network, roots_of};
 use std::alloc::Global;
 use std::process::Abort;
@@ -203,6 +204,6 @@ fn is_answered(rt: &impl Abort, alloc: Global, case: &Case) -> bool {
 #[test]
 fn answers_to_questions(rt: HostRuntime) {
     for case in &CASES {
-        assert!(rt; is_answered(&rt, rt.alloc(), case));
+        expect_that(&rt, is_answered(&rt, rt.alloc(), case));
     }
 }

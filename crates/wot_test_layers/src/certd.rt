@@ -1,3 +1,4 @@
+use crate::assertion::expect_that;
 use std::alloc::Global;
 use std::process::Abort;
 use std::rt::{Env, Files};
@@ -35,9 +36,12 @@ fn is_its_place(rt: &impl Abort, alloc: Global, name: &Name, place: &str) -> boo
 #[test]
 fn names_are_their_places(rt: HostRuntime) {
     for (name, place) in &PLACES {
-        assert!(rt; is_its_place(&rt, rt.alloc(), name, place));
+        expect_that(&rt, is_its_place(&rt, rt.alloc(), name, place));
     }
-    assert!(rt; fpr_of("c959bdbafa32a2f89a153b678cfde12197965a9a").is_none());
+    expect_that(
+        &rt,
+        fpr_of("c959bdbafa32a2f89a153b678cfde12197965a9a").is_none(),
+    );
 }
 
 /// What a read comes to. Only here what it gives is dropped, whose drop is proved wherever there is one.
@@ -99,7 +103,7 @@ fn calls_answer(shelf: &mut MemoryShelf) -> bool {
 #[test]
 fn calls_of_a_shelf_in_memory(rt: HostRuntime) {
     let mut shelf = failing_shelf(&rt, rt.alloc());
-    assert!(rt; calls_answer(&mut shelf));
+    expect_that(&rt, calls_answer(&mut shelf));
 }
 
 /// Makes a folder of its own for a test.
@@ -151,7 +155,7 @@ fn has_its_file<R: Files + Abort + AllocGlobal>(rt: &R, base: &str) -> bool {
 fn a_folder(rt: HostRuntime) {
     let folder = new_folder(&rt).expect(&rt, "a folder");
     let base = format!(in rt.alloc(); "{folder}/pgp.cert.d").expect(&rt, "memory");
-    assert!(rt; is_a_shelf(&rt, &base));
-    assert!(rt; has_its_file(&rt, &base));
-    assert!(rt; fs::remove_dir_all(&rt, folder.as_str()).is_ok());
+    expect_that(&rt, is_a_shelf(&rt, &base));
+    expect_that(&rt, has_its_file(&rt, &base));
+    expect_that(&rt, fs::remove_dir_all(&rt, folder.as_str()).is_ok());
 }

@@ -1,3 +1,4 @@
+use crate::assertion::expect_that;
 use crate::roads::{A, B, C, Row, T, key, network, roots_of};
 use std::alloc::Global;
 use std::process::Abort;
@@ -187,7 +188,7 @@ fn is_so(rt: &impl Abort, alloc: Global, case: &Case) -> bool {
 #[test]
 fn tables_of_absence(rt: HostRuntime) {
     for case in &CASES {
-        assert!(rt; is_so(&rt, rt.alloc(), case));
+        expect_that(&rt, is_so(&rt, rt.alloc(), case));
     }
 }
 
@@ -201,5 +202,5 @@ fn is_claimed(rt: &impl Abort, alloc: Global) -> bool {
 
 #[test]
 fn what_is_claimed_of_a_path(rt: HostRuntime) {
-    assert!(rt; is_claimed(&rt, rt.alloc()));
+    expect_that(&rt, is_claimed(&rt, rt.alloc()));
 }

@@ -1,4 +1,5 @@
 //! The lines `absence` and `check`, and the replies to them.
+use crate::assertion::expect_that;
 use crate::script::{prints, rows_that_hold};
 use std::alloc::Global;
 use std::process::Abort;
@@ -86,6 +87,6 @@ fn are_printed(rt: &impl Abort, alloc: Global) -> bool {
 
 #[test]
 fn claims_are_read_and_printed(rt: HostRuntime) {
-    assert!(rt; rows_that_hold(&rt, rt.alloc(), LINES) == 10);
-    assert!(rt; are_printed(&rt, rt.alloc()));
+    expect_that(&rt, rows_that_hold(&rt, rt.alloc(), LINES) == 10);
+    expect_that(&rt, are_printed(&rt, rt.alloc()));
 }

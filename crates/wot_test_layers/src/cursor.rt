@@ -1,3 +1,4 @@
+use crate::assertion::expect_that;
 use crate::types::named;
 use std::alloc::Global;
 use std::process::Abort;
@@ -23,7 +24,7 @@ fn the_first_number_that_differs_is_told(rt: HostRuntime) {
             keyring: *keyring,
             view: *view,
         };
-        assert!(rt; age(BEGUN, now) == *expected);
+        expect_that(&rt, age(BEGUN, now) == *expected);
     }
 }
 
@@ -58,11 +59,15 @@ fn keeps(cursor: Option<&Cursor>) -> bool {
 fn a_cursor_keeps_its_place(rt: HostRuntime) {
     let mut cursors = Cursors::new(rt.alloc());
     let (k, p) = (named(&rt, rt.alloc(), b"k"), named(&rt, rt.alloc(), b"p"));
-    assert!(rt;
+    expect_that(
+        &rt,
         cursors
             .begin(named(&rt, rt.alloc(), b"k"), p, 120, BEGUN)
-            .is_ok()
+            .is_ok(),
     );
-    assert!(rt; cursors.advance(&k, place(&rt, rt.alloc())) && keeps(cursors.get(&k)));
-    assert!(rt; cursors.end(&k) && cursors.get(&k).is_none());
+    expect_that(
+        &rt,
+        cursors.advance(&k, place(&rt, rt.alloc())) && keeps(cursors.get(&k)),
+    );
+    expect_that(&rt, cursors.end(&k) && cursors.get(&k).is_none());
 }

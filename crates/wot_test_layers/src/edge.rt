@@ -1,3 +1,4 @@
+use crate::assertion::expect_that;
 use crate::roads::{key, roots_of};
 use std::alloc::Global;
 use std::process::Abort;
@@ -41,10 +42,13 @@ fn facts(issuer: u8, target: u8, made: u32, scoped: bool) -> EdgeFacts {
 fn edges_are_counted(rt: HostRuntime) {
     let mut steps = Steps::new();
     let edge = Edge::make(facts(1, 2, 2000, false), &mut steps);
-    assert!(rt; steps.made == 1 && edge.facts() == facts(1, 2, 2000, false));
+    expect_that(
+        &rt,
+        steps.made == 1 && edge.facts() == facts(1, 2, 2000, false),
+    );
     steps.made = u64::MAX;
     let _last = Edge::make(facts(2, 3, 2000, false), &mut steps);
-    assert!(rt; steps.made == u64::MAX);
+    expect_that(&rt, steps.made == u64::MAX);
 }
 
 /// Amounts that are set one after the other, and what comes of them.
@@ -64,9 +68,9 @@ fn are_two(roots: &Roots, first: (u8, u8), second: (u8, u8)) -> bool {
 fn roots_are_a_map_in_order(rt: HostRuntime) {
     let roots = roots_of(&rt, rt.alloc(), &SET);
     for (octet, amount) in &AMOUNTS {
-        assert!(rt; roots.get(&key(*octet)) == *amount);
+        expect_that(&rt, roots.get(&key(*octet)) == *amount);
     }
-    assert!(rt; are_two(&roots, (1, 120), (7, 90)));
+    expect_that(&rt, are_two(&roots, (1, 120), (7, 90)));
 }
 
 static SUMS: [(u8, u8, u32); 4] = [(1, 2, 30), (2, 1, 30), (2, 3, 0), (1, 1, 0)];
@@ -84,9 +88,9 @@ fn used_twice(rt: &impl Abort, alloc: Global) -> Used {
 fn a_pair_is_used_once_by_a_path(rt: HostRuntime) {
     let used = used_twice(&rt, rt.alloc());
     for (issuer, target, sum) in &SUMS {
-        assert!(rt; used.pair(&key(*issuer), &key(*target)) == *sum);
+        expect_that(&rt, used.pair(&key(*issuer), &key(*target)) == *sum);
     }
-    assert!(rt; used.root(&key(1)) == 30 && used.root(&key(2)) == 0);
+    expect_that(&rt, used.root(&key(1)) == 30 && used.root(&key(2)) == 0);
 }
 
 fn two_paths(rt: &impl Abort, alloc: Global) -> PathList {
@@ -109,10 +113,13 @@ fn is_like(rt: &impl Abort, path: &Path, amount: u8, length: usize) -> bool {
 #[test]
 fn lists_are_duplicated(rt: HostRuntime) {
     let list = two_paths(&rt, rt.alloc());
-    assert!(rt; list.as_slice().len() == 2);
+    expect_that(&rt, list.as_slice().len() == 2);
     match list.into_vec().as_slice() {
-        [first, second] => assert!(rt; is_like(&rt, first, 60, 2) && is_like(&rt, second, 7, 1)),
-        _ => assert!(rt; false),
+        [first, second] => expect_that(
+            &rt,
+            is_like(&rt, first, 60, 2) && is_like(&rt, second, 7, 1),
+        ),
+        _ => expect_that(&rt, false),
     }
 }
 
@@ -131,19 +138,40 @@ fn roads_of_two(rt: &impl Abort, alloc: Global) -> PlainRoads {
     let rows = [facts(1, 4, 2000, true), facts(2, 4, 0, false)];
     let turned = [facts(2, 6, 2000, false), facts(1, 6, 2000, false)];
     let mut roads = PlainRoads::new(alloc, b't');
-    assert!(rt; roads.put(key(4), true, line(rt, alloc, &rows)) == Ok(true));
-    assert!(rt; roads.put(key(5), false, Vec::new(alloc)) == Ok(true));
-    assert!(rt; roads.put(key(6), true, line(rt, alloc, &turned)) == Ok(false));
-    assert!(rt; roads.put(key(6), true, line(rt, alloc, &rows)) == Ok(false));
+    expect_that(
+        rt,
+        roads.put(key(4), true, line(rt, alloc, &rows)) == Ok(true),
+    );
+    expect_that(rt, roads.put(key(5), false, Vec::new(alloc)) == Ok(true));
+    expect_that(
+        rt,
+        roads.put(key(6), true, line(rt, alloc, &turned)) == Ok(false),
+    );
+    expect_that(
+        rt,
+        roads.put(key(6), true, line(rt, alloc, &rows)) == Ok(false),
+    );
     roads
 }
 
 #[test]
 fn roads_in_memory(rt: HostRuntime) {
     let roads = roads_of_two(&rt, rt.alloc());
-    assert!(rt; roads.rows(&key(4)).len() == 2 && roads.rows(&key(6)).is_empty());
-    assert!(rt; roads.in_order(&key(4), b"t") && !roads.in_order(&key(5), b"t"));
-    assert!(rt; !roads.in_order(&key(4), b"") && !roads.in_order(&key(6), b"t"));
-    assert!(rt; roads.place(&key(4), b"t") == Some(116) && roads.place(&key(4), b"tt").is_none());
-    assert!(rt; roads.place(&key(6), b"t").is_none());
+    expect_that(
+        &rt,
+        roads.rows(&key(4)).len() == 2 && roads.rows(&key(6)).is_empty(),
+    );
+    expect_that(
+        &rt,
+        roads.in_order(&key(4), b"t") && !roads.in_order(&key(5), b"t"),
+    );
+    expect_that(
+        &rt,
+        !roads.in_order(&key(4), b"") && !roads.in_order(&key(6), b"t"),
+    );
+    expect_that(
+        &rt,
+        roads.place(&key(4), b"t") == Some(116) && roads.place(&key(4), b"tt").is_none(),
+    );
+    expect_that(&rt, roads.place(&key(6), b"t").is_none());
 }

@@ -1,3 +1,4 @@
+use crate::assertion::expect_that;
 use sha2::{Digest, Sha256};
 use std::alloc::Global;
 use std::process::Abort;
@@ -50,7 +51,7 @@ fn is_appended(rt: &impl Abort, alloc: Global) -> bool {
 
 #[test]
 fn one_key_behind_other_text(rt: HostRuntime) {
-    assert!(rt; is_appended(&rt, rt.alloc()));
+    expect_that(&rt, is_appended(&rt, rt.alloc()));
 }
 
 /// Whether this is the SHA-256 of the octets, in digits.
@@ -64,7 +65,10 @@ fn has_digest(octets: &[u8], digest: &str) -> bool {
 fn scripts_of_a_start_and_a_count(rt: HostRuntime) {
     for (start, count, lines, digest) in &SCRIPTS {
         let mut out = Vec::new(rt.alloc());
-        assert!(rt; script(rt.alloc(), *start, *count, &mut out) == Ok(*lines));
-        assert!(rt; has_digest(&out, digest));
+        expect_that(
+            &rt,
+            script(rt.alloc(), *start, *count, &mut out) == Ok(*lines),
+        );
+        expect_that(&rt, has_digest(&out, digest));
     }
 }

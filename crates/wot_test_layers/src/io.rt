@@ -3,6 +3,7 @@ ghost use Rattle.std.specs.Prelude.{codes, ◌++◌};
 ghost use Rattle.wot_io.specs.Input.{lines_of, whole_lines_of};
 ghost use Rattle.wot_io.specs.Memory.{room_left};
 
+use crate::assertion::expect_that;
 use std::alloc::Global;
 use std::process::Abort;
 use wot_io::{
@@ -94,7 +95,10 @@ fn lines_are_the_parts_between_line_feeds(rt: HostRuntime) {
     rows();
     for (input, want) in &PARTS {
         for piece in [1, 5, 65536] {
-            assert!(rt; told(&rt, rt.alloc(), input, piece, 0).as_slice() == *want);
+            expect_that(
+                &rt,
+                told(&rt, rt.alloc(), input, piece, 0).as_slice() == *want,
+            );
         }
     }
 }
@@ -111,7 +115,10 @@ static FAULTS: [(&[u8], u64, &[u8]); 5] = [
 #[test]
 fn a_read_fault_is_answered_again(rt: HostRuntime) {
     for (input, failing, want) in &FAULTS {
-        assert!(rt; told(&rt, rt.alloc(), input, 5, *failing).as_slice() == *want);
+        expect_that(
+            &rt,
+            told(&rt, rt.alloc(), input, 5, *failing).as_slice() == *want,
+        );
     }
 }
 
@@ -182,16 +189,25 @@ fn long_source<'a>(size: u64, feeds: &'a [u64], piece: usize) -> Long<'a> {
 fn long_lines_and_many_octets(rt: HostRuntime) {
     for (size, feeds, piece, want) in &LONG_INPUTS {
         let mut source = long_source(*size, feeds, *piece);
-        assert!(rt; answers(&rt, rt.alloc(), &mut source).as_slice() == *want);
-        assert!(rt; source.at <= MOST);
+        expect_that(
+            &rt,
+            answers(&rt, rt.alloc(), &mut source).as_slice() == *want,
+        );
+        expect_that(&rt, source.at <= MOST);
     }
 }
 
 #[test]
 fn each_read_offers_a_whole_piece_or_what_remains(rt: HostRuntime) {
     let mut source = long_source(MOST, &[], 65535);
-    assert!(rt; answers(&rt, rt.alloc(), &mut source).as_slice() == b"mmmm".as_slice());
-    assert!(rt; source.at == MOST && source.whole && source.offered == 16384);
+    expect_that(
+        &rt,
+        answers(&rt, rt.alloc(), &mut source).as_slice() == b"mmmm".as_slice(),
+    );
+    expect_that(
+        &rt,
+        source.at == MOST && source.whole && source.offered == 16384,
+    );
 }
 
 /// Takes so many octets of each piece, and keeps how many it was offered.
@@ -236,7 +252,7 @@ fn is_offered(alloc: Global, piece: usize, octets: &[u8], want: bool, offers: &[
 #[test]
 fn each_write_offers_all_that_remain(rt: HostRuntime) {
     for (piece, octets, want, offers) in &OFFERS {
-        assert!(rt; is_offered(rt.alloc(), *piece, octets, *want, offers));
+        expect_that(&rt, is_offered(rt.alloc(), *piece, octets, *want, offers));
     }
 }
 
@@ -266,7 +282,7 @@ fn takes(
 #[test]
 fn a_write_fault_leaves_a_prefix(rt: HostRuntime) {
     for (room, failing, want, written) in &PREFIXES {
-        assert!(rt; takes(&rt, rt.alloc(), *room, *failing, *want, written));
+        expect_that(&rt, takes(&rt, rt.alloc(), *room, *failing, *want, written));
     }
 }
 
@@ -291,8 +307,8 @@ fn write_to_full(sink: &mut MemorySink, piece: &[u8]) -> Result<usize, Failed>
 #[test]
 fn standard_forms(rt: HostRuntime) {
     let mut source = StdSource::new(rt.stdin());
-    assert!(rt; source.read(&mut []) == Ok(0));
+    expect_that(&rt, source.read(&mut []) == Ok(0));
     let mut sink = StdSink::new(rt.stdout());
-    assert!(rt; sink.write(b"") == Ok(0));
-    assert!(rt; sink.write(b"\n") == Ok(1));
+    expect_that(&rt, sink.write(b"") == Ok(0));
+    expect_that(&rt, sink.write(b"\n") == Ok(1));
 }

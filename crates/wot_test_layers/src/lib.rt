@@ -2,6 +2,8 @@
 #![tactic(auto)]
 
 #[cfg(test)]
+mod assertion;
+#[cfg(test)]
 mod auth;
 #[cfg(test)]
 mod certd;

@@ -1,3 +1,4 @@
+use crate::assertion::expect_that;
 use std::alloc::Global;
 use std::process::Abort;
 use wot_pattern::{Matcher, PatternFault, one_reading, parse};
@@ -212,7 +213,7 @@ fn rows_that_hold(rt: &impl Abort, alloc: Global, table: &str) -> u32 {
 
 #[test]
 fn answers_as_another_program(rt: HostRuntime) {
-    assert!(rt; rows_that_hold(&rt, rt.alloc(), ROWS) == 140);
+    expect_that(&rt, rows_that_hold(&rt, rt.alloc(), ROWS) == 140);
 }
 
 /// The text of so many times the one part and then so many times the other.
@@ -239,7 +240,7 @@ static BOUNDS: [(u32, &str, &str, Answer); 4] = [
 fn bounds_are_exact(rt: HostRuntime) {
     for (count, first, second, expected) in &BOUNDS {
         let pattern = repeated(&rt, rt.alloc(), *count, first, second);
-        assert!(rt; answer_to(rt.alloc(), &pattern, "x") == *expected);
+        expect_that(&rt, answer_to(rt.alloc(), &pattern, "x") == *expected);
     }
 }
 
@@ -272,7 +273,10 @@ fn answer_to_many(rt: &impl Abort, alloc: Global, count: u32, end: &str) -> Answ
 #[test]
 fn nested_repetitions_take_no_turn_twice(rt: HostRuntime) {
     for (count, end, expected) in &NESTED {
-        assert!(rt; answer_to_many(&rt, rt.alloc(), *count, end) == *expected);
+        expect_that(
+            &rt,
+            answer_to_many(&rt, rt.alloc(), *count, end) == *expected,
+        );
     }
 }
 
@@ -281,6 +285,6 @@ fn matches_again(rt: HostRuntime) {
     one_reading();
     let mut matcher = matcher_of(&rt, rt.alloc(), "^(a|bc)+$");
     for (text, expected) in &AGAIN {
-        assert!(rt; matcher.matches(text) == *expected);
+        expect_that(&rt, matcher.matches(text) == *expected);
     }
 }

@@ -2,6 +2,7 @@ ghost use Rattle.std.specs.Prelude.{◌<◌};
 ghost use Rattle.wot_script.specs.Replies.{HasWords};
 ghost use Rattle.wot_script.specs.Spelling.{HasSpelling};
 
+use crate::assertion::expect_that;
 use crate::claims::{CHECK, is_claimed};
 use std::alloc::Global;
 use std::process::Abort;
@@ -67,7 +68,7 @@ fn put(rt: &impl Abort, octet: u8, line: &mut Vec<u8>) {
         b'%' => line.extend_from_slice(NUMBER),
         other => line.extend_from_slice(&[other]),
     };
-    assert!(rt; put.is_ok());
+    expect_that(rt, put.is_ok());
 }
 
 /// What a line is wanted to be: no command, one that is printed so, or the one of `word_of` with this word.
@@ -102,7 +103,7 @@ fn is_read_as(alloc: Global, line: &[u8], wanted: Wanted<'_>) -> bool {
 }
 
 /// Whether a row holds, by what stands before its tab, whether it has one, and what stands behind.
-fn holds(alloc: Global, line: &[u8], is_command: bool, printed: &[u8]) -> bool {
+fn row_holds(alloc: Global, line: &[u8], is_command: bool, printed: &[u8]) -> bool {
     let wanted = if !is_command {
         Wanted::Nothing
     } else if printed.is_empty() {
@@ -121,7 +122,7 @@ pub(crate) fn rows_that_hold(rt: &impl Abort, alloc: Global, table: &str) -> u32
         match octet {
             b'\t' => is_command = true,
             b'\n' => {
-                if !holds(alloc, &line, is_command, &printed) {
+                if !row_holds(alloc, &line, is_command, &printed) {
                     break;
                 }
                 line.clear();
@@ -140,7 +141,7 @@ pub(crate) fn rows_that_hold(rt: &impl Abort, alloc: Global, table: &str) -> u32
 
 #[test]
 fn lines_are_read_and_printed(rt: HostRuntime) {
-    assert!(rt; rows_that_hold(&rt, rt.alloc(), LINES) == 36);
+    expect_that(&rt, rows_that_hold(&rt, rt.alloc(), LINES) == 36);
 }
 
 const ISSUER: Fpr = Fpr::V4([0x12; 20]);
@@ -227,7 +228,7 @@ fn have_their_fields(alloc: Global) -> bool {
 
 #[test]
 fn fields_stand_in_their_order(rt: HostRuntime) {
-    assert!(rt; have_their_fields(rt.alloc()));
+    expect_that(&rt, have_their_fields(rt.alloc()));
 }
 
 /// Whether a reply is printed as this text, behind what stood there.
@@ -394,9 +395,18 @@ fn an_edge_is_told(rt: &impl Abort, alloc: Global) -> bool {
 
 #[test]
 fn replies_are_printed(rt: HostRuntime) {
-    assert!(rt; short_ones_are_printed(rt.alloc()) && refusals_are_printed(rt.alloc()));
-    assert!(rt; export_and_dump_are_printed(&rt, rt.alloc()));
-    assert!(rt; answers_are_printed(&rt, rt.alloc()));
-    assert!(rt; keys_are_printed(&rt, rt.alloc()) && bindings_are_printed(&rt, rt.alloc()));
-    assert!(rt; waiting_are_printed(&rt, rt.alloc()) && an_edge_is_told(&rt, rt.alloc()));
+    expect_that(
+        &rt,
+        short_ones_are_printed(rt.alloc()) && refusals_are_printed(rt.alloc()),
+    );
+    expect_that(&rt, export_and_dump_are_printed(&rt, rt.alloc()));
+    expect_that(&rt, answers_are_printed(&rt, rt.alloc()));
+    expect_that(
+        &rt,
+        keys_are_printed(&rt, rt.alloc()) && bindings_are_printed(&rt, rt.alloc()),
+    );
+    expect_that(
+        &rt,
+        waiting_are_printed(&rt, rt.alloc()) && an_edge_is_told(&rt, rt.alloc()),
+    );
 }

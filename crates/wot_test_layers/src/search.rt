@@ -1,6 +1,7 @@
 ghost use Rattle.wot_edge.specs.Plain.{told_of};
 ghost use Rattle.wot_search.specs.Reach.{IsReach};
 
+use crate::assertion::expect_that;
 use crate::roads::{A, B, C, Row, T, key, network, roots_of};
 use std::alloc::Global;
 use std::process::Abort;
@@ -223,7 +224,7 @@ fn are_found(rt: &impl Abort, alloc: Global, case: &Case) -> bool {
 #[test]
 fn first_two_paths(rt: HostRuntime) {
     for case in &CASES {
-        assert!(rt; are_found(&rt, rt.alloc(), case));
+        expect_that(&rt, are_found(&rt, rt.alloc(), case));
     }
 }
 
@@ -280,7 +281,7 @@ fn roots_behind_one_key(rt: HostRuntime) {
     let roads = network(&rt, rt.alloc(), &HUB, 0, 0);
     let roots = roots_of(&rt, rt.alloc(), &[(1, 1), (3, 1), (5, 1)]);
     let reach = reach_of(&rt, rt.alloc(), &roads, &roots);
-    assert!(rt; are_offered(&rt, rt.alloc(), &roads, &roots, &reach));
+    expect_that(&rt, are_offered(&rt, rt.alloc(), &roads, &roots, &reach));
 }
 
 /// What a search for the user ID `t` of the key 4 looks at.
@@ -326,9 +327,9 @@ fn are_these(consulted: &Consulted, octets: &[u8]) -> bool {
 fn what_is_consulted(rt: HostRuntime) {
     let consulted = looked_at(&rt, rt.alloc(), &LOOKED_AT);
     for (octet, had) in &SEEN {
-        assert!(rt; consulted.has(&key(*octet)) == *had);
+        expect_that(&rt, consulted.has(&key(*octet)) == *had);
     }
-    assert!(rt; are_these(&consulted, &[1, 3, 4]));
+    expect_that(&rt, are_these(&consulted, &[1, 3, 4]));
 }
 
 // The edge of 5 isn't usable, that into 7 has no amount, and 9 is no root and nobody's target. 100 isn't told of.
@@ -350,6 +351,6 @@ fn how_far_keys_reach(rt: HostRuntime) {
     let roots = roots_of(&rt, rt.alloc(), &[(1, 120), (5, 120)]);
     let reach = reach_of(&rt, rt.alloc(), &roads, &roots);
     for (octet, number) in &REACH {
-        assert!(rt; reach.get(&key(*octet)) == *number);
+        expect_that(&rt, reach.get(&key(*octet)) == *number);
     }
 }

@@ -1,3 +1,4 @@
+use crate::assertion::expect_that;
 use std::alloc::Global;
 use std::cmp::Ordering;
 use std::process::Abort;
@@ -39,23 +40,35 @@ const SIX_IN_LOWER_CASE: &[u8] =
 #[test]
 fn fingerprints_and_numbers_are_read_and_printed(rt: HostRuntime) {
     let four = Fpr::read(UPPER).expect(&rt, "of version 4");
-    assert!(rt; is_spelled_so() && is_fpr(rt.alloc(), four, LOWER));
+    expect_that(&rt, is_spelled_so() && is_fpr(rt.alloc(), four, LOWER));
     let six = Fpr::read(SIX).expect(&rt, "of version 6");
-    assert!(rt; is_fpr(rt.alloc(), six, SIX_IN_LOWER_CASE));
-    assert!(rt; Fpr::read(SIX_IN_LOWER_CASE) == Some(six));
-    assert!(rt; six.version() == 6 && six.octets().len() == 32);
+    expect_that(&rt, is_fpr(rt.alloc(), six, SIX_IN_LOWER_CASE));
+    expect_that(&rt, Fpr::read(SIX_IN_LOWER_CASE) == Some(six));
+    expect_that(&rt, six.version() == 6 && six.octets().len() == 32);
     let number = SigNumber::read(DIGITS);
-    assert!(rt; number == Some(SigNumber([0x0a; 32])) && SigNumber::read(LOWER).is_none());
-    assert!(rt; is_number(rt.alloc(), SigNumber([0x0a; 32]), DIGITS));
+    expect_that(
+        &rt,
+        number == Some(SigNumber([0x0a; 32])) && SigNumber::read(LOWER).is_none(),
+    );
+    expect_that(&rt, is_number(rt.alloc(), SigNumber([0x0a; 32]), DIGITS));
 }
 
 #[test]
 fn orders_are_those_of_octets(rt: HostRuntime) {
     let fpr = Fpr::V4([0xca; 20]);
-    assert!(rt; compare_fprs(&Fpr::V4([0xc9; 20]), &fpr) == Ordering::Less);
-    assert!(rt; fpr < Fpr::V6([0xca; 32]) && Name::Cert(fpr) < Name::TrustRoot);
-    assert!(rt; compare_numbers(&SigNumber([10; 32]), &SigNumber([9; 32])) == Ordering::Greater);
-    assert!(rt; Steps::new() == Steps { made: 0 });
+    expect_that(
+        &rt,
+        compare_fprs(&Fpr::V4([0xc9; 20]), &fpr) == Ordering::Less,
+    );
+    expect_that(
+        &rt,
+        fpr < Fpr::V6([0xca; 32]) && Name::Cert(fpr) < Name::TrustRoot,
+    );
+    expect_that(
+        &rt,
+        compare_numbers(&SigNumber([10; 32]), &SigNumber([9; 32])) == Ordering::Greater,
+    );
+    expect_that(&rt, Steps::new() == Steps { made: 0 });
 }
 
 /// The name of a view that is spelled so.
@@ -99,9 +112,12 @@ fn keeps_its_octets(rt: &impl Abort, alloc: Global, octets: &[u8]) -> bool {
 /// Names have 1 to 32 octets of their alphabet.
 #[test]
 fn view_names_and_user_ids(rt: HostRuntime) {
-    assert!(rt; is_kept(&rt, rt.alloc(), LONGEST_NAME) && are_ordered(&rt, rt.alloc()));
-    assert!(rt; ViewName::read(rt.alloc(), b"a/") == Ok(None));
-    assert!(rt; keeps_its_octets(&rt, rt.alloc(), b"\xc3\xa9 \\\x00"));
+    expect_that(
+        &rt,
+        is_kept(&rt, rt.alloc(), LONGEST_NAME) && are_ordered(&rt, rt.alloc()),
+    );
+    expect_that(&rt, ViewName::read(rt.alloc(), b"a/") == Ok(None));
+    expect_that(&rt, keeps_its_octets(&rt, rt.alloc(), b"\xc3\xa9 \\\x00"));
 }
 
 static WORDS: [(Limit, &[u8]); 7] = [
@@ -117,7 +133,7 @@ static WORDS: [(Limit, &[u8]); 7] = [
 #[test]
 fn limits_are_told_by_their_words(rt: HostRuntime) {
     for (limit, word) in &WORDS {
-        assert!(rt; limit.word() == *word);
+        expect_that(&rt, limit.word() == *word);
     }
-    assert!(rt; Limits::standard().octets == 268_435_456);
+    expect_that(&rt, Limits::standard().octets == 268_435_456);
 }

@@ -1,3 +1,4 @@
+use crate::assertion::expect_that;
 use crate::types::named;
 use std::alloc::Global;
 use std::process::Abort;
@@ -12,7 +13,7 @@ fn watch(rt: &impl Abort, alloc: Global, told: u32) -> Watch {
 /// Puts a watch under a name. There are not too many.
 fn put(rt: &impl Abort, alloc: Global, watches: &mut Watches, text: &[u8], told: u32) {
     let put = watches.put(named(rt, alloc, text), watch(rt, alloc, told));
-    assert!(rt; put.is_ok());
+    expect_that(rt, put.is_ok());
 }
 
 fn is_whole(kept: Option<&Watch>, told: u32) -> bool {
@@ -53,5 +54,5 @@ fn a_watch_keeps_what_was_told(rt: HostRuntime) {
     put(&rt, rt.alloc(), &mut watches, b"w", 120);
     put(&rt, rt.alloc(), &mut watches, b"v", 60);
     let (v, w) = (named(&rt, rt.alloc(), b"v"), named(&rt, rt.alloc(), b"w"));
-    assert!(rt; are_kept(&mut watches, &v, &w));
+    expect_that(&rt, are_kept(&mut watches, &v, &w));
 }

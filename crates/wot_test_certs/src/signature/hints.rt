@@ -1,3 +1,4 @@
+use crate::assertion::expect_that;
 use crate::signature::bodies::certification;
 use wot_signature::hint;
 
@@ -23,7 +24,7 @@ static ROWS: [(&[u8], &[u8], Option<[u8; 8]>); 3] = [
 fn hints_are_the_last_key_ids(rt: HostRuntime) {
     for (hashed, unhashed, expected) in &ROWS {
         let body = certification(&rt, rt.alloc(), hashed, unhashed);
-        assert!(rt; hint(&body) == *expected);
+        expect_that(&rt, hint(&body) == *expected);
     }
-    assert!(rt; hint(&[]).is_none());
+    expect_that(&rt, hint(&[]).is_none());
 }

@@ -1,3 +1,4 @@
+use crate::assertion::expect_that;
 use crate::signature::bodies::certification;
 use std::alloc::Global;
 use std::process::Abort;
@@ -30,7 +31,7 @@ fn joined(rt: &impl Abort, alloc: Global, hashed: &[u8]) -> Vec<u8> {
 #[test]
 fn pattern_texts_come_in_order(rt: HostRuntime) {
     for (hashed, expected) in &ROWS {
-        assert!(rt; joined(&rt, rt.alloc(), hashed).as_slice() == *expected);
+        expect_that(&rt, joined(&rt, rt.alloc(), hashed).as_slice() == *expected);
     }
-    assert!(rt; scopes(&[]).next().is_none());
+    expect_that(&rt, scopes(&[]).next().is_none());
 }

@@ -1,3 +1,4 @@
+use crate::assertion::expect_that;
 use crate::signature::bodies::{MADE_2000, PLAIN, says};
 use std::alloc::Global;
 use std::process::Abort;
@@ -86,9 +87,9 @@ fn is_type_alone(rt: &impl Abort, alloc: Global, kind: u8, size: u8, known: SigF
 #[test]
 fn types_have_their_number_of_octets(rt: HostRuntime) {
     for (kind, size, expected) in &TYPES {
-        assert!(rt; is_type_alone(&rt, rt.alloc(), *kind, *size, *expected));
+        expect_that(&rt, is_type_alone(&rt, rt.alloc(), *kind, *size, *expected));
     }
     for (kind, size, expected) in &LONG_TYPES {
-        assert!(rt; is_type(&rt, rt.alloc(), *kind, *size, *expected));
+        expect_that(&rt, is_type(&rt, rt.alloc(), *kind, *size, *expected));
     }
 }

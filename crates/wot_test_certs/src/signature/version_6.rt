@@ -1,3 +1,4 @@
+use crate::assertion::expect_that;
 use crate::signature::bodies::{PLAIN, says};
 use std::alloc::Global;
 use std::process::Abort;
@@ -51,8 +52,8 @@ fn is_read(body: &[u8], expected: Option<SigFacts>) -> bool {
 
 #[test]
 fn a_body_has_all_its_parts(rt: HostRuntime) {
-    assert!(rt; is_read(DIRECT, Some(SAID)));
-    assert!(rt; is_read(&DIRECT[..22], None));
+    expect_that(&rt, is_read(DIRECT, Some(SAID)));
+    expect_that(&rt, is_read(&DIRECT[..22], None));
 }
 
 /// The front of an issuer fingerprint, how many octets it has behind that, and the issuer that it tells.
@@ -83,7 +84,7 @@ fn tells_issuer(
 #[test]
 fn an_issuer_of_version_6(rt: HostRuntime) {
     for (front, count, issuer) in &ISSUERS {
-        assert!(rt; tells_issuer(&rt, rt.alloc(), front, *count, *issuer));
+        expect_that(&rt, tells_issuer(&rt, rt.alloc(), front, *count, *issuer));
     }
 }
 
@@ -103,7 +104,10 @@ fn is_the_sample(said: &SigFacts) -> bool {
 /// It says what it should once its salt and some material are there.
 #[test]
 fn the_sample_of_the_standard(rt: HostRuntime) {
-    assert!(rt; is_read(SAMPLE, None));
+    expect_that(&rt, is_read(SAMPLE, None));
     let whole = padded(&rt, rt.alloc(), SAMPLE, 96);
-    assert!(rt; is_the_sample(&read_signature(&whole).expect(&rt, "facts")));
+    expect_that(
+        &rt,
+        is_the_sample(&read_signature(&whole).expect(&rt, "facts")),
+    );
 }

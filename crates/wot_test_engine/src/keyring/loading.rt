@@ -1,5 +1,6 @@
 ghost use Rattle.wot_keyring.specs.Kept.{AreSmall};
 
+use crate::assertion::expect_that;
 use crate::keyring::{Answer, FIRST_KEY, REFUSED, WITH_DIRECT};
 use crate::script::{FIELD, FIELD_FPR, UNREADABLE};
 use std::alloc::Global;
@@ -50,6 +51,6 @@ fn entries_of_a_directory(rt: HostRuntime) {
     for (name, packets, expected) in &LOADED {
         let octets = wot_sample::text(rt.alloc(), packets).expect(&rt, "memory");
         let told = outcome(rt.alloc(), Limits::standard(), name, &octets);
-        assert!(rt; told == *expected);
+        expect_that(&rt, told == *expected);
     }
 }

@@ -1,3 +1,4 @@
+use crate::assertion::expect_that;
 use crate::keyring::{NUMBER, WITH_DIRECT, import_packets};
 use std::alloc::Global;
 use std::process::Abort;
@@ -36,10 +37,16 @@ fn keyring_of(rt: &impl Abort, alloc: Global) -> Keyring {
     let rows = standard_rows();
     let mut policy = Policy::new(rows, |ask| admits(&rows, ask));
     let mut keyring = Keyring::new(alloc, Limits::standard());
-    assert!(rt; import_packets(alloc, &mut keyring, WITH_DIRECT, &mut policy).is_ok());
-    assert!(rt; import_packets(alloc, &mut keyring, CERTIFIED, &mut policy).is_ok());
+    expect_that(
+        rt,
+        import_packets(alloc, &mut keyring, WITH_DIRECT, &mut policy).is_ok(),
+    );
+    expect_that(
+        rt,
+        import_packets(alloc, &mut keyring, CERTIFIED, &mut policy).is_ok(),
+    );
     assert!(rt; keyring.changes() < 1000);
-    assert!(rt; keyring.set_verdict(number, Verdict::Good(T)).is_ok());
+    expect_that(rt, keyring.set_verdict(number, Verdict::Good(T)).is_ok());
     keyring
 }
 
@@ -60,5 +67,5 @@ fn what_nobody_judged(rt: HostRuntime) {
         hint: None,
     };
     let pending = keyring.pending(rt.alloc()).expect(&rt, "memory");
-    assert!(rt; pending.as_slice() == [on_t, on_r].as_slice());
+    expect_that(&rt, pending.as_slice() == [on_t, on_r].as_slice());
 }
