@@ -80,7 +80,7 @@ pub(crate) fn run<F: Fn(Ask) -> bool>(
     }
 }
 
-/// A fresh engine in which these lines were done.
+/// A fresh engine in which these lines were done. Who is done with it hands it to `drop`: so its drop is proved once.
 fn engine_of(rt: &impl Abort, alloc: Global, lines: &[Line]) -> Engine {
     let text = text_of(rt, alloc, lines);
     played(rt, alloc, &mut none_asked(), &text)
@@ -114,6 +114,7 @@ fn is_dumped(rt: &impl Abort, alloc: Global, lines: &[Line], expected: &[u8]) ->
     let engine = engine_of(rt, alloc, lines);
     let mut text = Vec::new(alloc);
     let count = engine.dump(&mut text).expect(rt, "memory");
+    drop(engine);
     count == 12 && text.as_slice() == expected
 }
 
@@ -136,6 +137,7 @@ fn a_certificate_is_exported(rt: HostRuntime) {
         engine.keyring().export(&A, &mut text) == Err(ExportFault::Absent),
     );
     expect_that(&rt, text == expected);
+    drop(engine);
 }
 
 /// Sets the time of a view, in an engine to which little was done.
@@ -183,6 +185,7 @@ fn answers_are_those_of_the_present(rt: HostRuntime) {
     let q = view_name(&rt, rt.alloc(), b"q");
     expect_that(&rt, times_are_told(&mut engine, &p, &q));
     expect_that(&rt, changes_are_told(&mut engine, &p));
+    drop(engine);
 }
 
 /// Whether the roads are those of the certification of t.
@@ -226,6 +229,7 @@ fn roads_of_a_view(rt: HostRuntime) {
     expect_that(&rt, engine.roads(&z, &mut steps).is_err());
     expect_that(&rt, engine.parts(&z, &mut steps).is_err());
     expect_that(&rt, steps.made == 1 && engine.time(&p) == Some(5000));
+    drop(engine);
 }
 
 fn opens_within_limits(engine: &mut Engine, p: &ViewName, q: &ViewName) -> bool {
@@ -277,4 +281,5 @@ fn views_within_their_limits(rt: HostRuntime) {
         set_time(&mut engine, &p, 8) == Ok(()) && has_view(&engine, &p, 8, 0, 0),
     );
     expect_that(&rt, engine.turns() == 5 && engine.turn(&p) == Some(5));
+    drop(engine);
 }

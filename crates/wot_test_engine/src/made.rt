@@ -158,6 +158,6 @@ fn edges_of_a_generated_script(rt: HostRuntime) {
     let mut count = none_asked();
     let mut text = Vec::new(rt.alloc());
     expect_that(&rt, script(rt.alloc(), 7, 50, &mut text).is_ok());
-    let _engine = played(&rt, rt.alloc(), &mut count, &text);
+    drop(played(&rt, rt.alloc(), &mut count, &text));
     expect_that(&rt, count.asked == 108);
 }

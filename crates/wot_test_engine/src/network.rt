@@ -1,4 +1,5 @@
 use crate::assertion::expect_that;
+use std::alloc::Global;
 use wot_edge::Roads;
 use wot_keyring::Keyring;
 use wot_network::Network;
@@ -14,24 +15,21 @@ fn tells_nothing<R: Roads>(roads: &R) -> bool {
 }
 
 /// A keyring that holds a verdict alone tells of nobody, at each time and after each change.
+fn is_empty_network(alloc: Global) -> Option<bool> {
+    let mut keyring = Keyring::new(alloc, Limits::standard());
+    let mut network = Network::new(alloc, 5000);
+    let mut steps = Steps::new();
+    network.refresh(&keyring, 5000, &mut steps).ok()?;
+    network.refresh(&keyring, 6000, &mut steps).ok()?;
+    let moved = network.time() == 6000;
+    keyring
+        .set_verdict(SigNumber([1; 32]), Verdict::Good(NOBODY))
+        .ok()?;
+    network.refresh(&keyring, 6000, &mut steps).ok()?;
+    Some(moved && steps.made == 0 && tells_nothing(&network.roads(&keyring)))
+}
+
 #[test]
 fn nothing_is_told_of_an_empty_keyring(rt: HostRuntime) {
-    let mut keyring = Keyring::new(rt.alloc(), Limits::standard());
-    let mut network = Network::new(rt.alloc(), 5000);
-    let mut steps = Steps::new();
-    expect_that(&rt, network.refresh(&keyring, 5000, &mut steps).is_ok());
-    expect_that(
-        &rt,
-        network.refresh(&keyring, 6000, &mut steps).is_ok() && network.time() == 6000,
-    );
-    let verdict = Verdict::Good(NOBODY);
-    expect_that(
-        &rt,
-        keyring.set_verdict(SigNumber([1; 32]), verdict).is_ok(),
-    );
-    expect_that(
-        &rt,
-        network.refresh(&keyring, 6000, &mut steps).is_ok() && steps.made == 0,
-    );
-    expect_that(&rt, tells_nothing(&network.roads(&keyring)));
+    expect_that(&rt, is_empty_network(rt.alloc()) == Some(true));
 }

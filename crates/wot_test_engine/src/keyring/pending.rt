@@ -68,4 +68,5 @@ fn what_nobody_judged(rt: HostRuntime) {
     };
     let pending = keyring.pending(rt.alloc()).expect(&rt, "memory");
     expect_that(&rt, pending.as_slice() == [on_t, on_r].as_slice());
+    drop(keyring);
 }
