@@ -2,13 +2,16 @@ ghost use Rattle.std.specs.Prelude.{◌≡◌};
 ghost use Rattle.wot_keyring.specs.Kept.{IsJudgedBy};
 ghost use Rattle.wot_policy.specs.Kept.{IsFaithful, rows_of};
 
+use crate::assertion::expect_that;
+use crate::made::{none_asked, played};
 use crate::script::Line::{self, Import, Other};
-use crate::script::{NOBODY_BAD, R_BY_R, R_CERT, T_BY_R, T_BY_T, T_CERT, command_of, text_of};
+use crate::script::{NOBODY_BAD, R_BY_R, R_CERT, T_BY_R, T_BY_T, T_CERT, text_of};
 use std::alloc::Global;
+use std::process::Abort;
 use wot_cache::{AskFault, Engine, NoView, ViewFault};
 use wot_edge::Roads;
 use wot_keyring::ExportFault;
-use wot_policy::{Ask, Policy, admits, standard_rows};
+use wot_policy::{Ask, Policy};
 use wot_sample::{A, R, T};
 use wot_script::Command;
 use wot_types::{Fpr, Limit, Limits, Steps, ViewName};
@@ -77,43 +80,17 @@ pub(crate) fn run<F: Fn(Ask) -> bool>(
     }
 }
 
-/// Does what these lines say, one after the other; whether each was done.
-fn run_all<F: Fn(Ask) -> bool>(
-    alloc: Global,
-    engine: &mut Engine,
-    lines: &[Line],
-    policy: &mut Policy<F>,
-) -> bool
-    requires judged { IsJudgedBy (rows_of policy.old) engine.old.keyring }
-    requires faithful { IsFaithful F.Fn policy.old }
-    ensures judged { IsJudgedBy (rows_of policy.new) engine.new.keyring }
-    ensures faithful { IsFaithful F.Fn policy.new }
-{
-    for line in lines {
-        let Some(command) = command_of(alloc, line) else {
-            return false;
-        };
-        if !run(engine, &command, policy) {
-            return false;
-        }
-    }
-    true
+/// A fresh engine in which these lines were done. Who is done with it hands it to `drop`: so its drop is proved once.
+fn engine_of(rt: &impl Abort, alloc: Global, lines: &[Line]) -> Engine {
+    let text = text_of(rt, alloc, lines);
+    played(rt, alloc, &mut none_asked(), &text)
 }
 
-/// A fresh engine in which these lines were done.
-fn engine_of(alloc: Global, lines: &[Line]) -> Option<Engine> {
-    let rows = standard_rows();
-    let mut policy = Policy::new(rows, |ask| admits(&rows, ask));
-    let mut engine = Engine::new(alloc, Limits::standard());
-    if run_all(alloc, &mut engine, lines, &mut policy) {
-        Some(engine)
-    } else {
-        None
-    }
-}
-
-fn view_name(alloc: Global, text: &[u8]) -> Option<ViewName> {
-    ViewName::read(alloc, text).ok()?
+fn view_name(rt: &impl Abort, alloc: Global, text: &[u8]) -> ViewName {
+    ViewName::read(alloc, text)
+        .ok()
+        .flatten()
+        .expect(rt, "a name")
 }
 
 /// The amount of an answer about the user ID t of T, and how many paths and edges were made.
@@ -133,33 +110,34 @@ fn amount_of(
 }
 
 /// Whether an engine in which these lines were done dumps this text.
-fn is_dumped(alloc: Global, lines: &[Line], expected: &[u8]) -> Option<bool> {
-    let engine = engine_of(alloc, lines)?;
+fn is_dumped(rt: &impl Abort, alloc: Global, lines: &[Line], expected: &[u8]) -> bool {
+    let engine = engine_of(rt, alloc, lines);
     let mut text = Vec::new(alloc);
-    let count = engine.dump(&mut text).ok()?;
-    Some(count == 12 && text.as_slice() == expected)
+    let count = engine.dump(&mut text).expect(rt, "memory");
+    drop(engine);
+    count == 12 && text.as_slice() == expected
 }
 
 #[test]
 fn a_dump_makes_the_state_anew(rt: HostRuntime) {
-    let expected = text_of(rt.alloc(), &DUMPED).expect(&rt, "a text");
-    assert!(rt; is_dumped(rt.alloc(), &SCRIPT, &expected) == Some(true));
-    assert!(rt; is_dumped(rt.alloc(), &DUMPED, &expected) == Some(true));
+    let expected = text_of(&rt, rt.alloc(), &DUMPED);
+    expect_that(&rt, is_dumped(&rt, rt.alloc(), &SCRIPT, &expected));
+    expect_that(&rt, is_dumped(&rt, rt.alloc(), &DUMPED, &expected));
 }
 
 /// A certificate that is held is written, and one that isn't is absent.
-fn is_exported(alloc: Global) -> Option<bool> {
-    let engine = engine_of(alloc, &SCRIPT)?;
-    let mut text = Vec::new(alloc);
-    let held = engine.keyring().export(&R, &mut text);
-    let absent = engine.keyring().export(&A, &mut text);
-    let expected = wot_sample::text(alloc, R_CERT)?;
-    Some(held == Ok(()) && absent == Err(ExportFault::Absent) && text == expected)
-}
-
 #[test]
 fn a_certificate_is_exported(rt: HostRuntime) {
-    assert!(rt; is_exported(rt.alloc()) == Some(true));
+    let engine = engine_of(&rt, rt.alloc(), &SCRIPT);
+    let expected = wot_sample::text(rt.alloc(), R_CERT).expect(&rt, "memory");
+    let mut text = Vec::new(rt.alloc());
+    expect_that(&rt, engine.keyring().export(&R, &mut text) == Ok(()));
+    expect_that(
+        &rt,
+        engine.keyring().export(&A, &mut text) == Err(ExportFault::Absent),
+    );
+    expect_that(&rt, text == expected);
+    drop(engine);
 }
 
 /// Sets the time of a view, in an engine to which little was done.
@@ -202,11 +180,12 @@ fn changes_are_told(engine: &mut Engine, p: &ViewName) -> bool {
 
 #[test]
 fn answers_are_those_of_the_present(rt: HostRuntime) {
-    let mut engine = engine_of(rt.alloc(), &SCRIPT).expect(&rt, "done");
-    let p = view_name(rt.alloc(), b"p").expect(&rt, "p");
-    let q = view_name(rt.alloc(), b"q").expect(&rt, "q");
-    assert!(rt; times_are_told(&mut engine, &p, &q));
-    assert!(rt; changes_are_told(&mut engine, &p));
+    let mut engine = engine_of(&rt, rt.alloc(), &SCRIPT);
+    let p = view_name(&rt, rt.alloc(), b"p");
+    let q = view_name(&rt, rt.alloc(), b"q");
+    expect_that(&rt, times_are_told(&mut engine, &p, &q));
+    expect_that(&rt, changes_are_told(&mut engine, &p));
+    drop(engine);
 }
 
 /// Whether the roads are those of the certification of t.
@@ -239,14 +218,18 @@ fn has_parts(engine: &mut Engine, view: &ViewName, steps: &mut Steps) -> bool {
 
 #[test]
 fn roads_of_a_view(rt: HostRuntime) {
-    let mut engine = engine_of(rt.alloc(), &SCRIPT).expect(&rt, "done");
-    let p = view_name(rt.alloc(), b"p").expect(&rt, "p");
-    let z = view_name(rt.alloc(), b"z").expect(&rt, "z");
+    let mut engine = engine_of(&rt, rt.alloc(), &SCRIPT);
+    let p = view_name(&rt, rt.alloc(), b"p");
+    let z = view_name(&rt, rt.alloc(), b"z");
     let mut steps = Steps::new();
-    assert!(rt; has_roads(&mut engine, &p, &mut steps) && has_parts(&mut engine, &p, &mut steps));
-    assert!(rt; engine.roads(&z, &mut steps).is_err());
-    assert!(rt; engine.parts(&z, &mut steps).is_err());
-    assert!(rt; steps.made == 1 && engine.time(&p) == Some(5000));
+    expect_that(
+        &rt,
+        has_roads(&mut engine, &p, &mut steps) && has_parts(&mut engine, &p, &mut steps),
+    );
+    expect_that(&rt, engine.roads(&z, &mut steps).is_err());
+    expect_that(&rt, engine.parts(&z, &mut steps).is_err());
+    expect_that(&rt, steps.made == 1 && engine.time(&p) == Some(5000));
+    drop(engine);
 }
 
 fn opens_within_limits(engine: &mut Engine, p: &ViewName, q: &ViewName) -> bool {
@@ -285,11 +268,18 @@ fn views_within_their_limits(rt: HostRuntime) {
         ..Limits::standard()
     };
     let mut engine = Engine::new(rt.alloc(), limits);
-    let p = view_name(rt.alloc(), b"p").expect(&rt, "p");
-    let q = view_name(rt.alloc(), b"q").expect(&rt, "q");
-    assert!(rt; opens_within_limits(&mut engine, &p, &q) && has_view(&engine, &p, 7, 6, 1));
-    assert!(rt; closes(&mut engine, &p, &q));
-    assert!(rt; engine.turns() == 4 && engine.turn(&p).is_none());
-    assert!(rt; set_time(&mut engine, &p, 8) == Ok(()) && has_view(&engine, &p, 8, 0, 0));
-    assert!(rt; engine.turns() == 5 && engine.turn(&p) == Some(5));
+    let p = view_name(&rt, rt.alloc(), b"p");
+    let q = view_name(&rt, rt.alloc(), b"q");
+    expect_that(
+        &rt,
+        opens_within_limits(&mut engine, &p, &q) && has_view(&engine, &p, 7, 6, 1),
+    );
+    expect_that(&rt, closes(&mut engine, &p, &q));
+    expect_that(&rt, engine.turns() == 4 && engine.turn(&p).is_none());
+    expect_that(
+        &rt,
+        set_time(&mut engine, &p, 8) == Ok(()) && has_view(&engine, &p, 8, 0, 0),
+    );
+    expect_that(&rt, engine.turns() == 5 && engine.turn(&p) == Some(5));
+    drop(engine);
 }

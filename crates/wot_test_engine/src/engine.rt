@@ -1,5 +1,6 @@
 //! Runs over memory.
 use std::alloc::Global;
+use std::process::Abort;
 use wot_certd::{MemoryShelf, Shelf};
 use wot_engine::run_words;
 use wot_io::{MemorySink, MemorySource, Sink, Source};
@@ -7,25 +8,31 @@ use wot_policy::{Policy, admits, standard_rows};
 use wot_sample::Packet;
 use wot_types::Name;
 
-pub(crate) fn owned(alloc: Global, words: &[&str]) -> Option<Vec<String>> {
+pub(crate) fn owned(rt: &impl Abort, alloc: Global, words: &[&str]) -> Vec<String> {
     let mut all = Vec::new(alloc);
     for word in words {
-        all.push(String::from_str(alloc, word).ok()?).ok()?;
+        let word = String::from_str(alloc, word).expect(rt, "memory");
+        all.push(word).expect(rt, "memory");
     }
-    Some(all)
+    all
 }
 
 /// A source that gives five octets a read, and fails in the reads with these numbers.
-pub(crate) fn source_of(alloc: Global, script: &[u8], fails: &[u64]) -> Option<MemorySource> {
-    let script = script.to_vec(alloc).ok()?;
-    let fails = fails.to_vec(alloc).ok()?;
-    Some(MemorySource::new(script, 5, fails))
+pub(crate) fn source_of(
+    rt: &impl Abort,
+    alloc: Global,
+    script: &[u8],
+    fails: &[u64],
+) -> MemorySource {
+    let script = script.to_vec(alloc).expect(rt, "memory");
+    let fails = fails.to_vec(alloc).expect(rt, "memory");
+    MemorySource::new(script, 5, fails)
 }
 
 /// A sink that takes three octets a write, and fails in the writes with these numbers.
-pub(crate) fn sink_of(alloc: Global, fails: &[u64]) -> Option<MemorySink> {
-    let fails = fails.to_vec(alloc).ok()?;
-    MemorySink::new(alloc, 3, 8192, fails).ok()
+pub(crate) fn sink_of(rt: &impl Abort, alloc: Global, fails: &[u64]) -> MemorySink {
+    let fails = fails.to_vec(alloc).expect(rt, "memory");
+    MemorySink::new(alloc, 3, 8192, fails).expect(rt, "memory")
 }
 
 /// The status of a run under the standard policy.
@@ -51,16 +58,18 @@ pub(crate) type Row = (Name, &'static [Packet]);
 
 /// A shelf with these entries, whose calls with these numbers fail, some of them late.
 pub(crate) fn shelf_of(
+    rt: &impl Abort,
     alloc: Global,
     entries: &[Row],
     fails: &[u64],
     late: &[u64],
-) -> Option<MemoryShelf> {
-    let fails = fails.to_vec(alloc).ok()?;
-    let late = late.to_vec(alloc).ok()?;
+) -> MemoryShelf {
+    let fails = fails.to_vec(alloc).expect(rt, "memory");
+    let late = late.to_vec(alloc).expect(rt, "memory");
     let mut shelf = MemoryShelf::new(alloc, fails, late);
     for (name, packets) in entries {
-        shelf.put(*name, wot_sample::text(alloc, packets)?).ok()?;
+        let text = wot_sample::text(alloc, packets).expect(rt, "memory");
+        shelf.put(*name, text).expect(rt, "memory");
     }
-    Some(shelf)
+    shelf
 }

@@ -1,5 +1,7 @@
+use crate::assertion::expect_that;
 use std::alloc::Global;
-use wot_edge::{Roots, Step};
+use std::process::Abort;
+use wot_edge::{Roads, Roots, Step};
 use wot_explain::{Bind, ExplainFault, Explained, explain, list, list_after};
 use wot_keyring::Keyring;
 use wot_network::Network;
@@ -40,32 +42,29 @@ static VERDICTS: [(SigNumber, Fpr); 4] = [
     ),
 ];
 
-fn imported(alloc: Global, text: &[u8]) -> Option<Keyring> {
+fn imported(rt: &impl Abort, alloc: Global, text: &[u8]) -> Keyring {
     let rows = standard_rows();
     let mut policy = Policy::new(rows, |ask| admits(&rows, ask));
     let mut keyring = Keyring::new(alloc, Limits::standard());
-    if text.len() >= 1000 {
-        return None;
-    }
-    match keyring.import(alloc, text, &mut policy) {
-        Ok(_) => Some(keyring),
-        Err(_) => None,
-    }
+    assert!(rt; text.len() < 1000);
+    expect_that(rt, keyring.import(alloc, text, &mut policy).is_ok());
+    keyring
 }
 
 /// A keyring with R, T and its user ID, on which two certifications by R stand, and the verdicts.
-fn judged(alloc: Global) -> Option<Keyring> {
-    let mut text = wot_sample::text(alloc, &[KEY_R, DIRECT])?;
-    let more = wot_sample::text(alloc, SPANS)?;
-    text.extend_from_slice(&more).ok()?;
-    let mut keyring = imported(alloc, &text)?;
+fn judged(rt: &impl Abort, alloc: Global) -> Keyring {
+    let mut text = wot_sample::text(alloc, &[KEY_R, DIRECT]).expect(rt, "memory");
+    let more = wot_sample::text(alloc, SPANS).expect(rt, "memory");
+    text.extend_from_slice(&more).expect(rt, "memory");
+    let mut keyring = imported(rt, alloc, &text);
     for (number, fpr) in &VERDICTS {
-        if keyring.changes() >= 1000 {
-            return None;
-        }
-        keyring.set_verdict(*number, Verdict::Good(*fpr)).ok()?;
+        assert!(rt; keyring.changes() < 1000);
+        expect_that(
+            rt,
+            keyring.set_verdict(*number, Verdict::Good(*fpr)).is_ok(),
+        );
     }
-    Some(keyring)
+    keyring
 }
 
 fn explained(
@@ -86,49 +85,31 @@ fn explained(
     }
 }
 
-fn listed(
-    alloc: Global,
-    keyring: &Keyring,
-    t: u32,
-    roots: &Roots,
-    wanted: u32,
-) -> Option<Vec<Bind>> {
-    if wanted == 0 || roots.len() > 64 {
-        return None;
-    }
-    let mut network = Network::new(alloc, t);
-    let mut steps = Steps::new();
-    match network.refresh(keyring, t, &mut steps) {
-        Ok(()) => {
-            let roads = network.roads(keyring);
-            list(alloc, keyring, &roads, roots, wanted).ok()
-        }
-        Err(_) => None,
+/// Whether this is R's binding of T's user ID t alone.
+fn are_bound(binds: &[Bind]) -> bool {
+    match binds {
+        [bind] => bind.sum == 60 && bind.fpr == T && bind.uid.octets() == b"t".as_slice(),
+        _ => false,
     }
 }
 
-/// How many bindings are in a piece of that list, from a place on.
-fn size_of_piece(
+/// Whether that binding reaches its amount, and no more; and pieces of the list have their sizes: from the front on, of
+/// no binding, and behind the one that there is.
+fn is_listed<N: Roads>(
+    rt: &impl Abort,
     alloc: Global,
     keyring: &Keyring,
-    t: u32,
+    roads: &N,
     roots: &Roots,
-    after: Option<&Place>,
-    count: u32,
-) -> Option<usize> {
-    if roots.len() > 64 {
-        return None;
-    }
-    let mut network = Network::new(alloc, t);
-    let mut steps = Steps::new();
-    match network.refresh(keyring, t, &mut steps) {
-        Ok(()) => {
-            let roads = network.roads(keyring);
-            let piece = list_after(alloc, keyring, &roads, roots, 60, after, count).ok()?;
-            Some(piece.len())
-        }
-        Err(_) => None,
-    }
+    place: &Place,
+) -> bool {
+    assert!(rt; roots.len() <= 64);
+    let binds = list(alloc, keyring, roads, roots, 60).expect(rt, "memory");
+    let none = list(alloc, keyring, roads, roots, 61).expect(rt, "memory");
+    let all = list_after(alloc, keyring, roads, roots, 60, None, 5).expect(rt, "memory");
+    let empty = list_after(alloc, keyring, roads, roots, 60, None, 0).expect(rt, "memory");
+    let rest = list_after(alloc, keyring, roads, roots, 60, Some(place), 5).expect(rt, "memory");
+    are_bound(&binds) && none.is_empty() && all.len() == 1 && empty.is_empty() && rest.is_empty()
 }
 
 /// The edge of the certification that lasts.
@@ -154,44 +135,48 @@ fn is_absent(alloc: Global, keyring: &Keyring, fpr: &Fpr, uid: &[u8]) -> bool {
     }
 }
 
-/// Whether R's binding of T's user ID t reaches its amount, and no more.
-fn is_bound(alloc: Global, keyring: &Keyring, roots: &Roots) -> Option<bool> {
-    let binds = listed(alloc, keyring, 5000, roots, 60)?;
-    let none = listed(alloc, keyring, 5000, roots, 61)?;
-    let bound = match binds.as_slice() {
-        [bind] => bind.sum == 60 && bind.fpr == T && bind.uid.octets() == b"t".as_slice(),
-        _ => false,
-    };
-    Some(bound && none.is_empty())
-}
-
-/// Whether pieces of the list have their sizes: from the front on, of no binding, and behind the one that there is.
-fn has_pieces(alloc: Global, keyring: &Keyring, roots: &Roots) -> Option<bool> {
-    let uid = UserId::new(alloc, b"t").ok()?;
-    let place = Place { fpr: T, uid };
-    let all = size_of_piece(alloc, keyring, 5000, roots, None, 5)?;
-    let none = size_of_piece(alloc, keyring, 5000, roots, None, 0)?;
-    let rest = size_of_piece(alloc, keyring, 5000, roots, Some(&place), 5)?;
-    Some((all, none, rest) == (1, 0, 0))
-}
-
-fn root_r(alloc: Global) -> Option<Roots> {
-    let mut roots = Roots::new(alloc);
-    roots.set(R, 120).ok()?;
-    Some(roots)
-}
-
-/// Of two certifications by R the one that lasts is the edge, and the binding reaches its amount.
+/// Of two certifications by R the one that lasts is the edge.
 #[test]
-fn an_edge_and_its_binding(rt: HostRuntime) {
-    let keyring = judged(rt.alloc()).expect(&rt, "a keyring");
+fn an_edge_and_what_is_absent(rt: HostRuntime) {
+    let keyring = judged(&rt, rt.alloc());
     match explained(rt.alloc(), &keyring, 5000, &T, b"t") {
-        Ok(told) => assert!(rt; has_edge(&told)),
-        Err(_) => assert!(rt; false),
+        Ok(told) => expect_that(&rt, has_edge(&told)),
+        Err(_) => expect_that(&rt, false),
     }
-    assert!(rt; is_absent(rt.alloc(), &keyring, &T, b"u"));
-    assert!(rt; is_absent(rt.alloc(), &keyring, &A, b"t"));
-    let roots = root_r(rt.alloc()).expect(&rt, "a root");
-    assert!(rt; is_bound(rt.alloc(), &keyring, &roots) == Some(true));
-    assert!(rt; has_pieces(rt.alloc(), &keyring, &roots) == Some(true));
+    expect_that(&rt, is_absent(rt.alloc(), &keyring, &T, b"u"));
+    expect_that(&rt, is_absent(rt.alloc(), &keyring, &A, b"t"));
+    drop(keyring);
+}
+
+/// The same of the network at 5000.
+fn is_listed_then(
+    rt: &impl Abort,
+    alloc: Global,
+    keyring: &Keyring,
+    roots: &Roots,
+    place: &Place,
+) -> bool {
+    let mut network = Network::new(alloc, 5000);
+    let mut steps = Steps::new();
+    match network.refresh(keyring, 5000, &mut steps) {
+        Ok(()) => {
+            let roads = network.roads(keyring);
+            is_listed(rt, alloc, keyring, &roads, roots, place)
+        }
+        Err(_) => false,
+    }
+}
+
+#[test]
+fn a_binding_and_its_list(rt: HostRuntime) {
+    let keyring = judged(&rt, rt.alloc());
+    let mut roots = Roots::new(rt.alloc());
+    expect_that(&rt, roots.set(R, 120).is_ok());
+    let uid = UserId::new(rt.alloc(), b"t").expect(&rt, "memory");
+    let place = Place { fpr: T, uid };
+    expect_that(
+        &rt,
+        is_listed_then(&rt, rt.alloc(), &keyring, &roots, &place),
+    );
+    drop(keyring);
 }

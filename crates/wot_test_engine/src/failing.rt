@@ -1,9 +1,11 @@
 //! Runs over devices that fail, and over inputs without an end.
 ghost use Rattle.std.specs.Prelude.{None};
 
+use crate::assertion::expect_that;
 use crate::engine::{Row, empty_shelf, owned, shelf_of, sink_of, source_of, status_of};
 use crate::script::{FIELD, FIELD_FPR};
 use std::alloc::Global;
+use std::process::Abort;
 use wot_io::{Failed, Sink, Source};
 use wot_sample::{KEY_R, T};
 use wot_types::Name;
@@ -173,19 +175,19 @@ load c959bdbafa32a2f89a153b678cfde12197965a9a
 static ENTRIES: [Row; 2] = [(Name::Cert(FIELD_FPR), &[FIELD]), (Name::Cert(T), &[KEY_R])];
 
 /// Whether a case ends so.
-fn ends_so(alloc: Global, case: &Case) -> Option<bool> {
-    let words = owned(alloc, &["run", "folder"])?;
-    let mut input = source_of(alloc, case.script.as_bytes(), case.reads)?;
-    let mut output = sink_of(alloc, case.writes)?;
-    let mut shelf = shelf_of(alloc, &ENTRIES, case.calls, &[])?;
+fn ends_so(rt: &impl Abort, alloc: Global, case: &Case) -> bool {
+    let words = owned(rt, alloc, &["run", "folder"]);
+    let mut input = source_of(rt, alloc, case.script.as_bytes(), case.reads);
+    let mut output = sink_of(rt, alloc, case.writes);
+    let mut shelf = shelf_of(rt, alloc, &ENTRIES, case.calls, &[]);
     let status = status_of(alloc, &words, &mut input, &mut output, &mut shelf);
-    Some(status == case.status && output.written() == case.written.as_bytes())
+    status == case.status && output.written() == case.written.as_bytes()
 }
 
 #[test]
 fn devices_that_fail(rt: HostRuntime) {
     for case in &CASES {
-        assert!(rt; ends_so(rt.alloc(), case) == Some(true));
+        expect_that(&rt, ends_so(&rt, rt.alloc(), case));
     }
 }
 
@@ -234,33 +236,33 @@ impl Sink for Refusing {
     }
 }
 
-/// The status of a run over endless comments, how much was read, and whether nothing was written.
-fn read_endless(alloc: Global) -> Option<(u8, u64, bool)> {
-    let words = owned(alloc, &["run"])?;
-    let mut input = Endless { given: 0 };
-    let mut output = sink_of(alloc, &[])?;
-    let mut shelf = empty_shelf(alloc);
-    let status = status_of(alloc, &words, &mut input, &mut output, &mut shelf);
-    Some((status, input.given, output.written().is_empty()))
-}
-
-/// An input without an end is left after 2^30 octets, with the status 6.
+/// An input without an end is left after 2^30 octets, with the status 6, and nothing is written.
 #[test]
 fn endless_comments(rt: HostRuntime) {
-    assert!(rt; read_endless(rt.alloc()) == Some((6, 1_073_741_824, true)));
+    let words = owned(&rt, rt.alloc(), &["run"]);
+    let mut input = Endless { given: 0 };
+    let mut output = sink_of(&rt, rt.alloc(), &[]);
+    let mut shelf = empty_shelf(rt.alloc());
+    expect_that(
+        &rt,
+        status_of(rt.alloc(), &words, &mut input, &mut output, &mut shelf) == 6,
+    );
+    expect_that(
+        &rt,
+        input.given == 1_073_741_824 && output.written().is_empty(),
+    );
 }
 
-/// The status of a run whose sink takes nothing, and the count of its faults.
-fn refused(alloc: Global) -> Option<(u8, u64)> {
-    let words = owned(alloc, &["run"])?;
-    let mut input = source_of(alloc, KEYS.script.as_bytes(), &[])?;
-    let mut output = Refusing { faults: 0 };
-    let mut shelf = empty_shelf(alloc);
-    let status = status_of(alloc, &words, &mut input, &mut output, &mut shelf);
-    Some((status, output.faults))
-}
-
+/// A fault is counted once.
 #[test]
 fn a_sink_that_takes_nothing(rt: HostRuntime) {
-    assert!(rt; refused(rt.alloc()) == Some((4, 1)));
+    let words = owned(&rt, rt.alloc(), &["run"]);
+    let mut input = source_of(&rt, rt.alloc(), KEYS.script.as_bytes(), &[]);
+    let mut output = Refusing { faults: 0 };
+    let mut shelf = empty_shelf(rt.alloc());
+    expect_that(
+        &rt,
+        status_of(rt.alloc(), &words, &mut input, &mut output, &mut shelf) == 4,
+    );
+    expect_that(&rt, output.faults == 1);
 }

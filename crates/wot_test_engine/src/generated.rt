@@ -1,5 +1,7 @@
+use crate::assertion::expect_that;
 use crate::engine::{owned, sink_of, source_of, status_of};
 use std::alloc::Global;
+use std::process::Abort;
 use wot_certd::{MemoryShelf, Shelf};
 use wot_io::{MemorySink, MemorySource, Source};
 use wot_types::Name;
@@ -12,9 +14,9 @@ static TOLD: &[u8] = b"gen 7 12 lines 90\namounts 2161\n\
 static ENDS: [(&[u64], u8, usize); 3] = [(&[], 0, 107), (&[1], 4, 0), (&[3], 4, 6)];
 
 /// A shelf whose first call fails.
-fn failing_shelf(alloc: Global) -> Option<MemoryShelf> {
-    let fails = [1].to_vec(alloc).ok()?;
-    Some(MemoryShelf::new(alloc, fails, Vec::new(alloc)))
+fn failing_shelf(rt: &impl Abort, alloc: Global) -> MemoryShelf {
+    let fails = [1].to_vec(alloc).expect(rt, "memory");
+    MemoryShelf::new(alloc, fails, Vec::new(alloc))
 }
 
 /// Whether as many octets are written of what is told.
@@ -28,19 +30,18 @@ fn are_untouched(input: &mut MemorySource, shelf: &mut MemoryShelf) -> bool {
 }
 
 /// Whether the run ends so, with writes that fail.
-fn ends_so(alloc: Global, fails: &[u64], wanted: u8, size: usize) -> Option<bool> {
-    let words = owned(alloc, &["gen", "7", "12"])?;
-    let mut input = source_of(alloc, b"keys\n", &[])?;
-    let mut output = sink_of(alloc, fails)?;
-    let mut shelf = failing_shelf(alloc)?;
+fn ends_so(rt: &impl Abort, alloc: Global, fails: &[u64], wanted: u8, size: usize) -> bool {
+    let words = owned(rt, alloc, &["gen", "7", "12"]);
+    let mut input = source_of(rt, alloc, b"keys\n", &[]);
+    let mut output = sink_of(rt, alloc, fails);
+    let mut shelf = failing_shelf(rt, alloc);
     let status = status_of(alloc, &words, &mut input, &mut output, &mut shelf);
-    let untouched = are_untouched(&mut input, &mut shelf);
-    Some(status == wanted && untouched && is_told(&output, size))
+    status == wanted && are_untouched(&mut input, &mut shelf) && is_told(&output, size)
 }
 
 #[test]
 fn a_generated_run(rt: HostRuntime) {
     for (fails, status, size) in &ENDS {
-        assert!(rt; ends_so(rt.alloc(), fails, *status, *size) == Some(true));
+        expect_that(&rt, ends_so(&rt, rt.alloc(), fails, *status, *size));
     }
 }

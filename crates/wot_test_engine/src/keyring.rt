@@ -4,6 +4,7 @@ ghost use Rattle.wot_policy.specs.Kept.{IsFaithful, rows_of};
 mod loading;
 mod pending;
 
+use crate::assertion::expect_that;
 use crate::script::{R_CERT, UNREADABLE};
 use std::alloc::Global;
 use wot_cert::CertFault;
@@ -177,7 +178,10 @@ static OF_ONE: [(&[&[Packet]], Outcome); 3] = [
 #[test]
 fn imports_one_after_the_other(rt: HostRuntime) {
     for (lists, expected) in &OUTCOMES {
-        assert!(rt; outcome(rt.alloc(), Limits::standard(), lists) == *expected);
+        expect_that(
+            &rt,
+            outcome(rt.alloc(), Limits::standard(), lists) == *expected,
+        );
     }
 }
 
@@ -188,7 +192,7 @@ fn one_certificate_at_most(rt: HostRuntime) {
         ..Limits::standard()
     };
     for (lists, expected) in &OF_ONE {
-        assert!(rt; outcome(rt.alloc(), limits, lists) == *expected);
+        expect_that(&rt, outcome(rt.alloc(), limits, lists) == *expected);
     }
 }
 
@@ -287,5 +291,8 @@ fn a_verdict_finds_its_certificate(rt: HostRuntime) {
     let rows = standard_rows();
     let mut policy = Policy::new(rows, |ask| admits(&rows, ask));
     let mut keyring = Keyring::new(rt.alloc(), Limits::standard());
-    assert!(rt; first_other(rt.alloc(), &mut keyring, &VERDICTS, &mut policy).is_none());
+    expect_that(
+        &rt,
+        first_other(rt.alloc(), &mut keyring, &VERDICTS, &mut policy).is_none(),
+    );
 }

@@ -2,6 +2,8 @@
 #![tactic(auto)]
 
 #[cfg(test)]
+mod assertion;
+#[cfg(test)]
 mod cache;
 #[cfg(test)]
 mod engine;

@@ -4,8 +4,10 @@ ghost use Rattle.std.specs.Prelude.{◌≡◌};
 ghost use Rattle.wot_keyring.specs.Kept.{IsJudgedBy};
 ghost use Rattle.wot_policy.specs.Kept.{IsFaithful, rows_of};
 
+use crate::assertion::expect_that;
 use crate::cache::run;
 use std::alloc::Global;
+use std::process::Abort;
 use wot_cache::Engine;
 use wot_gen::script;
 use wot_policy::{Ask, Policy, admits, standard_rows};
@@ -30,9 +32,17 @@ static MADE: [(u64, u64, u64); 10] = [
 
 /// The questions that were answered, and the edges that were made for them.
 #[derive(Drop)]
-struct Count {
+pub(crate) struct Count {
     asked: u64,
     steps: Steps,
+}
+
+/// No question yet.
+pub(crate) fn none_asked() -> Count {
+    Count {
+        asked: 0,
+        steps: Steps::new(),
+    }
 }
 
 /// Whether that many edges may be made.
@@ -67,6 +77,26 @@ fn is_answered(
     answered && may_be_made(count)
 }
 
+/// Does what a command says; whether it was done so.
+fn obey<F: Fn(Ask) -> bool>(
+    engine: &mut Engine,
+    count: &mut Count,
+    command: &Command,
+    policy: &mut Policy<F>,
+) -> bool
+    requires judged { IsJudgedBy (rows_of policy.old) engine.old.keyring }
+    requires faithful { IsFaithful F.Fn policy.old }
+    ensures judged { IsJudgedBy (rows_of policy.new) engine.new.keyring }
+    ensures faithful { IsFaithful F.Fn policy.new }
+{
+    match command {
+        Command::Ask(view, target, wanted, uid) => {
+            is_answered(engine, count, view, target, *wanted, uid)
+        }
+        _ => run(engine, command, policy),
+    }
+}
+
 /// Does what a line says; whether it was done so.
 fn play<F: Fn(Ask) -> bool>(
     alloc: Global,
@@ -81,10 +111,7 @@ fn play<F: Fn(Ask) -> bool>(
     ensures faithful { IsFaithful F.Fn policy.new }
 {
     match read_line(alloc, line) {
-        Ok(Command::Ask(view, target, wanted, uid)) => {
-            is_answered(engine, count, &view, &target, wanted, &uid)
-        }
-        Ok(command) => run(engine, &command, policy),
+        Ok(command) => obey(engine, count, &command, policy),
         Err(_) => false,
     }
 }
@@ -116,25 +143,21 @@ fn play_all<F: Fn(Ask) -> bool>(
     true
 }
 
-/// How many questions the script of 50 keys has, where each line is done and as many edges are made as may be.
-fn questions(alloc: Global) -> Option<u64> {
+/// A fresh engine that did what the lines of a text say, by the standard rows.
+pub(crate) fn played(rt: &impl Abort, alloc: Global, count: &mut Count, text: &[u8]) -> Engine {
     let rows = standard_rows();
     let mut policy = Policy::new(rows, |ask| admits(&rows, ask));
     let mut engine = Engine::new(alloc, Limits::standard());
-    let mut count = Count {
-        asked: 0,
-        steps: Steps::new(),
-    };
-    let mut text = Vec::new(alloc);
-    script(alloc, 7, 50, &mut text).ok()?;
-    if play_all(alloc, &mut engine, &mut count, &text, &mut policy) {
-        Some(count.asked)
-    } else {
-        None
-    }
+    expect_that(rt, play_all(alloc, &mut engine, count, text, &mut policy));
+    engine
 }
 
+/// As many edges are made as may be, of all the questions of the script of 50 keys.
 #[test]
 fn edges_of_a_generated_script(rt: HostRuntime) {
-    assert!(rt; questions(rt.alloc()) == Some(108));
+    let mut count = none_asked();
+    let mut text = Vec::new(rt.alloc());
+    expect_that(&rt, script(rt.alloc(), 7, 50, &mut text).is_ok());
+    drop(played(&rt, rt.alloc(), &mut count, &text));
+    expect_that(&rt, count.asked == 108);
 }

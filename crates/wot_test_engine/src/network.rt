@@ -1,3 +1,4 @@
+use crate::assertion::expect_that;
 use std::alloc::Global;
 use wot_edge::Roads;
 use wot_keyring::Keyring;
@@ -30,5 +31,5 @@ fn is_empty_network(alloc: Global) -> Option<bool> {
 
 #[test]
 fn nothing_is_told_of_an_empty_keyring(rt: HostRuntime) {
-    assert!(rt; is_empty_network(rt.alloc()) == Some(true));
+    expect_that(&rt, is_empty_network(rt.alloc()) == Some(true));
 }

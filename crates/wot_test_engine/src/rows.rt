@@ -3,6 +3,7 @@ ghost use Rattle.std.specs.Prelude.{◌≡◌};
 ghost use Rattle.wot_keyring.specs.Kept.{IsJudgedBy};
 ghost use Rattle.wot_policy.specs.Kept.{IsFaithful, rows_of};
 
+use crate::assertion::expect_that;
 use std::alloc::Global;
 use wot_certd::MemoryShelf;
 use wot_engine::Machine;
@@ -122,5 +123,5 @@ fn edges_are_made_once(rt: HostRuntime) {
     let mut policy = Policy::new(rows, |ask| admits(&rows, ask));
     let mut machine = Machine::new(rt.alloc());
     let told = first_other(rt.alloc(), &mut machine, &mut policy);
-    assert!(rt; told == Some((LINES, 1, 1)));
+    expect_that(&rt, told == Some((LINES, 1, 1)));
 }

@@ -1,9 +1,9 @@
 //! Lines whose certificates and verdicts are written down by name.
 use std::alloc::Global;
+use std::process::Abort;
 use wot_sample::Packet::{self, Other as Bare, Signature, UserId};
 use wot_sample::Says::Made;
 use wot_sample::{CERTIFICATION, DIRECT, KEY, KEY_R, KEY_T};
-use wot_script::{Command, Octets, read_line};
 use wot_types::Fpr;
 
 /// A line of a script.
@@ -62,45 +62,24 @@ pub(crate) const NOBODY_BAD: Line = Line::Other(
     "verdict 0000000000000000000000000000000000000000000000000000000000000009 bad",
 );
 
-/// The command of a line.
-pub(crate) fn command_of(alloc: Global, line: &Line) -> Option<Command> {
-    match line {
-        Line::Import(packets) => {
-            let octets = wot_sample::text(alloc, packets)?;
-            Some(Command::Import(Octets::from_vec(octets)))
-        }
-        Line::Other(text) => read_line(alloc, text.as_bytes()).ok(),
-    }
+/// Appends the line that imports these packets, without its line feed.
+fn push_import(rt: &impl Abort, alloc: Global, packets: &[Packet], text: &mut Vec<u8>) {
+    let octets = wot_sample::text(alloc, packets).expect(rt, "memory");
+    let digits = hex::encode(alloc, octets.as_slice()).expect(rt, "memory");
+    text.extend_from_slice(b"import ").expect(rt, "memory");
+    text.extend_from_slice(digits.as_bytes())
+        .expect(rt, "memory");
 }
 
-/// Appends the line that imports these packets.
-fn push_import(alloc: Global, packets: &[Packet], text: &mut Vec<u8>) -> Option<()> {
-    let octets = wot_sample::text(alloc, packets)?;
-    let digits = hex::encode(alloc, octets.as_slice()).ok()?;
-    text.extend_from_slice(b"import ").ok()?;
-    text.extend_from_slice(digits.as_bytes()).ok()
-}
-
-/// Appends the text of a line, without its line feed.
-fn push_text(alloc: Global, line: &Line, text: &mut Vec<u8>) -> Option<()> {
-    match line {
-        Line::Import(packets) => push_import(alloc, packets, text),
-        Line::Other(line) => text.extend_from_slice(line.as_bytes()).ok(),
-    }
-}
-
-/// Appends these lines to a text, each with its line feed.
-fn push_lines(alloc: Global, lines: &[Line], text: &mut Vec<u8>) -> Option<()> {
-    for line in lines {
-        push_text(alloc, line, text)?;
-        text.push(b'\n').ok()?;
-    }
-    Some(())
-}
-
-/// The text of these lines.
-pub(crate) fn text_of(alloc: Global, lines: &[Line]) -> Option<Vec<u8>> {
+/// The text of these lines, each with its line feed.
+pub(crate) fn text_of(rt: &impl Abort, alloc: Global, lines: &[Line]) -> Vec<u8> {
     let mut text = Vec::new(alloc);
-    push_lines(alloc, lines, &mut text)?;
-    Some(text)
+    for line in lines {
+        match line {
+            Line::Import(packets) => push_import(rt, alloc, packets, &mut text),
+            Line::Other(line) => text.extend_from_slice(line.as_bytes()).expect(rt, "memory"),
+        }
+        text.push(b'\n').expect(rt, "memory");
+    }
+    text
 }

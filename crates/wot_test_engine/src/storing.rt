@@ -1,6 +1,8 @@
 //! Certificates that are stored in a shelf that fails.
+use crate::assertion::expect_that;
 use crate::engine::{Row, owned, shelf_of, sink_of, source_of, status_of};
 use std::alloc::Global;
+use std::process::Abort;
 use wot_certd::{Given, MemoryShelf, Shelf};
 use wot_sample::{KEY_T, Packet, T};
 use wot_types::Name;
@@ -50,38 +52,34 @@ load 3c98b8180e0fcaca1032499082a5de8fa5d98232
     },
 ];
 
-/// What a run writes to a script, over this shelf.
-fn written(alloc: Global, script: &[u8], shelf: &mut MemoryShelf) -> Option<Vec<u8>> {
-    let words = owned(alloc, &["run", "folder"])?;
-    let mut input = source_of(alloc, script, &[])?;
-    let mut output = sink_of(alloc, &[])?;
-    if status_of(alloc, &words, &mut input, &mut output, shelf) != 0 {
-        return None;
-    }
-    output.written().to_vec(alloc).ok()
+/// Whether a run writes these replies to a script, over this shelf.
+fn is_replied_to(rt: &impl Abort, alloc: Global, case: &Case, shelf: &mut MemoryShelf) -> bool {
+    let words = owned(rt, alloc, &["run", "folder"]);
+    let mut input = source_of(rt, alloc, case.script.as_bytes(), &[]);
+    let mut output = sink_of(rt, alloc, &[]);
+    let status = status_of(alloc, &words, &mut input, &mut output, shelf);
+    status == 0 && output.written() == case.replies.as_bytes()
 }
 
-/// The octets of T's entry; none where there is none.
-fn octets_left(alloc: Global, shelf: &mut MemoryShelf) -> Option<Vec<u8>> {
+/// Whether T's entry has these octets; none where there is no entry.
+fn is_left(shelf: &mut MemoryShelf, wanted: &[u8]) -> bool {
     match shelf.read(&T_NAME) {
-        Ok(Given::Bytes(octets)) => Some(octets),
-        Ok(Given::Absent) => Some(Vec::new(alloc)),
-        _ => None,
+        Ok(Given::Bytes(octets)) => octets.as_slice() == wanted && !wanted.is_empty(),
+        Ok(Given::Absent) => wanted.is_empty(),
+        _ => false,
     }
 }
 
 /// Whether the script is so replied to, and leaves these packets.
-fn is_stored(alloc: Global, case: &Case) -> Option<bool> {
-    let mut shelf = shelf_of(alloc, case.entries, case.fails, case.late)?;
-    let told = written(alloc, case.script.as_bytes(), &mut shelf)?;
-    let left = octets_left(alloc, &mut shelf)?;
-    let wanted = wot_sample::text(alloc, case.left)?;
-    Some(told.as_slice() == case.replies.as_bytes() && left.as_slice() == wanted.as_slice())
+fn is_stored(rt: &impl Abort, alloc: Global, case: &Case) -> bool {
+    let mut shelf = shelf_of(rt, alloc, case.entries, case.fails, case.late);
+    let wanted = wot_sample::text(alloc, case.left).expect(rt, "memory");
+    is_replied_to(rt, alloc, case, &mut shelf) && is_left(&mut shelf, &wanted)
 }
 
 #[test]
 fn certificates_are_stored(rt: HostRuntime) {
     for case in &CASES {
-        assert!(rt; is_stored(rt.alloc(), case) == Some(true));
+        expect_that(&rt, is_stored(&rt, rt.alloc(), case));
     }
 }

@@ -1,8 +1,10 @@
 //! The replies to the lines that one read brought are written together, and before the next read.
 ghost use Rattle.std.specs.Prelude.{None};
 
+use crate::assertion::expect_that;
 use crate::engine::{empty_shelf, owned, status_of};
 use std::alloc::Global;
+use std::process::Abort;
 use wot_io::{Failed, MemorySource, Sink, Source};
 
 /// Takes all that it is offered, and keeps how many octets each write was offered.
@@ -29,22 +31,13 @@ impl Sink for Counting {
 }
 
 /// A source of so many lines `keys`, that gives so many octets a read.
-fn lines_of(alloc: Global, count: usize, piece: usize) -> Option<MemorySource> {
-    if piece == 0 {
-        return None;
-    }
+fn lines_of(rt: &impl Abort, alloc: Global, count: usize, piece: usize) -> MemorySource {
+    assert!(rt; piece > 0);
     let mut script = Vec::new(alloc);
     for _ in 0..count {
-        script.extend_from_slice(b"keys\n").ok()?;
+        script.extend_from_slice(b"keys\n").expect(rt, "memory");
     }
-    Some(MemorySource::new(script, piece, Vec::new(alloc)))
-}
-
-/// The status of a run over an empty shelf.
-fn ran<S: Source, K: Sink>(alloc: Global, input: &mut S, output: &mut K) -> Option<u8> {
-    let words = owned(alloc, &["run"])?;
-    let mut shelf = empty_shelf(alloc);
-    Some(status_of(alloc, &words, input, output, &mut shelf))
+    MemorySource::new(script, piece, Vec::new(alloc))
 }
 
 /// How many lines there are, how many octets a read gives, and the writes in turn: so many of so many octets. The reply
@@ -58,27 +51,35 @@ static CASES: [Case; 3] = [
     (10_000, 65_536, &[(1, 65_541), (1, 4459)]),
 ];
 
-/// Whether the writes of a run are those of the case.
-fn is_written(alloc: Global, case: &Case) -> Option<bool> {
-    let (count, piece, runs) = case;
-    let mut want = Vec::new(alloc);
-    for (times, size) in *runs {
+/// The sizes of the writes of a case.
+fn sizes_of(rt: &impl Abort, alloc: Global, runs: &[(usize, usize)]) -> Vec<usize> {
+    let mut sizes = Vec::new(alloc);
+    for (times, size) in runs {
         for _ in 0..*times {
-            want.push(*size).ok()?;
+            sizes.push(*size).expect(rt, "memory");
         }
     }
-    let mut input = lines_of(alloc, *count, *piece)?;
+    sizes
+}
+
+/// Whether the writes of a run over an empty shelf are those of the case.
+fn is_written(rt: &impl Abort, alloc: Global, case: &Case) -> bool {
+    let (count, piece, runs) = *case;
+    let want = sizes_of(rt, alloc, runs);
+    let words = owned(rt, alloc, &["run"]);
+    let mut input = lines_of(rt, alloc, count, piece);
     let mut output = Counting {
         offered: Vec::new(alloc),
         faults: 0,
     };
-    let status = ran(alloc, &mut input, &mut output)?;
-    Some(status == 0 && output.offered.as_slice() == want.as_slice())
+    let mut shelf = empty_shelf(alloc);
+    let status = status_of(alloc, &words, &mut input, &mut output, &mut shelf);
+    status == 0 && output.offered == want
 }
 
 #[test]
 fn replies_are_written_together(rt: HostRuntime) {
     for case in &CASES {
-        assert!(rt; is_written(rt.alloc(), case) == Some(true));
+        expect_that(&rt, is_written(&rt, rt.alloc(), case));
     }
 }

@@ -1,9 +1,10 @@
+use crate::assertion::expect_that;
 use crate::roads::{Row, T as ON_T, U as ON_U, key, network, roots_of};
 use std::alloc::Global;
+use std::process::Abort;
 use wot_auth::{Answer, authenticate};
-use wot_edge::Path;
+use wot_edge::{Path, Step};
 use wot_search::Consulted;
-use wot_types::Memory;
 
 const R: u8 = 1;
 
@@ -15,22 +16,25 @@ const C: u8 = 4;
 
 const T: u8 = 5;
 
-/// What a question is asked over, and what its answer is: each path's amount and issuers. The edges of `scoped` have a
-/// scope in which the user ID `t` is alone.
+/// A path: its amount and its issuers.
+struct Taken(u8, &'static [u8]);
+
+/// What a question is asked over, and what its answer is: its sum and its paths. The edges of `scoped` have a scope in
+/// which the user ID `t` is alone.
 #[derive(Clone, Copy)]
-struct Case<'a> {
-    roots: &'a [(u8, u8)],
-    rows: &'a [Row],
+struct Case {
+    roots: &'static [(u8, u8)],
+    rows: &'static [Row],
     scoped: u8,
     target: u8,
-    uid: &'a [u8],
+    uid: &'static [u8],
     wanted: u32,
     sum: u32,
-    paths: &'a [(u8, &'a [u8])],
+    paths: &'static [Taken],
 }
 
 /// A question about T's user ID t, with R as the one root, of complete trust, to which there is no path.
-const ASKED: Case<'static> = Case {
+const ASKED: Case = Case {
     roots: &[(R, 120)],
     rows: &[],
     scoped: 0,
@@ -41,13 +45,13 @@ const ASKED: Case<'static> = Case {
     paths: &[],
 };
 
-const DIRECT: Case<'static> = Case {
+const DIRECT: Case = Case {
     rows: &[Row(R, T, ON_T, 0, 120)],
     ..ASKED
 };
 
 /// Two ways of one amount.
-const EVEN: Case<'static> = Case {
+const EVEN: Case = Case {
     rows: &[
         Row(R, B, ON_T, 1, 50),
         Row(R, C, ON_T, 1, 50),
@@ -56,12 +60,12 @@ const EVEN: Case<'static> = Case {
     ],
     wanted: 100,
     sum: 100,
-    paths: &[(50, &[R, B]), (50, &[R, C])],
+    paths: &[Taken(50, &[R, B]), Taken(50, &[R, C])],
     ..ASKED
 };
 
 /// An introducer who certifies two user IDs.
-const TWO_USER_IDS: Case<'static> = Case {
+const TWO_USER_IDS: Case = Case {
     rows: &[
         Row(R, A, ON_T, 1, 120),
         Row(A, T, ON_T, 0, 120),
@@ -70,7 +74,7 @@ const TWO_USER_IDS: Case<'static> = Case {
     ..ASKED
 };
 
-static CASES: [Case<'static>; 7] = [
+static CASES: [Case; 7] = [
     // a root that is the target gives no more than its amount as a root
     Case {
         roots: &[(R, 100)],
@@ -78,12 +82,12 @@ static CASES: [Case<'static>; 7] = [
         target: R,
         wanted: 200,
         sum: 100,
-        paths: &[(100, &[R])],
+        paths: &[Taken(100, &[R])],
         ..ASKED
     },
     Case {
         sum: 120,
-        paths: &[(120, &[R])],
+        paths: &[Taken(120, &[R])],
         ..DIRECT
     },
     // the shortest before the widest
@@ -94,7 +98,7 @@ static CASES: [Case<'static>; 7] = [
             Row(A, T, ON_T, 0, 120),
         ],
         sum: 120,
-        paths: &[(1, &[R]), (119, &[R, A])],
+        paths: &[Taken(1, &[R]), Taken(119, &[R, A])],
         ..ASKED
     },
     // an edge that two paths share; the least list
@@ -107,21 +111,21 @@ static CASES: [Case<'static>; 7] = [
             Row(C, T, ON_T, 0, 120),
         ],
         sum: 60,
-        paths: &[(60, &[R, A, B])],
+        paths: &[Taken(60, &[R, A, B])],
         ..ASKED
     },
     // no path is taken after what is wanted is reached, and the last isn't cut
     Case {
         wanted: 50,
         sum: 50,
-        paths: &[(50, &[R, B])],
+        paths: &[Taken(50, &[R, B])],
         ..EVEN
     },
     // the root's amount is used up
     Case {
         roots: &[(R, 70)],
         sum: 70,
-        paths: &[(50, &[R, B]), (20, &[R, C])],
+        paths: &[Taken(50, &[R, B]), Taken(20, &[R, C])],
         ..EVEN
     },
     Case {
@@ -131,68 +135,75 @@ static CASES: [Case<'static>; 7] = [
     },
 ];
 
-fn is_path(path: &Path, amount: u8, issuers: &[u8]) -> bool {
-    let steps = path.steps.as_slice();
-    if path.amount != amount || steps.len() != issuers.len() {
-        return false;
-    }
-    for (step, issuer) in steps.iter().zip(issuers) {
+fn have_issuers(steps: &[Step], issuers: &[u8]) -> bool {
+    let mut rest = steps;
+    for issuer in issuers {
+        let Some((step, others)) = rest.split_first() else {
+            return false;
+        };
         if step.issuer != key(*issuer) {
             return false;
         }
+        rest = others;
     }
-    match issuers.first() {
-        Some(issuer) => path.root == key(*issuer),
+    rest.is_empty()
+}
+
+fn is_path(path: &Path, taken: &Taken) -> bool {
+    match taken.1.first() {
+        Some(first) => {
+            path.amount == taken.0
+                && path.root == key(*first)
+                && have_issuers(path.steps.as_slice(), taken.1)
+        }
         None => false,
     }
 }
 
-fn is_answer(answer: &Answer, sum: u32, paths: &[(u8, &[u8])]) -> bool {
-    if answer.sum != sum || answer.paths.as_slice().len() != paths.len() {
-        return false;
-    }
-    for (path, (amount, issuers)) in answer.paths.as_slice().iter().zip(paths) {
-        if !is_path(path, *amount, issuers) {
+fn is_answer(answer: &Answer, sum: u32, paths: &[Taken]) -> bool {
+    let mut rest = answer.paths.as_slice();
+    for taken in paths {
+        let Some((path, others)) = rest.split_first() else {
+            return false;
+        };
+        if !is_path(path, taken) {
             return false;
         }
+        rest = others;
     }
-    true
+    answer.sum == sum && rest.is_empty()
 }
 
 /// The answer to a question, and what was looked at.
-fn answer_of(alloc: Global, case: &Case<'_>, consulted: &mut Consulted) -> Result<Answer, Memory> {
-    let roads = network(alloc, case.rows, case.scoped, 0)?;
-    let roots = roots_of(alloc, case.roots)?;
-    if case.wanted == 0 || roots.len() > 64 {
-        return Err(Memory);
-    }
-    let target = key(case.target);
+fn answer_of(rt: &impl Abort, alloc: Global, case: &Case, consulted: &mut Consulted) -> Answer {
+    let roads = network(rt, alloc, case.rows, case.scoped, 0);
+    let roots = roots_of(rt, alloc, case.roots);
+    assert!(rt; case.wanted > 0 && roots.len() <= 64);
     authenticate(
         alloc,
         &roads,
         &roots,
-        &target,
+        &key(case.target),
         case.uid,
         case.wanted,
         consulted,
     )
+    .expect(rt, "memory")
 }
 
 /// Whether the question is answered so, and its target is looked at.
-fn is_answered(alloc: Global, case: &Case<'_>) -> Result<bool, Memory> {
+fn is_answered(rt: &impl Abort, alloc: Global, case: &Case) -> bool {
     let mut consulted = Consulted::new(alloc);
-    let answer = answer_of(alloc, case, &mut consulted)?;
-    let again = answer.duplicate()?;
-    Ok(
-        is_answer(&answer, case.sum, case.paths)
-            && is_answer(&again, case.sum, case.paths)
-            && consulted.has(&key(case.target)),
-    )
+    let answer = answer_of(rt, alloc, case, &mut consulted);
+    let again = answer.duplicate().expect(rt, "memory");
+    is_answer(&answer, case.sum, case.paths)
+        && is_answer(&again, case.sum, case.paths)
+        && consulted.has(&key(case.target))
 }
 
 #[test]
 fn answers_to_questions(rt: HostRuntime) {
     for case in &CASES {
-        assert!(rt; is_answered(rt.alloc(), case) == Ok(true));
+        expect_that(&rt, is_answered(&rt, rt.alloc(), case));
     }
 }

@@ -1,4 +1,6 @@
+use crate::assertion::expect_that;
 use std::alloc::Global;
+use std::process::Abort;
 use std::rt::{Env, Files};
 use std::{env, fs};
 use wot_certd::{FolderShelf, Given, MemoryShelf, Shelf, ShelfFault, fpr_of, name_of};
@@ -26,52 +28,62 @@ static PLACES: [(Name, &str); 3] = [
 ];
 
 /// Whether an entry's place is spelled so, both ways.
-fn is_its_place(alloc: Global, name: &Name, place: &str) -> bool {
-    match name_of(alloc, name) {
-        Ok(text) => text.as_str() == place && fpr_of(place) == Some(*name),
-        Err(_) => false,
-    }
+fn is_its_place(rt: &impl Abort, alloc: Global, name: &Name, place: &str) -> bool {
+    let text = name_of(alloc, name).expect(rt, "memory");
+    text.as_str() == place && fpr_of(place) == Some(*name)
 }
 
 #[test]
 fn names_are_their_places(rt: HostRuntime) {
     for (name, place) in &PLACES {
-        assert!(rt; is_its_place(rt.alloc(), name, place));
+        expect_that(&rt, is_its_place(&rt, rt.alloc(), name, place));
     }
-    assert!(rt; fpr_of("c959bdbafa32a2f89a153b678cfde12197965a9a").is_none());
+    expect_that(
+        &rt,
+        fpr_of("c959bdbafa32a2f89a153b678cfde12197965a9a").is_none(),
+    );
 }
 
-/// Whether a read gives these octets.
-fn gives<S: Shelf>(shelf: &mut S, name: &Name, octets: &[u8]) -> bool {
-    match shelf.read(name) {
-        Ok(Given::Bytes(given)) => given.as_slice() == octets,
+/// What a read comes to. Only here what it gives is dropped, whose drop is proved wherever there is one.
+#[derive(Clone, Copy)]
+enum Wanted<'a> {
+    Octets(&'a [u8]),
+    Absent,
+    Failed,
+}
+
+/// Whether a read comes to this.
+fn reads<S: Shelf>(shelf: &mut S, name: &Name, wanted: Wanted<'_>) -> bool {
+    match (shelf.read(name), wanted) {
+        (Ok(Given::Bytes(given)), Wanted::Octets(octets)) => given.as_slice() == octets,
+        (Ok(Given::Absent), Wanted::Absent) => true,
+        (Err(ShelfFault::Failed), Wanted::Failed) => true,
         _ => false,
     }
+}
+
+fn gives<S: Shelf>(shelf: &mut S, name: &Name, octets: &[u8]) -> bool {
+    reads(shelf, name, Wanted::Octets(octets))
 }
 
 fn is_absent<S: Shelf>(shelf: &mut S, name: &Name) -> bool {
-    match shelf.read(name) {
-        Ok(Given::Absent) => true,
-        _ => false,
-    }
+    reads(shelf, name, Wanted::Absent)
 }
 
 fn fails<S: Shelf>(shelf: &mut S, name: &Name) -> bool {
-    match shelf.read(name) {
-        Err(ShelfFault::Failed) => true,
-        _ => false,
-    }
+    reads(shelf, name, Wanted::Failed)
 }
 
 const FAILED: Result<(), ShelfFault> = Err(ShelfFault::Failed);
 
 /// A shelf in memory whose third, fourth and sixth calls fail, the sixth late.
-fn failing_shelf(alloc: Global) -> Option<MemoryShelf> {
-    let fails = [3, 4, 6].to_vec(alloc).ok()?;
-    let late = [2, 6].to_vec(alloc).ok()?;
+fn failing_shelf(rt: &impl Abort, alloc: Global) -> MemoryShelf {
+    let fails = [3, 4, 6].to_vec(alloc).expect(rt, "memory");
+    let late = [2, 6].to_vec(alloc).expect(rt, "memory");
     let mut shelf = MemoryShelf::new(alloc, fails, late);
-    shelf.put(CERT, [7].to_vec(alloc).ok()?).ok()?;
-    Some(shelf)
+    let entry = [7].to_vec(alloc).expect(rt, "memory");
+    shelf.put(CERT, entry).expect(rt, "memory");
+    shelf
 }
 
 /// A call that fails early leaves the entry, and one that fails late has replaced it.
@@ -90,15 +102,17 @@ fn calls_answer(shelf: &mut MemoryShelf) -> bool {
 
 #[test]
 fn calls_of_a_shelf_in_memory(rt: HostRuntime) {
-    let mut shelf = failing_shelf(rt.alloc()).expect(&rt, "memory");
-    assert!(rt; calls_answer(&mut shelf));
+    let mut shelf = failing_shelf(&rt, rt.alloc());
+    expect_that(&rt, calls_answer(&mut shelf));
 }
 
 /// Makes a folder of its own for a test.
-fn new_folder<R: Files + Env + AllocGlobal>(rt: &R) -> Option<String> {
-    let base = env::temp_dir(rt).ok()?;
+fn new_folder<R: Files + Env + Abort + AllocGlobal>(rt: &R) -> Option<String> {
+    let base = env::temp_dir(rt).expect(rt, "a folder");
     for number in 0..1000u32 {
-        let folder = format!(in rt.alloc(); "{}/wot_certd_{number}", base.display()).ok()?;
+        let folder = format!(in rt.alloc(); "{}/wot_certd_{number}", base.display()).expect(
+            rt, "memory",
+        );
         if fs::create_dir(rt, folder.as_str()).is_ok() {
             return Some(folder);
         }
@@ -106,27 +120,33 @@ fn new_folder<R: Files + Env + AllocGlobal>(rt: &R) -> Option<String> {
     None
 }
 
-/// A file that is missing, one that is written and replaced, and a folder in a file's place.
-fn is_a_shelf<R: Files + AllocGlobal>(rt: &R, base: &str) -> Option<bool> {
-    let mut shelf = FolderShelf::new(rt.alloc(), rt, base).ok()?;
-    let written = is_absent(&mut shelf, &CERT)
+/// A file that is missing, and one that is written and replaced.
+fn is_written<R: Files + AllocGlobal>(shelf: &mut FolderShelf<'_, R>) -> bool {
+    is_absent(shelf, &CERT)
         && shelf.replace(&CERT, b"\x01\x02").is_ok()
-        && gives(&mut shelf, &CERT, b"\x01\x02")
+        && gives(shelf, &CERT, b"\x01\x02")
         && shelf.replace(&CERT, b"\x03").is_ok()
-        && gives(&mut shelf, &CERT, b"\x03");
-    fs::create_dir(rt, format!(in rt.alloc(); "{base}/trust-root").ok()?).ok()?;
-    Some(
-        written
-            && fails(&mut shelf, &Name::TrustRoot)
-            && shelf.replace(&Name::TrustRoot, b"\x04") == FAILED,
-    )
+        && gives(shelf, &CERT, b"\x03")
+}
+
+/// The same, and a folder in a file's place.
+fn is_a_shelf<R: Files + Abort + AllocGlobal>(rt: &R, base: &str) -> bool {
+    let mut shelf = FolderShelf::new(rt.alloc(), rt, base).expect(rt, "memory");
+    let written = is_written(&mut shelf);
+    let place = format!(in rt.alloc(); "{base}/trust-root").expect(rt, "memory");
+    fs::create_dir(rt, place.as_str()).expect(rt, "a folder");
+    written
+        && fails(&mut shelf, &Name::TrustRoot)
+        && shelf.replace(&Name::TrustRoot, b"\x04") == FAILED
 }
 
 /// The entry is a file at its place, and what couldn't be put in its place is gone.
-fn has_its_file<R: Files + AllocGlobal>(rt: &R, base: &str) -> Option<bool> {
-    let octets = fs::read(rt, format!(in rt.alloc(); "{base}/{PLACE}").ok()?).ok()?;
-    let left = fs::exists(rt, format!(in rt.alloc(); "{base}/_trust-root.0").ok()?).ok()?;
-    Some(octets.as_slice() == b"\x03".as_slice() && !left)
+fn has_its_file<R: Files + Abort + AllocGlobal>(rt: &R, base: &str) -> bool {
+    let file = format!(in rt.alloc(); "{base}/{PLACE}").expect(rt, "memory");
+    let octets = fs::read(rt, file.as_str()).expect(rt, "a file");
+    let left = format!(in rt.alloc(); "{base}/_trust-root.0").expect(rt, "memory");
+    let is_left = fs::exists(rt, left.as_str()).expect(rt, "an answer");
+    octets.as_slice() == b"\x03".as_slice() && !is_left
 }
 
 /// A file that may not be read, and files of the most octets and of one more, are for a test of the program, over a
@@ -135,7 +155,7 @@ fn has_its_file<R: Files + AllocGlobal>(rt: &R, base: &str) -> Option<bool> {
 fn a_folder(rt: HostRuntime) {
     let folder = new_folder(&rt).expect(&rt, "a folder");
     let base = format!(in rt.alloc(); "{folder}/pgp.cert.d").expect(&rt, "memory");
-    assert!(rt; is_a_shelf(&rt, &base) == Some(true));
-    assert!(rt; has_its_file(&rt, &base) == Some(true));
-    assert!(rt; fs::remove_dir_all(&rt, folder.as_str()).is_ok());
+    expect_that(&rt, is_a_shelf(&rt, &base));
+    expect_that(&rt, has_its_file(&rt, &base));
+    expect_that(&rt, fs::remove_dir_all(&rt, folder.as_str()).is_ok());
 }

@@ -1,12 +1,13 @@
+use crate::assertion::expect_that;
 use crate::roads::{A, B, C, Row, T, key, network, roots_of};
 use std::alloc::Global;
+use std::process::Abort;
 use wot_check::{Checked, Claimed, Table, absence, check};
 use wot_edge::{Path, Step, StepList};
-use wot_types::Memory;
 
-/// A path: its amount, and the issuers and user IDs of its steps.
+/// A path: its amount, and the issuers, targets and user IDs of its steps.
 #[derive(Clone, Copy)]
-struct Taken(u8, &'static [(u8, u8)]);
+struct Taken(u8, &'static [(u8, u8, u8)]);
 
 /// Earlier paths to a user ID of a key, and a table: what their check comes to, and which table is
 /// made after these paths. The edges of 6 have a scope in which the user ID `t` is alone, and those
@@ -43,7 +44,7 @@ const ROW: Case = Case {
         Row(3, 4, T, 0, 120),
         Row(5, 4, T, 0, 120),
     ],
-    paths: &[Taken(60, &[(1, A), (2, B), (3, T)])],
+    paths: &[Taken(60, &[(1, 2, A), (2, 3, B), (3, 4, T)])],
     table: &[(2, 2), (3, 1), (5, 1)],
     made: Some(&[(2, 2), (3, 1), (5, 1)]),
     ..SHALLOW
@@ -73,7 +74,7 @@ static CASES: [Case; 7] = [
     },
     ROW,
     Case {
-        paths: &[Taken(61, &[(1, A), (2, B), (3, T)])],
+        paths: &[Taken(61, &[(1, 2, A), (2, 3, B), (3, 4, T)])],
         checked: Checked::BadPaths,
         ..ROW
     },
@@ -88,66 +89,55 @@ static CASES: [Case; 7] = [
     },
 ];
 
-fn table_of(alloc: Global, labels: &[(u8, u8)]) -> Result<Table, Memory> {
+fn table_of(rt: &impl Abort, alloc: Global, labels: &[(u8, u8)]) -> Table {
     let mut table = Table::new(alloc);
     for (octet, label) in labels {
-        if *label > 0 {
-            table.set(key(*octet), *label)?;
-        }
+        assert!(rt; *label > 0);
+        table.set(key(*octet), *label).expect(rt, "memory");
     }
-    Ok(table)
+    table
 }
 
-fn claim(alloc: Global, taken: &Taken) -> Result<Claimed, Memory> {
+fn claim(rt: &impl Abort, alloc: Global, taken: &Taken) -> Claimed {
     let mut claim = Claimed::new(alloc, taken.0);
-    for (issuer, place) in taken.1 {
-        claim.push(key(*issuer), *place as u32)?;
+    for (issuer, _, place) in taken.1 {
+        claim.push(key(*issuer), *place as u32).expect(rt, "memory");
     }
-    Ok(claim)
+    claim
 }
 
-/// A path to the target. Nothing depends on the depths and amounts of its edges.
-fn path(alloc: Global, taken: &Taken, target: u8) -> Result<Path, Memory> {
+/// A path. Nothing depends on the depths and amounts of its edges.
+fn path(rt: &impl Abort, alloc: Global, taken: &Taken) -> Path {
     let mut steps = Vec::new(alloc);
-    let mut root = target;
-    let mut last: Option<Step> = None;
-    for (issuer, place) in taken.1 {
-        match last {
-            Some(step) => steps.push(Step {
-                target: key(*issuer),
-                ..step
-            })?,
-            None => root = *issuer,
-        }
-        last = Some(Step {
+    for (issuer, target, place) in taken.1 {
+        let step = Step {
             issuer: key(*issuer),
-            target: key(target),
+            target: key(*target),
             uid: *place as u32,
             depth: 0,
             amount: 0,
-        });
+        };
+        steps.push(step).expect(rt, "memory");
     }
-    if let Some(step) = last {
-        steps.push(step)?;
-    }
-    Ok(Path {
+    Path {
         amount: taken.0,
-        root: key(root),
+        root: match taken.1.first() {
+            Some(first) => key(first.0),
+            None => key(0),
+        },
         steps: StepList::new(steps),
-    })
+    }
 }
 
-fn checked(alloc: Global, case: &Case) -> Result<Checked, Memory> {
-    let roads = network(alloc, case.rows, 6, 7)?;
-    let roots = roots_of(alloc, case.roots)?;
-    let table = table_of(alloc, case.table)?;
+fn checked(rt: &impl Abort, alloc: Global, case: &Case) -> Checked {
+    let roads = network(rt, alloc, case.rows, 6, 7);
+    let roots = roots_of(rt, alloc, case.roots);
+    let table = table_of(rt, alloc, case.table);
     let mut claims = Vec::new(alloc);
     for taken in case.paths {
-        claims.push(claim(alloc, taken)?)?;
+        claims.push(claim(rt, alloc, taken)).expect(rt, "memory");
     }
-    if claims.len() > 9 {
-        return Err(Memory);
-    }
+    assert!(rt; claims.len() <= 9);
     check(
         alloc,
         &roads,
@@ -157,19 +147,18 @@ fn checked(alloc: Global, case: &Case) -> Result<Checked, Memory> {
         &key(case.target),
         case.uid,
     )
+    .expect(rt, "memory")
 }
 
-fn made(alloc: Global, case: &Case) -> Result<Option<Table>, Memory> {
-    let roads = network(alloc, case.rows, 6, 7)?;
-    let roots = roots_of(alloc, case.roots)?;
+fn made(rt: &impl Abort, alloc: Global, case: &Case) -> Option<Table> {
+    let roads = network(rt, alloc, case.rows, 6, 7);
+    let roots = roots_of(rt, alloc, case.roots);
     let mut paths = Vec::new(alloc);
     for taken in case.paths {
-        paths.push(path(alloc, taken, case.target)?)?;
+        paths.push(path(rt, alloc, taken)).expect(rt, "memory");
     }
-    if paths.len() > 9 {
-        return Err(Memory);
-    }
-    absence(alloc, &roads, &roots, &paths, &key(case.target), case.uid)
+    assert!(rt; paths.len() <= 9);
+    absence(alloc, &roads, &roots, &paths, &key(case.target), case.uid).expect(rt, "memory")
 }
 
 /// Whether a table has these labels alone.
@@ -192,27 +181,26 @@ fn is_made(table: &Option<Table>, labels: Option<&[(u8, u8)]>) -> bool {
 }
 
 /// Whether the check of a case comes to what it should, and its table is made.
-fn is_so(alloc: Global, case: &Case) -> Result<bool, Memory> {
-    let checked = checked(alloc, case)?;
-    let made = made(alloc, case)?;
-    Ok(checked == case.checked && is_made(&made, case.made))
+fn is_so(rt: &impl Abort, alloc: Global, case: &Case) -> bool {
+    checked(rt, alloc, case) == case.checked && is_made(&made(rt, alloc, case), case.made)
 }
 
 #[test]
 fn tables_of_absence(rt: HostRuntime) {
     for case in &CASES {
-        assert!(rt; is_so(rt.alloc(), case) == Ok(true));
+        expect_that(&rt, is_so(&rt, rt.alloc(), case));
     }
 }
 
-fn is_claimed(alloc: Global) -> Result<bool, Memory> {
-    let taken = Taken(60, &[(1, A), (2, T)]);
-    let of = Claimed::of(alloc, &path(alloc, &taken, 4)?)?;
-    let made = claim(alloc, &taken)?;
-    Ok(of.amount() == 60 && made.amount() == 60 && of.steps() == made.steps())
+fn is_claimed(rt: &impl Abort, alloc: Global) -> bool {
+    let taken = Taken(60, &[(1, 2, A), (2, 4, T)]);
+    let path = path(rt, alloc, &taken);
+    let of = Claimed::of(alloc, &path).expect(rt, "memory");
+    let made = claim(rt, alloc, &taken);
+    of.amount() == 60 && made.amount() == 60 && of.steps() == made.steps()
 }
 
 #[test]
 fn what_is_claimed_of_a_path(rt: HostRuntime) {
-    assert!(rt; is_claimed(rt.alloc()) == Ok(true));
+    expect_that(&rt, is_claimed(&rt, rt.alloc()));
 }

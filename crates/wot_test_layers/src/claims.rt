@@ -1,9 +1,10 @@
 //! The lines `absence` and `check`, and the replies to them.
-use crate::script::{is_printed_without_words, rows_that_hold};
+use crate::assertion::expect_that;
+use crate::script::{prints, rows_that_hold};
 use std::alloc::Global;
+use std::process::Abort;
 use wot_script::{
-    ClaimLine, ClaimLines, ClaimStepLine, ClaimStepLines, Command, LabelLine, LabelLines, Reply,
-    read_line,
+    ClaimLine, ClaimLines, ClaimStepLine, ClaimStepLines, LabelLine, LabelLines, Reply,
 };
 use wot_types::Fpr;
 
@@ -21,32 +22,28 @@ const LINES: &str = "\
     check a $ 60/$.00 - t\n\
 ";
 
-#[test]
-fn claims_are_read_and_printed(rt: HostRuntime) {
-    assert!(rt; rows_that_hold(rt.alloc(), LINES) == Some(10));
-}
-
 const ISSUER: Fpr = Fpr::V4([0x12; 20]);
 
 const OTHER: Fpr = Fpr::V4([0xef; 20]);
 
-fn claims(alloc: Global) -> Option<ClaimLines> {
+fn claims(rt: &impl Abort, alloc: Global) -> ClaimLines {
     let mut steps = ClaimStepLines::new(alloc);
-    steps.push(ClaimStepLine(ISSUER, 7)).ok()?;
-    steps.push(ClaimStepLine(OTHER, 0)).ok()?;
+    steps.push(ClaimStepLine(ISSUER, 7)).expect(rt, "memory");
+    steps.push(ClaimStepLine(OTHER, 0)).expect(rt, "memory");
     let mut claims = ClaimLines::new(alloc);
-    claims.push(ClaimLine(60, steps)).ok()?;
-    Some(claims)
+    claims.push(ClaimLine(60, steps)).expect(rt, "memory");
+    claims
 }
 
-fn labels(alloc: Global) -> Option<LabelLines> {
+fn labels(rt: &impl Abort, alloc: Global) -> LabelLines {
     let mut labels = LabelLines::new(alloc);
-    labels.push(LabelLine(ISSUER, 2)).ok()?;
-    labels.push(LabelLine(OTHER, 1)).ok()?;
-    Some(labels)
+    labels.push(LabelLine(ISSUER, 2)).expect(rt, "memory");
+    labels.push(LabelLine(OTHER, 1)).expect(rt, "memory");
+    labels
 }
 
-const CHECK: &str = "check v 1212121212121212121212121212121212121212 \
+/// A line whose fields are those that `is_claimed` knows.
+pub(crate) const CHECK: &str = "check v 1212121212121212121212121212121212121212 \
     60/1212121212121212121212121212121212121212.7/efefefefefefefefefefefefefefefefefefefef.0 \
     1212121212121212121212121212121212121212=2,efefefefefefefefefefefefefefefefefefefef=1 t";
 
@@ -71,23 +68,9 @@ fn are_labels(labels: &[LabelLine]) -> bool {
     }
 }
 
-/// Whether that line's fields are read so.
-fn is_check(alloc: Global) -> bool {
-    match read_line(alloc, CHECK.as_bytes()) {
-        Ok(Command::Check(view, target, claims, labels, uid)) => {
-            view.octets() == b"v".as_slice()
-                && target == ISSUER
-                && are_claims(claims.items())
-                && are_labels(labels.items())
-                && uid.octets() == b"t".as_slice()
-        }
-        _ => false,
-    }
-}
-
-#[test]
-fn fields_of_claims_stand_in_their_order(rt: HostRuntime) {
-    assert!(rt; is_check(rt.alloc()));
+/// Whether the claims and the labels of that line are so.
+pub(crate) fn is_claimed(claims: &ClaimLines, labels: &LabelLines) -> bool {
+    are_claims(claims.items()) && are_labels(labels.items())
 }
 
 const MISSED: &str = "absence missed 60\nclaim \
@@ -95,16 +78,15 @@ const MISSED: &str = "absence missed 60\nclaim \
     1212121212121212121212121212121212121212=2,efefefefefefefefefefefefefefefefefefefef=1\n";
 
 /// Whether the replies with those paths and that table, and with none, are printed so.
-fn are_printed(alloc: Global) -> Option<bool> {
-    let missed = Reply::Missed(60, claims(alloc)?, labels(alloc)?);
+fn are_printed(rt: &impl Abort, alloc: Global) -> bool {
+    let missed = Reply::Missed(60, claims(rt, alloc), labels(rt, alloc));
+    let some = prints(alloc, missed, MISSED);
     let bare = Reply::Missed(0, ClaimLines::new(alloc), LabelLines::new(alloc));
-    Some(
-        is_printed_without_words(alloc, &missed, MISSED.as_bytes())
-            && is_printed_without_words(alloc, &bare, b"absence missed 0\nclaim - -\n"),
-    )
+    some && prints(alloc, bare, "absence missed 0\nclaim - -\n")
 }
 
 #[test]
-fn replies_to_claims_are_printed(rt: HostRuntime) {
-    assert!(rt; are_printed(rt.alloc()) == Some(true));
+fn claims_are_read_and_printed(rt: HostRuntime) {
+    expect_that(&rt, rows_that_hold(&rt, rt.alloc(), LINES) == 10);
+    expect_that(&rt, are_printed(&rt, rt.alloc()));
 }

@@ -1,6 +1,8 @@
-use crate::types::name;
+use crate::assertion::expect_that;
+use crate::types::named;
 use std::alloc::Global;
-use wot_cursor::{Age, BeginFault, Cursor, Cursors, Stamps, age};
+use std::process::Abort;
+use wot_cursor::{Age, Cursor, Cursors, Stamps, age};
 use wot_types::{Fpr, Place, UserId};
 
 const BEGUN: Stamps = Stamps {
@@ -22,26 +24,16 @@ fn the_first_number_that_differs_is_told(rt: HostRuntime) {
             keyring: *keyring,
             view: *view,
         };
-        assert!(rt; age(BEGUN, now) == *expected);
-    }
-}
-
-/// Begins a cursor over the view p; `Some(false)` where there are too many.
-fn begins(alloc: Global, cursors: &mut Cursors, text: &[u8]) -> Option<bool> {
-    match cursors.begin(name(alloc, text)?, name(alloc, b"p")?, 120, BEGUN) {
-        Ok(()) => Some(true),
-        Err(BeginFault::Full) => Some(false),
-        Err(_) => None,
+        expect_that(&rt, age(BEGUN, now) == *expected);
     }
 }
 
 /// The place of the user ID t of a key.
-fn place(alloc: Global) -> Option<Place> {
-    let uid = UserId::new(alloc, b"t").ok()?;
-    Some(Place {
+fn place(rt: &impl Abort, alloc: Global) -> Place {
+    Place {
         fpr: Fpr::V4([1; 20]),
-        uid,
-    })
+        uid: UserId::new(alloc, b"t").expect(rt, "memory"),
+    }
 }
 
 fn is_at(cursor: &Cursor, uid: &[u8]) -> bool {
@@ -63,15 +55,19 @@ fn keeps(cursor: Option<&Cursor>) -> bool {
     }
 }
 
-fn is_kept(alloc: Global) -> Option<bool> {
-    let mut cursors = Cursors::new(alloc);
-    let k = name(alloc, b"k")?;
-    let begun = begins(alloc, &mut cursors, b"k")? && cursors.advance(&k, place(alloc)?);
-    let kept = begun && keeps(cursors.get(&k));
-    Some(kept && cursors.end(&k) && cursors.get(&k).is_none())
-}
-
 #[test]
 fn a_cursor_keeps_its_place(rt: HostRuntime) {
-    assert!(rt; is_kept(rt.alloc()) == Some(true));
+    let mut cursors = Cursors::new(rt.alloc());
+    let (k, p) = (named(&rt, rt.alloc(), b"k"), named(&rt, rt.alloc(), b"p"));
+    expect_that(
+        &rt,
+        cursors
+            .begin(named(&rt, rt.alloc(), b"k"), p, 120, BEGUN)
+            .is_ok(),
+    );
+    expect_that(
+        &rt,
+        cursors.advance(&k, place(&rt, rt.alloc())) && keeps(cursors.get(&k)),
+    );
+    expect_that(&rt, cursors.end(&k) && cursors.get(&k).is_none());
 }

@@ -1,8 +1,10 @@
+use crate::assertion::expect_that;
 use crate::roads::{key, roots_of};
 use std::alloc::Global;
+use std::process::Abort;
 use wot_edge::plain::PlainRoads;
 use wot_edge::{Edge, EdgeFacts, Path, PathList, Roads, Roots, Step, StepList, Used};
-use wot_types::{Memory, Steps};
+use wot_types::Steps;
 
 fn step(issuer: u8, target: u8, amount: u8) -> Step {
     Step {
@@ -14,14 +16,13 @@ fn step(issuer: u8, target: u8, amount: u8) -> Step {
     }
 }
 
-fn path(alloc: Global, amount: u8, steps: &[Step]) -> Result<Path, Memory> {
-    let mut list = Vec::new(alloc);
-    list.extend_from_slice(steps)?;
-    Ok(Path {
+fn path(rt: &impl Abort, alloc: Global, amount: u8, steps: &[Step]) -> Path {
+    let steps = Vec::from_slice(alloc, steps).expect(rt, "memory");
+    Path {
         amount,
         root: key(1),
-        steps: StepList::new(list),
-    })
+        steps: StepList::new(steps),
+    }
 }
 
 fn facts(issuer: u8, target: u8, made: u32, scoped: bool) -> EdgeFacts {
@@ -41,10 +42,13 @@ fn facts(issuer: u8, target: u8, made: u32, scoped: bool) -> EdgeFacts {
 fn edges_are_counted(rt: HostRuntime) {
     let mut steps = Steps::new();
     let edge = Edge::make(facts(1, 2, 2000, false), &mut steps);
-    assert!(rt; steps.made == 1 && edge.facts() == facts(1, 2, 2000, false));
+    expect_that(
+        &rt,
+        steps.made == 1 && edge.facts() == facts(1, 2, 2000, false),
+    );
     steps.made = u64::MAX;
     let _last = Edge::make(facts(2, 3, 2000, false), &mut steps);
-    assert!(rt; steps.made == u64::MAX);
+    expect_that(&rt, steps.made == u64::MAX);
 }
 
 /// Amounts that are set one after the other, and what comes of them.
@@ -62,88 +66,112 @@ fn are_two(roots: &Roots, first: (u8, u8), second: (u8, u8)) -> bool {
 
 #[test]
 fn roots_are_a_map_in_order(rt: HostRuntime) {
-    let roots = roots_of(rt.alloc(), &SET).expect(&rt, "memory");
+    let roots = roots_of(&rt, rt.alloc(), &SET);
     for (octet, amount) in &AMOUNTS {
-        assert!(rt; roots.get(&key(*octet)) == *amount);
+        expect_that(&rt, roots.get(&key(*octet)) == *amount);
     }
-    assert!(rt; are_two(&roots, (1, 120), (7, 90)));
+    expect_that(&rt, are_two(&roots, (1, 120), (7, 90)));
 }
 
 static SUMS: [(u8, u8, u32); 4] = [(1, 2, 30), (2, 1, 30), (2, 3, 0), (1, 1, 0)];
 
 /// What a path uses that has a pair twice. No valid path has, but what is added is any path.
-fn used_twice(alloc: Global) -> Result<Used, Memory> {
+fn used_twice(rt: &impl Abort, alloc: Global) -> Used {
     let steps = [step(1, 2, 120), step(2, 1, 50), step(1, 2, 120)];
-    let twice = path(alloc, 30, &steps)?;
+    let twice = path(rt, alloc, 30, &steps);
     let mut used = Used::new(alloc);
-    used.add(&twice)?;
-    Ok(used)
+    used.add(&twice).expect(rt, "memory");
+    used
 }
 
 #[test]
 fn a_pair_is_used_once_by_a_path(rt: HostRuntime) {
-    let used = used_twice(rt.alloc()).expect(&rt, "memory");
+    let used = used_twice(&rt, rt.alloc());
     for (issuer, target, sum) in &SUMS {
-        assert!(rt; used.pair(&key(*issuer), &key(*target)) == *sum);
+        expect_that(&rt, used.pair(&key(*issuer), &key(*target)) == *sum);
     }
-    assert!(rt; used.root(&key(1)) == 30 && used.root(&key(2)) == 0);
+    expect_that(&rt, used.root(&key(1)) == 30 && used.root(&key(2)) == 0);
 }
 
-fn two_paths(alloc: Global) -> Result<PathList, Memory> {
+fn two_paths(rt: &impl Abort, alloc: Global) -> PathList {
     let mut paths = Vec::new(alloc);
-    paths.push(path(alloc, 60, &[step(1, 2, 120), step(2, 3, 60)])?)?;
-    paths.push(path(alloc, 7, &[step(1, 3, 7)])?)?;
-    PathList::new(paths).duplicate()
+    paths
+        .push(path(rt, alloc, 60, &[step(1, 2, 120), step(2, 3, 60)]))
+        .expect(rt, "memory");
+    paths
+        .push(path(rt, alloc, 7, &[step(1, 3, 7)]))
+        .expect(rt, "memory");
+    PathList::new(paths).duplicate().expect(rt, "memory")
 }
 
 /// Whether a path has this amount and so many steps, and its list of steps is duplicated.
-fn is_like(path: &Path, amount: u8, length: usize) -> bool {
-    match path.steps.duplicate() {
-        Ok(steps) => {
-            path.amount == amount && path.root == key(1) && steps.into_vec().len() == length
-        }
-        Err(_) => false,
-    }
+fn is_like(rt: &impl Abort, path: &Path, amount: u8, length: usize) -> bool {
+    let steps = path.steps.duplicate().expect(rt, "memory");
+    path.amount == amount && path.root == key(1) && steps.into_vec().len() == length
 }
 
 #[test]
 fn lists_are_duplicated(rt: HostRuntime) {
-    let list = two_paths(rt.alloc()).expect(&rt, "memory");
-    assert!(rt; list.as_slice().len() == 2);
+    let list = two_paths(&rt, rt.alloc());
+    expect_that(&rt, list.as_slice().len() == 2);
     match list.into_vec().as_slice() {
-        [first, second] => assert!(rt; is_like(first, 60, 2) && is_like(second, 7, 1)),
-        _ => assert!(rt; false),
+        [first, second] => expect_that(
+            &rt,
+            is_like(&rt, first, 60, 2) && is_like(&rt, second, 7, 1),
+        ),
+        _ => expect_that(&rt, false),
     }
 }
 
-fn line(alloc: Global, edges: &[EdgeFacts]) -> Result<Vec<Edge>, Memory> {
+fn line(rt: &impl Abort, alloc: Global, edges: &[EdgeFacts]) -> Vec<Edge> {
     let mut steps = Steps::new();
     let mut made = Vec::new(alloc);
     for facts in edges {
-        made.push(Edge::make(*facts, &mut steps))?;
+        made.push(Edge::make(*facts, &mut steps))
+            .expect(rt, "memory");
     }
-    Ok(made)
+    made
 }
 
 /// Roads into 4 and 5. Edges out of order, and edges into another certificate, are not put.
-fn roads_of_two(alloc: Global) -> Result<(PlainRoads, bool), Memory> {
-    let mut roads = PlainRoads::new(alloc, b't');
+fn roads_of_two(rt: &impl Abort, alloc: Global) -> PlainRoads {
     let rows = [facts(1, 4, 2000, true), facts(2, 4, 0, false)];
-    let put = roads.put(key(4), true, line(alloc, &rows)?)?;
-    let empty = roads.put(key(5), false, Vec::new(alloc))?;
     let turned = [facts(2, 6, 2000, false), facts(1, 6, 2000, false)];
-    let out_of_order = roads.put(key(6), true, line(alloc, &turned)?)?;
-    let elsewhere = roads.put(key(6), true, line(alloc, &rows)?)?;
-    Ok((roads, put && empty && !out_of_order && !elsewhere))
+    let mut roads = PlainRoads::new(alloc, b't');
+    expect_that(
+        rt,
+        roads.put(key(4), true, line(rt, alloc, &rows)) == Ok(true),
+    );
+    expect_that(rt, roads.put(key(5), false, Vec::new(alloc)) == Ok(true));
+    expect_that(
+        rt,
+        roads.put(key(6), true, line(rt, alloc, &turned)) == Ok(false),
+    );
+    expect_that(
+        rt,
+        roads.put(key(6), true, line(rt, alloc, &rows)) == Ok(false),
+    );
+    roads
 }
 
 #[test]
 fn roads_in_memory(rt: HostRuntime) {
-    let (roads, put_so) = roads_of_two(rt.alloc()).expect(&rt, "memory");
-    assert!(rt; put_so);
-    assert!(rt; roads.rows(&key(4)).len() == 2 && roads.rows(&key(6)).is_empty());
-    assert!(rt; roads.in_order(&key(4), b"t") && !roads.in_order(&key(5), b"t"));
-    assert!(rt; !roads.in_order(&key(4), b"") && !roads.in_order(&key(6), b"t"));
-    assert!(rt; roads.place(&key(4), b"t") == Some(116) && roads.place(&key(4), b"tt").is_none());
-    assert!(rt; roads.place(&key(6), b"t").is_none());
+    let roads = roads_of_two(&rt, rt.alloc());
+    expect_that(
+        &rt,
+        roads.rows(&key(4)).len() == 2 && roads.rows(&key(6)).is_empty(),
+    );
+    expect_that(
+        &rt,
+        roads.in_order(&key(4), b"t") && !roads.in_order(&key(5), b"t"),
+    );
+    expect_that(
+        &rt,
+        !roads.in_order(&key(4), b"") && !roads.in_order(&key(6), b"t"),
+    );
+    expect_that(
+        &rt,
+        roads.place(&key(4), b"t") == Some(116) && roads.place(&key(4), b"tt").is_none(),
+    );
+    expect_that(&rt, roads.place(&key(6), b"t").is_none());
 }

@@ -1,5 +1,7 @@
+use crate::assertion::expect_that;
 use sha2::{Digest, Sha256};
 use std::alloc::Global;
+use std::process::Abort;
 use wot_gen::script;
 
 /// The script of the start 7 and of one key, in pieces, as a Python program with hashlib gives it.
@@ -35,19 +37,21 @@ static SCRIPTS: [(u64, u32, u64, &str); 2] = [
 ];
 
 /// The script of one key stands behind what stood there.
-fn is_appended(alloc: Global) -> Option<bool> {
-    let mut out = Vec::from_slice(alloc, b"# before\n").ok()?;
-    let lines = script(alloc, 7, 1, &mut out).ok()?;
-    let mut wanted = Vec::from_slice(alloc, b"# before\n").ok()?;
+fn is_appended(rt: &impl Abort, alloc: Global) -> bool {
+    let mut out = Vec::from_slice(alloc, b"# before\n").expect(rt, "memory");
+    let mut wanted = out.clone().expect(rt, "memory");
+    let lines = script(alloc, 7, 1, &mut out).expect(rt, "memory");
     for piece in &SINGLE {
-        wanted.extend_from_slice(piece.as_bytes()).ok()?;
+        wanted
+            .extend_from_slice(piece.as_bytes())
+            .expect(rt, "memory");
     }
-    Some(lines == 9 && out == wanted)
+    lines == 9 && out == wanted
 }
 
 #[test]
 fn one_key_behind_other_text(rt: HostRuntime) {
-    assert!(rt; is_appended(rt.alloc()) == Some(true));
+    expect_that(&rt, is_appended(&rt, rt.alloc()));
 }
 
 /// Whether this is the SHA-256 of the octets, in digits.
@@ -61,7 +65,10 @@ fn has_digest(octets: &[u8], digest: &str) -> bool {
 fn scripts_of_a_start_and_a_count(rt: HostRuntime) {
     for (start, count, lines, digest) in &SCRIPTS {
         let mut out = Vec::new(rt.alloc());
-        assert!(rt; script(rt.alloc(), *start, *count, &mut out) == Ok(*lines));
-        assert!(rt; has_digest(&out, digest));
+        expect_that(
+            &rt,
+            script(rt.alloc(), *start, *count, &mut out) == Ok(*lines),
+        );
+        expect_that(&rt, has_digest(&out, digest));
     }
 }

@@ -3,7 +3,9 @@ ghost use Rattle.std.specs.Prelude.{codes, ◌++◌};
 ghost use Rattle.wot_io.specs.Input.{lines_of, whole_lines_of};
 ghost use Rattle.wot_io.specs.Memory.{room_left};
 
+use crate::assertion::expect_that;
 use std::alloc::Global;
+use std::process::Abort;
 use wot_io::{
     Failed, Line, Lines, LinesFault, MemorySink, MemorySource, Sink, Source, StdSink, StdSource,
     write_all,
@@ -12,13 +14,13 @@ use wot_io::{
 /// What `next` answers up to the end, or up to the fourth fault, as text: a line is `t..|`, or `T|` where it is as long
 /// as a line may be; `l` is `Long`, `.` the end, `r` and `m` are the faults. A `!` follows where `text` gives something
 /// after another answer than `Text`.
-fn answers<S: Source>(alloc: Global, source: &mut S) -> Option<Vec<u8>> {
-    let mut lines = Lines::new(alloc).ok()?;
+fn answers<S: Source>(rt: &impl Abort, alloc: Global, source: &mut S) -> Vec<u8> {
+    let mut lines = Lines::new(alloc).expect(rt, "memory");
     let mut seen = Vec::new(alloc);
     let mut faults = 0u8;
     for _ in 0..1000 {
         let answer = lines.next(source);
-        tell(answer, lines.text(), &mut seen)?;
+        tell(rt, answer, lines.text(), &mut seen);
         if answer.is_err() {
             faults = faults.saturating_add(1);
         }
@@ -26,42 +28,34 @@ fn answers<S: Source>(alloc: Global, source: &mut S) -> Option<Vec<u8>> {
             break;
         }
     }
-    Some(seen)
+    seen
 }
 
-/// Whether that is what `next` answers.
-fn is_answered<S: Source>(alloc: Global, source: &mut S, want: &[u8]) -> bool {
-    match answers(alloc, source) {
-        Some(seen) => seen.as_slice() == want,
-        None => false,
-    }
-}
-
-fn tell(answer: Result<Line, LinesFault>, text: &[u8], seen: &mut Vec<u8>) -> Option<()> {
+fn tell(rt: &impl Abort, answer: Result<Line, LinesFault>, text: &[u8], seen: &mut Vec<u8>) {
     let word = match answer {
-        Ok(Line::Text) => return tell_text(text, seen),
+        Ok(Line::Text) => return tell_text(rt, text, seen),
         Ok(Line::Long) => b'l',
         Ok(Line::End) => b'.',
         Err(LinesFault::ReadFault) => b'r',
         Err(LinesFault::TooMuch) => b'm',
     };
-    seen.push(word).ok()?;
+    seen.push(word).expect(rt, "memory");
     if !text.is_empty() {
-        seen.push(b'!').ok()?;
+        seen.push(b'!').expect(rt, "memory");
     }
-    Some(())
 }
 
 /// How long a line may be.
 const LONGEST: usize = 16_777_216;
 
-fn tell_text(text: &[u8], seen: &mut Vec<u8>) -> Option<()> {
+fn tell_text(rt: &impl Abort, text: &[u8], seen: &mut Vec<u8>) {
     if text.len() == LONGEST {
-        return seen.extend_from_slice(b"T|").ok();
+        seen.push(b'T').expect(rt, "memory");
+    } else {
+        seen.push(b't').expect(rt, "memory");
+        seen.extend_from_slice(text).expect(rt, "memory");
     }
-    seen.push(b't').ok()?;
-    seen.extend_from_slice(text).ok()?;
-    seen.push(b'|').ok()
+    seen.push(b'|').expect(rt, "memory");
 }
 
 /// The definitions of lines, worked out on "a", a carriage return alone, nothing, and "b".
@@ -88,11 +82,12 @@ static PARTS: [(&[u8], &[u8]); 9] = [
     (b"\0\xff\n\x0b\n", b"t\0\xff|t\x0b|."),
 ];
 
-/// Whether the lines of these octets, in pieces of so many, are told so, where the read of this number fails.
-fn is_told(alloc: Global, input: &[u8], piece: usize, failing: u64, want: &[u8]) -> Option<bool> {
-    let fails = [failing].to_vec(alloc).ok()?;
-    let mut source = MemorySource::new(input.to_vec(alloc).ok()?, piece.max(1), fails);
-    Some(is_answered(alloc, &mut source, want))
+/// What is answered of these octets, in pieces of so many, where the read of this number fails.
+fn told(rt: &impl Abort, alloc: Global, input: &[u8], piece: usize, failing: u64) -> Vec<u8> {
+    let input = input.to_vec(alloc).expect(rt, "memory");
+    let fails = [failing].to_vec(alloc).expect(rt, "memory");
+    let mut source = MemorySource::new(input, piece.max(1), fails);
+    answers(rt, alloc, &mut source)
 }
 
 #[test]
@@ -100,7 +95,10 @@ fn lines_are_the_parts_between_line_feeds(rt: HostRuntime) {
     rows();
     for (input, want) in &PARTS {
         for piece in [1, 5, 65536] {
-            assert!(rt; is_told(rt.alloc(), input, piece, 0, want) == Some(true));
+            expect_that(
+                &rt,
+                told(&rt, rt.alloc(), input, piece, 0).as_slice() == *want,
+            );
         }
     }
 }
@@ -117,7 +115,10 @@ static FAULTS: [(&[u8], u64, &[u8]); 5] = [
 #[test]
 fn a_read_fault_is_answered_again(rt: HostRuntime) {
     for (input, failing, want) in &FAULTS {
-        assert!(rt; is_told(rt.alloc(), input, 5, *failing, want) == Some(true));
+        expect_that(
+            &rt,
+            told(&rt, rt.alloc(), input, 5, *failing).as_slice() == *want,
+        );
     }
 }
 
@@ -188,16 +189,25 @@ fn long_source<'a>(size: u64, feeds: &'a [u64], piece: usize) -> Long<'a> {
 fn long_lines_and_many_octets(rt: HostRuntime) {
     for (size, feeds, piece, want) in &LONG_INPUTS {
         let mut source = long_source(*size, feeds, *piece);
-        assert!(rt; is_answered(rt.alloc(), &mut source, want));
-        assert!(rt; source.at <= MOST);
+        expect_that(
+            &rt,
+            answers(&rt, rt.alloc(), &mut source).as_slice() == *want,
+        );
+        expect_that(&rt, source.at <= MOST);
     }
 }
 
 #[test]
 fn each_read_offers_a_whole_piece_or_what_remains(rt: HostRuntime) {
     let mut source = long_source(MOST, &[], 65535);
-    assert!(rt; is_answered(rt.alloc(), &mut source, b"mmmm"));
-    assert!(rt; source.at == MOST && source.whole && source.offered == 16384);
+    expect_that(
+        &rt,
+        answers(&rt, rt.alloc(), &mut source).as_slice() == b"mmmm".as_slice(),
+    );
+    expect_that(
+        &rt,
+        source.at == MOST && source.whole && source.offered == 16384,
+    );
 }
 
 /// Takes so many octets of each piece, and keeps how many it was offered.
@@ -242,7 +252,7 @@ fn is_offered(alloc: Global, piece: usize, octets: &[u8], want: bool, offers: &[
 #[test]
 fn each_write_offers_all_that_remain(rt: HostRuntime) {
     for (piece, octets, want, offers) in &OFFERS {
-        assert!(rt; is_offered(rt.alloc(), *piece, octets, *want, offers));
+        expect_that(&rt, is_offered(rt.alloc(), *piece, octets, *want, offers));
     }
 }
 
@@ -256,16 +266,23 @@ static PREFIXES: [(usize, u64, bool, &[u8]); 5] = [
 ];
 
 /// Whether a sink with this room takes all of eight octets, and which, where the write of this number fails.
-fn takes(alloc: Global, room: usize, failing: u64, want: bool, written: &[u8]) -> Option<bool> {
-    let fails = [failing].to_vec(alloc).ok()?;
-    let mut sink = MemorySink::new(alloc, 3, room, fails).ok()?;
-    Some(write_all(&mut sink, b"abcdefgh").is_ok() == want && sink.written() == written)
+fn takes(
+    rt: &impl Abort,
+    alloc: Global,
+    room: usize,
+    failing: u64,
+    want: bool,
+    written: &[u8],
+) -> bool {
+    let fails = [failing].to_vec(alloc).expect(rt, "memory");
+    let mut sink = MemorySink::new(alloc, 3, room, fails).expect(rt, "memory");
+    write_all(&mut sink, b"abcdefgh").is_ok() == want && sink.written() == written
 }
 
 #[test]
 fn a_write_fault_leaves_a_prefix(rt: HostRuntime) {
     for (room, failing, want, written) in &PREFIXES {
-        assert!(rt; takes(rt.alloc(), *room, *failing, *want, written) == Some(true));
+        expect_that(&rt, takes(&rt, rt.alloc(), *room, *failing, *want, written));
     }
 }
 
@@ -290,8 +307,8 @@ fn write_to_full(sink: &mut MemorySink, piece: &[u8]) -> Result<usize, Failed>
 #[test]
 fn standard_forms(rt: HostRuntime) {
     let mut source = StdSource::new(rt.stdin());
-    assert!(rt; source.read(&mut []) == Ok(0));
+    expect_that(&rt, source.read(&mut []) == Ok(0));
     let mut sink = StdSink::new(rt.stdout());
-    assert!(rt; sink.write(b"") == Ok(0));
-    assert!(rt; sink.write(b"\n") == Ok(1));
+    expect_that(&rt, sink.write(b"") == Ok(0));
+    expect_that(&rt, sink.write(b"\n") == Ok(1));
 }

@@ -1,4 +1,6 @@
+use crate::assertion::expect_that;
 use std::alloc::Global;
+use std::process::Abort;
 use wot_pattern::{Matcher, PatternFault, one_reading, parse};
 use wot_types::Memory;
 
@@ -184,7 +186,7 @@ const ROWS: &str = "\
 ";
 
 /// How many rows of a table hold, up to the first that doesn't.
-fn rows_that_hold(alloc: Global, table: &str) -> Option<u32> {
+fn rows_that_hold(rt: &impl Abort, alloc: Global, table: &str) -> u32 {
     let (mut pattern, mut text) = (String::new(alloc), String::new(alloc));
     let (mut answer, mut is_behind, mut held) = (None, false, 0u32);
     for character in table.chars() {
@@ -192,7 +194,7 @@ fn rows_that_hold(alloc: Global, table: &str) -> Option<u32> {
             (None, sign) => answer = Some(answer_of(sign)),
             (Some(answered), '\n') => {
                 if answer_to(alloc, &pattern, &text) != answered {
-                    return Some(held);
+                    break;
                 }
                 pattern.clear();
                 text.clear();
@@ -201,32 +203,29 @@ fn rows_that_hold(alloc: Global, table: &str) -> Option<u32> {
             }
             (Some(_), '\t') => is_behind = true,
             (Some(_), other) => {
-                if is_behind {
-                    text.push(other).ok()?;
-                } else {
-                    pattern.push(other).ok()?;
-                }
+                let to = if is_behind { &mut text } else { &mut pattern };
+                to.push(other).expect(rt, "memory");
             }
         }
     }
-    Some(held)
+    held
 }
 
 #[test]
 fn answers_as_another_program(rt: HostRuntime) {
-    assert!(rt; rows_that_hold(rt.alloc(), ROWS) == Some(140));
+    expect_that(&rt, rows_that_hold(&rt, rt.alloc(), ROWS) == 140);
 }
 
 /// The text of so many times the one part and then so many times the other.
-fn repeated(alloc: Global, count: u32, first: &str, second: &str) -> Option<String> {
+fn repeated(rt: &impl Abort, alloc: Global, count: u32, first: &str, second: &str) -> String {
     let mut text = String::new(alloc);
     for _ in 0..count {
-        text.push_str(first).ok()?;
+        text.push_str(first).expect(rt, "memory");
     }
     for _ in 0..count {
-        text.push_str(second).ok()?;
+        text.push_str(second).expect(rt, "memory");
     }
-    Some(text)
+    text
 }
 
 /// Patterns at their bounds, in so many times two parts, and what they answer of `x`.
@@ -240,8 +239,8 @@ static BOUNDS: [(u32, &str, &str, Answer); 4] = [
 #[test]
 fn bounds_are_exact(rt: HostRuntime) {
     for (count, first, second, expected) in &BOUNDS {
-        let pattern = repeated(rt.alloc(), *count, first, second).expect(&rt, "memory");
-        assert!(rt; answer_to(rt.alloc(), &pattern, "x") == *expected);
+        let pattern = repeated(&rt, rt.alloc(), *count, first, second);
+        expect_that(&rt, answer_to(rt.alloc(), &pattern, "x") == *expected);
     }
 }
 
@@ -255,33 +254,37 @@ static AGAIN: [(&str, bool); 6] = [
     ("a", true),
 ];
 
-fn matcher_of(alloc: Global, pattern: &str) -> Option<Matcher> {
-    Matcher::new(alloc, parse(alloc, pattern).ok()?).ok()
+fn matcher_of(rt: &impl Abort, alloc: Global, pattern: &str) -> Matcher {
+    let pattern = parse(alloc, pattern).ok().expect(rt, "a pattern");
+    Matcher::new(alloc, pattern).expect(rt, "memory")
 }
 
 /// Texts of so many `a`, and what `^(a*)*$` answers: a repetition of a repetition has as many readings there as there
 /// are subsets of the places.
 static NESTED: [(u32, &str, Answer); 2] = [(2000, "", Matches), (2000, "b", Differs)];
 
-/// What a pattern answers to so many `a` and an end.
-fn answer_to_many(alloc: Global, count: u32, end: &str) -> Option<Answer> {
-    let mut text = repeated(alloc, count, "a", "")?;
-    text.push_str(end).ok()?;
-    Some(answer_to(alloc, "^(a*)*$", text.as_str()))
+/// What that pattern answers to so many `a` and an end.
+fn answer_to_many(rt: &impl Abort, alloc: Global, count: u32, end: &str) -> Answer {
+    let mut text = repeated(rt, alloc, count, "a", "");
+    text.push_str(end).expect(rt, "memory");
+    answer_to(alloc, "^(a*)*$", text.as_str())
 }
 
 #[test]
 fn nested_repetitions_take_no_turn_twice(rt: HostRuntime) {
     for (count, end, expected) in &NESTED {
-        assert!(rt; answer_to_many(rt.alloc(), *count, end) == Some(*expected));
+        expect_that(
+            &rt,
+            answer_to_many(&rt, rt.alloc(), *count, end) == *expected,
+        );
     }
 }
 
 #[test]
 fn matches_again(rt: HostRuntime) {
     one_reading();
-    let mut matcher = matcher_of(rt.alloc(), "^(a|bc)+$").expect(&rt, "a matcher");
+    let mut matcher = matcher_of(&rt, rt.alloc(), "^(a|bc)+$");
     for (text, expected) in &AGAIN {
-        assert!(rt; matcher.matches(text) == *expected);
+        expect_that(&rt, matcher.matches(text) == *expected);
     }
 }

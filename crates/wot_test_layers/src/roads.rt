@@ -1,8 +1,9 @@
 //! Networks and roots of keys that are repeated octets.
 use std::alloc::Global;
+use std::process::Abort;
 use wot_edge::plain::PlainRoads;
 use wot_edge::{Edge, EdgeFacts, Roots};
-use wot_types::{Fpr, Memory, Steps};
+use wot_types::{Fpr, Steps};
 
 pub(crate) const A: u8 = b'a';
 
@@ -39,28 +40,29 @@ fn edge(row: &Row, scoped: u8, gone: u8) -> Edge {
 
 /// The network of these edges, which are in the order of their issuers.
 pub(crate) fn network(
+    rt: &impl Abort,
     alloc: Global,
     rows: &[Row],
     scoped: u8,
     gone: u8,
-) -> Result<PlainRoads, Memory> {
+) -> PlainRoads {
     let mut roads = PlainRoads::new(alloc, T);
     for target in 1..100u8 {
         let mut edges = Vec::new(alloc);
         for row in rows {
             if row.1 == target {
-                edges.push(edge(row, scoped, gone))?;
+                edges.push(edge(row, scoped, gone)).expect(rt, "memory");
             }
         }
-        let _put = roads.put(key(target), true, edges)?;
+        let _put = roads.put(key(target), true, edges).expect(rt, "memory");
     }
-    Ok(roads)
+    roads
 }
 
-pub(crate) fn roots_of(alloc: Global, amounts: &[(u8, u8)]) -> Result<Roots, Memory> {
+pub(crate) fn roots_of(rt: &impl Abort, alloc: Global, amounts: &[(u8, u8)]) -> Roots {
     let mut roots = Roots::new(alloc);
     for (octet, amount) in amounts {
-        roots.set(key(*octet), *amount)?;
+        roots.set(key(*octet), *amount).expect(rt, "memory");
     }
-    Ok(roots)
+    roots
 }

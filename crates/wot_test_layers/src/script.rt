@@ -2,13 +2,16 @@ ghost use Rattle.std.specs.Prelude.{◌<◌};
 ghost use Rattle.wot_script.specs.Replies.{HasWords};
 ghost use Rattle.wot_script.specs.Spelling.{HasSpelling};
 
+use crate::assertion::expect_that;
+use crate::claims::{CHECK, is_claimed};
 use std::alloc::Global;
+use std::process::Abort;
 use wot_script::{
     AnswerLine, AnswerLines, BindLine, BindLines, Command, Hint, KeyLine, KeyLines, LineFault,
     Octets, PendingLine, PendingLines, ReasonLine, ReasonLines, Reply, print_command, print_reply,
     read_line,
 };
-use wot_types::{Fpr, Limit, SigNumber, UserId};
+use wot_types::{Fpr, Limit, SigNumber, UserId, ViewName};
 
 /// Lines. A tab stands behind a line that is a command, and then how that is printed, where it isn't printed as it was
 /// read. `$` and `&` stand for two fingerprints, the lesser one first, `%` for a signature number.
@@ -58,58 +61,69 @@ const GREATER: &[u8] = b"c95a000000000000000000000000000000000000";
 const NUMBER: &[u8] = b"0a0b0c0d0e0f101112131415161718191a1b1c1d1e1f20212223242526272829";
 
 /// Appends what an octet of a row stands for.
-fn put(octet: u8, line: &mut Vec<u8>) -> Option<()> {
-    match octet {
-        b'$' => line.extend_from_slice(FPR).ok(),
-        b'&' => line.extend_from_slice(GREATER).ok(),
-        b'%' => line.extend_from_slice(NUMBER).ok(),
-        other => line.push(other).ok(),
-    }
+fn put(rt: &impl Abort, octet: u8, line: &mut Vec<u8>) {
+    let put = match octet {
+        b'$' => line.extend_from_slice(FPR),
+        b'&' => line.extend_from_slice(GREATER),
+        b'%' => line.extend_from_slice(NUMBER),
+        other => line.extend_from_slice(&[other]),
+    };
+    expect_that(rt, put.is_ok());
 }
 
-/// Whether a command is wanted, and printed so.
-fn is_printed_as(alloc: Global, command: &Command, wanted: Option<&[u8]>) -> bool
+/// What a line is wanted to be: no command, one that is printed so, or the one of `word_of` with this word.
+#[derive(Clone, Copy)]
+enum Wanted<'a> {
+    Nothing,
+    Printed(&'a [u8]),
+    Fields(&'a str),
+}
+
+/// Whether a command is what is wanted.
+fn is_wanted(alloc: Global, command: &Command, wanted: Wanted<'_>) -> bool
     requires { HasSpelling command.now }
 {
-    let mut out = Vec::new(alloc);
-    let printed = print_command(command, &mut out);
     match wanted {
-        Some(wanted) => printed.is_ok() && out.as_slice() == wanted,
-        None => false,
+        Wanted::Nothing => false,
+        Wanted::Printed(text) => {
+            let mut out = Vec::new(alloc);
+            print_command(command, &mut out).is_ok() && out.as_slice() == text
+        }
+        Wanted::Fields(word) => word_of(command) == word,
     }
 }
 
-/// Whether a line is read, and printed so; `None` where it is no command.
-pub(crate) fn is_read_as(alloc: Global, line: &[u8], wanted: Option<&[u8]>) -> bool {
+/// Whether a line is read as what is wanted. Only here a command is dropped, whose drop is proved wherever there is one.
+fn is_read_as(alloc: Global, line: &[u8], wanted: Wanted<'_>) -> bool {
     match read_line(alloc, line) {
-        Ok(command) => is_printed_as(alloc, &command, wanted),
-        Err(LineFault::Line) => wanted.is_none(),
+        Ok(command) => is_wanted(alloc, &command, wanted),
+        Err(LineFault::Line) => matches!(wanted, Wanted::Nothing),
         Err(LineFault::Memory) => false,
     }
 }
 
 /// Whether a row holds, by what stands before its tab, whether it has one, and what stands behind.
-fn holds(alloc: Global, line: &[u8], is_command: bool, printed: &[u8]) -> bool {
-    if !is_command {
-        return is_read_as(alloc, line, None);
-    }
-    is_read_as(
-        alloc,
-        line,
-        Some(if printed.is_empty() { line } else { printed }),
-    )
+fn row_holds(alloc: Global, line: &[u8], is_command: bool, printed: &[u8]) -> bool {
+    let wanted = if !is_command {
+        Wanted::Nothing
+    } else if printed.is_empty() {
+        Wanted::Printed(line)
+    } else {
+        Wanted::Printed(printed)
+    };
+    is_read_as(alloc, line, wanted)
 }
 
 /// How many rows of a table hold, up to the first that doesn't.
-pub(crate) fn rows_that_hold(alloc: Global, table: &str) -> Option<u32> {
+pub(crate) fn rows_that_hold(rt: &impl Abort, alloc: Global, table: &str) -> u32 {
     let (mut line, mut printed) = (Vec::new(alloc), Vec::new(alloc));
     let (mut is_command, mut held) = (false, 0u32);
     for octet in table.as_bytes() {
         match octet {
             b'\t' => is_command = true,
             b'\n' => {
-                if !holds(alloc, &line, is_command, &printed) {
-                    return Some(held);
+                if !row_holds(alloc, &line, is_command, &printed) {
+                    break;
                 }
                 line.clear();
                 printed.clear();
@@ -117,161 +131,185 @@ pub(crate) fn rows_that_hold(alloc: Global, table: &str) -> Option<u32> {
                 held = held.saturating_add(1);
             }
             other => {
-                if is_command {
-                    put(*other, &mut printed)?;
-                } else {
-                    put(*other, &mut line)?;
-                }
+                let to = if is_command { &mut printed } else { &mut line };
+                put(rt, *other, to);
             }
         }
     }
-    Some(held)
+    held
 }
 
 #[test]
 fn lines_are_read_and_printed(rt: HostRuntime) {
-    assert!(rt; rows_that_hold(rt.alloc(), LINES) == Some(36));
+    expect_that(&rt, rows_that_hold(&rt, rt.alloc(), LINES) == 36);
 }
 
 const ISSUER: Fpr = Fpr::V4([0x12; 20]);
 
 const TARGET: Fpr = Fpr::V4([0xef; 20]);
 
-const ASK: &[u8] = b"ask v 1212121212121212121212121212121212121212 7 \\\\x";
+/// Lines whose fields `word_of` knows, behind its word for them.
+static FIELDS: [(&str, &str); 6] = [
+    (
+        "ask",
+        "ask v 1212121212121212121212121212121212121212 7 \\\\x",
+    ),
+    (
+        "explain",
+        "explain v 1212121212121212121212121212121212121212 \\\\x",
+    ),
+    ("list", "list v 7"),
+    (
+        "root",
+        "view v root 1212121212121212121212121212121212121212 9",
+    ),
+    ("import", "import c607"),
+    ("check", CHECK),
+];
 
-const LIST: &[u8] = b"list v 7";
+fn is_v(view: &ViewName) -> bool {
+    view.octets() == b"v".as_slice()
+}
 
-const EXPLAIN: &[u8] = b"explain v 1212121212121212121212121212121212121212 \\\\x";
+fn is_escaped(uid: &UserId) -> bool {
+    uid.octets() == b"\\x".as_slice()
+}
 
-const ROOT: &[u8] = b"view v root 1212121212121212121212121212121212121212 9";
-
-fn is_ask(alloc: Global) -> bool {
-    match read_line(alloc, ASK) {
-        Ok(Command::Ask(view, target, wanted, uid)) => {
-            view.octets() == b"v".as_slice()
-                && target == ISSUER
-                && wanted == 7
-                && uid.octets() == b"\\x".as_slice()
+/// The word for a command whose fields are those of the lines above; no word for any other.
+fn word_of(command: &Command) -> &'static str {
+    match command {
+        Command::Ask(view, target, wanted, uid) => {
+            if is_v(view) && *target == ISSUER && *wanted == 7 && is_escaped(uid) {
+                return "ask";
+            }
         }
-        _ => false,
-    }
-}
-
-fn is_explain(alloc: Global) -> bool {
-    match read_line(alloc, EXPLAIN) {
-        Ok(Command::Explain(view, target, uid)) => {
-            view.octets() == b"v".as_slice()
-                && target == ISSUER
-                && uid.octets() == b"\\x".as_slice()
+        Command::Explain(view, target, uid) => {
+            if is_v(view) && *target == ISSUER && is_escaped(uid) {
+                return "explain";
+            }
         }
-        _ => false,
-    }
-}
-
-fn is_list(alloc: Global) -> bool {
-    match read_line(alloc, LIST) {
-        Ok(Command::List(view, wanted)) => view.octets() == b"v".as_slice() && wanted == 7,
-        _ => false,
-    }
-}
-
-fn is_root(alloc: Global) -> bool {
-    match read_line(alloc, ROOT) {
-        Ok(Command::Root(view, root, amount)) => {
-            view.octets() == b"v".as_slice() && root == ISSUER && amount == 9
+        Command::List(view, wanted) => {
+            if is_v(view) && *wanted == 7 {
+                return "list";
+            }
         }
-        _ => false,
+        Command::Root(view, root, amount) => {
+            if is_v(view) && *root == ISSUER && *amount == 9 {
+                return "root";
+            }
+        }
+        Command::Import(octets) => {
+            if octets.items() == b"\xc6\x07".as_slice() {
+                return "import";
+            }
+        }
+        Command::Check(view, target, claims, labels, uid) => {
+            if is_v(view)
+                && *target == ISSUER
+                && is_claimed(claims, labels)
+                && uid.octets() == b"t".as_slice()
+            {
+                return "check";
+            }
+        }
+        _ => {}
     }
+    ""
 }
 
-fn import_gives_its_octets(alloc: Global) -> bool {
-    match read_line(alloc, b"import c607") {
-        Ok(Command::Import(octets)) => octets.items() == b"\xc6\x07".as_slice(),
-        _ => false,
+fn have_their_fields(alloc: Global) -> bool {
+    for (word, line) in &FIELDS {
+        if !is_read_as(alloc, line.as_bytes(), Wanted::Fields(word)) {
+            return false;
+        }
     }
+    true
 }
 
 #[test]
 fn fields_stand_in_their_order(rt: HostRuntime) {
-    assert!(rt; is_ask(rt.alloc()) && is_explain(rt.alloc()) && is_list(rt.alloc()));
-    assert!(rt; is_root(rt.alloc()) && import_gives_its_octets(rt.alloc()));
+    expect_that(&rt, have_their_fields(rt.alloc()));
 }
 
 /// Whether a reply is printed as this text, behind what stood there.
-fn is_printed(alloc: Global, reply: &Reply, text: &[u8]) -> Option<bool>
+fn is_printed(alloc: Global, reply: &Reply, text: &[u8]) -> bool
     requires { HasWords reply.now }
 {
-    let mut out = Vec::from_slice(alloc, b"> ").ok()?;
-    print_reply(reply, &mut out).ok()?;
-    let mut wanted = Vec::from_slice(alloc, b"> ").ok()?;
-    wanted.extend_from_slice(text).ok()?;
-    Some(out == wanted)
+    let mut out = Vec::new(alloc);
+    out.push(b'>').is_ok()
+        && print_reply(reply, &mut out).is_ok()
+        && out.first() == Some(&b'>')
+        && out.iter().skip(1).eq(text)
 }
 
-/// The same of a reply other than that of `explain`.
-pub(crate) fn is_printed_without_words(alloc: Global, reply: &Reply, text: &[u8]) -> bool {
-    match reply {
-        Reply::Explained(_, _, _) => false,
-        _ => is_printed(alloc, reply, text) == Some(true),
-    }
+/// The same of a reply that is dropped here, and only here: its drop is proved wherever there is one.
+pub(crate) fn prints(alloc: Global, reply: Reply, text: &str) -> bool
+    requires { HasWords reply }
+{
+    is_printed(alloc, &reply, text.as_bytes())
 }
 
-/// Replies of one line, and how they are printed.
-const SHORT: [(Reply, &str); 11] = [
-    (Reply::Taken(2, 1, 20), "ok taken 2 skipped 1 new 20\n"),
-    (Reply::Done, "ok\n"),
-    (Reply::Shelf, "fault shelf\n"),
-    (Reply::Packet(3, 0), "refused packet 3 0\n"),
-    (Reply::Kind(9, 18), "refused kind 9 18\n"),
-    (Reply::Full(Limit::Views), "refused full views\n"),
-    (Reply::StaleKeyring(3, 4), "stale keyring 3 4\n"),
-    (Reply::FullCursors, "refused full cursors\n"),
-    (Reply::Reached(16320), "absence reached 16320\n"),
-    (Reply::CheckedYes(u32::MAX), "checked yes 4294967295\n"),
-    (Reply::CheckedNoTable, "checked no table\n"),
-];
+fn short_ones_are_printed(alloc: Global) -> bool {
+    prints(
+        alloc,
+        Reply::Taken(2, 1, 20),
+        "ok taken 2 skipped 1 new 20\n",
+    ) && prints(alloc, Reply::Done, "ok\n")
+        && prints(alloc, Reply::StaleKeyring(3, 4), "stale keyring 3 4\n")
+        && prints(alloc, Reply::Reached(16320), "absence reached 16320\n")
+        && prints(
+            alloc,
+            Reply::CheckedYes(u32::MAX),
+            "checked yes 4294967295\n",
+        )
+        && prints(alloc, Reply::CheckedNoTable, "checked no table\n")
+}
 
-#[test]
-fn replies_of_one_line_are_printed(rt: HostRuntime) {
-    for (reply, text) in &SHORT {
-        assert!(rt; is_printed_without_words(rt.alloc(), reply, text.as_bytes()));
-    }
+fn refusals_are_printed(alloc: Global) -> bool {
+    prints(alloc, Reply::Shelf, "fault shelf\n")
+        && prints(alloc, Reply::Packet(3, 0), "refused packet 3 0\n")
+        && prints(alloc, Reply::Kind(9, 18), "refused kind 9 18\n")
+        && prints(alloc, Reply::Full(Limit::Views), "refused full views\n")
+        && prints(alloc, Reply::FullCursors, "refused full cursors\n")
 }
 
 /// These octets and one more.
-fn octets(alloc: Global, octets: &[u8], last: u8) -> Option<Octets> {
-    let mut taken = Octets::from_vec(Vec::from_slice(alloc, octets).ok()?);
-    taken.push(last).ok()?;
-    Some(Octets::from_vec(taken.into_vec()))
+fn octets(rt: &impl Abort, alloc: Global, octets: &[u8], last: u8) -> Octets {
+    let mut taken = Octets::from_vec(Vec::from_slice(alloc, octets).expect(rt, "memory"));
+    taken.push(last).expect(rt, "memory");
+    Octets::from_vec(taken.into_vec())
 }
 
-fn export_and_dump_are_printed(alloc: Global) -> Option<bool> {
-    let export = Reply::Export(octets(alloc, b"\xc6", 0x0f)?);
-    let dump = Reply::Dump(2, octets(alloc, b"keys\ndump", b'\n')?);
-    let none = Reply::Dump(0, Octets::new(alloc));
-    Some(
-        is_printed_without_words(alloc, &export, b"export c60f\n")
-            && is_printed_without_words(alloc, &dump, b"dump 2\nkeys\ndump\n")
-            && is_printed_without_words(alloc, &none, b"dump 0\n"),
-    )
+fn export_and_dump_are_printed(rt: &impl Abort, alloc: Global) -> bool {
+    let export = octets(rt, alloc, b"\xc6", 0x0f);
+    let dump = octets(rt, alloc, b"keys\ndump", b'\n');
+    let exported = prints(alloc, Reply::Export(export), "export c60f\n");
+    let dumped = prints(alloc, Reply::Dump(2, dump), "dump 2\nkeys\ndump\n");
+    exported && dumped && prints(alloc, Reply::Dump(0, Octets::new(alloc)), "dump 0\n")
 }
 
 const ANSWER: &str = "amount 60 paths 1\n\
       path 60 steps 1 root 1212121212121212121212121212121212121212\n\
       step 1212121212121212121212121212121212121212 efefefefefefefefefefefefefefefefefefefef 255 120 \\xc3\\xa9 \\\\\n";
 
-fn answers_are_printed(alloc: Global) -> Option<bool> {
+fn answers_are_printed(rt: &impl Abort, alloc: Global) -> bool {
     let mut lines = AnswerLines::new(alloc);
-    lines.push(AnswerLine::Path(60, 1, ISSUER)).ok()?;
-    let uid = UserId::new(alloc, b"\xc3\xa9 \\").ok()?;
+    let uid = UserId::new(alloc, b"\xc3\xa9 \\").expect(rt, "memory");
+    lines
+        .push(AnswerLine::Path(60, 1, ISSUER))
+        .expect(rt, "memory");
     lines
         .push(AnswerLine::Step(ISSUER, TARGET, 255, 120, uid))
-        .ok()?;
-    let some = Reply::Amount(60, 1, AnswerLines::from_vec(lines.into_vec()));
-    let none = Reply::Amount(0, 0, AnswerLines::new(alloc));
-    Some(
-        is_printed_without_words(alloc, &some, ANSWER.as_bytes())
-            && is_printed_without_words(alloc, &none, b"amount 0 paths 0\n"),
+        .expect(rt, "memory");
+    let some = prints(
+        alloc,
+        Reply::Amount(60, 1, AnswerLines::from_vec(lines.into_vec())),
+        ANSWER,
+    );
+    some && prints(
+        alloc,
+        Reply::Amount(0, 0, AnswerLines::new(alloc)),
+        "amount 0 paths 0\n",
     )
 }
 
@@ -279,26 +317,34 @@ const KEYS: &str = "keys 2\n\
     key efefefefefefefefefefefefefefefefefefefef 0 1\n\
     key 1212121212121212121212121212121212121212 10 0\n";
 
-fn keys_are_printed(alloc: Global) -> Option<bool> {
+fn keys_are_printed(rt: &impl Abort, alloc: Global) -> bool {
     let mut lines = KeyLines::new(alloc);
-    lines.push(KeyLine(TARGET, 0, 1)).ok()?;
-    lines.push(KeyLine(ISSUER, 10, 0)).ok()?;
-    let keys = Reply::Keys(2, KeyLines::from_vec(lines.into_vec()));
-    Some(is_printed_without_words(alloc, &keys, KEYS.as_bytes()))
+    lines.push(KeyLine(TARGET, 0, 1)).expect(rt, "memory");
+    lines.push(KeyLine(ISSUER, 10, 0)).expect(rt, "memory");
+    prints(
+        alloc,
+        Reply::Keys(2, KeyLines::from_vec(lines.into_vec())),
+        KEYS,
+    )
 }
 
 const LISTED: &str = "list 2\n\
     bind 120 1212121212121212121212121212121212121212 \\\\ \\x7f\n\
     bind 4294967295 efefefefefefefefefefefefefefefefefefefef \n";
 
-fn bindings_are_printed(alloc: Global) -> Option<bool> {
+fn bindings_are_printed(rt: &impl Abort, alloc: Global) -> bool {
     let mut lines = BindLines::new(alloc);
-    let uid = UserId::new(alloc, b"\\ \x7f").ok()?;
-    lines.push(BindLine(120, ISSUER, uid)).ok()?;
-    let uid = UserId::new(alloc, b"").ok()?;
-    lines.push(BindLine(u32::MAX, TARGET, uid)).ok()?;
-    let list = Reply::List(2, BindLines::from_vec(lines.into_vec()));
-    Some(is_printed_without_words(alloc, &list, LISTED.as_bytes()))
+    let uid = UserId::new(alloc, b"\\ \x7f").expect(rt, "memory");
+    lines.push(BindLine(120, ISSUER, uid)).expect(rt, "memory");
+    let uid = UserId::new(alloc, b"").expect(rt, "memory");
+    lines
+        .push(BindLine(u32::MAX, TARGET, uid))
+        .expect(rt, "memory");
+    prints(
+        alloc,
+        Reply::List(2, BindLines::from_vec(lines.into_vec())),
+        LISTED,
+    )
 }
 
 const SIGNATURE: SigNumber = SigNumber([0x0a; 32]);
@@ -311,42 +357,56 @@ const WAITING: &str = "pending 3\n\
     sig 0a0a0a0a0a0a0a0a0a0a0a0a0a0a0a0a0a0a0a0a0a0a0a0a0a0a0a0a0a0a0a0a \
     efefefefefefefefefefefefefefefefefefefef -\n";
 
-const SHORT_ID: Hint = Hint::Short([0, 1, 0xab, 3, 4, 5, 6, 7]);
+static HINTS: [Hint; 3] = [
+    Hint::Full(ISSUER),
+    Hint::Short([0, 1, 0xab, 3, 4, 5, 6, 7]),
+    Hint::Nothing,
+];
 
-fn waiting_are_printed(alloc: Global) -> Option<bool> {
+fn waiting_are_printed(rt: &impl Abort, alloc: Global) -> bool {
     let mut lines = PendingLines::new(alloc);
-    lines
-        .push(PendingLine(SIGNATURE, TARGET, Hint::Full(ISSUER)))
-        .ok()?;
-    lines.push(PendingLine(SIGNATURE, TARGET, SHORT_ID)).ok()?;
-    lines
-        .push(PendingLine(SIGNATURE, TARGET, Hint::Nothing))
-        .ok()?;
-    let pending = Reply::Pending(3, PendingLines::from_vec(lines.into_vec()));
-    Some(is_printed_without_words(alloc, &pending, WAITING.as_bytes()))
-}
-
-#[test]
-fn replies_of_many_lines_are_printed(rt: HostRuntime) {
-    assert!(rt; export_and_dump_are_printed(rt.alloc()) == Some(true));
-    assert!(rt; answers_are_printed(rt.alloc()) == Some(true));
-    assert!(rt; keys_are_printed(rt.alloc()) == Some(true));
-    assert!(rt; bindings_are_printed(rt.alloc()) == Some(true));
-    assert!(rt; waiting_are_printed(rt.alloc()) == Some(true));
+    for hint in &HINTS {
+        lines
+            .push(PendingLine(SIGNATURE, TARGET, *hint))
+            .expect(rt, "memory");
+    }
+    prints(
+        alloc,
+        Reply::Pending(3, PendingLines::from_vec(lines.into_vec())),
+        WAITING,
+    )
 }
 
 const EXPLAINED: &str = "explain soft 1\n\
     cert 0a0a0a0a0a0a0a0a0a0a0a0a0a0a0a0a0a0a0a0a0a0a0a0a0a0a0a0a0a0a0a0a edge \
     1212121212121212121212121212121212121212 7 60\n";
 
-fn edge_is_told(alloc: Global) -> Option<bool> {
+fn an_edge_is_told(rt: &impl Abort, alloc: Global) -> bool {
     let mut lines = ReasonLines::new(alloc);
-    lines.push(ReasonLine::Edge(SIGNATURE, ISSUER, 7, 60)).ok()?;
-    let lines = ReasonLines::from_vec(lines.into_vec());
-    is_printed(alloc, &Reply::Explained(5, 1, lines), EXPLAINED.as_bytes())
+    lines
+        .push(ReasonLine::Edge(SIGNATURE, ISSUER, 7, 60))
+        .expect(rt, "memory");
+    prints(
+        alloc,
+        Reply::Explained(5, 1, ReasonLines::from_vec(lines.into_vec())),
+        EXPLAINED,
+    )
 }
 
 #[test]
-fn an_edge_is_told(rt: HostRuntime) {
-    assert!(rt; edge_is_told(rt.alloc()) == Some(true));
+fn replies_are_printed(rt: HostRuntime) {
+    expect_that(
+        &rt,
+        short_ones_are_printed(rt.alloc()) && refusals_are_printed(rt.alloc()),
+    );
+    expect_that(&rt, export_and_dump_are_printed(&rt, rt.alloc()));
+    expect_that(&rt, answers_are_printed(&rt, rt.alloc()));
+    expect_that(
+        &rt,
+        keys_are_printed(&rt, rt.alloc()) && bindings_are_printed(&rt, rt.alloc()),
+    );
+    expect_that(
+        &rt,
+        waiting_are_printed(&rt, rt.alloc()) && an_edge_is_told(&rt, rt.alloc()),
+    );
 }

@@ -1,16 +1,16 @@
-ghost use Rattle.std.specs.Prelude.{IfOk};
 ghost use Rattle.wot_edge.specs.Plain.{told_of};
 ghost use Rattle.wot_search.specs.Reach.{IsReach};
 
+use crate::assertion::expect_that;
 use crate::roads::{A, B, C, Row, T, key, network, roots_of};
 use std::alloc::Global;
+use std::process::Abort;
 use wot_edge::plain::PlainRoads;
-use wot_edge::{Path, Roads, Roots, Used};
+use wot_edge::{Path, Roads, Roots, Step, Used};
 use wot_search::{
     Asked, Consulted, Reach, Unnoted, make_reach, next_offered, next_path, next_path_within,
     next_paths_within,
 };
-use wot_types::Memory;
 
 /// A question about a user ID of the key 4, and its first two paths: the amount, 0 for none, and the
 /// issuers and user IDs of the steps. The edges of `scoped` have a scope in which the user ID `t` is
@@ -116,37 +116,38 @@ static CASES: [Case; 8] = [
 
 /// The next path to a user ID of the key 4.
 fn next_to(
+    rt: &impl Abort,
     alloc: Global,
     roads: &PlainRoads,
     roots: &Roots,
     used: &Used,
     uid: u8,
-) -> Result<Option<Path>, Memory> {
+) -> Option<Path> {
     let mut consulted = Consulted::new(alloc);
-    next_path(alloc, roads, roots, used, &key(4), &[uid], &mut consulted)
+    next_path(alloc, roads, roots, used, &key(4), &[uid], &mut consulted).expect(rt, "memory")
 }
 
 /// How far the keys reach.
-fn reach_of(alloc: Global, roads: &PlainRoads, roots: &Roots) -> Result<Reach, Memory>
-    ensures reach { IfOk result (λ reach. IsReach (told_of roads.now) roots.now reach) }
+fn reach_of(rt: &impl Abort, alloc: Global, roads: &PlainRoads, roots: &Roots) -> Reach
+    ensures reach { IsReach (told_of roads.now) roots.now result }
 {
     let mut fprs = Vec::new(alloc);
     for octet in 1..100u8 {
-        fprs.push(key(octet))?;
+        fprs.push(key(octet)).expect(rt, "memory");
     }
-    let reach = make_reach(alloc, roads, roots, &fprs)?;
-    Ok(reach)
+    make_reach(alloc, roads, roots, &fprs).expect(rt, "memory")
 }
 
 /// The same by a search within reach.
 fn next_within<R: Roads>(
+    rt: &impl Abort,
     alloc: Global,
     roads: &R,
     roots: &Roots,
     reach: &Reach,
     used: &Used,
     uid: u8,
-) -> Result<Option<Path>, Memory>
+) -> Option<Path>
     requires reach { IsReach (R.told roads.now) roots.now reach.now }
 {
     let target = key(4);
@@ -157,70 +158,73 @@ fn next_within<R: Roads>(
         target: &target,
         uid: &uid,
     };
-    next_path_within(alloc, roads, &asked, used, &mut Unnoted)
+    next_path_within(alloc, roads, &asked, used, &mut Unnoted).expect(rt, "memory")
 }
 
 /// What this one path uses.
-fn used_by(alloc: Global, path: &Option<Path>) -> Result<Used, Memory> {
+fn used_by(rt: &impl Abort, alloc: Global, path: &Option<Path>) -> Used {
     let mut used = Used::new(alloc);
     if let Some(path) = path {
         // An octet, so that the sums fit.
         let _amount = path.amount;
-        used.add(path)?;
+        used.add(path).expect(rt, "memory");
     }
-    Ok(used)
+    used
 }
 
-fn has_steps(path: &Path, steps: &[(u8, u8)]) -> bool {
-    if path.steps.as_slice().len() != steps.len() {
-        return false;
-    }
-    for (step, (issuer, uid)) in path.steps.as_slice().iter().zip(steps) {
+fn are_steps(found: &[Step], steps: &[(u8, u8)]) -> bool {
+    let mut rest = found;
+    for (issuer, uid) in steps {
+        let Some((step, others)) = rest.split_first() else {
+            return false;
+        };
         if step.issuer != key(*issuer) || step.uid != *uid as u32 {
             return false;
         }
+        rest = others;
     }
-    true
+    rest.is_empty()
 }
 
 /// Whether this path was found; one of amount 0 is none.
 fn is_found(found: &Option<Path>, amount: u8, steps: &[(u8, u8)]) -> bool {
     match found {
         None => amount == 0,
-        Some(path) => path.amount == amount && has_steps(path, steps),
+        Some(path) => path.amount == amount && are_steps(path.steps.as_slice(), steps),
     }
 }
 
 /// Whether a search and one within reach find this path.
 fn both_find(
+    rt: &impl Abort,
     alloc: Global,
     roads: &PlainRoads,
     roots: &Roots,
     used: &Used,
     uid: u8,
     wanted: (u8, &[(u8, u8)]),
-) -> Result<bool, Memory> {
-    let reach = reach_of(alloc, roads, roots)?;
-    let found = next_to(alloc, roads, roots, used, uid)?;
-    let within = next_within(alloc, roads, roots, &reach, used, uid)?;
-    Ok(is_found(&found, wanted.0, wanted.1) && is_found(&within, wanted.0, wanted.1))
+) -> bool {
+    let reach = reach_of(rt, alloc, roads, roots);
+    let found = next_to(rt, alloc, roads, roots, used, uid);
+    let within = next_within(rt, alloc, roads, roots, &reach, used, uid);
+    is_found(&found, wanted.0, wanted.1) && is_found(&within, wanted.0, wanted.1)
 }
 
 /// Whether the first two paths are found.
-fn are_found(alloc: Global, case: &Case) -> Result<bool, Memory> {
-    let roads = network(alloc, case.rows, case.scoped, case.gone)?;
-    let roots = roots_of(alloc, case.roots)?;
+fn are_found(rt: &impl Abort, alloc: Global, case: &Case) -> bool {
+    let roads = network(rt, alloc, case.rows, case.scoped, case.gone);
+    let roots = roots_of(rt, alloc, case.roots);
     let none = Used::new(alloc);
-    let first = next_to(alloc, &roads, &roots, &none, case.uid)?;
-    let used = used_by(alloc, &first)?;
-    let found = both_find(alloc, &roads, &roots, &none, case.uid, case.first)?;
-    Ok(found && both_find(alloc, &roads, &roots, &used, case.uid, case.second)?)
+    let first = next_to(rt, alloc, &roads, &roots, &none, case.uid);
+    let used = used_by(rt, alloc, &first);
+    both_find(rt, alloc, &roads, &roots, &none, case.uid, case.first)
+        && both_find(rt, alloc, &roads, &roots, &used, case.uid, case.second)
 }
 
 #[test]
 fn first_two_paths(rt: HostRuntime) {
     for case in &CASES {
-        assert!(rt; are_found(rt.alloc(), case) == Ok(true));
+        expect_that(&rt, are_found(&rt, rt.alloc(), case));
     }
 }
 
@@ -232,20 +236,19 @@ static HUB: [Row; 4] = [
     Row(5, 2, A, 1, 1),
 ];
 
-/// The next paths of three roots, and what is the first of no earlier offers.
-fn hub_offers(alloc: Global) -> Result<(Vec<Path>, Option<Path>), Memory> {
-    let roads = network(alloc, &HUB, 0, 0)?;
-    let roots = roots_of(alloc, &[(1, 1), (3, 1), (5, 1)])?;
-    let reach = reach_of(alloc, &roads, &roots)?;
-    offers_within(alloc, &roads, &roots, &reach)
+/// Whether the one path of this root was found.
+fn is_way(path: &Path, root: u8) -> bool {
+    path.amount == 1 && are_steps(path.steps.as_slice(), &[(root, A), (2, T)])
 }
 
-fn offers_within<R: Roads>(
+/// Whether the next paths of three roots are so, and the first of no earlier offers.
+fn are_offered<R: Roads>(
+    rt: &impl Abort,
     alloc: Global,
     roads: &R,
     roots: &Roots,
     reach: &Reach,
-) -> Result<(Vec<Path>, Option<Path>), Memory>
+) -> bool
     requires reach { IsReach (R.told roads.now) roots.now reach.now }
 {
     let none = Used::new(alloc);
@@ -257,30 +260,40 @@ fn offers_within<R: Roads>(
         target: &target,
         uid: &uid,
     };
-    let all = next_paths_within(alloc, roads, &asked, &none, &mut Unnoted)?;
     let mut offers = Vec::new(alloc);
-    let first = next_offered(alloc, roads, &asked, &none, &mut offers, &mut Unnoted)?;
-    Ok((all, first))
+    let all = next_paths_within(alloc, roads, &asked, &none, &mut Unnoted).expect(rt, "memory");
+    let first = next_offered(alloc, roads, &asked, &none, &mut offers, &mut Unnoted).expect(
+        rt, "memory",
+    );
+    match all.as_slice() {
+        [one, three, five] => {
+            is_way(one, 1)
+                && is_way(three, 3)
+                && is_way(five, 5)
+                && is_found(&first, 1, &[(1, A), (2, T)])
+        }
+        _ => false,
+    }
 }
 
 #[test]
 fn roots_behind_one_key(rt: HostRuntime) {
-    let (all, first) = hub_offers(rt.alloc()).expect(&rt, "memory");
-    assert!(rt; all.len() == 3);
-    for (path, root) in all.iter().zip(&[1u8, 3, 5]) {
-        assert!(rt; path.amount == 1 && has_steps(path, &[(*root, A), (2, T)]));
-    }
-    assert!(rt; is_found(&first, 1, &[(1, A), (2, T)]));
+    let roads = network(&rt, rt.alloc(), &HUB, 0, 0);
+    let roots = roots_of(&rt, rt.alloc(), &[(1, 1), (3, 1), (5, 1)]);
+    let reach = reach_of(&rt, rt.alloc(), &roads, &roots);
+    expect_that(&rt, are_offered(&rt, rt.alloc(), &roads, &roots, &reach));
 }
 
 /// What a search for the user ID `t` of the key 4 looks at.
-fn looked_at(alloc: Global, rows: &[Row]) -> Result<Consulted, Memory> {
-    let roads = network(alloc, rows, 0, 0)?;
-    let roots = roots_of(alloc, &[(1, 120)])?;
+fn looked_at(rt: &impl Abort, alloc: Global, rows: &[Row]) -> Consulted {
+    let roads = network(rt, alloc, rows, 0, 0);
+    let roots = roots_of(rt, alloc, &[(1, 120)]);
     let used = Used::new(alloc);
     let mut consulted = Consulted::new(alloc);
-    let _found = next_path(alloc, &roads, &roots, &used, &key(4), &[T], &mut consulted)?;
-    Ok(consulted)
+    let _found = next_path(alloc, &roads, &roots, &used, &key(4), &[T], &mut consulted).expect(
+        rt, "memory",
+    );
+    consulted
 }
 
 /// B has no depth for A's edge, so A isn't looked at.
@@ -312,11 +325,11 @@ fn are_these(consulted: &Consulted, octets: &[u8]) -> bool {
 
 #[test]
 fn what_is_consulted(rt: HostRuntime) {
-    let consulted = looked_at(rt.alloc(), &LOOKED_AT).expect(&rt, "memory");
+    let consulted = looked_at(&rt, rt.alloc(), &LOOKED_AT);
     for (octet, had) in &SEEN {
-        assert!(rt; consulted.has(&key(*octet)) == *had);
+        expect_that(&rt, consulted.has(&key(*octet)) == *had);
     }
-    assert!(rt; are_these(&consulted, &[1, 3, 4]));
+    expect_that(&rt, are_these(&consulted, &[1, 3, 4]));
 }
 
 // The edge of 5 isn't usable, that into 7 has no amount, and 9 is no root and nobody's target. 100 isn't told of.
@@ -332,16 +345,12 @@ static REACHING: [Row; 7] = [
 
 static REACH: [(u8, u8); 6] = [(1, 255), (2, 7), (3, 3), (5, 255), (7, 0), (100, 255)];
 
-fn table_of_reach(alloc: Global) -> Result<Reach, Memory> {
-    let roads = network(alloc, &REACHING, 0, 5)?;
-    let roots = roots_of(alloc, &[(1, 120), (5, 120)])?;
-    reach_of(alloc, &roads, &roots)
-}
-
 #[test]
 fn how_far_keys_reach(rt: HostRuntime) {
-    let reach = table_of_reach(rt.alloc()).expect(&rt, "memory");
+    let roads = network(&rt, rt.alloc(), &REACHING, 0, 5);
+    let roots = roots_of(&rt, rt.alloc(), &[(1, 120), (5, 120)]);
+    let reach = reach_of(&rt, rt.alloc(), &roads, &roots);
     for (octet, number) in &REACH {
-        assert!(rt; reach.get(&key(*octet)) == *number);
+        expect_that(&rt, reach.get(&key(*octet)) == *number);
     }
 }

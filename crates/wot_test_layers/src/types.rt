@@ -1,5 +1,7 @@
+use crate::assertion::expect_that;
 use std::alloc::Global;
 use std::cmp::Ordering;
+use std::process::Abort;
 use wot_types::{
     Fpr, Limit, Limits, Name, SigNumber, Steps, UserId, ViewName, compare_fprs, compare_numbers,
     compare_view_names,
@@ -11,95 +13,111 @@ const UPPER: &[u8] = b"C959BDBAFA32A2F89A153B678CFDE12197965A9A";
 
 const DIGITS: &[u8] = b"0a0a0a0a0a0a0a0a0a0a0a0a0a0a0a0a0a0a0a0a0a0a0a0a0a0a0a0a0a0a0a0a";
 
-/// Whether the fingerprint is read from both spellings, and printed as the lower one.
+/// Whether the fingerprint is read from both spellings.
 fn is_spelled_so() -> bool {
     Fpr::read(UPPER).is_some() && Fpr::read(UPPER) == Fpr::read(LOWER)
 }
 
-fn are_printed(alloc: Global) -> Option<bool> {
-    let fpr = Fpr::read(UPPER)?;
-    let number = SigNumber([0x0a; 32]);
-    let mut fprs = Vec::new(alloc);
-    fpr.print(&mut fprs).ok()?;
-    let mut numbers = Vec::new(alloc);
-    number.print(&mut numbers).ok()?;
+/// Whether a fingerprint is printed so.
+fn is_fpr(alloc: Global, fpr: Fpr, digits: &[u8]) -> bool {
+    let mut out = Vec::new(alloc);
     fpr.printed_is_read();
-    number.printed_is_read();
-    Some(fprs.as_slice() == LOWER && numbers.as_slice() == DIGITS)
+    fpr.print(&mut out).is_ok() && out.as_slice() == digits
 }
+
+fn is_number(alloc: Global, number: SigNumber, digits: &[u8]) -> bool {
+    let mut out = Vec::new(alloc);
+    number.printed_is_read();
+    number.print(&mut out).is_ok() && out.as_slice() == digits
+}
+
+/// The fingerprint of RFC 9580, appendix A.3, in digits, and in lower case.
+const SIX: &[u8] = b"CB186C4F0609A697E4D52DFA6C722B0C1F1E27C18A56708F6525EC27BAD9ACC9";
+
+const SIX_IN_LOWER_CASE: &[u8] =
+    b"cb186c4f0609a697e4d52dfa6c722b0c1f1e27c18a56708f6525ec27bad9acc9";
 
 #[test]
 fn fingerprints_and_numbers_are_read_and_printed(rt: HostRuntime) {
-    assert!(rt; is_spelled_so() && are_printed(rt.alloc()) == Some(true));
-    assert!(rt; SigNumber::read(DIGITS) == Some(SigNumber([0x0a; 32])));
-    assert!(rt; SigNumber::read(LOWER).is_none());
-}
-
-/// The fingerprint of RFC 9580, appendix A.3, in digits.
-const SIX: &[u8] = b"CB186C4F0609A697E4D52DFA6C722B0C1F1E27C18A56708F6525EC27BAD9ACC9";
-
-/// Whether the fingerprint of version 6 is read, and printed in lower case.
-fn is_version_6(alloc: Global) -> Option<bool> {
-    let fpr = Fpr::read(SIX)?;
-    let mut out = Vec::new(alloc);
-    fpr.print(&mut out).ok()?;
-    fpr.printed_is_read();
-    let is_lower = out.as_slice()
-        == b"cb186c4f0609a697e4d52dfa6c722b0c1f1e27c18a56708f6525ec27bad9acc9".as_slice();
-    Some(is_lower && Fpr::read(&out) == Some(fpr) && fpr.version() == 6 && fpr.octets().len() == 32)
-}
-
-#[test]
-fn version_6_fingerprints_are_read_and_printed(rt: HostRuntime) {
-    assert!(rt; is_version_6(rt.alloc()) == Some(true));
+    let four = Fpr::read(UPPER).expect(&rt, "of version 4");
+    expect_that(&rt, is_spelled_so() && is_fpr(rt.alloc(), four, LOWER));
+    let six = Fpr::read(SIX).expect(&rt, "of version 6");
+    expect_that(&rt, is_fpr(rt.alloc(), six, SIX_IN_LOWER_CASE));
+    expect_that(&rt, Fpr::read(SIX_IN_LOWER_CASE) == Some(six));
+    expect_that(&rt, six.version() == 6 && six.octets().len() == 32);
+    let number = SigNumber::read(DIGITS);
+    expect_that(
+        &rt,
+        number == Some(SigNumber([0x0a; 32])) && SigNumber::read(LOWER).is_none(),
+    );
+    expect_that(&rt, is_number(rt.alloc(), SigNumber([0x0a; 32]), DIGITS));
 }
 
 #[test]
 fn orders_are_those_of_octets(rt: HostRuntime) {
     let fpr = Fpr::V4([0xca; 20]);
-    assert!(rt; compare_fprs(&Fpr::V4([0xc9; 20]), &fpr) == Ordering::Less);
-    assert!(rt; fpr < Fpr::V6([0xca; 32]) && Name::Cert(fpr) < Name::TrustRoot);
-    assert!(rt; compare_numbers(&SigNumber([10; 32]), &SigNumber([9; 32])) == Ordering::Greater);
-    assert!(rt; Steps::new() == Steps { made: 0 });
+    expect_that(
+        &rt,
+        compare_fprs(&Fpr::V4([0xc9; 20]), &fpr) == Ordering::Less,
+    );
+    expect_that(
+        &rt,
+        fpr < Fpr::V6([0xca; 32]) && Name::Cert(fpr) < Name::TrustRoot,
+    );
+    expect_that(
+        &rt,
+        compare_numbers(&SigNumber([10; 32]), &SigNumber([9; 32])) == Ordering::Greater,
+    );
+    expect_that(&rt, Steps::new() == Steps { made: 0 });
 }
 
 /// The name of a view that is spelled so.
-pub(crate) fn name(alloc: Global, text: &[u8]) -> Option<ViewName> {
+fn name(alloc: Global, text: &[u8]) -> Option<ViewName> {
     ViewName::read(alloc, text).ok()?
 }
 
+/// The same of one that is a name.
+pub(crate) fn named(rt: &impl Abort, alloc: Global, text: &[u8]) -> ViewName {
+    name(alloc, text).expect(rt, "a name")
+}
+
+const LONGEST_NAME: &[u8] = b"abcdefghijklmnopqrstuvwxyz_-0-9";
+
 /// Whether a name keeps its octets, and its duplicate too.
-fn is_kept(alloc: Global, text: &[u8]) -> Option<bool> {
-    let name = name(alloc, text)?;
-    Some(name.octets() == text && name.duplicate(alloc).ok()? == name)
+fn is_kept(rt: &impl Abort, alloc: Global, text: &[u8]) -> bool {
+    let name = named(rt, alloc, text);
+    let same = name.duplicate(alloc).expect(rt, "memory");
+    name.octets() == text && same == name
 }
 
+fn are_ordered(rt: &impl Abort, alloc: Global) -> bool {
+    let (a, ab, b) = (
+        named(rt, alloc, b"a"),
+        named(rt, alloc, b"ab"),
+        named(rt, alloc, b"b"),
+    );
+    compare_view_names(&a, &ab) == Ordering::Less
+        && compare_view_names(&b, &ab) == Ordering::Greater
+        && a < ab
+        && a != ab
+        && a == a
+}
+
+fn keeps_its_octets(rt: &impl Abort, alloc: Global, octets: &[u8]) -> bool {
+    let uid = UserId::new(alloc, octets).expect(rt, "memory");
+    let empty = UserId::new(alloc, b"").expect(rt, "memory");
+    uid.octets() == octets && uid != empty
+}
+
+/// Names have 1 to 32 octets of their alphabet.
 #[test]
-fn view_names_have_1_to_32_octets_of_their_alphabet(rt: HostRuntime) {
-    assert!(rt; is_kept(rt.alloc(), b"abcdefghijklmnopqrstuvwxyz_-0-9") == Some(true));
-    assert!(rt; ViewName::read(rt.alloc(), b"a/") == Ok(None));
-}
-
-fn are_ordered(alloc: Global) -> Option<bool> {
-    let (a, ab, b) = (name(alloc, b"a")?, name(alloc, b"ab")?, name(alloc, b"b")?);
-    let less = compare_view_names(&a, &ab) == Ordering::Less;
-    let greater = compare_view_names(&b, &ab) == Ordering::Greater;
-    Some(less && greater && a < ab && a != ab && a == a)
-}
-
-#[test]
-fn view_names_are_ordered_by_octets(rt: HostRuntime) {
-    assert!(rt; are_ordered(rt.alloc()) == Some(true));
-}
-
-fn keeps_its_octets(alloc: Global, octets: &[u8]) -> Option<bool> {
-    let uid = UserId::new(alloc, octets).ok()?;
-    Some(uid.octets() == octets && uid != UserId::new(alloc, b"").ok()?)
-}
-
-#[test]
-fn user_ids_keep_their_octets(rt: HostRuntime) {
-    assert!(rt; keeps_its_octets(rt.alloc(), b"\xc3\xa9 \\\x00") == Some(true));
+fn view_names_and_user_ids(rt: HostRuntime) {
+    expect_that(
+        &rt,
+        is_kept(&rt, rt.alloc(), LONGEST_NAME) && are_ordered(&rt, rt.alloc()),
+    );
+    expect_that(&rt, ViewName::read(rt.alloc(), b"a/") == Ok(None));
+    expect_that(&rt, keeps_its_octets(&rt, rt.alloc(), b"\xc3\xa9 \\\x00"));
 }
 
 static WORDS: [(Limit, &[u8]); 7] = [
@@ -115,7 +133,7 @@ static WORDS: [(Limit, &[u8]); 7] = [
 #[test]
 fn limits_are_told_by_their_words(rt: HostRuntime) {
     for (limit, word) in &WORDS {
-        assert!(rt; limit.word() == *word);
+        expect_that(&rt, limit.word() == *word);
     }
-    assert!(rt; Limits::standard().octets == 268_435_456);
+    expect_that(&rt, Limits::standard().octets == 268_435_456);
 }

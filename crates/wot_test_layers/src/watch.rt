@@ -1,21 +1,19 @@
-use crate::types::name;
+use crate::assertion::expect_that;
+use crate::types::named;
 use std::alloc::Global;
-use wot_types::{Fpr, UserId};
-use wot_watch::{PutFault, Watch, Watches};
+use std::process::Abort;
+use wot_types::{Fpr, UserId, ViewName};
+use wot_watch::{Watch, Watches};
 
-fn watch(alloc: Global, told: u32) -> Option<Watch> {
-    let target = Fpr::V4([1; 20]);
-    let uid = UserId::new(alloc, b"t").ok()?;
-    Some(Watch::new(name(alloc, b"p")?, target, 120, uid, told))
+fn watch(rt: &impl Abort, alloc: Global, told: u32) -> Watch {
+    let uid = UserId::new(alloc, b"t").expect(rt, "memory");
+    Watch::new(named(rt, alloc, b"p"), Fpr::V4([1; 20]), 120, uid, told)
 }
 
-/// Puts a watch under a name; `Some(false)` where there are too many.
-fn puts(alloc: Global, watches: &mut Watches, text: &[u8], told: u32) -> Option<bool> {
-    match watches.put(name(alloc, text)?, watch(alloc, told)?) {
-        Ok(()) => Some(true),
-        Err(PutFault::Full) => Some(false),
-        Err(PutFault::Memory) => None,
-    }
+/// Puts a watch under a name. There are not too many.
+fn put(rt: &impl Abort, alloc: Global, watches: &mut Watches, text: &[u8], told: u32) {
+    let put = watches.put(named(rt, alloc, text), watch(rt, alloc, told));
+    expect_that(rt, put.is_ok());
 }
 
 fn is_whole(kept: Option<&Watch>, told: u32) -> bool {
@@ -39,16 +37,22 @@ fn begin_with(watches: &Watches, text: &[u8]) -> bool {
     }
 }
 
-fn are_kept(alloc: Global) -> Option<bool> {
-    let mut watches = Watches::new(alloc);
-    let (v, w) = (name(alloc, b"v")?, name(alloc, b"w")?);
-    let put = puts(alloc, &mut watches, b"w", 120)? && puts(alloc, &mut watches, b"v", 60)?;
-    let told = put && watches.tell(&w, 0) && is_whole(watches.get(&w), 0);
-    let kept = told && is_whole(watches.get(&v), 60) && begin_with(&watches, b"v");
-    Some(kept && watches.take(&v) && watches.get(&v).is_none() && begin_with(&watches, b"w"))
+/// Watches are kept by name; the first is told of, and taken.
+fn are_kept(watches: &mut Watches, v: &ViewName, w: &ViewName) -> bool {
+    watches.tell(w, 0)
+        && is_whole(watches.get(w), 0)
+        && is_whole(watches.get(v), 60)
+        && begin_with(watches, b"v")
+        && watches.take(v)
+        && watches.get(v).is_none()
+        && begin_with(watches, b"w")
 }
 
 #[test]
 fn a_watch_keeps_what_was_told(rt: HostRuntime) {
-    assert!(rt; are_kept(rt.alloc()) == Some(true));
+    let mut watches = Watches::new(rt.alloc());
+    put(&rt, rt.alloc(), &mut watches, b"w", 120);
+    put(&rt, rt.alloc(), &mut watches, b"v", 60);
+    let (v, w) = (named(&rt, rt.alloc(), b"v"), named(&rt, rt.alloc(), b"w"));
+    expect_that(&rt, are_kept(&mut watches, &v, &w));
 }

@@ -1,5 +1,6 @@
 ghost use Rattle.wot_keyring.specs.Kept.{AreSmall};
 
+use crate::assertion::expect_that;
 use crate::keyring::{Answer, FIRST_KEY, REFUSED, WITH_DIRECT};
 use crate::script::{FIELD, FIELD_FPR, UNREADABLE};
 use std::alloc::Global;
@@ -45,23 +46,11 @@ static LOADED: [(Name, &[Packet], (Answer, u64, u64)); 5] = [
     ),
 ];
 
-/// The same of packets.
-fn outcome_of(
-    alloc: Global,
-    limits: Limits,
-    name: &Name,
-    packets: &[Packet],
-) -> Option<(Answer, u64, u64)>
-    requires { AreSmall limits }
-{
-    let octets = wot_sample::text(alloc, packets)?;
-    Some(outcome(alloc, limits, name, &octets))
-}
-
 #[test]
 fn entries_of_a_directory(rt: HostRuntime) {
     for (name, packets, expected) in &LOADED {
-        let told = outcome_of(rt.alloc(), Limits::standard(), name, packets);
-        assert!(rt; told == Some(*expected));
+        let octets = wot_sample::text(rt.alloc(), packets).expect(&rt, "memory");
+        let told = outcome(rt.alloc(), Limits::standard(), name, &octets);
+        expect_that(&rt, told == *expected);
     }
 }

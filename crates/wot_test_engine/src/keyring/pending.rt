@@ -1,5 +1,7 @@
+use crate::assertion::expect_that;
 use crate::keyring::{NUMBER, WITH_DIRECT, import_packets};
 use std::alloc::Global;
+use std::process::Abort;
 use wot_keyring::{Keyring, Pending};
 use wot_policy::{Policy, admits, standard_rows};
 use wot_sample::Packet::{self, Signature, UserId};
@@ -30,25 +32,30 @@ const BY_R: &[u8] = b"d00dbf0ce88f0fa186eb308b971d7288c45b71572a04597fea6db33329
 const BY_ITSELF: &[u8] = b"2aa3e95976d1ce6c264d48ca102f71612e54f4d50195cce8b91d2ce13f0075c8";
 
 /// A keyring with these signatures, of which the self-certification is judged.
-fn keyring_of(alloc: Global) -> Option<Keyring> {
-    let number = SigNumber::read(BY_ITSELF)?;
+fn keyring_of(rt: &impl Abort, alloc: Global) -> Keyring {
+    let number = SigNumber::read(BY_ITSELF).expect(rt, "a number");
     let rows = standard_rows();
     let mut policy = Policy::new(rows, |ask| admits(&rows, ask));
     let mut keyring = Keyring::new(alloc, Limits::standard());
-    let first = import_packets(alloc, &mut keyring, WITH_DIRECT, &mut policy).is_ok();
-    let second = import_packets(alloc, &mut keyring, CERTIFIED, &mut policy).is_ok();
-    let judged = keyring.changes() < 1000 && keyring.set_verdict(number, Verdict::Good(T)).is_ok();
-    if first && second && judged {
-        Some(keyring)
-    } else {
-        None
-    }
+    expect_that(
+        rt,
+        import_packets(alloc, &mut keyring, WITH_DIRECT, &mut policy).is_ok(),
+    );
+    expect_that(
+        rt,
+        import_packets(alloc, &mut keyring, CERTIFIED, &mut policy).is_ok(),
+    );
+    assert!(rt; keyring.changes() < 1000);
+    expect_that(rt, keyring.set_verdict(number, Verdict::Good(T)).is_ok());
+    keyring
 }
 
 /// What is pending, by certificate: the certification by R, and R's own signature.
-fn are_pending(alloc: Global, keyring: &Keyring) -> Option<bool> {
+#[test]
+fn what_nobody_judged(rt: HostRuntime) {
+    let keyring = keyring_of(&rt, rt.alloc());
     let on_t = Pending {
-        number: SigNumber::read(BY_R)?,
+        number: SigNumber::read(BY_R).expect(&rt, "a number"),
         fpr: T,
         issuer: Some(R),
         hint: Some(ID_OF_R),
@@ -59,12 +66,7 @@ fn are_pending(alloc: Global, keyring: &Keyring) -> Option<bool> {
         issuer: None,
         hint: None,
     };
-    let pending = keyring.pending(alloc).ok()?;
-    Some(pending.as_slice() == [on_t, on_r].as_slice())
-}
-
-#[test]
-fn what_nobody_judged(rt: HostRuntime) {
-    let keyring = keyring_of(rt.alloc()).expect(&rt, "a keyring");
-    assert!(rt; are_pending(rt.alloc(), &keyring) == Some(true));
+    let pending = keyring.pending(rt.alloc()).expect(&rt, "memory");
+    expect_that(&rt, pending.as_slice() == [on_t, on_r].as_slice());
+    drop(keyring);
 }

@@ -1,9 +1,11 @@
 ghost use Rattle.wot_policy.specs.Kept.{IsFaithful};
 
-use crate::certificates::{assembled, judged};
+use crate::assertion::expect_that;
+use crate::certificates::{assembled, bare, first, judged, of_packets};
 use std::alloc::Global;
 use std::cell::Cell;
-use wot_cert::{Adds, Assembled, Cert, CertFault, MergeFault, Part, Sig, Span, issuer_of, span};
+use std::process::Abort;
+use wot_cert::{Adds, Cert, CertFault, MergeFault, Part, Sig, Span, issuer_of, span};
 use wot_policy::{Ask, Policy, admits, standard_rows};
 use wot_sample::Packet::{self, Other, Signature, SignatureByHash, UserId};
 use wot_sample::Says::{Lasts, Made, Subpacket, Trust};
@@ -13,12 +15,6 @@ use wot_sample::{
 };
 use wot_types::{Fpr, SigNumber};
 use wot_verdict::{Verdict, Verdicts};
-
-/// The certificates of these packets.
-fn of_packets(alloc: Global, packets: &[Packet]) -> Option<Assembled> {
-    let text = wot_sample::text(alloc, packets)?;
-    assembled(alloc, &text).ok()
-}
 
 /// Packets, and how many certificates and skipped keys they give, or the first fault in the order of the packets.
 static OUTCOMES: [(&[Packet], Result<(usize, u64), CertFault>); 8] = [
@@ -58,20 +54,13 @@ fn outcome(alloc: Global, text: &[u8]) -> Result<(usize, u64), CertFault> {
     }
 }
 
-/// Whether packets are assembled so.
-fn comes_to(alloc: Global, packets: &[Packet], expected: Result<(usize, u64), CertFault>) -> bool {
-    match wot_sample::text(alloc, packets) {
-        Some(text) => outcome(alloc, &text) == expected,
-        None => false,
-    }
-}
-
 #[test]
 fn first_faults_and_skipped_keys(rt: HostRuntime) {
     for (packets, expected) in &OUTCOMES {
-        assert!(rt; comes_to(rt.alloc(), packets, *expected));
+        let text = wot_sample::text(rt.alloc(), packets).expect(&rt, "memory");
+        expect_that(&rt, outcome(rt.alloc(), &text) == *expected);
     }
-    assert!(rt; outcome(rt.alloc(), LEGACY) == Ok((2, 1)));
+    expect_that(&rt, outcome(rt.alloc(), LEGACY) == Ok((2, 1)));
 }
 
 /// Packets, and those of the first certificate of each: in order, without doubles.
@@ -127,29 +116,28 @@ static SPELLED: [(&[u8], &[u8]); 1] = [
 ];
 
 /// Whether the first certificate of a text, and a copy of it, is written so.
-fn is_written_so(alloc: Global, text: &[u8], expected: &[u8]) -> Option<bool> {
-    let found = assembled(alloc, text).ok()?;
-    let cert = found.certs.as_slice().first()?;
-    let copy = cert.duplicate(alloc).ok()?;
-    let mut out = Vec::new(alloc);
-    copy.export(&mut out).ok()?;
-    Some(out.as_slice() == expected && cert.size() == expected.len() as u64)
+fn is_written_so(rt: &impl Abort, alloc: Global, text: &[u8], expected: &[u8]) -> bool {
+    let found = assembled(alloc, text).ok().expect(rt, "certificates");
+    let cert = first(rt, &found);
+    let copy = cert.duplicate(alloc).expect(rt, "memory");
+    let written = text_of(rt, alloc, &copy);
+    written.as_slice() == expected && cert.size() == expected.len() as u64
 }
 
 /// The same of packets.
-fn are_written_so(alloc: Global, packets: &[Packet], expected: &[Packet]) -> Option<bool> {
-    let text = wot_sample::text(alloc, packets)?;
-    let expected = wot_sample::text(alloc, expected)?;
-    is_written_so(alloc, &text, &expected)
+fn are_written_so(rt: &impl Abort, alloc: Global, packets: &[Packet], expected: &[Packet]) -> bool {
+    let text = wot_sample::text(alloc, packets).expect(rt, "memory");
+    let expected = wot_sample::text(alloc, expected).expect(rt, "memory");
+    is_written_so(rt, alloc, &text, &expected)
 }
 
 #[test]
 fn texts_in_order(rt: HostRuntime) {
     for (packets, expected) in &TEXTS {
-        assert!(rt; are_written_so(rt.alloc(), packets, expected) == Some(true));
+        expect_that(&rt, are_written_so(&rt, rt.alloc(), packets, expected));
     }
     for (text, expected) in &SPELLED {
-        assert!(rt; is_written_so(rt.alloc(), text, expected) == Some(true));
+        expect_that(&rt, is_written_so(&rt, rt.alloc(), text, expected));
     }
 }
 
@@ -166,7 +154,7 @@ const IN_EVERY_PLACE: &[Packet] = &[
 ];
 
 /// Its four numbers.
-const NUMBERS: [SigNumber; 4] = [
+static NUMBERS: [SigNumber; 4] = [
     SigNumber([
         104, 208, 235, 95, 140, 161, 57, 20, 252, 221, 241, 178, 62, 95, 96, 139, 249, 132, 118, 3,
         131, 77, 162, 132, 240, 26, 112, 114, 8, 5, 18, 9,
@@ -185,25 +173,34 @@ const NUMBERS: [SigNumber; 4] = [
     ]),
 ];
 
-fn first_number(parts: &[Part]) -> Option<SigNumber> {
-    Some(parts.first()?.sigs().first()?.number())
+/// The signatures of the one part.
+fn sigs_of(parts: &[Part]) -> &[Sig] {
+    match parts {
+        [part] => part.sigs(),
+        _ => &[],
+    }
 }
 
-fn numbers_are_told(alloc: Global) -> Option<bool> {
-    let found = of_packets(alloc, IN_EVERY_PLACE)?;
-    let cert = found.certs.as_slice().first()?;
-    let [on_key, on_user_id, on_attribute, on_subkey] = NUMBERS;
-    Some(
-        cert.direct().first()?.number() == on_key
-            && first_number(cert.user_ids()) == Some(on_user_id)
-            && first_number(cert.attributes()) == Some(on_attribute)
-            && first_number(cert.subkeys()) == Some(on_subkey),
-    )
+/// Whether the one signature has this number.
+fn is_numbered(sigs: &[Sig], number: &SigNumber) -> bool {
+    match sigs {
+        [sig] => sig.number() == *number,
+        _ => false,
+    }
+}
+
+fn are_numbered(cert: &Cert) -> bool {
+    let [on_key, on_user_id, on_attribute, on_subkey] = &NUMBERS;
+    is_numbered(cert.direct(), on_key)
+        && is_numbered(sigs_of(cert.user_ids()), on_user_id)
+        && is_numbered(sigs_of(cert.attributes()), on_attribute)
+        && is_numbered(sigs_of(cert.subkeys()), on_subkey)
 }
 
 #[test]
 fn a_number_for_each_place(rt: HostRuntime) {
-    assert!(rt; numbers_are_told(rt.alloc()) == Some(true));
+    let found = of_packets(&rt, rt.alloc(), IN_EVERY_PLACE);
+    expect_that(&rt, are_numbered(first(&rt, &found)));
 }
 
 /// Kind, hash number, time made, depth, amount, and whether it is sound.
@@ -222,18 +219,19 @@ static FACTS: [(&[Packet], Facts); 2] = [
 ];
 
 /// What the first signature on the key of the first certificate says.
-fn facts_of(alloc: Global, packets: &[Packet]) -> Option<Facts> {
-    let found = of_packets(alloc, packets)?;
-    match found.certs.as_slice().first()?.direct().first()?.facts() {
-        Some(f) => Some(Some((f.kind, f.hash, f.made, f.depth, f.amount, f.sound))),
-        None => Some(None),
+fn facts_of(rt: &impl Abort, alloc: Global, packets: &[Packet]) -> Facts {
+    let found = of_packets(rt, alloc, packets);
+    let sig = first(rt, &found).direct().first().expect(rt, "a signature");
+    match sig.facts() {
+        Some(f) => Some((f.kind, f.hash, f.made, f.depth, f.amount, f.sound)),
+        None => None,
     }
 }
 
 #[test]
 fn facts_of_signatures(rt: HostRuntime) {
     for (packets, expected) in &FACTS {
-        assert!(rt; facts_of(rt.alloc(), packets) == Some(*expected));
+        expect_that(&rt, facts_of(&rt, rt.alloc(), packets) == *expected);
     }
 }
 
@@ -265,6 +263,7 @@ const OTHER_KEY: &[Packet] = &[KEY_A];
 
 /// Merges the first certificate of a text, where both are small.
 fn merge_text<F: Fn(Ask) -> bool>(
+    rt: &impl Abort,
     alloc: Global,
     cert: &mut Cert,
     text: &[u8],
@@ -273,15 +272,9 @@ fn merge_text<F: Fn(Ask) -> bool>(
     requires { IsFaithful F.Fn policy.old }
     ensures { IsFaithful F.Fn policy.new }
 {
-    let Ok(found) = assembled(alloc, text) else {
-        return Err(MergeFault::Memory);
-    };
-    let Some(other) = found.certs.as_slice().first() else {
-        return Err(MergeFault::Memory);
-    };
-    if cert.size() >= 1000 || other.size() >= 1000 {
-        return Err(MergeFault::Memory);
-    }
+    let found = assembled(alloc, text).ok().expect(rt, "certificates");
+    let other = first(rt, &found);
+    assert!(rt; cert.size() < 1000 && other.size() < 1000);
     cert.merge(alloc, other, policy)
 }
 
@@ -291,13 +284,13 @@ type Merge = (&'static [Packet], Result<u64, MergeFault>, u64);
 /// The same with the octets of the packets.
 type Written = (Vec<u8>, Result<u64, MergeFault>, u64);
 
-fn written(alloc: Global, rows: &[Merge]) -> Option<Vec<Written>> {
+fn written(rt: &impl Abort, alloc: Global, rows: &[Merge]) -> Vec<Written> {
     let mut all = Vec::new(alloc);
     for case in rows {
-        let text = wot_sample::text(alloc, case.0)?;
-        all.push((text, case.1, case.2)).ok()?;
+        let text = wot_sample::text(alloc, case.0).expect(rt, "memory");
+        all.push((text, case.1, case.2)).expect(rt, "memory");
     }
-    Some(all)
+    all
 }
 
 static INTO_R: [Merge; 3] = [
@@ -316,6 +309,7 @@ static INTO_T: [Merge; 5] = [
 
 /// Whether these merges answer so.
 fn merges<F: Fn(Ask) -> bool>(
+    rt: &impl Abort,
     alloc: Global,
     cert: &mut Cert,
     policy: &mut Policy<F>,
@@ -325,15 +319,12 @@ fn merges<F: Fn(Ask) -> bool>(
     ensures { IsFaithful F.Fn policy.new }
 {
     for case in rows {
-        if merge_text(alloc, cert, &case.0, policy) != case.1 || policy.asked() != case.2 {
+        let answer = merge_text(rt, alloc, cert, &case.0, policy);
+        if answer != case.1 || policy.asked() != case.2 {
             return false;
         }
     }
     true
-}
-
-fn bare(alloc: Global, key: &[u8]) -> Option<Cert> {
-    Cert::bare(alloc, key).ok().flatten()
 }
 
 const R_BODY: &[u8] = b"\x04\x00\x00\x03\xe8\x1b\x01";
@@ -356,52 +347,44 @@ fn merging_asks_of_new_sound_signatures(rt: HostRuntime) {
         calls.set(calls.get().wrapping_add(1));
         admits(&rows, ask)
     });
-    let mut r = bare(rt.alloc(), R_BODY).expect(&rt, "R");
-    let mut t = bare(rt.alloc(), T_BODY).expect(&rt, "T");
-    let into_r = written(rt.alloc(), &INTO_R).expect(&rt, "memory");
-    let into_t = written(rt.alloc(), &INTO_T).expect(&rt, "memory");
-    assert!(rt; merges(rt.alloc(), &mut r, &mut policy, &into_r));
-    assert!(rt; merges(rt.alloc(), &mut t, &mut policy, &into_t));
-    assert!(rt; policy.asked() == 4 && calls.get() == 4);
-    match t.user_ids() {
-        [uid] => assert!(rt; are_marked(uid.sigs())),
-        _ => assert!(rt; false),
-    }
+    let mut r = bare(&rt, rt.alloc(), R_BODY);
+    let mut t = bare(&rt, rt.alloc(), T_BODY);
+    let into_r = written(&rt, rt.alloc(), &INTO_R);
+    let into_t = written(&rt, rt.alloc(), &INTO_T);
+    expect_that(&rt, merges(&rt, rt.alloc(), &mut r, &mut policy, &into_r));
+    expect_that(&rt, merges(&rt, rt.alloc(), &mut t, &mut policy, &into_t));
+    expect_that(
+        &rt,
+        policy.asked() == 4 && calls.get() == 4 && are_marked(sigs_of(t.user_ids())),
+    );
 }
 
 /// The text of a certificate.
-fn text_of(alloc: Global, cert: &Cert) -> Option<Vec<u8>> {
+fn text_of(rt: &impl Abort, alloc: Global, cert: &Cert) -> Vec<u8> {
     let mut out = Vec::new(alloc);
-    cert.export(&mut out).ok()?;
-    Some(out)
+    expect_that(rt, cert.export(&mut out).is_ok());
+    out
 }
 
 /// The key R and nothing else.
 const KEY_ALONE: &[u8] = b"\xc6\x07\x04\x00\x00\x03\xe8\x1b\x01";
 
-fn clash(alloc: Global) -> Option<bool> {
-    let mut r = bare(alloc, R_BODY)?;
-    let mut t = bare(alloc, T_BODY)?;
-    let clashes = r.unite(alloc, &t) == Err(MergeFault::Clash);
-    let both = clashes && t.unite(alloc, &r) == Err(MergeFault::Clash);
-    Some(both && text_of(alloc, &r)?.as_slice() == KEY_ALONE)
-}
-
 #[test]
 fn other_keys_clash(rt: HostRuntime) {
-    assert!(rt; clash(rt.alloc()) == Some(true));
+    let mut r = bare(&rt, rt.alloc(), R_BODY);
+    let mut t = bare(&rt, rt.alloc(), T_BODY);
+    expect_that(&rt, r.unite(rt.alloc(), &t) == Err(MergeFault::Clash));
+    expect_that(&rt, t.unite(rt.alloc(), &r) == Err(MergeFault::Clash));
+    expect_that(&rt, text_of(&rt, rt.alloc(), &r).as_slice() == KEY_ALONE);
 }
 
 /// What the union of the first certificates of two lists of packets would add to the first.
-fn adds_of(alloc: Global, packets: &[Packet], more: &[Packet]) -> Option<Adds> {
-    let one = of_packets(alloc, packets)?;
-    let other = of_packets(alloc, more)?;
-    let one = one.certs.as_slice().first()?;
-    let other = other.certs.as_slice().first()?;
-    if !one.has_key_of(other) || one.size() >= 1000 || other.size() >= 1000 {
-        return None;
-    }
-    Some(one.adds(other))
+fn adds_of(rt: &impl Abort, alloc: Global, packets: &[Packet], more: &[Packet]) -> Adds {
+    let found = of_packets(rt, alloc, packets);
+    let others = of_packets(rt, alloc, more);
+    let (one, other) = (first(rt, &found), first(rt, &others));
+    assert!(rt; one.has_key_of(other) && one.size() < 1000 && other.size() < 1000);
+    one.adds(other)
 }
 
 #[test]
@@ -411,7 +394,10 @@ fn what_a_union_adds(rt: HostRuntime) {
         signatures: 2,
         octets: 36,
     };
-    assert!(rt; adds_of(rt.alloc(), T_WITH_UNSOUND, T_WITH_BOTH_HASHES) == Some(expected));
+    expect_that(
+        &rt,
+        adds_of(&rt, rt.alloc(), T_WITH_UNSOUND, T_WITH_BOTH_HASHES) == expected,
+    );
 }
 
 /// A key made at 1000 with a direct key signature, and on `t` a signature made at 2000 and one made at 3000 that
@@ -432,19 +418,15 @@ static TIMES: [(u32, u32, u32); 4] = [
     (5000, 3100, 4294967295),
 ];
 
-fn span_at(alloc: Global, t: u32) -> Option<Span> {
-    let found = of_packets(alloc, WITH_TIMES)?;
-    Some(span(found.certs.as_slice().first()?, t))
-}
-
 #[test]
 fn spans(rt: HostRuntime) {
+    let found = of_packets(&rt, rt.alloc(), WITH_TIMES);
     for (t, from, to) in &TIMES {
         let expected = Span {
             from: *from,
             to: *to,
         };
-        assert!(rt; span_at(rt.alloc(), *t) == Some(expected));
+        expect_that(&rt, span(first(&rt, &found), *t) == expected);
     }
 }
 
@@ -453,20 +435,28 @@ fn issuer_on_key(cert: &Cert, verdicts: &Verdicts) -> Option<Fpr> {
 }
 
 /// There is an issuer once there is a verdict, and none once the signature's mark is gone.
-fn issuers_are_told(alloc: Global) -> Option<bool> {
-    let mut judged = judged(alloc, R_WITH_DIRECT)?;
-    let mut verdicts = Verdicts::new(alloc);
-    let before = issuer_on_key(&judged, &verdicts);
-    let number = judged.direct().first()?.number();
-    verdicts.set(number, Verdict::Good(Fpr::V4([7; 20]))).ok()?;
-    let good = issuer_on_key(&judged, &verdicts);
-    judged.unite(alloc, &bare(alloc, R_BODY)?).ok()?;
-    let unmarked = issuer_on_key(&judged, &verdicts);
-    let same = judged.direct().first()?.number() == number;
-    Some(before.is_none() && good == Some(Fpr::V4([7; 20])) && unmarked.is_none() && same)
-}
-
 #[test]
 fn issuers(rt: HostRuntime) {
-    assert!(rt; issuers_are_told(rt.alloc()) == Some(true));
+    let mut judged = judged(&rt, rt.alloc(), R_WITH_DIRECT);
+    let mut verdicts = Verdicts::new(rt.alloc());
+    let [number, _, _, _] = &NUMBERS;
+    expect_that(&rt, issuer_on_key(&judged, &verdicts).is_none());
+    expect_that(
+        &rt,
+        verdicts
+            .set(*number, Verdict::Good(Fpr::V4([7; 20])))
+            .is_ok(),
+    );
+    expect_that(
+        &rt,
+        issuer_on_key(&judged, &verdicts) == Some(Fpr::V4([7; 20])),
+    );
+    expect_that(
+        &rt,
+        judged
+            .unite(rt.alloc(), &bare(&rt, rt.alloc(), R_BODY))
+            .is_ok(),
+    );
+    expect_that(&rt, issuer_on_key(&judged, &verdicts).is_none());
+    expect_that(&rt, is_numbered(judged.direct(), number));
 }

@@ -1,5 +1,5 @@
+use crate::assertion::expect_that;
 use crate::signature::bodies::certification;
-use std::alloc::Global;
 use wot_signature::hint;
 
 const ONE: &[u8] = &[0x09, 0x10, 1, 2, 3, 4, 5, 6, 7, 8];
@@ -20,18 +20,11 @@ static ROWS: [(&[u8], &[u8], Option<[u8; 8]>); 3] = [
     (&[], BROKEN, None),
 ];
 
-/// Whether a certification with these areas has this hint.
-fn has_hint(alloc: Global, hashed: &[u8], unhashed: &[u8], expected: Option<[u8; 8]>) -> bool {
-    match certification(alloc, hashed, unhashed) {
-        Ok(body) => hint(&body) == expected,
-        Err(_) => false,
-    }
-}
-
 #[test]
 fn hints_are_the_last_key_ids(rt: HostRuntime) {
     for (hashed, unhashed, expected) in &ROWS {
-        assert!(rt; has_hint(rt.alloc(), hashed, unhashed, *expected));
+        let body = certification(&rt, rt.alloc(), hashed, unhashed);
+        expect_that(&rt, hint(&body) == *expected);
     }
-    assert!(rt; hint(&[]).is_none());
+    expect_that(&rt, hint(&[]).is_none());
 }

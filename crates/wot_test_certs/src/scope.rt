@@ -1,25 +1,18 @@
+use crate::assertion::expect_that;
 use crate::signature::bodies::{MADE_2000, certification};
 use std::alloc::Global;
+use std::process::Abort;
 use wot_scope::in_scope;
 
 /// Appends the subpacket of a pattern, its length by five octets, with a zero octet behind the pattern (RFC 9580,
 /// sections 5.2.3.7 and 5.2.3.22).
-fn push_pattern(area: &mut Vec<u8>, pattern: &[u8]) -> Option<()> {
+fn push_pattern(rt: &impl Abort, area: &mut Vec<u8>, pattern: &[u8]) {
     let size = u32::try_from(pattern.len()).unwrap_or(0).saturating_add(2);
-    area.push(0xff).ok()?;
-    area.extend_from_slice(&size.to_be_bytes()).ok()?;
-    area.push(6).ok()?;
-    area.extend_from_slice(pattern).ok()?;
-    area.push(0).ok()
-}
-
-/// A certification with these patterns.
-fn scoped(alloc: Global, patterns: &[&[u8]]) -> Option<Vec<u8>> {
-    let mut area = MADE_2000.to_vec(alloc).ok()?;
-    for pattern in patterns {
-        push_pattern(&mut area, pattern)?;
-    }
-    certification(alloc, &area, &[]).ok()
+    let [a, b, c, d] = size.to_be_bytes();
+    area.extend_from_slice(&[0xff, a, b, c, d, 6])
+        .expect(rt, "memory");
+    area.extend_from_slice(pattern).expect(rt, "memory");
+    area.push(0).expect(rt, "memory");
 }
 
 /// Patterns, a user ID, and whether it is in scope.
@@ -42,16 +35,20 @@ static ROWS: [(&[&[u8]], &[u8], bool); 7] = [
 ];
 
 /// Whether a user ID is in the scope of a certification with these patterns.
-fn holds(alloc: Global, patterns: &[&[u8]], uid: &[u8]) -> Option<bool> {
-    let body = scoped(alloc, patterns)?;
-    in_scope(alloc, &body, uid).ok()
+fn is_held(rt: &impl Abort, alloc: Global, patterns: &[&[u8]], uid: &[u8]) -> bool {
+    let mut area = MADE_2000.to_vec(alloc).expect(rt, "memory");
+    for pattern in patterns {
+        push_pattern(rt, &mut area, pattern);
+    }
+    let body = certification(rt, alloc, &area, &[]);
+    in_scope(alloc, &body, uid).expect(rt, "memory")
 }
 
 #[test]
 fn scope_of_patterns(rt: HostRuntime) {
     for (patterns, uid, expected) in &ROWS {
-        assert!(rt; holds(rt.alloc(), patterns, uid) == Some(*expected));
+        expect_that(&rt, is_held(&rt, rt.alloc(), patterns, uid) == *expected);
     }
     // A body that isn't readable has no pattern.
-    assert!(rt; in_scope(rt.alloc(), b"no body", b"Ann") == Ok(true));
+    expect_that(&rt, in_scope(rt.alloc(), b"no body", b"Ann") == Ok(true));
 }

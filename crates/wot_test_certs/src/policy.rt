@@ -1,3 +1,4 @@
+use crate::assertion::expect_that;
 use std::cell::Cell;
 use wot_policy::{Ask, Policy, PolicyRows, Row, admits, standard_rows};
 
@@ -68,7 +69,7 @@ fn is_admitted_so(rows: &PolicyRows, hash: u8) -> bool {
 fn standard_rows_by_kind_and_around_their_end(rt: HostRuntime) {
     let rows = standard_rows();
     for hash in 0..=u8::MAX {
-        assert!(rt; is_admitted_so(&rows, hash));
+        expect_that(&rt, is_admitted_so(&rows, hash));
     }
 }
 
@@ -83,13 +84,13 @@ fn each_question_asks_the_closure_once(rt: HostRuntime) {
         calls.set(calls.get().wrapping_add(1));
         admits(&rows, ask)
     });
-    assert!(rt; policy.asked() == 0);
-    assert!(rt; policy.judge(made_at(6)));
-    assert!(rt; policy.asked() == 1 && calls.get() == 1);
-    assert!(rt; !policy.judge(made_at(7)));
-    assert!(rt; policy.asked() == 2 && calls.get() == 2);
-    assert!(rt; !policy.judge(made_at(u32::MAX)));
-    assert!(rt; policy.asked() == 3 && calls.get() == 3);
+    expect_that(&rt, policy.asked() == 0);
+    expect_that(&rt, policy.judge(made_at(6)));
+    expect_that(&rt, policy.asked() == 1 && calls.get() == 1);
+    expect_that(&rt, !policy.judge(made_at(7)));
+    expect_that(&rt, policy.asked() == 2 && calls.get() == 2);
+    expect_that(&rt, !policy.judge(made_at(u32::MAX)));
+    expect_that(&rt, policy.asked() == 3 && calls.get() == 3);
 }
 
 fn made_at(made: u32) -> Ask {

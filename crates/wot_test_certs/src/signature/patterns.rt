@@ -1,5 +1,7 @@
+use crate::assertion::expect_that;
 use crate::signature::bodies::certification;
 use std::alloc::Global;
+use std::process::Abort;
 use wot_signature::scopes;
 
 /// A hashed area, and the texts of its patterns, each with a comma behind it.
@@ -15,21 +17,21 @@ static ROWS: [(&[u8], &[u8]); 3] = [
     ),
 ];
 
-/// Whether the patterns of a certification with this hashed area are so.
-fn has_patterns(alloc: Global, hashed: &[u8], expected: &[u8]) -> Option<bool> {
-    let body = certification(alloc, hashed, &[0x02, 0x06, 0x75]).ok()?;
+/// The patterns of a certification with this hashed area, as the table has them.
+fn joined(rt: &impl Abort, alloc: Global, hashed: &[u8]) -> Vec<u8> {
+    let body = certification(rt, alloc, hashed, &[0x02, 0x06, 0x75]);
     let mut joined = Vec::new(alloc);
     for text in scopes(&body) {
-        joined.extend_from_slice(text).ok()?;
-        joined.push(b',').ok()?;
+        joined.extend_from_slice(text).expect(rt, "memory");
+        joined.push(b',').expect(rt, "memory");
     }
-    Some(joined.as_slice() == expected)
+    joined
 }
 
 #[test]
 fn pattern_texts_come_in_order(rt: HostRuntime) {
     for (hashed, expected) in &ROWS {
-        assert!(rt; has_patterns(rt.alloc(), hashed, expected) == Some(true));
+        expect_that(&rt, joined(&rt, rt.alloc(), hashed).as_slice() == *expected);
     }
-    assert!(rt; scopes(&[]).next().is_none());
+    expect_that(&rt, scopes(&[]).next().is_none());
 }

@@ -1,3 +1,4 @@
+use crate::assertion::expect_that;
 use wot_key::{fingerprint, key_id, read_key};
 use wot_types::Fpr;
 
@@ -50,7 +51,7 @@ fn has_id(fpr: &Fpr, id: &[u8]) -> bool {
 #[test]
 fn keys_of_the_standard(rt: HostRuntime) {
     for (body, version, created, algorithm, digits, id) in &SAMPLES {
-        assert!(rt; is_read(body, *version, *created, *algorithm));
-        assert!(rt; has_fingerprint(body, digits, id.as_slice()));
+        expect_that(&rt, is_read(body, *version, *created, *algorithm));
+        expect_that(&rt, has_fingerprint(body, digits, id.as_slice()));
     }
 }

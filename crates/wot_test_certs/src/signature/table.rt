@@ -1,5 +1,7 @@
+use crate::assertion::expect_that;
 use crate::signature::bodies::{MADE_2000, PLAIN, says};
 use std::alloc::Global;
+use std::process::Abort;
 use wot_signature::SigFacts;
 use wot_types::Fpr;
 
@@ -14,25 +16,24 @@ const ISSUER: Fpr = Fpr::V4([
 ]);
 
 /// Whether a certification made at 2000 with one hashed subpacket more says this.
-fn says_more(alloc: Global, kind: u8, size: u8, expected: SigFacts) -> Option<bool> {
-    let mut hashed = MADE_2000.to_vec(alloc).ok()?;
+fn says_more(rt: &impl Abort, alloc: Global, kind: u8, size: u8, expected: SigFacts) -> bool {
+    let mut hashed = MADE_2000.to_vec(alloc).expect(rt, "memory");
     hashed
         .extend_from_slice(&[size.saturating_add(1), kind])
-        .ok()?;
-    for octet in BODY.iter().take(usize::from(size)) {
-        hashed.push(*octet).ok()?;
-    }
-    Some(says(alloc, &hashed, &[], Some(expected)))
+        .expect(rt, "memory");
+    let body = BODY.get(..usize::from(size)).expect(rt, "a size");
+    hashed.extend_from_slice(body).expect(rt, "memory");
+    says(rt, alloc, &hashed, &[], Some(expected))
 }
 
 /// The same of one that isn't critical and of one that is; `None` where it is unknown.
-fn is_type(alloc: Global, kind: u8, size: u8, known: Option<SigFacts>) -> bool {
+fn is_type(rt: &impl Abort, alloc: Global, kind: u8, size: u8, known: Option<SigFacts>) -> bool {
     let unsound = SigFacts {
         sound: false,
         ..PLAIN
     };
-    says_more(alloc, kind, size, known.unwrap_or(PLAIN)) == Some(true)
-        && says_more(alloc, kind | 0x80, size, known.unwrap_or(unsound)) == Some(true)
+    says_more(rt, alloc, kind, size, known.unwrap_or(PLAIN))
+        && says_more(rt, alloc, kind | 0x80, size, known.unwrap_or(unsound))
 }
 
 /// What each type says with its number of octets; with one less or one more it is unknown.
@@ -76,14 +77,19 @@ static LONG_TYPES: [(u8, u8, Option<SigFacts>); 3] = [
     (33, 33, None),
 ];
 
+/// The same, and that the type is unknown with one octet less, and with one more.
+fn is_type_alone(rt: &impl Abort, alloc: Global, kind: u8, size: u8, known: SigFacts) -> bool {
+    is_type(rt, alloc, kind, size, Some(known))
+        && is_type(rt, alloc, kind, size.saturating_sub(1), None)
+        && is_type(rt, alloc, kind, size.saturating_add(1), None)
+}
+
 #[test]
 fn types_have_their_number_of_octets(rt: HostRuntime) {
     for (kind, size, expected) in &TYPES {
-        assert!(rt; is_type(rt.alloc(), *kind, *size, Some(*expected)));
-        assert!(rt; is_type(rt.alloc(), *kind, size.saturating_sub(1), None));
-        assert!(rt; is_type(rt.alloc(), *kind, size.saturating_add(1), None));
+        expect_that(&rt, is_type_alone(&rt, rt.alloc(), *kind, *size, *expected));
     }
     for (kind, size, expected) in &LONG_TYPES {
-        assert!(rt; is_type(rt.alloc(), *kind, *size, *expected));
+        expect_that(&rt, is_type(&rt, rt.alloc(), *kind, *size, *expected));
     }
 }

@@ -1,5 +1,7 @@
+use crate::assertion::expect_that;
 use crate::certificates::{good, judged};
 use std::alloc::Global;
+use std::process::Abort;
 use wot_cert::{Part, Span};
 use wot_sample::Packet::{self, Signature, UserId};
 use wot_sample::Says::{KeyLasts, Lasts, Made, Primary, Reason};
@@ -120,10 +122,10 @@ static CASES: [Case; 11] = [
 ];
 
 /// Whether a certificate has that standing at a time, over that span.
-fn stands_so(alloc: Global, case: &Case) -> Option<bool> {
+fn stands_so(rt: &impl Abort, alloc: Global, case: &Case) -> bool {
     let (packets, t, (has, end, hard, soft), (from, to)) = *case;
-    let cert = judged(alloc, packets)?;
-    let verdicts = good(alloc, &cert)?;
+    let cert = judged(rt, alloc, packets);
+    let verdicts = good(rt, alloc, &cert);
     let (found, span) = standing(&cert, &verdicts, t);
     let expected = Standing {
         has,
@@ -132,13 +134,13 @@ fn stands_so(alloc: Global, case: &Case) -> Option<bool> {
         hard,
         soft,
     };
-    Some(found == expected && span == Span { from, to })
+    found == expected && span == Span { from, to }
 }
 
 #[test]
 fn standings_and_spans(rt: HostRuntime) {
     for case in &CASES {
-        assert!(rt; stands_so(rt.alloc(), case) == Some(true));
+        expect_that(&rt, stands_so(&rt, rt.alloc(), case));
     }
 }
 
@@ -153,41 +155,43 @@ static USES: [Use; 5] = [
     (ENDED_BY_DIRECT_KEY, 1499, false, true),
 ];
 
-fn is_used_so(alloc: Global, case: &Use) -> Option<bool> {
+fn is_used_so(rt: &impl Abort, alloc: Global, case: &Use) -> bool {
     let (packets, t, usable, in_order) = *case;
-    let cert = judged(alloc, packets)?;
-    let verdicts = good(alloc, &cert)?;
+    let cert = judged(rt, alloc, packets);
+    let verdicts = good(rt, alloc, &cert);
     let (standing, span) = standing(&cert, &verdicts, t);
-    Some(
-        is_usable(&standing, 2000) == usable
-            && is_key_in_order(&standing, t) == in_order
-            && steady_span(&cert, t) == span,
-    )
+    is_usable(&standing, 2000) == usable
+        && is_key_in_order(&standing, t) == in_order
+        && steady_span(&cert, t) == span
 }
 
 #[test]
 fn usable_and_in_order(rt: HostRuntime) {
     for case in &USES {
-        assert!(rt; is_used_so(rt.alloc(), case) == Some(true));
+        expect_that(&rt, is_used_so(&rt, rt.alloc(), case));
     }
 }
 
-/// Where the certifications of R, A and T stand on a user ID at a time, and whether its own key revoked it.
-fn places(
+/// Whether the certifications of R, A and T stand so on a user ID at a time, and its own key revoked it or not.
+fn stand_at(
+    rt: &impl Abort,
     alloc: Global,
     uid: &Part,
     verdicts: &Verdicts,
     t: u32,
-) -> Option<([Option<u32>; 3], bool)> {
-    if uid.sigs().len() >= 1000 {
-        return None;
-    }
-    let found = Certifiers::new(alloc, uid, verdicts, t).ok()?;
-    let revoked = is_own_revoked(uid, verdicts, &T, t);
-    Some(([found.place(&R), found.place(&A), found.place(&T)], revoked))
+    places: [Option<u32>; 3],
+    revoked: bool,
+) -> bool {
+    assert!(rt; uid.sigs().len() < 1000);
+    let found = Certifiers::new(alloc, uid, verdicts, t).expect(rt, "memory");
+    let [of_r, of_a, of_t] = places;
+    found.place(&R) == of_r
+        && found.place(&A) == of_a
+        && found.place(&T) == of_t
+        && is_own_revoked(uid, verdicts, &T, t) == revoked
 }
 
-/// Packets, a time, the place of a user ID, and what `places` gives there.
+/// Packets, a time, the place of a user ID, and what `stand_at` takes there.
 type Certified = (&'static [Packet], u32, usize, [Option<u32>; 3], bool);
 
 static CERTIFIED: [Certified; 3] = [
@@ -196,17 +200,17 @@ static CERTIFIED: [Certified; 3] = [
     (OWN_USER_IDS_REVOKED, 5000, 2, [Some(0), None, None], true),
 ];
 
-fn is_certified_so(alloc: Global, case: &Certified) -> Option<bool> {
-    let (packets, t, uid, expected, revoked) = *case;
-    let cert = judged(alloc, packets)?;
-    let verdicts = good(alloc, &cert)?;
-    let part = cert.user_ids().get(uid)?;
-    Some(places(alloc, part, &verdicts, t)? == (expected, revoked))
+fn is_certified_so(rt: &impl Abort, alloc: Global, case: &Certified) -> bool {
+    let (packets, t, uid, places, revoked) = *case;
+    let cert = judged(rt, alloc, packets);
+    let verdicts = good(rt, alloc, &cert);
+    let part = cert.user_ids().get(uid).expect(rt, "a user ID");
+    stand_at(rt, alloc, part, &verdicts, t, places, revoked)
 }
 
 #[test]
 fn certifiers_of_user_ids(rt: HostRuntime) {
     for case in &CERTIFIED {
-        assert!(rt; is_certified_so(rt.alloc(), case) == Some(true));
+        expect_that(&rt, is_certified_so(&rt, rt.alloc(), case));
     }
 }

@@ -1,3 +1,4 @@
+use crate::assertion::expect_that;
 use crate::signature::bodies::{MADE_2000, PLAIN, says};
 use wot_signature::SigFacts;
 
@@ -73,14 +74,16 @@ static HASHED: [(&[u8], SigFacts); 9] = [
 #[test]
 fn only_hashed_areas_give_facts(rt: HostRuntime) {
     for (hashed, expected) in &HASHED {
-        assert!(rt; says(rt.alloc(), hashed, &[], Some(*expected)));
+        expect_that(&rt, says(&rt, rt.alloc(), hashed, &[], Some(*expected)));
     }
-    assert!(rt;
+    expect_that(
+        &rt,
         says(
+            &rt,
             rt.alloc(),
             &MADE_2000,
             &[0x03, 0x05, 0x01, 0x78],
-            Some(PLAIN)
-        )
+            Some(PLAIN),
+        ),
     );
 }

@@ -1,3 +1,4 @@
+use crate::assertion::expect_that;
 use wot_types::{Fpr, SigNumber};
 use wot_verdict::{Verdict, Verdicts, number_of};
 
@@ -34,7 +35,7 @@ static NUMBERED: [(u8, &[u8], &[u8], &str); 3] = [
 fn numbers_as_another_program_gives_them(rt: HostRuntime) {
     for (kind, component, signature, digits) in &NUMBERED {
         let number = number_of(KEY, *kind, component, signature);
-        assert!(rt; SigNumber::read(digits.as_bytes()) == Some(number));
+        expect_that(&rt, SigNumber::read(digits.as_bytes()) == Some(number));
     }
 }
 
@@ -44,28 +45,35 @@ const SECOND: SigNumber = SigNumber([2; 32]);
 
 const GOOD: Verdict = Verdict::Good(Fpr::V4([7; 20]));
 
-fn are_these(verdicts: &Verdicts, first: Option<Verdict>, count: usize) -> bool {
+fn are_these(verdicts: &Verdicts, expected: &[(SigNumber, Verdict)]) -> bool {
     let mut entries = verdicts.iter();
-    let begin = match first {
-        Some(verdict) => entries.next() == Some((FIRST, verdict)),
-        None => true,
-    };
-    begin
-        && entries.next() == Some((SECOND, GOOD))
-        && entries.next().is_none()
-        && verdicts.get(&FIRST) == first
-        && verdicts.len() == count
+    for entry in expected {
+        if entries.next() != Some(*entry) {
+            return false;
+        }
+    }
+    entries.next().is_none() && verdicts.len() == expected.len()
 }
 
 #[test]
 fn verdicts_are_a_map_in_order(rt: HostRuntime) {
     let mut verdicts = Verdicts::new(rt.alloc());
-    assert!(rt;
-        verdicts.set(SECOND, GOOD) == Ok(true) && verdicts.set(FIRST, Verdict::Bad) == Ok(true)
+    expect_that(&rt, verdicts.set(SECOND, GOOD) == Ok(true));
+    expect_that(&rt, verdicts.set(FIRST, Verdict::Bad) == Ok(true));
+    expect_that(&rt, verdicts.set(FIRST, Verdict::Bad) == Ok(false));
+    expect_that(&rt, verdicts.get(&FIRST) == Some(Verdict::Bad));
+    expect_that(
+        &rt,
+        are_these(&verdicts, &[(FIRST, Verdict::Bad), (SECOND, GOOD)]),
     );
-    assert!(rt; verdicts.set(FIRST, Verdict::Bad) == Ok(false));
-    assert!(rt; are_these(&verdicts, Some(Verdict::Bad), 2));
-    assert!(rt; verdicts.set(FIRST, GOOD) == Ok(true) && are_these(&verdicts, Some(GOOD), 2));
-    assert!(rt; verdicts.clear(&FIRST) && !verdicts.clear(&FIRST));
-    assert!(rt; are_these(&verdicts, None, 1));
+    expect_that(
+        &rt,
+        verdicts.set(FIRST, GOOD) == Ok(true) && verdicts.get(&FIRST) == Some(GOOD),
+    );
+    expect_that(&rt, are_these(&verdicts, &[(FIRST, GOOD), (SECOND, GOOD)]));
+    expect_that(&rt, verdicts.clear(&FIRST) && !verdicts.clear(&FIRST));
+    expect_that(
+        &rt,
+        verdicts.get(&FIRST).is_none() && are_these(&verdicts, &[(SECOND, GOOD)]),
+    );
 }

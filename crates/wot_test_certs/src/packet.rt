@@ -1,4 +1,6 @@
+use crate::assertion::expect_that;
 use std::alloc::Global;
+use std::process::Abort;
 use wot_packet::{Packet, ReadFault, read_packets, write_packet};
 
 /// Each boundary of the lengths, in each form that can spell it: the header, the type, the length of the body.
@@ -46,10 +48,12 @@ fn reads_as(alloc: Global, text: &[u8], wanted: &[Packet<'_>]) -> bool {
 }
 
 /// Whether a packet with this header is read, and the one behind it.
-fn is_read(alloc: Global, header: &[u8], kind: u8, length: usize) -> Option<bool> {
-    let body = vec![in alloc; 0x98u8; length].ok()?;
-    let mut text = header.to_vec(alloc).ok()?;
-    text.extend_from_slice(&body).ok()?;
+fn is_read(rt: &impl Abort, alloc: Global, header: &[u8], kind: u8, length: usize) -> bool {
+    let body = vec![in alloc; 0x98u8; length].expect(rt, "memory");
+    let mut text = header.to_vec(alloc).expect(rt, "memory");
+    text.extend_from_slice(&body).expect(rt, "memory");
+    let at = text.len();
+    text.extend_from_slice(b"\xcd\x01\x74").expect(rt, "memory");
     let first = Packet {
         kind,
         at: 0,
@@ -57,17 +61,16 @@ fn is_read(alloc: Global, header: &[u8], kind: u8, length: usize) -> Option<bool
     };
     let second = Packet {
         kind: 13,
-        at: text.len(),
+        at,
         body: b"t",
     };
-    text.extend_from_slice(b"\xcd\x01\x74").ok()?;
-    Some(reads_as(alloc, &text, &[first, second]))
+    reads_as(alloc, &text, &[first, second])
 }
 
 #[test]
 fn each_form_is_read(rt: HostRuntime) {
     for (header, kind, length) in &FORMS {
-        assert!(rt; is_read(rt.alloc(), header, *kind, *length) == Some(true));
+        expect_that(&rt, is_read(&rt, rt.alloc(), header, *kind, *length));
     }
 }
 
@@ -99,7 +102,7 @@ static LISTS: [(&[u8], &[Packet<'static>]); 1] = [
 #[test]
 fn lists_are_read(rt: HostRuntime) {
     for (text, packets) in &LISTS {
-        assert!(rt; reads_as(rt.alloc(), text, packets));
+        expect_that(&rt, reads_as(rt.alloc(), text, packets));
     }
 }
 
@@ -114,23 +117,23 @@ fn fault_of(alloc: Global, text: &[u8]) -> Option<(u8, usize)> {
 #[test]
 fn first_faults_are_told(rt: HostRuntime) {
     for (text, number, at) in &FAULTS {
-        assert!(rt; fault_of(rt.alloc(), text) == Some((*number, *at)));
+        expect_that(&rt, fault_of(rt.alloc(), text) == Some((*number, *at)));
     }
 }
 
 /// Whether a user ID packet of this length is written with this header, behind what stood there.
-fn is_written(alloc: Global, length: usize, header: &[u8]) -> Option<bool> {
-    let body = vec![in alloc; 0x74u8; length].ok()?;
-    let mut expected = b"before".to_vec(alloc).ok()?;
-    expected.extend_from_slice(header).ok()?;
-    expected.extend_from_slice(&body).ok()?;
-    let mut out = b"before".to_vec(alloc).ok()?;
-    Some(body.len() < 100_000 && write_packet(13, &body, &mut out).is_ok() && out == expected)
+fn is_written(rt: &impl Abort, alloc: Global, length: usize, header: &[u8]) -> bool {
+    let body = vec![in alloc; 0x74u8; length].expect(rt, "memory");
+    let mut out = b"before".to_vec(alloc).expect(rt, "memory");
+    let mut expected = b"before".to_vec(alloc).expect(rt, "memory");
+    expected.extend_from_slice(header).expect(rt, "memory");
+    expected.extend_from_slice(&body).expect(rt, "memory");
+    body.len() < 100_000 && write_packet(13, &body, &mut out).is_ok() && out == expected
 }
 
 #[test]
 fn the_shortest_is_written(rt: HostRuntime) {
     for (length, header) in &SHORTEST {
-        assert!(rt; is_written(rt.alloc(), *length, header) == Some(true));
+        expect_that(&rt, is_written(&rt, rt.alloc(), *length, header));
     }
 }

@@ -1,4 +1,6 @@
+use crate::assertion::expect_that;
 use std::alloc::Global;
+use std::process::Abort;
 use wot_subpacket::*;
 
 fn count_in(octets: &[u8]) -> Result<usize, AreaFault> {
@@ -31,7 +33,7 @@ static AREAS: [(&[u8], Result<usize, AreaFault>); 7] = [
 #[test]
 fn areas_are_lists_or_have_a_first_fault(rt: HostRuntime) {
     for (octets, expected) in &AREAS {
-        assert!(rt; count_in(octets) == *expected);
+        expect_that(&rt, count_in(octets) == *expected);
     }
 }
 
@@ -43,39 +45,47 @@ static LENGTHS: [(&[u8], usize); 3] = [
 ];
 
 /// Whether a subpacket of this spelled length is read with all its octets, and the one behind it.
-fn is_read(alloc: Global, spelled: &[u8], size: usize) -> Option<bool> {
-    let body = vec![in alloc; 0x61u8; size].ok()?;
-    let mut octets = spelled.to_vec(alloc).ok()?;
-    octets.push(0x86).ok()?;
-    octets.extend_from_slice(&body).ok()?;
-    octets.extend_from_slice(&[0x01, 0x02]).ok()?;
-    let mut subs = Area::new(&octets).ok()?.iter();
+fn is_read(rt: &impl Abort, alloc: Global, spelled: &[u8], size: usize) -> bool {
+    let body = vec![in alloc; 0x61u8; size].expect(rt, "memory");
+    let mut octets = spelled.to_vec(alloc).expect(rt, "memory");
+    octets.extend_from_slice(&[0x86]).expect(rt, "memory");
+    octets.extend_from_slice(&body).expect(rt, "memory");
+    octets.extend_from_slice(&[0x01, 0x02]).expect(rt, "memory");
+    are_two(&octets, &body)
+}
+
+/// Whether an area has a critical subpacket of the type 6 and this body, and one of the type 2 without octets.
+fn are_two(octets: &[u8], body: &[u8]) -> bool {
+    let Ok(area) = Area::new(octets) else {
+        return false;
+    };
+    let mut subs = area.iter();
     let first = Sub {
         critical: true,
         kind: 6,
-        body: &body,
+        body,
     };
     let second = Sub {
         critical: false,
         kind: 2,
         body: &[],
     };
-    Some(subs.next() == Some(first) && subs.next() == Some(second) && subs.next().is_none())
+    subs.next() == Some(first) && subs.next() == Some(second) && subs.next().is_none()
 }
 
 #[test]
 fn every_length_is_read(rt: HostRuntime) {
     for (spelled, size) in &LENGTHS {
-        assert!(rt; is_read(rt.alloc(), spelled, *size) == Some(true));
+        expect_that(&rt, is_read(&rt, rt.alloc(), spelled, *size));
     }
 }
 
 #[test]
 fn the_longest_area_is_read(rt: HostRuntime) {
-    let mut octets = Vec::new(rt.alloc());
-    for _ in 0..32767 {
-        assert!(rt; octets.extend_from_slice(&[0x01, 0x65]).is_ok());
-    }
-    assert!(rt; count_in(&octets) == Ok(32767));
-    assert!(rt; octets.push(0x01).is_ok() && count_in(&octets) == CUT_BODY);
+    let mut octets = vec![in rt.alloc(); 0x01u8; 65534].expect(&rt, "memory");
+    expect_that(&rt, count_in(&octets) == Ok(32767));
+    expect_that(
+        &rt,
+        octets.push(0x01).is_ok() && count_in(&octets) == CUT_BODY,
+    );
 }

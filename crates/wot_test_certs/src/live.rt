@@ -1,8 +1,10 @@
+use crate::assertion::expect_that;
 use crate::certificates::{good, judged};
 use std::alloc::Global;
-use wot_cert::{Cert, Span};
+use std::process::Abort;
+use wot_cert::Span;
 use wot_edge::{Edge, EdgeFacts};
-use wot_live::{Rows, rows};
+use wot_live::rows;
 use wot_sample::Packet::{self, Signature, SignatureByHash, UserId};
 use wot_sample::Says::{By, Made};
 use wot_sample::{
@@ -10,32 +12,20 @@ use wot_sample::{
     SEVERAL_ISSUERS, SPANS, T,
 };
 use wot_types::Steps;
-use wot_verdict::Verdicts;
-
-fn rows_at(
-    alloc: Global,
-    cert: &Cert,
-    verdicts: &Verdicts,
-    t: u32,
-    steps: &mut Steps,
-) -> Option<(Rows, Span)> {
-    if cert.size() >= 1000 {
-        return None;
-    }
-    rows(alloc, cert, verdicts, t, steps).ok()
-}
 
 /// Whether these edges say so, in order.
 fn say(edges: &[Edge], expected: &[EdgeFacts]) -> bool {
-    if edges.len() != expected.len() {
-        return false;
-    }
-    for (edge, facts) in edges.iter().zip(expected) {
+    let mut rest = edges;
+    for facts in expected {
+        let Some((edge, others)) = rest.split_first() else {
+            return false;
+        };
         if edge.facts() != *facts {
             return false;
         }
+        rest = others;
     }
-    true
+    rest.is_empty()
 }
 
 /// An edge from R to the first user ID of T, as its first signature there says without trust.
@@ -191,23 +181,22 @@ static CASES: [Case; 12] = [
 ];
 
 /// Whether that is what is told of a certificate at a time.
-fn is_told(alloc: Global, case: &Case) -> Option<bool> {
+fn is_told(rt: &impl Abort, alloc: Global, case: &Case) -> bool {
     let (packets, t, edges, revoked, (from, to)) = *case;
-    let cert = judged(alloc, packets)?;
-    let verdicts = good(alloc, &cert)?;
+    let cert = judged(rt, alloc, packets);
+    let verdicts = good(rt, alloc, &cert);
     let mut steps = Steps::new();
-    let (found, span) = rows_at(alloc, &cert, &verdicts, t, &mut steps)?;
-    Some(
-        say(&found.edges, edges)
-            && found.revoked.as_slice() == revoked
-            && span == Span { from, to }
-            && steps.made == edges.len() as u64,
-    )
+    assert!(rt; cert.size() < 1000);
+    let (found, span) = rows(alloc, &cert, &verdicts, t, &mut steps).expect(rt, "memory");
+    say(&found.edges, edges)
+        && found.revoked.as_slice() == revoked
+        && span == Span { from, to }
+        && steps.made == edges.len() as u64
 }
 
 #[test]
 fn rows_and_spans(rt: HostRuntime) {
     for case in &CASES {
-        assert!(rt; is_told(rt.alloc(), case) == Some(true));
+        expect_that(&rt, is_told(&rt, rt.alloc(), case));
     }
 }

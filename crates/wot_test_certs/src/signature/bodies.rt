@@ -1,4 +1,5 @@
-use std::alloc::{AllocError, Global};
+use std::alloc::Global;
+use std::process::Abort;
 use wot_signature::{SigFacts, read_signature};
 
 /// The hashed subpacket of a creation time, 2000.
@@ -23,35 +24,34 @@ pub(crate) const PLAIN: SigFacts = SigFacts {
 
 /// A certification with these areas and no material.
 pub(crate) fn certification(
+    rt: &impl Abort,
     alloc: Global,
     hashed: &[u8],
     unhashed: &[u8],
-) -> Result<Vec<u8>, AllocError> {
-    let mut body = Vec::new(alloc);
-    body.extend_from_slice(&[0x04, 0x10, 0x1b, 0x08])?;
-    extend_with_field(&mut body, hashed)?;
-    extend_with_field(&mut body, unhashed)?;
-    body.extend_from_slice(&[0x00, 0x00])?;
-    Ok(body)
+) -> Vec<u8> {
+    let mut body = b"\x04\x10\x1b\x08".to_vec(alloc).expect(rt, "memory");
+    extend_with_field(rt, &mut body, hashed);
+    extend_with_field(rt, &mut body, unhashed);
+    body.extend_from_slice(&[0x00, 0x00]).expect(rt, "memory");
+    body
 }
 
 /// Appends the number of octets, by two octets, and the octets.
-fn extend_with_field(body: &mut Vec<u8>, octets: &[u8]) -> Result<(), AllocError> {
+fn extend_with_field(rt: &impl Abort, body: &mut Vec<u8>, octets: &[u8]) {
     let size = u16::try_from(octets.len()).unwrap_or(0);
-    body.extend_from_slice(&size.to_be_bytes())?;
-    body.extend_from_slice(octets)?;
-    Ok(())
+    body.extend_from_slice(&size.to_be_bytes())
+        .expect(rt, "memory");
+    body.extend_from_slice(octets).expect(rt, "memory");
 }
 
 /// Whether a certification with these areas says this; `None` where it isn't readable.
 pub(crate) fn says(
+    rt: &impl Abort,
     alloc: Global,
     hashed: &[u8],
     unhashed: &[u8],
     expected: Option<SigFacts>,
 ) -> bool {
-    match certification(alloc, hashed, unhashed) {
-        Ok(body) => read_signature(&body) == expected,
-        Err(_) => false,
-    }
+    let body = certification(rt, alloc, hashed, unhashed);
+    read_signature(&body) == expected
 }
