@@ -112,7 +112,8 @@ fn extend_onward<R: Roads, N: Notes>(
     extend_by(roads, quest, size, at, edges, hints, reached, notes)
 }
 
-/// Considers each edge into a fingerprint, of which all may be known to be usable; their numbers begin here in the table.
+/// Considers each edge into a fingerprint, all of which may be known to be usable. Their numbers begin here in the
+/// table.
 fn extend_all<R: Roads, N: Notes>(
     roads: &R,
     quest: &Quest,
