@@ -31,6 +31,11 @@ class Session:
             raise SystemExit(f"{line[:60]!r}: {reply!r}")
         return reply, passed * 1e6
 
+    def spent(self):
+        """The microseconds of processor time that the program has taken, those of its calls of the system with them."""
+        with open(f"/proc/{self.process.pid}/schedstat", encoding="ascii") as times:
+            return int(times.read().split()[0]) / 1e3
+
     def watched(self):
         """The microseconds until all that watches were told behind the last line is there."""
         before = time.perf_counter()
