@@ -12,7 +12,7 @@ from pathlib import Path
 
 HERE = Path(__file__).resolve().parent
 ROOT = Path(os.environ.get("WOT_ROOT") or HERE.parents[2])
-CLIENT = ROOT / "clients" / "python"
+CLIENT = ROOT / "python"
 COMMAND = CLIENT / "bin" / "tukyamid"
 PROGRAM = os.environ.get("WOT_PROGRAM") or str(ROOT / "crates" / "wot_cli" / "out" / "wot_cli")
 TRUSTING = [sys.executable, str(HERE / "trusting_verdicts.py")]
@@ -53,8 +53,8 @@ def installed(program, package):
 @functools.cache
 def verifier_built():
     """The path of the repository's own verifier, built where that isn't done yet; None where packages are missing."""
-    folder = ROOT / "tools" / "verdicts"
+    folder = ROOT / "verifier"
     done = subprocess.run([folder / "build"], stdin=subprocess.DEVNULL, capture_output=True, text=True, check=False)
     if done.returncode not in (0, 69):
-        raise AssertionError(f"tools/verdicts/build ended with status {done.returncode}: {done.stderr}")
+        raise AssertionError(f"verifier/build ended with status {done.returncode}: {done.stderr}")
     return folder / "out" / "wot-verdicts" if done.returncode == 0 else None

@@ -12,7 +12,7 @@ sys.path.insert(0, str(ROOT / "model"))
 from wot_model import generate  # noqa: E402
 from wot_model.script import lines_of  # noqa: E402
 
-CHECKER = ROOT / "clients" / "python" / "bin" / "check-claims"
+CHECKER = ROOT / "python" / "bin" / "check-claims"
 SEEDS = range(500, 520)
 
 

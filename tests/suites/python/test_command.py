@@ -279,7 +279,7 @@ class Questions(unittest.TestCase):
         """The verifier that stands in the repository says the same as gpg, who made the signatures: all are good."""
         built = verifier_built()
         if built is None:
-            self.skipTest("tools/verdicts can't be built: packages are missing")
+            self.skipTest("verifier can't be built: packages are missing")
         said = [run([*words, self.friends.keyring]).stdout.splitlines() for words in ([built], TRUSTING)]
         verdicts = [{line for line in lines if line.startswith(b"verdict ")} for lines in said]
         self.assertEqual(verdicts[0], verdicts[1])

@@ -4,7 +4,7 @@ names. It verifies nothing."""
 import sys
 from pathlib import Path
 
-sys.path.insert(0, str(Path(__file__).resolve().parents[3] / "clients" / "python"))
+sys.path.insert(0, str(Path(__file__).resolve().parents[3] / "python"))
 
 from tukyamid.certificates import KEY, bindings_of, packets, read_certificate
 

@@ -18,7 +18,7 @@ from tukyamid.replies import ListingHead, read_reply
 HERE = Path(__file__).resolve().parent
 ROOT = Path(os.environ.get("WOT_ROOT") or HERE.parents[2])
 PROGRAM = os.environ.get("WOT_PROGRAM") or str(ROOT / "crates" / "wot_cli" / "out" / "wot_cli")
-SERVER = ROOT / "clients" / "server" / "bin" / "tukyamid-server"
+SERVER = ROOT / "python" / "bin" / "tukyamid-server"
 WORN_ENGINE = HERE / "worn_engine.py"
 PATIENCE = 1200  # Of a test that waits for what must come; no machine is so slow.
 

@@ -10,7 +10,7 @@ from concurrent.futures import ThreadPoolExecutor
 from unittest.mock import Mock
 
 from outside import WORN_ENGINE, Client, Server, expected, needs_engine, with_reply
-from tukyamid_server.session import Session
+from tukyamid.service.session import Session
 from world import Chatter, World
 
 

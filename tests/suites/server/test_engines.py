@@ -7,8 +7,8 @@ import signal
 import unittest
 
 from outside import PROGRAM, WORN_ENGINE, Client, Server, alone, is_change, needs_engine
-from tukyamid_server import hub as hubs
-from tukyamid_server import journal
+from tukyamid.service import hub as hubs
+from tukyamid.service import journal
 from world import Chatter, World
 
 

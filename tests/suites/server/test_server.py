@@ -13,12 +13,12 @@ import unittest
 from pathlib import Path
 
 from outside import PATIENCE, PROGRAM, ROOT, SERVER, Client, Server, alone, cut, needs_engine
-from tukyamid_server.framing import LineCutter, ReplyCutter
-from tukyamid_server.service import write_whole
-from tukyamid_server.views import Views, with_views, without_views
+from tukyamid.service.framing import LineCutter, ReplyCutter
+from tukyamid.service.service import write_whole
+from tukyamid.service.views import Views, with_views, without_views
 from world import World
 
-FOLDER = ROOT / "clients" / "server"
+PYTHON, UNITS = ROOT / "python", ROOT / "packaging" / "systemd"
 HEX = b"00" * 20
 
 
@@ -167,7 +167,7 @@ class Words(unittest.TestCase):
 class Documents(unittest.TestCase):
     @unittest.skipUnless(shutil.which("groff"), "groff isn't installed")
     def test_the_man_page_has_every_option(self):
-        page = FOLDER / "tukyamid-server.1"
+        page = PYTHON / "tukyamid-server.1"
         done = subprocess.run(["groff", "-man", "-Tutf8", "-ww", page], capture_output=True, text=True, check=True)
         self.assertEqual(done.stderr, "")
         options = subprocess.run([sys.executable, SERVER, "--help"], capture_output=True, text=True, check=True).stdout
@@ -181,7 +181,7 @@ class Documents(unittest.TestCase):
     def test_the_units(self):
         with tempfile.TemporaryDirectory() as folder:
             units = []
-            for unit in sorted((FOLDER / "systemd").iterdir()):
+            for unit in sorted(UNITS.iterdir()):
                 units.append(Path(folder) / unit.name)
                 units[-1].write_text(unit.read_text().replace("/opt/tukyamid", str(ROOT)))
             done = subprocess.run(["systemd-analyze", "verify", "--user", "--man=no", *units], capture_output=True,

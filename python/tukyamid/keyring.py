@@ -27,7 +27,7 @@ def find_verifier():
     named = os.environ.get("TUKYAMID_VERIFIER")
     if named:
         return [named]
-    tool = Path(__file__).resolve().parents[3] / "tools" / "verdicts"
+    tool = Path(__file__).resolve().parents[2] / "verifier"
     built = tool / "out" / "wot-verdicts"
     if os.access(built, os.X_OK):
         return [str(built)]

@@ -22,7 +22,7 @@ def find_program():
     named = os.environ.get("TUKYAMID_ENGINE")
     if named:
         return [named]
-    top = FilePath(__file__).resolve().parents[3]
+    top = FilePath(__file__).resolve().parents[2]
     built = top / "crates" / "wot_cli" / "out" / "wot_cli"
     if os.access(built, os.X_OK):
         return [str(built)]
