@@ -1,8 +1,8 @@
 """What a bench measured, as a file that `bench/compare` and `bench/plot` read.
 
-Every bench takes `--json FILE` beside its own words. The file has the bench, the commit, the program's digest, the machine
-with its load, and the rows. A row has a name, a value with its unit, and, if there are any, the size that it grows with,
-what it stands beside (a peer in the same run, or a limit) and the ratio to that: 1 is equal, more is worse.
+Every bench takes `--json FILE` beside its own words. The file has the bench, the commit, the program's digest, the
+machine with its load, and the rows. A row has a name, a value with its unit, and, if there are any, the size that it
+grows with, what it stands beside (a peer in the same run, or a limit) and the ratio to that: 1 is equal, more is worse.
 """
 
 import hashlib
@@ -121,3 +121,13 @@ def read_all(place: Path) -> dict[str, dict[str, Any]]:
     files = sorted(place.glob("*.json")) if place.is_dir() else [place]
     runs = [read(file) for file in files]
     return {run["bench"]: run for run in runs if "bench" in run}
+
+
+def grouped(rows: list[Row]) -> dict[str, list[Row]]:
+    """The rows with a size, by their names without it."""
+    groups: dict[str, list[Row]] = {}
+    for row in rows:
+        if "size" in row:
+            name = row["name"].replace(f", {row['size']:,}", "").strip()
+            groups.setdefault(name, []).append(row)
+    return groups
