@@ -9,7 +9,7 @@ import unittest
 from outside import FAKE_ENGINE
 from tukyamid import (Accepted, Answer, Binding, Claim, ClaimedStep, Done, Engine, EngineEnded, Explanation, Gone, Key,
                       Label, Missed, Path, PendingSignature, ProtocolError, Reached, Reason, Rejected, Stale, Step,
-                      Taken, Watched, commands, refusals)
+                      Taken, Watched, commands, read_command, refusals)
 from tukyamid.reasons import ReasonWord, TargetWord
 from tukyamid.replies import Exported
 
@@ -221,13 +221,13 @@ class Lines(unittest.TestCase):
         for command, line in table:
             with self.subTest(line):
                 self.assertEqual(command.line(), line)
-                self.assertEqual(commands.read_command(line), command)
+                self.assertEqual(read_command(line), command)
 
     def test_what_has_no_spelling_is_a_value_error(self):
         for make in (lambda: commands.Drop("aa"), lambda: commands.Drop(A + "\nkeys"), lambda: commands.Time("V", 1),
                      lambda: commands.Time("v", 2**32), lambda: commands.Root("v", A, 256),
                      lambda: commands.Ask("v", A, 0, ""),
                      lambda: commands.Bad("0"), lambda: commands.Time("v" * 33, 1), lambda: commands.Time("v", True),
-                     lambda: commands.read_command(b"keys now"), lambda: commands.read_command(b"nonsense"),
-                     lambda: commands.read_command(b"ask v " + A.encode() + rb" 1 \q")):
+                     lambda: read_command(b"keys now"), lambda: read_command(b"nonsense"),
+                     lambda: read_command(b"ask v " + A.encode() + rb" 1 \q")):
             self.assertRaises(ValueError, make)
