@@ -14,13 +14,12 @@ from .replies import (Accepted, Answer, Binding, Done, Explanation, Exported, Ke
                       Rejected, Stored, Taken, Watched)
 from .spelling import UserId
 
-MOST_TIME = 2**32 - 1
-MOST_WANTED = 2**32 - 1
+MOST_TIME = MOST_WANTED = 2**32 - 1
 TRUST_ROOT = "trust-root"
 
 
-def _wanted(value: int, what: str = "wanted amount") -> int:
-    return spelling.decimal(value, 1, MOST_WANTED, what)
+def _wanted(value: int) -> int:
+    return spelling.decimal(value, 1, MOST_WANTED, "wanted amount")
 
 
 class Import(Command[Taken]):
@@ -120,13 +119,18 @@ class Root(Command[Done]):
         self.amount = spelling.decimal(amount, 0, 255, "amount")
 
 
-class Close(Command[Done]):
-    """Closes a view."""
-    __slots__ = ("view",)
-    form, replies = "view {0.view} close", (Done,)
+class _Named(Line):
+    """A command about one view, cursor or watch."""
+    __slots__ = ("name",)
 
-    def __init__(self, view: str) -> None:
-        self.view = spelling.view_name(view)
+    def __init__(self, name: str) -> None:
+        self.name = spelling.view_name(name)
+
+
+class Close(_Named, Command[Done]):
+    """Closes a view."""
+    __slots__ = ()
+    form, replies = "view {0.name} close", (Done,)
 
 
 class _Question(Line):
@@ -227,16 +231,13 @@ class CursorNext(ListingCommand[Binding]):
     form, item = "cursor {0.cursor} next {0.count}", Binding
 
     def __init__(self, cursor: str, count: int) -> None:
-        self.cursor, self.count = spelling.view_name(cursor), _wanted(count, "count")
+        self.cursor, self.count = spelling.view_name(cursor), spelling.decimal(count, 1, MOST_WANTED, "count")
 
 
-class CursorClose(Command[Done]):
+class CursorClose(_Named, Command[Done]):
     """Takes a cursor away."""
-    __slots__ = ("cursor",)
-    form, replies = "cursor {0.cursor} close", (Done,)
-
-    def __init__(self, cursor: str) -> None:
-        self.cursor = spelling.view_name(cursor)
+    __slots__ = ()
+    form, replies = "cursor {0.name} close", (Done,)
 
 
 class WatchOn(_WantedQuestion, Command[Watched]):
@@ -249,10 +250,7 @@ class WatchOn(_WantedQuestion, Command[Watched]):
         self.watch = spelling.view_name(watch)
 
 
-class WatchOff(Command[Done]):
+class WatchOff(_Named, Command[Done]):
     """Takes a watch away."""
-    __slots__ = ("watch",)
-    form, replies = "watch {0.watch} off", (Done,)
-
-    def __init__(self, watch: str) -> None:
-        self.watch = spelling.view_name(watch)
+    __slots__ = ()
+    form, replies = "watch {0.name} off", (Done,)

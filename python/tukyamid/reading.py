@@ -30,7 +30,7 @@ T = TypeVar("T")
 Word = TypeVar("Word", bound=StrEnum)
 Reader = Generator[None, str, T]
 
-_SHORT = {"N": "(0|[1-9][0-9]*)", "FPR": "([0-9a-f]{40}|[0-9a-f]{64})", "NUM": "([0-9a-f]{64})", "REST": "(.*)",
+_SHORT = {"N": "(0|[1-9][0-9]{0,19})", "FPR": "([0-9a-f]{40}|[0-9a-f]{64})", "NUM": "([0-9a-f]{64})", "REST": "(.*)",
           "WORD": "([a-z-]+)", "NAME": "([a-z0-9_-]{1,32})", "FIELD": "([^ ]+)", "HEX": "((?:[0-9a-f]{2})*)",
           "HINT": "([0-9a-f]{16}|[0-9a-f]{40}|[0-9a-f]{64}|-)"}
 

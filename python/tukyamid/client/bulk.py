@@ -14,8 +14,8 @@ MOST_LINES = 4096
 
 
 class _Writing(Generic[T]):
-    """Writes what `pieces` brings, a pair of a note and octets each. Iterated over, it brings the notes, each before its
-    octets are written. A fault of `pieces` is raised at the end, when all before it is written."""
+    """Writes what `pieces` brings, a pair of a note and octets each. In a `with`, it is an iterator of the notes; each
+    comes before its octets are written. A fault of `pieces` is raised at the end, when all before it is written."""
 
     def __init__(self, wire: Wire, pieces: Iterable[tuple[T, bytes]], abandon: Callable[[], None]) -> None:
         self._wire, self._pieces, self._abandon = wire, pieces, abandon

@@ -55,8 +55,8 @@ class Calls(ABC):
         return self.do(commands.Load(name))
 
     def store(self, fpr: str) -> int:
-        """Writes a certificate, merged with its entry in that directory, in place of the entry. Returns the size of what
-        was written."""
+        """Writes a certificate, merged with its entry in that directory, in place of the entry. Returns the size of
+        what was written."""
         return self.do(commands.Store(fpr)).size
 
     def drop(self, fpr: str) -> None:
@@ -123,15 +123,14 @@ class Calls(ABC):
                 yield piece
                 self.begin_cursor(cursor, view, wanted)
                 continue
-            bindings = [*piece]
-            yield from bindings
-            if len(bindings) < count:
+            yield from piece
+            if piece.count < count:
                 self.close_cursor(cursor)
                 return
 
     def watch(self, watch: str, view: str, fpr: str, wanted: int, user_id: UserId) -> int:
-        """Begins a watch over the answer of `ask`, or begins it anew, and returns its amount now. Whenever that changes,
-        `told` has it."""
+        """Begins a watch over the answer of `ask`, or begins it anew, and returns its amount now. Whenever that
+        changes, `told` has it."""
         return self.do(commands.WatchOn(watch, view, fpr, wanted, user_id)).amount
 
     def unwatch(self, watch: str) -> None:
@@ -139,8 +138,8 @@ class Calls(ABC):
         self.do(commands.WatchOff(watch))
 
     def explain(self, view: str, fpr: str, user_id: UserId) -> Explanation:
-        """What a user ID of a key comes to, and each certification on it. Raises RefusedAbsent if the key isn't held, or
-        has no such user ID."""
+        """What a user ID of a key comes to, and each certification on it. Raises RefusedAbsent if the key isn't held,
+        or has no such user ID."""
         return self.do(commands.Explain(view, fpr, user_id))
 
     def absence(self, view: str, fpr: str, wanted: int, user_id: UserId) -> Reached | Missed:

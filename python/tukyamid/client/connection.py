@@ -98,8 +98,8 @@ class Connection(Calls):
 
     def feed(self, lines: Iterable[bytes]) -> list[Refused]:
         """Sends many lines without waiting for each reply: the quick way for imports and verdicts that are made
-        meanwhile. Returns the refusals; each has the number of its line, `position`. If `lines` raises, the lines before
-        it have been sent. There must be no watch, and none begins so."""
+        meanwhile. Returns the refusals; each has the number of its line, `position`. If `lines` raises, the lines
+        before it have been sent. There must be no watch, and none begins so."""
         with self._lock:
             self._refuse_watches()
             self._begin()

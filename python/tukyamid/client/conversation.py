@@ -27,8 +27,8 @@ class Conversation:
 
     @staticmethod
     def octets_for(line: bytes) -> bytes:
-        """What is sent for a line. A probe goes before a line that begins a watch: so what an earlier watch of this name
-        is told isn't taken for the reply."""
+        """What is sent for a line. A probe goes before a line that begins a watch: so what an earlier watch of this
+        name is told isn't taken for the reply."""
         return (PROBE + b"\n" if begun_watch(line) else b"") + line + b"\n"
 
     def reply_to(self, line: bytes) -> Reader[Reply]:
@@ -48,16 +48,17 @@ class Conversation:
     def hear(self) -> Reader[None]:
         """Reads what watches were told, up to the reply to a probe."""
         while (line := (yield)) != PROBED:
-            self._hear_line(line)
+            self.hear_line(line)
 
     def _first_line(self, watch: str | None) -> Reader[str]:
         while True:
             line = yield
             if not line.startswith("watch ") or watch is not None and line.startswith(f"watch {watch} "):
                 return line
-            self._hear_line(line)
+            self.hear_line(line)
 
-    def _hear_line(self, line: str) -> None:
+    def hear_line(self, line: str) -> None:
+        """Takes a line that a watch is told."""
         told = read_watch(line)
         if isinstance(told, Gone):
             self.watches.discard(told.watch)

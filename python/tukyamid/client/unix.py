@@ -38,8 +38,8 @@ class Client(Connection):
 
 
 def connect(path: str | os.PathLike[str], timeout: float | None = None) -> Client:
-    """Connects to the service that listens at a path. Raises ServiceMissing if none does. If the service doesn't read or
-    write for `timeout` seconds while a call waits for it, that call raises ServiceEnded."""
+    """Connects to the service that listens at a path. Raises ServiceMissing if none does. If the service doesn't read
+    or write for `timeout` seconds while a call waits for it, that call raises ServiceEnded."""
     connected = socket.socket(socket.AF_UNIX, socket.SOCK_STREAM)
     try:
         connected.settimeout(timeout)

@@ -40,22 +40,25 @@ class Wire:
 
     def line(self) -> str:
         """The next line, without its line feed."""
-        try:
-            line = b"" if self._reader.closed else self._reader.readline()
-        except TimeoutError:
-            raise self._too_late() from None
-        except ConnectionError:
-            line = b""
+        line = self._read(self._reader.readline)
         if not line.endswith(b"\n"):
             raise self._end()
         return line[:-1].decode("latin-1")
 
     def some(self) -> bytes:
         """As many octets as are there, at least one."""
-        octets = self._reader.read1(PIECE)
+        octets = self._read(lambda: self._reader.read1(PIECE))
         if not octets:
             raise self._end()
         return octets
+
+    def _read(self, read: Callable[[], bytes]) -> bytes:
+        try:
+            return b"" if self._reader.closed else read()
+        except TimeoutError:
+            raise self._too_late() from None
+        except ConnectionError:
+            return b""
 
     def close_output(self) -> None:
         """Says that nothing more comes."""
@@ -67,7 +70,7 @@ class Wire:
     def drain(self) -> None:
         """Reads what still comes, and drops it."""
         try:
-            while self._reader.read(PIECE):
+            while not self._reader.closed and self._reader.read(PIECE):
                 pass
         except OSError:
             pass
