@@ -1,11 +1,13 @@
 """The commands and conversations that the documents show: they are run, and what they print is what is shown."""
 
+import hashlib
 import os
 import re
 import shlex
 import subprocess
 import unittest
 from pathlib import Path
+from typing import Any
 
 from commands import OF_ANOTHER_SUITE, Shown, matches, run, shown_in, workshop
 from pages import PROGRAM, ROOT, Block, page
@@ -40,6 +42,15 @@ def conversation(block: Block) -> list[tuple[str, list[str]]]:
             found[-1][1].append(line[2:])
         else:
             found.append((line, []))
+    return found
+
+
+def packets_of(octets: bytes) -> list[tuple[int, bytes]]:
+    """The packets of a text with lengths of one octet: the type and the body of each."""
+    found = []
+    while octets:
+        found.append((octets[0] & 0x3F, octets[2 : 2 + octets[1]]))
+        octets = octets[2 + octets[1] :]
     return found
 
 
@@ -105,6 +116,17 @@ class Protocol(unittest.TestCase):
         first = [line.split("`")[1] for line in page("docs/PROTOCOL.md").lines if line.startswith("| `")]
         forms = {re.sub(r"\bK\b", "N", re.sub(r"\b[CW]\b", "V", cell)) for cell in first}
         self.assertEqual(set(COMMANDS) - forms, set())
+
+    def test_the_numbers_of_signatures(self) -> None:
+        """The function that the profile shows gives the numbers that the protocol's example uses."""
+        shown = next(block for block in page("docs/PROFILE.md").blocks if block.word == "python")
+        names: dict[str, Any] = {"hashlib": hashlib}
+        exec("\n".join(shown.lines), names)
+        lines = (ROOT / "docs/PROTOCOL.md").read_text(encoding="utf-8").splitlines()
+        imported = next(line for line in lines if line.startswith("import c607"))
+        (_, key), (_, signature) = packets_of(bytes.fromhex(imported.split(" ")[1]))
+        verdict = next(line for line in lines if line.startswith("verdict "))
+        self.assertEqual(names["number"](key, 0, b"", signature), verdict.split(" ")[1])
 
     def test_the_tables_have_each_reason(self) -> None:
         """The words of the page are those that the engine's definitions have."""
