@@ -1,4 +1,4 @@
-"""Checks a claim of absence (docs/PROFILE.md, "Claims of absence") by itself: no engine is asked, nothing is searched.
+"""Checks a claim of absence (docs/PROFILE.md, "Proofs of absence") by itself: no engine is asked, nothing is searched.
 
 What it goes over is handed in, an object `network` with
 

@@ -1,4 +1,4 @@
-"""What a document mentions exists: links, paths, names of code, clauses; and each page has its size."""
+"""What a document mentions exists: links, paths, sections, names of code; and each page has its size."""
 
 import re
 import subprocess
@@ -46,15 +46,27 @@ def is_part_of_a_crate(text: str) -> bool:
 
 
 @cache
+def texts() -> dict[str, str]:
+    """The files of code and documents that git tracks or would, by path."""
+    words = ["git", "ls-files", "--cached", "--others", "--exclude-standard"]
+    listed = subprocess.run(words, cwd=ROOT, capture_output=True, text=True, check=True).stdout.splitlines()
+    suffixes = {".rt", ".antt", ".py", ".rs", ".txt", ".md", ""}
+    found = (ROOT / name for name in listed if Path(name).suffix in suffixes)
+    return {
+        str(path.relative_to(ROOT)): path.read_text(encoding="utf-8", errors="replace")
+        for path in found
+        if path.is_file()
+    }
+
+
+@cache
 def words_of_code() -> frozenset[str]:
     """Each word of the repository's code, and of the names of its files."""
     found: set[str] = set()
-    listed = ["git", "ls-files", "--cached", "--others", "--exclude-standard"]
-    for name in subprocess.run(listed, cwd=ROOT, capture_output=True, text=True, check=True).stdout.splitlines():
-        path = ROOT / name
-        if path.suffix in {".rt", ".antt", ".py", ".rs", ".txt", ""} and path.is_file():
+    for name, text in texts().items():
+        if not name.endswith(".md"):
             found.update(re.findall(r"[\w-]+", name))
-            found.update(re.findall(r"[\w-]+", path.read_text(encoding="utf-8", errors="replace")))
+            found.update(re.findall(r"[\w-]+", text))
     return frozenset(found)
 
 
@@ -75,6 +87,17 @@ class Names(unittest.TestCase):
                 if not target.exists() or anchor and anchor not in Page(target).anchors:
                     broken.append(f"{document.name}:{number}: {link}")
         self.missing(broken)
+
+    def test_sections_that_are_named_are_there(self) -> None:
+        """Where code or a document names a page and a section of it in quotes, the page has that heading."""
+        named = re.compile(r"(docs/[A-Z-]+\.md)`?\)?, \"([^\"]+)\"")
+        absent = [
+            f"{name}: {where}, {section!r}"
+            for name, text in texts().items()
+            for where, section in named.findall(" ".join(text.split()))
+            if not (ROOT / where).exists() or section.replace("# ", "") not in page(where).headings
+        ]
+        self.missing(absent)
 
     def test_paths_exist(self) -> None:
         absent = [
@@ -107,69 +130,3 @@ class Names(unittest.TestCase):
         over = [f"{name}: {len(page(name).lines)} lines" for name, most in SIZES.items()
                 if len(page(name).lines) >= most]
         self.missing(over)
-
-
-class Proof(unittest.TestCase):
-    """The table of clauses: each row's file has its call, whose contract has its clauses."""
-
-    def rows(self) -> list[list[str]]:
-        document = page("docs/PROOF.md")
-        begun = document.lines.index("| sentence | clause | call | file |")
-        rows = []
-        for line in document.lines[begun + 2 :]:
-            if not line.startswith("|"):
-                break
-            rows.append([cell.strip() for cell in line.strip("|").split("|")])
-        return rows
-
-    def test_each_clause_stands_on_its_call(self) -> None:
-        rows = self.rows()
-        self.assertGreater(len(rows), 20)
-        for sentence, clauses, call, file in rows:
-            with self.subTest(sentence=sentence, call=call):
-                contract = contract_of((ROOT / file.strip("`")).read_text(encoding="utf-8"), call.strip("`"))
-                names = re.findall(r"`(\w+)`", clauses)
-                if not names:
-                    self.assertEqual(len(re.findall(r"\bensures\b", contract)), 1)
-                for name in names:
-                    self.assertRegex(contract, rf"\bensures\*? {name} \{{")
-
-    def test_each_sentence_has_its_clauses(self) -> None:
-        """The sentences of the README are those of the table, by number."""
-        readme = page("README.md")
-        begun = readme.lines.index("## What is proved")
-        after = [line for line in readme.lines[begun + 1 :]]
-        ends = next(at for at, line in enumerate(after) if line.startswith("## "))
-        numbers = {int(found.group(1)) for line in after[:ends] if (found := re.match(r"(\d+)\. ", line))}
-        carried = {int(found.group(1)) for row in self.rows() if (found := re.match(r"(\d+)", row[0]))}
-        told = {int(found.group(1)) for line in page("docs/PROOF.md").lines if (found := re.match(r"(\d+)\. ", line))}
-        self.assertGreaterEqual(len(numbers), 5)
-        self.assertEqual(numbers - carried, set())
-        self.assertEqual(carried, told)
-
-    def test_quotes_are_of_the_code(self) -> None:
-        """What the page on reading quotes of contracts and definitions stands in the crates, line by line."""
-        code = "\n".join(
-            path.read_text(encoding="utf-8")
-            for folder in ("src", "specs")
-            for path in sorted(ROOT.glob(f"crates/*/{folder}/**/*"))
-            if path.suffix in {".rt", ".antt"}
-        )
-        lines = {re.sub(r"\s+", " ", line.strip()) for line in code.splitlines()}
-        joined = re.sub(r"\s+", " ", code)
-        for block in page("docs/READING-PROOFS.md").blocks:
-            for line in block.lines:
-                quoted = re.sub(r"\s+", " ", line.strip())
-                if quoted and ".." not in quoted:
-                    with self.subTest(line=block.line, quoted=quoted):
-                        self.assertTrue(quoted in lines or quoted in joined)
-
-
-def contract_of(text: str, call: str) -> str:
-    """What stands between a function's name and its body."""
-    begun = re.search(rf"\bfn {call}\b", text)
-    if not begun:
-        raise AssertionError(f"there is no function {call}")
-    rest = text[begun.end() :]
-    ends = re.search(r"^ *\{(\}?)$", rest, re.M)
-    return rest[: ends.start()] if ends else rest
