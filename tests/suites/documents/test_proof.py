@@ -3,7 +3,7 @@
 import re
 import unittest
 
-from pages import ROOT, page
+from pages import ROOT, SPAN, page
 
 
 class Proof(unittest.TestCase):
@@ -44,6 +44,18 @@ class Proof(unittest.TestCase):
         self.assertEqual(numbers - carried, set())
         self.assertEqual(carried, told)
 
+    def test_each_crate_has_what_is_said_of_it(self) -> None:
+        """A paragraph that begins with crates names clauses, calls and types of these crates alone."""
+        document = page("docs/PROOF.md")
+        paragraphs = [line for _, line in document.prose if line.startswith("**wot_")]
+        self.assertGreater(len(paragraphs), 15)
+        for line in paragraphs:
+            crates = re.findall(r"wot_[a-z_]+", line.split(".**")[0])
+            words = {word for crate in crates for word in words_in(crate)}
+            named = {part for span in SPAN.findall(line) for part in span.split("::") if re.fullmatch(r"\w+", part)}
+            with self.subTest(crates=crates):
+                self.assertEqual(named - words, set())
+
     def test_quotes_are_of_the_code(self) -> None:
         """What the page on reading quotes of contracts and definitions stands in the crates, line by line."""
         code = "\n".join(
@@ -60,6 +72,12 @@ class Proof(unittest.TestCase):
                 if quoted and ".." not in quoted:
                     with self.subTest(line=block.line, quoted=quoted):
                         self.assertTrue(quoted in lines or quoted in joined)
+
+
+def words_in(crate: str) -> set[str]:
+    """Each word of a crate's code."""
+    files = (ROOT / "crates" / crate / "src").rglob("*.rt")
+    return {word for file in files for word in re.findall(r"\w+", file.read_text(encoding="utf-8"))}
 
 
 def contract_of(text: str, call: str) -> str:
