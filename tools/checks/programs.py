@@ -14,7 +14,7 @@ from .finding import CannotRun, Finding
 from .tree import PYTHON, SHELL, Tree
 
 PLACE = re.compile(r"^(?:\./)?(.+?):(\d+):(?:\d+:)? (.*)$", re.MULTILINE)
-PACKAGE, TOOLS = "tukyamid", ("tools/checks", "tools/nights", "bench/measures")
+PACKAGE, TOOLS = "tukyamid", ("tools/checks", "tools/nights")
 # `CDPATH= cd` is meant as it stands.
 SHELLCHECK = ("--format=gcc", "--exclude=SC1007")
 
