@@ -51,17 +51,23 @@ def clauses_of(text: str, tokens: Tokens) -> Iterator[tuple[int, str]]:
                 yield line_of(text, start), re.sub(r"\s+", " ", re.sub(r"//[^\n]*", "", text[start:stop]))
 
 
-def functions_of(text: str, tokens: Tokens) -> Iterator[tuple[int, str, int]]:
-    """Each function of Rattle: its line, its name, and how many lines its body has."""
-    for index, (word, start) in enumerate(tokens[:-1]):
+def bodies_of(tokens: Tokens) -> Iterator[tuple[int, int, int]]:
+    """Each function of Rattle that has a body: the indices of `fn` and of the body's two braces."""
+    for index, (word, _) in enumerate(tokens[:-1]):
         if word != "fn" or not re.match(r"\w", tokens[index + 1][0]):
             continue
         at = brace_after(tokens, index)
         while tokens[at][0] == "{" and any(CLAUSES.fullmatch(tokens[at - back][0]) for back in (1, 2)):
             at = brace_after(tokens, end_of(tokens, at) + 1)
         if tokens[at][0] == "{":
-            body = text[tokens[at][1] : tokens[end_of(tokens, at)][1]]
-            yield line_of(text, start), tokens[index + 1][0], body.count("\n") + 1
+            yield index, at, end_of(tokens, at)
+
+
+def functions_of(text: str, tokens: Tokens) -> Iterator[tuple[int, str, int]]:
+    """Each function of Rattle: its line, its name, and how many lines its body has."""
+    for index, first, last in bodies_of(tokens):
+        body = text[tokens[first][1] : tokens[last][1]]
+        yield line_of(text, tokens[index][1]), tokens[index + 1][0], body.count("\n") + 1
 
 
 def long_lines(path: str, text: str) -> Iterator[Finding]:

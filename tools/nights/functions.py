@@ -1,12 +1,13 @@
 """Which function of a crate an edit changes, by the name that `rattle check --only` takes."""
 
 import re
+from bisect import bisect
 from dataclasses import dataclass
 from pathlib import Path
 
 from checks.edits import pairs_of
 from checks.tree import line_of
-from checks.widths import brace_after, end_of, functions_of, tokens_of
+from checks.widths import Tokens, bodies_of, brace_after, end_of, tokens_of
 
 IMPL = re.compile(r"^impl\b(?:<[^{]*?>)?\s+(?:[\w:<>', ]+\s+for\s+)?(\w+)", re.MULTILINE)
 
@@ -27,43 +28,25 @@ def module_of(file: str) -> list[str]:
     return [] if parts in (["lib"], ["main"]) else parts
 
 
-def impls_of(text: str) -> list[tuple[int, int, str]]:
-    """The lines of each `impl` block, and its type."""
-    tokens, blocks = tokens_of(text), []
-    starts = [start for _, start in tokens]
+def impls_of(text: str, tokens: Tokens) -> list[tuple[int, int, str]]:
+    """Where the block of each `impl` begins and ends, and its type."""
+    starts, blocks = [start for _, start in tokens], []
     for found in IMPL.finditer(text):
-        at = next(index for index, start in enumerate(starts) if start >= found.start())
-        opened = brace_after(tokens, at)
-        last = line_of(text, tokens[end_of(tokens, opened)][1])
-        blocks.append((line_of(text, found.start()), last, found[1]))
+        opened = brace_after(tokens, bisect(starts, found.start()))
+        blocks.append((found.start(), tokens[end_of(tokens, opened)][1], found[1]))
     return blocks
 
 
 def all_functions(file: str, text: str) -> list[Function]:
-    """The functions of a file, inner ones last."""
-    impls, found = impls_of(text), []
-    tokens = tokens_of(text)
-    for first, name, _ in functions_of(text, tokens):
-        at = next(index for index, (_, start) in enumerate(tokens) if line_of(text, start) >= first)
-        last = body_end(text, tokens, at)
-        owner = [kind for begin, end, kind in impls if begin <= first <= end]
-        found.append(Function(file, "::".join([*module_of(file), *owner[-1:], name]), first, last))
+    """The functions of a file in order, inner ones behind those around them."""
+    tokens, found = tokens_of(text), []
+    impls = impls_of(text, tokens)
+    for index, _, last in bodies_of(tokens):
+        start, name = tokens[index][1], tokens[index + 1][0]
+        owner = [kind for begin, end, kind in impls if begin <= start <= end]
+        path = "::".join([*module_of(file), *owner[-1:], name])
+        found.append(Function(file, path, line_of(text, start), line_of(text, tokens[last][1])))
     return found
-
-
-def body_end(text: str, tokens: list[tuple[str, int]], at: int) -> int:
-    """The last line of the function whose first token is this one: the end of the block that isn't a clause's."""
-    before = ""
-    while at < len(tokens) - 1:
-        at = brace_after(tokens, at)
-        words = [word for word, _ in tokens[max(at - 2, 0) : at]]
-        end = end_of(tokens, at) if tokens[at][0] == "{" else at
-        is_clause = any(word.rstrip("*") in ("requires", "ensures", "owns", "decreases") for word in words)
-        before = tokens[at][0]
-        if before == ";" or not is_clause:
-            return line_of(text, tokens[end][1])
-        at = end + 1
-    return line_of(text, tokens[-1][1]) if tokens else 1
 
 
 def changed_function(edit: str, crate: Path) -> Function | None:
