@@ -130,3 +130,10 @@ class Names(unittest.TestCase):
         over = [f"{name}: {len(page(name).lines)} lines" for name, most in SIZES.items()
                 if len(page(name).lines) >= most]
         self.missing(over)
+
+    def test_decisions_are_few(self) -> None:
+        """Few enough to be read at once, numbered in their order."""
+        found = (re.match(r"(\d+)\. \*\*", line) for line in page("docs/DECISIONS.md").lines)
+        numbers = [int(each.group(1)) for each in found if each]
+        self.assertEqual(numbers, list(range(1, len(numbers) + 1)))
+        self.assertIn(len(numbers), range(30, 51))
