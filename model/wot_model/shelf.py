@@ -16,8 +16,8 @@ def place_of(name):
 
 
 class MemoryShelf:
-    """Entries in memory. The calls with the numbers in `fails`, counted from 1, fail. A failing replace with a number in
-    `late` writes its octets all the same."""
+    """Entries in memory. The calls with the numbers in `fails`, counted from 1, fail. A failing replace with a number
+    in `late` writes its octets all the same."""
 
     def __init__(self, entries=None, fails=(), late=()):
         self.entries = dict(entries or {})
