@@ -1,4 +1,4 @@
-"""A client of Tukyamid, the OpenPGP web of trust engine: how far does this user ID belong to this key?
+"""A client of Tukyamid, the OpenPGP web of trust engine: how confident can I be that this user ID belongs to this key?
 
 `Engine` starts the program and speaks its protocol. `commands` and `replies` have a type for each command and reply,
 `refusals` one for each refusal. `Keyring` feeds an engine from keyring files, and keeps what was verified.
