@@ -4,7 +4,7 @@ verifier, which is only asked about signatures that it hasn't verified before.""
 from collections.abc import Callable, Iterable, Iterator
 
 from .digests import digest_of
-from .engine import Engine
+from .client.connection import Connection
 from .store import Entry, Held, Store
 from .verifier import Verifier, VerifierFailed
 
@@ -15,7 +15,7 @@ class Filling:
     """An engine that is still empty, and where its certificates come from. `tell` is called with a text for people if
     something was left out."""
 
-    def __init__(self, engine: Engine, paths: list[str], verifier: Verifier, store: Store | None, tell: Tell) -> None:
+    def __init__(self, engine: Connection, paths: list[str], verifier: Verifier, store: Store | None, tell: Tell) -> None:
         self._engine, self._paths, self._verifier = engine, paths, verifier
         self._store, self._tell = store, tell
 

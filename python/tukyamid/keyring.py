@@ -10,10 +10,12 @@ from collections.abc import Callable, Iterable, Mapping, Sequence
 from typing import Protocol
 
 from .certificates import CERTIFICATIONS, Certificate, Signature, key_id, read_certificate
-from .engine import Engine, Listing
+from .client.connection import Connection
+from .client.listing import Listing
+from .engine import Engine
 from .filling import Filling
 from .refusals import RefusedAbsent, RefusedView
-from .replies import Answer, Explanation
+from .replies import Answer, Binding, Explanation
 from .store import Bindings, Entry, Held, Store
 from .verifier import Verifier, VerifierFailed
 
@@ -42,7 +44,7 @@ class Index(Protocol):
 class DumpIndex:
     """The index of an engine by its dump, as it stood when it was filled."""
 
-    def __init__(self, engine: Engine, held: Entry | Held) -> None:
+    def __init__(self, engine: Connection, held: Entry | Held) -> None:
         self._engine, self._held = engine, held
 
     def issuer(self, fpr: str, number: str) -> str | None:
@@ -65,7 +67,7 @@ class DumpIndex:
 class Keyring:
     """Certificates and verdicts in an engine, and their index."""
 
-    def __init__(self, engine: Engine, index: Index | None = None) -> None:
+    def __init__(self, engine: Connection, index: Index | None = None) -> None:
         self.engine = engine
         self.index: Index = index or DumpIndex(engine, Held(()))
         self._certificates: dict[str, Certificate | None] = {}
@@ -171,6 +173,6 @@ class View:
         except RefusedAbsent:
             return None
 
-    def list(self, wanted: int) -> Listing:
-        """The bindings that reach the wanted amount, by fingerprint and user ID: a `Listing` of `Binding`."""
+    def list(self, wanted: int) -> Listing[Binding]:
+        """The bindings that reach the wanted amount, by fingerprint and user ID."""
         return self.keyring.engine.list(self.name, wanted)

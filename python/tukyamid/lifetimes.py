@@ -11,7 +11,7 @@ those programs do:
   signature. The primary user ID is the one marked so by its newest self-signature, then the one with the newest.
 """
 
-from collections.abc import Callable, Iterable
+from collections.abc import Callable, Container
 from typing import NamedTuple
 
 from .certificates import Certificate
@@ -44,26 +44,29 @@ class _SelfSignatures:
 
     def __init__(self, certificate: Certificate, issuer: Issuer, time: int) -> None:
         self._certificate, self._issuer, self._time = certificate, issuer, time
-        self._direct = self._newest(certificate.direct, (DIRECT,))
-        newest = [self._newest(signatures, CERTIFICATIONS) for signatures in certificate.user_ids.values()]
+        self._direct = self._governing(certificate.direct, (DIRECT,))
+        newest = [self._governing(signatures, CERTIFICATIONS) for signatures in certificate.user_ids.values()]
         self._on_user_ids = [one for one in newest if one is not None]
 
-    def _newest(self, signatures: list[Signature], kinds: Iterable[int]) -> Signature | None:
+    def _governing(self, signatures: list[Signature], kinds: Container[int | None]) -> Signature | None:
         live = [one for one in self._certificate.signatures_by_itself(signatures) if one.said.is_live(self._time)
                 and self._issuer(one.number) == self._certificate.fpr]
         revoked = max((one.said.made for one in live if one.said.kind == REVOCATION), default=-1)
         kept = [one for one in live if one.said.kind in kinds
                 and (one.said.made > revoked or not one.said.revocable)]
-        return max(kept, key=Signature.newness, default=None)
+        return _newest(kept)
 
     def _end(self, signature: Signature | None) -> int | None:
         lasts = signature.said.key_lasts if signature is not None else 0
         return self._certificate.created + lasts if lasts else None
 
     def end_by_gpg(self) -> int | None:
-        that_end = [one for one in self._on_user_ids if one.said.key_lasts]
-        return self._end(self._direct) or self._end(max(that_end, key=Signature.newness, default=None))
+        return self._end(self._direct) or self._end(_newest([one for one in self._on_user_ids if one.said.key_lasts]))
 
     def end_by_sequoia(self) -> int | None:
-        primary = max(self._on_user_ids, key=lambda one: (one.said.primary, one.newness()), default=None)
-        return self._end(primary) or self._end(self._direct)
+        marked = [one for one in self._on_user_ids if one.said.primary]
+        return self._end(_newest(marked or self._on_user_ids)) or self._end(self._direct)
+
+
+def _newest(signatures: list[Signature]) -> Signature | None:
+    return max(signatures, key=Signature.newness) if signatures else None

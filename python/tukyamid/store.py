@@ -18,7 +18,7 @@ from typing import Any
 from . import spelling
 from .certificates import bindings_of
 from .digests import LAYOUT
-from .engine import Engine
+from .client.connection import Connection
 from .refusals import TukyamidError
 from .verdicts import Verdicts, verdicts_of
 
@@ -42,9 +42,10 @@ class Entry:
         self.about: dict[str, Any] = json.loads((folder / "about.json").read_text())
 
     def is_whole(self) -> bool:
-        return self.about["layout"] == LAYOUT and (self.folder / "dump").stat().st_size == self.about["octets"]
+        size: int = self.about["octets"]
+        return self.about["layout"] == LAYOUT and (self.folder / "dump").stat().st_size == size
 
-    def give_to(self, engine: Engine) -> bool:
+    def give_to(self, engine: Connection) -> bool:
         """Has the engine take the dump, and returns whether it was taken whole."""
         try:
             with open(self.folder / "dump", "rb", buffering=0) as file:

@@ -1,7 +1,7 @@
 """Standard output and standard error: all of a text, or an error; and nothing that could steer a terminal."""
 
+import errno
 import os
-import sys
 
 from ..spelling import for_people
 
@@ -9,11 +9,19 @@ from ..spelling import for_people
 def open_standard_files() -> None:
     """Opens what the caller closed, so that no other file takes its number. Without standard output there is nobody to
     answer: an OSError."""
-    if sys.stdout is None:
-        raise OSError(9, "closed", "standard output")
-    for number, file in (0, sys.stdin), (2, sys.stderr):
-        if file is None:
-            os.dup2(os.open(os.devnull, os.O_RDWR), number)
+    closed = [number for number in (0, 1, 2) if not _is_open(number)]
+    if 1 in closed:
+        raise OSError(errno.EBADF, "closed", "standard output")
+    for number in closed:
+        os.dup2(os.open(os.devnull, os.O_RDWR), number)
+
+
+def _is_open(number: int) -> bool:
+    try:
+        os.fstat(number)
+    except OSError:
+        return False
+    return True
 
 
 def write(text: str) -> None:

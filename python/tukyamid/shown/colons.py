@@ -35,13 +35,17 @@ def show(report: Report) -> str:
 def _binding(one: Assessment) -> Iterator[Line]:
     yield "bnd", one.fpr, one.user_id, one.amount, _yes(one.reached), one.word
     if one.expired is not None:
-        yield ("exp", one.expired.since) + one.expired.programs
+        yield _line("exp", one.expired.since, *one.expired.programs)
     for at, path in enumerate(one.paths, 1):
         yield "pth", at, path.amount, len(path.steps), path.root
         for place, step in enumerate(path.steps, 1):
-            yield ("stp", at, place) + _certification(step)
+            yield _line("stp", at, place, *_certification(step))
     for other in one.others:
-        yield ("oth", other.word) + _certification(other.certification)
+        yield _line("oth", other.word, *_certification(other.certification))
+
+
+def _line(*fields: Field) -> Line:
+    return fields
 
 
 def _yes(value: bool) -> str:

@@ -86,18 +86,15 @@ def _binding(report: Report, one: Assessment) -> str:
 
 def _steps(report: Report, one: Assessment) -> str:
     head = ("path", "step", "issuer", "target", "amount", "depth", "made", "ends", "scope", "signature")
-    rows: list[Row] = []
-    for at, path in enumerate(one.paths, 1):
-        for place, step in enumerate(path.steps, 1):
-            rows.append((f"{at} (amount {path.amount})", place, _key(report, step.issuer), _target(step))
-                        + _facts(step))
+    rows = [_row(f"{at} (amount {path.amount})", place, _key(report, step.issuer), _target(step), *_facts(step))
+            for at, path in enumerate(one.paths, 1) for place, step in enumerate(path.steps, 1)]
     return _table(count(len(one.paths), "path").capitalize(), head, rows)
 
 
 def _others(report: Report, one: Assessment) -> str:
     head = ("why", "issuer", "amount", "depth", "made", "ends", "scope", "signature")
-    rows: list[Row] = [(f"<b>{other.word}</b>: {escape(other.meaning)}", _key(report, other.certification.issuer))
-                       + _facts(other.certification) for other in one.others]
+    rows = [_row(f"<b>{other.word}</b>: {escape(other.meaning)}", _key(report, other.certification.issuer),
+                 *_facts(other.certification)) for other in one.others]
     where = "on this user ID" if report.question == "explain" else "on no path"
     return _table(f"Certifications {where}", head, rows) + '<p class="soft">Reasons by the engine.</p>'
 
@@ -117,6 +114,10 @@ def _key(report: Report, fpr: str | None) -> str:
 
 def _target(step: Certification) -> str:
     return f"{_name(for_people(step.user_id))}<br><code>{step.target}</code>"
+
+
+def _row(*cells: Cell) -> Row:
+    return cells
 
 
 def _table(title: str, head: Sequence[str], rows: Iterable[Row], size: str = "whole") -> str:
