@@ -6,6 +6,7 @@ The first line alone says how a reply goes on:
 |---|---|
 | `amount SUM paths K` | K times a line `path AMOUNT steps L root FPR` and its L lines `step ..` |
 | `list K`, `piece K`, `pending K`, `keys K`, `dump K` | K lines |
+| `service WORD K` | K lines |
 | `explain WORD K` | K lines `cert ..` |
 | `absence missed SUM` | a line `claim PATHS TABLE` |
 | any other | nothing |
@@ -15,6 +16,7 @@ it.
 """
 
 import functools
+import os
 import re
 from collections.abc import Callable, Generator
 from enum import StrEnum
@@ -25,6 +27,7 @@ from .reasons import ReasonWord, TargetWord
 from .refusals import ProtocolError, read_refusal
 from .replies import (Accepted, Answer, Binding, Done, Explanation, Exported, Gone, Key, Missed, Path, PendingSignature,
                       Reached, Reason, Rejected, Reply, Stale, Step, Stored, Taken, Watched)
+from .service_lines import Change, Figure, Found, Issued, KeyringAdded, KeyringLine
 
 T = TypeVar("T")
 Word = TypeVar("Word", bound=StrEnum)
@@ -78,6 +81,37 @@ def _read_pending(line: str) -> PendingSignature:
 def _read_key(line: str) -> Key:
     fpr, user_ids, signatures = match("key FPR N N", line)
     return Key(fpr, int(user_ids), int(signatures))
+
+
+def _read_text(text: str) -> str:
+    return os.fsdecode(read_uid(text))
+
+
+def _read_figure(line: str) -> Figure:
+    name, value = match("FIELD REST", line)
+    return Figure(name, _read_text(value))
+
+
+def _read_found(line: str) -> Found:
+    fpr, uid = match("bind FPR REST", line)
+    return Found(fpr, read_uid(uid))
+
+
+def _read_change(line: str) -> Change:
+    number, time, user, process, what = match("change N N N N REST", line)
+    return Change(int(number), int(time), int(user), int(process), _read_text(what))
+
+
+def _read_keyring(line: str) -> KeyringLine:
+    if line.startswith("fault "):
+        return KeyringLine("", 0, _read_text(match("fault REST", line)[0]))
+    certificates, name = match("keyring N REST", line)
+    return KeyringLine(_read_text(name), int(certificates), "")
+
+
+def read_progress(line: str) -> str:
+    """How far the service has come with a keyring."""
+    return _read_text(match("service progress REST", line)[0])
 
 
 def _read_step(line: str) -> Step:
@@ -140,6 +174,9 @@ def _read_ok(line: str) -> Reply:
         return Done()
     if line.startswith("ok stored "):
         return Stored(int(match("ok stored N", line)[0]))
+    if line.startswith("ok keyring "):
+        certificates, verdicts = match("ok keyring N N", line)
+        return KeyringAdded(int(certificates), int(verdicts))
     taken, skipped, new = match("ok taken N skipped N new N", line)
     return Taken(int(taken), int(skipped), int(new))
 
@@ -166,6 +203,9 @@ def read_watch(line: str) -> Watched | Gone:
 _ITEMS: dict[str, tuple[type[object], Callable[[str], object]]] = {
     "list": (Binding, _read_bind), "piece": (Binding, _read_bind), "pending": (PendingSignature, _read_pending),
     "keys": (Key, _read_key), "dump": (bytes, lambda line: line.encode("latin-1")),
+    "service status": (Figure, _read_figure), "service find": (Found, _read_found),
+    "service issuers": (Issued, lambda line: Issued(*match("by NUM FPR", line))),
+    "service log": (Change, _read_change), "service keyring": (KeyringLine, _read_keyring),
 }
 _ONE_LINE: dict[str, Callable[[str], Reply]] = {
     "ok": _read_ok, "checked": _read_checked, "stale": _read_stale, "watch": read_watch,
@@ -187,7 +227,7 @@ def read_reply_after(first: str) -> Reader[Reply]:
         return _ONE_LINE[word](first)
     if word in _LONGER:
         return (yield from _LONGER[word](first))
-    listing, count = match("(list|piece|pending|keys|dump) N", first)
+    listing, count = match(f"({'|'.join(_ITEMS)}) N", first)
     return ListingHead(int(count), *_ITEMS[listing])
 
 

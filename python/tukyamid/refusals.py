@@ -131,8 +131,20 @@ class RefusedWatch(Refused):
     """No such watch is there."""
 
 
+class RefusedReadOnly(Refused):
+    """This socket of the service is for reading alone."""
+
+
 class ShelfFault(Refused):
     """The engine's directory couldn't be read or written."""
+
+
+class DatabaseFault(Refused):
+    """The service's database couldn't be read or written; nothing was changed."""
+
+
+class KeyringFault(Refused):
+    """The service can't read a keyring, or has no verifier for it; the text says why."""
 
 
 _REFUSED: dict[str, tuple[type[Refused], int]] = {
@@ -140,15 +152,18 @@ _REFUSED: dict[str, tuple[type[Refused], int]] = {
     "compressed": (RefusedCompressed, 0), "secret": (RefusedSecret, 0), "kind": (RefusedKind, 2),
     "order": (RefusedOrder, 1), "empty": (RefusedEmpty, 0), "misfiled": (RefusedMisfiled, 0),
     "clash": (RefusedClash, 0), "absent": (RefusedAbsent, 0), "full": (RefusedFull, 1),
-    "cursor": (RefusedCursor, 0), "watch": (RefusedWatch, 0),
+    "cursor": (RefusedCursor, 0), "watch": (RefusedWatch, 0), "read-only": (RefusedReadOnly, 0),
 }
+_FAULTS: dict[str, type[Refused]] = {"fault shelf": ShelfFault, "fault database": DatabaseFault}
 
 
 def read_refusal(reply: str) -> Refused | None:
     """The refusal that a reply's line spells, or None if it is no refusal."""
     words = reply.split(" ")
-    if words == ["fault", "shelf"]:
-        return ShelfFault(reply, [])
+    if reply in _FAULTS:
+        return _FAULTS[reply](reply, [])
+    if words[:2] == ["fault", "keyring"]:
+        return KeyringFault(reply, words[2:])
     if words[0] != "refused":
         return None
     found = _REFUSED.get(words[1] if len(words) > 1 else "")

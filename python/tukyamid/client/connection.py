@@ -14,7 +14,7 @@ from ..replies import Gone, Reply, Watched
 from ..spelling import has_reply
 from . import bulk
 from .calls import Calls
-from .conversation import PROBE, Conversation
+from .conversation import PROBE, Conversation, Progress, no_progress
 from .listing import Listing
 from .wire import Wire
 
@@ -48,13 +48,13 @@ class Connection(Calls):
     def _abandon(self) -> None:
         """Has the other side end at once, so that no read or write waits for it any longer."""
 
-    def send_line(self, line: bytes) -> Reply | Listing[object] | None:
+    def send_line(self, line: bytes, progress: Progress = no_progress) -> Reply | Listing[object] | None:
         if b"\n" in line:
             raise ValueError("a line holds no line feed")
         with self._lock:
             self._begin()
             self._wire.send(self._conversation.octets_for(line))
-            reply = self._receive(line) if has_reply(line) else None
+            reply = self._receive(line, progress) if has_reply(line) else None
             self._in_exchange = False
             return reply
 
@@ -134,10 +134,10 @@ class Connection(Calls):
     def _drive(self, reader: Reader[None]) -> None:
         drive(reader, self._wire.line)
 
-    def _receive(self, line: bytes) -> Reply | Listing[object]:
+    def _receive(self, line: bytes, progress: Progress = no_progress) -> Reply | Listing[object]:
         """The reply to a line. After a refusal the next exchange can begin."""
         try:
-            reply = drive(self._conversation.reply_to(line), self._wire.line)
+            reply = drive(self._conversation.reply_to(line, progress), self._wire.line)
         except Refused:
             self._in_exchange = False
             raise

@@ -1,10 +1,18 @@
 """What the plain and the asynchronous connection have in common: how a line and its reply belong together, and what
 watches are told in between."""
 
-from ..reading import Reader, read_reply_after, read_watch
+from collections.abc import Callable
+
+from ..reading import Reader, read_progress, read_reply_after, read_watch
 from ..replies import Done, Gone, Reply, Watched
 
+Progress = Callable[[str], None]
+
 PROBE, PROBED = b"?", "refused line"  # A line that is no command: behind its reply no watch is told anything.
+
+
+def no_progress(text: str) -> None:
+    """For whom progress is nothing."""
 
 
 def begun_watch(line: bytes) -> str | None:
@@ -31,13 +39,14 @@ class Conversation:
         name is told isn't taken for the reply."""
         return (PROBE + b"\n" if begun_watch(line) else b"") + line + b"\n"
 
-    def reply_to(self, line: bytes) -> Reader[Reply]:
+    def reply_to(self, line: bytes, progress: Progress) -> Reader[Reply]:
         """Reads the reply to a line, and before it what watches were told: behind earlier replies, or by a service at
-        any time. A refusal is raised. Of a listing only the head is read."""
+        any time. `progress` is called with how far the service has come. A refusal is raised. Of a listing only the
+        head is read."""
         watch = begun_watch(line)
         if watch is not None:
             yield from self.hear()
-        first = yield from self._first_line(watch)
+        first = yield from self._first_line(watch, progress)
         reply = yield from read_reply_after(first)
         if isinstance(reply, Watched):
             self.watches.add(reply.watch)
@@ -50,12 +59,15 @@ class Conversation:
         while (line := (yield)) != PROBED:
             self.hear_line(line)
 
-    def _first_line(self, watch: str | None) -> Reader[str]:
+    def _first_line(self, watch: str | None, progress: Progress) -> Reader[str]:
         while True:
             line = yield
-            if not line.startswith("watch ") or watch is not None and line.startswith(f"watch {watch} "):
+            if line.startswith("service progress "):
+                progress(read_progress(line))
+            elif not line.startswith("watch ") or watch is not None and line.startswith(f"watch {watch} "):
                 return line
-            self.hear_line(line)
+            else:
+                self.hear_line(line)
 
     def hear_line(self, line: str) -> None:
         """Takes a line that a watch is told."""

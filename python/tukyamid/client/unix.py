@@ -9,10 +9,11 @@ import socket
 
 from ..refusals import ServiceEnded, ServiceMissing, TukyamidError
 from .connection import Connection
+from .service_calls import ServiceCalls
 from .wire import PIECE
 
 
-class Client(Connection):
+class Client(Connection, ServiceCalls):
     """A connection to a service. Views, cursors and watches are its own; certificates and verdicts are everybody's."""
 
     def __init__(self, connected: socket.socket) -> None:

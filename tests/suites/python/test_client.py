@@ -16,12 +16,13 @@ import test_engine
 from outside import FAKE_ENGINE, HERE, needs_engine
 from stand_ins import FakeService, Waiting
 from tukyamid import (Engine, EngineEnded, EngineMissing, Gone, ProtocolError, ServiceEnded, ServiceMissing, Taken,
-                      Watched, connect)
+                      Watched, connect, refusals)
 from tukyamid.client import Client, aio
 from tukyamid.engine import find_program
 from tukyamid.refusals import RefusedClash, RefusedView
+from tukyamid.service_lines import Change, Found, Issued, KeyringAdded, KeyringLine
 
-A = "aa" * 20
+A, B, N = "aa" * 20, "bb" * 20, "11" * 32
 
 
 class OverASocket(test_engine.Framing):
@@ -61,6 +62,49 @@ class AsynchronousOverASocket(AsynchronousOverAProgram):
         service = FakeService()
         self.addCleanup(service.close)
         return Waiting(lambda: aio.connect(service.path))
+
+
+class OnlyAService(unittest.TestCase):
+    """The lines that only a service answers, over both clients."""
+
+    def setUp(self):
+        service = FakeService()
+        self.addCleanup(service.close)
+        self.clients = [connect(service.path), Waiting(lambda: aio.connect(service.path))]
+        for client in self.clients:
+            self.addCleanup(client.close)
+
+    def test_each_reply_is_its_type(self):
+        for client in self.clients:
+            self.assertEqual(client.status(), {"certificates": "3", "database": "/tmp/a\\b c"})
+            self.assertEqual(list(client.find("address", "a@b")), [Found(A, b"Alice"), Found(B, b"B\\ob \n")])
+            self.assertEqual(list(client.find("user-id", b"Alice")), [])
+            self.assertEqual(client.find("part", "\\\u00eb").count, 0)
+            self.assertEqual(list(client.find("key", A)), [Found(A, b"Alice")])
+            self.assertEqual(list(client.issuers(A)), [Issued(N, B)])
+            self.assertRaises(refusals.RefusedAbsent, client.issuers, B)
+            self.assertEqual(list(client.log(2)), [
+                Change(7, 1764547200, 1000, 4711, "keyring add /tmp/\udcff")])
+            self.assertEqual(client.keyrings(), [KeyringLine("/tmp/a", 3, ""), KeyringLine("gpg", 0, "no such file")])
+
+    def test_keyrings(self):
+        for client in self.clients:
+            said = []
+            self.assertEqual(client.add_keyring(Path("/tmp/a"), said.append), KeyringAdded(3, 9))
+            self.assertEqual(said, ["certificates 1 of 3", "verdicts 9"])
+            self.assertEqual(client.told(), [Watched("w", 40)])
+            with self.assertRaises(refusals.KeyringFault) as caught:
+                client.add_keyring(b"/tmp/\xff".decode(errors="surrogateescape"))
+            self.assertEqual(str(caught.exception), "fault keyring /tmp/\\xff: no such file")
+            self.assertIsNone(client.remove_keyring("/tmp/a"))
+            self.assertRaises(refusals.RefusedReadOnly, client.remove_keyring, "gpg")
+            self.assertRaises(refusals.DatabaseFault, client.export, B[:-2] + "01")
+
+    def test_what_has_no_spelling_is_a_value_error(self):
+        for client in self.clients:
+            for by, sought in ("name", "x"), ("key", ""):
+                self.assertRaises(ValueError, client.find, by, sought)
+            self.assertRaises(ValueError, client.log, 0)
 
 
 class Names(unittest.TestCase):

@@ -13,6 +13,7 @@ from ...refusals import ProtocolError
 from ...replies import (Accepted, Answer, Binding, Explanation, Gone, Key, Missed, PendingSignature, Reached, Rejected,
                         Reply, Stale, Taken, Watched)
 from ...spelling import UserId
+from ..conversation import Progress, no_progress
 from .listing import Listing
 
 R = TypeVar("R", bound=Reply)
@@ -23,8 +24,9 @@ class Calls(ABC):
     """What an engine or a service can be asked. Each call sends one line and returns its reply; a refusal is raised."""
 
     @abstractmethod
-    async def send_line(self, line: bytes) -> Reply | Listing[object] | None:
-        """Sends a line as it is, given without its line feed, and returns its reply; None if it has none."""
+    async def send_line(self, line: bytes, progress: Progress = no_progress) -> Reply | Listing[object] | None:
+        """Sends a line as it is, given without its line feed, and returns its reply; None if it has none. `progress` is
+        called with what a service says of a line that takes long."""
 
     @abstractmethod
     async def told(self) -> list[Watched | Gone]:

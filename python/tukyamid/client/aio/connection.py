@@ -14,7 +14,7 @@ from ...reading import ListingHead, Reader
 from ...refusals import ProtocolError, Refused, TukyamidError
 from ...replies import Gone, Reply, Watched
 from ...spelling import has_reply
-from ..conversation import PROBE, Conversation
+from ..conversation import PROBE, Conversation, Progress, no_progress
 from .calls import Calls
 from .listing import Listing
 
@@ -114,12 +114,12 @@ class Connection(Calls):
     def _abandon(self) -> None:
         """Has the other side end at once."""
 
-    async def send_line(self, line: bytes) -> Reply | Listing[object] | None:
+    async def send_line(self, line: bytes, progress: Progress = no_progress) -> Reply | Listing[object] | None:
         if b"\n" in line:
             raise ValueError("a line holds no line feed")
         await self._check()
         if has_reply(line):
-            reply: Reply | Listing[object] = await self._answered(self._post(line))
+            reply: Reply | Listing[object] = await self._answered(self._post(line, progress))
             return reply
         self._writer.write(line + b"\n")
         await self._drain()
@@ -131,18 +131,18 @@ class Connection(Calls):
             await self._answered(self._put(PROBE + b"\n", self._conversation.hear()))
         return self._conversation.take_told()
 
-    def _answer_to(self, line: bytes) -> Reader[Reply | Listing[object]]:
+    def _answer_to(self, line: bytes, progress: Progress) -> Reader[Reply | Listing[object]]:
         """Reads a reply; of a listing the head, with which the connection begins to read its items."""
-        reply = yield from self._conversation.reply_to(line)
+        reply = yield from self._conversation.reply_to(line, progress)
         if not isinstance(reply, ListingHead):
             return reply
         listing: Listing[object] = Listing(reply, self._may_read.set)
         self._inflow = _Inflow(reply, listing, self._may_read.set)
         return listing
 
-    def _post(self, line: bytes) -> Exchange[Reply | Listing[object]]:
+    def _post(self, line: bytes, progress: Progress = no_progress) -> Exchange[Reply | Listing[object]]:
         """Sends a line that has a reply."""
-        return self._put(self._conversation.octets_for(line), self._answer_to(line))
+        return self._put(self._conversation.octets_for(line), self._answer_to(line, progress))
 
     def _put(self, octets: bytes, reader: Reader[T]) -> Exchange[T]:
         """Sends octets that `reader` reads the reply to. So a line and its place in the order are one step."""

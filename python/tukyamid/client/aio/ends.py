@@ -11,6 +11,7 @@ from ...engine import Program, program_words
 from ...refusals import EngineEnded, EngineMissing, ServiceEnded, ServiceMissing
 from .bulk import Bulk
 from .connection import PIECE
+from .service_calls import ServiceCalls
 
 
 class Engine(Bulk):
@@ -34,7 +35,7 @@ class Engine(Bulk):
             self._process.kill()
 
 
-class Client(Bulk):
+class Client(Bulk, ServiceCalls):
     """A connection to a service. `connect` makes one."""
 
     async def close(self) -> None:
