@@ -17,9 +17,9 @@ from .filling import Filling
 from .refusals import RefusedAbsent, RefusedView
 from .replies import Answer, Binding, Explanation
 from .store import Bindings, Entry, Held, Store
-from .verifier import Verifier, VerifierFailed
+from .verifier import Verifier, VerifierFailed, find_verifier
 
-__all__ = ["DumpIndex", "Index", "Keyring", "VerifierFailed", "View"]
+__all__ = ["DumpIndex", "Index", "Keyring", "VerifierFailed", "View", "find_verifier"]
 
 
 class Index(Protocol):

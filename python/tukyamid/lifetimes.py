@@ -33,10 +33,19 @@ class Expired(NamedTuple):
 def expired_elsewhere(certificate: Certificate, issuer: Issuer, time: int) -> Expired | None:
     """Which of both programs take the key as expired at a time; None if neither does. `issuer(number)` says whose
     signature a number is of, as it was verified."""
+    if not _sets_a_passed_end(certificate, time):
+        return None  # As of most keys. Whose their signatures are needn't be looked up.
     own = _SelfSignatures(certificate, issuer, time)
     ends = {"gpg": own.end_by_gpg(), "Sequoia": own.end_by_sequoia()}
     passed = {program: end for program, end in ends.items() if end is not None and end <= time}
     return Expired(tuple(passed), min(passed.values())) if passed else None
+
+
+def _sets_a_passed_end(certificate: Certificate, time: int) -> bool:
+    """Whether any signature that names the key itself sets an end that has passed."""
+    lists = [certificate.direct, *certificate.user_ids.values()]
+    return any(one.said.key_lasts and certificate.created + one.said.key_lasts <= time
+               for signatures in lists for one in certificate.signatures_by_itself(signatures))
 
 
 class _SelfSignatures:

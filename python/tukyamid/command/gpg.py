@@ -22,6 +22,11 @@ def home() -> Path:
     return folder
 
 
+def keyring_files() -> list[Path]:
+    """The files in which gpg may have its keyring."""
+    return [home() / name for name in ("pubring.kbx", "pubring.gpg", "public-keys.d/pubring.db")]
+
+
 def export() -> bytes:
     """All certificates of gpg's keyring, with certifications that its owner made for themselves alone."""
     octets = _run(_EXPORT)

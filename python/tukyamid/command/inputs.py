@@ -1,15 +1,15 @@
-"""The keyring that a question is asked about: from the files, directories and programs that the words name."""
+"""The keyring that a question is asked about: the service's, or one of the files, directories and programs that the
+words name."""
 
-import sys
-import tempfile
 from collections.abc import Callable
 from contextlib import ExitStack
 
 from ..keyring import Keyring
 from ..store import Store, StoreRefused
-from . import gpg
+from ..verifier import Verifier
 from .failures import WrongWords
 from .parser import Given
+from .sources import Gpg, Input, Named, Source
 
 Tell = Callable[[str], None]
 
@@ -35,11 +35,30 @@ class Inputs:
         self._open.close()
 
     def _opened(self) -> Keyring:
-        paths = self._paths()
-        if not paths:
+        sources = self._sources()
+        if not sources and self._given.no_service:
             raise WrongWords("an input is missing: give --keyring FILE, --directory FOLDER or --gpg")
+        if not sources:
+            return self._of_service()
+        store = self._store()
+        if store is None or self._given.no_service or self._given.anew or self._given.engine:
+            return self._by_an_engine([source.path(self._open) for source in sources], store)
+        from .reopening import Reopening
+        return Reopening(sources, store, Verifier(self.verifier_words), self._open).keyring(
+            lambda paths: self._by_an_engine(paths, store))
+
+    @staticmethod
+    def _of_service() -> Keyring:
+        """The keyring that the user's service keeps."""
+        from ..client import connect
+        from ..served import served_keyring
+        from ..service.starting import ensure
+        return served_keyring(connect(ensure()))
+
+    def _by_an_engine(self, paths: list[str], store: Store | None) -> Keyring:
+        """A keyring in an engine that is started for this question."""
         engine = [self._given.engine] if self._given.engine else None
-        return Keyring.open(paths, self._store(), engine, self.verifier_words, self._given.anew, tell=self._tell)
+        return Keyring.open(paths, store, engine, self.verifier_words, self._given.anew, tell=self._tell)
 
     def _store(self) -> Store | None:
         """Where verified keyrings are kept; None if nothing is to be kept, or if it isn't safe there."""
@@ -51,15 +70,8 @@ class Inputs:
             self._tell(f"no cache is used: {error}")
             return None
 
-    def _paths(self) -> list[str]:
-        """The files and directories of the input. What comes from elsewhere stands in files meanwhile."""
-        paths = [self._as_file(sys.stdin.buffer.read()) if one == "-" else one for one in self._given.keyring]
+    def _sources(self) -> list[Source]:
+        sources: list[Source] = [Input() if name == "-" else Named(name) for name in self._given.keyring]
         if self._given.gpg or self._given.gpg_keyring:
-            paths.append(self._as_file(gpg.export()))
-        return paths + self._given.directory
-
-    def _as_file(self, octets: bytes) -> str:
-        file = self._open.enter_context(tempfile.NamedTemporaryFile(prefix="tukyamid-"))
-        file.write(octets)
-        file.flush()
-        return file.name
+            sources.append(Gpg())
+        return [*sources, *map(Named, self._given.directory)]

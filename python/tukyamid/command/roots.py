@@ -39,9 +39,15 @@ class Roots:
         amounts = self._chosen(at)
         missing = [fpr for fpr in amounts if self._inputs.keyring.certificate(fpr) is None]
         if len(missing) == len(amounts):
-            raise NoAnswer(f"this root isn't in the keyring: {', '.join(missing)}")
+            raise NoAnswer(f"this root isn't in the keyring: {', '.join(missing)}{self._hint()}")
         self._notes += [f"this root isn't in the keyring: {fpr}" for fpr in missing]
         return Chosen(amounts, tuple(self._notes))
+
+    def _hint(self) -> str:
+        """What to do if the service has no keyring yet."""
+        if next(iter(self._inputs.keyring.engine.keys()), None) is not None:
+            return ""
+        return ". The service has no certificate yet: tukyamid keyring add FILE|DIRECTORY|gpg"
 
     def _chosen(self, at: int) -> dict[str, int]:
         keyring = self._inputs.keyring

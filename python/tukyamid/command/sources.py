@@ -1,0 +1,86 @@
+"""What the words name as inputs: files, certificate directories, standard input, and gpg's own keyring.
+
+The stamp of an input says which files it is and when they were changed. An input whose stamp is the same needn't be
+read again to know that it is the same.
+"""
+
+import os
+import sys
+import tempfile
+from collections.abc import Iterable
+from contextlib import ExitStack
+from pathlib import Path
+from typing import NamedTuple, Protocol
+
+from ..digests import files_of
+from . import gpg
+
+
+class Stamp(NamedTuple):
+    """A text that changes with the input, and the newest time in it, in nanoseconds."""
+    text: str
+    newest: int
+
+
+class Source(Protocol):
+    """An input."""
+
+    def stamp(self) -> Stamp | None:
+        """Its stamp; None if nothing is known without reading it."""
+
+    def path(self, stack: ExitStack) -> str:
+        """A file or directory that has it, as long as the stack is open."""
+
+
+class Named:
+    """A file or a certificate directory."""
+
+    def __init__(self, name: str) -> None:
+        self._name = name
+
+    def stamp(self) -> Stamp | None:
+        return stamp_of([Path(self._name), *(file for _, file in files_of(Path(self._name)))])
+
+    def path(self, stack: ExitStack) -> str:
+        return self._name
+
+
+class Input:
+    """Standard input, which is read once."""
+
+    def stamp(self) -> Stamp | None:
+        return None
+
+    def path(self, stack: ExitStack) -> str:
+        return _as_file(sys.stdin.buffer.read(), stack)
+
+
+class Gpg:
+    """gpg's own keyring."""
+
+    def stamp(self) -> Stamp | None:
+        return stamp_of(file for file in gpg.keyring_files() if file.exists())
+
+    def path(self, stack: ExitStack) -> str:
+        return _as_file(gpg.export(), stack)
+
+
+def stamp_of(files: Iterable[Path]) -> Stamp | None:
+    """The stamp of some files; None if there is none, or if one can't be looked at."""
+    parts, newest = [], 0
+    try:
+        for file in files:
+            found = file.stat()
+            newest = max(newest, found.st_mtime_ns, found.st_ctime_ns)
+            parts.append(f"{os.path.realpath(file)}\0{found.st_dev} {found.st_ino} {found.st_size} {found.st_mtime_ns} "
+                         f"{found.st_ctime_ns}\0")
+    except OSError:
+        return None
+    return Stamp("".join(parts), newest) if parts else None
+
+
+def _as_file(octets: bytes, stack: ExitStack) -> str:
+    file = stack.enter_context(tempfile.NamedTemporaryFile(prefix="tukyamid-"))
+    file.write(octets)
+    file.flush()
+    return file.name
