@@ -3,8 +3,8 @@ verifier, which is only asked about signatures that it hasn't verified before.""
 
 from collections.abc import Callable, Iterable, Iterator
 
-from .digests import digest_of
 from .client.connection import Connection
+from .digests import digest_of
 from .store import Entry, Held, Store
 from .verifier import Verifier, VerifierFailed
 

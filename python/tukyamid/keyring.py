@@ -5,21 +5,23 @@
         view.ask(carol, 120, "Carol <carol@example.org>").amount
 """
 
+from __future__ import annotations
+
 import os
 from collections.abc import Callable, Iterable, Mapping, Sequence
-from typing import Protocol
+from typing import TYPE_CHECKING, Protocol
 
 from .certificates import CERTIFICATIONS, Certificate, Signature, key_id, read_certificate
-from .client.connection import Connection
-from .client.listing import Listing
-from .engine import Engine
-from .filling import Filling
 from .refusals import RefusedAbsent, RefusedView
-from .replies import Answer, Binding, Explanation
-from .store import Bindings, Entry, Held, Store
-from .verifier import Verifier, VerifierFailed, find_verifier
 
-__all__ = ["DumpIndex", "Index", "Keyring", "VerifierFailed", "View", "find_verifier"]
+# What starts programs and reads files is imported when it is needed: a service that runs needs none of it.
+if TYPE_CHECKING:
+    from .client.connection import Connection
+    from .client.listing import Listing
+    from .replies import Answer, Binding, Explanation
+    from .store import Entry, Held, Store
+
+Bindings = list[tuple[str, bytes]]
 
 
 class Index(Protocol):
@@ -67,9 +69,9 @@ class DumpIndex:
 class Keyring:
     """Certificates and verdicts in an engine, and their index."""
 
-    def __init__(self, engine: Connection, index: Index | None = None) -> None:
+    def __init__(self, engine: Connection, index: Index) -> None:
         self.engine = engine
-        self.index: Index = index or DumpIndex(engine, Held(()))
+        self.index = index
         self._certificates: dict[str, Certificate | None] = {}
 
     @property
@@ -80,10 +82,13 @@ class Keyring:
     @classmethod
     def open(cls, paths: Iterable[str | os.PathLike[str]], store: Store | None = None,
              engine: Sequence[str] | None = None, verifier: Sequence[str] | None = None, anew: bool = False,
-             tell: Callable[[str], None] = lambda text: None) -> "Keyring":
+             tell: Callable[[str], None] = lambda text: None) -> Keyring:
         """Of keyring files and certificate directories. `store` keeps what was verified; None keeps nothing. `anew`
         verifies also what is kept. `tell` is called with a text for people if something was left out. `engine` and
         `verifier` are the words that start them; by default they are found."""
+        from .engine import Engine
+        from .filling import Filling
+        from .verifier import Verifier
         started = Engine(engine)
         try:
             held = Filling(started, [os.fspath(path) for path in paths], Verifier(verifier), store, tell).fill(anew)
@@ -92,7 +97,7 @@ class Keyring:
             raise
         return cls(started, DumpIndex(started, held))
 
-    def __enter__(self) -> "Keyring":
+    def __enter__(self) -> Keyring:
         return self
 
     def __exit__(self, *_: object) -> None:
@@ -101,9 +106,10 @@ class Keyring:
     def close(self) -> None:
         self.engine.close()
 
-    def along(self, fprs: Sequence[str], program: Sequence[str] | None = None) -> "Keyring":
+    def along(self, fprs: Sequence[str], program: Sequence[str] | None = None) -> Keyring:
         """A keyring of these certificates alone, in which each has only itself and the one before it as an issuer. So
         the one way through it goes along them."""
+        from .engine import Engine
         part = Keyring(Engine(program), self.index)
         for before, fpr in zip([None, *fprs], fprs):
             certificate = self.certificate(fpr)
@@ -140,7 +146,7 @@ class Keyring:
         newest = max(own, key=Signature.newness, default=None)
         return (False, 0) if newest is None else (newest.said.primary, newest.said.made)
 
-    def view(self, time: int, roots: Mapping[str, int], name: str = "client") -> "View":
+    def view(self, time: int, roots: Mapping[str, int], name: str = "client") -> View:
         """Opens a view: the time in seconds since 1970, and the amount of each root. It takes the place of an earlier
         one of its name, so use several names (the engine has 16 views) to ask from several by turns."""
         try:

@@ -1,9 +1,8 @@
 """A keyring of the service, asked over its socket."""
 
 from .client import Client
-from .keyring import Keyring
+from .keyring import Bindings, Keyring
 from .refusals import RefusedAbsent
-from .store import Bindings
 
 
 class ServedIndex:

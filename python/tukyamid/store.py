@@ -17,13 +17,13 @@ from typing import Any
 
 from . import spelling
 from .certificates import bindings_of
-from .digests import LAYOUT
 from .client.connection import Connection
+from .digests import LAYOUT
+from .keyring import Bindings
 from .refusals import TukyamidError
 from .verdicts import Verdicts, verdicts_of
 
 MOST_ENTRIES = 8
-Bindings = list[tuple[str, bytes]]
 
 
 class StoreRefused(TukyamidError):

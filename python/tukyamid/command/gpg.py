@@ -3,7 +3,6 @@
 import os
 import subprocess
 from collections.abc import Iterable, Mapping
-from pathlib import Path
 
 from ..keyring import View
 from .failures import NoAnswer
@@ -14,17 +13,17 @@ AMOUNTS = {ULTIMATE: 120, FULL: 120, MARGINAL: 40}
 _EXPORT = ["--export", "--export-options", "export-local-sigs"]
 
 
-def home() -> Path:
+def home() -> str:
     """gpg's folder. It must be there: gpg would make one."""
-    folder = Path(os.environ.get("GNUPGHOME") or Path.home() / ".gnupg")
-    if not folder.is_dir():
+    folder = os.environ.get("GNUPGHOME") or os.path.expanduser("~/.gnupg")
+    if not os.path.isdir(folder):
         raise NoAnswer(f"gpg has no keyring: {folder} isn't there")
     return folder
 
 
-def keyring_files() -> list[Path]:
+def keyring_files() -> list[str]:
     """The files in which gpg may have its keyring."""
-    return [home() / name for name in ("pubring.kbx", "pubring.gpg", "public-keys.d/pubring.db")]
+    return [os.path.join(home(), name) for name in ("pubring.kbx", "pubring.gpg", "public-keys.d/pubring.db")]
 
 
 def export() -> bytes:

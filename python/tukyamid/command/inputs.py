@@ -1,15 +1,19 @@
 """The keyring that a question is asked about: the service's, or one of the files, directories and programs that the
 words name."""
 
+from __future__ import annotations
+
 from collections.abc import Callable
 from contextlib import ExitStack
+from typing import TYPE_CHECKING
 
 from ..keyring import Keyring
-from ..store import Store, StoreRefused
-from ..verifier import Verifier
 from .failures import WrongWords
 from .parser import Given
-from .sources import Gpg, Input, Named, Source
+from .sources import Source, sources_of
+
+if TYPE_CHECKING:
+    from ..store import Store
 
 Tell = Callable[[str], None]
 
@@ -20,10 +24,11 @@ class Inputs:
     def __init__(self, given: Given, tell: Tell) -> None:
         self._given, self._tell = given, tell
         self._open = ExitStack()
+        self._paths: list[str] | None = None
         self.keyring: Keyring
         self.verifier_words = [given.verifier] if given.verifier else None
 
-    def __enter__(self) -> "Inputs":
+    def __enter__(self) -> Inputs:
         try:
             self.keyring = self._open.enter_context(self._opened())
         except BaseException:
@@ -35,33 +40,34 @@ class Inputs:
         self._open.close()
 
     def _opened(self) -> Keyring:
-        sources = self._sources()
+        sources = sources_of(self._given)
         if not sources and self._given.no_service:
             raise WrongWords("an input is missing: give --keyring FILE, --directory FOLDER or --gpg")
         if not sources:
-            return self._of_service()
-        store = self._store()
-        if store is None or self._given.no_service or self._given.anew or self._given.engine:
-            return self._by_an_engine([source.path(self._open) for source in sources], store)
+            from .served import of_service
+            return of_service()
+        is_alone = self._given.no_service or self._given.no_cache or self._given.anew or self._given.engine
+        if is_alone:
+            return self._by_an_engine(sources)
         from .reopening import Reopening
-        return Reopening(sources, store, Verifier(self.verifier_words), self._open).keyring(
-            lambda paths: self._by_an_engine(paths, store))
+        reopening = Reopening(self._given, sources, lambda: self.as_paths(sources))
+        return reopening.served() or reopening.begin_after(self._by_an_engine(sources))
 
-    @staticmethod
-    def _of_service() -> Keyring:
-        """The keyring that the user's service keeps."""
-        from ..client import connect
-        from ..served import served_keyring
-        from ..service.starting import ensure
-        return served_keyring(connect(ensure()))
+    def as_paths(self, sources: list[Source]) -> list[str]:
+        """Files and directories that have the inputs, as long as this is open. Each input is read once."""
+        if self._paths is None:
+            self._paths = [source.path(self._open) for source in sources]
+        return self._paths
 
-    def _by_an_engine(self, paths: list[str], store: Store | None) -> Keyring:
+    def _by_an_engine(self, sources: list[Source]) -> Keyring:
         """A keyring in an engine that is started for this question."""
         engine = [self._given.engine] if self._given.engine else None
-        return Keyring.open(paths, store, engine, self.verifier_words, self._given.anew, tell=self._tell)
+        return Keyring.open(self.as_paths(sources), self._store(), engine, self.verifier_words, self._given.anew,
+                            tell=self._tell)
 
     def _store(self) -> Store | None:
         """Where verified keyrings are kept; None if nothing is to be kept, or if it isn't safe there."""
+        from ..store import Store, StoreRefused
         if self._given.no_cache:
             return None
         try:
@@ -69,9 +75,3 @@ class Inputs:
         except (StoreRefused, OSError) as error:
             self._tell(f"no cache is used: {error}")
             return None
-
-    def _sources(self) -> list[Source]:
-        sources: list[Source] = [Input() if name == "-" else Named(name) for name in self._given.keyring]
-        if self._given.gpg or self._given.gpg_keyring:
-            sources.append(Gpg())
-        return [*sources, *map(Named, self._given.directory)]

@@ -1,14 +1,13 @@
 """Trust roots: those that are given, gpg's owner trust, and the trust root of a certificate directory."""
 
+from __future__ import annotations
+
 import os
 from collections.abc import Iterator
-from pathlib import Path
 from typing import NamedTuple
 
 from ..certificates import key_fingerprint
 from ..packets import KEY, packets
-from ..verifier import Verifier
-from . import gpg
 from .failures import NoAnswer, WrongWords
 from .inputs import Inputs
 from .keys import resolve
@@ -53,6 +52,7 @@ class Roots:
         keyring = self._inputs.keyring
         amounts = {}
         if self._given.gpg:
+            from . import gpg
             amounts = gpg.roots_of(gpg.owner_trust(), keyring.view(at, {}))
             if not amounts and not self._given.root:
                 raise NoAnswer("gpg trusts no key ultimately, so there is no root: give --root KEY[:AMOUNT]")
@@ -64,23 +64,23 @@ class Roots:
 
     def _of_directories(self) -> dict[str, int]:
         """The trust roots of the directories that are given, or else of the user's own directory, which is sq's."""
-        given = [Path(folder) for folder in self._given.directory]
-        found = {fpr: FULL for folder in given for fpr in self._of_directory(folder)}
+        found = {fpr: FULL for folder in self._given.directory for fpr in self._of_directory(folder)}
         if found:
             return found
         own = {fpr: FULL for fpr in self._of_directory(own_directory())}
         if own:
-            self._notes.append(f"the root is sq's own, {printable(str(own_directory() / 'trust-root'))}")
+            self._notes.append(f"the root is sq's own, {printable(own_directory())}/trust-root")
         return own
 
-    def _of_directory(self, folder: Path) -> list[str]:
-        file = folder / "trust-root"
+    def _of_directory(self, folder: str) -> list[str]:
+        name = os.path.join(folder, "trust-root")
         try:
-            return list(self._read(file, file.read_bytes()))
+            with open(name, "rb") as file:
+                return list(self._read(name, file.read()))
         except (FileNotFoundError, NotADirectoryError):
             return []
 
-    def _read(self, file: Path, octets: bytes) -> Iterator[str]:
+    def _read(self, name: str, octets: bytes) -> Iterator[str]:
         """The fingerprints of a trust root, which may be armored, and may have secret parts."""
         try:
             found = list(packets(octets))
@@ -88,17 +88,18 @@ class Roots:
             found = []
         has_secrets = any(kind in _SECRET_KEYS for kind, _ in found) or b"BEGIN PGP PRIVATE KEY" in octets[:4096]
         if has_secrets:
-            self._notes.append(f"the secret parts of {printable(str(file))} were left out")
+            self._notes.append(f"the secret parts of {printable(name)} were left out")
         if found and not has_secrets:
             yield from (key_fingerprint(body) for kind, body in found if kind == KEY)
             return
-        for line in Verifier(self._inputs.verifier_words).certificates([str(file)]):
+        from ..verifier import Verifier
+        for line in Verifier(self._inputs.verifier_words).certificates([name]):
             if line.startswith(b"import "):
                 yield from (key_fingerprint(body) for kind, body in packets(bytes.fromhex(line[7:].decode("ascii")))
                             if kind == KEY)
 
 
-def own_directory() -> Path:
+def own_directory() -> str:
     """The user's certificate directory, as the draft of the shared OpenPGP certificate directory names it."""
-    data = os.environ.get("XDG_DATA_HOME") or Path.home() / ".local" / "share"
-    return Path(os.environ.get("PGP_CERT_D") or Path(data) / "pgp.cert.d")
+    data = os.environ.get("XDG_DATA_HOME") or os.path.expanduser("~/.local/share")
+    return os.environ.get("PGP_CERT_D") or os.path.join(data, "pgp.cert.d")

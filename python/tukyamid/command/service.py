@@ -6,12 +6,12 @@ import time
 from collections.abc import Iterator, Sequence
 
 from ..certificates import read_certificate
-from ..client import Client, connect
+from ..client import Client
 from ..keyring import Keyring
 from ..lifetimes import expired_elsewhere
 from ..reasons import TargetWord
 from ..served import served_keyring
-from ..service.starting import ensure
+from .served import service
 from .failures import REACHED, WrongWords
 from .output import printable, tell, write
 from .parser import Parser
@@ -36,7 +36,7 @@ def run(command: str, words: Sequence[str]) -> int:
     parser = Parser(prog=f"tukyamid {command}", add_help=False, allow_abbrev=False)
     parser.add_argument("words", nargs="*")
     given: list[str] = parser.parse_args(words).words
-    with connect(ensure()) as client:
+    with service() as client:
         write("".join(printable(line) + "\n" for line in call(client, given)))
     return REACHED
 

@@ -1,7 +1,6 @@
 """What the words of the command say: times, amounts, keys and roots. A ValueError says what is wrong with one."""
 
 import re
-from datetime import datetime, timezone
 
 from .. import spelling
 
@@ -20,6 +19,7 @@ def read_time(text: str) -> int:
     digits = text.removeprefix("@")
     if digits.isascii() and digits.isdigit() and (text != digits or len(digits) > 8):
         return _within(int(digits), 0, MOST_TIME, f"{text} is no time")
+    from datetime import datetime, timezone
     try:
         moment = datetime.fromisoformat(text)
     except ValueError:

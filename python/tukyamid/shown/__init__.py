@@ -1,8 +1,12 @@
 """The forms in which the command shows a report: each module has `show(report)`, which returns a text."""
 
-from collections.abc import Callable
+from __future__ import annotations
 
-from ..assessment import Report
+from collections.abc import Callable
+from typing import TYPE_CHECKING
+
+if TYPE_CHECKING:
+    from ..assessment import Report
 
 FORMS = ("tree", "json", "colons", "dot", "html")
 

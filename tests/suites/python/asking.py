@@ -5,6 +5,8 @@ import unittest
 
 from friends import friends
 from outside import COMMAND, TRUSTING, folder, run
+from tukyamid.command import asking, parser
+from tukyamid.shown import FORMS, form
 
 # The third is 15 February 2025.
 DECEMBER, APRIL, FEBRUARY = "2025-12-01", "2025-04-15T00:00:00Z", "1739577600"
@@ -18,20 +20,32 @@ def program(name, text):
     return path
 
 
+def in_every_form(words):
+    """The texts of an answer by their forms, and whether the amount is reached, without a process for each form."""
+    def refuse(text):
+        raise AssertionError(text)
+
+    def show(report):
+        return json.dumps({name: form(name)(report) for name in FORMS})
+    given = parser.read([str(word) for word in words])
+    texts, is_reached = asking.answer(given, show, refuse)
+    return json.loads(texts), is_reached
+
+
 class Asking(unittest.TestCase):
     @classmethod
     def setUpClass(cls):
         cls.friends = friends()
         cls.fpr = cls.friends.fpr
 
-    def words(self, *words, root="Alice", time=DECEMBER):
+    def words(self, *words, root="Alice", time=DECEMBER, keyring=None):
         roots = [f"--root={self.fpr[root]}"] if root else []
         times = ["--time", time] if time else []
-        return [COMMAND, "--no-service", "--keyring", self.friends.keyring, "--cache", folder() / "cache",
+        return [COMMAND, "--no-service", "--keyring", keyring or self.friends.keyring, "--cache", folder() / "cache",
                 "--verifier", TRUSTING, *roots, *times, *words]
 
-    def ask(self, *words, root="Alice", time=DECEMBER, **options):
-        return run(self.words(*words, root=root, time=time), **options)
+    def ask(self, *words, root="Alice", time=DECEMBER, keyring=None, **options):
+        return run(self.words(*words, root=root, time=time, keyring=keyring), **options)
 
     def answer(self, *words, **options):
         """The status and the JSON of an answer."""

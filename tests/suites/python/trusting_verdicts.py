@@ -1,5 +1,5 @@
 #!/usr/bin/python3
-"""A stand-in for the verifier, for keyrings that the tests made: takes each signature as good by the issuer that it
+"""A stand-in for the verifier, for keyrings that the tests know: takes each signature as good by the issuer that it
 names, if that is there. It verifies nothing. TRUSTING_LOG names a file that gets a line for each run: its words."""
 
 import os
@@ -8,7 +8,7 @@ from pathlib import Path
 
 sys.path.insert(0, str(Path(__file__).resolve().parents[3] / "python"))
 
-from tukyamid.certificates import KEY, key_fingerprint, packets, read_certificate  # noqa: E402
+from tukyamid.certificates import KEY, key_fingerprint, key_id, packets, read_certificate  # noqa: E402
 
 
 def certificates(octets):
@@ -33,8 +33,9 @@ def judge(octets, there, wanted):
     certificate = read_certificate(octets)
     lists = [certificate.direct, *certificate.user_ids.values()]
     for signature in (one for signatures in lists for one in signatures):
-        if signature.said.issuer in there and (wanted is None or signature.number in wanted):
-            print(f"verdict {signature.number} good {signature.said.issuer}")
+        issuer = there.get(signature.said.issuer or signature.said.key_id)
+        if issuer is not None and (wanted is None or signature.number in wanted):
+            print(f"verdict {signature.number} good {issuer}")
 
 
 def main(words):
@@ -46,7 +47,8 @@ def main(words):
         return
     options = {word for word in words if word.startswith("--")}
     whole = list(read([word for word in words if word not in options]))
-    there = {key_fingerprint(body) for octets in whole for kind, body in packets(octets) if kind == KEY}
+    fprs = [key_fingerprint(body) for octets in whole for kind, body in packets(octets) if kind == KEY]
+    there = {name: fpr for fpr in fprs for name in (fpr, key_id(fpr))}
     wanted = {line.split()[1] for line in sys.stdin if line.startswith("sig ")} if "--pending" in options else None
     for octets in whole:
         if wanted is None:
