@@ -5,6 +5,7 @@ from collections.abc import Callable, Iterable, Iterator
 
 from .client.connection import Connection
 from .digests import digest_of
+from .replies import PendingSignature
 from .store import Entry, Held, Store
 from .verifier import Verifier, VerifierFailed
 
@@ -49,16 +50,16 @@ class Filling:
         """Has the engine take certificates and verdicts, of which these are known already."""
         if known:
             self._feed(self._verifier.certificates(self._paths))
-            self._feed(self._new_verdicts(known))
+            there = {key.fpr for key in self._engine.keys()}
+            self._feed(self._new_verdicts(known, there, list(self._engine.pending())))
         else:
             self._feed(self._verifier.lines(self._paths))
         if not next(iter(self._engine.keys()), None):
             raise VerifierFailed("no certificate was found")
 
-    def _new_verdicts(self, known: dict[str, str]) -> Iterator[bytes]:
+    def _new_verdicts(self, known: dict[str, str], there: set[str],
+                      pending: list[PendingSignature]) -> Iterator[bytes]:
         """Verdicts on what is pending: the known ones whose issuers are there, and those of the verifier on the rest."""
-        there = {key.fpr for key in self._engine.keys()}
-        pending = list(self._engine.pending())
         rest = [one for one in pending if known.get(one.number) not in there]
         yield from (f"verdict {one.number} good {known[one.number]}".encode("ascii") for one in pending
                     if known.get(one.number) in there)
