@@ -1,4 +1,4 @@
-"""Checks a claim of absence (docs/PROFILE.md, "Claims of absence") by itself: no engine is asked, nothing is searched.
+"""Checks a claim of absence (docs/PROFILE.md, "Proofs of absence") by itself: no engine is asked, nothing is searched.
 
 The network and the roots are handed in: a `Network`, and the roots' amounts by
 fingerprint. Fingerprints are octets.
