@@ -36,12 +36,19 @@ class Friends:
         self._revoke("Erin")
         self.keyring = folder() / "friends.pgp"
         self.keyring.write_bytes(self._gpg("--export"))
+        self._exported = {name: self._gpg("--export", fpr) for name, fpr in self.fpr.items()}
         subprocess.run(["gpgconf", "--homedir", str(self.home), "--kill", "all"], check=False)
+
+    def without(self, missing):
+        """A keyring of all but one."""
+        path = folder() / f"without-{missing}.pgp"
+        path.write_bytes(b"".join(octets for name, octets in self._exported.items() if name != missing))
+        return path
 
     def as_directory(self, path, root):
         """The certificates as a certificate directory, with one of them as its trust root."""
         for name, fpr in self.fpr.items():
-            exported = self._gpg("--export", fpr)
+            exported = self._exported[name]
             (path / fpr[:2]).mkdir(parents=True, exist_ok=True)
             (path / fpr[:2] / fpr[2:]).write_bytes(exported)
             if name == root:

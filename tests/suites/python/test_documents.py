@@ -54,7 +54,7 @@ class Programs(unittest.TestCase):
     @classmethod
     def setUpClass(cls):
         cls.names, cls.fpr = programs(ROOT / "docs" / "USING.md"), friends().fpr
-        cls.keyring = tukyamid.Keyring.open([friends().keyring], verifier=TRUSTING)
+        cls.keyring = tukyamid.Keyring.open([friends().keyring], verifier=[TRUSTING])
         cls.addClassCleanup(cls.keyring.close)
 
     def test_a_mail_program(self):
