@@ -32,7 +32,8 @@ class Home:
         for issuer, target in CERTIFIED:
             self.gpg("-u", self.fpr[issuer], "--quick-sign-key", self.fpr[target])
         self.gpg("-u", self.fpr["Me"], "--quick-lsign-key", self.fpr["Local"])
-        trust = "".join(f"{self.fpr[name].upper()}:{level}:\n" for name, level in TRUST.items())
+        # A key that gpg makes has ultimate trust; 2 is none.
+        trust = "".join(f"{fpr.upper()}:{TRUST.get(name, 2)}:\n" for name, fpr in self.fpr.items())
         self.gpg("--import-ownertrust", typed=trust.encode())
         self.gpg("--check-trustdb")
 
