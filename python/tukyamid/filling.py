@@ -16,7 +16,8 @@ class Filling:
     """An engine that is still empty, and where its certificates come from. `tell` is called with a text for people if
     something was left out."""
 
-    def __init__(self, engine: Connection, paths: list[str], verifier: Verifier, store: Store | None, tell: Tell) -> None:
+    def __init__(self, engine: Connection, paths: list[str], verifier: Verifier, store: Store | None,
+                 tell: Tell) -> None:
         self._engine, self._paths, self._verifier = engine, paths, verifier
         self._store, self._tell = store, tell
 
@@ -59,7 +60,7 @@ class Filling:
 
     def _new_verdicts(self, known: dict[str, str], there: set[str],
                       pending: list[PendingSignature]) -> Iterator[bytes]:
-        """Verdicts on what is pending: the known ones whose issuers are there, and those of the verifier on the rest."""
+        """Verdicts on what is pending: the known ones whose issuers are there, and the verifier's on the rest."""
         rest = [one for one in pending if known.get(one.number) not in there]
         yield from (f"verdict {one.number} good {known[one.number]}".encode("ascii") for one in pending
                     if known.get(one.number) in there)

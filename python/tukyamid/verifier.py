@@ -37,8 +37,8 @@ def find_verifier() -> list[str]:
 
 
 class Verifier:
-    """A verifier, by the words that start it. Of secret keys it reads the public parts. `tell` is called with what it says
-    about what was left out, unless it says so on a terminal itself, where it also shows its progress."""
+    """A verifier, by the words that start it. Of secret keys it reads the public parts. `tell` is called with what it
+    says about what was left out, unless it says so on a terminal itself, where it also shows its progress."""
 
     def __init__(self, words: Sequence[str] | None = None, tell: Callable[[str], None] = lambda text: None) -> None:
         self.words = list(words) if words else find_verifier()

@@ -45,8 +45,8 @@ class Home:
         return done.stdout
 
     def _make(self, name):
-        said = self.gpg("--status-fd", "1", "--passphrase", "", "--quick-gen-key", f"{name} <{name.lower()}@example.org>",
-                        "ed25519", "cert,sign", "never")
+        said = self.gpg("--status-fd", "1", "--passphrase", "", "--quick-gen-key",
+                        f"{name} <{name.lower()}@example.org>", "ed25519", "cert,sign", "never")
         return re.search(rb"KEY_CREATED P ([0-9A-F]{40})", said).group(1).decode().lower()
 
     def valid(self):
@@ -97,7 +97,8 @@ class OfGpg(unittest.TestCase):
         self.assertFalse((folder() / "nowhere").exists())
         empty = folder() / "empty-home"
         empty.mkdir(mode=0o700)
-        self.assertRegex(self.ask("--gpg", "list", gnupg=empty).stderr.decode(), r"\Atukyamid: gpg's keyring in \S+ is empty\n\Z")
+        said = self.ask("--gpg", "list", gnupg=empty).stderr.decode()
+        self.assertRegex(said, r"\Atukyamid: gpg's keyring in \S+ is empty\n\Z")
 
 
 @needs_engine
@@ -107,8 +108,9 @@ class OfDirectories(Asking):
         return self.friends.as_directory(folder() / name, "Alice")
 
     def asked(self, path, *words, verifier=TRUSTING, environment=None):
-        done = run([COMMAND, "--no-service", "--no-cache", "--directory", path, "--verifier", verifier, "--time", DECEMBER,
-                    "--format", "json", *words, "authenticate", self.fpr["Carol"], PEOPLE["Carol"]], env=environment)
+        done = run([COMMAND, "--no-service", "--no-cache", "--directory", path, "--verifier", verifier, "--time",
+                    DECEMBER, "--format", "json", *words, "authenticate", self.fpr["Carol"], PEOPLE["Carol"]],
+                   env=environment)
         return done.returncode, json.loads(done.stdout) if done.stdout else done.stderr.decode()
 
     def test_the_root_of_a_directory(self):
@@ -123,7 +125,8 @@ class OfDirectories(Asking):
         for environment in {"XDG_DATA_HOME": str(own)}, {"PGP_CERT_D": str(own / "pgp.cert.d")}:
             done = run(words, env={**os.environ, **environment})
             report = json.loads(done.stdout)
-            self.assertEqual((done.returncode, report["roots"]), (0, [{"fingerprint": self.fpr["Alice"], "amount": 120}]))
+            roots = [{"fingerprint": self.fpr["Alice"], "amount": 120}]
+            self.assertEqual((done.returncode, report["roots"]), (0, roots))
             self.assertIn("the root is sq's own", report["notes"][0])
 
     def test_a_root_that_is_armored_or_has_secret_parts(self):

@@ -7,7 +7,6 @@ import signal
 import socket
 import struct
 import time
-import unittest
 
 from asking import DECEMBER, Asking
 from friends import PEOPLE
@@ -55,8 +54,8 @@ class Services(Asking):
 
     def asked(self, *words, status=0, roots=("Alice",)):
         """The JSON of an answer."""
-        done = run([COMMAND, *(f"--root={self.fpr[root]}" for root in roots), "--time", DECEMBER, "--format", "json", *words],
-                   env=self.environment)
+        named = [f"--root={self.fpr[root]}" for root in roots]
+        done = run([COMMAND, *named, "--time", DECEMBER, "--format", "json", *words], env=self.environment)
         self.assertEqual((done.returncode, done.stderr), (status, b""))
         return json.loads(done.stdout)
 
@@ -72,8 +71,8 @@ class HeldInputs(Services):
 
     def test_a_question_is_answered_again_by_a_service_of_these_inputs(self):
         """The second time no file of the cache is needed, and the answer is the same, to the last octet."""
-        questions = [["authenticate", self.fpr["Carol"], PEOPLE["Carol"]], ["identify", self.fpr["Dave"][-16:]], ["list"],
-                     ["--email", "lookup", "DAVE@example.net"], ["lookup", PEOPLE["Erin"]],
+        questions = [["authenticate", self.fpr["Carol"], PEOPLE["Carol"]], ["identify", self.fpr["Dave"][-16:]],
+                     ["list"], ["--email", "lookup", "DAVE@example.net"], ["lookup", PEOPLE["Erin"]],
                      ["path", self.fpr["Alice"], self.fpr["Carol"], PEOPLE["Carol"]]]
         statuses = [0, 1, 0, 1, 1, 1]
         first = [self.asked("--no-service", *self.named, *words, status=status)
@@ -140,9 +139,11 @@ class UsersService(Services):
         self.assertIn("no keyring is kept", self.command("keyring", "list"))
 
     def test_wrong_words(self):
-        for words, said in [(["keyring"], "keyring takes: add NAME.., remove NAME.. or list"), (["keyring", "add"], "keyring takes"),
-                            (["status", "x"], "status takes no words"), (["log", "0"], r"log takes: \[N\]"),
-                            (["log", "x"], r"log takes: \[N\]"), (["log", "--nonsense"], "nonsense")]:
+        for words, said in [
+            (["keyring"], "keyring takes: add NAME.., remove NAME.. or list"), (["keyring", "add"], "keyring takes"),
+            (["status", "x"], "status takes no words"), (["log", "0"], r"log takes: \[N\]"),
+            (["log", "x"], r"log takes: \[N\]"), (["log", "--nonsense"], "nonsense"),
+        ]:
             self.fails(run([COMMAND, *words], env=self.environment), 2, said)
         self.fails(run([COMMAND, "keyring", "add", "/nowhere"], env=self.environment), 3, "/nowhere: No such file")
         self.fails(run([COMMAND, "keyring", "remove", "/nowhere"], env=self.environment), 3, "/nowhere isn't kept")
