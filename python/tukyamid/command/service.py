@@ -7,6 +7,7 @@ from collections.abc import Iterator, Sequence
 
 from ..certificates import read_certificate
 from ..client import Client
+from ..client.conversation import no_progress
 from ..keyring import Keyring
 from ..lifetimes import expired_elsewhere
 from ..reasons import TargetWord
@@ -62,7 +63,7 @@ def _whole(name: str) -> str:
 
 
 def _add(client: Client, name: str) -> str:
-    added = client.add_keyring(_whole(name), tell)
+    added = client.add_keyring(_whole(name), tell if os.isatty(2) else no_progress)
     return f"{name}: {added.certificates} certificates, {added.verdicts} new verdicts"
 
 
