@@ -7,7 +7,6 @@ from collections.abc import Iterator, Sequence
 
 from ..certificates import read_certificate
 from ..client import Client
-from ..client.conversation import no_progress
 from ..keyring import Keyring
 from ..lifetimes import expired_elsewhere
 from ..reasons import TargetWord
@@ -63,8 +62,13 @@ def _whole(name: str) -> str:
 
 
 def _add(client: Client, name: str) -> str:
-    added = client.add_keyring(_whole(name), tell if os.isatty(2) else no_progress)
+    added = client.add_keyring(_whole(name), _say_progress)
     return f"{name}: {added.certificates} certificates, {added.verdicts} new verdicts"
+
+
+def _say_progress(text: str) -> None:
+    if os.isatty(2):  # A script has no use for it.
+        tell(text)
 
 
 def _remove(client: Client, name: str) -> None:
