@@ -106,6 +106,7 @@ class Words(Asking):
                 self.fails(self.ask(*words), 2, said)
         self.fails(self.ask("list", root=None), 2, "a trust root is missing: give --root")
         self.fails(run([COMMAND, "--no-service", "--root", carol, "list"]), 2, "an input is missing: give --keyring")
+        self.fails(run([COMMAND, "--anew", "--root", carol, "list"]), 2, "--anew goes with an input: give --keyring")
 
     def test_usage_has_two_lines(self):
         done = run([COMMAND])
