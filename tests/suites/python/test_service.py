@@ -11,6 +11,7 @@ import time
 from asking import DECEMBER, Asking
 from friends import PEOPLE
 from outside import COMMAND, TRUSTING, folder, needs_engine, needs_gpg, run
+from test_lifetimes import ended_key
 
 
 def server_of(path):
@@ -137,6 +138,11 @@ class UsersService(Services):
         self.assertEqual(self.command("keyring", "list"), f"{self.friends.keyring}: 6 certificates\n")
         self.command("keyring", "remove", self.friends.keyring)
         self.assertIn("no keyring is kept", self.command("keyring", "list"))
+
+    def test_the_status_counts_keys_that_others_take_as_expired(self):
+        self.command("keyring", "add", ended_key().keyring)
+        self.command("keyring", "add", self.friends.keyring)
+        self.assertIn("expired-elsewhere: 1\n", self.command("status"))
 
     def test_wrong_words(self):
         for words, said in [
