@@ -14,11 +14,11 @@ from tukyamid.engine import has_reply
 from .committing import FAULT
 from .cursors import Cursors
 from .database import Actor, Snapshot
-from .engine import pieces
 from .framing import LineCutter
 from .hub import Hub
 from .outbox import Outbox, Pieces, Slot
 from .peers import NOBODY, actor_of
+from .program import pieces
 from .views import Views, is_name
 from .watches import Watches
 
