@@ -9,6 +9,7 @@ from collections.abc import Callable, Iterable, Iterator, Sequence
 from .framing import ReplyCutter
 
 _PIECE = 1 << 18
+_WRITTEN_PIECE = 1 << 16
 _LONGEST_WAIT = 10.0
 
 
@@ -116,7 +117,7 @@ def pieces(lines: Iterator[bytes]) -> Iterator[bytes]:
     for line in lines:
         piece += line, b"\n"
         size += len(line) + 1
-        if size >= _PIECE:
+        if size >= _WRITTEN_PIECE:
             yield b"".join(piece)
             piece, size = [], 0
     if piece:

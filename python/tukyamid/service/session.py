@@ -38,7 +38,7 @@ REFUSED_READ_ONLY = b"refused read-only\n"
 NEVER_OPEN = b"-"
 _MOST_LINES = 64
 _MOST_OCTETS = 1 << 20
-_UNREAD_OCTETS = 1 << 18
+_UNREAD_OCTETS = 1 << 17
 
 
 class Helper(Protocol):

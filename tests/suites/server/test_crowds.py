@@ -71,7 +71,7 @@ class Crowd(InAFolder):
         """The dump is long, and is in no one's memory."""
         draw = random.Random(1)
         lines = []
-        for place in range(150):
+        for place in range(50):
             key = b"\4\0\0\x03\xe8\x1b" + place.to_bytes(2, "big")
             picture = draw.randbytes(20_000)
             lines.append(b"import " + (packet(6, key) + b"\xd1\xff" + len(picture).to_bytes(4, "big") + picture
@@ -80,7 +80,7 @@ class Crowd(InAFolder):
             database.fill(lines, "filled", Actor(0, 0))
             script = script_of(database)
         reply = b"dump %d\n" % script.count(b"\n") + script
-        with Server(folder=self.folder) as server, contextlib.ExitStack() as stack:
+        with Server("--patience", "900", folder=self.folder) as server, contextlib.ExitStack() as stack:
             before = memory(server)
             clients = [stack.enter_context(Client(server.path)) for _ in range(DUMPERS)]
             for client in clients:
