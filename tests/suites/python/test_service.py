@@ -151,6 +151,7 @@ class UsersService(Services):
             (["log", "x"], r"log takes: \[N\]"), (["log", "--nonsense"], "nonsense"),
         ]:
             self.fails(run([COMMAND, *words], env=self.environment), 2, said)
-        self.fails(run([COMMAND, "keyring", "add", "/nowhere"], env=self.environment), 3, "/nowhere: No such file")
-        self.fails(run([COMMAND, "keyring", "remove", "/nowhere"], env=self.environment), 3, "/nowhere isn't kept")
+        nowhere = self.own / "nowhere"
+        self.fails(run([COMMAND, "keyring", "add", nowhere], env=self.environment), 3, f"{nowhere}: No such file")
+        self.fails(run([COMMAND, "keyring", "remove", nowhere], env=self.environment), 3, f"{nowhere} isn't kept")
         self.assertIn("usage: tukyamid keyring", self.command("keyring", "--help"))
