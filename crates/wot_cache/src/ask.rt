@@ -5,7 +5,7 @@ ghost use Rattle.wot_edge.specs.Record.{IsRecord};
 ghost use Rattle.wot_network.specs.Net.{told_of};
 ghost use Rattle.wot_network.specs.Roads.{present_of};
 ghost use Rattle.wot_search.specs.Reach.{IsReach};
-ghost use Rattle.wot_cache.specs.Answers.{AreAllRight, AreRightIn};
+ghost use Rattle.wot_cache.specs.Answers.{AreAllRight, AreRightIn, KeepsFor};
 ghost use Rattle.wot_cache.specs.Question.{asked_of, present_in, IsTold};
 
 use crate::answers::Answers;
@@ -238,6 +238,7 @@ fn find_first(
     ensures sum { IfOk result (λ a. a.sum ≡ amount_of a.paths) }
     ensures memory { OnErr result (result ≡ Err AskFault.Memory) }
     ensures right { AreAllRight parts.now.keyring.now answers.new.entries }
+    ensures others { KeepsFor view.now answers.old.entries answers.new.entries }
 {
     let mut of_view = Answers::new(alloc);
     let found = find(alloc, &mut of_view, parts, target, wanted, uid, made);
@@ -264,6 +265,7 @@ fn find_any(
     ensures sum { IfOk result (λ a. a.sum ≡ amount_of a.paths) }
     ensures memory { OnErr result (result ≡ Err AskFault.Memory) }
     ensures right { AreAllRight parts.now.keyring.now answers.new.entries }
+    ensures others { KeepsFor view.now answers.old.entries answers.new.entries }
 {
     match answers.get_mut(view) {
         Some(of_view) => find(alloc, of_view, parts, target, wanted, uid, made),
@@ -290,6 +292,7 @@ pub fn answer(
     ensures told { IfOk result (λ a. IsTold (asked_of parts.now target.now uid.now) wanted a) }
     ensures memory { OnErr result (result ≡ Err AskFault.Memory) }
     ensures right { AreAllRight parts.now.keyring.now answers.new.entries }
+    ensures others { KeepsFor view.now answers.old.entries answers.new.entries }
 {
     answer_is_one();
     zero_is_no_path();
