@@ -16,7 +16,7 @@ use crate::view::AskFault;
 use std::alloc::Global;
 use wot_auth::{Answer, authenticate_metered, authenticate_within};
 use wot_edge::laws::{answer_is_one, paths_fit, zero_is_no_path};
-use wot_search::{Making, Metered, Reach, make_reach};
+use wot_search::{LookFault, Making, Metered, Reach, make_reach};
 use wot_types::{Fpr, Memory, ViewName};
 
 /// How far issuers reach, over these parts.
@@ -149,16 +149,13 @@ fn search(
                 &metered.consulted,
                 &answer,
             );
-            let looked = most.saturating_sub(metered.left).saturating_add(made);
+            let left = metered.left.unwrap_or(0);
+            let looked = most.saturating_sub(left).saturating_add(made);
             spend(alloc, of_view, parts, looked);
             Ok(answer)
         }
-        Err(Memory) => {
-            if metered.left > 0 {
-                return Err(AskFault::Memory);
-            }
-            search_far(alloc, of_view, parts, target, wanted, uid)
-        }
+        Err(LookFault::Memory) => Err(AskFault::Memory),
+        Err(LookFault::Spent) => search_far(alloc, of_view, parts, target, wanted, uid),
     }
 }
 
