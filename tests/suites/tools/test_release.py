@@ -13,7 +13,9 @@ from typing import Any
 from outside import ROOT, run
 
 PARTS = ("gate", "checks", "suites", "edits", "scripts", "mutants", "memory", "benches")
-PACKAGE = "#!/bin/sh\nmkdir -p \"$2\" && cat python/tukyamid/version.py > \"$2/tukyamid.deb\" && echo \"$@\" > \"$2/words\"\n"
+PACKAGE = """#!/bin/sh
+mkdir -p "$2" && cat python/tukyamid/version.py > "$2/tukyamid.deb" && echo "$@" > "$2/words"
+"""
 NAMES = {f"GIT_{who}_{what}": text for who in ("AUTHOR", "COMMITTER")
          for what, text in (("NAME", "T"), ("EMAIL", "t@example.org"))}
 
@@ -41,8 +43,8 @@ class Released(unittest.TestCase):
             self.git(*words)
 
     def git(self, *words: str) -> str:
-        told = {**os.environ, **NAMES}
-        return subprocess.run(["git", *words], cwd=self.top, env=told, capture_output=True, text=True, check=True).stdout
+        how = {"cwd": self.top, "env": {**os.environ, **NAMES}, "capture_output": True, "text": True, "check": True}
+        return str(subprocess.run(["git", *words], **how).stdout)
 
     def write_night(self, **more: Any) -> None:
         parts = [{"name": name, "status": "passed"} for name in PARTS]

@@ -12,7 +12,8 @@ from outside import ROOT, run
 SUITES = {
     "good": "echo '3 passed, 0 failed'",
     "skips": (
-        "echo \"test_a (x.X) ... skipped 'groff isn't installed'\"; echo \"test_b (x.X) ... skipped \\\"root may read\\\"\";"
+        "echo \"test_a (x.X) ... skipped 'groff isn't installed'\";"
+        "echo \"test_b (x.X) ... skipped \\\"root may read\\\"\";"
         "echo \"test_c (x.X) ... skipped 'there is no terminal'\"; echo '1 passed, 0 failed, 3 skipped'"
     ),
     "rules": "echo 'types: skipped: mypy is not there (apt-get install mypy)'; echo '2 passed, 0 failed, 1 skipped'",
