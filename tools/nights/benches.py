@@ -35,8 +35,9 @@ def benches(night: Night) -> Part:
         if night.is_short and bench.name not in SHORT:
             continue
         words = SHORT[bench.name] if night.is_short else []
-        file = folder / f"{bench.name}.json"
-        status, output = night.run(f"bench-{bench.name}", [str(bench), *words, "--json", str(file)])
+        if "from record import" in bench.read_text(encoding="utf-8"):
+            words = [*words, "--json", str(folder / f"{bench.name}.json")]
+        status, output = night.run(f"bench-{bench.name}", [str(bench), *words])
         done += 1
         if status != 0:
             wrong.append(f"{bench.name}: ended with status {status}: {last_line(output):.200}")
