@@ -25,7 +25,7 @@ def run(tree: Tree, words: list[str], package: str, folder: Path | None = None) 
     """What a tool of Debian's prints on standard output."""
     if not shutil.which(words[0]):
         raise CannotRun(f"{words[0]} isn't installed (apt-get install {package})")
-    places = {**os.environ, "MYPYPATH": ":".join(str(tree.root / place) for place in ("tools", "bench", "python"))}
+    places = {**os.environ, "MYPYPATH": ":".join(str(tree.root / place) for place in ("tools", "bench", "python", "packaging"))}
     ran = subprocess.run(
         words, cwd=folder or tree.root, env=places, capture_output=True, text=True, check=False
     )
