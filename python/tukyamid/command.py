@@ -19,6 +19,7 @@ from .reasons import ReasonWord
 from .refusals import TukyamidError
 from .shown import colons, dot, html_form, json_form, tree
 from .store import Store
+from .verifying import command as verifying
 
 REACHED, NOT_REACHED, WRONG_WORDS, NO_ANSWER = 0, 1, 2, 3
 FORMS = {"tree": tree, "json": json_form, "dot": dot, "html": html_form, "colons": colons}
@@ -32,6 +33,7 @@ questions:
   list [PATTERN]            all user IDs of keys that reach the amount; PATTERN is a part of the user ID, of any case
   path FPR.. USERID         is there a path along these certificates, of which the first is the root?
   explain FPR USERID        what does each certification of this user ID come to?
+  verify FILE [SIGNATURE] --for WHOM  did WHOM sign this file?
 """
 EPILOG = """exit status:
   0  the amount is reached, by one binding at least
@@ -50,7 +52,7 @@ class WrongWords(Exception):
 def parser():
     words = argparse.ArgumentParser(prog="tukyamid", usage=USAGE, epilog=EPILOG,
                                     formatter_class=argparse.RawDescriptionHelpFormatter)
-    words.add_argument("question", choices=sorted(QUESTIONS), metavar="question", help=argparse.SUPPRESS)
+    words.add_argument("question", choices=sorted([*QUESTIONS, "verify"]), metavar="question", help=argparse.SUPPRESS)
     words.add_argument("words", nargs="*", help=argparse.SUPPRESS)
     words.add_argument("--keyring", action="append", default=[], metavar="FILE",
                        help="a keyring, binary or armored; - is standard input; may be given several times")
@@ -67,6 +69,7 @@ def parser():
     words.add_argument("--anew", action="store_true", help="verify also what was kept")
     words.add_argument("--engine", metavar="PROGRAM", help="the engine's program")
     words.add_argument("--verifier", metavar="PROGRAM", help="the program wot-verdicts")
+    verifying.add_arguments(words)
     return words
 
 
@@ -212,7 +215,7 @@ def _program(words):
     return [words] if words else None
 
 
-def _roots(given):
+def roots_of(given):
     roots = dict(given.root)
     for folder in given.directory if not roots else ():
         try:
@@ -227,7 +230,7 @@ def _roots(given):
 
 
 @contextlib.contextmanager
-def _inputs(given):
+def inputs_of(given):
     """The paths of the input; what comes on standard input stands in a file meanwhile."""
     paths = [*given.keyring, *given.directory]
     if not paths:
@@ -251,17 +254,17 @@ class Names:
 
 def answer(given, answer_of):
     """The text of the answer, and whether the amount is reached."""
-    roots = _roots(given)
+    roots = roots_of(given)
     store = None if given.no_cache else Store(given.cache)
-    with _inputs(given) as paths, Keyring.open(paths, store, _program(given.engine), _program(given.verifier),
-                                               given.anew, tell=_tell) as keyring:
+    with inputs_of(given) as paths, Keyring.open(paths, store, _program(given.engine), _program(given.verifier),
+                                               given.anew, tell=tell) as keyring:
         at = int(time.time()) if given.time is None else given.time
         found, notes = answer_of(keyring.view(at, roots))
         report = Report(given.question, given.amount, at, roots, tuple(found), Names(keyring), tuple(notes))
         return FORMS[given.format].show(report), report.reached
 
 
-def _tell(text):
+def tell(text):
     print(f"tukyamid: {text}", file=sys.stderr)
 
 
@@ -269,13 +272,15 @@ def main(words=None):
     reader = parser()
     given = reader.parse_intermixed_args(words)
     try:
+        if given.question == "verify":
+            return verifying.run(given)
         text, is_reached = answer(given, QUESTIONS[given.question](given))
     except WrongWords as error:
         reader.print_usage(sys.stderr)
-        _tell(error)
+        tell(error)
         return WRONG_WORDS
     except (TukyamidError, OSError) as error:
-        _tell(error)
+        tell(error)
         return NO_ANSWER
     try:
         sys.stdout.flush()
