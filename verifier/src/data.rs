@@ -8,13 +8,13 @@ use std::time::{Duration, SystemTime, UNIX_EPOCH};
 
 use sequoia_openpgp as openpgp;
 
-use openpgp::packet::{Packet, Tag};
+use openpgp::packet::Tag;
 use openpgp::parse::stream::{
     DetachedVerifierBuilder, MessageLayer, MessageStructure, VerificationHelper, VerifierBuilder,
 };
 use openpgp::parse::{PacketParser, Parse};
 use openpgp::policy::StandardPolicy;
-use openpgp::{Cert, KeyHandle};
+use openpgp::{Cert, KeyHandle, Packet};
 
 use crate::finding::{Finding, Word};
 use crate::holders::Holders;
@@ -95,7 +95,7 @@ fn whole<'h>(
     };
     let mut piece = vec![0; 1 << 16];
     loop {
-        let length = verifier.read(&mut piece).map_err(|error| anyhow::Error::from(error))?;
+        let length = verifier.read(&mut piece).map_err(anyhow::Error::from)?;
         if length == 0 {
             content.flush().map_err(output(Path::new("the content")))?;
             return Ok(verifier.into_helper());

@@ -72,9 +72,9 @@ impl Finding {
 
     /// Of what can't be read as a signature.
     pub fn unread(word: Word, why: &anyhow::Error) -> Finding {
-        let unknown = (None, None, None);
-        let (made, kind, hash_algorithm) = unknown;
-        Finding { word, made, kind, hash_algorithm, certificate: None, key: None, why: None }.because(why)
+        let nothing =
+            Finding { word, made: None, kind: None, hash_algorithm: None, certificate: None, key: None, why: None };
+        nothing.because(why)
     }
 
     fn new(word: Word, sig: &Signature) -> Finding {

@@ -9,6 +9,7 @@ from ..keyring import Keyring, find_verifier
 from ..store import Store
 from . import shown
 from .content import Content
+from .holding import certificate_file
 from .judgement import Outcome, Wanted, When, judge
 from .signatures import Signed, signatures_on
 from .whom import Whom
@@ -70,8 +71,9 @@ def _outcome(given: argparse.Namespace, signed: Signed, content: Content) -> Out
     verifier = [given.verifier] if given.verifier else find_verifier()
     engine = [given.engine] if given.engine else None
     with questions.inputs_of(given) as paths:
-        found = signatures_on(signed, paths, verifier, given.time, content.path)
         with Keyring.open(paths, store, engine, verifier, given.anew, tell=questions.tell) as keyring:
+            with certificate_file(keyring) as certificates:
+                found = signatures_on(signed, certificates, verifier, given.time, content.path)
             return judge(keyring, roots, found, wanted, now)
 
 

@@ -58,10 +58,10 @@ class Signed:
         return ["--data", self.data, *(["--signature", self.signature] if self.signature is not None else [])]
 
 
-def signatures_on(signed: Signed, keyrings: Iterable[str], verifier: Sequence[str], at: int | None = None,
+def signatures_on(signed: Signed, certificates: str, verifier: Sequence[str], at: int | None = None,
                   content: Path | None = None) -> list[DataSignature]:
-    """The signatures on data, in their order, by the certificates of keyrings and certificate directories, as of a
-    time or now. What a message holds is written to the new file `content`."""
+    """The signatures on data, in their order, by the certificates of a file, as of a time or now. What a message holds
+    is written to the new file `content`."""
     words = [*verifier, *signed.words()]
     if at is not None:
         words += ["--at", str(at)]
@@ -69,7 +69,7 @@ def signatures_on(signed: Signed, keyrings: Iterable[str], verifier: Sequence[st
         words += ["--content", str(content)]
     given = None if "-" in (signed.data, signed.signature) else subprocess.DEVNULL
     try:
-        ended = subprocess.run([*words, "--", *keyrings], stdin=given, capture_output=True, check=False)
+        ended = subprocess.run([*words, "--", certificates], stdin=given, capture_output=True, check=False)
     except OSError as error:
         raise VerifierFailed(f"the verifier can't be started: {error}") from None
     # Its status 1 says that a part of the keyrings was left out.

@@ -69,13 +69,19 @@ class Files:
 
     def _whole(self):
         """Messages that hold what is signed: packed by gpg's default, as it is, and as text."""
-        for name, options in ("packed", ()), ("plain", ("--compress-algo", "none")), ("text", ("--textmode",)):
+        for name, options in ("packed", ()), ("plain", ("--compress-algo", "none")):
             for data, form in (self.release, "release"), (self.package, "package"):
-                octets = self._signers.sign(data, "archive", how=WHOLE, options=options)
-                self._add(f"{name} message of {form}", File(self._signers.write(f"{name}.{form}", octets)), ["good"],
+                self._add(f"{name} message of {form}", self._message(f"{name}.{form}", data, options), ["good"],
                           ("archive",))
+        self._add("text message of release", self._message("text.release", self.release, ("--textmode",)), ["good"],
+                  ("archive",))
+        self._add("text message of package", self._message("text.package", self.package, ("--textmode",)), ["bad"], (),
+                  {"gpgv": {"archive"}}, "a carriage return alone ends a line for Sequoia, and for gpg it doesn't")
         two = self._signers.sign(self.release, "archive", "release", how=WHOLE)
         self._add("message by two", File(self._signers.write("two.pgp", two)), ["good"] * 2, ("archive", "release"))
+
+    def _message(self, name, data, options):
+        return File(self._signers.write(name, self._signers.sign(data, "archive", how=WHOLE, options=options)))
 
     def _keys(self):
         """Signatures that are right over the data, by keys that aren't in order or aren't there."""
