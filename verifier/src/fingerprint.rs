@@ -28,12 +28,6 @@ impl Fingerprint {
         Some(Fingerprint::V4(digest))
     }
 
-    /// The fingerprint of 20 or 32 octets.
-    pub fn from_octets(octets: &[u8]) -> Option<Fingerprint> {
-        let v4 = octets.try_into().map(Fingerprint::V4);
-        v4.or_else(|_| octets.try_into().map(Fingerprint::V6)).ok()
-    }
-
     /// The last eight octets of a version 4 fingerprint, the first eight of a version 6 one.
     pub fn key_id(&self) -> KeyId {
         let octets = match self {

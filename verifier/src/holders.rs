@@ -48,6 +48,6 @@ impl<'a> Holders<'a> {
     fn indices(&self, handle: &KeyHandle) -> &[usize] {
         let id = KeyID::from(handle);
         let id: Option<[u8; 8]> = id.as_bytes().try_into().ok();
-        id.and_then(|id| self.by_id.get(&KeyId(id))).map_or(&[], |indices| indices)
+        id.and_then(|id| self.by_id.get(&KeyId(id))).map_or(&[][..], Vec::as_slice)
     }
 }

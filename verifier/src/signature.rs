@@ -145,7 +145,8 @@ mod tests {
     #[test]
     fn version_6_has_long_lengths_and_a_salt() {
         let by_fingerprint = [&[34, 33, 6][..], &[7; 32]].concat();
-        let body = [&[6, 0x10, 27, 8, 0, 0, 0, 35][..], &by_fingerprint, &[0, 0, 0, 0, 0xab, 0xcd, 2, 5, 6, 1, 1]].concat();
+        let behind = [0, 0, 0, 0, 0xab, 0xcd, 2, 5, 6, 1, 1];
+        let body = [&[6, 0x10, 27, 8, 0, 0, 0, 35][..], &by_fingerprint, &behind].concat();
         let signature = Signature::read(&body).unwrap();
         assert_eq!((signature.hashed, signature.salt), (&body[..43], &[5, 6][..]));
         assert_eq!((signature.digest_front, signature.material), ([0xab, 0xcd], &[1, 1][..]));

@@ -135,8 +135,9 @@ impl Given {
         if self.jobs == Some(0) {
             return Err("--jobs takes a number from 1 on".into());
         }
-        if self.certificates && (self.pending || self.all || self.stats || !self.with.is_empty()) {
-            return Err("--certificates verifies nothing, so --with, --all, --pending and --stats don't go with it".into());
+        let is_judging = self.pending || self.all || self.stats || self.jobs.is_some() || !self.with.is_empty();
+        if self.certificates && is_judging {
+            return Err("--certificates goes with --public alone".into());
         }
         let Given { inputs, with, all, public, certificates, pending, stats, jobs, .. } = self;
         Ok(ScriptWords { inputs, with, all, public, certificates, pending, stats, jobs })

@@ -28,7 +28,7 @@ _MEANINGS = {
     Word.GOOD: "a key of this certificate made it over these data, and could at that time",
     Word.BAD: "the key that it names didn't make it over these data",
     Word.ABSENT: "no key that it names is in the input",
-    Word.REFUSED: "its key, its dates or its hash algorithm don't do",
+    Word.REFUSED: "its key, its dates or its hash algorithm won't do",
     Word.UNSUPPORTED: "the verifier doesn't know its version or one of its algorithms",
     Word.MALFORMED: "it can't be read as a signature on data",
 }

@@ -98,7 +98,8 @@ class Files:
         self._add("an impostor", by("impostor"), ["good"], ("impostor",))
         self._add("SHA-1", by("release", options=("--digest-algo", "SHA1")), ["refused"], (), {"gpgv": {"release"}},
                   "gpgv 2.2 takes SHA-1 over data")
-        self._add("a signature that has expired", by("release", options=("--default-sig-expire", "1d")), ["refused"], ())
+        self._add("a signature that has expired", by("release", options=("--default-sig-expire", "1d")), ["refused"],
+                  ())
         mixed = self._signers.sign(self.release, "release") + self._signers.sign(self.release, "stranger")
         self._add("one good, one by a stranger", self.detached("mixed", mixed), ["good", "absent"], ("release",))
 

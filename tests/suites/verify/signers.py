@@ -88,15 +88,15 @@ def finish(signers):
 
 
 def _generate(signers, name):
-    algorithm, use = {"archive": ("rsa2048", "cert"), "divided": ("ed25519", "cert")}.get(name, ("ed25519", "cert,sign"))
+    algorithm = "rsa2048" if name == "archive" else "ed25519"
+    use = "cert" if name in ("archive", "divided") else "cert,sign"
     expiry = "1y" if name == "old" else "never"
     # Two keys have one user ID: which of them is new says the list of all.
     before = set(_fingerprints(signers))
     signers.gpg("--quick-generate-key", USER_IDS[name], algorithm, use, expiry, at=MADE)
     signers.fpr[name], = set(_fingerprints(signers)) - before
     if use == "cert":
-        signers.gpg("--quick-add-key", signers.fpr[name], "rsa2048" if name == "archive" else "ed25519", "sign",
-                    "never", at=MADE)
+        signers.gpg("--quick-add-key", signers.fpr[name], algorithm, "sign", "never", at=MADE)
 
 
 def _fingerprints(signers):

@@ -190,9 +190,11 @@ class Verify(unittest.TestCase):
 
     def test_what_isnt_there(self):
         good = [*self.words("Release.gpg by archive"), "--for", "@example.org"]
-        for words in [["/nonexistent", *good[1:]], [good[0], "/nonexistent", *good[2:]], [self.signers.folder, *good[1:]],
-                      [*good, "--keyring", "/nonexistent"], [*good, "--verifier", "/bin/false"],
-                      [*good[2:], good[0], "--output", "/nonexistent/x"]]:
+        for words in [
+            ["/nonexistent", *good[1:]], [good[0], "/nonexistent", *good[2:]], [self.signers.folder, *good[1:]],
+            [*good, "--keyring", "/nonexistent"], [*good, "--verifier", "/bin/false"],
+            [*good[2:], good[0], "--output", "/nonexistent/x"],
+        ]:
             run = self.run_command(*words)
             self.assertEqual((run.returncode, run.stdout), (NO_ANSWER, b""), words)
             self.assertNotIn(b"Traceback", run.stderr)
