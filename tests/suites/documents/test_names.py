@@ -130,3 +130,17 @@ class Names(unittest.TestCase):
         over = [f"{name}: {len(page(name).lines)} lines" for name, most in SIZES.items()
                 if len(page(name).lines) >= most]
         self.missing(over)
+
+    def test_decisions_are_few(self) -> None:
+        """Few enough to be read at once, numbered in their order."""
+        found = (re.match(r"(\d+)\. \*\*", line) for line in page("docs/DECISIONS.md").lines)
+        numbers = [int(each.group(1)) for each in found if each]
+        self.assertEqual(numbers, list(range(1, len(numbers) + 1)))
+        self.assertIn(len(numbers), range(30, 51))
+
+    def test_suites_are_listed(self) -> None:
+        """The page on tests has a row for each suite, and no other."""
+        suites = {path.parent.name for path in (ROOT / "tests/suites").glob("*/run")}
+        lines = page("tests/README.md").lines
+        rows = lines[lines.index("## Suites") : lines.index("## Adding a row")]
+        self.assertEqual({line.split("`")[1] for line in rows if line.startswith("| `")}, suites)
