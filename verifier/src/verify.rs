@@ -101,7 +101,10 @@ pub fn verify(key: &VerifyingKey, signature: &Signature, digest: &[u8]) -> Resul
             ed25519::verify(key, digest, signature.material)
         }
         VerifyingKey::Ed448(_) if !ed448::IS_SUPPORTED => return Err(Failure::Unsupported),
-        VerifyingKey::Ed448(key) if signature.key_algorithm == ED448 => ed448::verify(key, digest, signature.material),
+        // Nettle doesn't look at the last octet, which is zero in every valid signature (RFC 8032, section 5.2.7).
+        VerifyingKey::Ed448(key) if signature.key_algorithm == ED448 && signature.material.ends_with(&[0]) => {
+            ed448::verify(key, digest, signature.material)
+        }
         _ => Ok(false),
     };
     // An Err says that the material hasn't the size of a signature.

@@ -91,7 +91,7 @@ struct Given {
 
 impl Request {
     /// Reads the words behind the program's name. An Err says what is wrong with them.
-    pub fn read(words: impl IntoIterator<Item = OsString>) -> Result<Request, lexopt::Error> {
+    pub fn read(words: impl IntoIterator<Item = OsString> + 'static) -> Result<Request, lexopt::Error> {
         let mut parser = lexopt::Parser::from_args(words);
         let mut given = Given::default();
         while let Some(word) = parser.next()? {
@@ -162,7 +162,7 @@ mod tests {
     use super::*;
 
     fn read(words: &str) -> Result<Request, lexopt::Error> {
-        Request::read(words.split_whitespace().map(OsString::from))
+        Request::read(words.split_whitespace().map(OsString::from).collect::<Vec<_>>())
     }
 
     #[test]

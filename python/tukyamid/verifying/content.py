@@ -1,11 +1,10 @@
 """What a signed message holds: kept aside until it is verified, and then put in its place whole, or dropped."""
 
 import os
-import shutil
-import sys
 import tempfile
 from pathlib import Path
 from types import TracebackType
+from typing import BinaryIO
 
 
 class Content:
@@ -38,8 +37,17 @@ class Content:
             return
         with open(self.path, "rb") as content:
             if self._place == "-":
-                shutil.copyfileobj(content, sys.stdout.buffer)
-                sys.stdout.buffer.flush()
+                _copy_out(content)
                 return
             os.fsync(content.fileno())
         self.path.replace(self._place)
+
+
+def _copy_out(content: BinaryIO) -> None:
+    """Writes all of it to standard output; an OSError that names it if that can't be done."""
+    try:
+        while piece := content.read(1 << 16):
+            while piece:
+                piece = piece[os.write(1, piece):]
+    except OSError as error:
+        raise OSError(error.errno, error.strerror, "standard output") from None

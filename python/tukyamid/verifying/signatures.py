@@ -1,13 +1,13 @@
 """The signatures on data, as the verifier finds them."""
 
 import subprocess
-from collections.abc import Iterable, Iterator, Sequence
+from collections.abc import Iterable, Iterator
 from dataclasses import dataclass
 from enum import StrEnum
 from pathlib import Path
 
 from .. import spelling
-from ..keyring import VerifierFailed
+from ..verifier import Verifier, VerifierFailed
 
 
 class Word(StrEnum):
@@ -58,11 +58,12 @@ class Signed:
         return ["--data", self.data, *(["--signature", self.signature] if self.signature is not None else [])]
 
 
-def signatures_on(signed: Signed, certificates: str, verifier: Sequence[str], at: int | None = None,
+def signatures_on(signed: Signed, certificates: str, verifier: Verifier, at: int | None = None,
                   content: Path | None = None) -> list[DataSignature]:
     """The signatures on data, in their order, by the certificates of a file, as of a time or now. What a message holds
     is written to the new file `content`."""
-    words = [*verifier, *signed.words()]
+    _ = verifier.version  # Another program's output is never taken for verdicts.
+    words = [*verifier.words, *signed.words()]
     if at is not None:
         words += ["--at", str(at)]
     if content is not None:

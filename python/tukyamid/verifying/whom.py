@@ -3,7 +3,7 @@
 from dataclasses import dataclass
 from enum import Enum
 
-from .. import spelling
+from ..addresses import address_of
 
 
 class Kind(Enum):
@@ -31,10 +31,10 @@ class Whom:
     def read(cls, text: str) -> "Whom":
         """`@example.org` is a domain, `carol@example.org` an address, and any other text a user ID as it stands."""
         if text.startswith("@"):
-            if spelling.address(_someone_at(text)) is None:
+            if address_of(_someone_at(text)) is None:
                 raise ValueError(f"{text!r} is no domain: write it as @example.org")
             return cls(text, Kind.DOMAIN)
-        if spelling.address(text.encode("utf-8", "surrogateescape")) is not None and "<" not in text:
+        if address_of(text.encode("utf-8", "surrogateescape")) is not None and "<" not in text:
             return cls(text, Kind.ADDRESS)
         if not text:
             raise ValueError("an empty text names nobody")
@@ -46,12 +46,12 @@ class Whom:
         own = self.text.encode("utf-8", "surrogateescape")
         if self.kind is Kind.USER_ID:
             return user_id == own
-        address = spelling.address(user_id)
+        address = address_of(user_id)
         if address is None:
             return False
         if self.kind is Kind.ADDRESS:
-            return address == spelling.address(own)
-        return _domain_of(address) == _domain_of(spelling.address(_someone_at(self.text)))
+            return address == address_of(own)
+        return _domain_of(address) == _domain_of(address_of(_someone_at(self.text)))
 
 
 def _someone_at(domain: str) -> bytes:

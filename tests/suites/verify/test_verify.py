@@ -36,7 +36,7 @@ class Verify(unittest.TestCase):
         file = self.by_name[name]
         paths = [file.data] if file.signature is None else [file.data, file.signature]
         roots = ["--root", self.signers.fpr["root"]] if root else []
-        return [*paths, "--keyring", self.signers.ring, *roots, "--cache", self.cache.name, *more]
+        return [*paths, "--no-service", "--keyring", self.signers.ring, *roots, "--cache", self.cache.name, *more]
 
     def verify(self, name, *more, status):
         run = self.run_command(*self.words(name, *more))
@@ -142,7 +142,7 @@ class Verify(unittest.TestCase):
 
     def test_standard_input_and_output(self):
         file = self.by_name["plain message of release"]
-        words = ["--keyring", self.signers.ring, "--root", self.signers.fpr["root"], "--cache", self.cache.name,
+        words = ["--no-service", "--keyring", self.signers.ring, "--root", self.signers.fpr["root"], "--cache", self.cache.name,
                  "--for", "@example.org"]
         run = self.run_command("-", "--output", "-", *words, given=file.data.read_bytes())
         self.assertEqual((run.returncode, run.stdout), (OK, RELEASE))
