@@ -58,12 +58,13 @@ class Verify(unittest.TestCase):
                 self.assertEqual([one["verdict"] for one in said["signatures"]], ["good"])
 
     def test_a_good_signature_by_another(self):
-        for whom in "release@example.org", "@arch.example", "@mail.example.org", "@example", "Archive", "@example.net":
-            said = self.verify_object("Release.gpg by archive", "--for", whom, status=NO)
-            self.assertEqual((said["verified"], said["signers"]), (False, []))
-            self.assertEqual(said["signatures"][0]["verdict"], "good")
-            self.assertEqual(said["signatures"][0]["now"]["amount"], 0)
-            self.assertIsNone(said["signatures"][0]["now"]["user_id"])
+        others = "release@example.org", "@arch.example", "@mail.example.org", "@example", "Archive", "@example.net"
+        words = [word for whom in others for word in ("--for", whom)]
+        said = self.verify_object("Release.gpg by archive", *words, status=NO)
+        self.assertEqual((said["verified"], said["signers"]), (False, []))
+        self.assertEqual(said["signatures"][0]["verdict"], "good")
+        self.assertEqual(said["signatures"][0]["now"]["amount"], 0)
+        self.assertIsNone(said["signatures"][0]["now"]["user_id"])
 
     def test_an_impostor_has_the_user_id_and_no_certification(self):
         said = self.verify_object("an impostor", "--for", USER_IDS["archive"], status=NO)
@@ -72,12 +73,13 @@ class Verify(unittest.TestCase):
         self.assertEqual(said["signatures"][0]["now"]["amount"], 0)
 
     def test_a_signature_that_isnt_good(self):
-        for case in self.files.cases:
-            if not case.good:
-                with self.subTest(case.name):
-                    said = self.verify_object(case.name, "--for", "@example.org", "--for", "@example.com", status=NO)
-                    self.assertEqual(sorted(one["verdict"] for one in said["signatures"]), sorted(case.words))
-                    self.assertEqual([one["now"] for one in said["signatures"]], [None] * len(case.words))
+        for name, word in [("other data", "bad"), ("a stranger", "absent"), ("SHA-1", "refused"),
+                           ("a cut signature", "malformed")]:
+            with self.subTest(name):
+                said = self.verify_object(name, "--for", "@example.org", "--for", "@example.com", status=NO)
+                one, = said["signatures"]
+                self.assertEqual((one["verdict"], one["counts"], one["at_signing"], one["now"]),
+                                 (word, False, None, None))
 
     def test_at_the_time_of_signing_and_now(self):
         """The old key signed while it lasted, the retired one before it was retired."""
@@ -142,8 +144,8 @@ class Verify(unittest.TestCase):
 
     def test_standard_input_and_output(self):
         file = self.by_name["plain message of release"]
-        words = ["--no-service", "--keyring", self.signers.ring, "--root", self.signers.fpr["root"], "--cache", self.cache.name,
-                 "--for", "@example.org"]
+        words = ["--no-service", "--keyring", self.signers.ring, "--root", self.signers.fpr["root"],
+                 "--cache", self.cache.name, "--for", "@example.org"]
         run = self.run_command("-", "--output", "-", *words, given=file.data.read_bytes())
         self.assertEqual((run.returncode, run.stdout), (OK, RELEASE))
         self.assertIn("verified", run.stderr.decode())
