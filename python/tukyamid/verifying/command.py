@@ -26,8 +26,8 @@ signed message or a text with a cleartext signature. Then the engine answers whe
 time of signing and now.
 
 WHOM is an address (carol@example.org), a domain (@example.org), or a user ID as it stands."""
-EPILOG = """exit status: 0 as many signers as are needed signed, and are WHOM; 1 not so, and the answer says what failed;
-2 the words are wrong; 3 there is no answer, and standard error says why; 130 it was interrupted.
+EPILOG = """exit status: 0 enough signers signed, and are WHOM; 1 not so, and the answer says what failed; 2 the words
+are wrong; 3 there is no answer, and standard error says why; 130 it was interrupted.
 """
 
 

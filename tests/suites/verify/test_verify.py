@@ -6,12 +6,11 @@ import subprocess
 import sys
 import tempfile
 import unittest
-from pathlib import Path
 
 from checkers import PROGRAM
 from made import Made
 from program import ENGINE, ROOT, needs_engine
-from signers import EXPIRED, MADE, PACKAGE, RELEASE, REVOKED, SIGNED, USER_IDS
+from signers import MADE, PACKAGE, RELEASE, SIGNED, USER_IDS
 
 COMMAND = ROOT / "python/bin/tukyamid"
 OK, NO, WRONG, NO_ANSWER = range(4)
