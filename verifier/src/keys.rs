@@ -53,8 +53,8 @@ fn material_length(body: &[u8]) -> usize {
 pub fn verifying_key(body: &[u8]) -> Option<VerifyingKey> {
     let Parts { version, created, algorithm, material } = Parts::read(body)?;
     match algorithm {
-        ED25519 if material.len() == 32 => return Some(VerifyingKey::Ed25519(material.to_vec())),
-        ED448 if material.len() == 57 => return Some(VerifyingKey::Ed448(material.to_vec())),
+        ED25519 => return (material.len() == 32).then(|| VerifyingKey::Ed25519(material.to_vec())),
+        ED448 => return (material.len() == 57).then(|| VerifyingKey::Ed448(material.to_vec())),
         EDDSA_LEGACY if version == 6 => return None,
         _ => {}
     }
