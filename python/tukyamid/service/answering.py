@@ -10,11 +10,12 @@ from pathlib import Path
 
 from tukyamid.spelling import read_user_id, write_user_id
 
+from .committing import FAULT
 from .database import Binding, DatabaseFault, Finder
 from .directory import Directory, DirectoryFailed
 from .keyrings import Keyrings
 from .outbox import Slot
-from .session import FAULT, MAY_CHANGE, REFUSED_LINE, REFUSED_READ_ONLY, Session
+from .session import MAY_CHANGE, REFUSED_LINE, REFUSED_READ_ONLY, Session
 
 _KEY = re.compile(rb"[0-9a-fA-F]{16}|[0-9a-fA-F]{40}|[0-9a-fA-F]{64}")
 _FPR = re.compile(rb"[0-9a-fA-F]{40}|[0-9a-fA-F]{64}")
@@ -85,11 +86,12 @@ class Answering:
 
     async def _tell_status(self, session: Session) -> bytes:
         figures = await session.hub.find(lambda finder: finder.figures())
+        sources = await session.hub.find(lambda finder: finder.sources())
         pending = await asked(session, b"pending", is_change=False)
         count = (pending or b"pending 0\n").split(b"\n", 1)[0].split(b" ")[1].decode()
         values = [("certificates", figures.certificates), ("user-ids", figures.user_ids),
                   ("verdicts", figures.verdicts), ("pending", count), ("change", figures.change),
-                  ("size", figures.octets), *self._status()]
+                  ("size", figures.octets), ("keyrings", len(sources)), *self._status()]
         return listed(b"service status", [f"{name} ".encode() + shown(str(value)) for name, value in values])
 
     async def _find(self, session: Session, text: bytes) -> bytes:

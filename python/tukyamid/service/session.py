@@ -11,6 +11,7 @@ from typing import Protocol, cast
 
 from tukyamid.engine import has_reply
 
+from .committing import FAULT
 from .cursors import Cursors
 from .database import Actor, Snapshot
 from .engine import pieces
@@ -34,7 +35,6 @@ MAY_CHANGE = CHANGES | OF_THE_DIRECTORY
 REFUSED_LINE = b"refused line\n"
 REFUSED_LONG = b"refused long\n"
 REFUSED_READ_ONLY = b"refused read-only\n"
-FAULT = b"fault database\n"
 NEVER_OPEN = b"-"
 _MOST_LINES = 64
 _MOST_OCTETS = 1 << 20
@@ -104,7 +104,6 @@ class Session(asyncio.Protocol):
         self.outbox.close()
         if self._task is not None:
             self._task.cancel()
-        self.hub.note(self.number, b"# gone")
         self.watches.close()
         self.cursors.close()
         if not self.over.done():

@@ -36,6 +36,7 @@ def talk(path, name, lines, seed, before_burst):
 def talk_all(server, count, length, seed=1, before_burst=lambda: None, between=()):
     """Lets `count` clients talk at once, each with the lines `between` behind each line: what each sent and heard."""
     world = World()
+    world.make_directory(server.directory)
     with Client(server.path) as first:
         first.send(*world.lines())
         first.end()
@@ -78,12 +79,14 @@ class ManyClients(unittest.TestCase):
         self.assertEqual(server.stop(), 0)
         order = server.order()
         sent = {name: [name, *with_reply(lines)] for name, lines in spoken.items()}
+        make_directory = World().make_directory
         with ThreadPoolExecutor(os.cpu_count()) as pool:
-            told = dict(zip(sent, pool.map(lambda name: expected(order, name, len(sent[name])), sent)))
+            told = dict(zip(sent, pool.map(lambda name: expected(order, name, len(sent[name]), make_directory), sent)))
         for name, (own, replies) in told.items():
             self.assertEqual(own, sent[name])
             self.assertEqual(heard[name], replies, name)
-        for kind in b"\npath ", b"\nbind ", b"\ncert ", b"\nsig ", b"\nexplain ok ":
+        for kind in b"\npath ", b"\nbind ", b"\ncert ", b"\nsig ", b"\nexplain ok ", b"\npiece ", b"\nstale keyring ", \
+                b"\nok stored ", b"\nrefused misfiled\n":
             with self.subTest(kind):
                 self.assertGreater(sum(replies.count(kind) for _, replies in told.values()), 0)
 

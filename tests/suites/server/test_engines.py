@@ -158,7 +158,7 @@ class LinesThatEndAnEngine(unittest.TestCase):
                     client.tell(b"view %s root %s 120" % (name, world.fprs[0]))
                 ask = b"ask q %s 120 %s" % (world.fprs[1], world.user_ids[1])
                 before = client.tell(ask)
-                unlucky.send(b"view p time 7", b"keys", fatal, b"drop " + world.fprs[2])
+                unlucky.send(b"view p time 7", b"keys", fatal, b"view q time 7")
                 self.assertEqual(unlucky.read_line(), b"ok")
                 client.send(*[b"verdict %s bad" % number for number, _ in world.verdicts[:9]])
                 self.assertEqual([client.read_line() for _ in range(9)], [b"ok"] * 9)
