@@ -58,7 +58,9 @@ class Built(unittest.TestCase):
                                  "usr/share/bash-completion/completions/tukyamid",
                                  "usr/share/zsh/vendor-completions/_tukyamid"],
             "tukyamid-server": ["usr/bin/tukyamid-server", "usr/share/man/man1/tukyamid-server.1.gz",
-                                "usr/lib/sysusers.d/tukyamid-server.conf"],
+                                "usr/lib/sysusers.d/tukyamid-server.conf", "lib/systemd/system/tukyamid.service",
+                                "lib/systemd/system/tukyamid.socket", "usr/lib/systemd/user/tukyamid.service",
+                                "usr/lib/systemd/user/tukyamid.socket"],
         }
         if building.HAS_VERIFIER:
             expected["tukyamid-verifier"] = ["usr/bin/wot-verdicts", "usr/share/man/man1/wot-verdicts.1.gz"]
@@ -76,7 +78,8 @@ class Built(unittest.TestCase):
         self.assertEqual(said, (examples / "quickstart.expected").read_bytes())
         named = json.loads((place / "usr/share/tukyamid/build.json").read_text())
         self.assertEqual(named["version"], VERSION)
-        self.assertEqual(named["commit"].removesuffix("-dirty"), output("git", "rev-parse", "HEAD", cwd=plain.ROOT).strip())
+        self.assertEqual(named["commit"].removesuffix("-dirty"),
+                         output("git", "rev-parse", "HEAD", cwd=plain.ROOT).strip())
         self.assertEqual(named["toolchain"], building.TOOLCHAIN)
         self.assertEqual(named["tukyamid-engine sha256"], hashlib.sha256(engine.read_bytes()).hexdigest())
 
