@@ -5,6 +5,7 @@ from collections.abc import Callable, Iterable, Iterator
 
 from .client.connection import Connection
 from .digests import digest_of
+from .replies import PendingSignature
 from .store import Entry, Held, Store
 from .verifier import Verifier, VerifierFailed
 
@@ -15,7 +16,8 @@ class Filling:
     """An engine that is still empty, and where its certificates come from. `tell` is called with a text for people if
     something was left out."""
 
-    def __init__(self, engine: Connection, paths: list[str], verifier: Verifier, store: Store | None, tell: Tell) -> None:
+    def __init__(self, engine: Connection, paths: list[str], verifier: Verifier, store: Store | None,
+                 tell: Tell) -> None:
         self._engine, self._paths, self._verifier = engine, paths, verifier
         self._store, self._tell = store, tell
 
@@ -49,16 +51,16 @@ class Filling:
         """Has the engine take certificates and verdicts, of which these are known already."""
         if known:
             self._feed(self._verifier.certificates(self._paths))
-            self._feed(self._new_verdicts(known))
+            there = {key.fpr for key in self._engine.keys()}
+            self._feed(self._new_verdicts(known, there, list(self._engine.pending())))
         else:
             self._feed(self._verifier.lines(self._paths))
         if not next(iter(self._engine.keys()), None):
             raise VerifierFailed("no certificate was found")
 
-    def _new_verdicts(self, known: dict[str, str]) -> Iterator[bytes]:
-        """Verdicts on what is pending: the known ones whose issuers are there, and those of the verifier on the rest."""
-        there = {key.fpr for key in self._engine.keys()}
-        pending = list(self._engine.pending())
+    def _new_verdicts(self, known: dict[str, str], there: set[str],
+                      pending: list[PendingSignature]) -> Iterator[bytes]:
+        """Verdicts on what is pending: the known ones whose issuers are there, and the verifier's on the rest."""
         rest = [one for one in pending if known.get(one.number) not in there]
         yield from (f"verdict {one.number} good {known[one.number]}".encode("ascii") for one in pending
                     if known.get(one.number) in there)

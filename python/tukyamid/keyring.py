@@ -91,7 +91,8 @@ class Keyring:
         from .verifier import Verifier
         started = Engine(engine)
         try:
-            held = Filling(started, [os.fspath(path) for path in paths], Verifier(verifier), store, tell).fill(anew)
+            inputs = [os.fspath(path) for path in paths]
+            held = Filling(started, inputs, Verifier(verifier, tell), store, tell).fill(anew)
         except BaseException:
             started.close()
             raise

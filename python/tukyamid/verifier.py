@@ -3,8 +3,10 @@
 import os
 import shutil
 import subprocess
-from collections.abc import Iterable, Iterator, Sequence
+import tempfile
+from collections.abc import Callable, Iterable, Iterator, Sequence
 from pathlib import Path
+from typing import IO
 
 from .refusals import TukyamidError
 from .replies import PendingSignature
@@ -35,10 +37,12 @@ def find_verifier() -> list[str]:
 
 
 class Verifier:
-    """A verifier, by the words that start it. Of secret keys it reads the public parts."""
+    """A verifier, by the words that start it. Of secret keys it reads the public parts. `tell` is called with what it
+    says about what was left out, unless it says so on a terminal itself, where it also shows its progress."""
 
-    def __init__(self, words: Sequence[str] | None = None) -> None:
+    def __init__(self, words: Sequence[str] | None = None, tell: Callable[[str], None] = lambda text: None) -> None:
         self.words = list(words) if words else find_verifier()
+        self._tell = tell
         self._version: str | None = None
 
     @property
@@ -70,19 +74,26 @@ class Verifier:
 
     def _run(self, arguments: list[str], given: bytes = b"") -> Iterator[bytes]:
         self.version  # Another program's output is never taken for verdicts.
-        try:
-            process = subprocess.Popen([*self.words, *arguments], stdin=subprocess.PIPE, stdout=subprocess.PIPE,
-                                       bufsize=1 << 20)
-        except OSError as error:
-            raise VerifierFailed(f"the verifier can't be started: {_reason(error)}") from None
-        _running.add(process)
-        try:
-            yield from _written(process, given)
-        finally:
-            _running.discard(process)
-        # Its status 1 says that something was left out. It has told what on standard error.
-        if process.returncode not in (0, 1):
-            raise VerifierFailed(f"the verifier ended with status {process.returncode}")
+        with tempfile.TemporaryFile() as said:
+            try:
+                process = subprocess.Popen([*self.words, *arguments], stdin=subprocess.PIPE, stdout=subprocess.PIPE,
+                                           stderr=None if os.isatty(2) else said, bufsize=1 << 20)
+            except OSError as error:
+                raise VerifierFailed(f"the verifier can't be started: {_reason(error)}") from None
+            _running.add(process)
+            try:
+                yield from _written(process, given)
+            finally:
+                _running.discard(process)
+            self._take(process.returncode, _lines_of(said))
+
+    def _take(self, status: int, said: list[str]) -> None:
+        """Takes what the verifier said until it ended. Its status 1 says that something was left out."""
+        if status not in (0, 1):
+            why = f": {said[-1].removeprefix(NAME + ': ')}" if said else ""
+            raise VerifierFailed(f"the verifier ended with status {status}{why}")
+        for line in said:
+            self._tell(line)
 
 
 def _written(process: subprocess.Popen[bytes], given: bytes) -> Iterator[bytes]:
@@ -95,6 +106,11 @@ def _written(process: subprocess.Popen[bytes], given: bytes) -> Iterator[bytes]:
         except BrokenPipeError:
             pass  # Its status says why it ended.
         yield from process.stdout
+
+
+def _lines_of(file: IO[bytes]) -> list[str]:
+    file.seek(0)
+    return file.read().decode("utf-8", "surrogateescape").splitlines()
 
 
 def end_all() -> None:

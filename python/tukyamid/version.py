@@ -4,20 +4,21 @@
 True
 """
 
-import json
-from pathlib import Path
+import os
 
 VERSION = "0.1.0"
-BUILD = Path("/usr/share/tukyamid/build.json")  # The package tukyamid has it.
+BUILD = "/usr/share/tukyamid/build.json"  # The package tukyamid has it.
 
 
 def version_text() -> str:
     """What `--version` says: the version, and for packages the commit and the toolchain that proved the engine."""
-    top = Path(__file__).resolve().parents[2]
-    if (top / "wot").is_file():
+    import json
+    top = os.path.dirname(os.path.dirname(os.path.dirname(os.path.realpath(__file__))))
+    if os.path.isfile(os.path.join(top, "wot")):
         return f"tukyamid {VERSION}\nfrom the checkout at {top}\n"
     try:
-        build = json.loads(BUILD.read_text())
+        with open(BUILD, encoding="utf-8") as file:
+            build = json.load(file)
         return f"tukyamid {build['version']}\ncommit {build['commit']}\nengine proved by {build['toolchain']}\n"
     except (OSError, ValueError, KeyError, TypeError):
         return f"tukyamid {VERSION}\nof no package: {BUILD} isn't there, or isn't readable\n"

@@ -89,6 +89,9 @@ def parser() -> Parser:
 class _Help(argparse.RawDescriptionHelpFormatter):
     """The help without argparse's own line of usage: the description has it."""
 
+    def __init__(self, prog: str) -> None:
+        super().__init__(prog, width=100)  # To ask for the terminal's width would take longer than all the rest here.
+
     def add_usage(self, *_: Any, **__: Any) -> None:
         pass
 

@@ -10,9 +10,10 @@ from ..client import Client
 from ..keyring import Keyring
 from ..lifetimes import expired_elsewhere
 from ..reasons import TargetWord
+from ..refusals import RefusedAbsent
 from ..served import served_keyring
 from .served import service
-from .failures import REACHED, WrongWords
+from .failures import REACHED, NoAnswer, WrongWords
 from .output import printable, tell, write
 from .parser import Parser
 
@@ -50,7 +51,7 @@ def _keyring(client: Client, words: list[str]) -> list[str]:
         return [_add(client, name) for name in names]
     if word == "remove" and names:
         for name in names:
-            client.remove_keyring(_whole(name))
+            _remove(client, name)
         return [f"{name}: no longer watched; what was taken from it stays" for name in names]
     raise WrongWords("keyring takes: add NAME.., remove NAME.. or list")
 
@@ -63,6 +64,13 @@ def _whole(name: str) -> str:
 def _add(client: Client, name: str) -> str:
     added = client.add_keyring(_whole(name), tell)
     return f"{name}: {added.certificates} certificates, {added.verdicts} new verdicts"
+
+
+def _remove(client: Client, name: str) -> None:
+    try:
+        client.remove_keyring(_whole(name))
+    except RefusedAbsent:
+        raise NoAnswer(f"the keyring {name} isn't kept") from None
 
 
 def _status(client: Client, words: list[str]) -> list[str]:

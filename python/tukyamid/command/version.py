@@ -1,7 +1,7 @@
 """What `--version` prints."""
 
 from ..verifier import Verifier, VerifierFailed
-from ..version import version_text as of_the_build
+from ..version import version_text as own_text
 from .output import printable
 
 
@@ -10,4 +10,4 @@ def version_text(engine: str | None, verifier: str | None) -> str:
         verified_by = Verifier([verifier] if verifier else None).version
     except VerifierFailed as error:
         verified_by = f"no verifier: {printable(str(error))}"
-    return f"{of_the_build()}{verified_by}\n"
+    return f"{own_text()}{verified_by}\n"

@@ -8,6 +8,7 @@ import re
 from collections.abc import Callable
 from pathlib import Path
 
+from tukyamid.addresses import canonical
 from tukyamid.spelling import read_user_id, write_user_id
 
 from .committing import FAULT
@@ -106,7 +107,7 @@ class Answering:
         text_of = octets.decode("utf-8", "surrogateescape")
         match word:
             case b"address":
-                look = lambda finder: finder.by_address(text_of.lower())  # noqa: E731
+                look = lambda finder: finder.by_address(canonical(text_of))  # noqa: E731
             case b"user-id":
                 look = lambda finder: finder.by_user_id(octets)  # noqa: E731
             case b"part":

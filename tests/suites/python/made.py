@@ -34,7 +34,8 @@ class Made:
 
     @staticmethod
     def _signature(issuer, kind, made, more):
-        area = b"".join([subpacket(2, made.to_bytes(4, "big")), subpacket(33, b"\4" + bytes.fromhex(issuer.fpr)), *more])
+        named = subpacket(33, b"\4" + bytes.fromhex(issuer.fpr))
+        area = b"".join([subpacket(2, made.to_bytes(4, "big")), named, *more])
         return packet(2, bytes([4, kind, 27, 8]) + len(area).to_bytes(2, "big") + area + b"\0\0\0\0")
 
     @property

@@ -57,7 +57,11 @@ def installed(program, package):
 
 @functools.cache
 def verifier_built():
-    """The path of the repository's own verifier, built where that isn't done yet; None where packages are missing."""
+    """The path of the verifier: the one that TUKYAMID_VERIFIER names, else the repository's own, which is built if that
+    isn't done yet; None if packages are missing."""
+    named = os.environ.get("TUKYAMID_VERIFIER")
+    if named:
+        return Path(named)
     folder = ROOT / "verifier"
     done = subprocess.run([folder / "build"], stdin=subprocess.DEVNULL, capture_output=True, text=True, check=False)
     if done.returncode not in (0, 69):

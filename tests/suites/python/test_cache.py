@@ -1,5 +1,5 @@
-"""What is kept of a verified keyring, and when it is used: only what a verifier finished, and only where nobody else can
-write."""
+"""What is kept of a verified keyring, and when it is used: only what a verifier finished, and only if nobody else can
+write there."""
 
 import os
 import shutil

@@ -5,7 +5,7 @@ import unittest
 
 from asking import APRIL, DECEMBER, FEBRUARY, Asking
 from friends import PEOPLE, friends
-from outside import COMMAND, TRUSTING, folder, installed, needs_engine, needs_gpg, run, verifier_built
+from outside import TRUSTING, installed, needs_engine, needs_gpg, run, verifier_built
 from tukyamid import Engine
 from tukyamid.reasons import TargetWord
 from tukyamid.refusals import RefusedAbsent, RefusedView
@@ -51,9 +51,9 @@ class Questions(Asking):
             ("Frank", DECEMBER, 1, []),
             ("Frank", APRIL, 0, [(120, ["Alice", "Bob", "Frank"])]),
         ]
-        for name, time, status, chains in table:
-            with self.subTest(name, time=time):
-                got, report = self.answer("authenticate", self.fpr[name], PEOPLE[name], time=time)
+        for name, at, status, chains in table:
+            with self.subTest(name, time=at):
+                got, report = self.answer("authenticate", self.fpr[name], PEOPLE[name], time=at)
                 (binding,) = report["bindings"]
                 self.assertEqual((got, self.chains(binding)), (status, chains))
                 self.assertEqual(binding["amount"], sum(amount for amount, _ in chains))
@@ -78,9 +78,9 @@ class Questions(Asking):
             ("Dave", DECEMBER, "ok", {("Bob", "edge"), ("Dave", "edge")}),
         ]
         names = {fpr: name for name, fpr in self.fpr.items()}
-        for name, time, word, others in table:
-            with self.subTest(name, time=time):
-                (binding,) = self.answer("authenticate", self.fpr[name], PEOPLE[name], time=time)[1]["bindings"]
+        for name, at, word, others in table:
+            with self.subTest(name, time=at):
+                (binding,) = self.answer("authenticate", self.fpr[name], PEOPLE[name], time=at)[1]["bindings"]
                 got = {(names[other["issuer"]], other["word"]) for other in binding["others"]}
                 self.assertEqual((binding["target"], got), (word, others))
 
@@ -122,7 +122,8 @@ class Questions(Asking):
         for names, status, amount, broken in [
             (["Alice", "Bob", "Carol"], 0, 120, None), (["Alice", "Carol"], 1, 60, None),
             (["Alice", "Carol", "Dave"], 1, 60, None), (["Bob", "Carol"], 0, 120, None), (["Carol"], 0, 120, None),
-            (["Alice", "Bob", "Dave"], 1, 0, (1, r"its scope, <[^>]+[@.]example\.org>$, doesn't include " + PEOPLE["Dave"])),
+            (["Alice", "Bob", "Dave"], 1, 0,
+             (1, r"its scope, <[^>]+[@.]example\.org>$, doesn't include " + PEOPLE["Dave"])),
             (["Bob", "Carol", "Dave"], 1, 0, (1, "its depth is 0, and it would need 1")),
             (["Alice", "Dave"], 1, 0, (1, "no certification")),
             (["Alice", "Bob", "Frank"], 1, 0, (2, "none of its certifications counts")),

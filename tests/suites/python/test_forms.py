@@ -17,6 +17,7 @@ from tukyamid.spelling import for_people
 
 DAY = 86_400
 FORMS = ("tree", "json", "colons", "dot", "html")
+SVG = "{http://www.w3.org/2000/svg}"
 EVIL = [
     b"&lt;b&gt; &#8238;&amp;\\N\\l \"quoted\" <script>alert(1)</script> <evil@example.org>",
     b"\x1b[2J\x07\r\n--> ]]> '; " + "\u202e\u2066\u200f\u2028\x9b".encode() + b"<b@example.org>",
@@ -53,14 +54,15 @@ class Drawn:
         if done.returncode:
             raise AssertionError(done.stderr)
         picture = ElementTree.fromstring(done.stdout)
-        self.texts = ["".join(one.itertext()).replace("\u00a0", " ") for one in picture.iter("{http://www.w3.org/2000/svg}text")]
-        titles = [one.text for one in picture.iter("{http://www.w3.org/2000/svg}title")]
+        self.texts = ["".join(one.itertext()).replace("\u00a0", " ") for one in picture.iter(SVG + "text")]
+        titles = [one.text for one in picture.iter(SVG + "title")]
         self.edges = sorted(tuple(title.split("->")) for title in titles if "->" in title)
 
 
 def read_colons(text):
-    return [[re.sub(r"\\x(..)", lambda octet: chr(int(octet[1], 16)), field).encode("latin-1") for field in line.split(":")]
-            for line in text.splitlines()]
+    def octets(field):
+        return re.sub(r"\\x(..)", lambda octet: chr(int(octet[1], 16)), field).encode("latin-1")
+    return [[octets(field) for field in line.split(":")] for line in text.splitlines()]
 
 
 @needs_engine
@@ -70,7 +72,8 @@ class Compared(Asking):
         ["authenticate", "Carol", PEOPLE["Carol"]], ["authenticate", "Dave", PEOPLE["Dave"]],
         ["authenticate", "Erin", PEOPLE["Erin"]], ["explain", "Frank", PEOPLE["Frank"]], ["identify", "Bob"],
         ["lookup", PEOPLE["Carol"]], ["lookup", "nobody"], ["list"], ["list", "--partial"], ["list", "--paths"],
-        ["list", "nobody"], ["path", "Alice", "Bob", "Carol", PEOPLE["Carol"]], ["path", "Alice", "Dave", PEOPLE["Dave"]],
+        ["list", "nobody"], ["path", "Alice", "Bob", "Carol", PEOPLE["Carol"]],
+        ["path", "Alice", "Dave", PEOPLE["Dave"]],
     ]
 
     def forms(self, words):
@@ -144,7 +147,8 @@ class Compared(Asking):
             self.assertIn(f"Note: {note}", text)
         if is_brief and report["bindings"]:
             listed = [(int(row[0]), row[1], row[2]) for row in page.rows if len(row) == 4]
-            self.assertEqual(listed, [(one["amount"], one["user_id"], one["fingerprint"]) for one in report["bindings"]])
+            bindings = [(one["amount"], one["user_id"], one["fingerprint"]) for one in report["bindings"]]
+            self.assertEqual(listed, bindings)
 
 
 @needs_engine

@@ -3,6 +3,7 @@ is asked of them."""
 
 import functools
 import json
+import os
 import re
 import shutil
 import subprocess
@@ -71,9 +72,10 @@ class Key:
         self.home.mkdir(mode=0o700)
         self.uid = "Ended <ended@example.org>"
         self.fpr, revoker = self._make(self.uid), self._make("Revoker <revoker@example.org>")
-        self._gpg("--faked-system-time", "20250102T000000!", "--command-fd", "0", "--status-fd", "1", "--edit-key", self.fpr,
-                  "addrevoker", typed=f"{revoker}\ny\nsave\n".encode())
-        self._gpg("--batch", "--faked-system-time", "20250201T000000!", "--quick-set-expire", self.fpr, "20250601T000000")
+        self._gpg("--faked-system-time", "20250102T000000!", "--command-fd", "0", "--status-fd", "1", "--edit-key",
+                  self.fpr, "addrevoker", typed=f"{revoker}\ny\nsave\n".encode())
+        self._gpg("--batch", "--faked-system-time", "20250201T000000!", "--quick-set-expire", self.fpr,
+                  "20250601T000000")
         self.keyring = folder() / "ended.pgp"
         self.keyring.write_bytes(self._gpg("--export", self.fpr))
         subprocess.run(["gpgconf", "--homedir", str(self.home), "--kill", "all"], check=False)
@@ -104,17 +106,18 @@ class Ended(unittest.TestCase):
     @staticmethod
     def words(*words, time=DECEMBER):
         key = ended_key()
-        return ["--no-service", "--no-cache", "--keyring", key.keyring, "--verifier", TRUSTING, "--root", key.fpr, "--time",
-                time, *words]
+        return ["--no-service", "--no-cache", "--keyring", key.keyring, "--verifier", TRUSTING, "--root", key.fpr,
+                "--time", time, *words]
 
     def test_gpg_and_sequoia_take_it_as_expired(self):
         key = ended_key()
-        listed = run(["gpg", "--homedir", folder() / "ended", "--with-colons", "--faked-system-time", "20251201T000000!",
-                      "--list-keys", key.fpr]).stdout.decode()
+        listed = run(["gpg", "--homedir", folder() / "ended", "--with-colons", "--faked-system-time",
+                      "20251201T000000!", "--list-keys", key.fpr]).stdout.decode()
         public = next(line.split(":") for line in listed.splitlines() if line.startswith("pub:"))
         self.assertEqual((public[1], int(public[6])), ("e", self.SINCE))
         if shutil.which("sq"):
-            self.assertRegex(run(["sq", "inspect", key.keyring]).stdout.decode(), r"(?s)The primary key is not live.*Expiration time: 2025-06-01 ")
+            said = run(["sq", "inspect", key.keyring]).stdout.decode()
+            self.assertRegex(said, r"(?s)The primary key is not live.*Expiration time: 2025-06-01 ")
 
     def test_every_form_says_so(self):
         key = ended_key()
@@ -147,7 +150,7 @@ class Ended(unittest.TestCase):
         done = run([COMMAND, *self.words("--strict", "identify", key.fpr)])
         self.assertEqual((done.returncode, done.stderr), (1, b""))
 
-    @unittest.skipUnless(shutil.which("gpg") and run(["test", "-r", DEBIAN]).returncode == 0, "debian-keyring isn't installed")
+    @unittest.skipUnless(os.access(DEBIAN, os.R_OK), "debian-keyring isn't installed")
     def test_a_key_of_debian_s(self):
         """It is taken out of the keyring by gpg, which also says when it expired."""
         home = folder() / "debian"
@@ -156,11 +159,11 @@ class Ended(unittest.TestCase):
         exported = run([*gpg, "--export", DEBIANS]).stdout
         if not exported:
             self.skipTest("this debian-keyring hasn't the key")
-        public = next(line.split(":") for line in run([*gpg, "--with-colons", "--list-keys", DEBIANS]).stdout.decode().splitlines()
-                      if line.startswith("pub:"))
+        listed = run([*gpg, "--with-colons", "--list-keys", DEBIANS]).stdout.decode().splitlines()
+        public = next(line.split(":") for line in listed if line.startswith("pub:"))
         (home / "key.pgp").write_bytes(exported)
-        done = run([COMMAND, "--no-service", "--no-cache", "--keyring", home / "key.pgp", "--verifier", TRUSTING, "--root",
-                    DEBIANS, "--format", "json", "identify", DEBIANS])
+        done = run([COMMAND, "--no-service", "--no-cache", "--keyring", home / "key.pgp", "--verifier", TRUSTING,
+                    "--root", DEBIANS, "--format", "json", "identify", DEBIANS])
         bindings = json.loads(done.stdout)["bindings"]
         reached = [one for one in bindings if one["reached"]]
         self.assertGreater(len(reached), 0)

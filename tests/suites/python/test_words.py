@@ -8,7 +8,7 @@ import unittest
 
 from asking import Asking
 from friends import PEOPLE
-from outside import COMMAND, TRUSTING, folder, needs_engine, needs_gpg, run
+from outside import COMMAND, TRUSTING, needs_engine, needs_gpg, run
 from tukyamid.addresses import address_of, canonical
 from tukyamid.command.values import read_key, read_time
 
@@ -16,8 +16,8 @@ from tukyamid.command.values import read_key, read_time
 class Values(unittest.TestCase):
     def test_times(self):
         for text, seconds in [
-            ("1970-01-01", 0), ("2024-01-01", 1704067200), ("20240101", 1704067200), ("2024-01-01T00:00:00Z", 1704067200),
-            ("2024-01-01T01:00:00+01:00", 1704067200), ("20240101T000000", 1704067200), ("1704067200", 1704067200),
+            ("1970-01-01", 0), ("2024-01-01", 1704067200), ("20240101", 1704067200),
+            ("2024-01-01T00:00:00Z", 1704067200), ("2024-01-01T01:00:00+01:00", 1704067200), ("20240101T000000", 1704067200), ("1704067200", 1704067200),
             ("@20240101", 20240101), ("@0", 0), ("@4294967295", 4294967295), ("999999999", 999999999),
         ]:
             self.assertEqual(read_time(text), seconds, text)
@@ -27,7 +27,8 @@ class Values(unittest.TestCase):
 
     def test_keys(self):
         fpr = "fac804259d6b2997afe074fcd2112d7c6c04741c"
-        for text in (fpr, fpr.upper(), "0x" + fpr, "0X" + fpr.upper(), "FAC8 0425 9D6B 2997 AFE0  74FC D211 2D7C 6C04 741C"):
+        for text in (fpr, fpr.upper(), "0x" + fpr, "0X" + fpr.upper(),
+                     "FAC8 0425 9D6B 2997 AFE0  74FC D211 2D7C 6C04 741C"):
             self.assertEqual(read_key(text), fpr)
         self.assertEqual(read_key("0xD2112D7C6C04741C"), fpr[-16:])
         self.assertEqual(read_key("aa" * 32), "aa" * 32)
@@ -35,9 +36,10 @@ class Values(unittest.TestCase):
             self.assertRaises(ValueError, read_key, text)
 
     def test_addresses(self):
-        """Expected values are those of the standards: RFC 5891's mapping of this name, and IDNA's of capital letters."""
+        """The ASCII spelling of this name is that of RFC 3492's algorithm, as registries have it."""
         self.assertEqual(canonical("Carol@EXAMPLE.Org"), "carol@example.org")
-        for text in "zoe@b\u00fccher.example", "Zoe@B\u00dcCHER.example", "zoe@xn--bcher-kva.example", "ZOE@XN--BCHER-KVA.EXAMPLE":
+        for text in ("zoe@b\u00fccher.example", "Zoe@B\u00dcCHER.example", "zoe@xn--bcher-kva.example",
+                     "ZOE@XN--BCHER-KVA.EXAMPLE"):
             self.assertEqual(canonical(text), "zoe@xn--bcher-kva.example")
         self.assertEqual(address_of("Zo\u00eb <zoe@B\u00fccher.example>".encode()), "zoe@xn--bcher-kva.example")
         self.assertIsNone(address_of(b"no address"))
@@ -51,13 +53,15 @@ class Words(Asking):
         carol = self.fpr["Carol"]
         for key in carol.upper(), "0x" + carol, carol[-16:], "0x" + carol[-16:].upper():
             self.assertEqual(self.answer("authenticate", key, PEOPLE["Carol"])[0], 0)
-        self.assertEqual(self.answer("--root", "0x" + self.fpr["Alice"][-16:], "identify", carol[-16:], root=None)[0], 0)
+        alice = "0x" + self.fpr["Alice"][-16:]
+        self.assertEqual(self.answer("--root", alice, "identify", carol[-16:], root=None)[0], 0)
         self.fails(self.ask("identify", "00" * 8), 3, "no key in the keyring has the key ID 0000000000000000")
         self.fails(self.ask("identify", carol[-8:]), 2, "short key ID.*fingerprint")
 
     def test_addresses_in_every_question(self):
         carol, address = self.fpr["Carol"], "CAROL@Example.ORG"
-        for words in (["authenticate", carol], ["explain", carol], ["lookup"], ["list"], ["path", self.fpr["Bob"], carol]):
+        for words in (["authenticate", carol], ["explain", carol], ["lookup"], ["list"],
+                      ["path", self.fpr["Bob"], carol]):
             got, report = self.answer("--email", *words, address)
             self.assertEqual((got, [one["user_id"] for one in report["bindings"]]), (0, [PEOPLE["Carol"]]), words)
         got, report = self.answer("--email", "authenticate", carol, "bob@example.org")
@@ -87,13 +91,15 @@ class Words(Asking):
     def test_wrong_words(self):
         carol = self.fpr["Carol"]
         for said, words in [
-            ("authenticate takes: KEY USERID", ["authenticate", carol]), ("no fingerprint", ["authenticate", "carol", "Carol"]),
-            ("no question 'nonsense'", ["nonsense"]), ("a question is missing", []), ("identify takes: KEY", ["identify"]),
+            ("authenticate takes: KEY USERID", ["authenticate", carol]),
+            ("no fingerprint", ["authenticate", "carol", "Carol"]), ("no question 'nonsense'", ["nonsense"]),
+            ("a question is missing", []), ("identify takes: KEY", ["identify"]),
             (r"list takes: \[PATTERN\]", ["list", "a", "b"]), ("path takes: KEY.. USERID", ["path", carol]),
             ("is no time: write a date as", ["--time", "yesterday", "list"]), ("no amount", ["--amount", "0", "list"]),
             ("no amount", ["--amount", "4294967296", "list"]), ("amount of a root", ["--root", carol + ":0", "list"]),
             ("amount of a root", ["--root", carol + ":256", "list"]), ("choose from", ["--format", "xml", "list"]),
-            ("no notation can be made known", ["--known-notation", "a@b", "list"]), ("--nonsense", ["--nonsense", "list"]),
+            ("no notation can be made known", ["--known-notation", "a@b", "list"]),
+            ("--nonsense", ["--nonsense", "list"]),
             ("once, and one is given twice", ["path", carol, carol, "Carol"]), ("status comes first", ["status"]),
         ]:
             with self.subTest(words):
@@ -105,7 +111,8 @@ class Words(Asking):
         done = run([COMMAND])
         self.assertEqual((done.returncode, done.stdout), (2, b""))
         self.assertEqual(done.stderr.decode().splitlines(), [
-            "tukyamid: a question is missing", "usage: tukyamid [option..] QUESTION WORD.. (tukyamid --help says more)"])
+            "tukyamid: a question is missing",
+            "usage: tukyamid [option..] QUESTION WORD.. (tukyamid --help says more)"])
 
     def test_version_and_help(self):
         done = run([COMMAND, "--version", "--verifier", TRUSTING])
