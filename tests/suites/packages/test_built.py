@@ -97,7 +97,8 @@ class Built(unittest.TestCase):
                 warnings = [line for line in done.stderr.decode().splitlines() if "can't break line" not in line
                             and "cannot adjust line" not in line]
                 self.assertEqual((done.returncode, warnings), (0, []))
-                self.assertRegex(done.stdout.decode(), r"NAME\W")
+                self.assertRegex(subprocess.run(["zcat", page], capture_output=True, check=True).stdout,
+                                 rb"(?m)^\.SH\s+NAME$")
 
     def test_the_bill_of_materials(self):
         bill = json.loads((building.both()[0] / f"tukyamid_{VERSION}.spdx.json").read_text())
@@ -145,8 +146,10 @@ class Completion(unittest.TestCase):
         return said.split()
 
     def test_bash(self):
-        self.assertEqual(self.bash("tukyamid", "auth"), ["authenticate"])
+        for word in "authenticate", "explain", "status":
+            self.assertEqual(self.bash("tukyamid", word[:4]), [word])
         self.assertEqual(self.bash("tukyamid", "--key"), ["--keyring"])
+        self.assertEqual(self.bash("tukyamid", "lookup", "--ema"), ["--email"])
         self.assertEqual(sorted(self.bash("tukyamid", "--format", "")), ["colons", "dot", "html", "json", "tree"])
 
     def test_zsh(self):
@@ -166,9 +169,10 @@ class Refusals(unittest.TestCase):
     def test_an_engine_that_is_not_there(self):
         if not building.installed(building.needed()):
             self.skipTest("packages are missing")
-        done = building.package(building.folder() / "none", "--engine", "/nowhere", "--without-verifier")
-        self.assertEqual((done.returncode, done.stdout), (69, ""))
-        self.assertIn("/nowhere", done.stderr)
+        for engine in building.folder(), building.folder() / "nothing":
+            done = building.package(building.folder() / "none", "--engine", engine, "--without-verifier")
+            self.assertEqual((done.returncode, done.stdout), (69, ""))
+            self.assertIn(f"{engine} isn't a program", done.stderr)
 
     def test_an_engine_older_than_its_sources(self):
         if not building.installed(building.needed()):
