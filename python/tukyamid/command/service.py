@@ -62,8 +62,13 @@ def _whole(name: str) -> str:
 
 
 def _add(client: Client, name: str) -> str:
-    added = client.add_keyring(_whole(name), tell)
+    added = client.add_keyring(_whole(name), _say_progress)
     return f"{name}: {added.certificates} certificates, {added.verdicts} new verdicts"
+
+
+def _say_progress(text: str) -> None:
+    if os.isatty(2):  # A script has no use for it.
+        tell(text)
 
 
 def _remove(client: Client, name: str) -> None:

@@ -57,4 +57,8 @@ def main(words):
             judge(octets, there, wanted)
 
 
-main(sys.argv[1:])
+try:
+    main(sys.argv[1:])
+except ValueError as error:
+    sys.stderr.write(f"wot-verdicts: {error}\n")
+    sys.exit(3)
