@@ -7,6 +7,7 @@ import os
 import pwd
 import re
 import shlex
+import shutil
 import signal
 import subprocess
 import sys
@@ -49,6 +50,8 @@ def main():
             print("amount", client.ask("me", CAROL, 120, "Carol <carol@example.org>").amount)
         service.send_signal(signal.SIGTERM)
         print("status", service.wait(60))
+    if is_host:
+        shutil.rmtree(socket.parent)  # systemd makes and removes it for the units' sockets.
 
 
 main()

@@ -157,9 +157,9 @@ class Completion(unittest.TestCase):
             self.skipTest("zsh isn't installed")
         file = building.unpacked("python3-tukyamid") / "usr/share/zsh/vendor-completions/_tukyamid"
         subprocess.run(["zsh", "-n", file], check=True)
-        said = output("zsh", "-f", building.__file__.replace("building.py", "complete.zsh"), file.parent,
+        said = output("zsh", "-f", building.__file__.replace("building.py", "complete.zsh"), file.parent, timeout=120,
                       env={**os.environ, "TERM": "dumb"})
-        for word in "authenticate", "explain", "lookup":
+        for word in "authenticate", "identify", "lookup", "keyring":
             self.assertIn(word, said)
 
 
