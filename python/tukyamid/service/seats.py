@@ -5,7 +5,8 @@ from __future__ import annotations
 from collections.abc import Callable
 from itertools import count
 
-from .engine import Engine, ignore
+from .engine import Engine
+from .sending import ignore
 from .views import Value, lines_of
 
 VIEWS_OF_AN_ENGINE = 16
