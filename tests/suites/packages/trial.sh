@@ -14,7 +14,7 @@ step() {
 }
 
 user() {
-    setpriv --reuid=1000 --regid=1000 --clear-groups \
+    timeout 600 setpriv --reuid=1000 --regid=1000 --clear-groups \
         env -i HOME=/home/user USER=user PATH=/usr/bin:/bin LC_ALL=C.UTF-8 XDG_RUNTIME_DIR=/run/user/1000 "$@"
 }
 
