@@ -8,6 +8,7 @@ import re
 from collections.abc import Callable
 from pathlib import Path
 
+from tukyamid.addresses import canonical
 from tukyamid.spelling import read_user_id, write_user_id
 
 from .committing import FAULT
@@ -28,7 +29,7 @@ def _text(octets: bytes) -> str:
 
 
 _FOUND_BY: dict[bytes, Callable[[Finder, bytes], list[Binding]]] = {
-    b"address": lambda finder, sought: finder.by_address(_text(sought).lower()),
+    b"address": lambda finder, sought: finder.by_address(canonical(_text(sought))),
     b"user-id": lambda finder, sought: finder.by_user_id(sought),
     b"part": lambda finder, sought: finder.by_part(_text(sought)),
     b"key": lambda finder, sought: finder.by_key(bytes.fromhex(_text(sought))),

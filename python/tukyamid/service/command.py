@@ -11,7 +11,7 @@ from collections.abc import Callable, Coroutine, Sequence
 from pathlib import Path
 
 from tukyamid.engine import find_program
-from tukyamid.keyring import find_verifier
+from tukyamid.verifier import find_verifier
 
 from .database import DatabaseFault
 from .directory import Directory

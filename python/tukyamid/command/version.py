@@ -1,0 +1,13 @@
+"""What `--version` prints."""
+
+from ..verifier import Verifier, VerifierFailed
+from ..version import version_text as own_text
+from .output import printable
+
+
+def version_text(engine: str | None, verifier: str | None) -> str:
+    try:
+        verified_by = Verifier([verifier] if verifier else None).version
+    except VerifierFailed as error:
+        verified_by = f"no verifier: {printable(str(error))}"
+    return f"{own_text()}{verified_by}\n"
