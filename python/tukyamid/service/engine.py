@@ -34,7 +34,6 @@ class Engine:
 
     def __init__(self, program: Sequence[str], journal: Journal, home: Home, point: Point) -> None:
         self.point = point
-        self.seats = 0
         self.waiting: deque[Sent] = deque()
         self.stuck: Change | None = None
         loop = asyncio.get_running_loop()
