@@ -99,8 +99,8 @@ class Seats:
         return seat
 
     def _moved(self, engine: Engine, value: Value) -> Seat | None:
-        """A view of these roots at a somewhat earlier time, moved on to the time of `value`; None if there is none. To an
-        engine that is far less than a new view, so those who ask as of now each time needn't wait for one."""
+        """A view of these roots at a somewhat earlier time, moved on to the time of `value`; None if there is none. It
+        costs an engine far less than a new view, so those who ask as of now each time needn't wait for one."""
         time, roots = value
         earlier = [seat for seat in self._seats.get(engine, ()) if seat.value is not None and not seat.pins
                    and seat.value[1] == roots and 0 < int(time) - int(seat.value[0]) <= _MOST_MOVED]
