@@ -120,8 +120,8 @@ class Engine:
             try:
                 status = await self._run()
             except OSError as error:
-                self._fail(error)
-                status = error
+                status = f"{self._program[0]}: {error.strerror or error}"
+                self._fail(OSError(status))
             if self._closing.is_set():
                 return
             if self._is_rolled_back:
