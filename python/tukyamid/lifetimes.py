@@ -1,9 +1,9 @@
 """When gpg and Sequoia take a key as expired, though the engine doesn't.
 
-By the profile a direct key signature governs a key alone, if there is one (docs/PROFILE.md, "Standing"). gpg and
-Sequoia also look at the self-signatures on user IDs. So a direct key signature that names a revoker and no end hides
-from the engine that a newer self-signature ends the key. People should hear of it, so this module reads the ends as
-those programs do:
+By the profile a direct key signature governs a key alone, if there is one (docs/PROFILE.md, "What a key's own
+signatures say"). gpg and Sequoia also look at the self-signatures on user IDs. So a direct key signature that names a
+revoker and no end hides from the engine that a newer self-signature ends the key. People should hear of it, so this
+module reads the ends as those programs do:
 
 - gpg takes the end that the newest direct key signature sets. If it sets none, the newest self-signature that sets one
   counts, whichever user ID it is on (g10/getkey.c, merge_selfsigs_main).

@@ -21,7 +21,7 @@ def run(words: list[str]) -> int:
         return REACHED
     if given.version:
         from .version import version_text
-        write(version_text(given.engine, given.verifier))
+        write(version_text(given.verifier))
         return REACHED
     if given.question is None:
         raise WrongWords("a question is missing")

@@ -8,6 +8,7 @@ from __future__ import annotations
 
 import hashlib
 import os
+from contextlib import suppress
 from typing import NamedTuple
 
 from .runtime import runtime_file
@@ -15,6 +16,8 @@ from .sources import Stamp, stamp_of
 
 # A file that was changed within this time before its stamp was taken may change again without another stamp.
 _SETTLED_NANOSECONDS = 2 * 10**9
+_RECORD = ".digest"
+_MOST_RECORDS = 64
 
 
 def held_file(*parts: str) -> str:
@@ -57,7 +60,17 @@ def keep_record(stamp: Stamp, begun: int, digest: str, verifier: str) -> None:
     with open(new, "w", encoding="utf-8", errors="surrogateescape") as file:
         file.write("\n".join((digest, verifier, program.text)))
     os.replace(new, name)
+    _drop_oldest(os.path.dirname(name))
+
+
+def _drop_oldest(folder: str) -> None:
+    """Keeps the newest records."""
+    with os.scandir(folder) as entries:
+        records = sorted((entry.stat().st_mtime_ns, entry.path) for entry in entries if entry.name.endswith(_RECORD))
+    for _, path in records[:-_MOST_RECORDS]:
+        with suppress(FileNotFoundError):  # Another process has dropped it.
+            os.unlink(path)
 
 
 def _record_file(stamp: Stamp) -> str:
-    return held_file(stamp.text) + ".digest"
+    return held_file(stamp.text) + _RECORD

@@ -36,7 +36,6 @@ def start(entry: str, socket: str) -> Path:
 
 def main(words: list[str]) -> int:
     entry, socket = words
-    os.nice(5)  # The question in the foreground goes before.
     with contextlib.suppress(Taken), Lock(Path(entry) / "holding.lock"):
         if not is_ready(entry):
             _make_database(Path(entry))

@@ -44,6 +44,7 @@ class Inputs:
         if not sources and self._given.no_service:
             raise WrongWords("an input is missing: give --keyring FILE, --directory FOLDER or --gpg")
         if not sources:
+            self._refuse_words_of_inputs()
             from .served import of_service
             return of_service()
         is_alone = self._given.no_service or self._given.no_cache or self._given.anew or self._given.engine
@@ -52,6 +53,14 @@ class Inputs:
         from .reopening import Reopening
         reopening = Reopening(self._given, sources, lambda: self.as_paths(sources))
         return reopening.served() or reopening.begin_after(self._by_an_engine(sources))
+
+    def _refuse_words_of_inputs(self) -> None:
+        """The service has its own programs, and keeps what it verified."""
+        words = {"--engine": self._given.engine, "--verifier": self._given.verifier, "--cache": self._given.cache,
+                 "--no-cache": self._given.no_cache, "--anew": self._given.anew}
+        for word, value in words.items():
+            if value:
+                raise WrongWords(f"{word} goes with an input: give --keyring FILE, --directory FOLDER or --gpg")
 
     def as_paths(self, sources: list[Source]) -> list[str]:
         """Files and directories that have the inputs, as long as this is open. Each input is read once."""

@@ -31,7 +31,7 @@ def read_path(given: Given) -> Ask:
             wanted = user_ids.of_key(view, fprs[-1])
             found = tuple(assess(route, fprs[-1], uid, given.amount)._replace(others=()) for uid in wanted)
             notes = tuple(note for uid in wanted for note in _Chain(view, along, fprs, uid).notes())
-        return Found(found, notes or user_ids.missing(fprs[-1]), root)
+        return Found(found, notes if found else user_ids.missing(fprs[-1]), root)
     return ask
 
 

@@ -31,10 +31,6 @@ def read(given: Given) -> Ask:
     return question(given)
 
 
-def needs_roots(given: Given) -> bool:
-    return given.question != "path"
-
-
 def words_of(given: Given, form: str) -> list[str]:
     """The words of a question that has a fixed number of them."""
     if len(given.words) != len(form.split()):

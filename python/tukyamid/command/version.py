@@ -5,7 +5,8 @@ from ..version import version_text as own_text
 from .output import printable
 
 
-def version_text(engine: str | None, verifier: str | None) -> str:
+def version_text(verifier: str | None) -> str:
+    """The versions of the command and of the verifier."""
     try:
         verified_by = Verifier([verifier] if verifier else None).version
     except VerifierFailed as error:

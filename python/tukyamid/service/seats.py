@@ -89,7 +89,7 @@ class Seats:
     def _open(self, engine: Engine, value: Value, is_shared: bool = True) -> Seat:
         seats = self._seats.setdefault(engine, [])
         if len(seats) >= VIEWS_OF_AN_ENGINE:
-            self._close(min((seat for seat in seats if not seat.pins), key=lambda seat: seat.used))
+            self._close(min((one for one in seats if not one.pins), key=lambda one: one.used))
         seat = Seat(engine, self.next_name(b"v"), value if is_shared else None, next(self._ticks))
         seats.append(seat)
         if is_shared:
@@ -99,8 +99,8 @@ class Seats:
         return seat
 
     def _moved(self, engine: Engine, value: Value) -> Seat | None:
-        """A view of these roots at a somewhat earlier time, moved on to the time of `value`; None if there is none. To an
-        engine that is far less than a new view, so those who ask as of now each time needn't wait for one."""
+        """A view of these roots at a somewhat earlier time, moved on to the time of `value`; None if there is none. It
+        costs an engine far less than a new view, so those who ask as of now each time needn't wait for one."""
         time, roots = value
         earlier = [seat for seat in self._seats.get(engine, ()) if seat.value is not None and not seat.pins
                    and seat.value[1] == roots and 0 < int(time) - int(seat.value[0]) <= _MOST_MOVED]

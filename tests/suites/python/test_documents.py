@@ -15,7 +15,8 @@ import unittest
 import tukyamid
 from outside import CLIENT, ROOT, needs_engine, run
 
-MODULES = sorted(module.name for module in pkgutil.walk_packages(tukyamid.__path__, "tukyamid."))
+MODULES = sorted(module.name for module in pkgutil.walk_packages(tukyamid.__path__, "tukyamid.")
+                 if not module.name.endswith(".__main__"))
 PAGES = [CLIENT / "README.md", ROOT / "docs" / "USING.md"]
 
 

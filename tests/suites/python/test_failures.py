@@ -17,10 +17,11 @@ from outside import CLIENT, COMMAND, TRUSTING, folder, needs_engine, needs_gpg, 
 class Failures(Asking):
     def test_what_is_missing_or_broken(self):
         failing = program("failing", 'case "$1" in --version) echo wot-verdicts 1; exit;; esac\nexit 3')
+        nowhere = folder() / "nothing-here"
         for said, words in [
-            ("/nowhere: No such file", ["--keyring", "/nowhere"]),
-            ("the engine can't be started", ["--engine", "/nowhere"]),
-            ("the verifier can't be started: /nowhere", ["--anew", "--verifier", "/nowhere"]),
+            (f"{nowhere}: No such file", ["--keyring", nowhere]),
+            ("the engine can't be started", ["--engine", nowhere]),
+            (f"the verifier can't be started: {nowhere}", ["--anew", "--verifier", nowhere]),
             ("the verifier ended with status 3", ["--anew", "--verifier", failing]),
             ("isn't wot-verdicts", ["--anew", "--verifier", "/bin/true"]),
             ("isn't wot-verdicts", ["--anew", "--verifier", "/bin/false"]),

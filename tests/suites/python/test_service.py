@@ -11,6 +11,7 @@ import time
 from asking import DECEMBER, Asking
 from friends import PEOPLE
 from outside import COMMAND, TRUSTING, folder, needs_engine, needs_gpg, run
+from test_lifetimes import ended_key
 
 
 def server_of(path):
@@ -138,6 +139,11 @@ class UsersService(Services):
         self.command("keyring", "remove", self.friends.keyring)
         self.assertIn("no keyring is kept", self.command("keyring", "list"))
 
+    def test_the_status_counts_keys_that_others_take_as_expired(self):
+        self.command("keyring", "add", ended_key().keyring)
+        self.command("keyring", "add", self.friends.keyring)
+        self.assertIn("expired-elsewhere: 1\n", self.command("status"))
+
     def test_wrong_words(self):
         for words, said in [
             (["keyring"], "keyring takes: add NAME.., remove NAME.. or list"), (["keyring", "add"], "keyring takes"),
@@ -145,6 +151,7 @@ class UsersService(Services):
             (["log", "x"], r"log takes: \[N\]"), (["log", "--nonsense"], "nonsense"),
         ]:
             self.fails(run([COMMAND, *words], env=self.environment), 2, said)
-        self.fails(run([COMMAND, "keyring", "add", "/nowhere"], env=self.environment), 3, "/nowhere: No such file")
-        self.fails(run([COMMAND, "keyring", "remove", "/nowhere"], env=self.environment), 3, "/nowhere isn't kept")
+        nowhere = self.own / "nowhere"
+        self.fails(run([COMMAND, "keyring", "add", nowhere], env=self.environment), 3, f"{nowhere}: No such file")
+        self.fails(run([COMMAND, "keyring", "remove", nowhere], env=self.environment), 3, f"{nowhere} isn't kept")
         self.assertIn("usage: tukyamid keyring", self.command("keyring", "--help"))

@@ -17,7 +17,8 @@ class Values(unittest.TestCase):
     def test_times(self):
         for text, seconds in [
             ("1970-01-01", 0), ("2024-01-01", 1704067200), ("20240101", 1704067200),
-            ("2024-01-01T00:00:00Z", 1704067200), ("2024-01-01T01:00:00+01:00", 1704067200), ("20240101T000000", 1704067200), ("1704067200", 1704067200),
+            ("2024-01-01T00:00:00Z", 1704067200), ("2024-01-01T01:00:00+01:00", 1704067200),
+            ("20240101T000000", 1704067200), ("1704067200", 1704067200),
             ("@20240101", 20240101), ("@0", 0), ("@4294967295", 4294967295), ("999999999", 999999999),
         ]:
             self.assertEqual(read_time(text), seconds, text)
@@ -106,6 +107,7 @@ class Words(Asking):
                 self.fails(self.ask(*words), 2, said)
         self.fails(self.ask("list", root=None), 2, "a trust root is missing: give --root")
         self.fails(run([COMMAND, "--no-service", "--root", carol, "list"]), 2, "an input is missing: give --keyring")
+        self.fails(run([COMMAND, "--anew", "--root", carol, "list"]), 2, "--anew goes with an input: give --keyring")
 
     def test_usage_has_two_lines(self):
         done = run([COMMAND])
