@@ -38,3 +38,4 @@ mod StaleTold
 mod Telling
 mod Worth
 mod Settling
+pub mod Slices

@@ -25,3 +25,4 @@ pub mod Made
 pub mod Joined
 pub mod Worth
 pub mod Settled
+pub mod Slices

@@ -8,16 +8,18 @@ ghost use Rattle.wot_machine.specs.Depends.{DependsOnWhatIsPresent};
 ghost use Rattle.wot_machine.specs.Joined.{NextsAreTold, PiecesJoin, RunsAreExchanges, StaleNumbersDiffer};
 ghost use Rattle.wot_machine.specs.Law.{HaveOneOutcome, HaveOnlyWatchLines, HaveOutcomes, HaveWatchLines};
 ghost use Rattle.wot_machine.specs.Law.{LeadToStates, RefusalsLeaveAll};
+ghost use Rattle.wot_machine.specs.Slices.{DoAnswersRestOnSlices, DoRepliesRestOnSlices};
 ghost use Rattle.wot_machine.specs.Transcript.{HasOneTranscript, StayJudged, Transcript};
 ghost use Rattle.wot_machine.specs.Worth.{QuietLinesTellNothing, WatchLinesAreNews, WatchesAreTrue};
 
+use wot_auth::laws::answers_rest_on_slices;
 use wot_cert::laws::judging;
 use wot_check::laws::{
     accepted_paths_leave_nothing, check_is_one, least_table_is_one, least_tables_are_accepted,
 };
 use wot_edge::laws::answer_is_one;
 use wot_explain::laws::list_is_one;
-use wot_network::laws::record_is_lawful;
+use wot_network::laws::{edges_rest_on_trust, record_is_lawful, records_agree};
 use wot_script::laws::lines_spell_commands;
 
 /// Whatever the shelf gives, each line has a reply or none, and a state after it, and in a state that can be only one
@@ -66,6 +68,22 @@ pub fn reached_states_are_judged()
 pub fn answers_depend_on_what_is_present()
     ensures present { (rows : PolicyRows) → DependsOnWhatIsPresent rows }
 {
+    judging();
+    reached_states_are_judged();
+    each_line_has_one_outcome();
+}
+
+/// The reply to `ask` rests on a slice of what is held: the certificates of the roots, of whatever a member certified
+/// with a depth of at least 1, and of the target, with the verdicts on their signatures. Two states that hold the same
+/// there, and in which the asking view is the same, have the same reply, and the same answer.
+pub fn questions_rest_on_slices()
+    ensures replies { (rows : PolicyRows) → DoRepliesRestOnSlices rows }
+    ensures answers { (rows : PolicyRows) → DoAnswersRestOnSlices rows }
+{
+    answers_rest_on_slices();
+    edges_rest_on_trust();
+    records_agree();
+    record_is_lawful();
     judging();
     reached_states_are_judged();
     each_line_has_one_outcome();
