@@ -9,3 +9,4 @@ pub mod Readings
 pub mod Sizes
 pub mod Wanting
 pub mod OneLine
+pub mod ReadAgain

@@ -3,6 +3,7 @@ pub mod Claims
 pub mod Decimal
 pub mod Fields
 pub mod Grammar
+pub mod Laws
 pub mod Pieces
 pub mod Replies
 pub mod Spelling

@@ -1,10 +1,32 @@
 //! Laws of the grammar. Each function does nothing: its contract is the law.
 ghost use Rattle.std.specs.Prelude.{◌≡◌, ℕ, List, Some};
-ghost use Rattle.wot_script.specs.declared.command.Command.{Command};
+ghost use Rattle.wot_script.specs.declared.command.Command.{Command as TheCommand};
 ghost use Rattle.wot_script.specs.Grammar.{command_of};
+ghost use Rattle.wot_script.specs.Laws.{IsOldLine, PrintsClaim};
 ghost use Rattle.wot_script.specs.Spelling.{HasSpelling};
+
+use crate::Command;
+use crate::spelled::spelling_is_read;
 
 /// Each command that a line spells has a spelling: a question wants at least 1.
 pub fn lines_spell_commands()
-    ensures spelled { (line : List ℕ) (command : Command) → command_of line ≡ Some command → HasSpelling command }
+    ensures spelled { (line : List ℕ) (command : TheCommand) → command_of line ≡ Some command → HasSpelling command }
 {}
+
+/// The text that `absence` prints behind `claim `, put into a line `check` between the fingerprint and the user ID, is
+/// read as the paths and the table of which it was printed. So a printed claim is checked by sending it back, if the
+/// line isn't longer than a line may be.
+pub fn printed_claim_is_read(check: &Command)
+    requires spelled { HasSpelling check.now }
+    ensures printed { PrintsClaim check.now }
+{
+    spelling_is_read(check);
+}
+
+/// Each line of a dump from before version 6 is read as the command that it was printed of, with the same fingerprints.
+pub fn old_lines_are_read(command: &Command)
+    requires spelled { HasSpelling command.now }
+    ensures read { (line : List ℕ) → IsOldLine command.now line → command_of line ≡ Some command.now }
+{
+    spelling_is_read(command);
+}
