@@ -1,5 +1,5 @@
 // The places of entries in a directory, and the place beside an entry where its new file is written. Both are pure
-// functions of the name; `specs/Names.antt` defines them. A change here changes what other programs find in a directory.
+// functions of the name, defined in `specs/Names.antt`. A change changes what other programs find in a directory.
 ghost use Rattle.std.specs.Prelude.{◌≡◌, ◌≢◌, ◌↔◌, ◌⊎◌, ◌+◌, ◌≤◌, ◌++◌, Some, take, drop, slice_index, codes, length};
 ghost use Rattle.std.specs.Prelude.{string_bytes, IsTrue, IfOk, IfSome};
 ghost use Rattle.hex.specs.Hex.{encode_lower};

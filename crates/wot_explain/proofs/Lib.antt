@@ -5,3 +5,4 @@ pub mod Places
 pub mod Clear
 pub mod Edges
 pub mod Targets
+pub mod Reasoned

@@ -60,7 +60,7 @@ module _ (k : Keyring) (t : ℕ) (fpr : Fpr) (u : List ℕ) where
   no_place None e = refl
   no_place (Some c) e = ap (option_and_then (explained_at k.verdicts (certificates_in k) t c)) e
 
-  place_here : (roads : List ℕ → Record) → AreRoadsOf roads k t → (place : Option ℕ) → place ≡ (entry_at (roads u) fpr).place → placed u (cert_at k fpr) ≡ place
+  pub place_here : (roads : List ℕ → Record) → AreRoadsOf roads k t → (place : Option ℕ) → place ≡ (entry_at (roads u) fpr).place → placed u (cert_at k fpr) ≡ place
   place_here roads present place e =
       sym (e ∙ ap (λ (r : Record). (entry_at r fpr).place) (present u) ∙ place_told (certificates_in k) k.verdicts t u fpr ∙ ap (placed u) (kept_at k fpr))
 

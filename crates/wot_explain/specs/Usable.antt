@@ -1,6 +1,7 @@
 -- Which certification is a usable edge, by the definitions of edges alone.
-use Rattle.std.specs.Prelude.{◌≡◌, ◌↔◌, ℕ, true, List, Some}
+use Rattle.std.specs.Prelude.{◌≡◌, ◌↔◌, ℕ, true, List, [], ◌∷◌, Some, filter, is_some}
 use Rattle.std.specs.List.{slice_get}
+use Rattle.std.specs.Map.{lookup}
 use Rattle.wot_types.specs.declared.fpr.Fpr.{Fpr}
 use Rattle.wot_verdict.specs.Verdicts.{Entries}
 use Rattle.wot_cert.specs.Certificate.{Signature, Component, Certificate, sig_cmp}
@@ -9,12 +10,13 @@ use Rattle.wot_edge.specs.declared.edge.EdgeFacts.{EdgeFacts}
 use Rattle.wot_edge.specs.declared.path.Step.{Step}
 use Rattle.wot_edge.specs.Path.{step_of}
 use Rattle.wot_edge.specs.Record.{Has, Record}
-use Rattle.wot_keyring.specs.Keyring.{Certificates, Keyring, certificates_in}
+use Rattle.wot_keyring.specs.Keyring.{Certificates, Keyring, certificates_in, is_fpr}
 use Rattle.wot_live.specs.Edge.{edge_of, place_of}
 use Rattle.wot_network.specs.Told.{is_usable_by, record_of}
+use Rattle.wot_network.specs.Told as network
 use Rattle.wot_standing.specs.Kinds.{is_certification}
 use Rattle.wot_standing.specs.Standing.{own}
-use Rattle.wot_explain.specs.Reasons.{reason_word, step_by}
+use Rattle.wot_explain.specs.Reasons.{Reason, reason_word, step_by}
 
 -- The signature at this place on the user ID at this place makes the edge of some issuer at t. The edge is usable, and
 -- its step is this.
@@ -55,3 +57,29 @@ abbrev pub TellsStep : Entries → Certificates → ℕ → Certificate → ℕ 
 TellsStep verdicts certs t c place uid s =
     (step : Step) → IsUsableEdge verdicts certs t c place (place_of s uid.sigs) step
     → step_by verdicts (own c) place uid s ≡ Some step
+
+-- What is told of a certification: its number, and a step exactly where it is a usable edge, which is that edge's. The
+-- word 0 stands exactly beside a step.
+pub record IsReasonFor (verdicts : Entries) (certs : Certificates) (t : ℕ) (c : Certificate) (place : ℕ)
+    (uid : Component) (s : Signature) (reason : Reason) : Type 0 where
+  pub number : reason.0 ≡ s.number
+  pub edge : (step : Step) → (reason.2 ≡ Some step) ↔ IsUsableEdge verdicts certs t c place (place_of s uid.sigs) step
+  pub word : (reason.1 ≡ 0) ↔ (is_some reason.2 ≡ true)
+
+-- That is told of these signatures, one by one.
+abbrev pub AreTold : (Signature → Reason → Type 0) → List Signature → List Reason → Type 0
+AreTold P [] [] = Unit {0}
+AreTold P [] (reason ∷ reasons) = ⊥
+AreTold P (s ∷ sigs) [] = ⊥
+AreTold P (s ∷ sigs) (reason ∷ reasons) = P s reason × AreTold P sigs reasons
+
+-- What is told of a user ID of a kept certificate: of each certification on it whether it is a usable edge.
+pub record TellsEdges (k : Keyring) (t : ℕ) (fpr : Fpr) (u : List ℕ) (reasons : List Reason) : Type 0 where
+  pub cert : Certificate
+  pub place : ℕ
+  pub uid : Component
+  pub kept : lookup (is_fpr fpr) (certificates_in k) ≡ Some cert
+  pub placed : network.place_of u cert.user_ids ≡ Some place
+  pub here : slice_get cert.user_ids place ≡ Some uid
+  pub each : AreTold (IsReasonFor k.verdicts (certificates_in k) t cert place uid)
+      (filter is_certification uid.sigs) reasons

@@ -1,7 +1,9 @@
 ghost use Rattle.std.specs.Prelude.{◌≡◌, slice_get, IfOk};
 ghost use Rattle.std.specs.Option.{option_copied};
 ghost use Rattle.wot_explain.specs.Explaining.{Explains, explained_in, explanation};
-ghost use Rattle.wot_explain.specs.Usable.{AreRoadsOf};
+ghost use Rattle.wot_cert.specs.Certificate.{sig_cmp};
+ghost use Rattle.wot_cert.specs.Ranked.{IsRising};
+ghost use Rattle.wot_explain.specs.Usable.{AreRoadsOf, TellsEdges};
 ghost use Rattle.wot_keyring.specs.Keyring.{certificates_in};
 ghost use Rattle.wot_live.specs.Found.{HasFew};
 
@@ -24,8 +26,11 @@ fn explain_on(
     uid: &Part,
 ) -> Result<Explained, Memory>
     requires few { HasFew uid.now }
-    ensures { IfOk result (λ explained. explained ≡ explained_in keyring.now t cert.now place uid.now) }
+    ensures explained { IfOk result (λ explained. explained ≡ explained_in keyring.now t cert.now place uid.now) }
+    ensures rises { IsRising sig_cmp uid.now.sigs }
 {
+    // That they rise, as a fact.
+    let _sigs = uid.sigs();
     let verdicts = keyring.verdicts();
     let fpr = cert.fpr();
     let (standing, _) = standing(cert, verdicts, t);
@@ -53,6 +58,9 @@ pub fn explain<R: Roads>(
     requires present { AreRoadsOf (R.told roads.now) keyring.now t }
     ensures explained { Explains result
         (explanation (certificates_in keyring.now) keyring.now.verdicts t fpr.now uid.now) }
+
+    // A step stands exactly beside the usable edges, by the definition of edges alone, and is the edge's.
+    ensures edges { IfOk result (λ explained. TellsEdges keyring.now t fpr.now uid.now explained.certs) }
 {
     let Some(place) = roads.place(fpr, uid) else {
         return Err(ExplainFault::Absent);

@@ -111,6 +111,29 @@ class FailingSystem(InFolder):
         self.assertEqual(self.told(import_(NAMED) + store(NAMES[3]), REFUSE_FSYNC="1"), (0, TAKEN + FAULT))
         self.assertEqual(self.left(), {place_of(NAMES[3]): SIGNED})
 
+    def stored(self):
+        """What a store has the system store, in order; the log is no part of the directory."""
+        with tempfile.TemporaryDirectory() as other:
+            log = Path(other) / "log"
+            self.assertEqual(self.told(import_(SIGNED) + store(NAMES[3]), LOG_FSYNC=str(log))[0], 0)
+            return [Path(line) for line in log.read_text().splitlines()]
+
+    def test_what_is_stored(self):
+        """The new file, and then the names in each folder that holds a new name."""
+        self.folder = self.folder.resolve() / "deep"
+        entry = self.path(NAMES[3])
+        new = entry.parent / f"_{entry.name}.0"
+        self.assertEqual(self.stored(), [new, entry.parent, *list(entry.parents)[1:4]])
+        self.assertEqual(self.stored(), [new, entry.parent])
+
+    def test_what_is_stored_below_the_working_folder(self):
+        there, name = self.folder.parent.resolve(), self.folder.name
+        self.addCleanup(os.chdir, os.getcwd())
+        os.chdir(there)
+        self.folder = Path(name)
+        entry = there / self.path(NAMES[3])
+        self.assertEqual(self.stored(), [entry.parent / f"_{entry.name}.0", entry.parent, there / name, there])
+
     def test_a_name_that_can_t_be_changed(self):
         self.put({NAMES[3]: SIGNED})
         self.assertEqual(self.told(import_(NAMED) + store(NAMES[3]), REFUSE_RENAME="1"), (0, TAKEN + FAULT))

@@ -2,6 +2,7 @@
 //
 //   REFUSE_OPEN=END     no memory to open a path that ends so
 //   REFUSE_FSYNC=1      no file is stored
+//   LOG_FSYNC=FILE      the path of each file or folder that is stored is a line of this file
 //   REFUSE_RENAME=1     no name is changed
 //   KILL_AT_RENAME=1    the process ends where it would change a name
 //   SHORT_WRITES=N      a write takes N octets at most
@@ -12,6 +13,7 @@
 #include <fcntl.h>
 #include <signal.h>
 #include <stdarg.h>
+#include <stdio.h>
 #include <stdlib.h>
 #include <string.h>
 #include <unistd.h>
@@ -39,9 +41,23 @@ int open(const char *path, int flags, ...)
     return end && ends_so(path, end) ? fail(ENOMEM) : next(path, flags, mode);
 }
 
+static void note(const char *log, int file)
+{
+    char link[64], path[4096];
+    snprintf(link, sizeof link, "/proc/self/fd/%d", file);
+    ssize_t size = readlink(link, path, sizeof path);
+    FILE *out = fopen(log, "a");
+    if (!out || size < 0)
+        abort();
+    fprintf(out, "%.*s\n", (int)size, path);
+    fclose(out);
+}
+
 int fsync(int file)
 {
     int (*next)(int) = (int (*)(int))dlsym(RTLD_NEXT, "fsync");
+    if (getenv("LOG_FSYNC"))
+        note(getenv("LOG_FSYNC"), file);
     return getenv("REFUSE_FSYNC") ? fail(EIO) : next(file);
 }
 
