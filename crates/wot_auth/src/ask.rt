@@ -1,4 +1,4 @@
-ghost use Rattle.std.specs.Prelude.{◌≡◌, ◌≤◌, ◌↔◌, [], length, IfOk};
+ghost use Rattle.std.specs.Prelude.{◌≡◌, ◌≤◌, ◌↔◌, [], length, true, Err, None, is_some, IfOk};
 ghost use Rattle.wot_types.specs.declared.fpr.Fpr.{Fpr as TheFpr};
 ghost use Rattle.wot_edge.specs.Roots.{root_amount};
 ghost use Rattle.wot_edge.specs.Path.{asks, use_of, IsSpent};
@@ -13,7 +13,7 @@ use crate::take::take;
 use std::alloc::Global;
 use wot_edge::laws::{answer_is_one, paths_fit, zero_is_no_path};
 use wot_edge::{Roads, Roots};
-use wot_search::{Consulted, Metered, Reach, Unnoted};
+use wot_search::{Consulted, LookFault, Metered, Reach, Unnoted};
 use wot_types::{Fpr, Memory};
 
 /// How far a user ID of the target is authenticated: next paths until their sum reaches what is
@@ -56,7 +56,8 @@ pub fn authenticate<R: Roads>(
     Ok(answer)
 }
 
-/// The same answer, unless more would be looked at than the meter lets: then `Memory`, and nothing is left on it.
+/// The same answer, unless that takes one look more than the meter has left: then `Spent`. What was looked at is noted,
+/// and leads to the target.
 pub fn authenticate_metered<R: Roads>(
     alloc: Global,
     roads: &R,
@@ -65,7 +66,7 @@ pub fn authenticate_metered<R: Roads>(
     uid: &[u8],
     wanted: u32,
     metered: &mut Metered,
-) -> Result<Answer, Memory>
+) -> Result<Answer, LookFault>
     requires wanted { 1 ≤ wanted }
     requires few { length roots.now ≤ 64 }
     ensures answer { IfOk result (λ answer. IsAnswer (asks (R.told roads.now uid.now) roots.now target.now) wanted
@@ -73,10 +74,29 @@ pub fn authenticate_metered<R: Roads>(
     ensures sum { IfOk result (λ answer. answer.sum ≡ amount_of answer.paths) }
     ensures local { IfOk result (IsAnswerOfAgreeing (asks (R.told roads.now uid.now) roots.now target.now) wanted
         metered.new.consulted) }
+
+    // One look more than was left is asked for exactly where the answer is `Spent`.
+    ensures spent { result ≡ Err LookFault.Spent → metered.new.left ≡ None }
+    ensures wanting { result ≡ Err LookFault.Memory → is_some metered.new.left ≡ true }
+    ensures grows { Grows metered.old.consulted metered.new.consulted }
+    ensures leads { GainsLeads (R.told roads.now uid.now) target.now metered.old.consulted metered.new.consulted }
 {
     let reach = Reach::everywhere(alloc);
-    let answer = take(alloc, roads, roots, &reach, target, uid, wanted, metered)?;
-    Ok(answer)
+    match take(alloc, roads, roots, &reach, target, uid, wanted, metered) {
+        Ok(answer) => Ok(answer),
+        Err(Memory) => Err(look_fault(metered.left)),
+    }
+}
+
+/// Why a metered search ended, by the looks that are left.
+fn look_fault(left: Option<u64>) -> LookFault
+    ensures spent { result ≡ LookFault.Spent → left ≡ None }
+    ensures wanting { result ≡ LookFault.Memory → is_some left ≡ true }
+{
+    match left {
+        Some(_) => LookFault::Memory,
+        None => LookFault::Spent,
+    }
 }
 
 /// The same answer, by searches that pass over each issuer where it would stand further before the target than its

@@ -15,3 +15,4 @@ pub mod Growth
 pub mod Offers
 pub mod Below
 pub mod Asked
+pub mod Metered

@@ -34,7 +34,7 @@ pub use asked::Asked;
 pub use below::{Next, next_below};
 pub use consulted::{Consulted, ConsultedIter};
 pub use making::{Making, make_reach};
-pub use metered::Metered;
+pub use metered::{LookFault, Metered};
 pub use next::{next_path, next_path_within};
 pub use notes::{Notes, Unnoted};
 pub use offered::next_offered;
