@@ -38,3 +38,6 @@ mod StaleTold
 mod Telling
 mod Worth
 mod Settling
+mod Asking
+mod Judging
+mod GoingOn
