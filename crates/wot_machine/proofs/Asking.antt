@@ -1,7 +1,6 @@
 -- What asking watches makes, one after another.
 use Rattle.std.proofs.Common.{◌≡◌, inr, ℕ, ◌≤◌, true, List, [], ◌∷◌, Option, Some, None, Result, Ok, Err, IsErrAnd, refl, sym, subst, ◌∙◌, arith}
 use Rattle.std.specs.Prelude.{IfSome, is_ok}
-use Rattle.wot_types.specs.declared.memory.Memory.{Memory}
 use Rattle.wot_cache.specs.declared.view.View.{View}
 use Rattle.wot_cache.specs.Marks.{IsMadeFor, IsRefreshed}
 use Rattle.wot_cache.specs.State.{Engine, marks_at}
@@ -37,7 +36,7 @@ made_for r s less watch view wanted old new before after v w asked none = record
 
 -- ---- after an error none is asked
 
-module _ {T E : Type 0} (e : E) where
+module _ (T : Type 0) {E : Type 0} (e : E) where
   refreshed_still : (name : List ℕ) (engine : Engine) (made : ℕ)
       → IsRefreshed {T = T} {E = E} (Err e) name engine engine made made
   refreshed_still name engine made = record {
@@ -73,11 +72,11 @@ module _ {T E : Type 0} (e : E) where
 -- Whatever the rest of them makes, all of them make it and what was made so far.
 abbrev pub MakesSoFar : Engine → ℕ → Watches → Watches → Engine → ℕ → Type 0
 MakesSoFar old before all rest now made =
-    (r : Result (Unit {0}) Memory) (new : Engine) (after : ℕ) → WatchesMake r rest now new made after
+    (r : Result (Unit {0}) (Unit {0})) (new : Engine) (after : ℕ) → WatchesMake r rest now new made after
     → WatchesMake r all old new before after
 
-module _ {A B : Type 0} (old : Engine) (before : ℕ) (all : Watches) where
-  pub so_far_more : (rest : Watches) (name : List ℕ) (watch : Watch) (now next : Engine) (made more : ℕ) (x : Result A B)
+module _ (old : Engine) (before : ℕ) (all : Watches) where
+  pub so_far_more : {A B : Type 0} (rest : Watches) (name : List ℕ) (watch : Watch) (now next : Engine) (made more : ℕ) (x : Result A B)
       → is_ok x ≡ true → MakesSoFar old before all ((name, watch) ∷ rest) now made → WatchMakes x watch now next made more
       → MakesSoFar old before all rest next more
   so_far_more rest name watch now next made more x ok so m r new after others =
@@ -86,19 +85,19 @@ module _ {A B : Type 0} (old : Engine) (before : ℕ) (all : Watches) where
   pub so_far_done : {T E : Type 0} (now : Engine) (made : ℕ) (rest : Watches) (s : Result T E) → rest ≡ []
       → MakesSoFar old before all rest now made → WatchesMake s all old now before made
   so_far_done now made rest s none so =
-      let done : Result (Unit {0}) Memory = Ok tt in
+      let done : Result (Unit {0}) (Unit {0}) = Ok tt in
       watches_as done s (λ ok. refl) all old now before made (so done now made (rw none (refl, refl)))
 
   -- one of them was refused memory
-  pub so_far_failed : {T : Type 0} (rest : Watches) (name : List ℕ) (watch : Watch) (now next : Engine) (made more : ℕ)
-      (x : Result A B) (s : Result T Memory) (e : Memory) → s ≡ Err e
+  pub so_far_failed : {A B T E : Type 0} (rest : Watches) (name : List ℕ) (watch : Watch) (now next : Engine) (made more : ℕ)
+      (x : Result A B) (s : Result T E) → (is_ok s ≡ true → ⊥)
       → MakesSoFar old before all ((name, watch) ∷ rest) now made → WatchMakes x watch now next made more
       → WatchesMake s all old next before more
-  so_far_failed rest name watch now next made more x s e is so m =
-      let failed : Result (Unit {0}) Memory = Err e in
+  so_far_failed rest name watch now next made more x s no so m =
+      let failed : Result (Unit {0}) (Unit {0}) = Err tt in
       let made_all : WatchesMake failed all old next before more =
-      so failed next more (next, more, watch_as x failed (λ ok. absurd cc) watch now next made more m, watches_still e rest next more) in
-      rw is (watches_as failed (Err e) (λ ok. absurd cc) all old next before more made_all)
+      so failed next more (next, more, watch_as x failed (λ ok. absurd cc) watch now next made more m, watches_still (Unit {0}) tt rest next more) in
+      watches_as failed s (λ ok. absurd (no ok)) all old next before more made_all
 
 -- ---- telling
 

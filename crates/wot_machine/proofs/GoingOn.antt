@@ -128,7 +128,7 @@ module _
       )
 
   first_line : (x y : List ℕ) (xs ys : List (List ℕ)) → x ∷ xs ≡ y ∷ ys → (x ≡ y) × (xs ≡ ys)
-  first_line x y xs ys e = cc
+  first_line x y xs ys e = (cc, cc)
 
   goes_on : (mine theirs : List Exchange) (a b m n : Scene) → IsState a.whole.state → b.whole.state ≡ a.whole.state → b.world ≡ a.world
       → Passes rows a mine m → Passes rows b theirs n → lines_in mine ≡ lines_in theirs → HaveSameReplies mine theirs

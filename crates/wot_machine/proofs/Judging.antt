@@ -21,10 +21,32 @@ use Rattle.wot_machine.specs.Lines.{heard, is_silent, longest}
 use Rattle.wot_machine.specs.Refused.{IsReplyTo}
 use Rattle.wot_machine.proofs.Stepping.{heard_read}
 
-module _ {F : Type 0} where
-  none_more : (n : ℕ) → n ≡ max n (min (n + 0) (2 ^ 64 - 1))
-  none_more n = omega arith
+none_more : (n : ℕ) → n ≡ max n (min (n + 0) (2 ^ 64 - 1))
+none_more n = omega arith
 
+nothing_new : (s : State) → 0 ≡ sound_in s - sound_in s
+nothing_new s = omega arith
+
+never : (told : Refusal) (rows : PolicyRows) (k : Keyring) (octets : List ℕ) (n : ℕ) → told ≢ refusals.Memory
+    → IsAsked (Err told) rows k octets n → n ≡ 0
+never (refusals.Packet fault) rows k octets n other a = a
+never (refusals.Cert fault) rows k octets n other a = a
+never refusals.Misfiled rows k octets n other a = a
+never refusals.Clash rows k octets n other a = a
+never (refusals.Full limit) rows k octets n other a = a
+never refusals.Memory rows k octets n other a = absurd (other refl)
+
+-- what holds in any case
+always : {T E : Type 0} (r : Result T E) (P : Type 0) → P → OnOk r P
+always (Ok x) P p = p
+always (Err e) P p = tt
+
+on_less : {A B T E : Type 0} (r : Result A B) (s : Result T E) → (is_ok s ≡ true → is_ok r ≡ true) → (P : Type 0) → OnOk r P → OnOk s P
+on_less r (Err e) less P p = tt
+on_less (Ok a) (Ok b) less P p = p
+on_less (Err e) (Ok b) less P p = let never : false ≡ true = less refl in absurd cc
+
+module _ {F : Type 0} where
   -- nothing was asked
   pub not_asked : (p : Policy F) → p ≡ asked_more 0 p
   not_asked p = ap (λ (n : ℕ). record p { asked = n }) (none_more p.asked)
@@ -39,25 +61,9 @@ module _ {F : Type 0} where
     exact = a.2 ∙ ap (λ (s : State). sound_in s - sound_in (state_of old)) (sym is);
   }
 
-  nothing_new : (s : State) → 0 ≡ sound_in s - sound_in s
-  nothing_new s = omega arith
-
   -- nothing was added, and nothing asked
   pub asked_still : {T E : Type 0} (r : Result T E) (s : State) (p : Policy F) → AsksForNew r s s p p
-  asked_still r s p = record { times = 0; asked = not_asked p; exact = on_ok r }
-    where
-      on_ok : (r : Result T E) → OnOk r (0 ≡ sound_in s - sound_in s)
-      on_ok (Ok x) = nothing_new s
-      on_ok (Err e) = tt
-
-  never : (told : Refusal) (rows : PolicyRows) (k : Keyring) (octets : List ℕ) (n : ℕ) → told ≢ refusals.Memory
-      → IsAsked (Err told) rows k octets n → n ≡ 0
-  never (refusals.Packet fault) rows k octets n other a = a
-  never (refusals.Cert fault) rows k octets n other a = a
-  never refusals.Misfiled rows k octets n other a = a
-  never refusals.Clash rows k octets n other a = a
-  never (refusals.Full limit) rows k octets n other a = a
-  never refusals.Memory rows k octets n other a = absurd (other refl)
+  asked_still r s p = record { times = 0; asked = not_asked p; exact = always r _ (nothing_new s) }
 
   -- what was refused added nothing
   pub asked_refused : (r : Result Reply Memory) (rows : PolicyRows) (old new : Engine) (octets : List ℕ) (told : Refusal) (before after : Policy F)
@@ -78,16 +84,8 @@ module _ {F : Type 0} where
   -- ---- the same for another result, which is Ok at most where that one is
 
   module _ {A B T E : Type 0} (r : Result A B) (s : Result T E) (less : is_ok s ≡ true → is_ok r ≡ true) where
-    on_less : (P : Type 0) → OnOk r P → OnOk s P
-    on_less P = by r s less
-      where
-        by : (r : Result A B) (s : Result T E) → (is_ok s ≡ true → is_ok r ≡ true) → OnOk r P → OnOk s P
-        by r (Err e) less p = tt
-        by (Ok a) (Ok b) less p = p
-        by (Err e) (Ok b) less p = let never : false ≡ true = less refl in absurd cc
-
     new_as : (old new : State) (before after : Policy F) → AsksForNew r old new before after → AsksForNew s old new before after
-    new_as old new before after a = record { times = a.times; asked = a.asked; exact = on_less _ a.exact }
+    new_as old new before after a = record { times = a.times; asked = a.asked; exact = on_less r s less _ a.exact }
 
     pub asks_as : (command : Option Command) (old new : State) (before after : Policy F) → LineAsks r command old new before after
         → LineAsks s command old new before after
