@@ -93,11 +93,11 @@ module _ (old : Engine) (before : ℕ) (all : Watches) where
       (x : Result A B) (s : Result T E) → (is_ok s ≡ true → ⊥)
       → MakesSoFar old before all ((name, watch) ∷ rest) now made → WatchMakes x watch now next made more
       → WatchesMake s all old next before more
-  so_far_failed rest name watch now next made more x s no so m =
+  so_far_failed rest name watch now next made more x s never so m =
       let failed : Result (Unit {0}) (Unit {0}) = Err tt in
       let made_all : WatchesMake failed all old next before more =
       so failed next more (next, more, watch_as x failed (λ ok. absurd cc) watch now next made more m, watches_still (Unit {0}) tt rest next more) in
-      watches_as failed s (λ ok. absurd (no ok)) all old next before more made_all
+      watches_as failed s (λ ok. absurd (never ok)) all old next before more made_all
 
 -- ---- telling
 
