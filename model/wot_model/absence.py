@@ -1,4 +1,4 @@
-"""Why an amount is missed: tables of labels after the paths of an answer, and claims that are checked."""
+"""Proofs of absence: tables of labels after the paths of an answer, and the check of such a proof."""
 
 from .answers import MOST_EDGES, Path, Used
 
@@ -13,8 +13,8 @@ def used_by(paths):
 
 
 def least_table(question, paths):
-    """The least table after these paths: of each issuer, from how few edges on it leads to the target, as far as depth,
-    scope and what is left of the edges go."""
+    """The least table after these paths: for each issuer, with how few edges it may lead to the target, by depth, scope
+    and what is left of the edges."""
     used = used_by(paths)
     table = {}
     edges = question.may_end()
@@ -26,7 +26,7 @@ def least_table(question, paths):
 
 
 def shows_absence(question, paths, table):
-    """Whether a table shows that nothing is left after these paths."""
+    """Whether a table shows that no path is left after these."""
     used = used_by(paths)
     if not question.network.is_target(question.target, question.user_id):
         return True
@@ -43,7 +43,7 @@ def shows_absence(question, paths, table):
 
 
 def claim_of(network, path):
-    """What is claimed of a path: its amount, and of each edge the issuer and the place of its user ID."""
+    """A path as a line spells it: its amount, and for each edge the issuer and the place of its user ID."""
     return path.amount, [(edge.issuer, place_of(network, edge)) for edge in path.edges]
 
 
@@ -52,7 +52,7 @@ def place_of(network, edge):
 
 
 def claimed_paths(question, claims):
-    """The paths that claims show, one after the other; None where one of them shows none."""
+    """The paths that these spell, each after those before it; None if one of them isn't a path."""
     paths = []
     for amount, steps in claims:
         path = claimed_path(question, used_by(paths), amount, steps)
@@ -71,7 +71,7 @@ def claimed_path(question, used, amount, steps):
 
 
 def claimed_edges(question, steps):
-    """The usable edges that the steps name; None where one names none."""
+    """The usable edges that the steps name; None if one names no edge."""
     targets = [issuer for issuer, _ in steps[1:]] + [question.target]
     edges = []
     for (issuer, place), target in zip(steps, targets):
@@ -88,7 +88,7 @@ def claimed_edges(question, steps):
 
 
 def is_valid(question, edges):
-    """Whether usable edges, each into the issuer of the next, are a valid path."""
+    """Whether usable edges, each to the issuer of the next, are a valid path."""
     issuers = [edge.issuer for edge in edges]
     return (
         1 <= len(edges) <= MOST_EDGES

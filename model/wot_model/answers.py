@@ -40,7 +40,7 @@ class Used:
 
 
 class Question:
-    """One question to a network, from roots with amounts."""
+    """A question about a network, from roots with amounts."""
 
     def __init__(self, network, roots, target, user_id):
         self.network = network
@@ -49,13 +49,13 @@ class Question:
         self.user_id = user_id
 
     def may_end(self):
-        """The edges that may be the last of a path."""
+        """The edges that may end a path."""
         if not self.network.is_target(self.target, self.user_id):
             return []
         return [edge for edge in self.network.usable_edges(self.target) if edge.user_id == self.user_id]
 
     def may_precede(self, issuer, behind):
-        """The edges into this issuer that may stand before so many others."""
+        """The edges to this issuer that may have this many edges after them."""
         return [
             edge
             for edge in self.network.usable_edges(issuer)
@@ -75,7 +75,7 @@ def next_path_by_listing(question, used):
 
 
 def may_lengthen(question, edges, length):
-    """The edges that may stand before a list of edges in which no issuer occurs twice."""
+    """The edges that may come before a list of edges in which no issuer occurs twice."""
     issuers = {edge.issuer for edge in edges}
     return [edge for edge in question.may_precede(edges[0].issuer, length) if edge.issuer not in issuers]
 

@@ -1,4 +1,4 @@
-"""Keys and certificates: assembly from packets, union, export, and the numbers of signatures."""
+"""Keys and certificates: made of packets, merged, exported; the numbers of signatures."""
 
 import hashlib
 from dataclasses import dataclass, field
@@ -16,7 +16,7 @@ PLACES = {None: 0, USER_ID: 1, ATTRIBUTE: 2, SUBKEY: 3}
 
 
 class CertificateFault(Exception):
-    """The packets are no certificates; `words` are those of the refusal."""
+    """The packets aren't certificates. `words` are those of the refusal."""
 
     def __init__(self, *words):
         super().__init__(*words)
@@ -24,7 +24,7 @@ class CertificateFault(Exception):
 
 
 def is_readable_key(body):
-    """Of version 4, or of version 6 with as much material as it says (RFC 9580, section 5.5.2)."""
+    """Whether it is of version 4, or of version 6 with as much material as it says (RFC 9580, section 5.5.2)."""
     if body[:1] == b"\4":
         return 6 <= len(body) <= 65535
     return body[:1] == b"\6" and 10 <= len(body) < 2**32 and int.from_bytes(body[6:10], "big") == len(body) - 10
@@ -79,16 +79,16 @@ class Certificate:
         return number_of(self.body, PLACES[kind], component, signature)
 
     def signatures(self):
-        """How many signatures stand on it."""
+        """How many signatures it has."""
         return sum(len(signatures) for _, _, signatures in self.places())
 
     def items(self):
-        """How many things it has: the key, components, signatures."""
+        """How many things it has: key, components and signatures."""
         return 1 + sum(map(len, self.components.values())) + self.signatures()
 
     @cached_property
     def size(self):
-        """Asked only of a whole certificate: unions make new ones."""
+        """Only for a whole certificate: merging makes a new one."""
         return len(self.export())
 
     def export(self):
@@ -99,7 +99,7 @@ class Certificate:
         return b"".join(packets)
 
     def united(self, other):
-        """The union at each place of two certificates of one key."""
+        """Two certificates of one key, merged at each place."""
         union = Certificate(self.body)
         for part in self, other:
             union.direct |= part.direct

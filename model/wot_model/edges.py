@@ -1,4 +1,4 @@
-"""The edges into a certificate at a time, which of them are usable, and which targets a question may have."""
+"""The edges to a certificate at a time, which of them are usable, and which targets are valid."""
 
 from dataclasses import dataclass
 
@@ -36,7 +36,7 @@ class Network(View):
         self.into = {}
 
     def usable_edges(self, target):
-        """The usable edges into a key, in the order of issuer and user ID."""
+        """The usable edges to a key, in the order of issuer and user ID."""
         if target not in self.into:
             self.into[target] = sorted(self.find_edges(target), key=Edge.triple)
         return self.into[target]
@@ -55,7 +55,7 @@ class Network(View):
         return standing is not None and standing.may_issue(edge.made)
 
     def is_target(self, target, user_id):
-        """Whether a question for this user ID of this key may have a path at all."""
+        """Whether the key is a valid target for this user ID."""
         standing = self.standing(target)
         if standing is None or not standing.may_be_target(self.time):
             return False

@@ -26,7 +26,7 @@ SHAPES = ["random", "random", "random", "line", "ring", "layers"]
 
 
 class Key:
-    """A key of the random world, and what stands on it: (place, component, signature, who is meant to have made it)."""
+    """A key of the random world with its signatures: (place, component, signature, who is meant to have made it)."""
 
     def __init__(self, body):
         self.body = body
@@ -53,7 +53,7 @@ class Generator:
         return self.random.choice(items)
 
     def is_odd(self):
-        """Whether to do something that mostly takes trust away; each script has its own share of that."""
+        """Whether to do something that mostly takes trust away. How often differs from script to script."""
         return self.chance(self.odd)
 
     # The world: keys, user IDs, signatures.
@@ -201,7 +201,7 @@ class Generator:
         return bytes([0x80 | kind << 2 | size]) + len(body).to_bytes(1 << size, "big") + body
 
     def certificate(self, key, share):
-        """The certificate of a key, or a share of what stands on it, in any order."""
+        """The certificate of a key, or a part of it, in any order."""
         packets = [self.packet(KEY, key.body)]
         places = {(None, b"")} | {(USER_ID, user_id) for user_id in key.user_ids}
         places |= {(place, component) for place, component, _, _ in key.signatures}
@@ -230,7 +230,7 @@ class Generator:
         return octets[:at] + (self.random.randbytes(1) if form == "change" else b"") + octets[at + 1 :]
 
     def odd_octets(self):
-        """Octets for an import that are likely to be refused, or to be skipped in part."""
+        """Octets for an import that are likely to be refused or partly skipped."""
         good = self.certificate(self.pick(self.keys), 0.5)
         old = write_packet(KEY, b"\3\0\0\3\xe8\1") + write_packet(USER_ID, b"old") + write_packet(SIGNATURE, b"")
         other = self.packet(self.pick(range(64)), b"x")
@@ -379,7 +379,7 @@ class Generator:
         return self.words(b"explain", self.pick(self.views), self.digits(name), user_id)
 
     def odd_line(self):
-        """A line that is silent or malformed, or nearly so."""
+        """A line that has no reply or is malformed, or nearly so."""
         asked = [self.ask_line, self.list_line, self.explain_line, self.absence_line, self.check_line]
         asked += [self.cursor_line, self.watch_line]
         others = self.time_line, self.root_line, self.any_verdict_line, self.load_line, self.store_line, lambda: b"keys"
@@ -479,7 +479,7 @@ class Generator:
 
 
 def share(shape, issuer, target, count):
-    """How likely the key at one place is to certify the one at the other."""
+    """How likely the first key is to certify the second."""
     if shape == "layers":
         return 0.8 if target // 3 == issuer // 3 + 1 else 0.02
     follows = target == issuer + 1 or shape == "ring" and target == (issuer + 1) % count

@@ -1,4 +1,4 @@
-"""The generated script of a start and a count, and the summary of its run (docs/PROTOCOL.md)."""
+"""The generated script of two numbers, and the three lines about its run (docs/PROTOCOL.md)."""
 
 import hashlib
 
@@ -81,7 +81,7 @@ def question(view, name, wanted, user_id):
 
 
 def summary(start, count, machine):
-    """The three lines that are printed of the script's run by this machine."""
+    """The three lines about a run of the script by this machine."""
     lines = script(start, count)
     replies = [reply for line in lines for reply in machine.line(line)]
     amounts = sum(int(reply.split(" ")[1]) for reply in replies if reply.startswith("amount "))

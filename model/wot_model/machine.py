@@ -1,4 +1,4 @@
-"""The plain machine: a state of certificates, verdicts and views, and what each command comes to."""
+"""The plain machine: a state of certificates, verdicts and views, and what each command does."""
 
 from . import absence, script
 from .answers import Question, answer, next_path_by_layers
@@ -22,7 +22,7 @@ LIMITS = {
 
 
 class Refused(Exception):
-    """The line is refused, and changes nothing; `words` are those behind `refused`."""
+    """The line is refused and changes nothing. `words` are those behind `refused`."""
 
     def __init__(self, *words):
         super().__init__(*words)
@@ -43,7 +43,7 @@ class View:
 
 
 class Cursor:
-    """A listing in pieces: of which view, what is wanted, the counts at its beginning, and the last binding told."""
+    """A listing in pieces: its view, the wanted amount, the counts at its start, and the last binding printed."""
 
     def __init__(self, view, wanted, changes, turn):
         self.view = view
@@ -54,7 +54,7 @@ class Cursor:
 
 
 class Watch:
-    """A question of a view whose amount is told again when it becomes another, and the amount last told."""
+    """A question whose amount is reported whenever it changes, and the amount last reported."""
 
     def __init__(self, view, fingerprint, wanted, user_id, told):
         self.view = view
@@ -80,7 +80,7 @@ class Machine:
         self.shelf = shelf or MemoryShelf()
 
     def line(self, line):
-        """One step: the lines of the reply and the watch lines behind it, as text; none for a silent line."""
+        """One step: the lines of the reply and the watch lines behind it, as text; none for a line without a reply."""
         if script.is_silent(line):
             return []
         return [*self.reply(line), *self.watch_lines()]
@@ -99,8 +99,7 @@ class Machine:
             return [words("refused", *refusal.words)]
 
     def watch_lines(self):
-        """A line for each watch whose amount has changed, which is told then, and for each whose view is closed, which
-        is taken away then."""
+        """A line for each watch whose amount has changed, and for each whose view is closed, which is then removed."""
         for name, watch in sorted(self.watches.items()):
             if watch.view not in self.views:
                 del self.watches[name]
@@ -169,7 +168,7 @@ def load(machine, name):
 
 
 def read_entry(machine, name):
-    """The one certificate of an entry, or None where there is no entry."""
+    """The one certificate of an entry; None if there is no entry."""
     octets = machine.shelf.read(name)
     if octets is None:
         return None
@@ -206,7 +205,7 @@ def take(machine, certificates, skipped):
 
 
 def unite(kept, certificates):
-    """The kept certificates that these touch, united with them, and how many things are new."""
+    """The kept certificates of the same keys, merged with these, and how many things are new."""
     united = {}
     fresh = 0
     for certificate in certificates:
@@ -334,7 +333,7 @@ def check(machine, name, fingerprint, claims, table, user_id):
 
 
 def bindings(machine, view, wanted):
-    """The bindings that reach what is wanted, in order: fingerprint, user ID and amount."""
+    """The bindings that are authenticated to the wanted amount, in order: fingerprint, user ID and amount."""
     network = Network(machine.certificates, machine.verdicts, view.time)
     for fingerprint, certificate in sorted(machine.certificates.items()):
         for user_id in sorted(certificate.user_ids):
@@ -458,7 +457,7 @@ def dump(machine):
     return [words("dump", len(lines)), *lines]
 
 
-# A command is added here: the form of its line, and what it comes to.
+# To add a command, add the form of its line and its function here.
 COMMANDS = {
     "import HEX": import_,
     "load NAME": load,

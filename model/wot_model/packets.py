@@ -1,4 +1,4 @@
-"""Packet framing (RFC 9580, section 4.2): octets to packets, and back with the shortest length."""
+"""Packets (RFC 9580, section 4.2): read from octets, and written with the shortest length."""
 
 from dataclasses import dataclass
 
@@ -6,7 +6,7 @@ NOT_A_PACKET, CUT_LENGTH, CUT_BODY, PARTIAL, INDETERMINATE = 1, 2, 3, 4, 5
 
 
 class PacketFault(Exception):
-    """The first packet that is malformed: why, and the offset of its first octet."""
+    """The first malformed packet: why, and the offset of its first octet."""
 
     def __init__(self, why, at):
         super().__init__(why, at)
@@ -22,7 +22,7 @@ class Packet:
 
 
 def read_packets(octets):
-    """The packets that the octets spell; raises PacketFault at the first one that is malformed."""
+    """The packets that the octets spell; raises PacketFault at the first malformed one."""
     packets = []
     at = 0
     while at < len(octets):

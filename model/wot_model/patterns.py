@@ -1,4 +1,4 @@
-"""Scope patterns: the reading of a pattern text, and whether a pattern matches a text.
+"""Regular expressions of scopes: how one is read, and whether it matches a text.
 
 A pattern that was read is a nested tuple. Its meaning is a relation between two offsets of the text; here it is a
 function from the set of offsets at which the pattern may begin to the set of those at which it may end.
@@ -106,7 +106,7 @@ class Reader:
 
 @lru_cache(maxsize=None)
 def read_pattern(octets):
-    """The pattern that a pattern text spells; None where it is unreadable."""
+    """The expression that a text spells; None if it isn't parseable."""
     try:
         text = octets.decode("utf-8")
     except UnicodeDecodeError:
@@ -122,12 +122,12 @@ def read_pattern(octets):
 
 
 def matches(pattern, text):
-    """Whether the pattern holds between some two offsets of the text."""
+    """Whether the expression holds between any two positions of the text."""
     return bool(ends(pattern, text, set(range(len(text) + 1))))
 
 
 def ends(part, text, begins):
-    """The offsets at which a part may end that begins at one of these."""
+    """The positions at which a part may end that begins at one of these."""
     form = part[0]
     if form == "either":
         return set().union(*(ends_of_branch(branch, text, begins) for branch in part[1]))
@@ -151,7 +151,7 @@ def ends_of_branch(branch, text, begins):
 
 
 def repeated(part, text, begins):
-    """The offsets that are reached by finitely many turns, possibly none."""
+    """The positions that are reached by finitely many repetitions, possibly none."""
     reached = set(begins)
     fresh = reached
     while fresh:
@@ -170,7 +170,7 @@ def takes(part, character):
 
 
 def is_in_scope(patterns, user_id):
-    """Whether the user ID is one that these pattern texts allow; no pattern allows every one."""
+    """Whether a scope with these expressions covers the user ID. Without one it covers every user ID."""
     if not patterns:
         return True
     try:

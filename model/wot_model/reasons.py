@@ -1,4 +1,4 @@
-"""Why a key is or isn't in order for a user ID, and why a certification is or isn't a usable edge."""
+"""Why a key is or isn't a valid target for a user ID, and why a certification is or isn't a usable edge."""
 
 from .certificates import USER_ID
 from .edges import edge_of
@@ -24,13 +24,13 @@ def target_word(network, certificate, user_id):
 
 
 def certifications(certificate, user_id):
-    """The bodies of the certifications on a user ID that are readable, in order."""
+    """The bodies of the parseable certifications of a user ID, in order."""
     facts = ((body, read_signature(body)) for body in sorted(certificate.user_ids[user_id]))
     return [body for body, said in facts if said is not None and said.is_certification()]
 
 
 class Certification:
-    """A certification on a user ID, seen at the time of a network."""
+    """A certification of a user ID, at the time of a network."""
 
     def __init__(self, network, certificate, user_id, body):
         self.network = network
@@ -42,7 +42,7 @@ class Certification:
         self.verdict = network.verdicts.get(self.number)
 
     def reason(self):
-        """Its word, and its edge where the word is `edge`."""
+        """Its word, and its edge if the word is `edge`."""
         word = self.of_itself() or self.of_its_time() or self.of_its_issuer()
         if word:
             return word, None

@@ -1,4 +1,4 @@
-"""The script: lines, the spellings of fields, and the text of replies (docs/PROTOCOL.md)."""
+"""Scripts: lines, the spelling of fields, and the text of replies (docs/PROTOCOL.md)."""
 
 import re
 
@@ -164,7 +164,7 @@ def read_form(form, line):
 
 
 def read_line(line, forms):
-    """The form that a line has, and the values of its fields; raises Malformed where it has none of these."""
+    """The form of a line, and the values of its fields; raises Malformed if it has none of these forms."""
     for form in forms:
         try:
             return form, read_form(form, line)

@@ -7,17 +7,17 @@ LONGEST_ENTRY = 8388608
 
 
 class ShelfFailed(Exception):
-    """The shelf gave nothing, and not because there is no such entry."""
+    """Reading or writing an entry failed, for another reason than that it isn't there."""
 
 
 def place_of(name):
-    """Where an entry stands in the folder."""
+    """The path of an entry in the directory."""
     return TRUST_ROOT if name == TRUST_ROOT else f"{name.hex()[:2]}/{name.hex()[2:]}"
 
 
 class MemoryShelf:
-    """Entries in memory. The calls with the numbers in `fails`, from 1, fail; a replace whose number is in `late`, too,
-    puts its octets although it fails."""
+    """Entries in memory. The calls with the numbers in `fails`, counted from 1, fail. A failing replace with a number
+    in `late` writes its octets all the same."""
 
     def __init__(self, entries=None, fails=(), late=()):
         self.entries = dict(entries or {})
@@ -33,7 +33,7 @@ class MemoryShelf:
         return self.entries.get(name)
 
     def replace(self, name, octets):
-        """Puts the octets in place of the entry; raises ShelfFailed."""
+        """Replaces the entry by these octets; raises ShelfFailed."""
         self.calls += 1
         if self.calls not in self.fails or self.calls in self.late:
             self.entries[name] = octets
@@ -42,7 +42,7 @@ class MemoryShelf:
 
 
 class FolderShelf:
-    """Entries as files below a folder."""
+    """Entries as files in a directory."""
 
     def __init__(self, folder):
         self.folder = Path(folder)
@@ -63,13 +63,13 @@ class FolderShelf:
 
 
 def read_folder(folder):
-    """The octets of all files below a folder, by their place."""
+    """The octets of all files in a directory, by their path."""
     files = (path for path in Path(folder).rglob("*") if path.is_file())
     return {path.relative_to(folder).as_posix(): path.read_bytes() for path in files}
 
 
 def write_folder(folder, entries):
-    """Puts entries into a folder, as FolderShelf reads them."""
+    """Writes entries into a directory, as FolderShelf reads them."""
     for name, octets in entries.items():
         path = Path(folder) / place_of(name)
         path.parent.mkdir(parents=True, exist_ok=True)

@@ -7,13 +7,13 @@ CREATED, EXPIRATION, TRUST, PATTERN, REVOCABLE, KEY_EXPIRATION = 2, 3, 5, 6, 7, 
 ISSUER_KEY_ID, PRIMARY, REASON, ISSUER = 16, 25, 29, 33
 OTHER_KNOWN = {4, 11, 12, 21, 22, 23, 24, 26, 27, 28, 30, 31, 32, 35, 39}
 
-# How many octets follow the type of a subpacket that is known.
+# How many octets follow the type of a known subpacket.
 SIZES = {CREATED: 4, EXPIRATION: 4, TRUST: 2, REVOCABLE: 1, KEY_EXPIRATION: 4, ISSUER_KEY_ID: 8, PRIMARY: 1}
 
-# Before an issuer fingerprint stands the version of its key; so many octets are both together.
+# How many octets an issuer fingerprint has together with the version in front of it.
 ISSUER_SIZES = {4: 21, 6: 33}
 
-# By the version of a signature: how many octets have the length of an area.
+# How many octets the length of an area has, by the version of the signature.
 LENGTH_SIZES = {4: 2, 6: 4}
 
 CERTIFICATIONS = range(0x10, 0x14)
@@ -27,12 +27,12 @@ FEBRUARY_2013 = 1359676800
 
 
 class AreaFault(Exception):
-    """The octets are no list of subpackets."""
+    """The octets aren't a list of subpackets."""
 
 
 @dataclass(frozen=True)
 class Facts:
-    """What the hashed area says. `made` is 0 where no creation time is given; then the signature is unsound."""
+    """What the hashed area says. Without a creation time `made` is 0, and the signature isn't well-formed."""
 
     kind: int
     hash: int
@@ -55,11 +55,11 @@ class Facts:
         return self.kind in CERTIFICATIONS
 
     def is_hard(self):
-        """Of a key revocation: whether it holds for all times."""
+        """Whether a revocation of a key holds at all times."""
         return self.reason not in SOFT_REASONS
 
     def is_admitted(self):
-        """Whether the standard policy admits the hash algorithm, for this kind, at the time of signing."""
+        """Whether the standard policy admits the hash algorithm for this signature type and creation time."""
         if self.hash in ADMITTED_UNTIL_2013:
             return self.kind in REVOCATIONS or self.made < FEBRUARY_2013
         return self.hash in ALWAYS_ADMITTED
@@ -67,7 +67,7 @@ class Facts:
 
 @lru_cache(maxsize=None)
 def read_signature(body):
-    """The facts of a signature body; None where it isn't readable."""
+    """What a signature says; None if it isn't parseable."""
     if len(body) < 6 or body[0] not in LENGTH_SIZES:
         return None
     areas = cut_areas(body)
@@ -81,7 +81,7 @@ def read_signature(body):
 
 
 def cut_areas(body):
-    """The hashed and the unhashed area; None where a part of the signature is missing."""
+    """The hashed and the unhashed area; None if a part of the signature is missing."""
     size = LENGTH_SIZES[body[0]]
     areas = []
     at = 4
@@ -96,7 +96,7 @@ def cut_areas(body):
 
 
 def has_salt(version, octets):
-    """Whether behind the two octets of the hash stands what else has to: in version 6 a salt behind its length."""
+    """Whether what has to follow the two octets of the hash is there: in version 6 the salt and its length."""
     return version == 4 or len(octets) > 0 and len(octets) > octets[0]
 
 
@@ -163,8 +163,8 @@ def facts_of(kind, hash_number, subpackets):
 
 
 def key_id_hint(body):
-    """The last issuer key ID of the hashed area, else of the unhashed area where that is a list of subpackets; None
-    where there is none, and for a body that isn't readable."""
+    """The last issuer key ID of the hashed area, else of the unhashed area if that is a list of subpackets. None if
+    there is none or the signature isn't parseable."""
     if read_signature(body) is None:
         return None
     for area in cut_areas(body):

@@ -1,17 +1,17 @@
-"""When a signature counts, and what a key's own signatures make of it at a time."""
+"""When a signature counts, and what a key's own signatures say about it at a time."""
 
 from dataclasses import dataclass
 
 from .certificates import USER_ID
 from .signatures import CERTIFICATION_REVOCATION, DIRECT_KEY, KEY_REVOCATION, read_signature
 
-# The verdict that a signature is nobody's; every other one is the fingerprint by whose key it is good.
+# The verdict that no key made a signature. Any other verdict is the fingerprint of the key that made it.
 BAD = "bad"
 
 
 @dataclass(frozen=True)
 class Counting:
-    """A signature that counts by an issuer."""
+    """A signature that counts, with its issuer."""
 
     issuer: bytes
     number: bytes
@@ -24,7 +24,7 @@ class Counting:
 
 @dataclass(frozen=True)
 class Standing:
-    """What a key is at a time. `end` and `retired` are None where it has no end, and where no soft revocation holds."""
+    """What a key is at a time. `end` is None if it has no end, `retired` if no soft revocation holds."""
 
     has: bool
     created: int
@@ -33,7 +33,7 @@ class Standing:
     retired: int | None
 
     def may_issue(self, made):
-        """Whether a certification that was made then is one that the key's edges may have."""
+        """Whether a certification by this key that was created then is usable."""
         before_end = self.end is None or made < self.end
         before_retired = self.retired is None or made < self.retired
         return self.has and self.created <= made and before_end and not self.compromised and before_retired

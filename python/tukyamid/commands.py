@@ -1,332 +1,256 @@
-"""The commands of the protocol, one type each. `line()` gives a command's line, without its line feed.
+"""The commands of the protocol, one type each. `line()` returns a command's line, without its line feed. A field that
+has no spelling is a ValueError when the command is made.
 
 >>> Ask("me", "fac804259d6b2997afe074fcd2112d7c6c04741c", 120, "Alice").line()
 b'ask me fac804259d6b2997afe074fcd2112d7c6c04741c 120 Alice'
->>> read_command(b"view me root fac804259d6b2997afe074fcd2112d7c6c04741c 120")
-Root(view='me', fpr='fac804259d6b2997afe074fcd2112d7c6c04741c', amount=120)
 """
 
-from dataclasses import dataclass
+from collections.abc import Iterable
 
 from . import claims, spelling
+from .claims import Claim, Label
+from .lines import Command, Line, ListingCommand
+from .replies import (Accepted, Answer, Binding, Done, Explanation, Exported, Key, Missed, PendingSignature, Reached,
+                      Rejected, Stored, Taken, Watched)
+from .spelling import UserId
 
-MOST_TIME = 2**32 - 1
-MOST_WANTED = 2**32 - 1
+MOST_TIME = MOST_WANTED = 2**32 - 1
 TRUST_ROOT = "trust-root"
 
-_CHECKS = {
-    "fpr": spelling.fingerprint,
-    "number": spelling.number,
-    "view": spelling.view_name,
-    "cursor": spelling.view_name,
-    "watch": spelling.view_name,
-    "time": lambda value: spelling.decimal(value, 0, MOST_TIME, "time"),
-    "amount": lambda value: spelling.decimal(value, 0, 255, "amount"),
-    "wanted": lambda value: spelling.decimal(value, 1, MOST_WANTED, "wanted amount"),
-    "count": lambda value: spelling.decimal(value, 1, MOST_WANTED, "count"),
-    "user_id": spelling.user_id,
-    "octets": bytes,
-    "paths": claims.paths,
-    "table": claims.table,
-    "name": lambda value: value if value == TRUST_ROOT else spelling.fingerprint(value),
-}
+
+def _wanted(value: int) -> int:
+    return spelling.decimal(value, 1, MOST_WANTED, "wanted amount")
 
 
-class Command:
-    """A command. Its fields are checked when it is made: a field that has no spelling is a ValueError."""
+class Import(Command[Taken]):
+    """Merges certificates into the keyring."""
+    __slots__ = ("octets",)
+    form, replies = "import {0.digits}", (Taken,)
 
-    def __post_init__(self):
-        for field, value in list(vars(self).items()):
-            object.__setattr__(self, field, _CHECKS[field](value))
+    def __init__(self, octets: bytes) -> None:
+        self.octets = bytes(octets)
 
-    def text(self):
-        raise NotImplementedError
-
-    def line(self):
-        return self.text().encode("ascii")
-
-
-@dataclass(frozen=True)
-class Import(Command):
-    octets: bytes
-
-    def text(self):
-        return f"import {self.octets.hex()}"
+    @property
+    def digits(self) -> str:
+        """The octets as a line spells them."""
+        return self.octets.hex()
 
 
-@dataclass(frozen=True)
-class Load(Command):
-    """Reads one entry of the certificate directory that the engine was started with."""
-    name: str
+class Load(Command[Taken]):
+    """Merges one entry of the certificate directory that the engine was started with."""
+    __slots__ = ("name",)
+    form, replies = "load {0.name}", (Taken,)
 
-    def text(self):
-        return f"load {self.name}"
-
-
-@dataclass(frozen=True)
-class Store(Command):
-    """Writes the union of a certificate and its entry in place of the entry of that directory."""
-    fpr: str
-
-    def text(self):
-        return f"store {self.fpr}"
+    def __init__(self, name: str) -> None:
+        self.name = name if name == TRUST_ROOT else spelling.fingerprint(name)
 
 
-@dataclass(frozen=True)
-class Drop(Command):
-    fpr: str
+class _OfKey(Line):
+    """A command about one key."""
+    __slots__ = ("fpr",)
 
-    def text(self):
-        return f"drop {self.fpr}"
-
-
-@dataclass(frozen=True)
-class Good(Command):
-    number: str
-    fpr: str
-
-    def text(self):
-        return f"verdict {self.number} good {self.fpr}"
+    def __init__(self, fpr: str) -> None:
+        self.fpr = spelling.fingerprint(fpr)
 
 
-@dataclass(frozen=True)
-class Bad(Command):
-    number: str
-
-    def text(self):
-        return f"verdict {self.number} bad"
+class Store(_OfKey, Command[Stored]):
+    """Writes a certificate, merged with its entry in that directory, in place of the entry."""
+    __slots__ = ()
+    form, replies = "store {0.fpr}", (Stored,)
 
 
-@dataclass(frozen=True)
-class Unjudge(Command):
-    number: str
-
-    def text(self):
-        return f"verdict {self.number} none"
+class Drop(_OfKey, Command[Done]):
+    """Takes a certificate out of the keyring."""
+    __slots__ = ()
+    form, replies = "drop {0.fpr}", (Done,)
 
 
-@dataclass(frozen=True)
-class Time(Command):
-    view: str
-    time: int
-
-    def text(self):
-        return f"view {self.view} time {self.time}"
+class Export(_OfKey, Command[Exported]):
+    """Asks for a certificate's octets."""
+    __slots__ = ()
+    form, replies = "export {0.fpr}", (Exported,)
 
 
-@dataclass(frozen=True)
-class Root(Command):
-    view: str
-    fpr: str
-    amount: int
+class Good(Command[Done]):
+    """Says that a signature is by this key."""
+    __slots__ = ("number", "fpr")
+    form, replies = "verdict {0.number} good {0.fpr}", (Done,)
 
-    def text(self):
-        return f"view {self.view} root {self.fpr} {self.amount}"
-
-
-@dataclass(frozen=True)
-class Close(Command):
-    view: str
-
-    def text(self):
-        return f"view {self.view} close"
+    def __init__(self, number: str, fpr: str) -> None:
+        self.number, self.fpr = spelling.number(number), spelling.fingerprint(fpr)
 
 
-@dataclass(frozen=True)
-class Ask(Command):
-    view: str
-    fpr: str
-    wanted: int
-    user_id: bytes
+class _OfSignature(Line):
+    """A command about one signature."""
+    __slots__ = ("number",)
 
-    def text(self):
-        return f"ask {self.view} {self.fpr} {self.wanted} {spelling.write_user_id(self.user_id)}"
+    def __init__(self, number: str) -> None:
+        self.number = spelling.number(number)
 
 
-@dataclass(frozen=True)
-class List(Command):
-    view: str
-    wanted: int
-
-    def text(self):
-        return f"list {self.view} {self.wanted}"
+class Bad(_OfSignature, Command[Done]):
+    """Says that a signature is nobody's."""
+    __slots__ = ()
+    form, replies = "verdict {0.number} bad", (Done,)
 
 
-@dataclass(frozen=True)
-class Explain(Command):
-    view: str
-    fpr: str
-    user_id: bytes
-
-    def text(self):
-        return f"explain {self.view} {self.fpr} {spelling.write_user_id(self.user_id)}"
+class Unjudge(_OfSignature, Command[Done]):
+    """Takes a signature's verdict away."""
+    __slots__ = ()
+    form, replies = "verdict {0.number} none", (Done,)
 
 
-@dataclass(frozen=True)
-class Absence(Command):
+class Time(Command[Done]):
+    """Opens a view at a time, or moves its time."""
+    __slots__ = ("view", "time")
+    form, replies = "view {0.view} time {0.time}", (Done,)
+
+    def __init__(self, view: str, time: int) -> None:
+        self.view, self.time = spelling.view_name(view), spelling.decimal(time, 0, MOST_TIME, "time")
+
+
+class Root(Command[Done]):
+    """Sets a trust root's amount; 0 takes the root away."""
+    __slots__ = ("view", "fpr", "amount")
+    form, replies = "view {0.view} root {0.fpr} {0.amount}", (Done,)
+
+    def __init__(self, view: str, fpr: str, amount: int) -> None:
+        self.view, self.fpr = spelling.view_name(view), spelling.fingerprint(fpr)
+        self.amount = spelling.decimal(amount, 0, 255, "amount")
+
+
+class _Named(Line):
+    """A command about one view, cursor or watch."""
+    __slots__ = ("name",)
+
+    def __init__(self, name: str) -> None:
+        self.name = spelling.view_name(name)
+
+
+class Close(_Named, Command[Done]):
+    """Closes a view."""
+    __slots__ = ()
+    form, replies = "view {0.name} close", (Done,)
+
+
+class _Question(Line):
+    """A question about a user ID of a key, in a view."""
+    __slots__ = ("view", "fpr", "user_id")
+
+    def __init__(self, view: str, fpr: str, user_id: UserId) -> None:
+        self.view, self.fpr = spelling.view_name(view), spelling.fingerprint(fpr)
+        self.user_id = spelling.user_id(user_id)
+
+    @property
+    def uid(self) -> str:
+        """The user ID as a line spells it."""
+        return spelling.write_user_id(self.user_id)
+
+
+class _WantedQuestion(_Question):
+    __slots__ = ("wanted",)
+
+    def __init__(self, view: str, fpr: str, wanted: int, user_id: UserId) -> None:
+        super().__init__(view, fpr, user_id)
+        self.wanted = _wanted(wanted)
+
+
+class Ask(_WantedQuestion, Command[Answer]):
+    """Asks for the amount to which a user ID is authenticated."""
+    __slots__ = ()
+    form, replies = "ask {0.view} {0.fpr} {0.wanted} {0.uid}", (Answer,)
+
+
+class Explain(_Question, Command[Explanation]):
+    """Asks what each certification of a user ID comes to."""
+    __slots__ = ()
+    form, replies = "explain {0.view} {0.fpr} {0.uid}", (Explanation,)
+
+
+class Absence(_WantedQuestion, Command[Reached | Missed]):
     """Asks why the answer to a wanted amount doesn't reach it."""
-    view: str
-    fpr: str
-    wanted: int
-    user_id: bytes
-
-    def text(self):
-        return f"absence {self.view} {self.fpr} {self.wanted} {spelling.write_user_id(self.user_id)}"
+    __slots__ = ()
+    form, replies = "absence {0.view} {0.fpr} {0.wanted} {0.uid}", (Reached, Missed)
 
 
-@dataclass(frozen=True)
-class Check(Command):
+class Check(_Question, Command[Accepted | Rejected]):
     """Asks whether these paths and this table show that no more is there."""
-    view: str
-    fpr: str
-    paths: tuple
-    table: tuple
-    user_id: bytes
+    __slots__ = ("paths", "table")
+    form, replies = "check {0.view} {0.fpr} {0.claim} {0.uid}", (Accepted, Rejected)
 
-    def text(self):
-        claim = f"{claims.write_paths(self.paths)} {claims.write_table(self.table)}"
-        return f"check {self.view} {self.fpr} {claim} {spelling.write_user_id(self.user_id)}"
+    def __init__(self, view: str, fpr: str, paths: Iterable[Claim], table: Iterable[Label], user_id: UserId) -> None:
+        super().__init__(view, fpr, user_id)
+        self.paths, self.table = claims.paths(paths), claims.table(table)
 
-
-@dataclass(frozen=True)
-class Pending(Command):
-    def text(self):
-        return "pending"
+    @property
+    def claim(self) -> str:
+        """The paths and the table as a line spells them."""
+        return f"{claims.write_paths(self.paths)} {claims.write_table(self.table)}"
 
 
-@dataclass(frozen=True)
-class Keys(Command):
-    def text(self):
-        return "keys"
+class List(ListingCommand[Binding]):
+    """Asks for the bindings that reach the wanted amount."""
+    __slots__ = ("view", "wanted")
+    form, item = "list {0.view} {0.wanted}", Binding
+
+    def __init__(self, view: str, wanted: int) -> None:
+        self.view, self.wanted = spelling.view_name(view), _wanted(wanted)
 
 
-@dataclass(frozen=True)
-class Export(Command):
-    fpr: str
-
-    def text(self):
-        return f"export {self.fpr}"
+class Pending(ListingCommand[PendingSignature]):
+    """Asks for the signatures that have no verdict."""
+    __slots__ = ()
+    form, item = "pending", PendingSignature
 
 
-@dataclass(frozen=True)
-class Dump(Command):
-    def text(self):
-        return "dump"
+class Keys(ListingCommand[Key]):
+    """Asks for the certificates."""
+    __slots__ = ()
+    form, item = "keys", Key
 
 
-@dataclass(frozen=True)
-class CursorOver(Command):
-    cursor: str
-    view: str
-    wanted: int
-
-    def text(self):
-        return f"cursor {self.cursor} over {self.view} {self.wanted}"
+class Dump(ListingCommand[bytes]):
+    """Asks for the state as a script."""
+    __slots__ = ()
+    form, item = "dump", bytes
 
 
-@dataclass(frozen=True)
-class CursorNext(Command):
-    cursor: str
-    count: int
+class CursorOver(Command[Done]):
+    """Begins a cursor over the bindings of `list`, or begins it anew."""
+    __slots__ = ("cursor", "view", "wanted")
+    form, replies = "cursor {0.cursor} over {0.view} {0.wanted}", (Done,)
 
-    def text(self):
-        return f"cursor {self.cursor} next {self.count}"
-
-
-@dataclass(frozen=True)
-class CursorClose(Command):
-    cursor: str
-
-    def text(self):
-        return f"cursor {self.cursor} close"
+    def __init__(self, cursor: str, view: str, wanted: int) -> None:
+        self.cursor, self.view = spelling.view_name(cursor), spelling.view_name(view)
+        self.wanted = _wanted(wanted)
 
 
-@dataclass(frozen=True)
-class WatchOn(Command):
-    """Has the answer's amount told now, and again whenever it becomes another."""
-    watch: str
-    view: str
-    fpr: str
-    wanted: int
-    user_id: bytes
+class CursorNext(ListingCommand[Binding]):
+    """Asks for a cursor's next bindings. `Stale` may answer it too."""
+    __slots__ = ("cursor", "count")
+    form, item = "cursor {0.cursor} next {0.count}", Binding
 
-    def text(self):
-        user_id = spelling.write_user_id(self.user_id)
-        return f"watch {self.watch} on {self.view} {self.fpr} {self.wanted} {user_id}"
+    def __init__(self, cursor: str, count: int) -> None:
+        self.cursor, self.count = spelling.view_name(cursor), spelling.decimal(count, 1, MOST_WANTED, "count")
 
 
-@dataclass(frozen=True)
-class WatchOff(Command):
-    watch: str
-
-    def text(self):
-        return f"watch {self.watch} off"
+class CursorClose(_Named, Command[Done]):
+    """Takes a cursor away."""
+    __slots__ = ()
+    form, replies = "cursor {0.name} close", (Done,)
 
 
-def _uid(text):
-    return spelling.read_user_id(text.encode("latin-1"))
+class WatchOn(_WantedQuestion, Command[Watched]):
+    """Asks for an answer's amount now, and again whenever it changes."""
+    __slots__ = ("watch",)
+    form, replies = "watch {0.watch} on {0.view} {0.fpr} {0.wanted} {0.uid}", (Watched,)
+
+    def __init__(self, watch: str, view: str, fpr: str, wanted: int, user_id: UserId) -> None:
+        super().__init__(view, fpr, wanted, user_id)
+        self.watch = spelling.view_name(watch)
 
 
-def _check(view, fpr, paths, table, uid):
-    return Check(view, fpr, claims.read_paths(paths), claims.read_table(table), _uid(uid))
-
-
-def _verdict(number, word, *rest):
-    if word == "good":
-        return Good(number, *rest)
-    return {"bad": Bad, "none": Unjudge}[word](number, *rest)
-
-
-def _view(view, word, *rest):
-    if word == "time":
-        return Time(view, int(*rest))
-    if word == "root":
-        return Root(view, rest[0], int(rest[1]))
-    return {"close": Close}[word](view, *rest)
-
-
-def _cursor(cursor, word, *rest):
-    if word == "over":
-        return CursorOver(cursor, rest[0], int(rest[1]))
-    if word == "next":
-        return CursorNext(cursor, int(*rest))
-    return {"close": CursorClose}[word](cursor, *rest)
-
-
-def _watch(watch, word, *rest):
-    if word == "on":
-        view, fpr, wanted, uid = rest
-        return WatchOn(watch, view, fpr, int(wanted), _uid(uid))
-    return {"off": WatchOff}[word](watch, *rest)
-
-
-_READ = {
-    "import": lambda digits: Import(bytes.fromhex(digits)),
-    "load": Load,
-    "store": Store,
-    "drop": Drop,
-    "verdict": _verdict,
-    "view": _view,
-    "ask": lambda view, fpr, wanted, uid: Ask(view, fpr, int(wanted), _uid(uid)),
-    "list": lambda view, wanted: List(view, int(wanted)),
-    "explain": lambda view, fpr, uid: Explain(view, fpr, _uid(uid)),
-    "absence": lambda view, fpr, wanted, uid: Absence(view, fpr, int(wanted), _uid(uid)),
-    "check": _check,
-    "pending": Pending,
-    "keys": Keys,
-    "export": Export,
-    "dump": Dump,
-    "cursor": _cursor,
-    "watch": _watch,
-}
-_FIELDS = {"ask": 4, "explain": 3, "absence": 4, "check": 5, "watch": 6}  # The last of them is the rest of the line.
-
-
-def read_command(line):
-    """The command of a line, as of a dump; ValueError where the client knows none."""
-    word, space, rest = line.decode("latin-1").removesuffix("\n").partition(" ")
-    fields = rest.split(" ", _FIELDS[word] - 1 if word in _FIELDS else -1) if space else []
-    try:
-        return _READ[word](*fields)
-    except (KeyError, TypeError, IndexError):
-        raise ValueError(f"{line!r} is no command") from None
+class WatchOff(_Named, Command[Done]):
+    """Takes a watch away."""
+    __slots__ = ()
+    form, replies = "watch {0.name} off", (Done,)

@@ -7,12 +7,14 @@ True
 """
 
 from enum import StrEnum
+from typing import Self
 
 
 class _Word(StrEnum):
     """A word, which is its own text, and has a meaning."""
+    meaning: str
 
-    def __new__(cls, word, meaning):
+    def __new__(cls, word: str, meaning: str = "") -> Self:
         made = str.__new__(cls, word)
         made._value_ = word
         made.meaning = meaning

@@ -14,11 +14,15 @@ use Rattle.wot_types.specs.declared.name.Name.TheVariants.{Cert, TrustRoot}
 use Rattle.wot_types.specs.Fpr.{digits_of, fpr_of_digits, octets_of, octets_in}
 use Rattle.wot_certd.specs.Names.{IsFpr, IsName, place_of, split_digits}
 
-pub split_text : (octets : List ℕ) → 0 < length octets
-    → (encode_lower (take 1 octets) ++ codes "/") ++ encode_lower (drop 1 octets) ≡ split_digits (encode_lower octets)
+pub first_digits : (octets : List ℕ) → 0 < length octets → encode_lower (take 1 octets) ≡ take 2 (encode_lower octets)
 unfolding encode_with
-split_text [] h = absurd (omega (arith, h))
-split_text (octet ∷ octets) h = refl
+first_digits [] h = absurd (omega (arith, h))
+first_digits (octet ∷ octets) h = refl
+
+pub other_digits : (octets : List ℕ) → 0 < length octets → encode_lower (drop 1 octets) ≡ drop 2 (encode_lower octets)
+unfolding encode_with
+other_digits [] h = absurd (omega (arith, h))
+other_digits (octet ∷ octets) h = refl
 
 -- a fingerprint has octets
 pub some_octets : (fpr : Fpr) → length (octets_of fpr) ≡ octets_in fpr → 0 < length (octets_of fpr)

@@ -1,5 +1,6 @@
 -- The names of entries: their order, and their places in a directory.
-use Rattle.std.specs.Prelude.{◌≡◌, ℕ, ◌++◌, List, length, take, drop, codes}
+use Rattle.std.specs.Prelude.{◌≡◌, ℕ, ◌++◌, List, [], length, take, drop, codes}
+use Rattle.std.specs.Fmt.{decimal}
 use Rattle.std.specs.declared.cmp.Ordering.{Ordering}
 use Rattle.std.specs.declared.cmp.Ordering.TheVariants.{Less, Equal, Greater}
 use Rattle.hex.specs.Hex.{IsBytes}
@@ -24,6 +25,24 @@ split_digits digits = take 2 digits ++ codes "/" ++ drop 2 digits
 abbrev pub place_of : Name → List ℕ
 place_of (Cert fpr) = split_digits (digits_of fpr)
 place_of TrustRoot = codes "trust-root"
+
+-- The folder of an entry in the directory, with a slash behind it. The trust root stands in the directory itself.
+abbrev pub folder_of : Name → List ℕ
+folder_of (Cert fpr) = take 2 (digits_of fpr) ++ codes "/"
+folder_of TrustRoot = []
+
+-- the file of an entry in its folder
+abbrev pub file_of : Name → List ℕ
+file_of (Cert fpr) = drop 2 (digits_of fpr)
+file_of TrustRoot = codes "trust-root"
+
+-- Where the new file of an entry is written before it takes the entry's place: `_FILE.NUMBER` in the entry's folder.
+abbrev pub place_beside : Name → ℕ → List ℕ
+place_beside name number = folder_of name ++ codes "_" ++ file_of name ++ codes "." ++ decimal number
+
+-- the path of a place in a directory
+abbrev pub path_in : List ℕ → List ℕ → List ℕ
+path_in directory place = directory ++ codes "/" ++ place
 
 -- A fingerprint has 20 octets, or 32.
 abbrev pub IsFpr : Fpr → Type 0

@@ -1,3 +1,5 @@
+//! The certificate directory in the file system. How its files are read and written stands in `writing`; here is what
+//! contracts see of it: a count of faults.
 ghost use Rattle.std.specs.Prelude.{◌≡◌, ◌≤◌, None, IfOk, OnOk, IsErrOf};
 ghost use Rattle.wot_io.specs.Counts.{Rose, next_count};
 ghost use Rattle.wot_certd.specs.Shelf.{IsWithin};
@@ -42,13 +44,14 @@ impl<'a, R: Files> FolderShelf<'a, R> {
         })
     }
 
-    /// What an error of the system is: "out of memory", or a fault, which is counted.
+    /// What an error is. "Out of memory" is the program's own; every error that the system reports is a fault, which is
+    /// counted, also where the system has no memory.
     fn fault_of(&mut self, error: &io::Error) -> ShelfFault
         ensures cause { result ≡ ShelfFault.Failed → self.new ≡ next_count self.old }
         ensures wanting { result ≡ ShelfFault.Memory → self.new ≡ self.old }
         ensures later { self.old ≤ self.new }
     {
-        if error.kind() == ErrorKind::OutOfMemory {
+        if error.kind() == ErrorKind::OutOfMemory && error.raw_os_error().is_none() {
             return ShelfFault::Memory;
         }
         self.faults = self.faults.saturating_add(1);
@@ -56,8 +59,7 @@ impl<'a, R: Files> FolderShelf<'a, R> {
     }
 }
 
-/// Every error of the system is a fault, other than "out of memory" and, for a read, that a file or its folder isn't
-/// there.
+/// Every error of the system is a fault, but that a file or its folder isn't there when it is read.
 impl<R: Files> Shelf for FolderShelf<'_, R> {
     ghost world = { λ _. None };
 
@@ -85,7 +87,7 @@ impl<R: Files> Shelf for FolderShelf<'_, R> {
         ensures counted { IsErrOf result ShelfFault.Failed → self.new ≡ next_count self.old }
         ensures wanting { IsErrOf result ShelfFault.Memory → self.new ≡ self.old }
     {
-        match replace_at(self.files, self.alloc, &self.folder, name, bytes) {
+        match write_entry(self.files, self.alloc, &self.folder, name, bytes) {
             Ok(()) => Ok(()),
             Err(e) => Err(self.fault_of(&e)),
         }
@@ -97,15 +99,4 @@ fn read_at<R: Files>(files: &R, alloc: Global, folder: &str, name: &Name) -> io:
 {
     let path = path_of(alloc, folder, name)?;
     read_entry(files, alloc, &path)
-}
-
-fn replace_at<R: Files>(
-    files: &R,
-    alloc: Global,
-    folder: &str,
-    name: &Name,
-    octets: &[u8],
-) -> io::Result<()> {
-    let path = path_of(alloc, folder, name)?;
-    write_entry(files, alloc, folder, &path, octets)
 }

@@ -9,5 +9,5 @@ mod writing;
 
 pub use folder::FolderShelf;
 pub use memory::MemoryShelf;
-pub use name::{fpr_of, name_of};
+pub use name::{fpr_of, name_beside, name_of};
 pub use shelf::{Given, Shelf, ShelfFault};

@@ -1,11 +1,13 @@
-ghost use Rattle.std.specs.Prelude.{◌≡◌, ◌↔◌, ◌⊎◌, ◌+◌, ◌≤◌, ◌++◌, Some, take, drop, slice_index, codes, length};
+// The places of entries in a directory, and the place beside an entry where its new file is written. Both are pure
+// functions of the name; `specs/Names.antt` defines them. A change here changes what other programs find in a directory.
+ghost use Rattle.std.specs.Prelude.{◌≡◌, ◌≢◌, ◌↔◌, ◌⊎◌, ◌+◌, ◌≤◌, ◌++◌, Some, take, drop, slice_index, codes, length};
 ghost use Rattle.std.specs.Prelude.{string_bytes, IsTrue, IfOk, IfSome};
 ghost use Rattle.hex.specs.Hex.{encode_lower};
 ghost use Rattle.wot_types.specs.declared.fpr.Fpr.{Fpr as FprOf};
 ghost use Rattle.wot_types.specs.declared.name.Name.{Name as NameOf};
 ghost use Rattle.wot_types.specs.declared.name.Name.TheVariants.{Cert};
 ghost use Rattle.wot_types.specs.Fpr.{digits_of};
-ghost use Rattle.wot_certd.specs.Names.{IsFpr, IsName, place_of, split_digits};
+ghost use Rattle.wot_certd.specs.Names.{IsFpr, IsName, file_of, folder_of, place_beside, place_of, split_digits};
 
 use std::alloc::Global;
 use wot_types::{Fpr, Memory, Name};
@@ -15,31 +17,72 @@ use wot_types::{Fpr, Memory, Name};
 pub fn name_of(alloc: Global, name: &Name) -> Result<String, Memory>
     ensures place { IfOk result (λ text. string_bytes text ≡ place_of name.now) }
 {
+    let mut text = folder_text(alloc, name)?;
+    let file = file_text(alloc, name)?;
+    text.push_str(&file)?;
+    Ok(text)
+}
+
+/// Where the new file of an entry is written before it takes the entry's place: in the same folder, at `_FILE.NUMBER`.
+/// No entry stands there, whatever its name, so no reader of the directory takes it for one.
+pub fn name_beside(alloc: Global, name: &Name, number: u32) -> Result<String, Memory>
+    ensures place { IfOk result (λ text. string_bytes text ≡ place_beside name.now number) }
+    ensures apart { IfOk result (λ text. (entry : NameOf) → string_bytes text ≢ place_of entry) }
+{
+    text_beside(alloc, name, number)
+}
+
+fn text_beside(alloc: Global, name: &Name, number: u32) -> Result<String, Memory>
+    ensures { IfOk result (λ text. string_bytes text ≡ place_beside name.now number) }
+{
+    let mut text = folder_text(alloc, name)?;
+    text.push_str("_")?;
+    let file = file_text(alloc, name)?;
+    text.push_str(&file)?;
+    text.push_str(".")?;
+    let digits = number.to_string(alloc)?;
+    text.push_str(&digits)?;
+    Ok(text)
+}
+
+/// The folder of an entry, with a slash behind it.
+fn folder_text(alloc: Global, name: &Name) -> Result<String, Memory>
+    ensures { IfOk result (λ text. string_bytes text ≡ folder_of name.now) }
+{
     match name {
-        Name::Cert(fpr) => split_text(alloc, fpr),
+        Name::Cert(fpr) => folder_digits(alloc, fpr),
+        Name::TrustRoot => Ok(String::new(alloc)),
+    }
+}
+
+/// The digits of a fingerprint's first octet, and a slash.
+#[tactic(auto, using(crate::proofs::Places::first_digits, crate::proofs::Places::some_octets))]
+fn folder_digits(alloc: Global, fpr: &Fpr) -> Result<String, Memory>
+    ensures { IfOk result (λ text. string_bytes text ≡ take 2 (digits_of fpr.now) ++ codes "/") }
+{
+    let (first, _) = fpr.octets().split_at(1);
+    let mut text = hex::encode(alloc, first)?;
+    text.push_str("/")?;
+    Ok(text)
+}
+
+/// The file of an entry in its folder.
+fn file_text(alloc: Global, name: &Name) -> Result<String, Memory>
+    ensures { IfOk result (λ text. string_bytes text ≡ file_of name.now) }
+{
+    match name {
+        Name::Cert(fpr) => file_digits(alloc, fpr),
         Name::TrustRoot => Ok(String::from_str(alloc, "trust-root")?),
     }
 }
 
-/// The digits of a fingerprint, with a slash behind those of the first octet.
-#[tactic(auto, using(crate::proofs::Places::split_text, crate::proofs::Places::some_octets))]
-fn split_text(alloc: Global, fpr: &Fpr) -> Result<String, Memory>
-    ensures { IfOk result (λ text. string_bytes text ≡ split_digits (digits_of fpr.now)) }
+/// The digits of a fingerprint's octets behind the first.
+#[tactic(auto, using(crate::proofs::Places::other_digits, crate::proofs::Places::some_octets))]
+fn file_digits(alloc: Global, fpr: &Fpr) -> Result<String, Memory>
+    ensures { IfOk result (λ text. string_bytes text ≡ drop 2 (digits_of fpr.now)) }
 {
-    let (first, others) = fpr.octets().split_at(1);
-    joined_text(alloc, first, others)
-}
-
-/// The digits of octets and of others, with a slash between.
-fn joined_text(alloc: Global, first: &[u8], others: &[u8]) -> Result<String, Memory>
-    ensures { IfOk result
-        (λ text. string_bytes text ≡ (encode_lower first.now ++ codes "/") ++ encode_lower others.now) }
-{
-    let mut text = hex::encode(alloc, first)?;
-    text.push_str("/")?;
-    let file = hex::encode(alloc, others)?;
-    text.push_str(&file)?;
-    Ok(text)
+    let (_, others) = fpr.octets().split_at(1);
+    Ok(hex::encode(alloc, others)?)
 }
 
 /// The name of the entry that stands at this place; `None` for every other text, also where a digit is in upper case.

@@ -1,34 +1,68 @@
-//! Files of a directory, read and replaced.
-ghost use Rattle.std.specs.Prelude.{◌≤◌, IfOk};
+//! Files of a directory, read and replaced. The system's calls have no contract: what is said of paths is proved here,
+//! and what is done with them is tested over the built program (`tests/suites/directory`).
+ghost use Rattle.std.specs.Prelude.{◌≡◌, ◌≤◌, IfOk, string_bytes};
+ghost use Rattle.wot_certd.specs.Names.{path_in, place_beside, place_of};
 ghost use Rattle.wot_certd.specs.Shelf.{IsWithin};
 
 use crate::shelf::LONGEST;
-use crate::{Given, name_of};
+use crate::{Given, name_beside, name_of};
 use std::alloc::Global;
 use std::fs::{self, File, OpenFile};
 use std::io::{self, ErrorKind, Read, Write};
 use std::rt::Files;
-use wot_types::Name;
+use wot_types::{Memory, Name};
 
 /// How many octets are read at a time.
 const PIECE: usize = 16384;
 
-/// Where a file to be written is tried beside the old one, before the directory is given up.
+/// How many names are tried for the new file before the directory is given up.
 const TRIES: u32 = 1000;
 
-/// The path of an entry.
-pub fn path_of(alloc: Global, folder: &str, name: &Name) -> io::Result<String> {
+/// The path of a place in a directory.
+fn joined(alloc: Global, folder: &str, place: &str) -> io::Result<String>
+    ensures { IfOk result (λ path. string_bytes path ≡ path_in folder.now place.now) }
+{
     let mut path = String::from_str(alloc, folder)?;
     path.push_str("/")?;
-    match name_of(alloc, name) {
-        Ok(place) => path.push_str(&place)?,
-        Err(_) => return Err(io::Error::from(ErrorKind::OutOfMemory)),
-    }
+    path.push_str(place)?;
     Ok(path)
 }
 
-/// Reads an entry's file. One that isn't there, or whose folder isn't, is absent.
+/// The path of an entry.
+pub fn path_of(alloc: Global, folder: &str, name: &Name) -> io::Result<String>
+    ensures { IfOk result (λ path. string_bytes path ≡ path_in folder.now (place_of name.now)) }
+{
+    match name_of(alloc, name) {
+        Ok(place) => joined(alloc, folder, &place),
+        Err(Memory) => Err(io::Error::from(ErrorKind::OutOfMemory)),
+    }
+}
+
+/// The path of a new file beside an entry.
+fn path_beside(alloc: Global, folder: &str, name: &Name, number: u32) -> io::Result<String>
+    ensures { IfOk result (λ path. string_bytes path ≡ path_in folder.now (place_beside name.now number)) }
+{
+    match name_beside(alloc, name, number) {
+        Ok(place) => joined(alloc, folder, &place),
+        Err(Memory) => Err(io::Error::from(ErrorKind::OutOfMemory)),
+    }
+}
+
+/// Reads an entry's file. It is absent if the file or its folder doesn't exist. A link is followed. Anything but a
+/// regular file is an error, and isn't opened: a FIFO would block, and a device may never end.
 pub fn read_entry<R: Files>(files: &R, alloc: Global, path: &str) -> io::Result<Given>
+    ensures within { IfOk result (λ given. IsWithin given) }
+{
+    match fs::metadata(files, path) {
+        Ok(about) if about.is_file() => read_file(files, alloc, path),
+        Ok(_) => Err(io::Error::from(ErrorKind::InvalidInput)),
+        Err(e) if e.kind() == ErrorKind::NotFound => Ok(Given::Absent),
+        Err(e) => Err(e),
+    }
+}
+
+/// Reads a regular file, which another program may take away before it is opened.
+fn read_file<R: Files>(files: &R, alloc: Global, path: &str) -> io::Result<Given>
     ensures within { IfOk result (λ given. IsWithin given) }
 {
     match fs::open(files, path) {
@@ -55,39 +89,41 @@ fn read_all<F: Read>(alloc: Global, file: &mut F) -> io::Result<Given>
     Ok(Given::Long)
 }
 
-/// Puts these octets into an entry's file: a new file is written beside the old one and takes its place whole. Makes
-/// the folders that it needs. Where the file isn't replaced, no file is left beside it, nor a new folder for it.
+/// Puts these octets into an entry's file: a new file is written beside the old one and takes its place whole. Creates
+/// missing folders. On failure neither the new file nor a folder that was created for it is left.
 pub fn write_entry<R: Files>(
     files: &R,
     alloc: Global,
     folder: &str,
-    path: &str,
+    name: &Name,
     octets: &[u8],
 ) -> io::Result<()> {
-    let Some((parent, file)) = path.rsplit_once('/') else {
+    let path = path_of(alloc, folder, name)?;
+    let Some((parent, _)) = path.rsplit_once('/') else {
         return Err(io::Error::from(ErrorKind::InvalidInput));
     };
-    let is_new = !fs::exists(files, parent)?;
-    fs::create_dir_all(files, parent)?;
-    let written = write_beside(files, alloc, parent, file, path, octets);
-    if written.is_err() && is_new {
-        let _ = fs::remove_dir(files, parent);
+    let there = length_there(files, parent)?;
+    let mut done = fs::create_dir_all(files, parent);
+    if done.is_ok() {
+        done = write_beside(files, alloc, folder, name, &path, octets);
     }
-    written?;
-    sync_folder(files, parent)?;
-    sync_folder(files, folder)
+    if done.is_err() {
+        remove_folders(files, parent, there);
+        return done;
+    }
+    sync_folders(files, parent, there)
 }
 
 /// Writes a new file beside the old one, and renames it.
 fn write_beside<R: Files>(
     files: &R,
     alloc: Global,
-    parent: &str,
-    file: &str,
+    folder: &str,
+    name: &Name,
     path: &str,
     octets: &[u8],
 ) -> io::Result<()> {
-    let (beside, mut out) = open_beside(files, alloc, parent, file)?;
+    let (beside, mut out) = open_beside(files, alloc, folder, name)?;
     let mut done = fill(&mut out, octets);
     if done.is_ok() {
         done = fs::rename(files, beside.as_str(), path);
@@ -98,15 +134,15 @@ fn write_beside<R: Files>(
     done
 }
 
-/// Opens a file of a name that isn't there yet, and that no entry has.
+/// Opens a new file beside an entry, under the first number that is free.
 fn open_beside<R: Files>(
     files: &R,
     alloc: Global,
-    parent: &str,
-    file: &str,
+    folder: &str,
+    name: &Name,
 ) -> io::Result<(String, R::File)> {
     for number in 0..TRIES {
-        let beside = format!(in alloc; "{parent}/_{file}.{number}")?;
+        let beside = path_beside(alloc, folder, name, number)?;
         match File::create_new(files, beside.as_str()) {
             Ok(out) => return Ok((beside, out)),
             Err(e) if e.kind() == ErrorKind::AlreadyExists => {}
@@ -120,6 +156,65 @@ fn open_beside<R: Files>(
 fn fill<F: Write + OpenFile>(out: &mut F, octets: &[u8]) -> io::Result<()> {
     out.write_all(octets)?;
     out.sync_all()
+}
+
+/// The folder of a path whose own path ends there; none where no name of the path ends.
+fn folder_to(path: &str, end: usize) -> Option<&str> {
+    match path.split_at_checked(end) {
+        Some((folder, rest)) if rest.is_empty() || rest.starts_with('/') => Some(folder),
+        _ => None,
+    }
+}
+
+/// How many octets of a path name a folder that exists; 0 where none of its folders does.
+fn length_there<R: Files>(files: &R, path: &str) -> io::Result<usize> {
+    for end in (1..=path.len()).rev() {
+        if let Some(folder) = folder_to(path, end) {
+            if fs::exists(files, folder)? {
+                return Ok(end);
+            }
+        }
+    }
+    Ok(0)
+}
+
+/// Removes the folders of a path behind those that were there. One that isn't empty stays.
+fn remove_folders<R: Files>(files: &R, path: &str, there: usize) {
+    for end in (1..=path.len()).rev() {
+        if end <= there {
+            return;
+        }
+        if let Some(folder) = folder_to(path, end) {
+            let _ = fs::remove_dir(files, folder);
+        }
+    }
+}
+
+/// Waits until the system has stored the names in the last folder of a path, and those of the folders behind what was
+/// there.
+fn sync_folders<R: Files>(files: &R, path: &str, there: usize) -> io::Result<()> {
+    sync_folder(files, path)?;
+    for end in (1..path.len()).rev() {
+        if end < there {
+            return Ok(());
+        }
+        if let Some(folder) = folder_to(path, end) {
+            sync_folder(files, folder)?;
+        }
+    }
+    sync_first(files, path, there)
+}
+
+/// The same of the name of the first folder, where that is new, too.
+fn sync_first<R: Files>(files: &R, path: &str, there: usize) -> io::Result<()> {
+    if there > 0 {
+        return Ok(());
+    }
+    if path.starts_with('/') {
+        sync_folder(files, "/")
+    } else {
+        sync_folder(files, ".")
+    }
 }
 
 /// Waits until the system has stored the names in a folder.

@@ -2,9 +2,10 @@
 //! the engine.
 #![tactic(auto)]
 
+use std::env;
+use std::io::{self, ErrorKind};
 use std::process::ExitCode;
 use std::rt::Env;
-use std::{env, io};
 use wot_certd::FolderShelf;
 use wot_engine::run_words;
 use wot_io::{StdSink, StdSource};
@@ -27,10 +28,21 @@ fn folder_of(words: &[String]) -> &str {
     }
 }
 
-/// Ends with the status that the engine answers, or with 5 where there is no memory for the words or the shelf.
+/// The status without words: 5 if there is no memory for them, and 2 if one isn't UTF-8.
+fn status_without_words(error: &io::Error) -> u8 {
+    if error.kind() == ErrorKind::OutOfMemory {
+        5
+    } else {
+        2
+    }
+}
+
+/// Ends with the status that the engine answers. Without its words it has one of its own, and 5 if there is no memory
+/// for the shelf.
 fn main(rt: HostRuntime) -> ExitCode {
-    let Ok(words) = words_of(&rt) else {
-        return ExitCode::from(5);
+    let words = match words_of(&rt) {
+        Ok(words) => words,
+        Err(e) => return ExitCode::from(status_without_words(&e)),
     };
     let Ok(mut shelf) = FolderShelf::new(rt.alloc(), &rt, folder_of(&words)) else {
         return ExitCode::from(5);

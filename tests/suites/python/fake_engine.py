@@ -50,6 +50,21 @@ REPLIES = {
     f"store {A}": ["ok stored 4194304"],
     f"drop {A}": ["refused absent"],
     f"drop {B}": ["ok"],
+    "service status": ["service status 2", "certificates 3", r"database /tmp/a\\b c"],
+    "service find address a@b": ["service find 2", f"bind {A} Alice", rf"bind {B} B\\ob \x0a"],
+    "service find user-id Alice": ["service find 0"],
+    rf"service find part \\\xc3\xab": ["service find 0"],
+    f"service find key {A}": ["service find 1", f"bind {A} Alice"],
+    f"service issuers {A}": ["service issuers 1", f"by {N} {B}"],
+    f"service issuers {B}": ["refused absent"],
+    "service log 2": ["service log 1", rf"change 7 1764547200 1000 4711 keyring add /tmp/\xff"],
+    "service keyring list": ["service keyring 3", "keyring 3 /tmp/a", "keyring 0 gpg", "fault no such file"],
+    "service keyring add /tmp/a": ["service progress certificates 1 of 3", "service progress verdicts 9",
+                                   "watch w amount 40", "ok keyring 3 9"],
+    rf"service keyring add /tmp/\xff": ["fault keyring /tmp/\\xff: no such file"],
+    "service keyring remove /tmp/a": ["ok"],
+    "service keyring remove gpg": ["refused read-only"],
+    f"export {B[:-2]}01": ["fault database"],
     "view v close": ["refused view"],
     "view w close": ["what is this"],
     "view x close": ["keys"],
@@ -73,7 +88,7 @@ def main():
         line = line.removesuffix("\n")
         if line == "view end close":
             return 5
-        if line.startswith("export "):
+        if line.startswith("export ") and line not in REPLIES:
             print(line)
         elif line.startswith("verdict "):
             print("ok")

@@ -1,10 +1,15 @@
 """The examples in the client's modules and pages, run; its pages and its man page read."""
 
+import contextlib
 import doctest
 import importlib
+import os
 import pkgutil
 import re
 import shutil
+import subprocess
+import tempfile
+import time
 import unittest
 
 import tukyamid
@@ -22,6 +27,23 @@ def programs(page):
         if not code.startswith(">>>"):
             exec(code, names)
     return names
+
+
+@contextlib.contextmanager
+def service():
+    """The socket of a service with a keyring of its own."""
+    with tempfile.TemporaryDirectory(prefix="tukyamid-service-") as folder:
+        environment = {**os.environ, "XDG_DATA_HOME": folder, "XDG_RUNTIME_DIR": folder}
+        words = [CLIENT / "bin" / "tukyamid-server", "--socket", f"{folder}/socket", "--engines", "1"]
+        with subprocess.Popen(words, env=environment) as running:
+            try:
+                for _ in range(600):
+                    if os.path.exists(f"{folder}/socket"):
+                        break
+                    time.sleep(0.05)
+                yield f"{folder}/socket"
+            finally:
+                running.terminate()
 
 
 @needs_engine
@@ -68,9 +90,11 @@ class Examples(unittest.TestCase):
         self.assertGreater(tried, 8)
 
     def test_pages(self):
-        for page in PAGES:
-            with self.subTest(page.name):
-                self.assertEqual(doctest.testfile(str(page), module_relative=False, globs={"TOP": ROOT}).failed, 0)
+        with service() as socket:
+            for page in PAGES:
+                with self.subTest(page.name):
+                    names = {"TOP": ROOT, "SOCKET": socket}
+                    self.assertEqual(doctest.testfile(str(page), module_relative=False, globs=names).failed, 0)
 
 
 class Documents(unittest.TestCase):

@@ -9,7 +9,7 @@ import unittest
 from outside import FAKE_ENGINE
 from tukyamid import (Accepted, Answer, Binding, Claim, ClaimedStep, Done, Engine, EngineEnded, Explanation, Gone, Key,
                       Label, Missed, Path, PendingSignature, ProtocolError, Reached, Reason, Rejected, Stale, Step,
-                      Taken, Watched, commands, refusals)
+                      Taken, Watched, commands, read_command, refusals)
 from tukyamid.reasons import ReasonWord, TargetWord
 from tukyamid.replies import Exported
 
@@ -17,8 +17,14 @@ A, B, N = "aa" * 20, "bb" * 20, "11" * 32
 
 
 class Framing(unittest.TestCase):
+    """The calls and their replies. `test_client` runs these tests over its own connections."""
+    ended = EngineEnded
+
+    def open(self):
+        return Engine(FAKE_ENGINE)
+
     def setUp(self):
-        self.engine = Engine(FAKE_ENGINE)
+        self.engine = self.open()
         self.addCleanup(self.engine.close)
 
     def test_each_reply_is_its_type(self):
@@ -78,7 +84,7 @@ class Framing(unittest.TestCase):
         self.assertRaises(ProtocolError, engine.watch, "z", "v", A, 1, "")
 
     def test_no_watch_begins_among_many_lines(self):
-        with Engine(FAKE_ENGINE) as engine:
+        with self.open() as engine:
             self.assertRaises(ValueError, engine.feed, [b"keys", b"watch u on v %s 120 Alice" % A.encode()])
 
     def test_each_refusal_is_its_exception(self):
@@ -124,7 +130,7 @@ class Framing(unittest.TestCase):
                       lambda engine: engine.explain("v", A, "no target's word"),
                       lambda engine: engine.explain("v", A, "no reason's word"),
                       lambda engine: engine.explain("v", A, "an edge alone")):
-            with Engine(FAKE_ENGINE) as engine:
+            with self.open() as engine:
                 self.assertRaises(ProtocolError, wrong, engine)
                 self.assertRaises(ProtocolError, engine.keys)
 
@@ -156,13 +162,13 @@ class Framing(unittest.TestCase):
         self.assertTrue(self.engine.restore(io.BytesIO(b"")))
         self.assertEqual(self.engine.import_certificates(b"\5"), Taken(1, 2, 3))
         for damaged in ok + b"import 06\n", b"import 06\n" + ok, b"keys\n", ok + b"import 06\nimport 05\n":
-            with self.subTest(damaged[-20:]), Engine(FAKE_ENGINE) as engine:
+            with self.subTest(damaged[-20:]), self.open() as engine:
                 self.assertFalse(engine.restore(io.BytesIO(damaged)))
-                self.assertRaises(ProtocolError, engine.keys)
+                self.assertRaises((ProtocolError, self.ended), engine.keys)
         for silent in b"# a comment\n" + ok, ok + b"\n", ok[:-1] + b"\n\n\n":
-            with self.subTest(silent[-20:]), Engine(FAKE_ENGINE) as engine:
+            with self.subTest(silent[-20:]), self.open() as engine:
                 self.assertRaises(ValueError, engine.restore, io.BytesIO(silent))
-        with Engine(FAKE_ENGINE) as engine, self.assertRaises(EngineEnded):
+        with self.open() as engine, self.assertRaises(self.ended):
             engine.restore(io.BytesIO(ok + b"view end close\n" + ok))
 
     def test_threads_get_their_own_replies(self):
@@ -180,6 +186,12 @@ class Framing(unittest.TestCase):
         for thread in threads:
             thread.join()
         self.assertEqual(wrong, [])
+
+
+class End(unittest.TestCase):
+    def setUp(self):
+        self.engine = Engine(FAKE_ENGINE)
+        self.addCleanup(self.engine.close)
 
     def test_the_end_of_the_program(self):
         with self.assertRaises(EngineEnded) as caught:
@@ -217,17 +229,26 @@ class Lines(unittest.TestCase):
             (commands.Explain("v", A, b"\n"), f"explain v {A} \\x0a".encode()),
             (commands.Pending(), b"pending"), (commands.Keys(), b"keys"), (commands.Export(A), b"export " + A.encode()),
             (commands.Dump(), b"dump"),
+            (commands.Absence("v", A, 9, "Al"), f"absence v {A} 9 Al".encode()),
+            (commands.Check("v", A, [Claim(40, (ClaimedStep(B, 7),))], [Label(B, 1)], " "),
+             f"check v {A} 40/{B}.7 {B}=1  ".encode()),
+            (commands.Check("v", A, (), (), ""), f"check v {A} - - ".encode()),
+            (commands.CursorOver("c", "v", 1), b"cursor c over v 1"), (commands.CursorNext("c", 9), b"cursor c next 9"),
+            (commands.CursorClose("c"), b"cursor c close"), (commands.WatchOff("w"), b"watch w off"),
+            (commands.WatchOn("w", "v", A, 1, "a b"), f"watch w on v {A} 1 a b".encode()),
         ]
         for command, line in table:
             with self.subTest(line):
                 self.assertEqual(command.line(), line)
-                self.assertEqual(commands.read_command(line), command)
+                self.assertEqual(read_command(line), command)
 
     def test_what_has_no_spelling_is_a_value_error(self):
         for make in (lambda: commands.Drop("aa"), lambda: commands.Drop(A + "\nkeys"), lambda: commands.Time("V", 1),
                      lambda: commands.Time("v", 2**32), lambda: commands.Root("v", A, 256),
                      lambda: commands.Ask("v", A, 0, ""),
                      lambda: commands.Bad("0"), lambda: commands.Time("v" * 33, 1), lambda: commands.Time("v", True),
-                     lambda: commands.read_command(b"keys now"), lambda: commands.read_command(b"nonsense"),
-                     lambda: commands.read_command(b"ask v " + A.encode() + rb" 1 \q")):
+                     lambda: commands.CursorNext("c", 0), lambda: commands.WatchOff(""),
+                     lambda: read_command(b"keys now"), lambda: read_command(b"cursor c"),
+                     lambda: read_command(b"verdict 0 worse"), lambda: read_command(b"nonsense"),
+                     lambda: read_command(b"ask v " + A.encode() + rb" 1 \q")):
             self.assertRaises(ValueError, make)

@@ -13,7 +13,7 @@ from pathlib import Path
 
 from tukyamid.engine import has_reply
 from tukyamid.refusals import Refused
-from tukyamid.replies import ListingHead, read_reply
+from tukyamid.reading import ListingHead, read_reply
 
 HERE = Path(__file__).resolve().parent
 ROOT = Path(os.environ.get("WOT_ROOT") or HERE.parents[2])

@@ -1,0 +1,48 @@
+"""The calls that only a service answers, asynchronous."""
+
+from __future__ import annotations
+
+import os
+from abc import ABC
+
+from ... import service_lines
+from ...service_lines import Change, Found, Issued, KeyringAdded, KeyringLine
+from ...spelling import UserId
+from .calls import Calls
+from ..conversation import Progress, no_progress
+from .listing import Listing
+
+
+class ServiceCalls(Calls, ABC):
+    """What a service can be asked besides."""
+
+    async def status(self) -> dict[str, str]:
+        """What the service holds and how it does, by name."""
+        return {figure.name: figure.value async for figure in await self.do(service_lines.Status())}
+
+    async def find(self, by: str, sought: UserId) -> Listing[Found]:
+        """The user IDs that have an `address`, are a `user-id`, or have a `part`, and those of a `key` (a fingerprint
+        or a key ID)."""
+        return await self.do(service_lines.Find(by, sought))
+
+    async def issuers(self, fpr: str) -> Listing[Issued]:
+        """The signatures of a certificate with a good verdict, and who made each."""
+        return await self.do(service_lines.Issuers(fpr))
+
+    async def log(self, count: int) -> Listing[Change]:
+        """The last changes, newest first: when each was made, and by whom."""
+        return await self.do(service_lines.Log(count))
+
+    async def keyrings(self) -> list[KeyringLine]:
+        """The keyrings that the service keeps, each with the fault of its last reading, if any."""
+        return service_lines.with_faults([line async for line in await self.do(service_lines.KeyringList())])
+
+    async def add_keyring(self, name: str | os.PathLike[str], progress: Progress = no_progress) -> KeyringAdded:
+        """Has the service read a keyring, by its absolute path or `gpg`, and again whenever it changes. Returns when
+        its certificates are verified; `progress` is called meanwhile."""
+        command = service_lines.KeyringAdd(name)
+        return command.take(await self.send_line(command.line(), progress))
+
+    async def remove_keyring(self, name: str | os.PathLike[str]) -> None:
+        """Has the service watch a keyring no longer. What was taken from it stays."""
+        await self.do(service_lines.KeyringRemove(name))

@@ -1,0 +1,77 @@
+"""What the plain and the asynchronous connection have in common: how a line and its reply belong together, and what
+watches are told in between."""
+
+from collections.abc import Callable
+
+from ..reading import Reader, read_progress, read_reply_after, read_watch
+from ..replies import Done, Gone, Reply, Watched
+
+Progress = Callable[[str], None]
+
+PROBE, PROBED = b"?", "refused line"  # A line that is no command: behind its reply no watch is told anything.
+
+
+def no_progress(text: str) -> None:
+    """For whom progress is nothing."""
+
+
+def begun_watch(line: bytes) -> str | None:
+    """The name of the watch that a line begins, or None."""
+    words = line.split(b" ", 3)
+    return words[1].decode("latin-1") if len(words) > 3 and words[0] == b"watch" and words[2] == b"on" else None
+
+
+class Conversation:
+    """The watches that are there, and what they were told since `take_told`."""
+
+    def __init__(self) -> None:
+        self.watches: set[str] = set()
+        self._told: list[Watched | Gone] = []
+
+    def take_told(self) -> list[Watched | Gone]:
+        """What watches were told since the last call."""
+        told, self._told = self._told, []
+        return told
+
+    @staticmethod
+    def octets_for(line: bytes) -> bytes:
+        """What is sent for a line. A probe goes before a line that begins a watch: so what an earlier watch of this
+        name is told isn't taken for the reply."""
+        return (PROBE + b"\n" if begun_watch(line) else b"") + line + b"\n"
+
+    def reply_to(self, line: bytes, progress: Progress) -> Reader[Reply]:
+        """Reads the reply to a line, and before it what watches were told: behind earlier replies, or by a service at
+        any time. `progress` is called with how far the service has come. A refusal is raised. Of a listing only the
+        head is read."""
+        watch = begun_watch(line)
+        if watch is not None:
+            yield from self.hear()
+        first = yield from self._first_line(watch, progress)
+        reply = yield from read_reply_after(first)
+        if isinstance(reply, Watched):
+            self.watches.add(reply.watch)
+        elif isinstance(reply, Done) and line.startswith(b"watch "):
+            self.watches.discard(line.split(b" ")[1].decode("latin-1"))
+        return reply
+
+    def hear(self) -> Reader[None]:
+        """Reads what watches were told, up to the reply to a probe."""
+        while (line := (yield)) != PROBED:
+            self.hear_line(line)
+
+    def _first_line(self, watch: str | None, progress: Progress) -> Reader[str]:
+        while True:
+            line = yield
+            if line.startswith("service progress "):
+                progress(read_progress(line))
+            elif not line.startswith("watch ") or watch is not None and line.startswith(f"watch {watch} "):
+                return line
+            else:
+                self.hear_line(line)
+
+    def hear_line(self, line: str) -> None:
+        """Takes a line that a watch is told."""
+        told = read_watch(line)
+        if isinstance(told, Gone):
+            self.watches.discard(told.watch)
+        self._told.append(told)

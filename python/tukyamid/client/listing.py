@@ -1,0 +1,64 @@
+"""A long reply of the plain client."""
+
+from __future__ import annotations
+
+from collections import deque
+from collections.abc import Callable
+from threading import RLock
+from typing import Generic, TypeVar, cast
+
+from ..reading import ListingHead
+from ..refusals import ProtocolError
+
+T = TypeVar("T")
+U = TypeVar("U")
+
+
+class Listing(Generic[T]):
+    """A long reply: `count` items, each read when it is asked for. It is gone through once.
+
+    Another command may be given at any time; what is left of the listing is then read into memory first."""
+
+    def __init__(self, head: ListingHead, next_line: Callable[[], str], lock: RLock) -> None:
+        self.count = head.count
+        self._item = head.item
+        self._read = cast(Callable[[str], T], head.read)
+        self._next_line = next_line
+        self._lock = lock
+        self._left = head.count
+        self._kept: deque[T] = deque()
+
+    def of(self, item: type[U]) -> Listing[U]:
+        """This listing, if its items are of this type; else a ProtocolError."""
+        if self._item is not item:
+            raise ProtocolError(f"a listing of {item.__name__} was asked for, and one of {self._item.__name__} came")
+        return cast(Listing[U], self)
+
+    def __iter__(self) -> Listing[T]:
+        return self
+
+    def __length_hint__(self) -> int:
+        return self._left + len(self._kept)
+
+    def __next__(self) -> T:
+        with self._lock:
+            if self._kept:
+                return self._kept.popleft()
+            if not self._left:
+                raise StopIteration
+            return self._take()
+
+    def settle(self) -> None:
+        """Reads what is left into memory."""
+        while self._left:
+            self._kept.append(self._take())
+
+    def pass_over(self) -> None:
+        """Reads what is left, and drops it."""
+        while self._left:
+            self._take()
+
+    def _take(self) -> T:
+        item = self._read(self._next_line())
+        self._left -= 1
+        return item

@@ -1,0 +1,51 @@
+"""The plain client of a service, over its Unix socket."""
+
+from __future__ import annotations
+
+import contextlib
+import io
+import os
+import socket
+
+from ..refusals import ServiceEnded, ServiceMissing, TukyamidError
+from .connection import Connection
+from .service_calls import ServiceCalls
+from .wire import PIECE
+
+
+class Client(Connection, ServiceCalls):
+    """A connection to a service. Views, cursors and watches are its own; certificates and verdicts are everybody's."""
+
+    def __init__(self, connected: socket.socket) -> None:
+        self._socket = connected
+        super().__init__(io.BufferedReader(connected.makefile("rb", buffering=0), PIECE),
+                         io.BufferedWriter(connected.makefile("wb", buffering=0), PIECE))
+
+    def close(self) -> None:
+        """Ends the connection. What was sent before counts."""
+        with self._lock:
+            self._has_ended = True
+            self._abandon()
+            self._wire.close_output()
+            self._wire.drain()
+            self._socket.close()
+
+    def _end_error(self) -> TukyamidError:
+        return ServiceEnded("the connection to the service has ended")
+
+    def _abandon(self) -> None:
+        with contextlib.suppress(OSError):
+            self._socket.shutdown(socket.SHUT_RDWR)
+
+
+def connect(path: str | os.PathLike[str], timeout: float | None = None) -> Client:
+    """Connects to the service that listens at a path. Raises ServiceMissing if none does. If the service doesn't read
+    or write for `timeout` seconds while a call waits for it, that call raises ServiceEnded."""
+    connected = socket.socket(socket.AF_UNIX, socket.SOCK_STREAM)
+    try:
+        connected.settimeout(timeout)
+        connected.connect(os.fspath(path))
+    except OSError as error:
+        connected.close()
+        raise ServiceMissing(f"no service at {os.fspath(path)!r}: {error.strerror or error}") from None
+    return Client(connected)
