@@ -38,4 +38,7 @@ mod StaleTold
 mod Telling
 mod Worth
 mod Settling
-pub mod Slices
+mod Asking
+mod Judging
+mod GoingOn
+mod Slices

@@ -5,6 +5,7 @@ ghost use Rattle.wot_script.specs.declared.reply.Reply.{Reply};
 ghost use Rattle.wot_certd.specs.World.{World};
 ghost use Rattle.wot_machine.specs.Absent.{AreClaimsAccepted, DoClaimsLeaveNothing};
 ghost use Rattle.wot_machine.specs.Depends.{DependsOnWhatIsPresent};
+ghost use Rattle.wot_machine.specs.GoesOn.{FreshMachinesGoOn};
 ghost use Rattle.wot_machine.specs.Joined.{NextsAreTold, PiecesJoin, RunsAreExchanges, StaleNumbersDiffer};
 ghost use Rattle.wot_machine.specs.Law.{HaveOneOutcome, HaveOnlyWatchLines, HaveOutcomes, HaveWatchLines};
 ghost use Rattle.wot_machine.specs.Law.{LeadToStates, RefusalsLeaveAll};
@@ -61,6 +62,21 @@ pub fn reached_states_are_judged()
     ensures { (rows : PolicyRows) → StayJudged rows }
 {
     judging();
+}
+
+/// A fresh machine that was given the lines of a dump goes on as the one that dumped: whatever lines come then, over the
+/// same shelf, each reply that isn't to a command of a cursor or of a watch is the same.
+pub fn fresh_machines_go_on()
+    ensures { (rows : PolicyRows) → FreshMachinesGoOn rows }
+{
+    reached_states_are_judged();
+    each_line_has_one_outcome();
+    answer_is_one();
+    record_is_lawful();
+    list_is_one();
+    least_table_is_one();
+    check_is_one();
+    lines_spell_commands();
 }
 
 /// Each answer depends only on the certificates, the verdicts, and the roots and the time of the asking view then
