@@ -214,6 +214,7 @@ engine_on law further old new views networks answers limits later one e = record
   within = rw limits e.within;
   fit = all_fit law networks old new later e.fit;
   of_open = e.of_open;
+  answered = e.answered;
   right = all_right_later further old new answers later one e.right;
   turned = e.turned;
 }

@@ -1,6 +1,6 @@
 -- Marks of views: networks are kept for open views alone, and what is shown of them.
 use Rattle.std.proofs.Common.{◌≡◌, inl, inr, ℕ, ◌≤◌, Bool, true, false, cond, List, [], ◌∷◌, Option, Some, None, Result, Ok, Err, OnOk, OnErr, refl, sym, ap, subst, ◌∙◌, arith}
-use Rattle.std.specs.Prelude.{IfOk, IfSome, is_ok}
+use Rattle.std.specs.Prelude.{IfOk, IfSome, IsSomeAnd, is_ok}
 use Rattle.std.specs.declared.cmp.Ordering.{Ordering}
 use Rattle.std.specs.declared.cmp.Ordering.TheVariants.{Less, Equal, Greater}
 use Rattle.std.specs.BTreeMap.{insert_entry}
@@ -15,7 +15,7 @@ use Rattle.wot_types.specs.ViewName.{view_name_cmp}
 use Rattle.wot_keyring.specs.Keyring.{Keyring}
 use Rattle.wot_network.specs.Net.{Net, Marks, marks_of}
 use Rattle.wot_cache.specs.declared.view.View.{View}
-use Rattle.wot_cache.specs.Answers.{AllAnswers}
+use Rattle.wot_cache.specs.Answers.{AllAnswers, KeepsFor, OfView}
 use Rattle.wot_cache.specs.Inside.{AllFit, AreOfOpen, IsEngine, Networks, network_at}
 use Rattle.wot_cache.specs.Marks.{IsForgotten, IsMadeFor, IsRefreshed, OthersStay, marks_by, marks_in, marks_shown, shown}
 use Rattle.wot_cache.specs.State.{Engine, OtherMarksStay, marks_at}
@@ -66,33 +66,33 @@ none_put query cmp (e ∷ es) k v none = by (none_put query cmp es k v) (cmp k e
     by rest Equal = none_behind (query e.0) v e.1 (lookup query es) (lookup query es) (λ none. none)
     by rest Greater = none_behind (query e.0) e.1 e.1 (lookup query es) (lookup query (insert_entry cmp es k v)) rest
 
--- ---- networks stay those of open views
+-- ---- what is kept stays that of open views
 
-of_more : (views new : Views) (networks : Networks) → ((other : List ℕ) → view_at new other ≡ None → view_at views other ≡ None)
-    → AreOfOpen views networks → AreOfOpen new networks
-of_more views new networks more all other none = all other (more other none)
+of_more : {X : Type 0} (views new : Views) (kept : List (List ℕ × X)) → ((other : List ℕ) → view_at new other ≡ None → view_at views other ≡ None)
+    → AreOfOpen views kept → AreOfOpen new kept
+of_more views new kept more all other none = all other (more other none)
 
-pub moved_open : (views new : Views) (networks : Networks) (name : List ℕ) (t : ℕ) (moved : Bool) → MovesTime moved name t views new
-    → AreOfOpen views networks → AreOfOpen new networks
-moved_open views new networks name t moved moves = of_more views new networks (λ other. by other (view_at views name) moves)
+pub moved_open : {X : Type 0} (views new : Views) (kept : List (List ℕ × X)) (name : List ℕ) (t : ℕ) (moved : Bool) → MovesTime moved name t views new
+    → AreOfOpen views kept → AreOfOpen new kept
+moved_open views new kept name t moved moves = of_more views new kept (λ other. by other (view_at views name) moves)
   where
     by : (other : List ℕ) (o : Option View) → MatchOption o ((moved ≡ false) × (new ≡ views)) (λ (v : View). (moved ≡ true) × (new ≡ set_value (is_name name) views (record v { time = t })))
         → view_at new other ≡ None → view_at views other ≡ None
     by other None m none = subst (λ (vs : Views). view_at vs other ≡ None) m.1 none
     by other (Some v) m none = none_set (is_name other) (is_name name) views (record v { time = t }) (subst (λ (vs : Views). view_at vs other ≡ None) m.1 none)
 
-pub opened_open : (views new : Views) (networks : Networks) (name : List ℕ) (view : View) (r : Result (Unit {0}) Memory)
-    → OnOk r (new ≡ insert_entry view_name_cmp views name view) → OnErr r (new ≡ views) → AreOfOpen views networks → AreOfOpen new networks
-opened_open views new networks name view (Ok done) put same =
-    of_more views new networks (λ other none. none_put (is_name other) view_name_cmp views name view (subst (λ (vs : Views). view_at vs other ≡ None) put none))
-opened_open views new networks name view (Err fault) put same =
-    of_more views new networks (λ other none. subst (λ (vs : Views). view_at vs other ≡ None) same none)
+pub opened_open : {X : Type 0} (views new : Views) (kept : List (List ℕ × X)) (name : List ℕ) (view : View) (r : Result (Unit {0}) Memory)
+    → OnOk r (new ≡ insert_entry view_name_cmp views name view) → OnErr r (new ≡ views) → AreOfOpen views kept → AreOfOpen new kept
+opened_open views new kept name view (Ok done) put same =
+    of_more views new kept (λ other none. none_put (is_name other) view_name_cmp views name view (subst (λ (vs : Views). view_at vs other ≡ None) put none))
+opened_open views new kept name view (Err fault) put same =
+    of_more views new kept (λ other none. subst (λ (vs : Views). view_at vs other ≡ None) same none)
 
-pub set_open : (views new : Views) (networks : Networks) (name : List ℕ) (fpr : Fpr) (amount : ℕ) (r : Result (Unit {0}) Memory)
-    → OnOk r (SetsAmount name fpr amount views new) → OnErr r (new ≡ views) → AreOfOpen views networks → AreOfOpen new networks
-set_open views new networks name fpr amount (Err fault) set same =
-    of_more views new networks (λ other none. subst (λ (vs : Views). view_at vs other ≡ None) same none)
-set_open views new networks name fpr amount (Ok done) set same = of_more views new networks (λ other. by other (view_at views name) set)
+pub set_open : {X : Type 0} (views new : Views) (kept : List (List ℕ × X)) (name : List ℕ) (fpr : Fpr) (amount : ℕ) (r : Result (Unit {0}) Memory)
+    → OnOk r (SetsAmount name fpr amount views new) → OnErr r (new ≡ views) → AreOfOpen views kept → AreOfOpen new kept
+set_open views new kept name fpr amount (Err fault) set same =
+    of_more views new kept (λ other none. subst (λ (vs : Views). view_at vs other ≡ None) same none)
+set_open views new kept name fpr amount (Ok done) set same = of_more views new kept (λ other. by other (view_at views name) set)
   where
     by : (other : List ℕ) (o : Option View) → MatchOption o ⊥ (λ (v : View). new ≡ set_value (is_name name) views (record v { roots = with_amount v.roots fpr amount }))
         → view_at new other ≡ None → view_at views other ≡ None
@@ -100,12 +100,12 @@ set_open views new networks name fpr amount (Ok done) set same = of_more views n
     by other (Some v) m none =
         none_set (is_name other) (is_name name) views (record v { roots = with_amount v.roots fpr amount }) (subst (λ (vs : Views). view_at vs other ≡ None) m none)
 
-pub closed_open : (views left : Views) (networks rest : Networks) (name : List ℕ) → IsForgotten name views left → IsForgotten name networks rest
-    → AreOfOpen views networks → AreOfOpen left rest
-closed_open views left networks rest name closed forgotten all other = by (is_name name other) (closed other) (forgotten other)
+pub closed_open : {X : Type 0} (views left : Views) (kept rest : List (List ℕ × X)) (name : List ℕ) → IsForgotten name views left → IsForgotten name kept rest
+    → AreOfOpen views kept → AreOfOpen left rest
+closed_open views left kept rest name closed forgotten all other = by (is_name name other) (closed other) (forgotten other)
   where
-    by : (b : Bool) → view_at left other ≡ cond b None (view_at views other) → network_at rest other ≡ cond b None (network_at networks other)
-        → view_at left other ≡ None → network_at rest other ≡ None
+    by : (b : Bool) → view_at left other ≡ cond b None (view_at views other) → lookup (is_name other) rest ≡ cond b None (lookup (is_name other) kept)
+        → view_at left other ≡ None → lookup (is_name other) rest ≡ None
     by true v n none = n
     by false v n none = n ∙ all other (sym v ∙ none)
 
@@ -116,6 +116,47 @@ refreshed_open views old new name others closed all other none = by (is_name nam
     by : (b : Bool) → is_name name other ≡ b → network_at new other ≡ None
     by true e = ap (λ (ns : Networks). network_at ns other) (closed (found_by name other views e ∙ none)) ∙ all other none
     by false e = others other e ∙ all other none
+
+-- ---- the answers of other views
+
+still_none_set : {K X : Type 0} (query test : K → Bool) (es : List (K × X)) (v : X) → lookup query es ≡ None → lookup query (set_value test es v) ≡ None
+still_none_set query test [] v none = refl
+still_none_set query test (e ∷ es) v none = by (still_none_set query test es v) (test e.0) none
+  where
+    by : (lookup query es ≡ None → lookup query (set_value test es v) ≡ None) → (b : Bool)
+        → cond (query e.0) (Some e.1) (lookup query es) ≡ None → lookup query (cond b ((e.0, v) ∷ es) (e ∷ set_value test es v)) ≡ None
+    by rest true = none_behind (query e.0) e.1 v (lookup query es) (lookup query es) (λ none. none)
+    by rest false = none_behind (query e.0) e.1 e.1 (lookup query (set_value test es v)) (lookup query es) rest
+
+still_none_put : {K X : Type 0} (query : K → Bool) (cmp : K → K → Ordering) (es : List (K × X)) (k : K) (v : X) → query k ≡ false
+    → lookup query es ≡ None → lookup query (insert_entry cmp es k v) ≡ None
+still_none_put query cmp [] k v apart none = ap (λ (b : Bool). cond b (Some v) None) apart
+still_none_put query cmp (e ∷ es) k v apart none = by (still_none_put query cmp es k v apart) (cmp k e.0) none
+  where
+    by : (lookup query es ≡ None → lookup query (insert_entry cmp es k v) ≡ None) → (o : Ordering)
+        → cond (query e.0) (Some e.1) (lookup query es) ≡ None
+        → lookup query (match_ordering o ((k, v) ∷ e ∷ es) ((e.0, v) ∷ es) (e ∷ insert_entry cmp es k v)) ≡ None
+    by rest Less none = ap (λ (b : Bool). cond b (Some v) (cond (query e.0) (Some e.1) (lookup query es))) apart ∙ none
+    by rest Equal none = none_behind (query e.0) e.1 v (lookup query es) (lookup query es) (λ none. none) none
+    by rest Greater none = none_behind (query e.0) e.1 e.1 (lookup query (insert_entry cmp es k v)) (lookup query es) rest none
+
+pub keeps_set : (answers : AllAnswers) (name : List ℕ) (of_view : OfView) → KeepsFor name answers (set_value (is_name name) answers of_view)
+keeps_set answers name of_view other apart none = still_none_set (is_name other) (is_name name) answers of_view none
+
+pub keeps_inserted : {A E : Type 0} (answers new : AllAnswers) (name : List ℕ) (of_view : OfView) (r : Result A E)
+    → OnOk r (new ≡ insert_entry view_name_cmp answers name of_view) → OnErr r (new ≡ answers) → KeepsFor name answers new
+keeps_inserted answers new name of_view (Ok done) put same other apart none =
+    ap (lookup (is_name other)) put ∙ still_none_put (is_name other) view_name_cmp answers name of_view apart none
+keeps_inserted answers new name of_view (Err fault) put same other apart none = ap (lookup (is_name other)) same ∙ none
+
+-- where the view is open, what is kept for it is kept for an open one
+pub answered_open : (P : View → Type 0) (views : Views) (old new : AllAnswers) (name : List ℕ) → IsSomeAnd (view_at views name) P
+    → KeepsFor name old new → AreOfOpen views old → AreOfOpen views new
+answered_open P views old new name there keeps all other none = by (is_name other name) refl
+  where
+    by : (b : Bool) → is_name other name ≡ b → lookup (is_name other) new ≡ None
+    by true e = absurd (subst (λ (o : Option View). IsSomeAnd o P) (sym (found_by other name views e) ∙ none) there)
+    by false e = keeps other e (all other none)
 
 -- ---- what is shown of networks
 
@@ -202,6 +243,7 @@ engine_after {turns} answers k new views more old rest name before after same eq
       within = e.within;
       fit = subst (λ (x : Keyring). AllFit rest x) same fit;
       of_open = refreshed_open views old rest name others (λ none. (closed none).0) e.of_open;
+      answered = e.answered;
       right = e.right;
       turned = e.turned;
     }))

@@ -1,8 +1,8 @@
 -- Answers that are kept: what each rests on, and that it is right for as long as that stays.
-use Rattle.std.specs.Prelude.{◌≡◌, ℕ, ◌≤◌, List, length, sum_by, Option, IfSome, IsSomeAnd, Vec}
+use Rattle.std.specs.Prelude.{◌≡◌, ℕ, ◌≤◌, false, List, length, sum_by, Option, None, IfSome, IsSomeAnd, Vec}
 use Rattle.std.specs.declared.alloc.Global.{Global}
 use Rattle.std.specs.List.{AllByRecursion}
-use Rattle.std.specs.Map.{values_of}
+use Rattle.std.specs.Map.{lookup, values_of}
 use Rattle.std.specs.Option.{option_map_or}
 use Rattle.wot_types.specs.declared.fpr.Fpr.{Fpr}
 use Rattle.wot_edge.specs.Answer.{IsAnswer, amount_of}
@@ -15,6 +15,7 @@ use Rattle.wot_search.specs.Making.{IsMaking}
 use Rattle.wot_cache.specs.declared.answers.KeptAnswer.{KeptAnswer}
 use Rattle.wot_cache.specs.declared.answers.KeptReach.{KeptReach}
 use Rattle.wot_cache.specs.declared.answers.Looked.{Looked}
+use Rattle.wot_cache.specs.Views.{is_name}
 
 -- ---- what an answer rests on
 
@@ -141,6 +142,12 @@ pub record AreRightIn (k : Keyring) (of_view : OfView) : Type 0 where
 -- answers by the names of views
 abbrev pub AllAnswers : Type 0
 AllAnswers = List (List ℕ × OfView)
+
+-- Of the views for which nothing was kept, only this one may have something kept now.
+abbrev pub KeepsFor : List ℕ → AllAnswers → AllAnswers → Type 0
+KeepsFor name old new =
+    (other : List ℕ) → is_name other name ≡ false → lookup (is_name other) old ≡ None
+    → lookup (is_name other) new ≡ None
 
 abbrev pub AreAllRight : Keyring → AllAnswers → Type 0
 AreAllRight k views = AllByRecursion (λ (e : List ℕ × OfView). AreRightIn k e.1) views

@@ -21,9 +21,9 @@ AllFit networks k = AllByRecursion (λ (e : List ℕ × Net). Fits e.1 k) networ
 abbrev pub network_at : Networks → List ℕ → Option Net
 network_at networks name = lookup (is_name name) networks
 
--- Networks are kept for open views alone.
-abbrev pub AreOfOpen : Views → Networks → Type 0
-AreOfOpen views networks = (name : List ℕ) → view_at views name ≡ None → network_at networks name ≡ None
+-- What is kept by the names of views is kept for open views alone.
+abbrev pub AreOfOpen : {X : Type 0} → Views → List (List ℕ × X) → Type 0
+AreOfOpen views kept = (name : List ℕ) → view_at views name ≡ None → lookup (is_name name) kept ≡ None
 
 pub record IsEngine (k : Keyring) (views : Views) (networks : Networks) (answers : AllAnswers) (turns : Turns)
     : Type 0 where
@@ -31,6 +31,7 @@ pub record IsEngine (k : Keyring) (views : Views) (networks : Networks) (answers
   pub within : IsWithin k.limits views
   pub fit : AllFit networks k
   pub of_open : AreOfOpen views networks
+  pub answered : AreOfOpen views answers
   pub right : AreAllRight k answers
   pub turned : AreTurnsOf views turns
 

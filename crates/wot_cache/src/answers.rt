@@ -371,6 +371,14 @@ impl Answers {
         give(&mut self.table, parts, self.turn, target, wanted, uid)
     }
 
+    /// How many answers are kept.
+    pub fn len(&self) -> usize
+        ensures count { result ≡ length self.now.entries }
+        ensures few { result ≤ 1024 }
+    {
+        self.table.len()
+    }
+
     /// The answer that is kept under the key of a question, to whatever question.
     pub fn kept(&self, target: &Fpr, wanted: u32, uid: &[u8]) -> Option<&KeptAnswer>
         ensures right { (k : Held) → AreRightIn k self.now → IfSome result (λ kept. IsRight k kept.now) }

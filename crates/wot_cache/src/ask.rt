@@ -5,7 +5,7 @@ ghost use Rattle.wot_edge.specs.Record.{IsRecord};
 ghost use Rattle.wot_network.specs.Net.{told_of};
 ghost use Rattle.wot_network.specs.Roads.{present_of};
 ghost use Rattle.wot_search.specs.Reach.{IsReach};
-ghost use Rattle.wot_cache.specs.Answers.{AreAllRight, AreRightIn};
+ghost use Rattle.wot_cache.specs.Answers.{AreAllRight, AreRightIn, KeepsFor};
 ghost use Rattle.wot_cache.specs.Question.{asked_of, present_in, IsTold};
 
 use crate::answers::Answers;
@@ -16,7 +16,7 @@ use crate::view::AskFault;
 use std::alloc::Global;
 use wot_auth::{Answer, authenticate_metered, authenticate_within};
 use wot_edge::laws::{answer_is_one, paths_fit, zero_is_no_path};
-use wot_search::{Making, Metered, Reach, make_reach};
+use wot_search::{LookFault, Making, Metered, Reach, make_reach};
 use wot_types::{Fpr, Memory, ViewName};
 
 /// How far issuers reach, over these parts.
@@ -149,16 +149,13 @@ fn search(
                 &metered.consulted,
                 &answer,
             );
-            let looked = most.saturating_sub(metered.left).saturating_add(made);
+            let left = metered.left.unwrap_or(0);
+            let looked = most.saturating_sub(left).saturating_add(made);
             spend(alloc, of_view, parts, looked);
             Ok(answer)
         }
-        Err(Memory) => {
-            if metered.left > 0 {
-                return Err(AskFault::Memory);
-            }
-            search_far(alloc, of_view, parts, target, wanted, uid)
-        }
+        Err(LookFault::Memory) => Err(AskFault::Memory),
+        Err(LookFault::Spent) => search_far(alloc, of_view, parts, target, wanted, uid),
     }
 }
 
@@ -238,6 +235,7 @@ fn find_first(
     ensures sum { IfOk result (λ a. a.sum ≡ amount_of a.paths) }
     ensures memory { OnErr result (result ≡ Err AskFault.Memory) }
     ensures right { AreAllRight parts.now.keyring.now answers.new.entries }
+    ensures others { KeepsFor view.now answers.old.entries answers.new.entries }
 {
     let mut of_view = Answers::new(alloc);
     let found = find(alloc, &mut of_view, parts, target, wanted, uid, made);
@@ -264,6 +262,7 @@ fn find_any(
     ensures sum { IfOk result (λ a. a.sum ≡ amount_of a.paths) }
     ensures memory { OnErr result (result ≡ Err AskFault.Memory) }
     ensures right { AreAllRight parts.now.keyring.now answers.new.entries }
+    ensures others { KeepsFor view.now answers.old.entries answers.new.entries }
 {
     match answers.get_mut(view) {
         Some(of_view) => find(alloc, of_view, parts, target, wanted, uid, made),
@@ -290,6 +289,7 @@ pub fn answer(
     ensures told { IfOk result (λ a. IsTold (asked_of parts.now target.now uid.now) wanted a) }
     ensures memory { OnErr result (result ≡ Err AskFault.Memory) }
     ensures right { AreAllRight parts.now.keyring.now answers.new.entries }
+    ensures others { KeepsFor view.now answers.old.entries answers.new.entries }
 {
     answer_is_one();
     zero_is_no_path();

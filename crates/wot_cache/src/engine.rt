@@ -26,6 +26,7 @@ ghost use Rattle.wot_cache.specs.Turns.{turn_at, IsOneTurn, IsOneClosing};
 ghost use Rattle.wot_cache.specs.Views.{view_at, with_time, time_fault, with_root, root_fault, without_view};
 ghost use Rattle.wot_cache.specs.Views.{TellsFault, TellsOpen};
 
+mod keeping;
 mod load;
 mod resting;
 

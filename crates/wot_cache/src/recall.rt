@@ -3,7 +3,8 @@ ghost use Rattle.std.specs.Prelude.{◌≡◌, IfOk};
 ghost use Rattle.std.specs.Map.{remove_entry};
 ghost use Rattle.wot_edge.specs.Answer.{IsAnswer, amount_of};
 ghost use Rattle.wot_keyring.specs.Keyring.{Keyring as Held};
-ghost use Rattle.wot_cache.specs.Answers.{AreAllRight, AreRightIn, IsFound, IsRight};
+ghost use Rattle.wot_cache.specs.Answers.{AreAllRight, AreRightIn, IsFound, IsRight, KeepsFor};
+ghost use Rattle.wot_cache.specs.Marks.{IsForgotten};
 ghost use Rattle.wot_cache.specs.Question.{asked_of, IsAnswerAround};
 ghost use Rattle.wot_cache.specs.Views.{is_name};
 
@@ -136,6 +137,7 @@ pub fn remember_now(
 fn put(answers: &mut AllAnswers, view: ViewName, of_view: Answers)
     ensures right { (k : Held) → AreAllRight k answers.old.entries → AreRightIn k of_view →
         AreAllRight k answers.new.entries }
+    ensures others { KeepsFor view answers.old.entries answers.new.entries }
 {
     // Without memory nothing is kept.
     let _ = answers.insert(view, of_view);
@@ -145,6 +147,7 @@ fn put(answers: &mut AllAnswers, view: ViewName, of_view: Answers)
 pub fn begin(alloc: Global, answers: &mut AllAnswers, view: &ViewName, of_view: Answers)
     ensures right { (k : Held) → AreAllRight k answers.old.entries → AreRightIn k of_view →
         AreAllRight k answers.new.entries }
+    ensures others { KeepsFor view.now answers.old.entries answers.new.entries }
 {
     match view.duplicate(alloc) {
         Ok(name) => put(answers, name, of_view),
@@ -155,6 +158,7 @@ pub fn begin(alloc: Global, answers: &mut AllAnswers, view: &ViewName, of_view: 
 /// Forgets the answers of a view.
 pub fn forget(answers: &mut AllAnswers, view: &ViewName)
     ensures forgotten { answers.new.entries ≡ remove_entry (is_name view.now) answers.old.entries }
+    ensures gone { IsForgotten view.now answers.old.entries answers.new.entries }
 {
     let _ = answers.remove(view);
 }

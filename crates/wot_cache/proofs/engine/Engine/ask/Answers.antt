@@ -3,7 +3,7 @@ use Rattle.std.proofs.lemmas.Result.{err_from_is_err_and}
 use Rattle.wot_cache.specs.Marks.{marks_in}
 use Rattle.wot_cache.specs.Views.{view_at}
 use Rattle.wot_cache.proofs.Asking.{few_seen, if_ok, if_some, present_seen, right_kept, right_seen, seen_after, told_seen}
-use Rattle.wot_cache.proofs.Marking.{engine_after, err_less, left, made_as}
+use Rattle.wot_cache.proofs.Marking.{answered_open, engine_after, err_less, left, made_as}
 use Rattle.wot_cache.proofs.engine.Engine.ask.Goals as goal
 
 pub answer-requires : goal.answer-requires
@@ -107,6 +107,8 @@ invariant_of-self-2 c =
       within = after.within;
       fit = after.fit;
       of_open = after.of_open;
+      answered = answered_open _ c.refresh.new.self.views.entries c.self.inside.answers.entries c.answer.new.answers.entries name
+          c.parts-parts.ensures.parts c.answer.ensures.others after.answered;
       right = right_kept c.args.self.now k c.refresh.new.self.keyring views name p c.answer.new.answers.entries c.self.view_is c.refresh.ensures.keyring seen c.answer.ensures.right;
       turned = after.turned;
     }

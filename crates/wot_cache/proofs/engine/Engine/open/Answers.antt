@@ -25,6 +25,8 @@ invariant_of-self-in-Ok c =
       right = c.self.invariant.right;
       of_open = opened_open views c.open.new.views.entries c.self.inside.networked.networks.entries name _ c.open.result
           c.open.ensures.opened c.open.ensures.kept c.self.invariant.of_open;
+      answered = opened_open views c.open.new.views.entries c.self.inside.answers.entries name _ c.open.result
+          c.open.ensures.opened c.open.ensures.kept c.self.invariant.answered;
       turned = subst (λ (vs : Views). AreTurnsOf vs c.begin.new.self) (sym c.in-Ok.ensures.opened)
           (subst (λ (ts : Turns). AreTurnsOf more ts) (sym (c.in_ok-begin.ensures.begun ∙ ap (λ (n : List ℕ). turned n c.self.inside.turns) c.in_ok-duplicate.ensures.equal)) (opened_turns views c.self.inside.turns name view none c.self.invariant.turned));
     }

@@ -16,6 +16,8 @@ invariant_of-self c = record {
   right = rw c.forget-2.ensures.forgotten (all_right_without c.self.inside.networked.keyring c.self.inside.answers.entries c.args.view.now c.self.invariant.right);
   of_open = closed_open c.self.inside.networked.views.entries c.close.new.views.entries c.self.inside.networked.networks.entries c.forget.new.networks.entries
       c.args.view.now c.close.ensures.gone c.forget.ensures.gone c.self.invariant.of_open;
+  answered = closed_open c.self.inside.networked.views.entries c.close.new.views.entries c.self.inside.answers.entries c.forget-2.new.answers.entries
+      c.args.view.now c.close.ensures.gone c.forget-2.ensures.gone c.self.invariant.answered;
   turned = closed_turns c.self.inside.networked.views.entries c.close.new.views.entries c.self.inside.turns c.forget-3.new.self c.args.view.now c.close.ensures.gone c.forget-3.ensures.gone c.self.invariant.turned;
 }
 

@@ -21,6 +21,8 @@ invariant_of-self-2 c = record {
   right = c.self.invariant.right;
   of_open = set_open c.self.inside.networked.views.entries c.set_amount.new.views.entries c.self.inside.networked.networks.entries c.args.view.now c.args.fpr.now
       c.args.amount c.set_amount.result c.set_amount.ensures.set c.set_amount.ensures.kept c.self.invariant.of_open;
+  answered = set_open c.self.inside.networked.views.entries c.set_amount.new.views.entries c.self.inside.answers.entries c.args.view.now c.args.fpr.now
+      c.args.amount c.set_amount.result c.set_amount.ensures.set c.set_amount.ensures.kept c.self.invariant.answered;
   turned = subst (λ (ts : Turns). AreTurnsOf c.set_amount.new.views.entries ts) (sym c.raise.ensures.raised)
       (rooted_turns c.self.inside.networked.views.entries c.set_amount.new.views.entries c.self.inside.turns c.args.view.now c.args.fpr.now c.args.amount
       c.in_ok-set_amount.ensures.set c.self.invariant.turned);

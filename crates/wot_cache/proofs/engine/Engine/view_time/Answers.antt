@@ -21,6 +21,8 @@ invariant_of-self c =
       right = c.self.invariant.right;
       of_open = moved_open c.self.inside.networked.views.entries c.move_time.new.views.entries c.self.inside.networked.networks.entries c.args.view.now c.args.t
           c.move_time.result c.move_time.ensures.moved c.self.invariant.of_open;
+      answered = moved_open c.self.inside.networked.views.entries c.move_time.new.views.entries c.self.inside.answers.entries c.args.view.now c.args.t
+          c.move_time.result c.move_time.ensures.moved c.self.invariant.answered;
       turned = subst (λ (ts : Turns). AreTurnsOf c.move_time.new.views.entries ts) (sym c.raise.ensures.raised)
           (moved_turns c.self.inside.networked.views.entries c.move_time.new.views.entries c.self.inside.turns c.args.view.now c.args.t moves c.self.invariant.turned);
     }
