@@ -75,7 +75,7 @@ pub fn authenticate_metered<R: Roads>(
     ensures local { IfOk result (IsAnswerOfAgreeing (asks (R.told roads.now uid.now) roots.now target.now) wanted
         metered.new.consulted) }
 
-    // One look more than was left is asked for exactly where the answer is `Spent`.
+    // An error is `Spent` exactly if one look more than was left was asked for.
     ensures spent { result ≡ Err LookFault.Spent → metered.new.left ≡ None }
     ensures wanting { result ≡ Err LookFault.Memory → is_some metered.new.left ≡ true }
     ensures grows { Grows metered.old.consulted metered.new.consulted }
