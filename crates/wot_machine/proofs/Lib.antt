@@ -38,6 +38,4 @@ mod StaleTold
 mod Telling
 mod Worth
 mod Settling
-mod Asking
-mod Judging
 mod GoingOn
