@@ -1,5 +1,6 @@
-"""A server of Tukyamid on a Unix socket: many clients share one keyring, and engines behind it answer them.
+"""The service: it keeps certificates and verdicts in a database, and serves many clients on a Unix socket.
 
-`service` is the server; `session` is one client's connection; `hub` has the engines and sends lines to them; `engine`
-is one of them, kept running; `journal` is what a new one needs to stand where another stood.
+`service` has the sockets and the clients, and `session` is one client. `hub` has the engines and sends lines to them;
+`engine` is one of them, kept running. `committing` takes changes to the `database`, which `sqlite` keeps in a file, and
+`journal` has what a new engine needs to stand where another stood. `starting` is what a command calls to have it run.
 """

@@ -1,81 +1,233 @@
 """The command `tukyamid-server`."""
 
+from __future__ import annotations
+
 import argparse
 import asyncio
 import contextlib
 import os
 import sys
+from collections.abc import Callable, Coroutine, Sequence
 from pathlib import Path
 
 from tukyamid.engine import find_program
+from tukyamid.keyring import find_verifier
 
+from .database import DatabaseFault
+from .directory import Directory
+from .dumps import import_dump, lines_of, restore
+from .engine import pieces
 from .hub import Hub
-from .service import Service, made_socket, passed_socket, read_dump
+from .keyrings import Keyrings
+from .places import Lock, beside, default_database, default_directory
+from .service import Door, Service, Settings
+from .sockets import Listening, passed_sockets
+from .sqlite import Sqlite
+from .whole import write_whole
 
 ENDED, FAILED = 0, 1
+_DESCRIPTION = """Keeps certificates and verdicts in a database, and serves the lines of Tukyamid's protocol to many clients
+on a Unix socket. Without a command it serves."""
+_EPILOG = """Exit status: 0 done, or ended by SIGTERM, SIGINT or for want of clients; 1 an engine, a socket or the
+database failed, or the database is damaged; 2 wrong words."""
 
 
-def parser():
-    words = argparse.ArgumentParser(
-        prog="tukyamid-server",
-        description="Many clients, one keyring: serves the lines of Tukyamid's protocol on a Unix socket.",
-        epilog="Exit status: 0 ended by SIGTERM or SIGINT, 1 an engine, the socket or the dump failed, 2 wrong words. "
-               "SIGHUP has the dump written at once.")
-    words.add_argument("--socket", metavar="PATH", help="where to listen; not needed where systemd passes a socket")
-    words.add_argument("--mode", metavar="OCTAL", type=lambda text: int(text, 8), default=0o600,
-                       help="the socket's permissions; whoever may connect may change verdicts (600)")
-    words.add_argument("--dump", metavar="FILE", help="is read at the start where it is there, and written at the end")
-    words.add_argument("--engines", metavar="N", type=_count, default=len(os.sched_getaffinity(0)),
-                       help="start up to N engines for the first views (as many as processors)")
-    words.add_argument("--most-engines", metavar="N", type=_count, default=None,
-                       help="start up to N engines for more views, 16 each (16, or as many as --engines)")
-    words.add_argument("--views", metavar="N", type=_count, default=256, help="the most views of one client (256)")
-    words.add_argument("--patience", metavar="SECONDS", type=_seconds, default=60.0,
-                       help="drop a client that reads nothing of its replies for so long (60)")
-    words.add_argument("--engine", metavar="PROGRAM", help="the engine's program")
-    words.add_argument("--order", metavar="FILE", help="write down which client's line was sent after which")
+def parser() -> argparse.ArgumentParser:
+    words = argparse.ArgumentParser(prog="tukyamid-server", description=_DESCRIPTION, epilog=_EPILOG)
+    commands = words.add_subparsers(dest="command", metavar="COMMAND", required=True)
+    for name, (call, told) in COMMANDS.items():
+        one = commands.add_parser(name, help=told, description=told.capitalize() + ".")
+        one.set_defaults(call=call)
+        one.add_argument("--database", metavar="FILE", type=Path, default=None,
+                         help="the database (keyring.db in the user's data folder)")
+        if name in ("serve", "import-dump"):
+            one.add_argument("--engine", metavar="PROGRAM", help="the engine's program")
+        if name == "serve":
+            _add_words_of_serve(one)
+        elif name != "check":
+            one.add_argument("file", metavar="FILE", type=Path, help=FILES[name])
     return words
 
 
-def _count(text):
+def _add_words_of_serve(words: argparse.ArgumentParser) -> None:
+    words.add_argument("--socket", metavar="PATH", type=Path,
+                       help="where to listen; not needed where systemd passes a socket")
+    words.add_argument("--mode", metavar="OCTAL", type=_mode, default=0o600,
+                       help="the socket's permissions; whoever may connect may change verdicts (600)")
+    words.add_argument("--read-only-socket", metavar="PATH", type=Path,
+                       help="listen here too, for clients that may ask and change nothing")
+    words.add_argument("--read-only-mode", metavar="OCTAL", type=_mode, default=0o666,
+                       help="the permissions of that socket (666)")
+    words.add_argument("--idle", metavar="SECONDS", type=_seconds, default=None,
+                       help="end when nobody has been connected for so long (never)")
+    words.add_argument("--engines", metavar="N", type=_count, default=len(os.sched_getaffinity(0)),
+                       help="run up to N engines, more than one only while there is much to do (as many as processors)")
+    words.add_argument("--views", metavar="N", type=_count, default=256, help="the most views of one client (256)")
+    words.add_argument("--patience", metavar="SECONDS", type=_seconds, default=60.0,
+                       help="drop a client that reads nothing of its replies for so long (60)")
+    words.add_argument("--directory", metavar="FOLDER", type=Path, default=None,
+                       help="the certificate directory of load and store (pgp.cert.d in the user's data folder)")
+    words.add_argument("--verifier", metavar="PROGRAM", help="the program wot-verdicts")
+    words.add_argument("--order", metavar="FILE", help="write down which client's line was sent after which")
+
+
+def _mode(text: str) -> int:
+    mode = int(text, 8)
+    if not 0 <= mode <= 0o7777:
+        raise ValueError
+    return mode
+
+
+def _count(text: str) -> int:
     number = int(text)
     if number < 1:
         raise ValueError
     return number
 
 
-def _seconds(text):
+def _seconds(text: str) -> float:
     seconds = float(text)
     if not 0 < seconds < float("inf"):
         raise ValueError
     return seconds
 
 
-async def serve(given, listening):
-    dump = read_dump(given.dump) if given.dump else b""
-    program = [*([given.engine] if given.engine else find_program()), "run"]
-    most_engines = max(given.most_engines or 16, given.engines)
-    with open(given.order, "wb") if given.order else contextlib.nullcontext() as order:
-        hub = Hub(program, given.engines, most_engines, dump, order)
-        await Service(hub, given.dump, given.patience, given.views).serve(listening)
+def _program(given: argparse.Namespace) -> list[str]:
+    return [given.engine] if given.engine else [str(word) for word in find_program()]
 
 
-def main(words=None):
-    reader = parser()
-    given = reader.parse_args(words)
-    made = None
-    try:
-        listening = passed_socket()
-        if listening is None:
-            if given.socket is None:
-                reader.error("--socket is missing, and no socket was passed on")
-            listening = made_socket(given.socket, given.mode)
-            made = Path(given.socket)
-        asyncio.run(serve(given, listening))
-    except (OSError, ValueError) as error:
-        print(f"tukyamid-server: {error}", file=sys.stderr)
-        return FAILED
-    finally:
-        if made is not None:
-            made.unlink(missing_ok=True)
+def _database(given: argparse.Namespace) -> Path:
+    return Path(given.database).absolute() if given.database else default_database()
+
+
+def _locked(path: Path) -> Lock:
+    path.parent.mkdir(mode=0o700, parents=True, exist_ok=True)
+    return Lock(beside(path, ".lock"))
+
+
+def _verifier(given: argparse.Namespace) -> Callable[[], Sequence[str]]:
+    return lambda: [given.verifier] if given.verifier else [str(word) for word in find_verifier()]
+
+
+def serve(given: argparse.Namespace) -> int:
+    path = _database(given)
+    with contextlib.ExitStack() as stack:
+        doors = _doors(given, stack)
+        stack.enter_context(_locked(path))
+        database = stack.enter_context(contextlib.closing(Sqlite(path)))
+        order = stack.enter_context(open(given.order, "ab", buffering=0)) if given.order else None
+        settings = Settings(given.patience, given.idle, given.views)
+
+        async def run() -> None:
+            hub = Hub([*_program(given), "run"], given.engines, database, order)
+            directory = Directory([*_program(given), "run"], (given.directory or default_directory()).absolute())
+            await Service(hub, Keyrings(hub, _verifier(given)), directory, settings).serve(doors)
+
+        _run(run)
     return ENDED
+
+
+def _doors(given: argparse.Namespace, stack: contextlib.ExitStack) -> list[Door]:
+    doors = [Door(passed, may_change) for passed, may_change in passed_sockets()]
+    for path, mode, may_change in ((given.socket, given.mode, True),
+                                   (given.read_only_socket, given.read_only_mode, False)):
+        if path is not None:
+            listening = Listening(path.absolute(), mode)
+            stack.callback(listening.close)
+            doors.append(Door(listening, may_change))
+    if not doors:
+        raise WrongWords("--socket is missing, and no socket was passed on")
+    return doors
+
+
+def _run(main_task: Callable[[], Coroutine[None, None, None]]) -> None:
+    """Runs the loop of uvloop, where that is installed, since it is the quicker one."""
+    try:
+        from uvloop import new_event_loop
+    except ImportError:
+        asyncio.run(main_task())
+        return
+    with asyncio.Runner(loop_factory=new_event_loop) as runner:
+        runner.run(main_task())
+
+
+def check(given: argparse.Namespace) -> int:
+    with contextlib.closing(Sqlite(_database(given), is_made=False)) as database:
+        wrong = database.check()
+    for text in wrong:
+        _tell(f"{_database(given)}: {text}")
+    return FAILED if wrong else ENDED
+
+
+def backup(given: argparse.Namespace) -> int:
+    with contextlib.closing(Sqlite(_database(given), is_made=False)) as database:
+        database.backup(given.file)
+    return ENDED
+
+
+def restore_from(given: argparse.Namespace) -> int:
+    path = _database(given)
+    with _locked(path):
+        aside = restore(path, given.file)
+    if aside is not None:
+        _tell(f"the database was damaged, and is {aside} now")
+    return ENDED
+
+
+def import_from(given: argparse.Namespace) -> int:
+    path = _database(given)
+    with _locked(path), contextlib.closing(Sqlite(path)) as database, contextlib.ExitStack() as stack:
+        is_input = str(given.file) == "-"
+        script = sys.stdin.buffer if is_input else stack.enter_context(open(given.file, "rb"))
+        import_dump(database, script, "standard input" if is_input else str(given.file), _program(given))
+    return ENDED
+
+
+def export_to(given: argparse.Namespace) -> int:
+    with contextlib.closing(Sqlite(_database(given), is_made=False)) as database:
+        script = pieces(lines_of(database))
+        if str(given.file) == "-":
+            for piece in script:
+                sys.stdout.buffer.write(piece)
+            sys.stdout.flush()
+        else:
+            write_whole(given.file, script)
+    return ENDED
+
+
+COMMANDS: dict[str, tuple[Callable[[argparse.Namespace], int], str]] = {
+    "serve": (serve, "serve clients"),
+    "check": (check, "say what is wrong with the database, if anything"),
+    "backup": (backup, "copy the database, also while the service runs"),
+    "restore": (restore_from, "put a copy into the place of the database; no service may run on it"),
+    "import-dump": (import_from, "merge a script of the engine with the database; no service may run on it"),
+    "export-dump": (export_to, "write the database as a script of the engine, also while the service runs"),
+}
+FILES = {"backup": "where the copy goes", "restore": "a copy that backup made",
+         "import-dump": "the script, as dump prints it; - is standard input",
+         "export-dump": "where the script goes; - is standard output"}
+
+
+class WrongWords(Exception):
+    """The words of the command are wrong; the text says why."""
+
+
+def _tell(text: object) -> None:
+    print(f"tukyamid-server: {text}", file=sys.stderr)
+
+
+def main(words: Sequence[str] | None = None) -> int:
+    reader = parser()
+    given_words = list(sys.argv[1:] if words is None else words)
+    if not given_words or given_words[0] not in (*COMMANDS, "-h", "--help"):
+        given_words.insert(0, "serve")
+    given = reader.parse_args(given_words)
+    try:
+        return int(given.call(given))
+    except WrongWords as error:
+        reader.error(str(error))
+    except DatabaseFault as fault:
+        _tell(fault)
+    except (OSError, ValueError) as error:
+        _tell(f"{error.filename}: {error.strerror}" if isinstance(error, OSError) and error.filename else error)
+    return FAILED

@@ -1,11 +1,17 @@
-"""One engine behind the server, started again whenever its program ends."""
+"""One engine behind the service, started again whenever its program ends."""
+
+from __future__ import annotations
 
 import asyncio
 import contextlib
 from collections import deque
+from collections.abc import Iterator, Sequence
+from typing import Protocol
 
+from .feeding import NO_COMMAND, Feed
 from .framing import ReplyCutter
-from .views import Views
+from .journal import Change, Done, Journal, Point
+from .standing import Hear, Standing, Watch
 
 _PIECE = 1 << 18
 _TRIES = 3
@@ -13,70 +19,96 @@ _LONGEST_PAUSE = 5.0
 _LONGEST_WAIT = 10.0
 
 
-_NO_COMMAND = b"?"
+class Home(Protocol):
+    """What an engine tells the hub."""
+
+    def tell(self, text: str) -> None: ...
+
+    def withdraw_where_all_are_stuck(self, change: Change) -> None: ...
 
 
 class Sent:
     """A line that waits for its reply: `done` is called with it, or with None where the line was given up. `change` is
-    the change of the keyring that it makes, `watch` the watch that it begins, if any."""
-    __slots__ = ("line", "done", "change", "watch")
+    the change of the keyring that it makes, `watch` the watch that it begins, if any. The reply to an inner line goes
+    to nobody outside, so it needn't wait until it rests on what was committed."""
+    __slots__ = ("line", "done", "change", "watch", "is_inner", "since")
 
-    def __init__(self, line, done, change, watch):
+    def __init__(self, line: bytes, done: Done, change: Change | None, watch: Watch | None, is_inner: bool,
+                 since: float) -> None:
         self.line = line
         self.done = done
         self.change = change
         self.watch = watch
+        self.is_inner = is_inner
+        self.since = since
 
 
-class Watch:
-    """A watch of the program: its line, what it was last told, and who hears that."""
-    __slots__ = ("line", "told", "hear")
+class Held:
+    """A reply, or what a watch is told, that rests on a change that isn't committed yet."""
+    __slots__ = ("point", "sent", "reply", "watch")
 
-    def __init__(self, line, hear):
-        self.line = line
-        self.told = b""
-        self.hear = hear
+    def __init__(self, point: Point, sent: Sent | None, reply: bytes, watch: Watch | None) -> None:
+        self.point = point
+        self.sent = sent
+        self.reply = reply
+        self.watch = watch
+
+
+def ignore(reply: bytes | None, count: int) -> None:
+    """For a line whose reply nobody wants."""
 
 
 class Engine:
     """Sends lines to a program in their order. Where the program ends, another one is brought to where it stood, by
-    the journal and the views, and is sent again what wasn't answered: so nobody notices anything but time."""
+    the journal and what it held beside that, and is sent again what wasn't answered: so nobody notices anything but
+    time. A reply is handed on once all changes that it rests on are committed."""
 
-    def __init__(self, program, journal, hub):
-        self.place = journal.end
+    def __init__(self, program: Sequence[str], journal: Journal, home: Home, point: Point) -> None:
+        self.point = point
         self.seats = 0
-        self.waiting = deque()
-        self.stuck = None
-        self.ready = asyncio.get_running_loop().create_future()
+        self.waiting: deque[Sent] = deque()
+        self.stuck: Change | None = None
+        loop = asyncio.get_running_loop()
+        self._now = loop.time
+        self.ready: asyncio.Future[None] = loop.create_future()
         self._program = program
         self._journal = journal
-        self._hub = hub
-        self._views = Views()
-        self._watches = {}
-        self._fed_watches = deque()
-        self._process = None
-        self._is_live = False
+        self._home = home
+        self._standing = Standing()
+        self._held: deque[Held] = deque()
+        self._feed: Feed | None = None
+        self._process: asyncio.subprocess.Process | None = None
+        self._stdin: asyncio.StreamWriter | None = None
         self._closing = asyncio.Event()
-        self._feed_left = 0
         self._failures = 0
-        self._task = asyncio.create_task(self._keep_running())
+        self._is_rolled_back = False
+        self._task = loop.create_task(self._keep_running())
 
-    def send_watch(self, line, done, hear):
+    @property
+    def pid(self) -> int | None:
+        return self._process.pid if self._process is not None and self._process.returncode is None else None
+
+    def lag(self) -> float:
+        """How long the first waiting line has waited, in seconds."""
+        return self._now() - self.waiting[0].since if self.waiting else 0.0
+
+    def send_watch(self, line: bytes, done: Done, hear: Hear) -> None:
         """Sends a line `watch NAME on ..`. `hear` is called with each line that the watch is told behind later lines. A
         line that is no command stands before it: so what is told behind earlier ones isn't taken for its reply."""
-        self.send(_NO_COMMAND, lambda reply: None)
+        self.send(NO_COMMAND, ignore, is_inner=True)
         self.send(line, done, watch=Watch(line, hear))
 
-    def send(self, line, done, change=None, watch=None):
-        self.waiting.append(Sent(line, done, change, watch))
-        if self._is_live and not self._process.stdin.is_closing():
-            self._process.stdin.write(line + b"\n")
+    def send(self, line: bytes, done: Done, change: Change | None = None, watch: Watch | None = None,
+             is_inner: bool = False) -> None:
+        self.waiting.append(Sent(line, done, change, watch, is_inner, self._now()))
+        if self._stdin is not None and not self._stdin.is_closing():
+            self._stdin.write(line + b"\n")
 
-    async def close(self):
+    async def close(self) -> None:
         """Ends the program's input and waits for its end."""
         self._closing.set()
-        if self._is_live:
-            self._process.stdin.close()
+        if self._stdin is not None:
+            self._stdin.close()
         else:
             self._kill()
         done, _ = await asyncio.wait([self._task], timeout=_LONGEST_WAIT)
@@ -84,17 +116,43 @@ class Engine:
             self._kill()
             await asyncio.wait([self._task])
 
-    def give_up_first(self):
+    def give_up_first(self) -> Sent:
         """Takes the first waiting line away; nobody has answered it."""
         sent = self.waiting.popleft()
         if sent.change is not None:
-            self.place = sent.change.place
+            self.point = sent.change
         self.stuck = None
         self._failures = 0
         return sent
 
-    async def _keep_running(self):
+    def release(self) -> None:
+        """Hands on what rests on committed changes alone."""
+        while self._held and self._held[0].point.count is not None:
+            self._hand_on(self._held.popleft())
+
+    def roll_back(self, point: Point) -> None:
+        """All changes behind this point are none. What rests on them is asked for once more."""
+        again = []
+        for held in self._held:
+            if held.sent is None:
+                continue
+            if held.reply == b"ok\n":
+                self._hand_on(Held(point, held.sent, held.reply, None))
+            else:
+                self._standing.take_back(held.sent.line, held.reply)
+                again.append(held.sent)
+        self._held.clear()
+        for watch in self._standing.watches.values():
+            watch.told = watch.heard
+        self.waiting = deque([*again, *(sent for sent in self.waiting if sent.change is None)])
+        self.point, self.stuck = point, None
+        self._is_rolled_back = True
+        self._stdin = None
+        self._kill()
+
+    async def _keep_running(self) -> None:
         while not self._closing.is_set():
+            status: object
             try:
                 status = await self._run()
             except OSError as error:
@@ -102,128 +160,167 @@ class Engine:
                 status = error
             if self._closing.is_set():
                 return
-            self._failures += 1
-            self._hub.tell(f"an engine ended with status {status}; another takes its place")
-            if self._failures >= _TRIES:
-                self._fail(OSError(f"the engine's program ends at once, with status {status}"))
-                self._suspect_first()
-            if self._failures > 1:
-                await self._pause(min(0.05 * 2**self._failures, _LONGEST_PAUSE))
+            if self._is_rolled_back:
+                self._is_rolled_back = False
+                continue
+            await self._take_end(status)
 
-    async def _pause(self, seconds):
-        with contextlib.suppress(TimeoutError):
-            await asyncio.wait_for(self._closing.wait(), seconds)
+    async def _take_end(self, status: object) -> None:
+        self._failures += 1
+        self._home.tell(f"an engine ended with status {status}; another takes its place")
+        if self._failures >= _TRIES:
+            self._fail(OSError(f"the engine's program ends at once, with status {status}"))
+            self._suspect_first()
+        if self._failures > 1:
+            with contextlib.suppress(TimeoutError):
+                await asyncio.wait_for(self._closing.wait(), min(0.05 * 2**self._failures, _LONGEST_PAUSE))
 
-    def _kill(self):
+    def _kill(self) -> None:
         if self._process is not None and self._process.returncode is None:
             with contextlib.suppress(ProcessLookupError):
                 self._process.kill()
 
-    async def _run(self):
+    async def _run(self) -> object:
         """Runs one program to its end, and gives its status."""
-        self._fed_watches = deque(self._watches)
-        watches = [watch.line for watch in self._watches.values()]
-        lines = [*self._journal.lines(self.place), *self._views.lines(), *watches]
-        self._feed_left = len(lines)
+        count, lines = self._journal.lines(self.point.place)
+        feed = self._feed = Feed(count, list(self._standing.lines()), self._standing.watches)
         process = self._process = await asyncio.create_subprocess_exec(
             *self._program, stdin=asyncio.subprocess.PIPE, stdout=asyncio.subprocess.PIPE, limit=_PIECE)
-        if self._closing.is_set():
+        assert process.stdin is not None and process.stdout is not None
+        if self._closing.is_set() or self._is_rolled_back:
             self._kill()
-        feeding = asyncio.create_task(self._feed(lines))
+        feeding = asyncio.get_running_loop().create_task(self._bring(lines, feed.behind, process.stdin))
         try:
-            await self._read()
-            self._is_live = False
+            await self._read(process.stdout)
+            self._stdin = None
             process.stdin.close()
-            return await asyncio.wait_for(process.wait(), _LONGEST_WAIT)
+            status = await asyncio.wait_for(process.wait(), _LONGEST_WAIT)
+            with contextlib.suppress(ConnectionError):
+                await process.stdin.wait_closed()
+            return status
         except TimeoutError:
             return "none, but without its output"
         finally:
-            self._is_live = False
+            self._stdin = None
             feeding.cancel()
             self._kill()
 
-    async def _feed(self, lines):
+    async def _bring(self, lines: Iterator[bytes], behind: list[bytes], stdin: asyncio.StreamWriter) -> None:
         """Brings a fresh program to where the last one stood, and sends it what waits."""
-        stdin = self._process.stdin
         try:
-            for start in range(0, len(lines), 512):
-                stdin.write(b"".join(line + b"\n" for line in lines[start:start + 512]))
+            for piece in pieces(lines):
+                stdin.write(piece)
                 await stdin.drain()
         except ConnectionError:
             return  # The program has ended, which the reading of its output meets.
         # From here to the end nothing else runs, so no line comes between.
-        for sent in self.waiting:
-            stdin.write(sent.line + b"\n")
-        self._is_live = True
+        stdin.write(b"".join(line + b"\n" for line in behind))
+        stdin.write(b"".join(sent.line + b"\n" for sent in self.waiting))
+        if not self._is_rolled_back:
+            self._stdin = stdin
         self._become_ready()
 
-    async def _read(self):
+    async def _read(self, stdout: asyncio.StreamReader) -> None:
         cutter = ReplyCutter()
-        while octets := await self._process.stdout.read(_PIECE):
+        while octets := await stdout.read(_PIECE):
             try:
                 for reply in cutter.cut(octets):
+                    if self._is_rolled_back:
+                        return
                     self._take(reply)
             except (ValueError, IndexError) as error:
-                self._hub.tell(f"an engine wrote what is no reply: {error!r}")
+                self._home.tell(f"an engine wrote what is no reply: {error!r}")
                 return
 
-    def _take(self, reply):
-        if self._feed_left:
-            self._feed_left -= 1
-            if self._feed_left < len(self._fed_watches):
-                self._take_fed_watch(self._fed_watches.popleft(), reply)
-            elif not reply.startswith(b"ok") and not self.place:
-                self._fail(ValueError(f"a line of the dump was answered with {reply[:80]!r}"))
-            self._become_ready()
+    def _take(self, reply: bytes) -> None:
+        if self._feed is not None:
+            self._take_fed(self._feed, reply)
             return
         if reply.startswith(b"watch ") and not (self.waiting and self.waiting[0].watch):
-            self._tell_watch(reply.split(b" ")[1], reply)
+            self._take_told(reply)
             return
         sent = self.waiting.popleft()
         self._failures, self.stuck = 0, None
         if sent.change is not None:
-            self.place = sent.change.place
-        elif reply.startswith(b"watch "):
-            sent.watch.told = reply
-            self._watches[reply.split(b" ")[1]] = sent.watch
-        elif reply == b"ok\n" and sent.line.startswith(b"watch "):
-            self._watches.pop(sent.line.split(b" ")[1], None)
-        elif reply == b"ok\n":
-            self._views.take(sent.line)
-        sent.done(reply)
-
-    def _take_fed_watch(self, name, reply):
-        """A watch has begun anew at the place where another program ended; what that one didn't tell is told."""
-        if name not in self._watches:
+            self.point = sent.change
+            sent.done(reply, 0)
             return
-        if not reply.startswith(b"watch "):
-            reply = b"watch %s gone\n" % name
-        if reply != self._watches[name].told:
-            self._tell_watch(name, reply)
+        if reply.startswith(b"watch ") and sent.watch is not None:
+            sent.watch.told = reply
+            self._standing.watches[reply.split(b" ")[1]] = sent.watch
+        else:
+            self._standing.take(sent.line, reply)
+        if sent.is_inner:
+            sent.done(reply, 0)
+        else:
+            self._hold(Held(self.point, sent, reply, sent.watch))
 
-    def _tell_watch(self, name, reply):
-        watch = self._watches[name]
-        watch.told = reply
+    def _hold(self, held: Held) -> None:
+        if self._held or held.point.count is None:
+            self._held.append(held)
+        else:
+            self._hand_on(held)
+
+    def _hand_on(self, held: Held) -> None:
+        if held.watch is not None:
+            held.watch.heard = held.reply
+        if held.sent is not None:
+            assert held.point.count is not None
+            held.sent.done(held.reply, held.point.count)
+        elif held.watch is not None:
+            held.watch.hear(held.reply)
+
+    def _take_fed(self, feed: Feed, reply: bytes) -> None:
+        fault, told = feed.take(reply)
+        if fault:
+            self._fail(ValueError(fault))
+        if told is not None:
+            self._take_told(told)
+        if not feed.left:
+            self._feed = None
+        self._become_ready()
+
+    def _take_told(self, reply: bytes) -> None:
+        """What a watch is told behind a line of anybody's."""
+        name = reply.split(b" ")[1]
+        watch = self._standing.watches[name]
         if reply.endswith(b" gone\n"):
-            del self._watches[name]
-        watch.hear(reply)
+            del self._standing.watches[name]
+        watch.told = reply
+        self._hold(Held(self.point, None, reply, watch))
 
-    def _become_ready(self):
-        if self._is_live and not self._feed_left and not self.ready.done():
+    def _become_ready(self) -> None:
+        if self._feed is None and self._stdin is not None and not self.ready.done():
             self.ready.set_result(None)
 
-    def _fail(self, error):
-        """Tells whoever waits for the start that it failed."""
+    def _fail(self, error: Exception) -> None:
+        """The first program never came to stand; whoever waits for that gets this error."""
         if not self.ready.done():
             self.ready.set_exception(error)
-            self.ready.exception()  # Nobody may be waiting.
+            self.ready.exception()  # Where nobody waits, it is told all the same.
 
-    def _suspect_first(self):
-        """Several programs have ended one after another without answering the first of the waiting lines."""
-        if self._feed_left or not self.waiting:
+    def _suspect_first(self) -> None:
+        """Gives up the line at which program after program ended. A change that another engine answered is no such
+        line: it was made, and is tried again."""
+        if not self.waiting:
             return
-        if self.waiting[0].change is None:
-            self.give_up_first().done(None)
+        change = self.waiting[0].change
+        if change is None:
+            self.give_up_first().done(None, 0)
         else:
-            self.stuck = self.waiting[0].change
-            self._hub.withdraw_where_all_are_stuck(self.stuck)
+            self.stuck = change
+            self._home.withdraw_where_all_are_stuck(change)
+
+
+def pieces(lines: Iterator[bytes]) -> Iterator[bytes]:
+    """These lines with their line feeds, in pieces that are worth a write each."""
+    piece: list[bytes] = []
+    size = 0
+    for line in lines:
+        piece += line, b"\n"
+        size += len(line) + 1
+        if size >= _PIECE:
+            yield b"".join(piece)
+            piece, size = [], 0
+    if piece:
+        yield b"".join(piece)

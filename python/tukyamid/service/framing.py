@@ -1,26 +1,34 @@
 """How octets are cut: what a client sends into lines, and what an engine writes into replies."""
 
+from collections.abc import Iterator
+
 from tukyamid.engine import LONGEST_LINE
+
+_LISTS = frozenset((b"keys", b"dump", b"pending", b"list", b"piece"))
 
 
 class LineCutter:
     """Cuts octets into lines as they come. A line of too many octets is passed over, and None stands for it."""
 
-    def __init__(self, longest=LONGEST_LINE):
+    def __init__(self, longest: float = LONGEST_LINE) -> None:
         self._longest = longest
-        self._pieces = []
+        self._pieces: list[bytes] = []
         self._length = 0
 
-    def cut(self, octets):
+    def cut(self, octets: bytes) -> Iterator[bytes | None]:
         """The lines that end within these octets, without their line feeds."""
         *ends, rest = octets.split(b"\n")
         for piece in ends:
+            if not self._length and len(piece) <= self._longest:
+                yield piece
+                continue
             self._hold(piece)
             yield b"".join(self._pieces) if self._length <= self._longest else None
             self._pieces, self._length = [], 0
-        self._hold(rest)
+        if rest:
+            self._hold(rest)
 
-    def _hold(self, piece):
+    def _hold(self, piece: bytes) -> None:
         self._length += len(piece)
         if self._length <= self._longest:
             self._pieces.append(piece)
@@ -31,15 +39,16 @@ class LineCutter:
 class ReplyCutter:
     """Cuts octets into whole replies as they come: one line, or a first line that says how many follow."""
 
-    def __init__(self):
+    def __init__(self) -> None:
         self._lines = LineCutter(longest=float("inf"))
-        self._reply = []
+        self._reply: list[bytes] = []
         self._items = 0
         self._paths = 0
 
-    def cut(self, octets):
+    def cut(self, octets: bytes) -> Iterator[bytes]:
         """The replies that end within these octets, with their line feeds."""
         for line in self._lines.cut(octets):
+            assert line is not None
             self._reply.append(line)
             if self._items:
                 self._items -= 1
@@ -54,12 +63,12 @@ class ReplyCutter:
                 self._reply = []
 
 
-def following(first):
+def following(first: bytes) -> tuple[int, int]:
     """How many lines, and how many paths with lines of their own, follow the first line of a reply."""
-    words = first.split(b" ")
+    words = first.split(b" ", 4)
     if words[0] == b"amount":
         return 0, int(words[3])
-    if words[0] in (b"keys", b"dump", b"pending", b"list"):
+    if words[0] in _LISTS:
         return int(words[1]), 0
     if words[0] == b"explain":
         return int(words[2]), 0

@@ -1,118 +1,194 @@
 """All engines over one keyring, and which line goes where."""
 
+from __future__ import annotations
+
 import asyncio
 import sys
+from collections.abc import Callable, Sequence
+from concurrent.futures import ThreadPoolExecutor
 from functools import partial
+from typing import BinaryIO, TypeVar
 
+from .committing import FAULT, Barrier, Committer
+from .database import Actor, Database, Finder, PutCertificate, Snapshot
 from .engine import Engine
-from .journal import Journal
-from .views import without_views
+from .journal import Change, Done, Journal, Point
+from .reading import fingerprints
+from .seats import Seats
 
-VIEWS_OF_AN_ENGINE = 16
+_BUSY_SECONDS = 0.05
+_R = TypeVar("_R")
 
 
 class Hub:
     """Sends every change to all engines in one order, and a question to one of them. Nothing here waits: a line's place
     in the order is the moment at which it is handed in."""
 
-    def __init__(self, program, processors, most_engines, dump=b"", order=None):
-        self.engines = []
+    def __init__(self, program: Sequence[str], most_engines: int, database: Database,
+                 order: BinaryIO | None = None) -> None:
+        self.engines: list[Engine] = []
+        self.seats = Seats(self._least_busy, self.engines)
+        self.database = database
         self._program = program
-        self._processors = processors
         self._most_engines = most_engines
-        self._journal = Journal(dump)
         self._order = order
+        self._writing = ThreadPoolExecutor(1, "writing")
+        self._reading = ThreadPoolExecutor(1, "reading")
+        self._finder: Finder | None = None
+        self._committer = Committer(database, self._writing, self._release, self._roll_back)
+        self._journal: Journal | None = None
         self._is_renewing = False
 
-    async def start(self):
-        """Starts the first engine, and waits until it has taken the dump; OSError or ValueError where it can't."""
-        engine = self._start_engine()
-        await engine.ready
-        dump = await self.dump_of(engine)
-        if dump is None:
-            raise OSError("the engine's program ends at once")
-        self._journal.offer(0, dump)
-        self._journal.settle(0)
+    @property
+    def fault(self) -> str:
+        """Why nothing can be committed at present; empty where all is well."""
+        return self._committer.fault
 
-    async def close(self):
+    @property
+    def count(self) -> int:
+        """The number of the last change that is committed."""
+        return self._committer.count
+
+    async def start(self) -> None:
+        """Starts the first engine, and waits until it has taken the database; OSError, ValueError or DatabaseFault
+        where it can't."""
+        snapshot = await self.write(self.database.snapshot)
+        self._committer.count = snapshot.change
+        self._journal = Journal(snapshot)
+        await self._start_engine().ready
+
+    async def close(self) -> None:
+        """Ends the engines. What was handed in is answered first, and so is committed."""
         await asyncio.gather(*(engine.close() for engine in self.engines))
+        while self._committer.is_busy:
+            await asyncio.sleep(0.01)
+        if self._finder is not None:
+            self._finder.close()
+        if self._journal is not None:
+            self._journal.close()
+        self._writing.shutdown()
+        self._reading.shutdown()
 
-    def tell(self, text):
+    def tell(self, text: str) -> None:
         print(f"tukyamid-server: {text}", file=sys.stderr, flush=True)
 
-    def note(self, session, line):
+    def note(self, session: int, line: bytes) -> None:
         """Writes down the order of lines, for those who check it."""
         if self._order is not None:
             self._order.write(b"%d %s\n" % (session, line))
 
-    def change(self, line, done):
-        """Sends a change to all engines; `done` gets its reply once all have answered."""
-        change = self._journal.add(line, set(self.engines), done)
+    async def write(self, call: Callable[[], _R]) -> _R:
+        """Calls what writes to the database, between commits."""
+        return await asyncio.get_running_loop().run_in_executor(self._writing, call)
+
+    async def find(self, look: Callable[[Finder], _R]) -> _R:
+        """Looks something up in the database, beside commits."""
+        return await asyncio.get_running_loop().run_in_executor(self._reading, self._find, look)
+
+    def _find(self, look: Callable[[Finder], _R]) -> _R:
+        if self._finder is None:
+            self._finder = self.database.finder()
+        return look(self._finder)
+
+    def change(self, line: bytes, actor: Actor, done: Done) -> None:
+        """Sends a change to all engines; `done` gets its reply once all have answered and it is committed."""
+        assert self._journal is not None
+        if self._committer.refuses():
+            done(FAULT, self.count)
+            return
+        change = self._journal.add(line, set(self.engines), actor, _brought(line), done)
+        self._committer.add(change)
         for engine in self.engines:
             engine.send(line, partial(self._changed, change, engine), change)
+        for fpr in change.fprs:
+            self.engines[0].send(b"export " + fpr.hex().encode(), partial(self._exported, change, fpr), is_inner=True)
 
-    def ask(self, line, done):
+    def ask(self, line: bytes, done: Done) -> None:
         """Sends a line that is no view's, and changes nothing, to the engine that has the least to do."""
-        min(self.engines, key=lambda engine: len(engine.waiting)).send(line, done)
+        self._least_busy().send(line, done)
 
-    def take_seat(self):
-        """The engine for one more view, or None where all are full. The first views go to one engine each, up to the
-        number of processors; then each goes where the fewest are."""
-        engine = min(self.engines, key=lambda engine: engine.seats)
-        wants_more = len(self.engines) < self._processors if engine.seats < VIEWS_OF_AN_ENGINE else \
-            len(self.engines) < self._most_engines
-        if engine.seats and wants_more:
-            engine = self._start_engine()
-        if engine.seats >= VIEWS_OF_AN_ENGINE:
-            return None
-        engine.seats += 1
-        return engine
+    def snapshot(self, done: Callable[[Snapshot | None], None]) -> None:
+        """Asks for a snapshot of the keyring behind the changes so far."""
+        self._committer.add(Barrier(done))
 
-    async def dump(self):
-        """The certificates and verdicts as a script; None where no engine could say them."""
-        engine = min(self.engines, key=lambda engine: len(engine.waiting))
-        return await self.dump_of(engine)
-
-    async def dump_of(self, engine):
-        answered = asyncio.get_running_loop().create_future()
-        engine.send(b"dump", lambda reply: answered.done() or answered.set_result(reply))
-        reply = await answered
-        return None if reply is None else without_views(reply)
-
-    def withdraw_where_all_are_stuck(self, change):
+    def withdraw_where_all_are_stuck(self, change: Change) -> None:
         """A change that ends every program, and that none has answered, is withdrawn from all."""
+        assert self._journal is not None
         if change.reply is None and all(engine.stuck is change for engine in change.left):
             for engine in change.left:
                 engine.give_up_first()
             self._journal.forget(change)
-            change.done(None)
+            change.is_over = True
+            self._committer.advance()
 
-    def _start_engine(self):
-        engine = Engine(self._program, self._journal, self)
+    def _least_busy(self) -> Engine:
+        """The engine that has the least to do. Where all have much, another one is started for what comes later."""
+        ready = [engine for engine in self.engines if engine.ready.done()] or self.engines
+        engine = min(ready, key=lambda one: len(one.waiting))
+        if len(ready) == len(self.engines) < self._most_engines and engine.lag() > _BUSY_SECONDS:
+            self._start_engine()
+        return engine
+
+    def _start_engine(self) -> Engine:
+        assert self._journal is not None
+        engine = Engine(self._program, self._journal, self, self._journal.last)
         self.engines.append(engine)
         return engine
 
-    def _changed(self, change, engine, reply):
+    def _changed(self, change: Change, engine: Engine, reply: bytes | None, _: int) -> None:
+        assert self._journal is not None
         change.left.discard(engine)
         if change.reply is None:
             change.reply = reply
         elif change.reply != reply:
-            self.tell(f"engines answered one line with {change.reply[:80]!r} and {reply[:80]!r}")
+            self.tell(f"engines answered one line with {change.reply[:80]!r} and {(reply or b'')[:80]!r}")
         if not change.left:
-            if not change.reply.startswith(b"ok"):
+            if change.reply is not None and not change.reply.startswith(b"ok"):
                 self._journal.forget(change)
-            change.done(change.reply)
-            self._journal.settle(min(engine.place for engine in self.engines))
-            self._renew()
+                change.is_over = True
+            self._committer.advance()
 
-    def _renew(self):
-        """Takes a new dump of a living engine where the changes since the last one have grown long."""
+    def _exported(self, change: Change, fpr: bytes, reply: bytes | None, _: int) -> None:
+        is_there = reply is not None and reply.startswith(b"export ")
+        change.puts[fpr] = PutCertificate(fpr, bytes.fromhex(reply[7:-1].decode())) if reply and is_there else None
+        if change.is_settled:
+            self._committer.advance()
+
+    def _release(self) -> None:
+        assert self._journal is not None
+        for engine in self.engines:
+            engine.release()
+        self._settle()
         if self._journal.is_long() and not self._is_renewing:
             self._is_renewing = True
-            self.ask(b"dump", partial(self._renewed, self._journal.end))
+            self._committer.add(Barrier(partial(self._renewed, self._journal.last)))
 
-    def _renewed(self, place, reply):
+    def _settle(self) -> None:
+        assert self._journal is not None
+        self._journal.settle(min(engine.point.place for engine in self.engines))
+
+    def _renewed(self, point: Point, snapshot: Snapshot | None) -> None:
         self._is_renewing = False
-        if reply is not None:
-            self._journal.offer(place, without_views(reply))
-            self._journal.settle(min(engine.place for engine in self.engines))
+        assert self._journal is not None
+        if snapshot is not None:
+            self._journal.offer(point, snapshot)
+            self._settle()
+
+    def _roll_back(self, failed: list[Change]) -> None:
+        """These changes couldn't be committed: all engines go back to where they stood before them."""
+        assert self._journal is not None
+        self.tell(f"{len(failed)} changes were refused, since they can't be kept: {self.fault}")
+        for change in failed:
+            self._journal.forget(change)
+        for engine in self.engines:
+            engine.roll_back(failed[-1])
+
+
+def _brought(line: bytes) -> tuple[bytes, ...]:
+    """The fingerprints of the certificates that a line imports."""
+    if not line.startswith(b"import "):
+        return ()
+    try:
+        return tuple(fingerprints(bytes.fromhex(line[7:].decode())))
+    except (ValueError, IndexError):
+        return ()  # The engine refuses such a line.

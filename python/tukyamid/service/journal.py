@@ -1,78 +1,140 @@
-"""The changes of the keyring in their one order: the last dump, and each change since."""
+"""The changes of the keyring in their one order: the last snapshot of the database, and each change since."""
+
+from __future__ import annotations
 
 from collections import deque
+from collections.abc import Callable, Iterator
+from itertools import chain
+from typing import TYPE_CHECKING
 
-LEAST_RENEWAL = 4 << 20
-MOST_OCTETS_OF_AN_ENGINE = 1 << 30
+from . import database
+from .database import Actor, PutCertificate
+
+if TYPE_CHECKING:
+    from .engine import Engine
+
+MOST_OCTETS = 4 << 20
+MOST_CHANGES = 20_000
+
+# A reply, or None where the line was given up; and the number of the last change before it.
+Done = Callable[["bytes | None", int], None]
 
 
-class Change:
-    """A line that changes certificates or verdicts. `left` are the engines that haven't answered it yet; it is done
-    once all have, and then `done` is called with its reply."""
-    __slots__ = ("line", "place", "left", "reply", "done")
+class Point:
+    """A moment in the order of changes: behind the `place`-th since the service began. `count` is the number of the
+    last change that the database has by then; None while it hasn't been committed."""
+    __slots__ = ("place", "count")
 
-    def __init__(self, line, place, left, done):
-        self.line = line
+    def __init__(self, place: int, count: int | None) -> None:
         self.place = place
+        self.count = count
+
+
+class Change(Point):
+    """A line that changes certificates or verdicts. `left` are the engines that haven't answered it yet. Its effects
+    are known where `puts` has each certificate that it brings, as an engine holds it behind the line."""
+    __slots__ = ("line", "left", "reply", "done", "actor", "fprs", "puts", "is_over")
+
+    def __init__(self, line: bytes, place: int, left: set[Engine], actor: Actor, fprs: tuple[bytes, ...],
+                 done: Done) -> None:
+        super().__init__(place, None)
+        self.line: bytes | None = line
         self.left = left
-        self.reply = None
+        self.reply: bytes | None = None
         self.done = done
+        self.actor = actor
+        self.fprs = fprs
+        self.puts: dict[bytes, PutCertificate | None] = {}
+        self.is_over = False
+
+    @property
+    def is_settled(self) -> bool:
+        """Whether nothing is to be waited for but the database."""
+        return self.is_over or not self.left and len(self.puts) == len(self.fprs)
+
+    @property
+    def is_made(self) -> bool:
+        """Whether the engines say that it may have changed something."""
+        return self.line is not None and self.reply is not None and self.reply.startswith(b"ok") \
+            and not self.reply.endswith(b" new 0\n")
+
+    def entry(self) -> database.Change:
+        """What it does to the database."""
+        assert self.line is not None
+        word, _, rest = self.line.partition(b" ")
+        if word == b"import":
+            puts = tuple(put for put in self.puts.values() if put is not None)
+            if not puts:
+                raise database.DatabaseFault("the engine exported nothing of what it took")
+            return database.Change(" ".join(["import", *(put.fpr.hex() for put in puts)]), self.actor, puts)
+        if word == b"drop":
+            fpr = bytes.fromhex(rest.decode())
+            return database.Change(f"drop {fpr.hex()}", self.actor, (database.DropCertificate(fpr),))
+        number, _, said = rest.lower().decode().partition(" ")
+        issuer = database.BAD if said == "bad" else bytes.fromhex(said[5:]) if said != "none" else None
+        return database.Change(f"verdict {number} {said}", self.actor,
+                               (database.SetVerdict(bytes.fromhex(number), issuer),))
 
 
 class Journal:
-    """What a new engine needs to stand at a place in the order of changes: a dump, and the changes since.
+    """What a new engine needs to stand at a place in the order of changes: a snapshot, and the changes since.
 
-    Place n is that after the n-th change. A newer dump is offered as soon as there is one, and taken once no engine
-    stands before it: one that does may yet have to be started again, with lines that were sent before that dump."""
+    A newer snapshot is offered as soon as there is one, and taken once no engine stands before it: one that does may
+    yet have to be started again, with lines that were sent before that snapshot."""
 
-    def __init__(self, dump=b""):
-        self._dump = dump
-        self._changes = deque()
-        self._first = 0
+    def __init__(self, snapshot: database.Snapshot) -> None:
+        self._snapshot = snapshot
+        self._changes: deque[Change] = deque()
+        self._first = Point(0, snapshot.change)
         self._octets = 0
-        self._offered = None
+        self._offered: tuple[Point, database.Snapshot] | None = None
 
     @property
-    def end(self):
-        return self._first + len(self._changes)
+    def first(self) -> Point:
+        return self._first
 
-    def add(self, line, left, done):
-        change = Change(line, self.end + 1, left, done)
+    @property
+    def last(self) -> Point:
+        return self._changes[-1] if self._changes else self._first
+
+    def add(self, line: bytes, left: set[Engine], actor: Actor, fprs: tuple[bytes, ...], done: Done) -> Change:
+        change = Change(line, self.last.place + 1, left, actor, fprs, done)
         self._changes.append(change)
         self._octets += len(line)
         return change
 
-    def forget(self, change):
-        """A change that the engines refused, or that was withdrawn, is nothing to a new engine."""
-        self._octets -= len(change.line)
+    def forget(self, change: Change) -> None:
+        """A change that was refused, withdrawn, or couldn't be committed is nothing to a new engine."""
+        self._octets -= len(change.line or b"")
         change.line = None
 
-    def lines(self, place):
-        """The lines that bring a fresh engine to this place."""
-        lines = self._dump.splitlines()
-        changes = (change.line for change, _ in zip(self._changes, range(place - self._first)))
-        lines.extend(line for line in changes if line is not None)
-        return lines
+    def lines(self, place: int) -> tuple[int, Iterator[bytes]]:
+        """The lines that bring a fresh engine to this place, and how many they are."""
+        changes = (change.line for change, _ in zip(self._changes, range(place - self._first.place)))
+        since = [line for line in changes if line is not None]
+        return self._snapshot.count() + len(since), chain(self._snapshot.lines(), since)
 
-    def is_long(self):
-        """Whether a newer dump is worth its making: reading the changes would cost more than reading the dump, or would
-        leave an engine too little of the octets that it takes in all."""
-        most = (MOST_OCTETS_OF_AN_ENGINE - len(self._dump)) // 4
-        return self._octets > min(max(LEAST_RENEWAL, len(self._dump)), most)
+    def is_long(self) -> bool:
+        """Whether a newer snapshot is worth its making."""
+        return self._octets > MOST_OCTETS or len(self._changes) > MOST_CHANGES
 
-    def offer(self, place, dump):
-        self._offered = place, dump
+    def offer(self, point: Point, snapshot: database.Snapshot) -> None:
+        if self._offered is not None:
+            self._offered[1].close()
+        self._offered = point, snapshot
 
-    def settle(self, least):
-        """Takes the offered dump, where all engines stand at `least` or behind it, and that isn't before the dump."""
-        if self._offered is None or self._offered[0] > least:
+    def settle(self, least: int) -> None:
+        """Takes the offered snapshot where all engines stand at `least` or behind it, and that isn't before it."""
+        if self._offered is None or self._offered[0].place > least:
             return
-        place, dump = self._offered
+        point, self._snapshot = self._offered  # What still reads the old one has its own hold on it.
         self._offered = None
-        if place < self._first:
-            return
-        while self._first < place:
-            change = self._changes.popleft()
-            self._octets -= len(change.line or b"")
-            self._first += 1
-        self._dump = dump
+        while self._first.place < point.place:
+            self._first = self._changes.popleft()
+            self._octets -= len(self._first.line or b"")
+        self._first = point
+
+    def close(self) -> None:
+        self._snapshot.close()
+        if self._offered is not None:
+            self._offered[1].close()

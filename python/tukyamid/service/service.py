@@ -1,153 +1,151 @@
-"""The server: its socket, its clients, its dump."""
+"""The service: its sockets, its clients, its end."""
+
+from __future__ import annotations
 
 import asyncio
 import os
 import signal
-import socket
+from collections.abc import Sequence
+from dataclasses import dataclass
 from pathlib import Path
 
-from .session import Session
+from .answering import Answering
+from .directory import Directory
+from .hub import Hub
+from .keyrings import Keyrings
+from .session import Rights, Session
+from .sockets import Listening, Passed, notify
 
-_FIRST_PASSED_SOCKET = 3
 _PATIENCE_AT_THE_END = 30
-_PATIENCE_WITH_ENGINES = 120
 
 
-def passed_socket():
-    """The socket that systemd passed on, or None."""
-    if os.environ.get("LISTEN_PID") != str(os.getpid()) or os.environ.get("LISTEN_FDS") != "1":
-        return None
-    return socket.socket(fileno=_FIRST_PASSED_SOCKET)
+@dataclass(frozen=True)
+class Settings:
+    """Bounds of a service: after how many seconds a client that doesn't read is dropped, and a service that nobody uses
+    ends (never, where that is None)."""
+    patience: float
+    idle: float | None
+    most_views: int
 
 
-def made_socket(path, mode):
-    """A new socket at this path. One that is left over from a server that ended is taken away."""
-    made = socket.socket(socket.AF_UNIX)
-    if Path(path).is_socket():
-        try:
-            made.connect(os.fspath(path))
-        except ConnectionRefusedError:
-            Path(path).unlink()
-        else:
-            raise OSError(f"a server is at {path} already")
-        made.close()
-        made = socket.socket(socket.AF_UNIX)
-    before = os.umask(0o177)
-    try:
-        made.bind(os.fspath(path))
-    finally:
-        os.umask(before)
-    os.chmod(path, mode)
-    return made
-
-
-def read_dump(path):
-    """The lines of a dump for certificates and verdicts; none where there is no such file. Views are a client's own."""
-    try:
-        lines = Path(path).read_bytes().splitlines(keepends=True)
-    except FileNotFoundError:
-        return b""
-    for place, line in enumerate(lines, 1):
-        if not line.startswith((b"import ", b"verdict ", b"view ", b"#", b"\n")):
-            raise ValueError(f"{path}: line {place} is no line of a dump")
-    kept = b"".join(line for line in lines if line.startswith((b"import ", b"verdict ")))
-    return kept if kept.endswith(b"\n") or not kept else kept + b"\n"
-
-
-def write_whole(path, octets):
-    """Puts octets in the place of a file: whoever reads it meets the old ones or these, whole, whatever fails."""
-    path = Path(path)
-    beside = path.with_name(f".{path.name}.{os.getpid()}")
-    try:
-        with open(os.open(beside, os.O_WRONLY | os.O_CREAT | os.O_TRUNC, 0o600), "wb") as file:
-            file.write(octets)
-            file.flush()
-            os.fsync(file.fileno())
-        os.replace(beside, path)
-    except BaseException:
-        beside.unlink(missing_ok=True)
-        raise
-    folder = os.open(path.parent, os.O_RDONLY | os.O_DIRECTORY)
-    try:
-        os.fsync(folder)
-    finally:
-        os.close(folder)
+@dataclass(frozen=True)
+class Door:
+    """A socket, and what its clients may do."""
+    listening: Listening | Passed
+    may_change: bool
 
 
 class Service:
-    def __init__(self, hub, dump_path, patience, most_views):
+    def __init__(self, hub: Hub, keyrings: Keyrings, directory: Directory, settings: Settings) -> None:
         self._hub = hub
-        self._dump_path = dump_path
-        self._patience = patience
-        self._most_views = most_views
-        self._sessions = {}
+        self._keyrings = keyrings
+        self._directory = directory
+        self._settings = settings
+        self._answering = Answering(directory, keyrings, self._status)
+        self._sessions: set[Session] = set()
         self._count = 0
         self._end = asyncio.Event()
-        self._request = asyncio.Event()
-        self._writing = asyncio.Lock()
+        self._last_used = 0.0
+        self._doors: Sequence[Door] = ()
 
-    async def serve(self, listening):
-        """Serves clients of this socket until SIGTERM or SIGINT; SIGHUP has a dump written."""
+    async def serve(self, doors: Sequence[Door]) -> None:
+        """Serves clients of these sockets until SIGTERM, SIGINT, or until nobody has used it for long."""
         loop = asyncio.get_running_loop()
         for number in (signal.SIGTERM, signal.SIGINT):
             loop.add_signal_handler(number, self._end.set)
-        loop.add_signal_handler(signal.SIGHUP, self._request.set)
+        self._doors = doors
         try:
             await self._hub.start()
-            server = await asyncio.start_unix_server(self._client, sock=listening, backlog=128)
-            beside = [asyncio.create_task(self._drop_who_never_read()), asyncio.create_task(self._write_on_request())]
+            for door in doors:
+                door.listening.open()
+            servers = [await loop.create_unix_server(self._factory(door), sock=door.listening.socket, backlog=1024)
+                       for door in doors]
+            notify("READY=1")
+            self._last_used = loop.time()
+            beside = [loop.create_task(self._look_around()), loop.create_task(self._keyrings.watch())]
             await self._end.wait()
-            server.close()
-            async with self._writing:  # A dump that is being written is written whole first.
-                for task in beside:
-                    task.cancel()
+            notify("STOPPING=1")
+            await self._take_no_more(servers)
+            for task in beside:
+                task.cancel()
+            await asyncio.gather(*beside, return_exceptions=True)
             await self._end_sessions()
-            await self.write_dump()
         finally:
+            await self._directory.close()
             await self._hub.close()
 
-    async def write_dump(self):
-        """Writes the dump's file anew; OSError where it can't."""
-        if self._dump_path is None:
-            return
-        async with self._writing:
-            dump = await asyncio.wait_for(self._hub.dump(), _PATIENCE_WITH_ENGINES)
-            if dump is None:
-                raise OSError("no engine could say its dump")
-            await asyncio.to_thread(write_whole, self._dump_path, dump)
+    def _factory(self, door: Door) -> "_Factory":
+        return _Factory(self, Rights(door.may_change, self._settings.most_views))
 
-    async def _write_on_request(self):
-        while await self._request.wait():
-            self._request.clear()
-            try:
-                await self.write_dump()
-            except OSError as error:
-                self._hub.tell(f"the dump wasn't written: {error}")
-
-    async def _client(self, reader, writer):
+    def new_session(self, rights: Rights) -> Session:
         self._count += 1
-        session = Session(self._count, self._hub, reader, writer, self._most_views)
-        self._sessions[session] = asyncio.current_task()
-        try:
-            await session.run()
-        except Exception as error:  # Whatever one client meets, the others go on.
-            self._hub.tell(f"client {session.number}: {error!r}")
-            session.drop()
-        finally:
-            del self._sessions[session]
+        return Session(self._count, self._hub, self._answering, rights, self._opened)
 
-    async def _drop_who_never_read(self):
+    def _opened(self, session: Session) -> None:
+        self._sessions.add(session)
+        session.over.add_done_callback(lambda _: self._closed(session))
+
+    def _closed(self, session: Session) -> None:
+        self._sessions.discard(session)
+        self._last_used = asyncio.get_running_loop().time()
+
+    async def _look_around(self) -> None:
+        """Drops those who never read, and ends a service that nobody uses."""
+        loop = asyncio.get_running_loop()
+        idle, patience = self._settings.idle, self._settings.patience
+        pause = min(1.0, patience / 4, *([idle / 4] if idle is not None else []))
         while True:
-            await asyncio.sleep(min(1.0, self._patience / 4))
-            now = asyncio.get_running_loop().time()
+            await asyncio.sleep(pause)
+            now = loop.time()
             for session in list(self._sessions):
-                session.drop_where_unread(now, self._patience)
+                if session.outbox.drop_where_unread(now, patience):
+                    self._hub.tell(f"client {session.number} doesn't read its replies and is dropped")
+            if self._sessions or self._keyrings.is_busy:
+                self._last_used = now
+            elif idle is not None and now - self._last_used > idle:
+                self._end.set()
 
-    async def _end_sessions(self):
+    async def _take_no_more(self, servers: Sequence[asyncio.Server]) -> None:
+        """Closes the sockets. Who has connected by then is served: first nobody new finds the file, then those that
+        wait are let in."""
+        for door in self._doors:
+            door.listening.remove()
+        await asyncio.sleep(0.05)  # The loop lets in who waits.
+        for server in servers:
+            server.close()
+
+    async def _end_sessions(self) -> None:
         """Has the lines that were taken answered, and ends all connections."""
+        sessions = list(self._sessions)
+        for session in sessions:
+            session.stop(is_at_once=True)
+        if sessions:
+            await asyncio.wait([session.over for session in sessions], timeout=_PATIENCE_AT_THE_END)
         for session in list(self._sessions):
-            session.stop()
-        if self._sessions:
-            await asyncio.wait(list(self._sessions.values()), timeout=_PATIENCE_AT_THE_END)
-        for session in list(self._sessions):
-            session.drop()
+            session.outbox.drop()
+        await asyncio.sleep(0)
+
+    def _status(self) -> list[tuple[str, object]]:
+        pids = [engine.pid for engine in self._hub.engines if engine.pid is not None]
+        return [("engines", len(pids)), ("memory", sum(map(_resident, [os.getpid(), *pids]))),
+                ("clients", len(self._sessions)), ("process", os.getpid()),
+                ("database", getattr(self._hub.database, "path", "")), ("state", self._hub.fault or "ok")]
+
+
+class _Factory:
+    """Makes the session of each client of a socket."""
+
+    def __init__(self, service: Service, rights: Rights) -> None:
+        self._service = service
+        self._rights = rights
+
+    def __call__(self) -> Session:
+        return self._service.new_session(self._rights)
+
+
+def _resident(pid: int) -> int:
+    """How many octets of memory a process holds; 0 where it has ended."""
+    try:
+        return int(Path(f"/proc/{pid}/statm").read_text().split()[1]) * os.sysconf("SC_PAGE_SIZE")
+    except (OSError, IndexError):
+        return 0

@@ -1,56 +1,115 @@
-"""Open views, as the answered lines tell them."""
+"""Views: a client's own, whose lines the service answers, and those of an engine, as the answered lines tell them."""
+
+from __future__ import annotations
 
 import re
+from collections.abc import Iterator
 
-_TIME = re.compile(rb"view [a-z0-9_-]{1,32} time (0|[1-9][0-9]{0,9})")
 _NAME = re.compile(rb"[a-z0-9_-]{1,32}")
-MOST_TIME = 2**32 - 1
+_LINE = re.compile(rb"view ([a-z0-9_-]{1,32}) (?:time (0|[1-9][0-9]{0,9})|"
+                   rb"root ((?:[0-9a-fA-F]{24})?[0-9a-fA-F]{40}) (0|[1-9][0-9]{0,2})|close)")
+_MOST_TIME = 2**32 - 1
+_MOST_AMOUNT = 255
+_MOST_ROOTS = 64
+
+# A view as a value: its time, and its roots with their amounts by fingerprint.
+Value = tuple[bytes, tuple[tuple[bytes, bytes], ...]]
 
 
-def is_name(octets):
+def is_name(octets: bytes) -> bool:
     return _NAME.fullmatch(octets) is not None
 
 
-def opens(line):
-    """Whether this line opens its view where that isn't open."""
-    match = _TIME.fullmatch(line)
-    return match is not None and int(match.group(1)) <= MOST_TIME
+class View:
+    """The time and the roots of an open view. `turn` is another one whenever it changes."""
+    __slots__ = ("time", "roots", "turn", "_value")
+
+    def __init__(self, time: bytes) -> None:
+        self.time = time
+        self.roots: dict[bytes, bytes] = {}
+        self.turn = 0
+        self._value: Value | None = None
+
+    @property
+    def value(self) -> Value:
+        if self._value is None:
+            self._value = self.time, tuple(sorted(self.roots.items()))
+        return self._value
+
+    def turned(self, turn: int) -> None:
+        self.turn = turn
+        self._value = None
+
+
+def lines_of(name: bytes, value: Value) -> Iterator[bytes]:
+    """The lines that make a view of this value."""
+    yield b"view %s time %s" % (name, value[0])
+    for fpr, amount in value[1]:
+        yield b"view %s root %s %s" % (name, fpr, amount)
 
 
 class Views:
-    """The time and the roots of each open view."""
+    """Open views by name, at most so many."""
 
-    def __init__(self):
-        self._views = {}
+    def __init__(self, most: int = 1 << 30) -> None:
+        self._most = most
+        self._views: dict[bytes, View] = {}
+        self._turns = 0
 
-    def take(self, line):
-        """Takes a line `view ..` that was answered with `ok`."""
-        _, name, word, *fields = line.split(b" ")
-        if word == b"time":
-            self._views.setdefault(name, [b"", {}])[0] = fields[0]
-        elif word == b"close":
-            self._views.pop(name, None)
-        elif fields[1] == b"0":
-            self._views[name][1].pop(fields[0].lower(), None)
+    def get(self, name: bytes) -> View | None:
+        return self._views.get(name)
+
+    def take(self, line: bytes) -> bytes:
+        """Does what a line `view ..` says, and gives its reply."""
+        match = _LINE.fullmatch(line)
+        if match is None:
+            return b"refused line\n"
+        name, time, fpr, amount = match.groups()
+        if time is not None:
+            return self._set_time(name, time)
+        if amount is not None and int(amount) > _MOST_AMOUNT:
+            return b"refused line\n"
+        view = self._views.get(name)
+        if view is None:
+            return b"refused view\n"
+        if fpr is not None:
+            return self._set_root(view, fpr.lower(), amount)
+        del self._views[name]
+        return b"ok\n"
+
+    def _set_time(self, name: bytes, time: bytes) -> bytes:
+        if int(time) > _MOST_TIME:
+            return b"refused line\n"
+        view = self._views.get(name)
+        if view is None:
+            if len(self._views) >= self._most:
+                return b"refused full views\n"
+            view = self._views[name] = View(time)
+        elif view.time == time:
+            return b"ok\n"
+        view.time = time
+        self._turn(view)
+        return b"ok\n"
+
+    def _set_root(self, view: View, fpr: bytes, amount: bytes) -> bytes:
+        before = view.roots.get(fpr)
+        if amount == b"0":
+            if before is None:
+                return b"refused absent\n"
+            del view.roots[fpr]
+        elif before is None and len(view.roots) >= _MOST_ROOTS:
+            return b"refused full roots\n"
         else:
-            self._views[name][1][fields[0].lower()] = fields[1]
+            view.roots[fpr] = amount
+        if view.roots.get(fpr) != before:
+            self._turn(view)
+        return b"ok\n"
 
-    def lines(self):
+    def _turn(self, view: View) -> None:
+        self._turns += 1
+        view.turned(self._turns)
+
+    def lines(self) -> Iterator[bytes]:
         """The lines that make these views, in a dump's order."""
-        for name, (time, roots) in sorted(self._views.items()):
-            yield b"view %s time %s" % (name, time)
-            for fpr, amount in sorted(roots.items()):
-                yield b"view %s root %s %s" % (name, fpr, amount)
-
-
-def without_views(dump):
-    """The lines of a dump's reply for certificates and verdicts; those of views stand behind them."""
-    body = dump[dump.index(b"\n") + 1:]
-    end = 0 if body.startswith(b"view ") else body.find(b"\nview ") + 1
-    return body[:end] if end or body.startswith(b"view ") else body
-
-
-def with_views(dump, views):
-    """A dump's reply with these views in place of its own."""
-    body = without_views(dump) + b"".join(line + b"\n" for line in views.lines())
-    return b"dump %d\n" % body.count(b"\n") + body
+        for name, view in sorted(self._views.items()):
+            yield from lines_of(name, view.value)

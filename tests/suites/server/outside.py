@@ -19,17 +19,18 @@ HERE = Path(__file__).resolve().parent
 ROOT = Path(os.environ.get("WOT_ROOT") or HERE.parents[2])
 PROGRAM = os.environ.get("WOT_PROGRAM") or str(ROOT / "crates" / "wot_cli" / "out" / "wot_cli")
 SERVER = ROOT / "python" / "bin" / "tukyamid-server"
+PYTHON = "/usr/bin/python3" if os.access("/usr/bin/python3", os.X_OK) else sys.executable
 WORN_ENGINE = HERE / "worn_engine.py"
-PATIENCE = 1200  # Of a test that waits for what must come; no machine is so slow.
+PATIENCE = 300  # Of a test that waits for what must come; machines may be slow.
 
 needs_engine = unittest.skipUnless(os.access(PROGRAM, os.X_OK), f"the engine isn't built: {PROGRAM}")
 
 
-def alone(lines):
+def alone(lines, directory="/nowhere"):
     """The replies of the program alone to these lines, one for each that has a reply. They are cut by the Python
     client's framing, not by the server's."""
     script = b"".join(line + b"\n" for line in lines)
-    done = subprocess.run([PROGRAM, "run"], input=script, capture_output=True, timeout=PATIENCE, check=True)
+    done = subprocess.run([PROGRAM, "run", directory], input=script, capture_output=True, timeout=PATIENCE, check=True)
     return list(cut(done.stdout))
 
 
@@ -57,7 +58,14 @@ def cut(octets):
 
 
 def is_change(line):
-    return line.split(b" ")[0] in (b"import", b"drop", b"verdict")
+    """Whether a line may change what other clients hear: certificates, verdicts, or entries of the directory."""
+    return line.split(b" ")[0] in (b"import", b"drop", b"verdict", b"load", b"store")
+
+
+def script_of(database):
+    """The lines that make a database's keyring."""
+    with contextlib.closing(database.snapshot()) as snapshot:
+        return b"".join(line + b"\n" for line in snapshot.lines())
 
 
 class Client:
@@ -127,12 +135,13 @@ class Server:
         self._made = None if folder else tempfile.TemporaryDirectory(prefix="tukyamid-server-")
         self.folder = Path(folder or self._made.name)
         self.path = self.folder / "socket"
-        self.dump = self.folder / "dump"
+        self.database = self.folder / "keyring.db"
+        self.directory = self.folder / "pgp.cert.d"
         self._order = self.folder / "order"
         self._said = open(self.folder / "said", "w+b")
         self.process = subprocess.Popen(
-            [sys.executable, SERVER, "--socket", self.path, "--dump", self.dump, "--order", self._order,
-             "--engine", engine, *options],
+            [PYTHON, SERVER, "--socket", self.path, "--database", self.database, "--order", self._order,
+             "--engine", engine, "--directory", self.directory, *options],
             stdin=subprocess.DEVNULL, stdout=subprocess.DEVNULL, stderr=self._said,
             env={**os.environ, **(environment or {})})
         try:
@@ -190,7 +199,7 @@ class Server:
         return [(int(number), line) for number, line in numbered]
 
 
-def expected(order, name, count):
+def expected(order, name, count, make_directory=lambda folder: None):
     """What the client whose first line is `name` must have got for its first `count` lines that have a reply: what the
     program alone says to them, among the changes of all, in the order in which they were sent."""
     number = next(number for number, line in order if line == name)
@@ -201,7 +210,9 @@ def expected(order, name, count):
             lines.append(line)
         elif is_change(line):
             lines.append(line)
-    replies = alone(lines)
+    with tempfile.TemporaryDirectory(prefix="tukyamid-") as folder:
+        make_directory(Path(folder))
+        replies = alone(lines, folder)
     return [lines[place] for place in own], b"".join(replies[place] for place in own)
 
 

@@ -1,5 +1,6 @@
 """Many clients at once: each hears what the program alone would say."""
 
+import asyncio
 import os
 import random
 import signal
@@ -10,7 +11,7 @@ from concurrent.futures import ThreadPoolExecutor
 from unittest.mock import Mock
 
 from outside import WORN_ENGINE, Client, Server, expected, needs_engine, with_reply
-from tukyamid.service.session import Session
+from tukyamid.service.outbox import Outbox
 from world import Chatter, World
 
 
@@ -35,6 +36,7 @@ def talk(path, name, lines, seed, before_burst):
 def talk_all(server, count, length, seed=1, before_burst=lambda: None, between=()):
     """Lets `count` clients talk at once, each with the lines `between` behind each line: what each sent and heard."""
     world = World()
+    world.make_directory(server.directory)
     with Client(server.path) as first:
         first.send(*world.lines())
         first.end()
@@ -77,12 +79,14 @@ class ManyClients(unittest.TestCase):
         self.assertEqual(server.stop(), 0)
         order = server.order()
         sent = {name: [name, *with_reply(lines)] for name, lines in spoken.items()}
+        make_directory = World().make_directory
         with ThreadPoolExecutor(os.cpu_count()) as pool:
-            told = dict(zip(sent, pool.map(lambda name: expected(order, name, len(sent[name])), sent)))
+            told = dict(zip(sent, pool.map(lambda name: expected(order, name, len(sent[name]), make_directory), sent)))
         for name, (own, replies) in told.items():
             self.assertEqual(own, sent[name])
             self.assertEqual(heard[name], replies, name)
-        for kind in b"\npath ", b"\nbind ", b"\ncert ", b"\nsig ", b"\nexplain ok ":
+        for kind in b"\npath ", b"\nbind ", b"\ncert ", b"\nsig ", b"\nexplain ok ", b"\npiece ", b"\nstale keyring ", \
+                b"\nok stored ", b"\nrefused misfiled\n":
             with self.subTest(kind):
                 self.assertGreater(sum(replies.count(kind) for _, replies in told.values()), 0)
 
@@ -112,16 +116,20 @@ class Reading(unittest.TestCase):
 
     def drops(self, moments):
         """The times at which a client is dropped, of moments: (time, octets written so far, of these unread)."""
-        transport, told = Mock(), []
-        session = Session(1, Mock(), None, Mock(transport=transport), 256)
-        for now, written, unread in moments:
-            session._written = written
-            transport.get_write_buffer_size.return_value = unread
-            session.drop_where_unread(now, 60)
-            if transport.abort.called:
-                told.append(now)
-                transport.abort.reset_mock()
-        return told
+        async def run():
+            transport = Mock()
+            outbox = Outbox(transport, lambda: None)
+            for now, written, unread in moments:
+                outbox._written = written
+                transport.get_write_buffer_size.return_value = unread
+                if outbox.drop_where_unread(now, 60):
+                    transport.abort.assert_called_once()
+                    transport.abort.reset_mock()
+                    yield now
+
+        async def gather():
+            return [now async for now in run()]
+        return asyncio.run(gather())
 
     def test_one_reads_nothing(self):
         self.assertEqual(self.drops([(now, 9000, 9000) for now in range(100, 162)]), [161])
@@ -140,18 +148,12 @@ class Reading(unittest.TestCase):
 class OddClients(unittest.TestCase):
     def setUp(self):
         self.world = World()
-        self.server = Server("--engines", "1", "--most-engines", "1", "--patience", "1.5")
+        self.server = Server("--engines", "1", "--patience", "1.5")
         self.addCleanup(self.server.__exit__)
         self.other = Client(self.server.path)
         self.addCleanup(self.other.socket.close)
         for line in self.world.lines():
             self.assertTrue(self.other.tell(line).startswith(b"ok"))
-
-    def has_seats(self, count):
-        """Whether so many views can be opened; closes them again."""
-        with Client(self.server.path) as client:
-            opened = [client.tell(b"view v%d time 5" % place) for place in range(count)]
-        return opened == [b"ok"] * count
 
     def test_one_sends_half_a_line_and_dies(self):
         first = self.world.fprs[0]
@@ -161,7 +163,6 @@ class OddClients(unittest.TestCase):
                 dying.socket.sendall(half)
         self.assertTrue(self.other.tell(b"export " + first).startswith(b"export "))
         self.assertEqual(self.other.tell(b"keys"), b"keys 12")
-        self.server.wait_for(lambda: self.has_seats(16))
 
     def test_a_last_line_without_line_feed_is_none(self):
         with Client(self.server.path) as client:
@@ -171,17 +172,13 @@ class OddClients(unittest.TestCase):
 
     def test_one_never_reads(self):
         with Client(self.server.path) as silent:
-            for place in range(16):
-                self.assertEqual(silent.tell(b"view v%d time 5000" % place), b"ok")
             threading.Thread(target=self.pour, args=(silent,), daemon=True).start()
-            self.server.wait_for(self.is_answered_and_has_room)
-            self.assertIn("doesn't read its replies and is dropped", self.server.said())
-            self.server.wait_for(lambda: self.has_seats(15))
+            self.server.wait_for(self.is_dropped)
 
-    def is_answered_and_has_room(self):
-        """Whether the other client has got room for a view; its lines are answered in any case."""
+    def is_dropped(self):
+        """Whether the silent client is dropped; the other one is answered in any case."""
         self.assertEqual(self.other.tell(b"keys"), b"keys 12")
-        return self.other.tell(b"view p time 5000") == b"ok"
+        return "doesn't read its replies and is dropped" in self.server.said()
 
     def pour(self, client):
         """Sends questions for ever, and reads nothing."""
@@ -190,16 +187,6 @@ class OddClients(unittest.TestCase):
                 client.send(*[b"dump"] * 20)
         except OSError:
             pass
-
-    def test_a_directory_is_read_by_no_line(self):
-        """Each engine would read it by itself, and might find something else there."""
-        self.assertEqual(self.other.tell(b"load trust-root"), b"refused line")
-        self.assertEqual(self.other.tell(b"keys"), b"keys 12")
-
-    def test_a_cursor_is_begun_by_no_line(self):
-        """Its name would be known to one engine alone, and its list to the view of one client."""
-        self.assertEqual(self.other.tell(b"cursor c over p 120"), b"refused line")
-        self.assertEqual(self.other.tell(b"cursor c next 1"), b"refused line")
 
     def test_names_of_two_clients_never_meet(self):
         first = self.world.fprs[0]

@@ -1,26 +1,31 @@
-"""Several engines behind one server: all hold the same, and more of them come as views ask for them."""
+"""Several engines behind one service: all hold the same, whatever ends them."""
 
 import asyncio
 import os
 import random
-import signal
+import tempfile
 import unittest
+from contextlib import closing
+from pathlib import Path
 
-from outside import PROGRAM, WORN_ENGINE, Client, Server, alone, is_change, needs_engine
-from tukyamid.service import hub as hubs
+from outside import PROGRAM, WORN_ENGINE, Client, Server, alone, is_change, needs_engine, script_of
 from tukyamid.service import journal
+from tukyamid.service.database import Actor
+from tukyamid.service.hub import Hub
+from tukyamid.service.sqlite import Sqlite
 from world import Chatter, World
+
+ENGINES = 3
 
 
 @needs_engine
 class SameState(unittest.TestCase):
     def change_all(self, lines, disturb=lambda hub, place: None):
-        """Has a hub of four engines take these changes: their replies, the dump of each engine, and the hub."""
-        async def run():
-            hub = hubs.Hub([PROGRAM, "run"], 4, 4)
+        """Has a hub of several engines take these changes: their replies, the dump of each engine, that of the
+        database, and the hub."""
+        async def run(database):
+            hub = Hub([PROGRAM, "run"], ENGINES, database)
             await hub.start()
-            for name in range(2):
-                hub.take_seat()
             replies, whole = [None] * len(lines), asyncio.Event()
 
             def done(place, reply):
@@ -29,34 +34,45 @@ class SameState(unittest.TestCase):
                     whole.set()
 
             for place, line in enumerate(lines):
-                hub.change(line, lambda reply, place=place: done(place, reply))
-                if place == len(lines) // 2:
-                    hub.take_seat()
-                    hub.take_seat()
+                hub.change(line, Actor(0, 0), lambda reply, _, place=place: done(place, reply))
+                if place in (len(lines) // 3, len(lines) // 2):
+                    hub._start_engine()
                 disturb(hub, place)
                 if place % 10 == 0:
                     await asyncio.sleep(0.002)
-            await whole.wait()
-            dumps = await asyncio.gather(*(hub.dump_of(engine) for engine in hub.engines))
+            await asyncio.wait_for(whole.wait(), 60)
+            dumps = await asyncio.gather(*(self.dump_of(engine) for engine in hub.engines))
             await hub.close()
-            return replies, dumps, hub
-        return asyncio.run(run())
+            return replies, [*dumps, script_of(database)], hub
+
+        with tempfile.TemporaryDirectory(prefix="tukyamid-") as folder:
+            with closing(Sqlite(Path(folder) / "keyring.db")) as database:
+                result = asyncio.run(run(database))
+                self.assertEqual(database.check(), [])
+        return result
+
+    @staticmethod
+    async def dump_of(engine):
+        answered = asyncio.get_running_loop().create_future()
+        engine.send(b"dump", lambda reply, _: answered.set_result(reply))
+        return (await answered).partition(b"\n")[2]
 
     def changes(self, seed, count):
         world = World()
         lines = world.lines() + [line for line in Chatter(world, seed).lines(5 * count) if is_change(line)][:count]
+        lines = [line for line in lines if not line.startswith((b"load", b"store"))]
         random.Random(seed).shuffle(lines)
         return lines
 
     def check(self, lines, replies, dumps):
         *told, dump = alone([*lines, b"dump"])
         self.assertEqual(replies, told)
-        self.assertEqual(len(dumps), 4)
+        self.assertEqual(len(dumps), ENGINES + 1)
         for one in dumps:
             self.assertEqual(one, dump.partition(b"\n")[2])
 
-    def test_all_engines_hold_the_same(self):
-        lines = self.changes(11, 400)
+    def test_all_engines_and_the_database_hold_the_same(self):
+        lines = self.changes(11, 150)
         replies, dumps, _ = self.change_all(lines)
         self.check(lines, replies, dumps)
 
@@ -66,23 +82,22 @@ class SameState(unittest.TestCase):
         def disturb(hub, place):
             """Kills an engine, of those that have answered since one of theirs ended: a line at which three programs
             end one after another is given up."""
-            gone = killed | {None}
-            alive = [engine for engine in hub.engines if engine._process not in gone and not engine._failures]
+            alive = [one for one in hub.engines if one.pid not in killed | {None} and not one._failures]
             if place % 60 == 30 and alive:
-                process = draw.choice(alive)._process
-                killed.add(process)
-                os.kill(process.pid, signal.SIGKILL)
+                victim = draw.choice(alive).pid
+                killed.add(victim)
+                os.kill(victim, 9)
 
-        before, journal.LEAST_RENEWAL = journal.LEAST_RENEWAL, 1000
+        before, journal.MOST_OCTETS = journal.MOST_OCTETS, 1000
         try:
-            lines = self.changes(12, 600)
+            lines = self.changes(12, 200)
             replies, dumps, hub = self.change_all(lines, disturb)
         finally:
-            journal.LEAST_RENEWAL = before
+            journal.MOST_OCTETS = before
         self.check(lines, replies, dumps)
         self.assertTrue(killed)
-        # However fast the engines are: the journal holds no more than its last dump's octets.
-        self.assertGreater(hub._journal._first, 100)
+        # However fast the engines are: the journal holds no more than its last snapshot's changes.
+        self.assertGreater(hub._journal.first.place, 50)
 
 
 @needs_engine
@@ -95,18 +110,19 @@ class ManyViews(unittest.TestCase):
         self.addCleanup(server.__exit__)
         client = Client(server.path)
         self.addCleanup(client.socket.close)
-        for line in self.world.lines():
-            client.tell(line)
+        client.send(*self.world.lines())
+        for _ in self.world.lines():
+            client.read_line()
         return server, client
 
     def test_forty_views_of_one_client(self):
-        server, client = self.start("--engines", "1")
+        """An engine has sixteen views: the others make room, and are made again."""
+        _, client = self.start("--engines", "1")
         opening = [(b"view v%d time %d" % (place, 5000 + place),
                     b"view v%d root %s 120" % (place, self.world.fprs[place % 12])) for place in range(40)]
         for line in (line for pair in opening for line in pair):
             self.assertEqual(client.tell(line), b"ok")
-        self.assertEqual(len(server.engines()), 3)
-        for group in (range(0, 16), range(16, 32), range(32, 40)):
+        for group in (range(0, 14), range(14, 28), range(28, 40)):
             asks = [b"ask v%d %s 240 %s" % (place, self.world.fprs[to], self.world.user_ids[to])
                     for place in group for to in (0, place % 11 + 1)]
             opened = [line for place in group for line in opening[place]]
@@ -118,27 +134,13 @@ class ManyViews(unittest.TestCase):
                          [line for pair in sorted(opening) for line in pair])
         self.assertEqual(int(dump.split(b"\n")[0].split()[1]), dump.count(b"\n") - 1)
 
-    def test_no_more_views_than_there_is_room_for(self):
-        server, client = self.start("--engines", "1", "--most-engines", "2")
-        told = [client.tell(b"view v%d time 5" % place) for place in range(33)]
-        self.assertEqual(told, [b"ok"] * 32 + [b"refused full views"])
-        with Client(server.path) as other:
-            self.assertEqual(other.tell(b"view w time 5"), b"refused full views")
-            self.assertEqual(client.tell(b"view v7 close"), b"ok")
-            self.assertEqual(other.tell(b"view w time 5"), b"ok")
-        self.assertEqual(len(server.engines()), 2)
-
     def test_no_more_views_of_one_client_than_it_may_have(self):
         _, client = self.start("--views", "3")
         told = [client.tell(b"view v%d time 5" % place) for place in range(4)]
         self.assertEqual(told, [b"ok"] * 3 + [b"refused full views"])
         self.assertEqual(client.tell(b"view v0 time 6"), b"ok")
-
-    def test_views_are_spread_over_engines(self):
-        server, client = self.start("--engines", "3")
-        for place in range(5):
-            client.tell(b"view v%d time 5" % place)
-        self.assertEqual(len(server.engines()), 3)
+        self.assertEqual(client.tell(b"view v1 close"), b"ok")
+        self.assertEqual(client.tell(b"view v4 time 6"), b"ok")
 
 
 @needs_engine
@@ -146,7 +148,7 @@ class LinesThatEndAnEngine(unittest.TestCase):
     """A line at which each program ends is given up, and its sender dropped; nothing else is changed by it."""
 
     def check(self, fatal):
-        world = World()
+        world = World(count=5)
         with Server("--engines", "2", engine=WORN_ENGINE, environment={"WORN_WORD": "fa7a1fa7a1"}) as server:
             with Client(server.path) as client, Client(server.path) as unlucky:
                 for line in world.lines():
@@ -156,7 +158,7 @@ class LinesThatEndAnEngine(unittest.TestCase):
                     client.tell(b"view %s root %s 120" % (name, world.fprs[0]))
                 ask = b"ask q %s 120 %s" % (world.fprs[1], world.user_ids[1])
                 before = client.tell(ask)
-                unlucky.send(b"view p time 7", b"keys", fatal, b"drop " + world.fprs[2])
+                unlucky.send(b"view p time 7", b"keys", fatal, b"view q time 7")
                 self.assertEqual(unlucky.read_line(), b"ok")
                 client.send(*[b"verdict %s bad" % number for number, _ in world.verdicts[:9]])
                 self.assertEqual([client.read_line() for _ in range(9)], [b"ok"] * 9)
@@ -168,7 +170,7 @@ class LinesThatEndAnEngine(unittest.TestCase):
             self.assertIn("ended the engine several times", server.said())
 
     def test_a_question(self):
-        self.check(b"ask p %s 120 fa7a1fa7a1" % World().fprs[0])
+        self.check(b"ask p %s 120 fa7a1fa7a1" % World(count=5).fprs[0])
 
     def test_a_change(self):
         self.check(b"import fa7a1fa7a1")

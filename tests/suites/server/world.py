@@ -11,6 +11,7 @@ MALFORMED = [b"view P time 5000", b"view p time 4294967296", b"view p time 05000
              b"ask p " + b"0" * 39 + b" 120 a", b"import", b"import c", b"import zz", b"verdict 00 bad", b"drop xyz",
              b"view " + b"x" * 33 + b" time 5000", b"view p close ", b"nothing of the kind", b"\xff\0\r", b" keys",
              b"view p root " + b"0" * 40 + b" 256", b"dump all", b"watch w off", b"load trust-roots", b"list p",
+             b"cursor c over p 0", b"cursor c next", b"cursor C next 1", b"store trust-root", b"store", b"cursor c close ",
              b"list p 0", b"list P 120", b"explain p " + b"0" * 40, b"explain p", b"pending ", b"pending p"]
 
 
@@ -61,6 +62,18 @@ class World:
         """The lines that make all of it known."""
         return self.imports + [b"verdict %s good %s" % verdict for verdict in self.verdicts]
 
+    def make_directory(self, folder):
+        """A certificate directory: entries of some keys, a misfiled one, a damaged one, and one of a wrong kind."""
+        entries = {fpr: bytes.fromhex(line[7:].decode()) for fpr, line in zip(self.fprs, self.imports[4::5])}
+        entries[self.fprs[3]] = entries[self.fprs[4]]
+        entries[self.fprs[5]] = entries[self.fprs[5]][:-7]
+        entries[self.fprs[6]] = b"\x99\0\0"
+        for fpr, octets in [*entries.items()][:9]:
+            place = folder / fpr[:2].decode() / fpr[2:].decode()
+            place.parent.mkdir(parents=True, exist_ok=True)
+            place.write_bytes(octets)
+        (folder / "trust-root").write_bytes(entries[self.fprs[8]])
+
 
 class Chatter:
     """Random lines of one client."""
@@ -71,7 +84,8 @@ class Chatter:
 
     def lines(self, count):
         front = [b"view p time 5000", b"view p root %s 120" % self._pick(self._world.fprs)]
-        makers = [self._view] * 5 + [self._ask] * 6 + [self._tell] * 3 + [self._change] * 4 + [self._other, self._odd]
+        makers = [self._view] * 5 + [self._ask] * 6 + [self._tell] * 3 + [self._change] * 4 + \
+            [self._cursor] * 4 + [self._directory, self._other, self._odd]
         return front + [self._pick(makers)() for _ in range(count)]
 
     def _pick(self, items):
@@ -116,6 +130,16 @@ class Chatter:
             signed, issuer = self._pick(self._world.verdicts)
             return b"verdict %s %s" % (signed, self._pick([b"good " + issuer] * 4 + [b"bad", b"none"]))
         return b"drop " + self._pick(self._world.fprs)
+
+    def _cursor(self):
+        name, draw = self._pick([b"c", b"d", b"-"]), self._random.random()
+        if draw < 0.4:
+            return b"cursor %s over %s %s" % (name, self._pick(NAMES[:2]), self._pick([b"1", b"40", b"120"]))
+        return b"cursor %s %s" % (name, self._pick([b"next 1", b"next 2", b"next 50", b"next 3", b"close"]))
+
+    def _directory(self):
+        name = self._pick([*self._world.fprs, b"trust-root"])
+        return b"%s %s" % (self._pick([b"load", b"store"]), name)
 
     def _other(self):
         return self._pick([b"keys", b"dump", b"export " + self._pick(self._world.fprs)])

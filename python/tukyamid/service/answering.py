@@ -1,0 +1,168 @@
+"""The lines that the service answers itself: those of the certificate directory, and those that begin with `service`."""
+
+from __future__ import annotations
+
+import asyncio
+import os
+import re
+from collections.abc import Callable
+from pathlib import Path
+
+from tukyamid.spelling import read_user_id, write_user_id
+
+from .committing import FAULT
+from .database import Binding, DatabaseFault, Finder
+from .directory import Directory, DirectoryFailed
+from .keyrings import Keyrings
+from .outbox import Slot
+from .session import MAY_CHANGE, REFUSED_LINE, REFUSED_READ_ONLY, Session
+
+_KEY = re.compile(rb"[0-9a-fA-F]{16}|[0-9a-fA-F]{40}|[0-9a-fA-F]{64}")
+_FPR = re.compile(rb"[0-9a-fA-F]{40}|[0-9a-fA-F]{64}")
+_COUNT = re.compile(rb"[1-9][0-9]{0,5}")
+_REFUSED_ABSENT = b"refused absent\n"
+
+# Names and values that the service knows of itself.
+Status = Callable[[], list[tuple[str, object]]]
+
+
+def shown(text: str) -> bytes:
+    """A text of the system's, as a path, in the spelling of user IDs."""
+    return str(write_user_id(os.fsencode(text))).encode()
+
+
+def listed(head: bytes, lines: list[bytes]) -> bytes:
+    return b"".join([b"%s %d\n" % (head, len(lines)), *(line + b"\n" for line in lines)])
+
+
+class Answering:
+    def __init__(self, directory: Directory, keyrings: Keyrings, status: Status) -> None:
+        self._directory = directory
+        self._keyrings = keyrings
+        self._status = status
+
+    async def answer(self, session: Session, slot: Slot, line: bytes) -> None:
+        """Answers one line."""
+        try:
+            if line.partition(b" ")[0] in MAY_CHANGE:
+                async with self._directory.lock:
+                    reply = await self._of_directory(session, line)
+            else:
+                reply = await self._of_service(session, line)
+        except DatabaseFault:
+            reply = FAULT
+        except DirectoryFailed as failed:
+            reply = failed.reply
+        session.outbox.answer(slot, reply)
+
+    async def _of_directory(self, session: Session, line: bytes) -> bytes | None:
+        word, _, rest = line.partition(b" ")
+        if word == b"load":
+            reply, octets = await self._directory.load(line)
+            if octets is None:
+                session.hub.note(session.number, line)
+                return reply
+            return await asked(session, b"import " + octets.hex().encode(), is_change=True, noted=line)
+        exported = await asked(session, b"export " + rest, is_change=False, noted=line)
+        if exported is None or not exported.startswith(b"export "):
+            return exported
+        return await self._directory.store(line, bytes.fromhex(exported[7:-1].decode()))
+
+    async def _of_service(self, session: Session, line: bytes) -> bytes:
+        _, word, *rest = [*line.split(b" ", 2), b""]
+        text = rest[0]
+        match word:
+            case b"status" if line == b"service status":
+                return await self._tell_status(session)
+            case b"find":
+                return await self._find(session, text)
+            case b"issuers" if _FPR.fullmatch(text):
+                return await self._tell_issuers(session, bytes.fromhex(text.decode()))
+            case b"log" if _COUNT.fullmatch(text):
+                return await self._tell_log(session, int(text))
+            case b"keyring":
+                return await self._of_keyring(session, text)
+        return REFUSED_LINE
+
+    async def _tell_status(self, session: Session) -> bytes:
+        figures = await session.hub.find(lambda finder: finder.figures())
+        sources = await session.hub.find(lambda finder: finder.sources())
+        pending = await asked(session, b"pending", is_change=False)
+        count = (pending or b"pending 0\n").split(b"\n", 1)[0].split(b" ")[1].decode()
+        values = [("certificates", figures.certificates), ("user-ids", figures.user_ids),
+                  ("verdicts", figures.verdicts), ("pending", count), ("change", figures.change),
+                  ("size", figures.octets), ("keyrings", len(sources)), *self._status()]
+        return listed(b"service status", [f"{name} ".encode() + shown(str(value)) for name, value in values])
+
+    async def _find(self, session: Session, text: bytes) -> bytes:
+        word, space, sought = text.partition(b" ")
+        try:
+            octets = read_user_id(sought)
+        except ValueError:
+            return REFUSED_LINE
+        if not space or not octets:
+            return REFUSED_LINE
+        look: Callable[[Finder], list[Binding]]
+        text_of = octets.decode("utf-8", "surrogateescape")
+        match word:
+            case b"address":
+                look = lambda finder: finder.by_address(text_of.lower())  # noqa: E731
+            case b"user-id":
+                look = lambda finder: finder.by_user_id(octets)  # noqa: E731
+            case b"part":
+                look = lambda finder: finder.by_part(text_of)  # noqa: E731
+            case b"key" if _KEY.fullmatch(sought):
+                look = lambda finder: finder.by_key(bytes.fromhex(sought.decode()))  # noqa: E731
+            case _:
+                return REFUSED_LINE
+        bindings = await session.hub.find(look)
+        return listed(b"service find", [f"bind {one.fpr} {write_user_id(one.user_id)}".encode() for one in bindings])
+
+    async def _tell_issuers(self, session: Session, fpr: bytes) -> bytes:
+        issuers = await session.hub.find(lambda finder: finder.issuers(fpr))
+        if issuers is None:
+            return _REFUSED_ABSENT
+        return listed(b"service issuers", [f"by {number.hex()} {issuer.hex()}".encode() for number, issuer in issuers])
+
+    async def _tell_log(self, session: Session, count: int) -> bytes:
+        entries = await session.hub.find(lambda finder: finder.log(count))
+        return listed(b"service log", [
+            f"change {one.number} {one.time} {one.actor.uid} {one.actor.pid} ".encode() + shown(one.what)
+            for one in entries])
+
+    async def _of_keyring(self, session: Session, text: bytes) -> bytes:
+        word, _, spelled = text.partition(b" ")
+        try:
+            name = os.fsdecode(read_user_id(spelled))
+        except ValueError:
+            return REFUSED_LINE
+        if word == b"list" and text == b"list":
+            sources = await session.hub.find(lambda finder: finder.sources())
+            return listed(b"service keyring", [line for one in sources for line in (
+                f"keyring {one.certificates} ".encode() + shown(one.name), b"fault " + shown(one.fault))
+                if one.fault or line.startswith(b"keyring ")])
+        if word not in (b"add", b"remove") or not (name == "gpg" or Path(name).is_absolute()):
+            return REFUSED_LINE
+        if not session.rights.may_change:
+            return REFUSED_READ_ONLY
+        if word == b"remove":
+            return b"ok\n" if await self._keyrings.remove(name) else _REFUSED_ABSENT
+        return await self._keyrings.add(name, session.actor, lambda text: session.outbox.say(
+            b"service progress " + shown(text) + b"\n"))
+
+
+async def asked(session: Session, line: bytes, is_change: bool, noted: bytes | None = None) -> bytes | None:
+    """What the engines say to a line."""
+    answered: asyncio.Future[bytes | None] = asyncio.get_running_loop().create_future()
+
+    def done(reply: bytes | None, count: int) -> None:
+        if not answered.done():
+            answered.set_result(reply)
+
+    if noted is not None:
+        session.hub.note(session.number, noted)
+    if is_change:
+        session.hub.change(line, session.actor, done)
+    else:
+        session.hub.ask(line, done)
+    return await answered

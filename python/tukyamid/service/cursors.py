@@ -1,0 +1,105 @@
+"""The cursors of one client. Whether one is stale is told by the counts of the service: an engine that took another's
+place has counts of its own."""
+
+from __future__ import annotations
+
+import re
+from functools import partial
+
+from .engine import ignore
+from .hub import Hub
+from .journal import Done
+from .outbox import Slot
+from .seats import Seat
+from .views import Views
+
+_LINE = re.compile(rb"cursor ([a-z0-9_-]{1,32}) (?:over ([a-z0-9_-]{1,32}) (0|[1-9][0-9]{0,9})|"
+                   rb"next (0|[1-9][0-9]{0,9})|close)")
+_MOST_WANTED = 2**32 - 1
+_MOST_CURSORS = 16
+
+
+class Cursor:
+    """A cursor of the client: the view of an engine that it goes over, its name there, the client's view with its turn
+    at the beginning, and the number of the last change then."""
+    __slots__ = ("seat", "name", "view", "turn", "count")
+
+    def __init__(self, seat: Seat, name: bytes, view: bytes, turn: int) -> None:
+        self.seat = seat
+        self.name = name
+        self.view = view
+        self.turn = turn
+        self.count = 0
+
+
+class Cursors:
+    def __init__(self, hub: Hub, views: Views) -> None:
+        self._hub = hub
+        self._views = views
+        self._cursors: dict[bytes, Cursor] = {}
+
+    def begin(self, slot: Slot, line: bytes, done: Done) -> None:
+        """Does a line `cursor ..`."""
+        match = _LINE.fullmatch(line)
+        number = match and (match.group(3) or match.group(4))
+        if match is None or number and not 1 <= int(number) <= _MOST_WANTED:
+            done(b"refused line\n", 0)
+            return
+        name, view_name, wanted, count = match.groups()
+        if wanted is not None:
+            self._over(slot, name, view_name, wanted, done)
+            return
+        cursor = self._cursors.get(name)
+        if cursor is None:
+            done(b"refused cursor\n", 0)
+        elif count is None:
+            del self._cursors[name]
+            self._end(cursor)
+            done(b"ok\n", 0)
+        else:
+            self._next(slot, cursor, count, done)
+
+    def _over(self, slot: Slot, name: bytes, view_name: bytes, wanted: bytes, done: Done) -> None:
+        view = self._views.get(view_name)
+        if view is None:
+            done(b"refused view\n", 0)
+            return
+        before = self._cursors.pop(name, None)
+        if before is not None:
+            self._end(before)
+        seat = self._hub.seats.pin(view.value, has_cursor=True) if len(self._cursors) < _MOST_CURSORS else None
+        if seat is None:
+            done(b"refused full cursors\n", 0)
+            return
+        cursor = self._cursors[name] = Cursor(seat, self._hub.seats.next_name(b"c"), view_name, view.turn)
+        slot.finish = partial(self._begun, cursor)
+        seat.engine.send(b"cursor %s over %s %s" % (cursor.name, seat.name, wanted), done)
+
+    @staticmethod
+    def _begun(cursor: Cursor, reply: bytes, count: int) -> bytes:
+        cursor.count = count
+        return reply
+
+    def _next(self, slot: Slot, cursor: Cursor, count: bytes, done: Done) -> None:
+        view = self._views.get(cursor.view)
+        if view is None:
+            done(b"refused view\n", 0)
+            return
+        slot.finish = partial(self._told, cursor, view.turn)
+        cursor.seat.engine.send(b"cursor %s next %s" % (cursor.name, count), done)
+
+    @staticmethod
+    def _told(cursor: Cursor, turn: int, reply: bytes, count: int) -> bytes:
+        if cursor.count != count:
+            return b"stale keyring %d %d\n" % (cursor.count, count)
+        return reply if cursor.turn == turn else b"stale view %d %d\n" % (cursor.turn, turn)
+
+    def _end(self, cursor: Cursor) -> None:
+        cursor.seat.engine.send(b"cursor %s close" % cursor.name, ignore, is_inner=True)
+        self._hub.seats.unpin(cursor.seat, has_cursor=True)
+
+    def close(self) -> None:
+        """The client is gone."""
+        for cursor in self._cursors.values():
+            self._end(cursor)
+        self._cursors.clear()

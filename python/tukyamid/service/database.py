@@ -1,0 +1,163 @@
+"""What the service asks of a database, whichever one it is: `sqlite` is one that keeps everything in a file.
+
+A change is what one line of a client made of certificates or verdicts. The database numbers changes in the order in
+which they are applied, and makes each of them whole or not at all.
+"""
+
+from collections.abc import Iterable, Iterator, Sequence
+from dataclasses import dataclass
+from pathlib import Path
+from typing import Protocol
+
+BAD = b""
+
+
+class DatabaseFault(Exception):
+    """The database can't be read or written; the text says why."""
+
+
+@dataclass(frozen=True)
+class Actor:
+    """Who made a change: the user and the process at the other end of the socket."""
+    uid: int
+    pid: int
+
+
+@dataclass(frozen=True)
+class PutCertificate:
+    """A certificate as the engine holds it now."""
+    fpr: bytes
+    octets: bytes
+
+
+@dataclass(frozen=True)
+class DropCertificate:
+    fpr: bytes
+
+
+@dataclass(frozen=True)
+class SetVerdict:
+    """The signature is by `issuer`; it is nobody's where that is `BAD`; None takes the verdict away."""
+    number: bytes
+    issuer: bytes | None
+
+
+Effect = PutCertificate | DropCertificate | SetVerdict
+
+
+@dataclass(frozen=True)
+class Change:
+    """What one line made of the keyring, in the words of the log."""
+    what: str
+    actor: Actor
+    effects: tuple[Effect, ...]
+
+
+@dataclass(frozen=True)
+class LogEntry:
+    number: int
+    time: int
+    actor: Actor
+    what: str
+
+
+@dataclass(frozen=True)
+class Binding:
+    fpr: str
+    user_id: bytes
+
+
+@dataclass(frozen=True)
+class Figures:
+    """What is there, in numbers."""
+    certificates: int
+    user_ids: int
+    verdicts: int
+    change: int
+    octets: int
+
+
+@dataclass(frozen=True)
+class Source:
+    """A keyring that the service watches: a file, a directory, or `gpg`. `digest` is that of what was read last, and
+    `fault` says why it couldn't be read the last time."""
+    name: str
+    digest: bytes = b""
+    certificates: int = 0
+    fault: str = ""
+
+
+class Snapshot(Protocol):
+    """The keyring at one moment, whatever changes later."""
+
+    @property
+    def change(self) -> int:
+        """The number of the last change that it has."""
+
+    def count(self) -> int:
+        """How many lines it has."""
+
+    def lines(self) -> Iterator[bytes]:
+        """The lines that make it, without line feeds: certificates by fingerprint, then verdicts by number."""
+
+    def certificates(self) -> Iterator[bytes]:
+        """The octets of each certificate."""
+
+    def close(self) -> None: ...
+
+
+class Finder(Protocol):
+    """Reads what has been committed. One thread uses it at a time."""
+
+    def figures(self) -> Figures: ...
+
+    def by_address(self, address: str) -> list[Binding]: ...
+
+    def by_user_id(self, user_id: bytes) -> list[Binding]: ...
+
+    def by_part(self, part: str) -> list[Binding]:
+        """The bindings whose user ID has this part, of any case."""
+
+    def by_key(self, key: bytes) -> list[Binding]:
+        """The bindings of a fingerprint, or of each key of a key ID."""
+
+    def issuers(self, fpr: bytes) -> list[tuple[bytes, bytes]] | None:
+        """The number and the issuer of each good signature of a certificate; None where it isn't there."""
+
+    def log(self, count: int) -> list[LogEntry]:
+        """The last changes, the newest first."""
+
+    def sources(self) -> list[Source]: ...
+
+    def close(self) -> None: ...
+
+
+class Database(Protocol):
+    """Writes changes, and opens what reads them. One thread uses it at a time."""
+
+    def apply(self, changes: Sequence[Change]) -> list[int]:
+        """Commits these changes at once, and gives behind each the number of the last change so far: one that changes
+        nothing takes no number. DatabaseFault where they can't be committed; then none of them is."""
+
+    def probe(self) -> None:
+        """DatabaseFault where nothing can be committed at present."""
+
+    def fill(self, lines: Iterable[bytes], what: str, actor: Actor) -> int:
+        """Puts the lines of a dump into the place of everything, as one change, and gives its number."""
+
+    def snapshot(self) -> Snapshot: ...
+
+    def finder(self) -> Finder: ...
+
+    def put_source(self, source: Source) -> None: ...
+
+    def drop_source(self, name: str) -> bool:
+        """Whether it was there."""
+
+    def check(self) -> list[str]:
+        """What is wrong with it: one text each."""
+
+    def backup(self, path: Path) -> None:
+        """Writes a copy of it, whole, while it may be in use."""
+
+    def close(self) -> None: ...

@@ -1,0 +1,109 @@
+"""Reading the SQLite database: the whole of it at one moment, and what is looked up in it."""
+
+import sqlite3
+from binascii import hexlify
+from collections.abc import Iterator
+from pathlib import Path
+
+from .database import Actor, Binding, DatabaseFault, Figures, LogEntry, Source
+
+_BINDINGS = "SELECT fingerprint, user_id FROM user_ids JOIN certificates ON certificates.id = user_ids.certificate"
+_VERDICTS = "FROM verdicts WHERE issuer IS NOT NULL"
+
+
+class SqliteSnapshot:
+    """The keyring as it stood when this was opened: a transaction that only reads."""
+
+    def __init__(self, connection: sqlite3.Connection) -> None:
+        self._connection = connection
+        connection.execute("PRAGMA query_only = ON")
+        connection.execute("BEGIN")
+        self.change = int(connection.execute("SELECT coalesce(max(number), 0) FROM changes").fetchone()[0])
+
+    def count(self) -> int:
+        certificates = self._connection.execute("SELECT count(*) FROM certificates").fetchone()[0]
+        return int(certificates) + int(self._connection.execute(f"SELECT count(*) {_VERDICTS}").fetchone()[0])
+
+    def lines(self) -> Iterator[bytes]:
+        for octets in self.certificates():
+            yield b"import " + hexlify(octets)
+        for number, issuer in self._connection.execute(f"SELECT number, issuer {_VERDICTS} ORDER BY number"):
+            yield b"verdict %s " % hexlify(number) + (b"good " + hexlify(issuer) if issuer else b"bad")
+
+    def certificates(self) -> Iterator[bytes]:
+        for (octets,) in self._connection.execute("SELECT octets FROM certificates ORDER BY fingerprint"):
+            yield octets
+
+    def close(self) -> None:
+        self._connection.close()
+
+
+class SqliteFinder:
+    """Looks up what has been committed by now."""
+
+    def __init__(self, connection: sqlite3.Connection, path: Path) -> None:
+        self._connection = connection
+        self._path = path
+        connection.execute("PRAGMA query_only = ON")
+
+    def _rows(self, query: str, *values: object) -> list[tuple[object, ...]]:
+        try:
+            return self._connection.execute(query, values).fetchall()
+        except sqlite3.Error as error:
+            raise DatabaseFault(f"{self._path}: {error}") from None
+
+    def _bindings(self, condition: str, *values: object) -> list[Binding]:
+        rows = self._rows(f"{_BINDINGS} WHERE {condition} ORDER BY fingerprint, user_id", *values)
+        return [Binding(_octets(fpr).hex(), _octets(user_id)) for fpr, user_id in rows]
+
+    def figures(self) -> Figures:
+        (row,) = self._rows(
+            "SELECT (SELECT count(*) FROM certificates), (SELECT count(*) FROM user_ids), "
+            f"(SELECT count(*) {_VERDICTS}), (SELECT coalesce(max(number), 0) FROM changes), "
+            "(SELECT page_count * page_size FROM pragma_page_count, pragma_page_size)")
+        return Figures(*map(_number, row))
+
+    def by_address(self, address: str) -> list[Binding]:
+        return self._bindings("address = ?", address)
+
+    def by_user_id(self, user_id: bytes) -> list[Binding]:
+        return self._bindings("user_id = ?", user_id)
+
+    def by_part(self, part: str) -> list[Binding]:
+        sought = part.casefold()
+        return [binding for binding in self._bindings("1")
+                if sought in binding.user_id.decode("utf-8", "surrogateescape").casefold()]
+
+    def by_key(self, key: bytes) -> list[Binding]:
+        return self._bindings("key_id = ?" if len(key) == 8 else "fingerprint = ?", key)
+
+    def issuers(self, fpr: bytes) -> list[tuple[bytes, bytes]] | None:
+        place = self._rows("SELECT id FROM certificates WHERE fingerprint = ?", fpr)
+        if not place:
+            return None
+        rows = self._rows("SELECT number, issuer FROM verdicts WHERE certificate = ? AND length(issuer) > 0 "
+                          "ORDER BY number", *place[0])
+        return [(_octets(number), _octets(issuer)) for number, issuer in rows]
+
+    def log(self, count: int) -> list[LogEntry]:
+        rows = self._rows("SELECT number, time, uid, pid, what FROM changes ORDER BY number DESC LIMIT ?", count)
+        return [LogEntry(_number(row[0]), _number(row[1]), Actor(_number(row[2]), _number(row[3])), str(row[4]))
+                for row in rows]
+
+    def sources(self) -> list[Source]:
+        return [Source(str(name), _octets(digest), _number(certificates), str(fault)) for
+                name, digest, certificates, fault in
+                self._rows("SELECT name, digest, certificates, fault FROM sources ORDER BY name")]
+
+    def close(self) -> None:
+        self._connection.close()
+
+
+def _octets(value: object) -> bytes:
+    assert isinstance(value, bytes)
+    return value
+
+
+def _number(value: object) -> int:
+    assert isinstance(value, int)
+    return value

@@ -1,0 +1,78 @@
+"""Where a user's socket and database are, and the locks that keep each to one service."""
+
+from __future__ import annotations
+
+import fcntl
+import os
+import stat
+from pathlib import Path
+
+
+class Taken(OSError):
+    """Another process has the lock."""
+
+
+def default_socket() -> Path:
+    """The socket of the user's service: in the folder that the session made for such things, else in one of the user's
+    own below /tmp."""
+    folder = os.environ.get("XDG_RUNTIME_DIR")
+    return Path(folder) / "tukyamid.socket" if folder else _folder_in_tmp() / "tukyamid.socket"
+
+
+def default_database() -> Path:
+    return _data() / "tukyamid" / "keyring.db"
+
+
+def default_directory() -> Path:
+    """The certificate directory that the user's other programs share."""
+    named = os.environ.get("PGP_CERT_D")
+    return Path(named) if named else _data() / "pgp.cert.d"
+
+
+def default_log() -> Path:
+    """Where a service that was started by a command writes what it has to say."""
+    state = os.environ.get("XDG_STATE_HOME")
+    return (Path(state) if state else Path.home() / ".local" / "state") / "tukyamid" / "service.log"
+
+
+def _data() -> Path:
+    named = os.environ.get("XDG_DATA_HOME")
+    return Path(named) if named else Path.home() / ".local" / "share"
+
+
+def _folder_in_tmp() -> Path:
+    """A folder that is the user's alone, whoever else may write to /tmp; OSError where there is another thing."""
+    folder = Path("/tmp") / f"tukyamid-{os.getuid()}"
+    folder.mkdir(mode=0o700, exist_ok=True)
+    found = folder.lstat()
+    if not stat.S_ISDIR(found.st_mode) or found.st_uid != os.getuid() or found.st_mode & 0o077:
+        raise PermissionError(f"{folder} isn't a folder of yours alone; set XDG_RUNTIME_DIR")
+    return folder
+
+
+class Lock:
+    """A lock file. It stays where it is, so that all lock the same; its lock ends with its holder."""
+
+    def __init__(self, path: Path, waits: bool = False) -> None:
+        """Takes the lock; `Taken` where another process has it and this one isn't to wait."""
+        self._file = os.open(path, os.O_RDWR | os.O_CREAT, 0o600)
+        try:
+            fcntl.flock(self._file, fcntl.LOCK_EX | (0 if waits else fcntl.LOCK_NB))
+        except BlockingIOError:
+            os.close(self._file)
+            raise Taken(f"another process uses {path.with_suffix('')}") from None
+
+    def __enter__(self) -> Lock:
+        return self
+
+    def __exit__(self, *_: object) -> None:
+        self.release()
+
+    def release(self) -> None:
+        if self._file >= 0:
+            os.close(self._file)
+            self._file = -1
+
+
+def beside(path: Path, ending: str) -> Path:
+    return path.with_name(path.name + ending)

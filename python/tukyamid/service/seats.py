@@ -1,0 +1,105 @@
+"""Views of the engines: clients whose views are equal share one, and one that nobody used for long makes room."""
+
+from __future__ import annotations
+
+from collections.abc import Callable
+from itertools import count
+
+from .engine import Engine, ignore
+from .views import Value, lines_of
+
+VIEWS_OF_AN_ENGINE = 16
+CURSORS_OF_AN_ENGINE = 16
+_MOST_PINNED = VIEWS_OF_AN_ENGINE - 1  # So that a question always finds a place.
+_BACKLOG = 8
+
+
+class Seat:
+    """A view of an engine. One that is pinned stays until whoever pinned it lets go."""
+    __slots__ = ("engine", "name", "value", "pins", "used")
+
+    def __init__(self, engine: Engine, name: bytes, value: Value | None, used: int) -> None:
+        self.engine = engine
+        self.name = name
+        self.value = value
+        self.pins = 0
+        self.used = used
+
+
+class Seats:
+    def __init__(self, least_busy: Callable[[], Engine], engines: list[Engine]) -> None:
+        self._least_busy = least_busy
+        self._engines = engines
+        self._seats: dict[Engine, list[Seat]] = {}
+        self._shared: dict[Value, list[Seat]] = {}
+        self._cursors: dict[Engine, int] = {}
+        self._ticks = count()
+        self._names = count(1)
+
+    def find(self, value: Value) -> Seat:
+        """A view of this value, at an engine that isn't busier than others need be."""
+        shared = self._shared.get(value)
+        if shared:
+            seat = shared[0] if len(shared) == 1 else min(shared, key=lambda one: len(one.engine.waiting))
+            if len(seat.engine.waiting) <= _BACKLOG or len(self._engines) == 1 and seat.engine.lag() < 0.01:
+                seat.used = next(self._ticks)
+                return seat
+            engine = self._least_busy()
+            if len(engine.waiting) + _BACKLOG >= len(seat.engine.waiting):
+                seat.used = next(self._ticks)
+                return seat
+            return self._open(engine, value)
+        return self._open(self._least_busy(), value)
+
+    def pin(self, value: Value, has_cursor: bool) -> Seat | None:
+        """A view of this value that stays; None where no engine has room. One with a cursor is shared, since what it
+        is told never turns it; any other is its client's own."""
+        for engine in sorted(self._engines, key=lambda one: len(self._seats.get(one, ()))):
+            if has_cursor and self._cursors.get(engine, 0) >= CURSORS_OF_AN_ENGINE:
+                continue
+            seat = next((one for one in self._shared.get(value, ()) if one.engine is engine), None)
+            if not has_cursor or seat is None:
+                if sum(one.pins > 0 for one in self._seats.get(engine, ())) >= _MOST_PINNED:
+                    continue
+                seat = self._open(engine, value, is_shared=has_cursor)
+            if has_cursor:
+                self._cursors[engine] = self._cursors.get(engine, 0) + 1
+            seat.pins += 1
+            return seat
+        return None
+
+    def unpin(self, seat: Seat, has_cursor: bool) -> None:
+        seat.pins -= 1
+        if has_cursor:
+            self._cursors[seat.engine] -= 1
+        elif not seat.pins:
+            self._close(seat)
+
+    def leave(self, seat: Seat) -> None:
+        """A view of a client's own that the client has closed."""
+        self._seats[seat.engine].remove(seat)
+
+    def next_name(self, letter: bytes) -> bytes:
+        """A name that an engine has for nothing else."""
+        return b"%s%d" % (letter, next(self._names))
+
+    def _open(self, engine: Engine, value: Value, is_shared: bool = True) -> Seat:
+        seats = self._seats.setdefault(engine, [])
+        if len(seats) >= VIEWS_OF_AN_ENGINE:
+            self._close(min((seat for seat in seats if not seat.pins), key=lambda seat: seat.used))
+        seat = Seat(engine, self.next_name(b"v"), value if is_shared else None, next(self._ticks))
+        seats.append(seat)
+        if is_shared:
+            self._shared.setdefault(value, []).append(seat)
+        for line in lines_of(seat.name, value):
+            engine.send(line, ignore, is_inner=True)
+        return seat
+
+    def _close(self, seat: Seat) -> None:
+        seat.engine.send(b"view %s close" % seat.name, ignore, is_inner=True)
+        self._seats[seat.engine].remove(seat)
+        if seat.value is not None:
+            shared = self._shared[seat.value]
+            shared.remove(seat)
+            if not shared:
+                del self._shared[seat.value]
