@@ -38,7 +38,5 @@ mod StaleTold
 mod Telling
 mod Worth
 mod Settling
-mod Asking
-mod Judging
 mod GoingOn
 mod Slices

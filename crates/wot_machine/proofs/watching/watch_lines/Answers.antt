@@ -1,5 +1,4 @@
-use Rattle.std.proofs.Common.{None, Some, List, ap, arith, subst, sym, ◌∷◌, ◌∙◌}
-use Rattle.std.specs.Prelude.{is_ok}
+use Rattle.std.proofs.Common.{None, Some, List, arith, subst, sym, ◌∷◌, ◌∙◌}
 use Rattle.std.specs.List.{AllByRecursion}
 use Rattle.wot_script.specs.declared.reply.Reply.{Reply}
 use Rattle.wot_cache.specs.Basis.{Basis}
@@ -7,7 +6,6 @@ use Rattle.wot_cache.specs.State.{State, state_of}
 use Rattle.wot_watch.specs.Watches.{Watch, Watches}
 use Rattle.wot_machine.specs.Settled.{IsSettled}
 use Rattle.wot_machine.specs.Watching.{IsLine, IsWatchLine}
-use Rattle.wot_machine.proofs.Asking.{MakesSoFar, so_far_done, so_far_failed, so_far_more}
 use Rattle.wot_machine.proofs.Making.{same_state}
 use Rattle.wot_machine.proofs.Settling.{SettlesSoFar, all_later, present_grown, settled_before, settles_all, settles_not, settles_still, stays_back}
 use Rattle.wot_machine.proofs.Watched.{AreSoFar, all_more, line_is_watch, so_far_all, so_far_line, so_far_still}
@@ -41,10 +39,6 @@ rest-preserved-in-Continue-branch-3 c =
       present_grown c.args.engine.now c.rest.basis c.watch_line.new.basis c.watch_line.ensures.grown kept.6,
       subst (λ (ls : List Reply). SettlesSoFar c.args.engine.now c.watch_line.new.basis all c.next.new.self ls) (sym pushed)
           (settles_not c.args.engine.now c.watch_line.new.basis all c.next.new.self c.in-Some-2.line c.rest.lines.items),
-      so_far_more c.args.engine.now c.args.steps.now.made all c.next.new.self c.in-Some.name.now c.in-Some.watch.now c.rest.engine c.watch_line.new.engine
-          c.rest.steps.made c.watch_line.new.steps.made c.watch_line.result (ap is_ok c.in_ok-line.is)
-          (subst (λ (ws : Watches). MakesSoFar c.args.engine.now c.args.steps.now.made all ws c.rest.engine c.rest.steps.made) c.in-Some.ensures.steps kept.8)
-          c.watch_line.ensures.makes,
     )
 
 pub rest-preserved : goal.rest-preserved
@@ -80,10 +74,6 @@ rest-preserved c =
       present_grown engine old new c.watch_line.ensures.grown kept.6,
       settles_still c.rests_on.ensures.grown engine old new all c.next.new.self name watch c.rest.lines.items settles
           c.watch_line.ensures.grown settled,
-      so_far_more engine c.args.steps.now.made all c.next.new.self c.in-Some.name.now c.in-Some.watch.now c.rest.engine c.watch_line.new.engine
-          c.rest.steps.made c.watch_line.new.steps.made c.watch_line.result (ap is_ok c.in_ok-line.is)
-          (subst (λ (ws : Watches). MakesSoFar engine c.args.steps.now.made all ws c.rest.engine c.rest.steps.made) c.in-Some.ensures.steps kept.8)
-          c.watch_line.ensures.makes,
     )
 
 pub returns-clause-settled : goal.returns-clause-settled
@@ -97,8 +87,3 @@ pub returns-clause-lines : goal.returns-clause-lines
 returns-clause-lines c =
     so_far_all (state_of c.args.engine.now) c.args.watches.now c.rest.rest c.rest.lines.items c.rest.invariant.2
     c.in_default.ensures.steps.0
-
-pub returns-clause-makes : goal.returns-clause-makes
-returns-clause-makes c =
-    so_far_done c.args.engine.now c.args.steps.now.made c.args.watches.now c.rest.engine c.rest.steps.made c.rest.rest _
-    c.in_default.ensures.steps.0 c.rest.invariant.8
