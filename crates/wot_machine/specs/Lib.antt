@@ -23,6 +23,7 @@ pub mod GoesOn
 pub mod Depends
 pub mod Machine
 pub mod Made
+pub mod Asked
 pub mod Joined
 pub mod Worth
 pub mod Settled
