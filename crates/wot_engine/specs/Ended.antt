@@ -32,8 +32,8 @@ pub record Finished (rows : PolicyRows) (world : World) (lines : List (List ℕ)
   pub written : after ≡ Some (before ++ octets_of replies)
   pub left : IsNow origin shelf told.last.world
 
--- That is so of all whole lines of the octets taken. Where nothing is left, a last line without a line feed may count as
--- whole.
+-- That is so of all whole lines of the octets taken. Where nothing is left, a last line without a line feed may count
+-- as whole.
 pub record FinishedTaken (rows : PolicyRows) (world : World) (input before : List ℕ) (left after : Option (List ℕ))
     (origin shelf : Option World) : Type 0 where
   pub octets : List ℕ

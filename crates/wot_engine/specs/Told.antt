@@ -32,8 +32,8 @@ abbrev pub WritesPrefix : PolicyRows → Octets → Octets → Ends (Option Worl
 WritesPrefix rows input output shelf = OnContents input output shelf (λ octets before world.
     Begun rows world (lines_of octets) before output.new)
 
--- Some first lines were answered, of whose replies a prefix was written. The shelf is as they leave it, but for what the
--- next line puts.
+-- Some first lines were answered, of whose replies a prefix was written. The shelf is as they leave it, but for what
+-- the next line puts.
 abbrev pub ReachesSome : PolicyRows → Octets → Octets → Ends (Option World) → Type 0
 ReachesSome rows input output shelf = OnContents input output shelf (λ octets before world.
     Reached rows world (lines_of octets) before output.new shelf.old shelf.new)

@@ -81,7 +81,8 @@ fn say<D: Shelf, F: Fn(Ask) -> bool>(
     requires faithful { IsFaithful F.Fn policy.old }
     ensures said { OnOk result (Says (rows_of policy.old) line text.now
         (ends kept machine) (ends D.world shelf) (ends vec_items out)) }
-    ensures entries { OnErr result (MayPutTo (state_of machine.old.engine) (use_by line text.now) (ends D.world shelf)) }
+    ensures entries { OnErr result (MayPutTo (state_of machine.old.engine) (use_by line text.now)
+        (ends D.world shelf)) }
     ensures kept { OnErr result (out.new.items ≡ out.old.items) }
     ensures counted { machine.new.engine.keyring.changes ≤ machine.old.engine.keyring.changes + 1 }
     ensures turned { machine.new.engine.turns.count ≤ machine.old.engine.turns.count + 1 }
@@ -113,7 +114,8 @@ fn reply_to<D: Shelf, F: Fn(Ask) -> bool>(
     requires faithful { IsFaithful F.Fn policy.old }
     ensures replies { OnOk result (SaysAll (rows_of policy.old) line text.now
         (ends kept machine) (ends D.world shelf) (ends vec_items out)) }
-    ensures entries { OnErr result (MayPutTo (state_of machine.old.engine) (use_by line text.now) (ends D.world shelf)) }
+    ensures entries { OnErr result (MayPutTo (state_of machine.old.engine) (use_by line text.now)
+        (ends D.world shelf)) }
     ensures kept { OnErr result (out.new.items ≡ out.old.items) }
     ensures counted { machine.new.engine.keyring.changes ≤ machine.old.engine.keyring.changes + 1 }
     ensures turned { machine.new.engine.turns.count ≤ machine.old.engine.turns.count + 1 }

@@ -12,8 +12,8 @@ use Rattle.wot_cache.specs.State.{State}
 abbrev pub sound_in : State → ℕ
 sound_in s = weigh sound_of s.held.certs
 
--- The policy was asked once for each sound signature that was added; a refused line adds none. Where no memory was found
--- it may have been asked before that was seen.
+-- The policy was asked once for each sound signature that was added; a refused line adds none. Where no memory was
+-- found it may have been asked before that was seen.
 pub record AsksForNew {T E F : Type 0} (result : Result T E) (old new : State) (before after : Policy F) : Type 0 where
   pub times : ℕ
   pub asked : after ≡ asked_more times before

@@ -23,11 +23,12 @@ HaveSameReplies [] [] = Unit {0}
 HaveSameReplies (e ∷ es) (f ∷ fs) = (is_of_state (heard e.line) ≡ true → e.reply ≡ f.reply) × HaveSameReplies es fs
 HaveSameReplies es fs = ⊥
 
--- Lines led from the start to a state, of which a dump was made anew. Whatever lines come then, over the same shelf, the
--- two replies to each of them are the same.
+-- Lines led from the start to a state, of which a dump was made anew. Whatever lines come then, over the same shelf,
+-- the two replies to each of them are the same.
 abbrev pub FreshMachinesGoOn : PolicyRows → Type 0
 FreshMachinesGoOn rows =
-    (world : World) (lines : List (List ℕ)) (told : List Reply) (last : Scene) → Run rows (opening world) lines told last
+    (world : World) (lines : List (List ℕ)) (told : List Reply) (last : Scene)
+    → Run rows (opening world) lines told last
     → (anew : IsMadeAnew rows last.whole.state) (mine theirs : List Exchange) (here there : Scene)
     → Passes rows last mine here → Passes rows (record { whole = anew.new; world = last.world }) theirs there
     → lines_in mine ≡ lines_in theirs → HaveSameReplies mine theirs

@@ -64,8 +64,8 @@ pub fn reached_states_are_judged()
     judging();
 }
 
-/// A fresh machine that was given the lines of a dump goes on as the one that dumped: whatever lines come then, over the
-/// same shelf, each reply that isn't to a command of a cursor or of a watch is the same.
+/// A fresh machine that was given the lines of a dump goes on as the one that dumped: whatever lines come then, over
+/// the same shelf, each reply that isn't to a command of a cursor or of a watch is the same.
 pub fn fresh_machines_go_on()
     ensures { (rows : PolicyRows) → FreshMachinesGoOn rows }
 {
