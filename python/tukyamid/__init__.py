@@ -16,7 +16,7 @@ if TYPE_CHECKING:
     from .claims import Claim, ClaimedStep, Label
     from .client import Client, connect
     from .engine import Engine, Listing
-    from .keyring import Keyring, VerifierFailed
+    from .keyring import Keyring
     from .refusals import (EngineEnded, EngineMissing, ProtocolError, Refused, ServiceEnded, ServiceMissing,
                            TukyamidError)
     from .replies import (Accepted, Answer, Binding, Done, Explanation, Exported, Gone, Key, Missed, Path,
@@ -24,18 +24,20 @@ if TYPE_CHECKING:
     from .scripts import read_command
     from .spelling import address, for_people, read_user_id, write_user_id
     from .store import Store
+    from .verifier import VerifierFailed
 
 _HOMES = {
     "claims": "Claim ClaimedStep Label",
     "client": "Client connect",
     "engine": "Engine Listing",
-    "keyring": "Keyring VerifierFailed",
+    "keyring": "Keyring",
     "refusals": "EngineEnded EngineMissing ProtocolError Refused ServiceEnded ServiceMissing TukyamidError",
     "replies": "Accepted Answer Binding Done Explanation Exported Gone Key Missed Path PendingSignature Reached Reason "
                "Rejected Reply Stale Step Stored Taken Watched",
     "scripts": "read_command",
     "spelling": "address for_people read_user_id write_user_id",
     "store": "Store",
+    "verifier": "VerifierFailed",
 }
 _HOME_OF = {name: home for home, names in _HOMES.items() for name in names.split()}
 

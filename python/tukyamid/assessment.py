@@ -1,14 +1,18 @@
-"""An answer with what people want to know of it: who, when, by which signature, and why others did not count."""
+"""An answer with what people want to know about it: who, when, by which signature, and why others don't count."""
 
 import functools
-from dataclasses import dataclass
+from collections.abc import Callable, Mapping
+from typing import NamedTuple, Protocol
 
+from .certificates import Signature
+from .keyring import View
+from .lifetimes import Expired, expired_elsewhere
 from .reasons import MissingWord, ReasonWord, TargetWord
+from .replies import Binding, Explanation, Reason, Step
 
 
-@dataclass(frozen=True)
-class Certification:
-    """A certification of a user ID. `number`, `made` and `ends` are None where the signature wasn't found."""
+class Certification(NamedTuple):
+    """A certification of a user ID. `number`, `made` and `ends` are None if the signature wasn't found."""
     issuer: str | None
     target: str
     user_id: bytes
@@ -17,68 +21,84 @@ class Certification:
     number: str | None = None
     made: int | None = None
     ends: int | None = None
-    scopes: tuple = ()
+    scopes: tuple[bytes, ...] = ()
 
 
-@dataclass(frozen=True)
-class ShownPath:
+class ShownPath(NamedTuple):
     amount: int
     root: str
-    steps: tuple
+    steps: tuple[Certification, ...]
 
 
-@dataclass(frozen=True)
-class Other:
+class Other(NamedTuple):
     """A certification on the user ID that is on no path, with the engine's word for it, and what that means here."""
     certification: Certification
     word: ReasonWord
     meaning: str
 
 
-@dataclass(frozen=True)
-class Assessment:
-    """An answer with what is told of it. `word` is the target's, `ok` where it is in order."""
+class Assessment(NamedTuple):
+    """An answer with what is said about it. `word` is the target's, `ok` if it is in order. `expired` says which other
+    programs take the key as expired, and `strict` that the answer then isn't reached. `brief` is for long lists:
+    neither paths nor other certifications were asked for."""
     fpr: str
     user_id: bytes
     wanted: int
     amount: int
-    paths: tuple
+    paths: tuple[ShownPath, ...]
     word: TargetWord | MissingWord
-    others: tuple
+    others: tuple[Other, ...]
+    expired: Expired | None = None
+    strict: bool = False
+    brief: bool = False
 
     @property
-    def reached(self):
-        return self.amount >= self.wanted
+    def reached(self) -> bool:
+        return self.amount >= self.wanted and not (self.strict and self.expired is not None)
 
     @property
-    def percent(self):
+    def percent(self) -> int:
         return self.amount * 100 // self.wanted
 
 
-@dataclass(frozen=True)
-class Report:
-    """All that a question of the command came to. `names.get(fpr)` gives a user ID to tell whose key it is, or None."""
+class Names(Protocol):
+    """A user ID to say whose a key is, or None."""
+
+    def get(self, fpr: str | None, /) -> bytes | None: ...
+
+
+class Report(NamedTuple):
+    """All that a question of the command came to."""
     question: str
     wanted: int
     time: int
-    roots: dict
-    assessments: tuple
-    names: object
-    notes: tuple = ()
+    roots: Mapping[str, int]
+    assessments: tuple[Assessment, ...]
+    names: Names
+    notes: tuple[str, ...] = ()
 
     @property
-    def reached(self):
+    def reached(self) -> bool:
         return any(one.reached for one in self.assessments)
 
 
-def brief(binding, wanted):
-    """A binding with its amount alone, as in a long list."""
-    return Assessment(binding.fpr, binding.user_id, wanted, binding.amount, (), TargetWord.OK, ())
+def elsewhere(view: View, fpr: str) -> Expired | None:
+    """Which other programs take a key as expired at the view's time."""
+    certificate = view.keyring.certificate(fpr)
+    if certificate is None:
+        return None
+    return expired_elsewhere(certificate, functools.partial(view.keyring.index.issuer, fpr), view.time)
 
 
-def assess(view, fpr, user_id, wanted, every=False):
-    """Asks for a binding, and gathers what is said about its answer; the certifications on its paths are told again
-    among the others where `every` one is wanted."""
+def brief(view: View, binding: Binding, wanted: int) -> Assessment:
+    """A binding with its amount, as in a long list."""
+    return Assessment(binding.fpr, binding.user_id, wanted, binding.amount, (), TargetWord.OK, (),
+                      elsewhere(view, binding.fpr), brief=True)
+
+
+def assess(view: View, fpr: str, user_id: bytes, wanted: int, every: bool = False) -> Assessment:
+    """Asks about a binding, and gathers what is said about its answer. If `every` certification is wanted, those on its
+    paths stand among the others too."""
     answer = view.ask(fpr, wanted, user_id)
     explain = functools.cache(view.explain)
     paths = tuple(ShownPath(path.amount, path.root, tuple(_step(view, explain, step) for step in path.steps))
@@ -88,55 +108,72 @@ def assess(view, fpr, user_id, wanted, every=False):
         word = MissingWord.ABSENT if view.keyring.certificate(fpr) is None else MissingWord.NO_UID
         return Assessment(fpr, user_id, wanted, answer.amount, paths, word, ())
     used = {step.number for path in paths for step in path.steps}
-    reached = answer.amount >= wanted
-    others = [_other(view, fpr, user_id, reason, reason.number in used, reached)
+    why = _WhyUnused(view, fpr, explanation.word, answer.amount >= wanted)
+    others = [_other(view, fpr, user_id, reason, why, reason.number in used)
               for reason in explanation.reasons if every or reason.number not in used]
-    return Assessment(fpr, user_id, wanted, answer.amount, paths, explanation.word, tuple(others))
+    expired = elsewhere(view, fpr) if explanation.word is TargetWord.OK else None
+    return Assessment(fpr, user_id, wanted, answer.amount, paths, explanation.word, tuple(others), expired)
 
 
-def _step(view, explain, step):
+def _step(view: View, explain: Callable[[str, bytes], Explanation | None], step: Step) -> Certification:
     """A step, with the signature that it is."""
     explanation = explain(step.target, step.user_id)
     for reason in explanation.reasons if explanation is not None else ():
         if (reason.issuer, reason.depth, reason.amount) == (step.issuer, step.depth, step.amount):
-            signature = view.keyring.certificate(step.target).signature(step.user_id, reason.number)
-            return _certification(step.issuer, step.target, step.user_id, signature, step.depth, step.amount)
+            signature = _signature(view, step.target, step.user_id, reason.number)
+            return _certification(step.issuer, step.target, step.user_id, reason, signature)
     return Certification(step.issuer, step.target, step.user_id, step.depth, step.amount)
 
 
-def _certification(issuer, target, user_id, signature, depth, amount):
-    """What is told of a signature; depth and amount are its own where the engine tells none."""
-    made, ends = (signature.made, signature.ends) if signature.sound else (None, None)
-    return Certification(issuer, target, user_id, signature.depth if depth is None else depth,
-                         signature.amount if amount is None else amount, signature.number, made, ends,
-                         tuple(signature.patterns))
-
-
-def _other(view, fpr, user_id, reason, used, reached):
-    signature = view.keyring.certificate(fpr).signature(user_id, reason.number)
-    # Nothing is proved by whom a signature names.
-    issuer = reason.issuer or view.keyring.verdicts.issuer(reason.number) or signature.issuer or signature.key_id
-    certification = _certification(issuer, fpr, user_id, signature, reason.depth, reason.amount)
-    is_edge = reason.word is ReasonWord.EDGE
-    return Other(certification, reason.word, _why_unused(view, issuer, fpr, used, reached) if is_edge
-                 else reason.word.meaning)
-
-
-def _why_unused(view, issuer, target, used, reached):
-    """What is said of a certification that counts."""
-    if used:
-        return "counts: it is on a path above"
-    if issuer == target:
-        return "counts: the key's own, which ends only paths of introducers for the key itself"
-    if reached:
-        return "counts: the wanted amount was reached without it"
-    if issuer in view.roots or _is_known(view, issuer):
-        return ("counts, but its issuer isn't trusted as far as this: a depth, a scope or what is left of an amount "
-                "doesn't allow it")
-    return "counts, but no path from a root goes through its issuer"
-
-
-def _is_known(view, fpr):
-    """Whether any user ID of the key is reached at all."""
+def _signature(view: View, fpr: str, user_id: bytes, number: str) -> Signature | None:
     certificate = view.keyring.certificate(fpr)
-    return certificate is not None and any(view.ask(fpr, 1, user_id).amount for user_id in certificate.user_ids)
+    return certificate.signature(user_id, number) if certificate is not None else None
+
+
+def _certification(issuer: str | None, target: str, user_id: bytes, reason: Reason,
+                   signature: Signature | None) -> Certification:
+    """What is said about a signature; depth and amount are its own if the engine doesn't report them."""
+    if signature is None:
+        return Certification(issuer, target, user_id, reason.depth or 0, reason.amount or 0, reason.number)
+    said = signature.said
+    made, ends = (said.made, said.ends) if said.sound else (None, None)
+    return Certification(issuer, target, user_id, said.depth if reason.depth is None else reason.depth,
+                         said.amount if reason.amount is None else reason.amount, reason.number, made, ends,
+                         tuple(said.patterns))
+
+
+def _other(view: View, fpr: str, user_id: bytes, reason: Reason, why: "_WhyUnused", used: bool) -> Other:
+    signature = _signature(view, fpr, user_id, reason.number)
+    issuer = reason.issuer or view.keyring.index.issuer(fpr, reason.number)
+    if issuer is None and signature is not None:
+        issuer = signature.said.issuer or signature.said.key_id  # It proves nothing whom a signature names.
+    meaning = why.meaning(issuer, used) if reason.word is ReasonWord.EDGE else reason.word.meaning
+    if reason.word is ReasonWord.UNSOUND and signature is not None and signature.said.unknown:
+        meaning = f"it has a critical {signature.said.unknown[0]}, which the engine doesn't know"
+    return Other(_certification(issuer, fpr, user_id, reason, signature), reason.word, meaning)
+
+
+class _WhyUnused:
+    """Why certifications that count are on no path."""
+
+    def __init__(self, view: View, target: str, word: TargetWord, reached: bool) -> None:
+        self._view, self._target, self._word, self._reached = view, target, word, reached
+
+    def meaning(self, issuer: str | None, used: bool) -> str:
+        if used:
+            return "counts: it is on a path above"
+        if self._word is not TargetWord.OK:
+            return f"counts, but no path may end here: {self._word.meaning}"
+        if issuer == self._target:
+            return "counts: the key's own, which ends only paths of introducers for the key itself"
+        if self._reached:
+            return "counts: the wanted amount was reached without it"
+        if issuer is not None and (issuer in self._view.roots or self._is_known(issuer)):
+            return ("counts, but its issuer isn't trusted as far as this: a depth, a scope or what is left of an "
+                    "amount doesn't allow it")
+        return "counts, but no path from a root goes through its issuer"
+
+    def _is_known(self, issuer: str) -> bool:
+        """Whether any user ID of the key is reached at all."""
+        certificate = self._view.keyring.certificate(issuer)
+        return certificate is not None and any(self._view.ask(issuer, 1, uid).amount for uid in certificate.user_ids)

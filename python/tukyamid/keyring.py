@@ -5,129 +5,125 @@
         view.ask(carol, 120, "Carol <carol@example.org>").amount
 """
 
-import functools
+from __future__ import annotations
+
 import os
-import shutil
-import subprocess
-from pathlib import Path
+from collections.abc import Callable, Iterable, Mapping, Sequence
+from typing import TYPE_CHECKING, Protocol
 
-from .certificates import CERTIFICATIONS, bindings_of, read_certificate
-from .engine import Engine
-from .refusals import RefusedAbsent, RefusedView, TukyamidError
-from .store import Held, Verdicts, digest_of
+from .certificates import CERTIFICATIONS, Certificate, Signature, key_id, read_certificate
+from .refusals import RefusedAbsent, RefusedView
 
+# What starts programs and reads files is imported when it is needed: a service that runs needs none of it.
+if TYPE_CHECKING:
+    from .client.connection import Connection
+    from .client.listing import Listing
+    from .replies import Answer, Binding, Explanation
+    from .store import Entry, Held, Store
 
-class VerifierFailed(TukyamidError):
-    """The verifier isn't there, or couldn't read its input."""
-
-
-def find_verifier():
-    """The words that start the verifier: of the environment's TUKYAMID_VERIFIER, else the program that this repository
-    built, else `wot-verdicts` on the path."""
-    named = os.environ.get("TUKYAMID_VERIFIER")
-    if named:
-        return [named]
-    tool = Path(__file__).resolve().parents[2] / "verifier"
-    built = tool / "out" / "wot-verdicts"
-    if os.access(built, os.X_OK):
-        return [str(built)]
-    found = shutil.which("wot-verdicts")
-    if found is None:
-        raise VerifierFailed(f"the verifier wot-verdicts isn't built; {tool / 'build'} builds it")
-    return [found]
+Bindings = list[tuple[str, bytes]]
 
 
-def verified_lines(paths, words):
-    """The lines that the verifier writes for these files and folders."""
-    try:
-        process = subprocess.Popen([*words, *map(str, paths)], stdin=subprocess.DEVNULL, stdout=subprocess.PIPE,
-                                   bufsize=1 << 20)
-    except OSError as error:
-        raise VerifierFailed(f"the verifier can't be started: {error}") from None
-    with process:
-        yield from process.stdout
-    # Its status 1 says that something was left out, which it has told on standard error.
-    if process.returncode not in (0, 1):
-        raise VerifierFailed(f"the verifier ended with status {process.returncode}")
+class Index(Protocol):
+    """What is asked about a keyring beside the questions of the engine."""
+
+    def issuer(self, fpr: str, number: str) -> str | None:
+        """The fingerprint that a signature on this certificate is good by; None if it is bad, or has no verdict."""
+
+    def bindings(self) -> Bindings:
+        """The fingerprint and the user ID of each binding."""
+
+    def by_address(self, address: str) -> Bindings:
+        """The bindings whose user ID has this address, in its canonical spelling."""
+
+    def by_user_id(self, user_id: bytes) -> Bindings:
+        """The bindings of this user ID."""
+
+    def by_key_id(self, key: str) -> list[str]:
+        """The fingerprints of the keys that have this key ID."""
+
+
+class DumpIndex:
+    """The index of an engine by its dump, as it stood when it was filled."""
+
+    def __init__(self, engine: Connection, held: Entry | Held) -> None:
+        self._engine, self._held = engine, held
+
+    def issuer(self, fpr: str, number: str) -> str | None:
+        return self._held.verdicts.issuer(number)
+
+    def bindings(self) -> Bindings:
+        return self._held.bindings
+
+    def by_address(self, address: str) -> Bindings:
+        from .addresses import address_of
+        return [one for one in self.bindings() if address_of(one[1]) == address]
+
+    def by_user_id(self, user_id: bytes) -> Bindings:
+        return [one for one in self.bindings() if one[1] == user_id]
+
+    def by_key_id(self, key: str) -> list[str]:
+        return [one.fpr for one in self._engine.keys() if key_id(one.fpr) == key]
 
 
 class Keyring:
-    """Certificates and verdicts in an engine of their own. `verdicts.issuer(number)` says by whom a signature is, as it
-    stood when the keyring was opened."""
+    """Certificates and verdicts in an engine, and their index."""
 
-    def __init__(self, engine):
+    def __init__(self, engine: Connection, index: Index) -> None:
         self.engine = engine
-        self.verdicts = Verdicts()
-        self._read_bindings = lambda: ()
-        self._certificates = {}
+        self.index = index
+        self._certificates: dict[str, Certificate | None] = {}
 
-    @functools.cached_property
-    def bindings(self):
+    @property
+    def bindings(self) -> Bindings:
         """The list of (fingerprint, user ID) of all certificates, as it stood when the keyring was opened."""
-        return list(self._read_bindings())
+        return self.index.bindings()
 
     @classmethod
-    def open(cls, paths, store=None, engine=None, verifier=None, anew=False, tell=lambda text: None):
+    def open(cls, paths: Iterable[str | os.PathLike[str]], store: Store | None = None,
+             engine: Sequence[str] | None = None, verifier: Sequence[str] | None = None, anew: bool = False,
+             tell: Callable[[str], None] = lambda text: None) -> Keyring:
         """Of keyring files and certificate directories. `store` keeps what was verified; None keeps nothing. `anew`
-        verifies also what is kept. `tell` is called with a text for people where something was left out. `engine` and
-        `verifier` are lists of words that start them; by default they are found."""
-        keyring = cls(Engine(engine))
+        verifies also what is kept. `tell` is called with a text for people if something was left out. `engine` and
+        `verifier` are the words that start them; by default they are found."""
+        from .engine import Engine
+        from .filling import Filling
+        from .verifier import Verifier
+        started = Engine(engine)
         try:
-            keyring._fill(list(paths), store, verifier, anew, tell)
+            inputs = [os.fspath(path) for path in paths]
+            held = Filling(started, inputs, Verifier(verifier, tell), store, tell).fill(anew)
         except BaseException:
-            keyring.close()
+            started.close()
             raise
-        return keyring
+        return cls(started, DumpIndex(started, held))
 
-    def __enter__(self):
+    def __enter__(self) -> Keyring:
         return self
 
-    def __exit__(self, *_):
+    def __exit__(self, *_: object) -> None:
         self.close()
 
-    def close(self):
+    def close(self) -> None:
         self.engine.close()
 
-    def _fill(self, paths, store, verifier, anew, tell):
-        try:
-            digest = digest_of(paths)
-        except OSError as error:
-            raise VerifierFailed(f"{error.filename}: {error.strerror}") from None
-        entry = store.find(digest) if store is not None and not anew else None
-        if entry is not None:
-            if not entry.give_to(self.engine):
-                store.forget(digest)
-                raise VerifierFailed("what was kept of this input is damaged, and is dropped; ask again")
-            self._use(entry)
-            return
-        for refusal in self.engine.feed(verified_lines(paths, verifier or find_verifier())):
-            tell(f"line {refusal.position} of the verifier: {refusal}")
-        if anew and store is not None:
-            store.forget(digest)
-        self._use(store.keep(digest, self.engine.dump()) if store is not None else Held(self.engine.dump()))
-
-    def _use(self, entry):
-        self.verdicts = entry.verdicts()
-        self._read_bindings = entry.bindings
-
-    def along(self, fprs, program=None):
+    def along(self, fprs: Sequence[str], program: Sequence[str] | None = None) -> Keyring:
         """A keyring of these certificates alone, in which each has only itself and the one before it as an issuer. So
         the one way through it goes along them."""
-        part = Keyring(Engine(program))
-        part.verdicts = self.verdicts
+        from .engine import Engine
+        part = Keyring(Engine(program), self.index)
         for before, fpr in zip([None, *fprs], fprs):
-            try:
-                part.engine.import_certificates(self.engine.export(fpr))
-            except RefusedAbsent:
-                continue
             certificate = self.certificate(fpr)
+            if certificate is None:
+                continue
+            part.engine.import_certificates(self.engine.export(fpr))
             for signature in (*certificate.direct, *(one for own in certificate.user_ids.values() for one in own)):
-                issuer = self.verdicts.issuer(signature.number)
+                issuer = self.index.issuer(fpr, signature.number)
                 if issuer is not None and issuer in (fpr, before):
                     part.engine.judge_good(signature.number, issuer)
         return part
 
-    def certificate(self, fpr):
+    def certificate(self, fpr: str) -> Certificate | None:
         """The certificate of a fingerprint, or None."""
         if fpr not in self._certificates:
             try:
@@ -136,21 +132,22 @@ class Keyring:
                 self._certificates[fpr] = None
         return self._certificates[fpr]
 
-    def name(self, fpr):
+    def name(self, fpr: str) -> bytes | None:
         """A user ID to show for a key: its primary one by its newest self-signatures, else the first; or None."""
         certificate = self.certificate(fpr)
         if certificate is None or not certificate.user_ids:
             return None
+        ranks = {uid: self._rank(certificate, signatures) for uid, signatures in certificate.user_ids.items()}
+        return max(ranks, key=ranks.__getitem__)
 
-        def rank(item):
-            own = [one for one in item[1] if one.kind in CERTIFICATIONS and one.may_be_by(fpr)
-                   and self.verdicts.issuer(one.number) == fpr]
-            newest = max(own, key=lambda one: one.newness(), default=None)
-            return (newest is not None and newest.primary, newest.made if newest else 0)
+    def _rank(self, certificate: Certificate, signatures: list[Signature]) -> tuple[bool, int]:
+        """By what a user ID is chosen to be shown."""
+        own = [one for one in certificate.signatures_by_itself(signatures) if one.said.kind in CERTIFICATIONS
+               and self.index.issuer(certificate.fpr, one.number) == certificate.fpr]
+        newest = max(own, key=Signature.newness, default=None)
+        return (False, 0) if newest is None else (newest.said.primary, newest.said.made)
 
-        return max(certificate.user_ids.items(), key=rank)[0]
-
-    def view(self, time, roots, name="client"):
+    def view(self, time: int, roots: Mapping[str, int], name: str = "client") -> View:
         """Opens a view: the time in seconds since 1970, and the amount of each root. It takes the place of an earlier
         one of its name, so use several names (the engine has 16 views) to ask from several by turns."""
         try:
@@ -166,23 +163,23 @@ class Keyring:
 class View:
     """A keyring at a time, from some roots."""
 
-    def __init__(self, keyring, name, time, roots):
+    def __init__(self, keyring: Keyring, name: str, time: int, roots: dict[str, int]) -> None:
         self.keyring = keyring
         self.name = name
         self.time = time
         self.roots = roots
 
-    def ask(self, fpr, wanted, user_id):
-        """How far the user ID belongs to the key, up to the wanted amount: an `Answer`."""
+    def ask(self, fpr: str, wanted: int, user_id: bytes | str) -> Answer:
+        """How confident one can be that the user ID belongs to the key, up to the wanted amount."""
         return self.keyring.engine.ask(self.name, fpr, wanted, user_id)
 
-    def explain(self, fpr, user_id):
-        """The engine's `Explanation`; None where there is no such certificate or user ID."""
+    def explain(self, fpr: str, user_id: bytes | str) -> Explanation | None:
+        """What each certification of a user ID comes to; None if there is no such certificate or user ID."""
         try:
             return self.keyring.engine.explain(self.name, fpr, user_id)
         except RefusedAbsent:
             return None
 
-    def list(self, wanted):
-        """The bindings that reach the wanted amount, by fingerprint and user ID: a `Listing` of `Binding`."""
+    def list(self, wanted: int) -> Listing[Binding]:
+        """The bindings that reach the wanted amount, by fingerprint and user ID."""
         return self.keyring.engine.list(self.name, wanted)

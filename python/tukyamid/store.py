@@ -1,174 +1,172 @@
 """What was verified is kept: a dump of the engine in the user's cache folder, under the digest of the input.
 
 An entry is a folder that is written beside its place and then renamed, so that none is ever seen half written. Whoever
-may write there may forge verdicts: the folder is made for its owner alone.
+can write there can forge verdicts. So the folder is made for its owner alone, and one that others can write isn't used.
 """
 
-import hashlib
+import functools
 import json
 import mmap
 import os
 import shutil
+import stat
 import tempfile
+from collections.abc import Iterable, Iterator
 from pathlib import Path
+from typing import Any
 
 from . import spelling
 from .certificates import bindings_of
+from .client.connection import Connection
+from .digests import LAYOUT
+from .keyring import Bindings
+from .refusals import TukyamidError
+from .verdicts import Verdicts, verdicts_of
 
-LAYOUT = "tukyamid 2"
 MOST_ENTRIES = 8
 
 
-def default_folder():
+class StoreRefused(TukyamidError):
+    """The folder isn't the user's own, or others can write there."""
+
+
+def default_folder() -> Path:
     return Path(os.environ.get("XDG_CACHE_HOME") or Path.home() / ".cache") / "tukyamid"
-
-
-def digest_of(paths):
-    """The digest of the contents of keyring files and certificate directories, in the order of the paths."""
-    whole = hashlib.sha256(LAYOUT.encode())
-    for path in map(Path, paths):
-        if path.is_dir():
-            files = sorted(file for file in path.rglob("*") if file.is_file())
-            named = [(b"entry " + os.fsencode(file.relative_to(path)), file) for file in files]
-            whole.update(b"directory %d " % len(named))
-        else:
-            named = [(b"file", path)]
-        for name, file in named:
-            with open(file, "rb") as stream:
-                content = hashlib.file_digest(stream, "sha256").digest()
-            whole.update(len(name).to_bytes(4, "big") + name + content)
-    return whole.hexdigest()
-
-
-class Verdicts:
-    """Who made which signature, by the lines `verdict` of a dump: they stand in the order of their numbers, and one is
-    found by halving."""
-
-    def __init__(self, octets=b"", start=0):
-        self._octets = octets
-        self._start = start
-
-    def issuer(self, number):
-        """The fingerprint that the signature of this number is good by; None where it is bad, or not judged."""
-        low, high, sought = self._start, len(self._octets), number.encode()
-        while low < high:
-            begin = self._octets.rfind(b"\n", low, (low + high) // 2) + 1 or low
-            end = self._octets.find(b"\n", begin)
-            _, found, word, *by = self._octets[begin:end].split(b" ")
-            if found == sought:
-                return by[0].decode() if word == b"good" else None
-            low, high = (end + 1, high) if found < sought else (low, begin)
-        return None
 
 
 class Entry:
     """A kept dump of certificates and verdicts, and the bindings of its certificates."""
 
-    def __init__(self, folder):
+    def __init__(self, folder: Path) -> None:
         self.folder = folder
-        self.about = json.loads((folder / "about.json").read_text())
+        self.about: dict[str, Any] = json.loads((folder / "about.json").read_text())
 
-    def is_whole(self):
-        return self.about["layout"] == LAYOUT and (self.folder / "dump").stat().st_size == self.about["octets"]
+    def is_whole(self) -> bool:
+        size: int = self.about["octets"]
+        return self.about["layout"] == LAYOUT and (self.folder / "dump").stat().st_size == size
 
-    def give_to(self, engine):
-        """Has the engine take the dump, and gives whether it was taken whole."""
+    def give_to(self, engine: Connection) -> bool:
+        """Has the engine take the dump, and returns whether it was taken whole."""
         try:
             with open(self.folder / "dump", "rb", buffering=0) as file:
                 return engine.restore(file)
         except ValueError:
             return False
 
-    def verdicts(self):
+    @functools.cached_property
+    def verdicts(self) -> Verdicts:
         if not self.about["octets"]:
             return Verdicts()
         with open(self.folder / "dump", "rb") as file:
             return Verdicts(mmap.mmap(file.fileno(), 0, access=mmap.ACCESS_READ), self.about["verdicts"])
 
-    def bindings(self):
-        for line in (self.folder / "bindings").read_bytes().splitlines():
-            fpr, _, uid = line.partition(b" ")
-            yield fpr.decode(), spelling.read_user_id(uid)
+    @functools.cached_property
+    def bindings(self) -> Bindings:
+        """The fingerprint and the user ID of each binding."""
+        pairs = [line.partition(b" ") for line in (self.folder / "bindings").read_bytes().splitlines()]
+        return [(fpr.decode("ascii"), spelling.read_user_id(uid)) for fpr, _, uid in pairs]
 
 
 class Held:
     """The verdicts and the bindings of a dump that isn't kept."""
 
-    def __init__(self, lines):
-        self._verdicts, self._bindings = [], []
-        for line in lines:
-            if line.startswith(b"import "):
-                self._bindings += bindings_of(bytes.fromhex(line[7:].decode()))
-            else:
-                self._verdicts.append(line + b"\n")
+    def __init__(self, lines: Iterable[bytes]) -> None:
+        whole = list(lines)
+        self.verdicts = verdicts_of(whole)
+        self.bindings: Bindings = [pair for line in whole for pair in _bindings_of_line(line)]
 
-    def verdicts(self):
-        return Verdicts(b"".join(self._verdicts))
 
-    def bindings(self):
-        return self._bindings
+def _bindings_of_line(line: bytes) -> Iterator[tuple[str, bytes]]:
+    return bindings_of(bytes.fromhex(line[7:].decode("ascii"))) if line.startswith(b"import ") else iter(())
 
 
 class Store:
-    def __init__(self, folder=None):
-        self.folder = Path(folder) if folder else default_folder()
+    """The folder of entries. StoreRefused if others can change what is kept there."""
 
-    def find(self, digest):
+    def __init__(self, folder: str | os.PathLike[str] | None = None) -> None:
+        self.folder = Path(folder) if folder else default_folder()
+        try:
+            about = self.folder.stat()
+        except FileNotFoundError:
+            return
+        if not stat.S_ISDIR(about.st_mode):
+            raise StoreRefused(f"{self.folder} isn't a folder")
+        if about.st_uid != os.geteuid():
+            raise StoreRefused(f"the folder {self.folder} is another user's")
+        if about.st_mode & (stat.S_IWGRP | stat.S_IWOTH):
+            raise StoreRefused(f"others can write to the folder {self.folder}")
+
+    def find(self, digest: str) -> Entry | None:
         """The entry of this digest, or None."""
         folder = self.folder / digest
         try:
             entry = Entry(folder)
             if not entry.is_whole():
                 raise ValueError("another layout, or cut")
-            os.utime(folder)
         except FileNotFoundError:
             return None
-        except (OSError, ValueError, KeyError):
+        except (OSError, ValueError, KeyError, TypeError):
             self.forget(digest)
             return None
+        try:
+            os.utime(folder)
+        except OSError:
+            pass  # It is used all the same, and forgotten sooner.
         return entry
 
-    def forget(self, digest):
+    def forget(self, digest: str) -> None:
         shutil.rmtree(self.folder / digest, ignore_errors=True)
 
-    def keep(self, digest, lines):
-        """Writes an entry of a dump's lines, whole or not at all, and gives it. What is kept is of certificates and
+    def good_verdicts(self, verifier: str) -> dict[str, str]:
+        """The fingerprint by number of each good signature that this version of the verifier has verified in the entry
+        that was used last."""
+        for folder in reversed(self._oldest_first()):
+            entry = self.find(folder.name)
+            if entry is not None and entry.about.get("verifier") == verifier:
+                return dict(entry.verdicts.good())
+        return {}
+
+    def keep(self, digest: str, lines: Iterable[bytes], verifier: str) -> Entry:
+        """Writes an entry of a dump's lines, whole or not at all, and returns it. What is kept is of certificates and
         verdicts alone."""
         self.folder.mkdir(mode=0o700, parents=True, exist_ok=True)
         new = Path(tempfile.mkdtemp(prefix=".new-", dir=self.folder))
         try:
-            self._write(new, lines)
+            _write(new, lines, verifier)
             self._rename(new, self.folder / digest)
         finally:
             shutil.rmtree(new, ignore_errors=True)
-        self._drop_oldest()
+        for folder in self._oldest_first()[:-MOST_ENTRIES]:
+            shutil.rmtree(folder, ignore_errors=True)
         return Entry(self.folder / digest)
 
     @staticmethod
-    def _write(folder, lines):
-        about = {"layout": LAYOUT, "verdicts": 0, "octets": 0}
-        with open(folder / "dump", "wb") as dump, open(folder / "bindings", "wb") as bindings:
-            for line in lines:
-                dump.write(line + b"\n")
-                about["octets"] += len(line) + 1
-                if line.startswith(b"import "):
-                    about["verdicts"] = about["octets"]
-                    for fpr, uid in bindings_of(bytes.fromhex(line[7:].decode())):
-                        bindings.write(f"{fpr} {spelling.write_user_id(uid)}\n".encode())
-            for file in dump, bindings:
-                file.flush()
-                os.fsync(file.fileno())
-        (folder / "about.json").write_text(json.dumps(about))
-
-    @staticmethod
-    def _rename(new, place):
+    def _rename(new: Path, place: Path) -> None:
         try:
             new.rename(place)
         except OSError:
-            if not place.is_dir():  # Where it is there, another process has kept the same.
+            if not place.is_dir():  # If it is there, another process has kept the same.
                 raise
 
-    def _drop_oldest(self):
-        entries = [folder for folder in self.folder.iterdir() if not folder.name.startswith(".")]
-        for folder in sorted(entries, key=lambda one: one.stat().st_mtime)[:-MOST_ENTRIES]:
-            shutil.rmtree(folder, ignore_errors=True)
+    def _oldest_first(self) -> list[Path]:
+        try:
+            entries = [folder for folder in self.folder.iterdir() if not folder.name.startswith(".")]
+            return sorted(entries, key=lambda one: one.stat().st_mtime)
+        except OSError:
+            return []
+
+
+def _write(folder: Path, lines: Iterable[bytes], verifier: str) -> None:
+    about: dict[str, Any] = {"layout": LAYOUT, "verifier": verifier, "verdicts": 0, "octets": 0}
+    with open(folder / "dump", "wb") as dump, open(folder / "bindings", "wb") as bindings:
+        for line in lines:
+            dump.write(line + b"\n")
+            about["octets"] += len(line) + 1
+            if line.startswith(b"import "):
+                about["verdicts"] = about["octets"]
+            for fpr, uid in _bindings_of_line(line):
+                bindings.write(f"{fpr} {spelling.write_user_id(uid)}\n".encode("ascii"))
+        for file in dump, bindings:
+            file.flush()
+            os.fsync(file.fileno())
+    (folder / "about.json").write_text(json.dumps(about))

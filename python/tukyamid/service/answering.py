@@ -1,4 +1,4 @@
-"""The lines that the service answers itself: those of the certificate directory, and those that begin with `service`."""
+"""The lines that the service answers itself: those of the directory, and those that begin with `service`."""
 
 from __future__ import annotations
 
@@ -8,6 +8,7 @@ import re
 from collections.abc import Callable
 from pathlib import Path
 
+from tukyamid.addresses import canonical
 from tukyamid.spelling import read_user_id, write_user_id
 
 from .committing import FAULT
@@ -21,6 +22,18 @@ _KEY = re.compile(rb"[0-9a-fA-F]{16}|[0-9a-fA-F]{40}|[0-9a-fA-F]{64}")
 _FPR = re.compile(rb"[0-9a-fA-F]{40}|[0-9a-fA-F]{64}")
 _COUNT = re.compile(rb"[1-9][0-9]{0,5}")
 _REFUSED_ABSENT = b"refused absent\n"
+
+
+def _text(octets: bytes) -> str:
+    return octets.decode("utf-8", "surrogateescape")
+
+
+_FOUND_BY: dict[bytes, Callable[[Finder, bytes], list[Binding]]] = {
+    b"address": lambda finder, sought: finder.by_address(canonical(_text(sought))),
+    b"user-id": lambda finder, sought: finder.by_user_id(sought),
+    b"part": lambda finder, sought: finder.by_part(_text(sought)),
+    b"key": lambda finder, sought: finder.by_key(bytes.fromhex(_text(sought))),
+}
 
 # Names and values that the service knows of itself.
 Status = Callable[[], list[tuple[str, object]]]
@@ -69,8 +82,7 @@ class Answering:
         return await self._directory.store(line, bytes.fromhex(exported[7:-1].decode()))
 
     async def _of_service(self, session: Session, line: bytes) -> bytes:
-        _, word, *rest = [*line.split(b" ", 2), b""]
-        text = rest[0]
+        word, _, text = line.partition(b" ")[2].partition(b" ")
         match word:
             case b"status" if line == b"service status":
                 return await self._tell_status(session)
@@ -102,20 +114,10 @@ class Answering:
             return REFUSED_LINE
         if not space or not octets:
             return REFUSED_LINE
-        look: Callable[[Finder], list[Binding]]
-        text_of = octets.decode("utf-8", "surrogateescape")
-        match word:
-            case b"address":
-                look = lambda finder: finder.by_address(text_of.lower())  # noqa: E731
-            case b"user-id":
-                look = lambda finder: finder.by_user_id(octets)  # noqa: E731
-            case b"part":
-                look = lambda finder: finder.by_part(text_of)  # noqa: E731
-            case b"key" if _KEY.fullmatch(sought):
-                look = lambda finder: finder.by_key(bytes.fromhex(sought.decode()))  # noqa: E731
-            case _:
-                return REFUSED_LINE
-        bindings = await session.hub.find(look)
+        if word not in _FOUND_BY or word == b"key" and not _KEY.fullmatch(sought):
+            return REFUSED_LINE
+        look = _FOUND_BY[word]
+        bindings = await session.hub.find(lambda finder: look(finder, octets))
         return listed(b"service find", [f"bind {one.fpr} {write_user_id(one.user_id)}".encode() for one in bindings])
 
     async def _tell_issuers(self, session: Session, fpr: bytes) -> bytes:

@@ -11,23 +11,23 @@ from collections.abc import Callable, Coroutine, Sequence
 from pathlib import Path
 
 from tukyamid.engine import find_program
-from tukyamid.keyring import find_verifier
+from tukyamid.verifier import find_verifier
 
 from .database import DatabaseFault
 from .directory import Directory
 from .dumps import import_dump, lines_of, restore
-from .engine import pieces
 from .hub import Hub
 from .keyrings import Keyrings
 from .places import Lock, beside, default_database, default_directory
+from .program import pieces
 from .service import Door, Service, Settings
 from .sockets import Listening, passed_sockets
 from .sqlite import Sqlite
 from .whole import write_whole
 
 ENDED, FAILED = 0, 1
-_DESCRIPTION = """Keeps certificates and verdicts in a database, and serves the lines of Tukyamid's protocol to many clients
-on a Unix socket. Without a command it serves."""
+_DESCRIPTION = """Keeps certificates and verdicts in a database, and answers the lines of Tukyamid's protocol to many
+clients on a Unix socket. Without a command it serves."""
 _EPILOG = """Exit status: 0 done, or ended by SIGTERM, SIGINT or for want of clients; 1 an engine, a socket or the
 database failed, or the database is damaged; 2 wrong words."""
 

@@ -6,11 +6,11 @@ from __future__ import annotations
 import re
 from functools import partial
 
-from .engine import ignore
 from .hub import Hub
 from .journal import Done
 from .outbox import Slot
 from .seats import Seat
+from .sending import ignore
 from .views import Views
 
 _LINE = re.compile(rb"cursor ([a-z0-9_-]{1,32}) (?:over ([a-z0-9_-]{1,32}) (0|[1-9][0-9]{0,9})|"

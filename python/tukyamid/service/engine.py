@@ -5,15 +5,15 @@ from __future__ import annotations
 import asyncio
 import contextlib
 from collections import deque
-from collections.abc import Iterator, Sequence
+from collections.abc import Sequence
 from typing import Protocol
 
 from .feeding import NO_COMMAND, Feed
-from .framing import ReplyCutter
 from .journal import Change, Done, Journal, Point
+from .program import Program
+from .sending import Held, Sent, ignore
 from .standing import Hear, Standing, Watch
 
-_PIECE = 1 << 18
 _TRIES = 3
 _LONGEST_PAUSE = 5.0
 _LONGEST_WAIT = 10.0
@@ -25,37 +25,6 @@ class Home(Protocol):
     def tell(self, text: str) -> None: ...
 
     def withdraw_where_all_are_stuck(self, change: Change) -> None: ...
-
-
-class Sent:
-    """A line that waits for its reply: `done` is called with it, or with None where the line was given up. `change` is
-    the change of the keyring that it makes, `watch` the watch that it begins, if any. The reply to an inner line goes
-    to nobody outside, so it needn't wait until it rests on what was committed."""
-    __slots__ = ("line", "done", "change", "watch", "is_inner", "since")
-
-    def __init__(self, line: bytes, done: Done, change: Change | None, watch: Watch | None, is_inner: bool,
-                 since: float) -> None:
-        self.line = line
-        self.done = done
-        self.change = change
-        self.watch = watch
-        self.is_inner = is_inner
-        self.since = since
-
-
-class Held:
-    """A reply, or what a watch is told, that rests on a change that isn't committed yet."""
-    __slots__ = ("point", "sent", "reply", "watch")
-
-    def __init__(self, point: Point, sent: Sent | None, reply: bytes, watch: Watch | None) -> None:
-        self.point = point
-        self.sent = sent
-        self.reply = reply
-        self.watch = watch
-
-
-def ignore(reply: bytes | None, count: int) -> None:
-    """For a line whose reply nobody wants."""
 
 
 class Engine:
@@ -77,8 +46,7 @@ class Engine:
         self._standing = Standing()
         self._held: deque[Held] = deque()
         self._feed: Feed | None = None
-        self._process: asyncio.subprocess.Process | None = None
-        self._stdin: asyncio.StreamWriter | None = None
+        self._running: Program | None = None
         self._closing = asyncio.Event()
         self._failures = 0
         self._is_rolled_back = False
@@ -86,7 +54,7 @@ class Engine:
 
     @property
     def pid(self) -> int | None:
-        return self._process.pid if self._process is not None and self._process.returncode is None else None
+        return None if self._running is None else self._running.pid
 
     def lag(self) -> float:
         """How long the first waiting line has waited, in seconds."""
@@ -101,16 +69,14 @@ class Engine:
     def send(self, line: bytes, done: Done, change: Change | None = None, watch: Watch | None = None,
              is_inner: bool = False) -> None:
         self.waiting.append(Sent(line, done, change, watch, is_inner, self._now()))
-        if self._stdin is not None and not self._stdin.is_closing():
-            self._stdin.write(line + b"\n")
+        if self._running is not None and self._running.is_live:
+            self._running.send(line)
 
     async def close(self) -> None:
         """Ends the program's input and waits for its end."""
         self._closing.set()
-        if self._stdin is not None:
-            self._stdin.close()
-        else:
-            self._kill()
+        if self._running is not None:
+            self._running.end_input()
         done, _ = await asyncio.wait([self._task], timeout=_LONGEST_WAIT)
         if not done:
             self._kill()
@@ -147,7 +113,6 @@ class Engine:
         self.waiting = deque([*again, *(sent for sent in self.waiting if sent.change is None)])
         self.point, self.stuck = point, None
         self._is_rolled_back = True
-        self._stdin = None
         self._kill()
 
     async def _keep_running(self) -> None:
@@ -176,61 +141,22 @@ class Engine:
                 await asyncio.wait_for(self._closing.wait(), min(0.05 * 2**self._failures, _LONGEST_PAUSE))
 
     def _kill(self) -> None:
-        if self._process is not None and self._process.returncode is None:
-            with contextlib.suppress(ProcessLookupError):
-                self._process.kill()
+        if self._running is not None:
+            self._running.kill()
 
     async def _run(self) -> object:
         """Runs one program to its end, and gives its status."""
         count, lines = self._journal.lines(self.point.place)
         feed = self._feed = Feed(count, list(self._standing.lines()), self._standing.watches)
-        process = self._process = await asyncio.create_subprocess_exec(
-            *self._program, stdin=asyncio.subprocess.PIPE, stdout=asyncio.subprocess.PIPE, limit=_PIECE)
-        assert process.stdin is not None and process.stdout is not None
-        if self._closing.is_set() or self._is_rolled_back:
-            self._kill()
-        feeding = asyncio.get_running_loop().create_task(self._bring(lines, feed.behind, process.stdin))
+        running = self._running = Program(self._take, self._home.tell)
         try:
-            await self._read(process.stdout)
-            self._stdin = None
-            process.stdin.close()
-            status = await asyncio.wait_for(process.wait(), _LONGEST_WAIT)
-            with contextlib.suppress(ConnectionError):
-                await process.stdin.wait_closed()
-            return status
-        except TimeoutError:
-            return "none, but without its output"
+            return await running.run(self._program, lines, lambda: self._behind(feed))
         finally:
-            self._stdin = None
-            feeding.cancel()
-            self._kill()
+            running.kill()
 
-    async def _bring(self, lines: Iterator[bytes], behind: list[bytes], stdin: asyncio.StreamWriter) -> None:
-        """Brings a fresh program to where the last one stood, and sends it what waits."""
-        try:
-            for piece in pieces(lines):
-                stdin.write(piece)
-                await stdin.drain()
-        except ConnectionError:
-            return  # The program has ended, which the reading of its output meets.
-        # From here to the end nothing else runs, so no line comes between.
-        stdin.write(b"".join(line + b"\n" for line in behind))
-        stdin.write(b"".join(sent.line + b"\n" for sent in self.waiting))
-        if not self._is_rolled_back:
-            self._stdin = stdin
-        self._become_ready()
-
-    async def _read(self, stdout: asyncio.StreamReader) -> None:
-        cutter = ReplyCutter()
-        while octets := await stdout.read(_PIECE):
-            try:
-                for reply in cutter.cut(octets):
-                    if self._is_rolled_back:
-                        return
-                    self._take(reply)
-            except (ValueError, IndexError) as error:
-                self._home.tell(f"an engine wrote what is no reply: {error!r}")
-                return
+    def _behind(self, feed: Feed) -> list[bytes]:
+        """What a program is told when it stands where the last one stood."""
+        return [*feed.behind, *(sent.line for sent in self.waiting)]
 
     def _take(self, reply: bytes) -> None:
         if self._feed is not None:
@@ -278,7 +204,8 @@ class Engine:
             self._take_told(told)
         if not feed.left:
             self._feed = None
-        self._become_ready()
+            if not self.ready.done():
+                self.ready.set_result(None)
 
     def _take_told(self, reply: bytes) -> None:
         """What a watch is told behind a line of anybody's."""
@@ -288,10 +215,6 @@ class Engine:
             del self._standing.watches[name]
         watch.told = reply
         self._hold(Held(self.point, None, reply, watch))
-
-    def _become_ready(self) -> None:
-        if self._feed is None and self._stdin is not None and not self.ready.done():
-            self.ready.set_result(None)
 
     def _fail(self, error: Exception) -> None:
         """The first program never came to stand; whoever waits for that gets this error."""
@@ -310,17 +233,3 @@ class Engine:
         else:
             self.stuck = change
             self._home.withdraw_where_all_are_stuck(change)
-
-
-def pieces(lines: Iterator[bytes]) -> Iterator[bytes]:
-    """These lines with their line feeds, in pieces that are worth a write each."""
-    piece: list[bytes] = []
-    size = 0
-    for line in lines:
-        piece += line, b"\n"
-        size += len(line) + 1
-        if size >= _PIECE:
-            yield b"".join(piece)
-            piece, size = [], 0
-    if piece:
-        yield b"".join(piece)

@@ -60,16 +60,17 @@ class Keyrings:
         """Reads a keyring, and watches it from now on. The reply counts its certificates and the new verdicts."""
         try:
             async with self._lock:
-                stamp = await asyncio.to_thread(stamp_of, name)
-                contents = await asyncio.to_thread(read, name)
-                await self._put(Source(name))
-                verdicts = await self._take(name, contents, actor, say)
+                stamp, contents = await self._read(name)
                 self._stamps[name] = stamp
+                verdicts = await self._take(name, contents, actor, say)
         except (Unreadable, NotVerified) as error:
             return b"fault keyring " + _line(error)
-        except OSError as error:
-            return b"fault keyring " + _line(f"{error.filename or name}: {error.strerror or error}")
         return b"ok keyring %d %d\n" % (len(contents.certificates), verdicts)
+
+    @staticmethod
+    async def _read(name: str) -> tuple[Stamp, Contents]:
+        """What a keyring has, and the stamp that it had before."""
+        return await asyncio.to_thread(stamp_of, name), await asyncio.to_thread(read, name)
 
     async def remove(self, name: str) -> bool:
         """Watches a keyring no longer; what was taken from it stays. False where it isn't watched."""
@@ -82,25 +83,29 @@ class Keyrings:
             try:
                 for source in await self._hub.find(lambda finder: finder.sources()):
                     async with self._lock:
-                        await self._look_after(source)
+                        await self._look_after(source.name)
             except DatabaseFault as fault:
                 self._hub.tell(str(fault))
             await asyncio.sleep(_PAUSE)
 
-    async def _look_after(self, source: Source) -> None:
+    async def _look_after(self, name: str) -> None:
+        """Takes what is new, if the keyring has changed since it was read."""
+        sources = await self._hub.find(lambda finder: finder.sources())
+        source = next((one for one in sources if one.name == name), None)
+        if source is None:
+            return
         try:
-            stamp = await asyncio.to_thread(stamp_of, source.name)
-            if stamp == self._stamps.get(source.name):
+            if await asyncio.to_thread(stamp_of, name) == self._stamps.get(name):
                 return
-            self._stamps[source.name] = stamp
-            contents = await asyncio.to_thread(read, source.name)
+            self._stamps[name], contents = await self._read(name)
             if contents.digest != source.digest:
-                await self._take(source.name, contents, Actor(os.getuid(), os.getpid()), lambda text: None)
+                await self._take(name, contents, Actor(os.getuid(), os.getpid()), lambda text: None)
             elif source.fault:
                 await self._put(replace(source, fault=""))
-        except (Unreadable, NotVerified, OSError) as error:
+        except (Unreadable, NotVerified) as error:
+            self._stamps.pop(name, None)
             if source.fault != str(error):
-                self._hub.tell(f"{source.name}: {error}")
+                self._hub.tell(str(error))
                 await self._put(replace(source, fault=str(error)))
 
     async def _take(self, name: str, contents: Contents, actor: Actor, say: Say) -> int:
@@ -109,10 +114,14 @@ class Keyrings:
         short = [one for one in contents.certificates if 2 * len(one) + 7 <= LONGEST_LINE]
         lines = (b"import " + one.hex().encode() for one in short)
         left = total - len(short) + await self._change(lines, actor, Progress(say, "certificates", total))
-        verdicts = await self.verify(actor, say)
         fault = f"{left} of {total} certificates were refused" if left else ""
-        await self._put(Source(name, contents.digest, total, fault))
-        return verdicts
+        try:
+            return await self._verify(actor, say)
+        except NotVerified as error:
+            fault = str(error)
+            raise
+        finally:
+            await self._put(Source(name, contents.digest, total, fault))
 
     async def _put(self, source: Source) -> None:
         await self._hub.write(lambda: self._hub.database.put_source(source))
@@ -134,7 +143,7 @@ class Keyrings:
             await room.acquire()
         return refused
 
-    async def verify(self, actor: Actor, say: Say) -> int:
+    async def _verify(self, actor: Actor, say: Say) -> int:
         """Has the verifier judge what is pending, by the keys of all certificates; gives the number of verdicts."""
         loop = asyncio.get_running_loop()
         pending: asyncio.Future[bytes | None] = loop.create_future()

@@ -8,6 +8,7 @@ from pathlib import Path
 from .database import Actor, Binding, DatabaseFault, Figures, LogEntry, Source
 
 _BINDINGS = "SELECT fingerprint, user_id FROM user_ids JOIN certificates ON certificates.id = user_ids.certificate"
+_KILOBYTES_OF_A_SNAPSHOT = 128
 _VERDICTS = "FROM verdicts WHERE issuer IS NOT NULL"
 
 
@@ -17,6 +18,7 @@ class SqliteSnapshot:
     def __init__(self, connection: sqlite3.Connection) -> None:
         self._connection = connection
         connection.execute("PRAGMA query_only = ON")
+        connection.execute(f"PRAGMA cache_size = -{_KILOBYTES_OF_A_SNAPSHOT}")  # It is read once, and many may be open.
         connection.execute("BEGIN")
         self.change = int(connection.execute("SELECT coalesce(max(number), 0) FROM changes").fetchone()[0])
 

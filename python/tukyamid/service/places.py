@@ -2,6 +2,7 @@
 
 from __future__ import annotations
 
+import contextlib
 import fcntl
 import os
 import stat
@@ -16,7 +17,7 @@ def default_socket() -> Path:
     """The socket of the user's service: in the folder that the session made for such things, else in one of the user's
     own below /tmp."""
     folder = os.environ.get("XDG_RUNTIME_DIR")
-    return Path(folder) / "tukyamid.socket" if folder else _folder_in_tmp() / "tukyamid.socket"
+    return (Path(folder) if folder else own_folder(Path(f"/tmp/tukyamid-{os.getuid()}"))) / "tukyamid.socket"
 
 
 def default_database() -> Path:
@@ -40,10 +41,11 @@ def _data() -> Path:
     return Path(named) if named else Path.home() / ".local" / "share"
 
 
-def _folder_in_tmp() -> Path:
-    """A folder that is the user's alone, whoever else may write to /tmp; OSError where there is another thing."""
-    folder = Path("/tmp") / f"tukyamid-{os.getuid()}"
-    folder.mkdir(mode=0o700, exist_ok=True)
+def own_folder(folder: Path) -> Path:
+    """Makes a folder that is the user's alone, whoever else may write beside it; PermissionError where another thing
+    is there."""
+    with contextlib.suppress(FileExistsError):
+        folder.mkdir(mode=0o700)
     found = folder.lstat()
     if not stat.S_ISDIR(found.st_mode) or found.st_uid != os.getuid() or found.st_mode & 0o077:
         raise PermissionError(f"{folder} isn't a folder of yours alone; set XDG_RUNTIME_DIR")

@@ -5,9 +5,9 @@ import re
 from collections.abc import Iterator
 from dataclasses import dataclass, field
 
+from tukyamid.addresses import address_of
 from tukyamid.certificates import (ATTRIBUTE, CERTIFICATIONS, KEY, SIGNATURE, SUBKEY, USER_ID, key_fingerprint, key_id,
                                    packets, read_signature)
-from tukyamid.spelling import address
 
 _PLACES = {KEY: 0, USER_ID: 1, ATTRIBUTE: 2, SUBKEY: 3}
 # A trust signature has a subpacket of three octets, the first of which is its type, critical or not.
@@ -37,7 +37,7 @@ def describe(octets: bytes) -> Described:
             place, component = _PLACES[kind], b"" if kind == KEY else body
             numbering = _framed(hashlib.sha256(), b"wot1", key, bytes([place]), component)
             if kind == USER_ID and described is not None:
-                described.user_ids[body] = address(body)
+                described.user_ids[body] = address_of(body)
         elif kind == SIGNATURE and described is not None:
             number = _framed(numbering.copy(), body).digest()
             described.signatures[number] = _depth((key, place, component), body)
@@ -56,8 +56,8 @@ def _depth(place: tuple[bytes, int, bytes], body: bytes) -> int:
     """The depth of a trust signature on a user ID; 0 for any other signature."""
     if place[1] != 1 or not _TRUST.search(body):
         return 0
-    signature = read_signature(place, body)
-    return int(signature.depth) if signature.kind in CERTIFICATIONS else 0
+    said = read_signature(body)
+    return said.depth if said.kind in CERTIFICATIONS else 0
 
 
 def fingerprints(octets: bytes) -> Iterator[bytes]:

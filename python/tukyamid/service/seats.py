@@ -5,13 +5,15 @@ from __future__ import annotations
 from collections.abc import Callable
 from itertools import count
 
-from .engine import Engine, ignore
+from .engine import Engine
+from .sending import ignore
 from .views import Value, lines_of
 
 VIEWS_OF_AN_ENGINE = 16
 CURSORS_OF_AN_ENGINE = 16
 _MOST_PINNED = VIEWS_OF_AN_ENGINE - 1  # So that a question always finds a place.
 _BACKLOG = 8
+_MOST_MOVED = 86_400  # Seconds: what has begun or ended within a day is little of a keyring.
 
 
 class Seat:
@@ -49,7 +51,8 @@ class Seats:
                 seat.used = next(self._ticks)
                 return seat
             return self._open(engine, value)
-        return self._open(self._least_busy(), value)
+        engine = self._least_busy()
+        return self._moved(engine, value) or self._open(engine, value)
 
     def pin(self, value: Value, has_cursor: bool) -> Seat | None:
         """A view of this value that stays; None where no engine has room. One with a cursor is shared, since what it
@@ -95,9 +98,28 @@ class Seats:
             engine.send(line, ignore, is_inner=True)
         return seat
 
+    def _moved(self, engine: Engine, value: Value) -> Seat | None:
+        """A view of these roots at a somewhat earlier time, moved on to the time of `value`; None if there is none. It
+        costs an engine far less than a new view, so those who ask as of now each time needn't wait for one."""
+        time, roots = value
+        earlier = [seat for seat in self._seats.get(engine, ()) if seat.value is not None and not seat.pins
+                   and seat.value[1] == roots and 0 < int(time) - int(seat.value[0]) <= _MOST_MOVED]
+        if not earlier:
+            return None
+        seat = max(earlier, key=lambda one: int(one.value[0]) if one.value is not None else 0)
+        self._forget(seat)
+        seat.value, seat.used = value, next(self._ticks)
+        self._shared.setdefault(value, []).append(seat)
+        engine.send(b"view %s time %s" % (seat.name, time), ignore, is_inner=True)
+        return seat
+
     def _close(self, seat: Seat) -> None:
         seat.engine.send(b"view %s close" % seat.name, ignore, is_inner=True)
         self._seats[seat.engine].remove(seat)
+        self._forget(seat)
+
+    def _forget(self, seat: Seat) -> None:
+        """Nobody finds the view by its value any more."""
         if seat.value is not None:
             shared = self._shared[seat.value]
             shared.remove(seat)

@@ -14,11 +14,11 @@ from tukyamid.engine import has_reply
 from .committing import FAULT
 from .cursors import Cursors
 from .database import Actor, Snapshot
-from .engine import pieces
 from .framing import LineCutter
 from .hub import Hub
 from .outbox import Outbox, Pieces, Slot
 from .peers import NOBODY, actor_of
+from .program import pieces
 from .views import Views, is_name
 from .watches import Watches
 
@@ -38,7 +38,7 @@ REFUSED_READ_ONLY = b"refused read-only\n"
 NEVER_OPEN = b"-"
 _MOST_LINES = 64
 _MOST_OCTETS = 1 << 20
-_UNREAD_OCTETS = 1 << 18
+_UNREAD_OCTETS = 1 << 17
 
 
 class Helper(Protocol):

@@ -37,8 +37,11 @@ class Contents:
 
 
 def stamp_of(name: str) -> Stamp:
-    return tuple((str(path), found.st_size, found.st_mtime_ns, found.st_ino)
-                 for path, found in ((path, path.stat()) for path in _files(name)))
+    try:
+        return tuple((str(path), found.st_size, found.st_mtime_ns, found.st_ino)
+                     for path, found in ((path, path.stat()) for path in _files(name)))
+    except OSError as error:
+        raise Unreadable(f"{error.filename or name}: {error.strerror or error}") from None
 
 
 def read(name: str) -> Contents:

@@ -4,11 +4,12 @@ from __future__ import annotations
 
 from functools import partial
 
+from .engine import Engine
 from .hub import Hub
 from .journal import Done
 from .outbox import Outbox, Slot
-from .engine import Engine, ignore
 from .seats import Seat
+from .sending import ignore
 from .views import Views, is_name
 
 _REFUSED_LINE = b"refused line\n"

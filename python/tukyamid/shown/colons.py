@@ -6,37 +6,58 @@ later versions may add kinds of lines, and fields at the end of a line.
 | `tkd` | version of the form (1), question, wanted amount, time, `yes` or `no`: whether it is reached |
 | `rot` | root, amount |
 | `bnd` | fingerprint, user ID, amount, `yes` or `no`, word of the target |
+| `exp` | since when another program takes the key as expired, and the names of these programs |
 | `pth` | number of the path, amount, count of steps, root |
 | `stp` | number of the path, number of the step, issuer, target, depth, amount, made, ends, signature, user ID |
 | `oth` | word, issuer, target, depth, amount, made, ends, signature, user ID |
+| `nte` | a note for people |
 
 The lines of a binding follow its `bnd`. An unknown field is empty. In a field, all but printed ASCII, and the backslash
 and the colon, are spelled as `\\xhh`.
 """
 
+from collections.abc import Iterator
 
-def show(report):
-    lines = [("tkd", 1, report.question, report.wanted, report.time, _yes(report.reached))]
+from ..assessment import Assessment, Certification, Report
+
+Field = str | bytes | int | None
+Line = tuple[Field, ...]
+
+
+def show(report: Report) -> str:
+    lines: list[Line] = [("tkd", 1, report.question, report.wanted, report.time, _yes(report.reached))]
     lines += [("rot", fpr, amount) for fpr, amount in report.roots.items()]
-    for one in report.assessments:
-        lines.append(("bnd", one.fpr, one.user_id, one.amount, _yes(one.reached), one.word))
-        for at, path in enumerate(one.paths, 1):
-            lines.append(("pth", at, path.amount, len(path.steps), path.root))
-            lines += [("stp", at, place, *_certification(step)) for place, step in enumerate(path.steps, 1)]
-        lines += [("oth", other.word, *_certification(other.certification)) for other in one.others]
+    lines += [line for one in report.assessments for line in _binding(one)]
+    lines += [("nte", note) for note in report.notes]
     return "".join(":".join(map(_field, line)) + "\n" for line in lines)
 
 
-def _yes(value):
+def _binding(one: Assessment) -> Iterator[Line]:
+    yield "bnd", one.fpr, one.user_id, one.amount, _yes(one.reached), one.word
+    if one.expired is not None:
+        yield _line("exp", one.expired.since, *one.expired.programs)
+    for at, path in enumerate(one.paths, 1):
+        yield "pth", at, path.amount, len(path.steps), path.root
+        for place, step in enumerate(path.steps, 1):
+            yield _line("stp", at, place, *_certification(step))
+    for other in one.others:
+        yield _line("oth", other.word, *_certification(other.certification))
+
+
+def _line(*fields: Field) -> Line:
+    return fields
+
+
+def _yes(value: bool) -> str:
     return "yes" if value else "no"
 
 
-def _certification(one):
+def _certification(one: Certification) -> Line:
     return (one.issuer, one.target, one.depth, one.amount, one.made, one.ends, one.number, one.user_id)
 
 
-def _field(value):
+def _field(value: Field) -> str:
     if value is None:
         return ""
-    octets = value if isinstance(value, bytes) else str(value).encode()
+    octets = value if isinstance(value, bytes) else str(value).encode("utf-8", "surrogateescape")
     return "".join(chr(o) if 0x20 <= o < 0x7F and o not in b"\\:" else f"\\x{o:02x}" for o in octets)

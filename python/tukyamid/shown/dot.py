@@ -1,5 +1,6 @@
 """A picture of the paths for Graphviz: `tukyamid --format dot .. | dot -Tsvg`."""
 
+from ..assessment import Assessment, Certification, Report
 from ..spelling import for_people
 from .words import day, name
 
@@ -9,44 +10,70 @@ _STYLE = """  rankdir=LR;
 """
 
 
-def show(report):
-    nodes, edges = {}, {}
-    for fpr, amount in report.roots.items():
-        nodes[fpr] = f"{_label(report, fpr)}\nroot, amount {amount}"
+def show(report: Report) -> str:
+    return "digraph paths {\n" + _STYLE + "\n".join([*_nodes(report), *_edges(report)]) + "\n}\n"
+
+
+def _targets(report: Report) -> dict[str, list[Assessment]]:
+    """The answers of each key."""
+    targets: dict[str, list[Assessment]] = {}
     for one in report.assessments:
-        nodes[one.fpr] = f"{for_people(one.user_id)}\n{_short(one.fpr)}\namount {one.amount} of {one.wanted}"
+        targets.setdefault(one.fpr, []).append(one)
+    return targets
+
+
+def _nodes(report: Report) -> list[str]:
+    """A node for each root, each key on a path, and each key that was asked about, with all its user IDs."""
+    targets = _targets(report)
+    on_paths = [fpr for one in report.assessments for path in one.paths
+                for fpr in (path.root, *(step.target for step in path.steps))]
+    nodes = []
+    for fpr in dict.fromkeys([*report.roots, *on_paths, *targets]):
+        parts = [part for one in targets.get(fpr, ()) for part in _answer(one)] or [name(report, fpr)]
+        root = [f"root, amount {report.roots[fpr]}"] if fpr in report.roots else []
+        label = "\n".join(part for part in (*parts, _short(fpr), *root) if part)
+        nodes.append(f"  {_quoted(fpr)} [label={_quoted(label)}{_fill(report, targets, fpr)}];")
+    return nodes
+
+
+def _answer(one: Assessment) -> list[str]:
+    parts = [for_people(one.user_id), f"amount {one.amount} of {one.wanted}"]
+    return parts if one.expired is None else [*parts, f"expired for {one.expired.who} since {day(one.expired.since)}"]
+
+
+def _edges(report: Report) -> list[str]:
+    """An edge for each certification that is on a path, with the amounts of these paths."""
+    several = {fpr for fpr, answers in _targets(report).items() if len(answers) > 1}
+    used: dict[Certification, list[int]] = {}
+    for one in report.assessments:
         for path in one.paths:
             for step in path.steps:
-                for fpr in step.issuer, step.target:
-                    nodes.setdefault(fpr, _label(report, fpr))
-                edge = step.issuer, step.target, f"amount {step.amount}, depth {step.depth}\n{day(step.made)}"
-                edges.setdefault(edge, []).append(path.amount)
-    targets = {one.fpr: one.reached for one in report.assessments}
-    lines = [f"  {_quoted(fpr)} [label={_quoted(label)}{_fill(report, targets, fpr)}];" for fpr, label in nodes.items()]
-    lines += [f"  {_quoted(issuer)} -> {_quoted(target)} [label={_quoted(label + _used(amounts))}];"
-              for (issuer, target, label), amounts in edges.items()]
-    return "digraph paths {\n" + _STYLE + "\n".join(lines) + "\n}\n"
+                used.setdefault(step, []).append(path.amount)
+    return [f"  {_quoted(step.issuer or '')} -> {_quoted(step.target)} "
+            f"[label={_quoted(_said(step, step.target in several, amounts))}];" for step, amounts in used.items()]
 
 
-def _used(amounts):
-    return "\npath of amount " + ", ".join(map(str, amounts))
+def _said(step: Certification, named: bool, amounts: list[int]) -> str:
+    """The label of an edge; it names the user ID if the key has several that were asked about."""
+    parts = [f"amount {step.amount}, depth {step.depth}", day(step.made),
+             f"path of amount {', '.join(map(str, amounts))}"]
+    return "\n".join([for_people(step.user_id), *parts] if named else parts)
 
 
-def _label(report, fpr):
-    return "\n".join(part for part in (name(report, fpr), _short(fpr)) if part)
-
-
-def _short(fpr):
+def _short(fpr: str) -> str:
     return f"{fpr[:8]} … {fpr[-8:]}"
 
 
-def _fill(report, targets, fpr):
+def _fill(report: Report, targets: dict[str, list[Assessment]], fpr: str) -> str:
     if fpr in report.roots:
         return ', fillcolor="#fff3cd"'
     if fpr in targets:
-        return ', fillcolor="#d4edda"' if targets[fpr] else ', fillcolor="#f8d7da"'
+        return ', fillcolor="#d4edda"' if any(one.reached for one in targets[fpr]) else ', fillcolor="#f8d7da"'
     return ""
 
 
-def _quoted(text):
-    return '"' + text.replace("\\", "\\\\").replace('"', '\\"').replace("\n", "\\n") + '"'
+def _quoted(text: str) -> str:
+    """A quoted text. Graphviz reads entities in it, as in HTML, and sequences that begin with a backslash."""
+    for character, spelled in ("\\", "\\\\"), ('"', '\\"'), ("&", "&amp;"), ("\n", "\\n"):
+        text = text.replace(character, spelled)
+    return f'"{text}"'

@@ -1,14 +1,16 @@
 """The paths of an answer as inline SVG: a lane for each path, its root at the left, the target at the right."""
 
+from collections.abc import Iterator
 from html import escape
 
+from ..assessment import Assessment, Certification, Report, ShownPath
 from ..spelling import for_people
 from .words import count, day, name
 
 _BOX, _HIGH, _GAP, _LANE, _MARGIN = 190, 46, 150, 92, 16
 
 
-def draw(report, one):
+def draw(report: Report, one: Assessment) -> str:
     most = max(len(path.steps) for path in one.paths)
     width = 2 * _MARGIN + _BOX + most * (_BOX + _GAP)
     height = 2 * _MARGIN + _LANE * (len(one.paths) - 1) + 70
@@ -21,11 +23,11 @@ def draw(report, one):
     return "".join(parts) + "</svg>"
 
 
-def _title(one):
+def _title(one: Assessment) -> str:
     return f"{count(len(one.paths), 'path')} to {escape(for_people(one.user_id))}"
 
 
-def _lane(report, one, path, top, most):
+def _lane(report: Report, one: Assessment, path: ShownPath, top: int, most: int) -> Iterator[str]:
     keys = [path.root, *(step.target for step in path.steps)]
     left = [_MARGIN + at * (_BOX + _GAP) for at in range(len(keys))]
     left[-1] = _MARGIN + most * (_BOX + _GAP)
@@ -39,13 +41,13 @@ def _lane(report, one, path, top, most):
         yield _arrow(left[place] + _BOX, left[place + 1], top, step, f"path of amount {path.amount}")
 
 
-def _box(x, y, fill, first, second, fpr):
+def _box(x: int, y: int, fill: str, first: str, second: str, fpr: str) -> str:
     return (f'<g><title>{fpr}</title><rect x="{x}" y="{y}" width="{_BOX}" height="{_HIGH}" rx="7" fill="{fill}" '
             f'stroke="#5b6b7a"/><text x="{x + 9}" y="{y + 19}" fill="#1d2733">{escape(_cut(first))}</text>'
             f'<text x="{x + 9}" y="{y + 35}" fill="#5b6b7a">{escape(second)}</text></g>')
 
 
-def _arrow(begin, end, top, step, path):
+def _arrow(begin: int, end: int, top: int, step: Certification, path: str) -> str:
     y, middle = top + _HIGH // 2, (begin + end) // 2
     texts = ((y - 7, f"amount {step.amount}, depth {step.depth}"), (y + 15, day(step.made)), (y + 29, path))
     labels = "".join(f'<text x="{middle}" y="{at}" text-anchor="middle" fill="#33658a">{text}</text>'
@@ -54,5 +56,5 @@ def _arrow(begin, end, top, step, path):
             f'stroke="#33658a" stroke-width="1.6" marker-end="url(#tip)"/>{labels}</g>')
 
 
-def _cut(text, most=29):
+def _cut(text: str, most: int = 29) -> str:
     return text if len(text) <= most else text[:most - 1] + "…"

@@ -1,11 +1,15 @@
 """One self-contained page for an auditor: the paths drawn, each certification, and why others don't count."""
 
+from collections.abc import Iterable, Sequence
 from html import escape
 
-from ..reasons import TargetWord
+from ..assessment import Assessment, Certification, Report
 from ..spelling import for_people
 from .drawing import draw
-from .words import count, day, moment, name, scopes
+from .words import count, day, moment, name, no_path, result, said_elsewhere, scopes
+
+Cell = str | int
+Row = tuple[Cell, ...]
 
 _CSS = """
 :root { --ink: #1d2733; --soft: #5b6b7a; --line: #d5dce3; --paper: #fff; --panel: #f6f8fa;
@@ -28,38 +32,51 @@ figure { margin: .6rem 0; overflow-x: auto; background: var(--panel); border: 1p
 """
 
 
-def show(report):
-    result = '<span class="yes">reached</span>' if report.reached else '<span class="no">not reached</span>'
+def show(report: Report) -> str:
+    outcome = '<span class="yes">reached</span>' if report.reached else '<span class="no">not reached</span>'
+    listed = [one for one in report.assessments if one.brief]
     parts = [
         "<!DOCTYPE html>", '<html lang="en"><head><meta charset="utf-8">',
         '<meta name="viewport" content="width=device-width, initial-scale=1">',
         f"<title>Tukyamid: {escape(report.question)}</title><style>{_CSS}</style></head><body>",
-        f"<h1>{escape(report.question.capitalize())}: amount {report.wanted} {result}</h1>",
-        f'<p class="soft">As of {moment(report.time)}.</p>', _roots(report),
-        *(_binding(report, one) for one in report.assessments),
+        f"<h1>{escape(report.question.capitalize())}: amount {report.wanted} {outcome}</h1>",
+        f'<p class="soft">As of {moment(report.time)}.</p>', _roots(report), *([_list(listed)] if listed else []),
+        *(_binding(report, one) for one in report.assessments if not one.brief),
+        *(["<p>Nothing was found.</p>"] if not report.assessments else []),
         *(f'<p class="soft">Note: {escape(note)}</p>' for note in report.notes), "</body></html>",
     ]
-    if not report.assessments:
-        parts.insert(-1, "<p>Nothing was found.</p>")
     return "\n".join(parts) + "\n"
 
 
-def _roots(report):
+def _name(text: str) -> str:
+    """A text of others', which may be written from right to left, and mustn't turn what stands beside it."""
+    return f"<bdi>{escape(text)}</bdi>" if text else ""
+
+
+def _roots(report: Report) -> str:
     rows = [(_key(report, fpr), amount) for fpr, amount in report.roots.items()]
-    return _table("Trust roots", ("key", "amount"), rows, "few")
+    return _table("Trust roots", ("key", "amount"), rows, "few") if rows else ""
 
 
-def _binding(report, one):
-    word, kind = ("reached", "yes") if one.reached else ("not reached", "no")
+def _list(listed: list[Assessment]) -> str:
+    rows = [(one.amount, _name(for_people(one.user_id)), f"<code>{one.fpr}</code>", _elsewhere(one)) for one in listed]
+    return _table(count(len(listed), "binding").capitalize(), ("amount", "user ID", "key", "note"), rows)
+
+
+def _elsewhere(one: Assessment) -> str:
+    return "" if one.expired is None else f'<span class="no">{escape(said_elsewhere(one.expired))}.</span>'
+
+
+def _binding(report: Report, one: Assessment) -> str:
+    kind = "yes" if one.reached else "no"
+    why = no_path(one)
     parts = [
-        f"<section><h2>{escape(for_people(one.user_id))}</h2><code>{one.fpr}</code>",
-        f'<p>Amount {one.amount} of {one.wanted} ({one.percent} %): <span class="{kind}">{word}</span></p>',
+        f"<section><h2>{_name(for_people(one.user_id))}</h2><code>{one.fpr}</code>",
+        f'<p>Amount {one.amount} of {one.wanted} ({one.percent} %): <span class="{kind}">{result(one)}</span></p>',
         f'<div class="meter"><div class="{kind}" style="width: {min(100, one.percent)}%"></div></div>',
+        *([f"<p>{_elsewhere(one)}</p>"] if one.expired is not None else []),
+        *([f'<p class="no">{escape(why[:1].upper() + why[1:])}.</p>'] if why is not None else []),
     ]
-    if one.word is not TargetWord.OK:
-        parts.append(f'<p class="no">No path may end here ({one.word}): {escape(one.word.meaning)}.</p>')
-    elif not one.paths:
-        parts.append("<p>No path from a root.</p>")
     if one.paths:
         parts += [f"<figure>{draw(report, one)}</figure>", _steps(report, one)]
     if one.others:
@@ -67,39 +84,43 @@ def _binding(report, one):
     return "\n".join(parts) + "</section>"
 
 
-def _steps(report, one):
+def _steps(report: Report, one: Assessment) -> str:
     head = ("path", "step", "issuer", "target", "amount", "depth", "made", "ends", "scope", "signature")
-    rows = [(f"{at} (amount {path.amount})", place, _key(report, step.issuer), _target(step), *_facts(step))
+    rows = [_row(f"{at} (amount {path.amount})", place, _key(report, step.issuer), _target(step), *_facts(step))
             for at, path in enumerate(one.paths, 1) for place, step in enumerate(path.steps, 1)]
     return _table(count(len(one.paths), "path").capitalize(), head, rows)
 
 
-def _others(report, one):
+def _others(report: Report, one: Assessment) -> str:
     head = ("why", "issuer", "amount", "depth", "made", "ends", "scope", "signature")
-    rows = [(f"<b>{other.word}</b>: {escape(other.meaning)}", _key(report, other.certification.issuer),
-             *_facts(other.certification)) for other in one.others]
+    rows = [_row(f"<b>{other.word}</b>: {escape(other.meaning)}", _key(report, other.certification.issuer),
+                 *_facts(other.certification)) for other in one.others]
     where = "on this user ID" if report.question == "explain" else "on no path"
     return _table(f"Certifications {where}", head, rows) + '<p class="soft">Reasons by the engine.</p>'
 
 
-def _facts(step):
+def _facts(step: Certification) -> Row:
     ends = "never" if step.ends is None else f"<time>{day(step.ends)}</time>"
-    scope = "<br>".join(map(escape, scopes(step))) or "all"
+    scope = "<br>".join(map(_name, scopes(step))) or "all"
     return (step.amount, step.depth, f"<time>{day(step.made)}</time>", ends, scope,
             f"<code>{step.number or 'not found'}</code>")
 
 
-def _key(report, fpr):
+def _key(report: Report, fpr: str | None) -> str:
     if fpr is None:
         return "not named"
-    return f"{escape(name(report, fpr))}<br><code>{fpr}</code>"
+    return f"{_name(name(report, fpr))}<br><code>{fpr}</code>"
 
 
-def _target(step):
-    return f"{escape(for_people(step.user_id))}<br><code>{step.target}</code>"
+def _target(step: Certification) -> str:
+    return f"{_name(for_people(step.user_id))}<br><code>{step.target}</code>"
 
 
-def _table(title, head, rows, size="whole"):
+def _row(*cells: Cell) -> Row:
+    return cells
+
+
+def _table(title: str, head: Sequence[str], rows: Iterable[Row], size: str = "whole") -> str:
     """A table of cells that are HTML already; a number stands at the right."""
     heads = "".join(f'<th scope="col">{word}</th>' for word in head)
     body = "".join("<tr>" + "".join(f'<td class="n">{cell}</td>' if isinstance(cell, int) else f"<td>{cell}</td>"

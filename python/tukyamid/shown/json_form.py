@@ -1,16 +1,18 @@
 """JSON for programs: one object, with keys that stay."""
 
 import json
+from typing import Any
 
+from ..assessment import Assessment, Certification, Report
 from ..spelling import for_people, write_user_id
-from .words import scopes
+from .words import said_elsewhere, scopes
 
 
-def show(report):
+def show(report: Report) -> str:
     return json.dumps(as_object(report), indent=2, ensure_ascii=False) + "\n"
 
 
-def as_object(report):
+def as_object(report: Report) -> dict[str, Any]:
     return {
         "question": report.question,
         "reached": report.reached,
@@ -22,7 +24,7 @@ def as_object(report):
     }
 
 
-def _assessment(one):
+def _assessment(one: Assessment) -> dict[str, Any]:
     return {
         "fingerprint": one.fpr,
         "user_id": for_people(one.user_id),
@@ -30,7 +32,9 @@ def _assessment(one):
         "amount": one.amount,
         "reached": one.reached,
         "target": one.word,
-        "reasons_by": "engine",  # Of what was promised of this form nothing goes.
+        "expired_elsewhere": None if one.expired is None else {
+            "programs": list(one.expired.programs), "since": one.expired.since, "meaning": said_elsewhere(one.expired)},
+        "reasons_by": "engine",  # Keys of this form stay, also one that has a single value.
         "paths": [{"amount": path.amount, "root": path.root, "steps": [_certification(step) for step in path.steps]}
                   for path in one.paths],
         "others": [{**_certification(other.certification), "word": other.word, "meaning": other.meaning}
@@ -38,7 +42,7 @@ def _assessment(one):
     }
 
 
-def _certification(one):
+def _certification(one: Certification) -> dict[str, Any]:
     return {
         "issuer": one.issuer, "target": one.target,
         "user_id": for_people(one.user_id), "user_id_spelled": write_user_id(one.user_id),

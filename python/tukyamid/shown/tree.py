@@ -2,43 +2,54 @@
 
 from collections import Counter
 
-from ..reasons import TargetWord
+from ..assessment import Assessment, Other, Report, ShownPath
 from ..spelling import for_people
-from .words import count, dates, moment, name, scopes
+from .words import count, dates, moment, name, no_path, result, said_elsewhere, scopes
 
 MOST_OTHERS = 8  # More than these are counted by their reasons.
+_GREEN, _RED, _BOLD, _PLAIN = "\x1b[32m", "\x1b[31m", "\x1b[1m", "\x1b[0m"
 
 
-def show(report):
-    lines = [f"as of {moment(report.time)}; {count(len(report.roots), 'root')}; wanted amount {report.wanted}", ""]
-    for assessment in report.assessments:
-        lines += _brief(assessment) if report.question == "list" else [*_whole(report, assessment), ""]
-    if not report.assessments:
-        lines.append("nothing was found")
-    lines += [f"note: {note}" for note in report.notes]
-    return "\n".join(lines).rstrip("\n") + "\n"
+class Tree:
+    """Shows reports as trees, in colour or without."""
+
+    def __init__(self, colour: bool = False) -> None:
+        self._colour = colour
+
+    def show(self, report: Report) -> str:
+        roots = f"{count(len(report.roots), 'root')}; " if report.roots else ""
+        lines = [f"as of {moment(report.time)}; {roots}wanted amount {report.wanted}", ""]
+        for one in report.assessments:
+            lines += self._brief(one) if one.brief else [*self._whole(report, one), ""]
+        if not report.assessments:
+            lines.append("nothing was found")
+        lines += [f"note: {note}" for note in report.notes]
+        return "\n".join(lines).rstrip("\n") + "\n"
+
+    def _painted(self, text: str, colour: str) -> str:
+        return f"{colour}{text}{_PLAIN}" if self._colour else text
+
+    def _brief(self, one: Assessment) -> list[str]:
+        lines = [f"{one.amount:4} {one.fpr} {for_people(one.user_id)}"]
+        if one.expired is not None:
+            lines.append("     " + self._painted(said_elsewhere(one.expired), _RED))
+        return lines
+
+    def _whole(self, report: Report, one: Assessment) -> list[str]:
+        colour = _GREEN if one.reached else _RED
+        mark = self._painted("✓" if one.reached else "✗", colour)
+        head = [f"[{mark}] {self._painted(for_people(one.user_id), _BOLD)}", f"    {one.fpr}",
+                f"    amount {one.amount} of {one.wanted} ({one.percent} %): {self._painted(result(one), colour)}"]
+        branches = [[self._painted(said_elsewhere(one.expired), _RED)]] if one.expired is not None else []
+        why = no_path(one)
+        branches += [[why]] if why is not None and not one.paths else []
+        branches += [_path(report, place, path) for place, path in enumerate(one.paths, 1)]
+        if one.others:
+            branches.append(_others(report, one))
+        return head + ["    " + line for line in _hang(branches)]
 
 
-def _brief(assessment):
-    return [f"{assessment.amount:4} {assessment.fpr} {for_people(assessment.user_id)}"]
-
-
-def _whole(report, assessment):
-    mark = "✓" if assessment.reached else "✗"
-    reached = "reached" if assessment.reached else "not reached"
-    head = [f"[{mark}] {for_people(assessment.user_id)}", f"    {assessment.fpr}",
-            f"    amount {assessment.amount} of {assessment.wanted} ({assessment.percent} %): {reached}"]
-    branches = [_path(report, place, path) for place, path in enumerate(assessment.paths, 1)]
-    if assessment.word is not TargetWord.OK:
-        branches.append([f"no path may end here ({assessment.word}): {assessment.word.meaning}"])
-    elif not assessment.paths:
-        branches.append(["no path from a root"])
-    if assessment.others:
-        branches.append(_others(report, assessment))
-    return head + ["    " + line for line in _hang(branches)]
-
-
-def _hang(branches):
+def _hang(branches: list[list[str]]) -> list[str]:
     lines = []
     for place, branch in enumerate(branches, 1):
         first, rest = ("└─ ", "   ") if place == len(branches) else ("├─ ", "│  ")
@@ -46,7 +57,7 @@ def _hang(branches):
     return lines
 
 
-def _path(report, place, path):
+def _path(report: Report, place: int, path: ShownPath) -> list[str]:
     lines = [f"path {place}: amount {path.amount}, {count(len(path.steps), 'step')}",
              f"{path.root} {name(report, path.root)} (root, amount {report.roots[path.root]})"]
     for at, step in enumerate(path.steps):
@@ -57,17 +68,17 @@ def _path(report, place, path):
     return lines
 
 
-def _others(report, assessment):
+def _others(report: Report, one: Assessment) -> list[str]:
     where = "on this user ID" if report.question == "explain" else "on no path"
-    lines = [f"{where}: {count(len(assessment.others), 'certification')}"]
-    if report.question == "explain" or len(assessment.others) <= MOST_OTHERS:
-        return lines + _hang([_other(report, other) for other in assessment.others])
-    alike = Counter((other.word, other.meaning) for other in assessment.others)
-    told = [[f"{times} {word}: {meaning}"] for (word, meaning), times in alike.most_common()]
-    return lines + _hang([*told, ["the question `explain` tells each"]])
+    lines = [f"{where}: {count(len(one.others), 'certification')}"]
+    if report.question == "explain" or len(one.others) <= MOST_OTHERS:
+        return lines + _hang([_other(report, other) for other in one.others])
+    alike = Counter((other.word, other.meaning) for other in one.others)
+    said = [[f"{times} {word}: {meaning}"] for (word, meaning), times in alike.most_common()]
+    return lines + _hang([*said, ["the question `explain` shows each"]])
 
 
-def _other(report, other):
+def _other(report: Report, other: Other) -> list[str]:
     who = other.certification.issuer or "an issuer that isn't named"
     known = name(report, who)
     return [f"by {who}{' ' + known if known else ''}, {dates(other.certification)}", f"{other.word}: {other.meaning}"]

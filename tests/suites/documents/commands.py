@@ -29,8 +29,9 @@ NOT_RUN = {
     "apt": "changes the machine",
     "verifier/build": "may install packages",
 }
-# The command `tukyamid` is run by the suite `python`, over every command of docs/USING.md.
+# The command `tukyamid` is run by the suites `python` and `packages`, as these pages show it.
 OF_ANOTHER_SUITE = ("tukyamid ", "python/bin/tukyamid")
+ITS_PAGES = ("docs/USING.md", "docs/INSTALL.md")
 
 
 @dataclass(frozen=True)

@@ -9,7 +9,7 @@ import unittest
 from pathlib import Path
 from typing import Any
 
-from commands import OF_ANOTHER_SUITE, Shown, matches, run, shown_in, workshop
+from commands import ITS_PAGES, OF_ANOTHER_SUITE, Shown, matches, run, shown_in, workshop
 from pages import PROGRAM, ROOT, Block, page
 from wot_model.machine import COMMANDS
 
@@ -73,8 +73,9 @@ class Commands(unittest.TestCase):
                 self.assertTrue(os.access(ROOT / program, os.X_OK), program)
             return
         if shown.command.startswith(OF_ANOTHER_SUITE):
-            using = " ".join((ROOT / "docs/USING.md").read_text(encoding="utf-8").replace("\\\n", " ").split())
-            self.assertIn(" ".join(shown.command.split()), using, "docs/USING.md doesn't have this command")
+            texts = ((ROOT / name).read_text(encoding="utf-8") for name in ITS_PAGES if (ROOT / name).exists())
+            told = " ".join(word for text in texts for word in text.replace("\\\n", " ").split())
+            self.assertIn(" ".join(shown.command.split()), told, f"none of {ITS_PAGES} has this command")
             return
         ended = run(shown.command, top)
         self.assertEqual(ended.returncode, 0, ended.stderr[-2000:])

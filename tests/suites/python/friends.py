@@ -36,12 +36,25 @@ class Friends:
         self._revoke("Erin")
         self.keyring = folder() / "friends.pgp"
         self.keyring.write_bytes(self._gpg("--export"))
+        self._exported = {name: self._gpg("--export", fpr) for name, fpr in self.fpr.items()}
+        self._armored = {word: self._gpg("--batch", "--armor", word, self.fpr["Alice"])
+                         for word in ("--export", "--export-secret-keys")}
         subprocess.run(["gpgconf", "--homedir", str(self.home), "--kill", "all"], check=False)
+
+    def without(self, missing):
+        """A keyring of all but one."""
+        path = folder() / f"without-{missing}.pgp"
+        path.write_bytes(b"".join(octets for name, octets in self._exported.items() if name != missing))
+        return path
+
+    def armored_alice(self, secret):
+        """Alice's certificate as a text, or with its secret parts."""
+        return self._armored["--export-secret-keys" if secret else "--export"]
 
     def as_directory(self, path, root):
         """The certificates as a certificate directory, with one of them as its trust root."""
         for name, fpr in self.fpr.items():
-            exported = self._gpg("--export", fpr)
+            exported = self._exported[name]
             (path / fpr[:2]).mkdir(parents=True, exist_ok=True)
             (path / fpr[:2] / fpr[2:]).write_bytes(exported)
             if name == root:

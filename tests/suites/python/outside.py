@@ -15,7 +15,7 @@ ROOT = Path(os.environ.get("WOT_ROOT") or HERE.parents[2])
 CLIENT = ROOT / "python"
 COMMAND = CLIENT / "bin" / "tukyamid"
 PROGRAM = os.environ.get("WOT_PROGRAM") or str(ROOT / "crates" / "wot_cli" / "out" / "wot_cli")
-TRUSTING = [sys.executable, str(HERE / "trusting_verdicts.py")]
+TRUSTING = HERE / "trusting_verdicts.py"
 FAKE_ENGINE = [sys.executable, str(HERE / "fake_engine.py")]
 
 if os.access(PROGRAM, os.X_OK):
@@ -37,7 +37,12 @@ def folder():
     """A folder for all tests of this run."""
     path = tempfile.mkdtemp(prefix="tukyamid-tests-")
     atexit.register(shutil.rmtree, path, ignore_errors=True)
-    os.environ["XDG_CACHE_HOME"] = f"{path}/cache-home"
+    # Nothing of the user's own is read or written: no cache, no certificate directory, no service, no gpg.
+    for name in "CACHE_HOME", "DATA_HOME", "RUNTIME_DIR":
+        os.environ[f"XDG_{name}"] = f"{path}/{name.lower()}"
+        Path(os.environ[f"XDG_{name}"]).mkdir(mode=0o700)
+    for name in "PGP_CERT_D", "GNUPGHOME", "TUKYAMID_TRACEBACK":
+        os.environ.pop(name, None)
     return Path(path)
 
 
@@ -52,7 +57,11 @@ def installed(program, package):
 
 @functools.cache
 def verifier_built():
-    """The path of the repository's own verifier, built where that isn't done yet; None where packages are missing."""
+    """The path of the verifier: the one that TUKYAMID_VERIFIER names, else the repository's own, which is built if that
+    isn't done yet; None if packages are missing."""
+    named = os.environ.get("TUKYAMID_VERIFIER")
+    if named:
+        return Path(named)
     folder = ROOT / "verifier"
     done = subprocess.run([folder / "build"], stdin=subprocess.DEVNULL, capture_output=True, text=True, check=False)
     if done.returncode not in (0, 69):

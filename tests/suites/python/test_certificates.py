@@ -26,7 +26,7 @@ class Versions(unittest.TestCase):
         for version, rest in (4, b""), (6, b"\0"), (6, b"\2ab"), (6, b"\xff" + bytes(255)):
             for issuer in bytes(range(20)), bytes(range(32)):
                 named = bytes([len(issuer) + 2, 33, 4 if len(issuer) == 20 else 6]) + issuer
-                said = certificates.read_signature((b"", 1, b"x"), signature(version, made + named, rest))
+                said = certificates.read_signature(signature(version, made + named, rest))
                 self.assertEqual((said.kind, said.made, said.sound), (0x10, 1000, True))
                 self.assertEqual(said.issuer, issuer.hex())
                 self.assertTrue(said.may_be_by(issuer.hex()))
@@ -35,9 +35,17 @@ class Versions(unittest.TestCase):
     def test_bodies_that_are_cut(self):
         made = b"\5\2\0\0\3\xe8"
         for body in signature(6, made), signature(6, made, b"\2a"), signature(5, made), signature(6, made, b"\1b")[:-1]:
-            self.assertIsNone(certificates.read_signature((b"", 1, b"x"), body).kind)
+            self.assertIsNone(certificates.read_signature(body).kind)
         for wrong in b"\x16\x21\6" + bytes(20), b"\x22\x21\4" + bytes(32), b"\x21\x21\6" + bytes(31):
-            self.assertIsNone(certificates.read_signature((b"", 1, b"x"), signature(6, made + wrong, b"\0")).issuer)
+            self.assertIsNone(certificates.read_signature(signature(6, made + wrong, b"\0")).issuer)
+
+    def test_a_critical_notation_is_named(self):
+        name = b"a\x1b@example.org"
+        notation = bytes(4) + len(name).to_bytes(2, "big") + b"\0\0" + name
+        for critical, unknown in (0x80, ["notation a\\x1b@example.org"]), (0, []):
+            area = b"\5\2\0\0\3\xe8" + bytes([len(notation) + 1, critical | 20]) + notation
+            said = certificates.read_signature(signature(4, area))
+            self.assertEqual((said.sound, said.unknown), (not critical, unknown))
 
 
 if __name__ == "__main__":

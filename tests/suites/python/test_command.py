@@ -1,25 +1,14 @@
 """The command, over a keyring that gpg made. What is expected is known from who certified whom."""
 
-import json
-import os
-import stat
 import time
 import unittest
 
+from asking import APRIL, DECEMBER, FEBRUARY, Asking
 from friends import PEOPLE, friends
-from outside import COMMAND, TRUSTING, folder, installed, needs_engine, needs_gpg, run, verifier_built
+from outside import TRUSTING, installed, needs_engine, needs_gpg, run, verifier_built
 from tukyamid import Engine
 from tukyamid.reasons import TargetWord
 from tukyamid.refusals import RefusedAbsent, RefusedView
-
-DECEMBER, APRIL, FEBRUARY = "2025-12-01", "2025-04-15T00:00:00Z", "1739577600"  # The last is 15 February 2025.
-
-
-def verifier(name, text):
-    path = folder() / name
-    path.write_text(f"#!/bin/sh\n{text}\n")
-    path.chmod(0o755)
-    return path
 
 
 @needs_engine
@@ -50,30 +39,7 @@ class Loop(unittest.TestCase):
 
 @needs_engine
 @needs_gpg
-class Questions(unittest.TestCase):
-    @classmethod
-    def setUpClass(cls):
-        cls.friends = friends()
-        cls.fpr = cls.friends.fpr
-        cls.verifier = verifier("trusting", f'exec "{TRUSTING[0]}" "{TRUSTING[1]}" "$@"')
-
-    def ask(self, *words, root="Alice", time=DECEMBER, **options):
-        roots = [f"--root={self.fpr[root]}"] if root else []
-        return run([COMMAND, "--keyring", self.friends.keyring, "--cache", folder() / "cache",
-                    "--verifier", self.verifier, *roots, "--time", time, *words], **options)
-
-    def answer(self, *words, **options):
-        """The status and the JSON of an answer."""
-        done = self.ask("--format", "json", *words, **options)
-        self.assertEqual(done.stderr, b"")
-        return done.returncode, json.loads(done.stdout)
-
-    def chains(self, binding):
-        """Each path as its amount and the names along it."""
-        names = {fpr: name for name, fpr in self.fpr.items()}
-        return [(path["amount"], [names[path["root"]], *(names[step["target"]] for step in path["steps"])])
-                for path in binding["paths"]]
-
+class Questions(Asking):
     def test_authenticate(self):
         table = [
             ("Alice", DECEMBER, 0, [(120, ["Alice", "Alice"])]),
@@ -85,9 +51,9 @@ class Questions(unittest.TestCase):
             ("Frank", DECEMBER, 1, []),
             ("Frank", APRIL, 0, [(120, ["Alice", "Bob", "Frank"])]),
         ]
-        for name, time, status, chains in table:
-            with self.subTest(name, time=time):
-                got, report = self.answer("authenticate", self.fpr[name], PEOPLE[name], time=time)
+        for name, at, status, chains in table:
+            with self.subTest(name, time=at):
+                got, report = self.answer("authenticate", self.fpr[name], PEOPLE[name], time=at)
                 (binding,) = report["bindings"]
                 self.assertEqual((got, self.chains(binding)), (status, chains))
                 self.assertEqual(binding["amount"], sum(amount for amount, _ in chains))
@@ -112,9 +78,9 @@ class Questions(unittest.TestCase):
             ("Dave", DECEMBER, "ok", {("Bob", "edge"), ("Dave", "edge")}),
         ]
         names = {fpr: name for name, fpr in self.fpr.items()}
-        for name, time, word, others in table:
-            with self.subTest(name, time=time):
-                (binding,) = self.answer("authenticate", self.fpr[name], PEOPLE[name], time=time)[1]["bindings"]
+        for name, at, word, others in table:
+            with self.subTest(name, time=at):
+                (binding,) = self.answer("authenticate", self.fpr[name], PEOPLE[name], time=at)[1]["bindings"]
                 got = {(names[other["issuer"]], other["word"]) for other in binding["others"]}
                 self.assertEqual((binding["target"], got), (word, others))
 
@@ -153,15 +119,34 @@ class Questions(unittest.TestCase):
                 self.assertEqual((got, listed), (status, {PEOPLE[name]: amount for name, amount in found.items()}))
 
     def test_path(self):
-        for names, status, amount in [
-            (["Alice", "Bob", "Carol"], 0, 120), (["Alice", "Carol"], 1, 60), (["Alice", "Carol", "Dave"], 1, 60),
-            (["Alice", "Bob", "Dave"], 1, 0), (["Bob", "Carol"], 0, 120), (["Bob", "Carol", "Dave"], 1, 0),
-            (["Alice", "Dave"], 1, 0), (["Carol"], 0, 120),
+        for names, status, amount, broken in [
+            (["Alice", "Bob", "Carol"], 0, 120, None), (["Alice", "Carol"], 1, 60, None),
+            (["Alice", "Carol", "Dave"], 1, 60, None), (["Bob", "Carol"], 0, 120, None), (["Carol"], 0, 120, None),
+            (["Alice", "Bob", "Dave"], 1, 0,
+             (1, r"its scope, <[^>]+[@.]example\.org>$, doesn't include " + PEOPLE["Dave"])),
+            (["Bob", "Carol", "Dave"], 1, 0, (1, "its depth is 0, and it would need 1")),
+            (["Alice", "Dave"], 1, 0, (1, "no certification")),
+            (["Alice", "Bob", "Frank"], 1, 0, (2, "none of its certifications counts")),
         ]:
             with self.subTest(names):
-                got, report = self.answer("path", *(self.fpr[name] for name in names), PEOPLE[names[-1]], root=names[0])
+                got, report = self.answer("path", *(self.fpr[name] for name in names), PEOPLE[names[-1]], root=None)
                 self.assertEqual((got, report["bindings"][0]["amount"]), (status, amount))
                 self.assertEqual(len(report["notes"]), len(names) - 1)
+                breaks = [note for note in report["notes"] if "breaks" in note]
+                self.assertEqual(len(breaks), 0 if broken is None else 1, report["notes"])
+                for note in breaks:
+                    self.assertIn(f"step {broken[0]} breaks the path: ", note)
+                    self.assertIn(broken[1], note)
+
+    def test_a_path_begins_at_its_first_certificate(self):
+        words = ["path", self.fpr["Bob"], self.fpr["Carol"], PEOPLE["Carol"]]
+        for roots, amount in ([], 120), (["--root", self.fpr["Bob"] + ":70"], 70), (["--root", self.fpr["Dave"]], 120):
+            _, report = self.answer(*roots, *words, root=None)
+            self.assertEqual(report["bindings"][0]["amount"], amount)
+            self.assertEqual([root["fingerprint"] for root in report["roots"]], [self.fpr["Bob"]])
+        absent = self.answer("path", self.fpr["Alice"], "00" * 20, "nobody", root=None)[1]
+        self.assertIn("step 1 breaks the path", absent["notes"][0])
+        self.assertIn("isn't in the keyring", absent["notes"][0])
 
     def test_explain(self):
         names = {fpr: name for name, fpr in self.fpr.items()}
@@ -204,62 +189,11 @@ class Questions(unittest.TestCase):
                                                          ["1", "2", bob, frank, "0", "120", "1743552000"]])
         self.assertEqual([line[8] for line in steps], ["", str(1743552000 + 30 * 86400)])
 
-    def test_dot(self):
-        shown = self.ask("--format", "dot", "authenticate", self.fpr["Carol"], PEOPLE["Carol"]).stdout.decode()
-        self.assertEqual(sum(" -> " in line for line in shown.splitlines()), 3)
-        self.assertIn(f'"{self.fpr["Alice"]}" -> "{self.fpr["Bob"]}"', shown)
-
-    def test_wrong_words(self):
-        carol = self.fpr["Carol"]
-        for words in (["authenticate", carol], ["authenticate", "carol", "Carol"], ["nonsense"], [], ["identify"],
-                      ["list", "a", "b"], ["path", carol], ["--time", "yesterday", "list"], ["--amount", "0", "list"],
-                      ["--root", carol + ":0", "list"], ["--root", carol + ":256", "list"],
-                      ["--format", "xml", "list"]):
-            with self.subTest(words):
-                done = self.ask(*words)
-                self.assertEqual((done.returncode, done.stdout), (2, b""))
-        self.assertEqual(self.ask("list", root=None).returncode, 2)
-        self.assertEqual(run([COMMAND, "--root", carol, "list"]).returncode, 2)
-
-    def test_no_answer(self):
-        for words in (["--keyring", "/nowhere"], ["--engine", "/nowhere"], ["--anew", "--verifier", "/nowhere"],
-                      ["--anew", "--verifier", verifier("failing", "exit 3")], ["--engine", "/bin/false"]):
-            with self.subTest(words):
-                done = self.ask(*words, "list")
-                self.assertEqual((done.returncode, done.stdout), (3, b""))
-                self.assertTrue(done.stderr.startswith(b"tukyamid: "), done.stderr)
-
-    def test_what_was_verified_is_kept(self):
-        counted = verifier("counted", f'echo once >> "{folder()}/counted.log"; exec "{self.verifier}" "$@"')
-        cache = folder() / "own-cache"
-        words = ["--cache", cache, "--verifier", counted]
-        log = folder() / "counted.log"
-
-        def asked(*more):
-            self.assertEqual(self.ask(*words, *more, "authenticate", self.fpr["Bob"], PEOPLE["Bob"]).returncode, 0)
-            return log.read_text().count("once")
-
-        self.assertEqual([asked(), asked(), asked("--anew"), asked(), asked("--no-cache")], [1, 1, 2, 2, 3])
-        (entry,) = cache.iterdir()
-        self.assertEqual(stat.S_IMODE(cache.stat().st_mode), 0o700)
-        self.assertEqual(sorted(file.name for file in entry.iterdir()), ["about.json", "bindings", "dump"])
-        os.truncate(entry / "dump", 100)
-        self.assertEqual([asked(), asked()], [4, 4])
-        dump = (entry / "dump").read_bytes()
-        (entry / "dump").write_bytes(dump.replace(b"import c6", b"import 06", 1))
-        self.assertEqual(self.ask(*words, "identify", self.fpr["Bob"]).returncode, 3)
-        self.assertEqual([asked(), asked()], [5, 5])
-
-    def test_standard_input_and_a_directory(self):
-        carol = ["authenticate", self.fpr["Carol"], PEOPLE["Carol"]]
-        options = ["--cache", folder() / "cache", "--verifier", self.verifier, "--time", DECEMBER]
-        alice = ["--root", self.fpr["Alice"]]
-        done = run([COMMAND, "--keyring", "-", *alice, *options, *carol], input=self.friends.keyring.read_bytes())
-        self.assertEqual(done.returncode, 0, done.stderr)
-        directory = self.friends.as_directory(folder() / "certificates", "Alice")
-        self.assertEqual(run([COMMAND, "--directory", directory, *options, *carol]).returncode, 0)
-        dave = ["--root", self.fpr["Dave"]]
-        self.assertEqual(run([COMMAND, "--directory", directory, *options, *dave, *carol]).returncode, 1)
+    def test_the_word_of_the_target_comes_first(self):
+        """Of a revoked key, and of one that has expired, no certification is said to be held back by its issuer."""
+        (erin,) = self.answer("explain", self.fpr["Erin"], PEOPLE["Erin"])[1]["bindings"]
+        meanings = {one["meaning"] for one in erin["others"] if one["word"] == "edge"}
+        self.assertEqual(meanings, {"counts, but no path may end here: the key is revoked, for all times"})
 
     def test_beside_sq_wot(self):
         """Both find the same at 120 and at 40, as of now: another program says what is expected."""
@@ -280,7 +214,7 @@ class Questions(unittest.TestCase):
         built = verifier_built()
         if built is None:
             self.skipTest("verifier can't be built: packages are missing")
-        said = [run([*words, self.friends.keyring]).stdout.splitlines() for words in ([built], TRUSTING)]
+        said = [run([words, self.friends.keyring]).stdout.splitlines() for words in (built, TRUSTING)]
         verdicts = [{line for line in lines if line.startswith(b"verdict ")} for lines in said]
         self.assertEqual(verdicts[0], verdicts[1])
         for name, status in ("Carol", 0), ("Dave", 1), ("Erin", 1):

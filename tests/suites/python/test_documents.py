@@ -13,20 +13,11 @@ import time
 import unittest
 
 import tukyamid
-from friends import friends
-from outside import CLIENT, ROOT, TRUSTING, needs_engine, needs_gpg, run
+from outside import CLIENT, ROOT, needs_engine, run
 
-MODULES = sorted(module.name for module in pkgutil.walk_packages(tukyamid.__path__, "tukyamid."))
+MODULES = sorted(module.name for module in pkgutil.walk_packages(tukyamid.__path__, "tukyamid.")
+                 if not module.name.endswith(".__main__"))
 PAGES = [CLIENT / "README.md", ROOT / "docs" / "USING.md"]
-
-
-def programs(page):
-    """What the Python programs of a page define."""
-    names = {}
-    for code in re.findall(r"```python\n(.*?)```", page.read_text(), re.DOTALL):
-        if not code.startswith(">>>"):
-            exec(code, names)
-    return names
 
 
 @contextlib.contextmanager
@@ -44,38 +35,6 @@ def service():
                 yield f"{folder}/socket"
             finally:
                 running.terminate()
-
-
-@needs_engine
-@needs_gpg
-class Programs(unittest.TestCase):
-    """The programs of the page on using it, over the keyring of friends."""
-
-    @classmethod
-    def setUpClass(cls):
-        cls.names, cls.fpr = programs(ROOT / "docs" / "USING.md"), friends().fpr
-        cls.keyring = tukyamid.Keyring.open([friends().keyring], verifier=TRUSTING)
-        cls.addClassCleanup(cls.keyring.close)
-
-    def test_a_mail_program(self):
-        found = [self.names["keys_for"](self.keyring, self.fpr["Alice"], f"{name}@Example.{domain}")
-                 for name, domain in (("Carol", "org"), ("Dave", "net"), ("nobody", "net"))]
-        self.assertEqual(found, [[self.fpr["Carol"]], [], []])
-
-    def test_a_release_checker(self):
-        may_release = self.names["may_release"]
-        alice, bob, carol = (self.fpr[name] for name in ("Alice", "Bob", "Carol"))
-        december, march = 1764547200, 1740960000  # 3 March 2025 is a day before Carol's certification of Dave.
-        table = [
-            ([bob, carol], "Dave", "example.net", december, True),
-            ([bob, carol], "Dave", "example.org", december, False),
-            ([bob], "Dave", "example.net", december, False),
-            ([bob, carol], "Dave", "example.net", march, False),
-            ([alice, bob], "Carol", "example.org", december, False),  # 60 and 120 are less than 240.
-        ]
-        for leads, signer, domain, released, may in table:
-            with self.subTest(signer=signer, domain=domain, released=released, leads=len(leads)):
-                self.assertEqual(may_release(self.keyring, leads, self.fpr[signer], domain, released), may)
 
 
 @needs_engine
@@ -104,7 +63,8 @@ class Documents(unittest.TestCase):
         options = set(re.findall(r"--[a-z-]+", said))
         self.assertGreater(len(options), 10)
         self.assertEqual({option for option in options if option not in manual}, set())
-        self.assertEqual(set(re.findall(r"--[a-z-]+", manual)) - options - {"--export", "--export-options"}, set())
+        of_gpg = {"--export", "--export-ownertrust"}
+        self.assertEqual(set(re.findall(r"--[a-z-]+", manual)) - options - of_gpg, set())
 
     def test_the_man_page_is_well_formed(self):
         if shutil.which("groff") is None:

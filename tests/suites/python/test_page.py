@@ -6,7 +6,7 @@ from html.parser import HTMLParser
 
 from friends import PEOPLE, friends
 from outside import COMMAND, TRUSTING, folder, installed, needs_engine, needs_gpg, run
-from test_command import DECEMBER, verifier
+from test_command import DECEMBER
 from tukyamid.assessment import Assessment, Certification, Other, Report
 from tukyamid.reasons import ReasonWord, TargetWord
 from tukyamid.shown import html_form, tree
@@ -48,9 +48,8 @@ class Page(unittest.TestCase):
     @classmethod
     def setUpClass(cls):
         cls.fpr = friends().fpr
-        trusting = verifier("trusting", f'exec "{TRUSTING[0]}" "{TRUSTING[1]}" "$@"')
-        cls.words = [COMMAND, "--keyring", friends().keyring, "--cache", folder() / "cache", "--verifier", trusting,
-                     "--root", cls.fpr["Alice"], "--time", DECEMBER, "--format", "html"]
+        cls.words = [COMMAND, "--keyring", friends().keyring, "--cache", folder() / "cache", "--verifier", TRUSTING,
+                     "--root", cls.fpr["Alice"], "--time", DECEMBER, "--format", "html", "--no-service"]
 
     def page(self, name):
         done = run([*self.words, "authenticate", self.fpr[name], PEOPLE[name]])
@@ -114,7 +113,7 @@ class Tree(unittest.TestCase):
         others = tuple(Other(Certification("bb" * 20, fpr, uid, 0, 120), word, word + "!")
                        for word in [ReasonWord.POLICY] * 7 + [ReasonWord.BAD] * 2)
         one = Assessment(fpr, uid, 120, 0, (), TargetWord.OK, others)
-        shown = {question: tree.show(Report(question, 120, 0, {fpr: 120}, (one,), {fpr: uid}))
+        shown = {question: tree.Tree().show(Report(question, 120, 0, {fpr: 120}, (one,), {fpr: uid}))
                  for question in ("authenticate", "explain")}
         self.assertIn("├─ 7 policy: policy!\n", shown["authenticate"])
         self.assertIn("├─ 2 bad: bad!\n", shown["authenticate"])

@@ -8,7 +8,9 @@ from outside import needs_engine
 from tukyamid import Engine, Keyring, Store
 from tukyamid.assessment import assess
 from tukyamid.certificates import signature_number
-from tukyamid.store import Held, Verdicts
+from tukyamid.keyring import DumpIndex
+from tukyamid.store import Held
+from tukyamid.verdicts import Verdicts
 
 FPR = "0123456789abcdef" * 2 + "01234567"
 
@@ -47,12 +49,14 @@ class Kept(unittest.TestCase):
             fpr = next(engine.keys()).fpr
             self.assertEqual(engine.feed(lines(numbers(20))), [])
             store, dump = Store(folder), list(engine.dump())
-            store.keep("00", dump)
+            store.keep("00", dump, "a verifier")
             entry, held = store.find("00"), Held(dump)
             for one in entry, held:
-                self.assertEqual(list(one.bindings()), [(fpr, b" "), (fpr, b"Zo\xc3\xab\\<z@e.org")])
-                self.assertEqual([one.verdicts().issuer(number) is None for number in numbers(20)],
+                self.assertEqual(one.bindings, [(fpr, b" "), (fpr, b"Zo\xc3\xab\\<z@e.org")])
+                self.assertEqual([one.verdicts.issuer(number) is None for number in numbers(20)],
                                  [place % 3 == 0 for place in range(20)])
+            self.assertEqual(len(store.good_verdicts("a verifier")), 13)
+            self.assertEqual(store.good_verdicts("another"), {})
             with Engine() as other:
                 self.assertTrue(entry.give_to(other))
                 self.assertEqual(list(other.dump()), dump)
@@ -60,9 +64,9 @@ class Kept(unittest.TestCase):
 
     def test_nothing_is_kept_too(self):
         with tempfile.TemporaryDirectory() as folder, Engine() as engine:
-            entry = Store(folder).keep("00", engine.dump())
+            entry = Store(folder).keep("00", engine.dump(), "a verifier")
             self.assertTrue(entry.give_to(engine))
-            self.assertEqual((list(entry.bindings()), entry.verdicts().issuer("0" * 64)), ([], None))
+            self.assertEqual((entry.bindings, entry.verdicts.issuer("0" * 64)), ([], None))
 
 
 @needs_engine
@@ -75,11 +79,11 @@ class Shown(unittest.TestCase):
             (lambda engine: engine.judge_good(number, FPR), FPR, "expired"),
             (lambda engine: engine.judge_bad(number), None, "bad"), (lambda engine: None, None, "unjudged"),
         ]:
-            with self.subTest(word), Keyring(Engine()) as keyring:
-                keyring.engine.import_certificates(b"\xc6\x07" + key + b"\xcd\x01" + user_id + b"\xc2\x16" + body)
-                fpr = next(keyring.engine.keys()).fpr
-                judge(keyring.engine)
-                keyring.verdicts = Held(keyring.engine.dump()).verdicts()
+            with self.subTest(word), Engine() as engine:
+                engine.import_certificates(b"\xc6\x07" + key + b"\xcd\x01" + user_id + b"\xc2\x16" + body)
+                fpr = next(engine.keys()).fpr
+                judge(engine)
+                keyring = Keyring(engine, DumpIndex(engine, Held(engine.dump())))
                 (other,) = assess(keyring.view(5000, {FPR: 120}), fpr, user_id, 120).others
                 told = other.certification
                 self.assertEqual((other.word, told.issuer, told.made, told.ends), (word, issuer, 2000, 2001))

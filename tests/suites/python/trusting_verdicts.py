@@ -1,12 +1,14 @@
-"""A stand-in for the verifier, for keyrings that the tests made: takes each signature for good by the issuer that it
-names. It verifies nothing."""
+#!/usr/bin/python3
+"""A stand-in for the verifier, for keyrings that the tests know: takes each signature as good by the issuer that it
+names, if that is there. It verifies nothing. TRUSTING_LOG names a file that gets a line for each run: its words."""
 
+import os
 import sys
 from pathlib import Path
 
 sys.path.insert(0, str(Path(__file__).resolve().parents[3] / "python"))
 
-from tukyamid.certificates import KEY, bindings_of, packets, read_certificate
+from tukyamid.certificates import KEY, key_fingerprint, key_id, packets, read_certificate  # noqa: E402
 
 
 def certificates(octets):
@@ -20,19 +22,43 @@ def certificates(octets):
     return found
 
 
-def main():
-    seen = set()
-    for name in sys.argv[1:]:
-        path = Path(name)
+def read(names):
+    for path in map(Path, names):
         for file in sorted(path.rglob("*")) if path.is_dir() else [path]:
-            for octets in certificates(file.read_bytes()) if file.is_file() else []:
-                print(f"import {octets.hex()}")
-                certificate = read_certificate(octets)
-                seen.update(fpr for fpr, _ in bindings_of(octets))
-                lists = [certificate.direct, *certificate.user_ids.values()]
-                for signature in (one for signatures in lists for one in signatures):
-                    if signature.issuer:
-                        print(f"verdict {signature.number} good {signature.issuer}")
+            if file.is_file():
+                yield from certificates(file.read_bytes())
 
 
-main()
+def judge(octets, there, wanted):
+    certificate = read_certificate(octets)
+    lists = [certificate.direct, *certificate.user_ids.values()]
+    for signature in (one for signatures in lists for one in signatures):
+        issuer = there.get(signature.said.issuer or signature.said.key_id)
+        if issuer is not None and (wanted is None or signature.number in wanted):
+            print(f"verdict {signature.number} good {issuer}")
+
+
+def main(words):
+    if os.environ.get("TRUSTING_LOG"):
+        with open(os.environ["TRUSTING_LOG"], "a", encoding="utf-8") as log:
+            log.write(" ".join(words) + "\n")
+    if words == ["--version"]:
+        print("wot-verdicts", os.environ.get("TRUSTING_VERSION", "1 (a stand-in)"))
+        return
+    options = {word for word in words if word.startswith("--")}
+    whole = list(read([word for word in words if word not in options]))
+    fprs = [key_fingerprint(body) for octets in whole for kind, body in packets(octets) if kind == KEY]
+    there = {name: fpr for fpr in fprs for name in (fpr, key_id(fpr))}
+    wanted = {line.split()[1] for line in sys.stdin if line.startswith("sig ")} if "--pending" in options else None
+    for octets in whole:
+        if wanted is None:
+            print(f"import {octets.hex()}")
+        if "--certificates" not in options:
+            judge(octets, there, wanted)
+
+
+try:
+    main(sys.argv[1:])
+except ValueError as error:
+    sys.stderr.write(f"wot-verdicts: {error}\n")
+    sys.exit(3)

@@ -123,7 +123,8 @@ class Changes(InAFolder):
 
     def test_a_snapshot_stays_as_it_was(self):
         with closing(self.database.snapshot()) as snapshot:
-            self.database.apply([Change("drop", NOBODY, (DropCertificate(bytes.fromhex(self.world.fprs[1].decode())),))])
+            fpr = bytes.fromhex(self.world.fprs[1].decode())
+            self.database.apply([Change("drop", NOBODY, (DropCertificate(fpr),))])
             self.assertEqual(b"".join(line + b"\n" for line in snapshot.lines()), self.script)
             self.assertEqual(snapshot.count(), self.script.count(b"\n"))
 

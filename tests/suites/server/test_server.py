@@ -160,6 +160,35 @@ class Words(unittest.TestCase):
         self.assertTrue((self.folder / "passed").exists())
 
 
+@needs_engine
+@unittest.skipUnless(shutil.which("systemd-socket-activate"), "systemd-socket-activate isn't installed")
+class Activated(unittest.TestCase):
+    """systemd's own program opens the sockets, and starts the service with the first client."""
+
+    def setUp(self):
+        self.folder = Path(tempfile.mkdtemp(prefix="tukyamid-server-"))
+        self.addCleanup(shutil.rmtree, self.folder)
+
+    def test_two_sockets(self):
+        changes, questions = self.folder / "changes", self.folder / "questions"
+        words = ["systemd-socket-activate", "-l", changes, "-l", questions, "--fdname=changes:read-only",
+                 "-E", f"PATH={os.environ['PATH']}", PYTHON, SERVER, "--engine", PROGRAM, "--idle", "1",
+                 "--database", self.folder / "keyring.db"]
+        service = subprocess.Popen(words, stdin=subprocess.DEVNULL, stderr=subprocess.DEVNULL)
+        self.addCleanup(service.wait)
+        self.addCleanup(service.kill)
+        end = time.monotonic() + PATIENCE
+        while not questions.is_socket() and time.monotonic() < end:
+            time.sleep(0.02)
+        with Client(questions) as client:
+            self.assertEqual(client.tell(b"keys"), b"keys 0")
+            self.assertEqual(client.tell(b"verdict %064x bad" % 1), b"refused read-only")
+        with Client(changes) as client:
+            self.assertEqual(client.tell(b"verdict %064x bad" % 1), b"ok")
+        self.assertEqual(service.wait(PATIENCE), 0)
+        self.assertTrue(changes.is_socket())
+
+
 class Documents(unittest.TestCase):
     @unittest.skipUnless(shutil.which("groff"), "groff isn't installed")
     def test_the_man_page_has_every_option_and_command(self):

@@ -11,7 +11,8 @@ MALFORMED = [b"view P time 5000", b"view p time 4294967296", b"view p time 05000
              b"ask p " + b"0" * 39 + b" 120 a", b"import", b"import c", b"import zz", b"verdict 00 bad", b"drop xyz",
              b"view " + b"x" * 33 + b" time 5000", b"view p close ", b"nothing of the kind", b"\xff\0\r", b" keys",
              b"view p root " + b"0" * 40 + b" 256", b"dump all", b"watch w off", b"load trust-roots", b"list p",
-             b"cursor c over p 0", b"cursor c next", b"cursor C next 1", b"store trust-root", b"store", b"cursor c close ",
+             b"cursor c over p 0", b"cursor c next", b"cursor C next 1", b"store trust-root", b"store",
+             b"cursor c close ",
              b"list p 0", b"list P 120", b"explain p " + b"0" * 40, b"explain p", b"pending ", b"pending p"]
 
 

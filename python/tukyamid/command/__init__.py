@@ -1,0 +1,16 @@
+"""The command `tukyamid`."""
+
+import sys
+from collections.abc import Sequence
+
+from .failures import run_guarded
+
+
+def main(words: Sequence[str] | None = None) -> int:
+    """Runs the command, and returns its exit status. Whatever fails is said in one line."""
+    return run_guarded(lambda: _run(list(sys.argv[1:] if words is None else words)))
+
+
+def _run(words: list[str]) -> int:
+    from . import dispatch
+    return dispatch.run(words)

@@ -1,0 +1,153 @@
+"""The words of the command: its options, and what they are read as."""
+
+import argparse
+from collections.abc import Callable, Sequence
+from typing import Any, NoReturn
+
+from ..shown import FORMS
+from . import values
+from .failures import WrongWords
+
+HELP = """usage: tukyamid [option..] QUESTION WORD..
+
+questions:
+  authenticate KEY USERID   how confident can I be that this user ID belongs to this key?
+  lookup USERID             which keys does this user ID belong to? the best first
+  identify KEY              which user IDs belong to this key? the best first
+  list [PATTERN]            all bindings that reach the amount; PATTERN is a part of the user ID
+  path KEY.. USERID         is there a path along these certificates, and if not, which step breaks it?
+  explain KEY USERID        what does each certification of this user ID come to?
+
+other commands, each with a --help of its own:
+  verify FILE [SIGNATURE] --for WHOM   did WHOM sign this file?
+  keyring add|remove|list   the keyrings that the service keeps
+  status                    what the service holds
+  log                       who changed what
+  doctor                    does everything work here?
+
+KEY is a fingerprint or a key ID, also with 0x in front."""
+EPILOG = """exit status: 0 the amount is reached, by one binding at least; 1 it isn't; 2 the words are wrong;
+3 there is no answer, and standard error says why; 130 it was interrupted.
+environment: TUKYAMID_ENGINE and TUKYAMID_VERIFIER name the two programs; NO_COLOR turns colours off.
+"""
+
+
+class Given(argparse.Namespace):
+    """The words of a question, read."""
+    question: str | None
+    words: list[str]
+    keyring: list[str]
+    directory: list[str]
+    gpg: bool
+    gpg_keyring: bool
+    root: list[tuple[str, int]]
+    time: int | None
+    amount: int
+    email: bool
+    strict: bool
+    paths: bool
+    format: str
+    no_service: bool
+    cache: str | None
+    no_cache: bool
+    anew: bool
+    engine: str | None
+    verifier: str | None
+    help: bool
+    version: bool
+
+
+class Parser(argparse.ArgumentParser):
+    """A parser whose errors are WrongWords."""
+
+    def error(self, message: str) -> NoReturn:
+        raise WrongWords(message)
+
+
+def read(words: Sequence[str]) -> Given:
+    """The words as they are given; WrongWords if they can't be read."""
+    given = Given()
+    parser().parse_intermixed_args(words, given)
+    return given
+
+
+def help_text() -> str:
+    return parser().format_help()
+
+
+def parser() -> Parser:
+    made = Parser(prog="tukyamid", description=HELP, epilog=EPILOG, add_help=False, allow_abbrev=False,
+                  formatter_class=_Help)
+    made.add_argument("question", nargs="?", help=argparse.SUPPRESS)
+    made.add_argument("words", nargs="*", help=argparse.SUPPRESS)
+    _add_inputs(made)
+    _add_answers(made)
+    _add_programs(made)
+    return made
+
+
+class _Help(argparse.RawDescriptionHelpFormatter):
+    """The help without argparse's own line of usage: the description has it."""
+
+    def __init__(self, prog: str) -> None:
+        super().__init__(prog, width=100)  # To ask for the terminal's width would take longer than all the rest here.
+
+    def add_usage(self, *_: Any, **__: Any) -> None:
+        pass
+
+
+def _add_inputs(made: Parser) -> None:
+    group = made.add_argument_group("where certificates come from (by default the service's keyring)")
+    group.add_argument("--keyring", action="append", default=[], metavar="FILE",
+                       help="a keyring, binary or armored; - is standard input; may be given several times")
+    group.add_argument("--directory", action="append", default=[], metavar="FOLDER", help="a certificate directory")
+    group.add_argument("--gpg", action="store_true", help="gpg's own keyring, and its owner trust as roots")
+    group.add_argument("--gpg-keyring", action="store_true", help="gpg's own keyring, without its owner trust")
+    group.add_argument("--root", action="append", default=[], metavar="KEY[:AMOUNT]", type=_typed(values.read_root),
+                       help="a trust root, of amount 120 unless another is given; by default gpg's with --gpg, the "
+                            "directory's trust-root with --directory, and else that of sq")
+
+
+def _add_answers(made: Parser) -> None:
+    group = made.add_argument_group("the question and its answer")
+    group.add_argument("--time", metavar="TIME", type=_typed(values.read_time),
+                       help="as of this time (UTC): 2024-01-31, 2024-01-31T12:00:00Z, or @SECONDS since 1970")
+    group.add_argument("--amount", metavar="N|partial|full|double", type=_typed(values.read_wanted), default=120,
+                       help="the wanted amount: partial is 40, full 120 (the default), double 240")
+    for word, amount in values.AMOUNTS.items():
+        group.add_argument(f"--{word}", dest="amount", action="store_const", const=amount, help=f"--amount {word}")
+    group.add_argument("--email", action="store_true", help="USERID is an e-mail address, of any case")
+    group.add_argument("--strict", action="store_true",
+                       help="a key that gpg or Sequoia takes as expired isn't reached")
+    group.add_argument("--paths", action="store_true", help="list: show the paths too")
+    group.add_argument("--format", choices=FORMS, default="tree", help=f"how the answer is shown: {', '.join(FORMS)}",
+                       metavar="FORM")
+
+
+def _add_programs(made: Parser) -> None:
+    group = made.add_argument_group("programs, and what is kept")
+    group.add_argument("--no-service", action="store_true", help="start an engine for this question alone")
+    group.add_argument("--cache", metavar="FOLDER", help="where verified keyrings are kept")
+    group.add_argument("--no-cache", action="store_true", help="keep nothing, and use nothing that was kept")
+    group.add_argument("--anew", action="store_true", help="verify also what was kept")
+    group.add_argument("--engine", metavar="PROGRAM", help="the engine's program")
+    group.add_argument("--verifier", metavar="PROGRAM", help="the program wot-verdicts")
+    group.add_argument("--known-notation", type=_known_notation, help=argparse.SUPPRESS)
+    group.add_argument("--version", action="store_true", help="print the versions, and end")
+    group.add_argument("--help", "-h", action="store_true", help="print this help, and end")
+
+
+def _typed(read_word: Callable[[str], Any]) -> Callable[[str], Any]:
+    """What reads an argument: a ValueError is said as it stands."""
+    def typed(text: str) -> Any:
+        try:
+            return read_word(text)
+        except ValueError as error:
+            raise argparse.ArgumentTypeError(str(error)) from None
+    return typed
+
+
+def _known_notation(name: str) -> NoReturn:
+    """An option of sq-wot's, which has no counterpart here."""
+    raise argparse.ArgumentTypeError("no notation can be made known: by the engine's rules a signature with a critical "
+                                     "notation counts for nothing, and `explain` names the notation")

@@ -1,0 +1,152 @@
+"""The questions: each reads its words, and then asks a view."""
+
+from collections.abc import Callable, Iterable, Mapping
+from typing import NamedTuple
+
+from ..addresses import address_of, canonical
+from ..assessment import Assessment, assess, brief
+from ..keyring import View
+from ..spelling import for_people
+from . import values
+from .failures import WrongWords
+from .keys import resolve
+from .parser import Given
+
+
+class Found(NamedTuple):
+    """What a question came to. `roots` are its own, if it needs no others."""
+    assessments: tuple[Assessment, ...]
+    notes: tuple[str, ...] = ()
+    roots: Mapping[str, int] = {}
+
+
+Ask = Callable[[View], Found]
+
+
+def read(given: Given) -> Ask:
+    """What asks the question; WrongWords if its words are wrong."""
+    question = QUESTIONS.get(given.question or "")
+    if question is None:
+        raise WrongWords(f"there is no question {given.question!r}")
+    return question(given)
+
+
+def words_of(given: Given, form: str) -> list[str]:
+    """The words of a question that has a fixed number of them."""
+    if len(given.words) != len(form.split()):
+        raise WrongWords(f"{given.question} takes: {form}")
+    return given.words
+
+
+def key_of(text: str) -> str:
+    try:
+        return values.read_key(text)
+    except ValueError as error:
+        raise WrongWords(str(error)) from None
+
+
+class UserIds:
+    """The user IDs that a word names: one by its octets, or by `--email` all that have an address."""
+
+    def __init__(self, given: Given, word: str) -> None:
+        self._address = canonical(_address(word)) if given.email else None
+        self._user_id = values.read_user_id(word)
+
+    def of_key(self, view: View, fpr: str) -> list[bytes]:
+        """Those of a key. A user ID that is given whole is asked about, whether or not the key has it."""
+        if self._address is None:
+            return [self._user_id]
+        certificate = view.keyring.certificate(fpr)
+        return [uid for uid in certificate.user_ids if address_of(uid) == self._address] if certificate else []
+
+    def everywhere(self, view: View) -> Iterable[tuple[str, bytes]]:
+        if self._address is None:
+            return view.keyring.index.by_user_id(self._user_id)
+        return view.keyring.index.by_address(self._address)
+
+    def missing(self, fpr: str) -> tuple[str, ...]:
+        """The note for a key that has none of them."""
+        address = for_people((self._address or "").encode("utf-8", "surrogateescape"))
+        return (f"the key {fpr} isn't in the keyring, or has no user ID with the address {address}",)
+
+
+def _address(word: str) -> str:
+    if "@" not in word.strip("@"):
+        raise WrongWords(f"{word!r} is no e-mail address")
+    return word
+
+
+def authenticate(given: Given) -> Ask:
+    return _about_one_key(given, every=False)
+
+
+def explain(given: Given) -> Ask:
+    return _about_one_key(given, every=True)
+
+
+def _about_one_key(given: Given, every: bool) -> Ask:
+    key, word = words_of(given, "KEY USERID")
+    key, user_ids = key_of(key), UserIds(given, word)
+
+    def ask(view: View) -> Found:
+        fpr = resolve(view.keyring, key)
+        found = [assess(view, fpr, uid, given.amount, every) for uid in user_ids.of_key(view, fpr)]
+        return Found(_best_first(found), () if found else user_ids.missing(fpr))
+    return ask
+
+
+def lookup(given: Given) -> Ask:
+    (word,) = words_of(given, "USERID")
+    user_ids = UserIds(given, word)
+    return lambda view: Found(_each(view, given, user_ids.everywhere(view)))
+
+
+def identify(given: Given) -> Ask:
+    (word,) = words_of(given, "KEY")
+    if given.email:
+        raise WrongWords("identify takes a key, and no address: --email goes with the other questions")
+    key = key_of(word)
+
+    def ask(view: View) -> Found:
+        fpr = resolve(view.keyring, key)
+        certificate = view.keyring.certificate(fpr)
+        if certificate is None:
+            return Found((), (f"the key {fpr} isn't in the keyring",))
+        return Found(_each(view, given, ((fpr, uid) for uid in certificate.user_ids)))
+    return ask
+
+
+def _each(view: View, given: Given, bindings: Iterable[tuple[str, bytes]]) -> tuple[Assessment, ...]:
+    return _best_first([assess(view, fpr, uid, given.amount) for fpr, uid in sorted(set(bindings))])
+
+
+def _best_first(found: list[Assessment]) -> tuple[Assessment, ...]:
+    return tuple(sorted(found, key=lambda one: -one.amount))
+
+
+def list_bindings(given: Given) -> Ask:
+    if len(given.words) > 1:
+        raise WrongWords("list takes: [PATTERN]")
+    pattern = given.words[0].casefold() if given.words else ""
+    with_paths = given.paths or given.format == "dot"
+
+    def is_sought(user_id: bytes) -> bool:
+        text = (address_of(user_id) or "") if given.email else user_id.decode("utf-8", "surrogateescape")
+        return pattern in text.casefold() and not (given.email and not text)
+
+    def ask(view: View) -> Found:
+        listed = [one for one in view.list(given.amount) if is_sought(one.user_id)]
+        if with_paths:
+            return Found(tuple(assess(view, one.fpr, one.user_id, given.amount) for one in listed))
+        return Found(tuple(brief(view, one, given.amount) for one in listed))
+    return ask
+
+
+def path(given: Given) -> Ask:
+    from .path import read_path
+    return read_path(given)
+
+
+QUESTIONS: dict[str, Callable[[Given], Ask]] = {
+    "authenticate": authenticate, "lookup": lookup, "identify": identify, "list": list_bindings, "explain": explain,
+    "path": path}

@@ -1,0 +1,97 @@
+"""Opens the keyring of inputs that were asked about before: at a service of their own, which holds nothing else."""
+
+from __future__ import annotations
+
+import os
+import time
+from collections.abc import Callable
+from typing import TYPE_CHECKING
+
+from ..client import Client, connect
+from ..keyring import Keyring
+from ..refusals import ServiceMissing, TukyamidError
+from ..served import served_keyring
+from .held import find_record, held_file, keep_record
+from .parser import Given
+from .sources import Source, Stamp
+
+if TYPE_CHECKING:
+    from ..store import Entry
+
+
+class Reopening:
+    """Inputs that may have a service. `as_paths` gives them as files."""
+
+    def __init__(self, given: Given, sources: list[Source], as_paths: Callable[[], list[str]]) -> None:
+        self._given, self._sources, self._as_paths = given, sources, as_paths
+        self._digest = ""
+
+    def served(self) -> Keyring | None:
+        """Their keyring at their service; None if it doesn't run, and can't be started at once."""
+        try:
+            self._digest = self._known_digest() or self._read_digest()
+            client = self._connect() or self._restart()
+        except (OSError, TukyamidError):
+            return None  # What fails here fails again where the inputs are read, and is said there.
+        return served_keyring(client) if client is not None else None
+
+    def begin_after(self, keyring: Keyring) -> Keyring:
+        """Has their service started in the background, now that they are verified and kept."""
+        entry = self._entry()
+        if entry is not None:
+            from .holding import begin
+            begin(str(entry.folder), self._socket())
+        return keyring
+
+    def _stamp(self) -> Stamp | None:
+        """The stamp of all inputs, and of how the verifier is found; None if one has none."""
+        parts, newest = [], 0
+        for source in self._sources:
+            stamp = source.stamp()
+            if stamp is None:
+                return None
+            parts.append(stamp.text)
+            newest = max(newest, stamp.newest)
+        found_by = [self._given.verifier or "", *(os.environ.get(name, "") for name in ("TUKYAMID_VERIFIER", "PATH"))]
+        return Stamp("\0\0".join([*found_by, *parts]), newest)
+
+    def _known_digest(self) -> str | None:
+        stamp = self._stamp()
+        record = find_record(stamp) if stamp is not None else None
+        return record.digest if record is not None else None
+
+    def _read_digest(self) -> str:
+        """The digest of the inputs, by reading them."""
+        from shutil import which
+
+        from ..digests import digest_of
+        from ..verifier import Verifier
+        begun, stamp = time.time_ns(), self._stamp()
+        verifier = Verifier([self._given.verifier] if self._given.verifier else None)
+        digest = digest_of(self._as_paths(), verifier.version)
+        program = which(verifier.words[0])
+        if stamp is not None and program is not None:
+            keep_record(stamp, begun, digest, program)
+        return digest
+
+    def _socket(self) -> str:
+        return held_file(os.path.abspath(self._given.cache) if self._given.cache else "", self._digest) + ".socket"
+
+    def _connect(self) -> Client | None:
+        try:
+            return connect(self._socket())
+        except ServiceMissing:
+            return None
+
+    def _restart(self) -> Client | None:
+        """Starts their service again, if all that it needs is kept."""
+        entry = self._entry()
+        if entry is None:
+            return None
+        from .holding import is_ready, start
+        return connect(start(str(entry.folder), self._socket())) if is_ready(str(entry.folder)) else None
+
+    def _entry(self) -> Entry | None:
+        """What was kept of the inputs. TukyamidError if the folder isn't safe."""
+        from ..store import Store
+        return Store(self._given.cache).find(self._digest) if self._digest else None

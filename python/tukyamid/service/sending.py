@@ -1,0 +1,37 @@
+"""A line on its way to an engine, and a reply on its way back."""
+
+from __future__ import annotations
+
+from .journal import Change, Done, Point
+from .standing import Watch
+
+
+class Sent:
+    """A line that waits for its reply: `done` is called with it, or with None where the line was given up. `change` is
+    the change of the keyring that it makes, `watch` the watch that it begins, if any. The reply to an inner line goes
+    to nobody outside, so it needn't wait until it rests on what was committed."""
+    __slots__ = ("line", "done", "change", "watch", "is_inner", "since")
+
+    def __init__(self, line: bytes, done: Done, change: Change | None, watch: Watch | None, is_inner: bool,
+                 since: float) -> None:
+        self.line = line
+        self.done = done
+        self.change = change
+        self.watch = watch
+        self.is_inner = is_inner
+        self.since = since
+
+
+class Held:
+    """A reply, or what a watch is told, that rests on a change that isn't committed yet."""
+    __slots__ = ("point", "sent", "reply", "watch")
+
+    def __init__(self, point: Point, sent: Sent | None, reply: bytes, watch: Watch | None) -> None:
+        self.point = point
+        self.sent = sent
+        self.reply = reply
+        self.watch = watch
+
+
+def ignore(reply: bytes | None, count: int) -> None:
+    """For a line whose reply nobody wants."""

@@ -1,0 +1,111 @@
+"""The packages in a fresh root: installed by apt, used by an ordinary user, removed and purged.
+
+mmdebstrap makes the root, runs trial.sh in it, and throws it away. It needs a way to Debian's archive, and root or a
+user namespace. WOT_NO_ROOT=1 leaves it out.
+"""
+
+import os
+import shutil
+import subprocess
+import tempfile
+import unittest
+from pathlib import Path
+
+import building
+
+HERE = Path(__file__).resolve().parent
+SOURCES = [Path("/etc/apt/sources.list"), *sorted(Path("/etc/apt/sources.list.d").glob("*.sources"))]
+SECONDS = 1500
+
+
+def sources():
+    """What this machine installs from."""
+    return [str(file) for file in SOURCES if file.is_file() and "deb" in file.read_text()]
+
+
+def tried(results):
+    """Makes a root and runs the trial in it; the reason why that can't be done, or None."""
+    if os.environ.get("WOT_NO_ROOT"):
+        return "WOT_NO_ROOT is set"
+    if not building.installed(["mmdebstrap"]):
+        return "mmdebstrap isn't installed"
+    if not sources():
+        return "this machine names no source of packages"
+    packages = results / "packages"
+    packages.mkdir()
+    for file in [*building.packages().values(), HERE / "by_hand.py"]:
+        shutil.copy(file, packages)
+    made = subprocess.run(
+        ["mmdebstrap", "--variant=apt", "--format=null", "--dpkgopt=force-unsafe-io", "--aptopt=Acquire::Retries 3",
+         f"--customize-hook=copy-in {packages} /", f"--customize-hook=upload {HERE / 'trial.sh'} /trial.sh",
+         '--customize-hook=chroot "$1" /bin/sh /trial.sh', f"--customize-hook=copy-out /results {results}",
+         "bookworm", "/dev/null", *sources()],
+        stdin=subprocess.DEVNULL, capture_output=True, text=True, timeout=SECONDS, check=False)
+    if not (results / "results" / "steps").is_file():
+        return f"no root can be made here: {made.stderr.strip().splitlines()[-1] if made.stderr else made.returncode}"
+    return None
+
+
+class FreshRoot(unittest.TestCase):
+    @classmethod
+    def setUpClass(cls):
+        building.packages()
+        place = tempfile.TemporaryDirectory(prefix="tukyamid-root-")
+        cls.addClassCleanup(place.cleanup)
+        reason = tried(Path(place.name))
+        if reason:
+            raise unittest.SkipTest(reason)
+        cls.results = Path(place.name) / "results"
+        lines = (line.split() for line in (cls.results / "steps").read_text().splitlines())
+        cls.steps = {name: (int(status), float(seconds)) for name, status, seconds in lines}
+
+    def said(self, name):
+        return (self.results / name).read_text(errors="replace")
+
+    def assert_ended(self, name, status=0):
+        self.assertIn(name, self.steps)
+        self.assertEqual(self.steps[name][0], status, self.said(name)[-3000:])
+
+    def test_one_command_installs_them(self):
+        self.assert_ended("install")
+        print(f"apt install: {self.steps['install'][1]:.1f} seconds")
+
+    def test_the_version_has_the_commit_and_the_toolchain(self):
+        self.assert_ended("version")
+        self.assertRegex(self.said("version"), rf"tukyamid [0-9.]+\ncommit [0-9a-f]{{40}}(-dirty)?\n"
+                                               rf"engine proved by {building.TOOLCHAIN}\n")
+
+    def test_the_doctor(self):
+        self.assert_ended("doctor", 0 if building.HAS_VERIFIER else 3)
+        said = self.said("doctor")
+        self.assertRegex(said, r"\[ok\] +engine +/usr/bin/tukyamid-engine answers\n")
+        self.assertRegex(said, r"\[ok\] +verifier +/usr/bin/wot-verdicts is wot-verdicts " if building.HAS_VERIFIER
+                         else r"\[missing\] +verifier .*\n +mend it with: apt install tukyamid-verifier\n")
+        self.assertRegex(said, r"\[note\] +gpg .*\n +mend it with: apt install gnupg\n")
+
+    def test_the_quickstart(self):
+        self.assert_ended("quickstart")
+
+    def test_an_answer_about_debian_keyring(self):
+        if not building.HAS_VERIFIER:
+            self.skipTest("the verifier isn't built, so nothing can be verified there")
+        for name in "answer", "again", "page":
+            self.assert_ended(name)
+        for name in "answer", "again":  # By gpg --check-sigs, Steve McIntyre's key made a good certification in 2019.
+            self.assertIn("Steve McIntyre", self.said(name))
+            self.assertIn("120", self.said(name))
+            self.assertIn("2019-07-29", self.said(name))
+        self.assertIn("<svg", self.said("page"))
+        self.assertLess(self.steps["again"][1], self.steps["answer"][1])
+        print("; ".join(f"{name}: {self.steps[name][1]:.2f} seconds" for name in ("answer", "again", "page")))
+
+    def test_the_service_by_hand(self):
+        for name in "service", "host":
+            self.assert_ended(name)
+            self.assertEqual(self.said(name).splitlines()[-3:], ["refused []", "amount 120", "status 0"], self.said(name))
+
+    def test_purging_leaves_what_the_user_has(self):
+        self.assert_ended("remove")
+        self.assert_ended("purge")
+        left = [line for line in self.said("left").splitlines() if not line.startswith(("/home/user/", "/run/user/"))]
+        self.assertEqual([line for line in left if not line.startswith("tukyamid:")], [])  # The system's user stays.
