@@ -50,7 +50,7 @@ REPLIES = {
     f"store {A}": ["ok stored 4194304"],
     f"drop {A}": ["refused absent"],
     f"drop {B}": ["ok"],
-    "service status": ["service status 2", "certificates 3", r"database /tmp/a\\b c"],
+    "service status": ["service status 3", "certificates 3", "verdicts 5", r"database /tmp/a\\b c"],
     "service find address a@b": ["service find 2", f"bind {A} Alice", rf"bind {B} B\\ob \x0a"],
     "service find user-id Alice": ["service find 0"],
     rf"service find part \\\xc3\xab": ["service find 0"],
