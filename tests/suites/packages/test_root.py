@@ -113,7 +113,8 @@ class FreshRoot(unittest.TestCase):
     def test_the_service_by_hand(self):
         for name in "service", "host":
             self.assert_ended(name)
-            self.assertEqual(self.said(name).splitlines()[-3:], ["refused []", "amount 120", "status 0"], self.said(name))
+            said = self.said(name)
+            self.assertEqual(said.splitlines()[-3:], ["refused []", "amount 120", "status 0"], said)
 
     def test_purging_leaves_what_the_user_has(self):
         self.assert_ended("remove")

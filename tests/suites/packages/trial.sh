@@ -19,8 +19,8 @@ user() {
 }
 
 files() {
-    find / -xdev \( -path /proc -o -path /sys -o -path /dev -o -path /results -o -path /packages -o -path /tmp \) -prune \
-        -o \( -name '*tukyamid*' -o -name '*wot-verdicts*' \) -print | sort
+    find / -xdev \( -path /proc -o -path /sys -o -path /dev -o -path /results -o -path /packages -o -path /tmp \) \
+        -prune -o \( -name '*tukyamid*' -o -name '*wot-verdicts*' \) -print | sort
 }
 
 

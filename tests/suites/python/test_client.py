@@ -1,5 +1,5 @@
-"""The client of a service, plain and asynchronous, and the engine's asynchronous client: the tests of `test_engine` over
-each, what their ends are, and what only the asynchronous one has."""
+"""The client of a service, plain and asynchronous, and the engine's asynchronous client: the tests of `test_engine`
+over each, what their ends are, and what only the asynchronous one has."""
 
 import asyncio
 import inspect
