@@ -1,14 +1,17 @@
-"""A keyring as a developer's directory has it, made anew from one seed: what the benches of keyrings run on.
+"""A keyring as a developer's directory has it, made again from one seed: what the benches of keyrings run on.
 
 900 certificates of some 30 kB: an RSA key of 4096 bits, three user IDs with fourteen certifications each (one of them
-the key's own), a picture, two subkeys. Certifications are of random earlier keys, one in eight of them as an
+the key's own), a picture, two subkeys. Certifications are by random earlier keys, one in eight of them as an
 introducer of depth 1 to 3. 40,000 verdicts, each good by the issuer.
 """
+
 import hashlib
 import os
 import random
 import subprocess
 import sys
+from collections.abc import Iterable, Iterator
+from typing import IO
 
 TOP = os.path.dirname(os.path.dirname(os.path.abspath(__file__)))
 PROGRAM = os.environ.get("WOT_PROGRAM", os.path.join(TOP, "crates", "wot_cli", "out", "wot_cli"))
@@ -17,9 +20,10 @@ CERTS = 900
 DIRECT = 400
 CREATED = 1400000000
 NOW = 1700000000
+Key = tuple[bytes, bytes]
 
 
-def packet(kind, body):
+def packet(kind: int, body: bytes) -> bytes:
     size = len(body)
     if size < 192:
         length = bytes([size])
@@ -30,16 +34,18 @@ def packet(kind, body):
     return bytes([0xC0 | kind]) + length + body
 
 
-def fingerprint(key):
+def fingerprint(key: bytes) -> bytes:
     return hashlib.sha1(b"\x99" + len(key).to_bytes(2, "big") + key).digest()
 
 
-def number(key, place, component, signature):
+def number(key: bytes, place: int, component: bytes, signature: bytes) -> str:
     fields = b"wot1", key, bytes([place]), component, signature
     return hashlib.sha256(b"".join(len(field).to_bytes(4, "big") + field for field in fields)).hexdigest()
 
 
-def signature(draw, kind, made, issuer, extra=b"", material=514):
+def signature(
+    draw: random.Random, kind: int, made: int, issuer: bytes, extra: bytes = b"", material: int = 514
+) -> bytes:
     hashed = b"\x05\x02" + made.to_bytes(4, "big") + extra + b"\x16\x21\x04" + issuer
     unhashed = b"\x09\x10" + issuer[-8:]
     areas = len(hashed).to_bytes(2, "big") + hashed + len(unhashed).to_bytes(2, "big") + unhashed
@@ -49,10 +55,10 @@ def signature(draw, kind, made, issuer, extra=b"", material=514):
 class Certificate:
     """The octets of a certificate, its fingerprint, its user IDs, and its signatures: (number, issuer)."""
 
-    def __init__(self, draw, index, keys):
+    def __init__(self, draw: random.Random, index: int, keys: list[Key]) -> None:
         self.key, self.fpr = keys[index]
         self.user_ids = [b"user %d <u%d.%d@example.org>" % (index, index, place) for place in range(3)]
-        self.verdicts = []
+        self.verdicts: list[tuple[str, bytes]] = []
         parts = [packet(6, self.key)]
         if index < DIRECT:
             parts.append(self.signed(draw, 0, b"", 0x1F, self.fpr))
@@ -70,14 +76,16 @@ class Certificate:
             parts += [packet(14, subkey), self.signed(draw, 3, subkey, 0x18, self.fpr)]
         self.octets = b"".join(parts)
 
-    def signed(self, draw, place, component, kind, issuer, extra=b""):
+    def signed(
+        self, draw: random.Random, place: int, component: bytes, kind: int, issuer: bytes, extra: bytes = b""
+    ) -> bytes:
         made = CREATED + 1000 * CERTS + draw.randrange(200000000)
         body = signature(draw, kind, made, issuer, extra)
         self.verdicts.append((number(self.key, place, component, body), issuer))
         return packet(2, body)
 
 
-def keys_of(draw, count, material=518):
+def keys_of(draw: random.Random, count: int, material: int = 518) -> list[Key]:
     keys = []
     for index in range(count):
         key = b"\x04" + (CREATED + 1000 * index).to_bytes(4, "big") + b"\x01" + draw.randbytes(material)
@@ -85,31 +93,31 @@ def keys_of(draw, count, material=518):
     return keys
 
 
-def developer():
+def developer() -> list[Certificate]:
     """The certificates, in order; the first is a good root, since the others are certified by earlier ones."""
     draw = random.Random(1)
     keys = keys_of(draw, CERTS)
     return [Certificate(draw, index, keys) for index in range(CERTS)]
 
 
-def imports(certificates):
+def imports(certificates: Iterable[Certificate]) -> Iterator[bytes]:
     for certificate in certificates:
         yield b"import " + certificate.octets.hex().encode() + b"\n"
 
 
-def verdicts(certificates):
+def verdicts(certificates: Iterable[Certificate]) -> Iterator[bytes]:
     for certificate in certificates:
         for signature_number, issuer in certificate.verdicts:
             yield f"verdict {signature_number} good {issuer.hex()}\n".encode()
 
 
-def write_script(file, certificates):
+def write_script(file: IO[bytes], certificates: list[Certificate]) -> None:
     file.writelines(imports(certificates))
     file.writelines(verdicts(certificates))
 
 
-def build(*crates):
-    """Builds these programs, where they aren't built and no other is named by WOT_PROGRAM."""
+def build(*crates: tuple[str, list[str]]) -> None:
+    """Builds these programs, unless they are built already or WOT_PROGRAM names another one."""
     for crate, words in crates:
         if crate == "wot_cli" and "WOT_PROGRAM" in os.environ:
             continue
@@ -119,7 +127,7 @@ def build(*crates):
             sys.exit(built.stderr.decode())
 
 
-def run(words, source):
+def run(words: list[str], source: str) -> tuple[float, int]:
     """Seconds of processor time, and kilobytes held at most."""
     with open(source, "rb") as stdin, open(os.devnull, "wb") as stdout:
         process = subprocess.Popen(words, stdin=stdin, stdout=stdout)
