@@ -2,6 +2,7 @@
 
 import json
 import os
+import signal
 import subprocess
 import sys
 import tempfile
@@ -25,10 +26,10 @@ class Verify(unittest.TestCase):
         cls.cache = tempfile.TemporaryDirectory(prefix="wot")
         cls.addClassCleanup(cls.cache.cleanup)
 
-    def run_command(self, *words, given=None):
-        environment = {**os.environ, "TUKYAMID_ENGINE": str(ENGINE), "TUKYAMID_VERIFIER": str(PROGRAM)}
-        return subprocess.run([sys.executable, COMMAND, "verify", *map(str, words)], capture_output=True, check=False,
-                              input=b"" if given is None else given, env=environment)
+    def run_command(self, *words, given=None, question="verify", **environment):
+        programs = {"TUKYAMID_ENGINE": str(ENGINE), "TUKYAMID_VERIFIER": str(PROGRAM)}
+        return subprocess.run([sys.executable, COMMAND, question, *map(str, words)], capture_output=True, check=False,
+                              input=b"" if given is None else given, env={**os.environ, **programs, **environment})
 
     def words(self, name, *more, root=True):
         """The words for a file, as of a time at which all keys but the old one are in order."""
@@ -177,6 +178,20 @@ class Verify(unittest.TestCase):
             for text in expected:
                 self.assertIn(text, said)
         self.assertIn("[✓] verified: 1 signer of 1", self.verify("package.sig", "--for", "@arch.example", status=OK))
+
+    def test_by_the_keyring_that_the_service_keeps(self):
+        with tempfile.TemporaryDirectory(prefix="wot", ignore_cleanup_errors=True) as folder:
+            own = {f"XDG_{name}": folder for name in ("RUNTIME_DIR", "DATA_HOME", "CACHE_HOME")}
+            self.assertEqual(self.run_command("add", self.signers.ring, question="keyring", **own).returncode, OK)
+            try:
+                file = self.by_name["Release.gpg by archive"]
+                words = [file.data, file.signature, "--root", self.signers.fpr["root"], "--for"]
+                self.assertEqual(self.run_command(*words, "ftpmaster@example.org", **own).returncode, OK)
+                self.assertEqual(self.run_command(*words, "release@example.org", **own).returncode, NO)
+            finally:
+                said = self.run_command(question="status", **own).stdout.decode()
+                process, = (line.split()[1] for line in said.splitlines() if line.startswith("process: "))
+                os.kill(int(process), signal.SIGTERM)
 
     def test_words_that_are_wrong(self):
         good = self.words("Release.gpg by archive")
