@@ -9,17 +9,14 @@ from collections.abc import Iterable
 
 from . import claims, spelling
 from .claims import Claim, Label
-from .lines import Command, Line, ListingCommand
+from .lines import (MOST_WANTED, Command, ListingCommand, Named, OfKey, OfSignature, Question, WantedQuestion,
+                    wanted_amount)
 from .replies import (Accepted, Answer, Binding, Done, Explanation, Exported, Key, Missed, PendingSignature, Reached,
                       Rejected, Stored, Taken, Watched)
 from .spelling import UserId
 
-MOST_TIME = MOST_WANTED = 2**32 - 1
+MOST_TIME = 2**32 - 1
 TRUST_ROOT = "trust-root"
-
-
-def _wanted(value: int) -> int:
-    return spelling.decimal(value, 1, MOST_WANTED, "wanted amount")
 
 
 class Import(Command[Taken]):
@@ -45,27 +42,19 @@ class Load(Command[Taken]):
         self.name = name if name == TRUST_ROOT else spelling.fingerprint(name)
 
 
-class _OfKey(Line):
-    """A command about one key."""
-    __slots__ = ("fpr",)
-
-    def __init__(self, fpr: str) -> None:
-        self.fpr = spelling.fingerprint(fpr)
-
-
-class Store(_OfKey, Command[Stored]):
+class Store(OfKey, Command[Stored]):
     """Writes a certificate, merged with its entry in that directory, in place of the entry."""
     __slots__ = ()
     form, replies = "store {0.fpr}", (Stored,)
 
 
-class Drop(_OfKey, Command[Done]):
+class Drop(OfKey, Command[Done]):
     """Takes a certificate out of the keyring."""
     __slots__ = ()
     form, replies = "drop {0.fpr}", (Done,)
 
 
-class Export(_OfKey, Command[Exported]):
+class Export(OfKey, Command[Exported]):
     """Asks for a certificate's octets."""
     __slots__ = ()
     form, replies = "export {0.fpr}", (Exported,)
@@ -80,21 +69,13 @@ class Good(Command[Done]):
         self.number, self.fpr = spelling.number(number), spelling.fingerprint(fpr)
 
 
-class _OfSignature(Line):
-    """A command about one signature."""
-    __slots__ = ("number",)
-
-    def __init__(self, number: str) -> None:
-        self.number = spelling.number(number)
-
-
-class Bad(_OfSignature, Command[Done]):
+class Bad(OfSignature, Command[Done]):
     """Says that a signature is nobody's."""
     __slots__ = ()
     form, replies = "verdict {0.number} bad", (Done,)
 
 
-class Unjudge(_OfSignature, Command[Done]):
+class Unjudge(OfSignature, Command[Done]):
     """Takes a signature's verdict away."""
     __slots__ = ()
     form, replies = "verdict {0.number} none", (Done,)
@@ -119,61 +100,31 @@ class Root(Command[Done]):
         self.amount = spelling.decimal(amount, 0, 255, "amount")
 
 
-class _Named(Line):
-    """A command about one view, cursor or watch."""
-    __slots__ = ("name",)
-
-    def __init__(self, name: str) -> None:
-        self.name = spelling.view_name(name)
-
-
-class Close(_Named, Command[Done]):
+class Close(Named, Command[Done]):
     """Closes a view."""
     __slots__ = ()
     form, replies = "view {0.name} close", (Done,)
 
 
-class _Question(Line):
-    """A question about a user ID of a key, in a view."""
-    __slots__ = ("view", "fpr", "user_id")
-
-    def __init__(self, view: str, fpr: str, user_id: UserId) -> None:
-        self.view, self.fpr = spelling.view_name(view), spelling.fingerprint(fpr)
-        self.user_id = spelling.user_id(user_id)
-
-    @property
-    def uid(self) -> str:
-        """The user ID as a line spells it."""
-        return spelling.write_user_id(self.user_id)
-
-
-class _WantedQuestion(_Question):
-    __slots__ = ("wanted",)
-
-    def __init__(self, view: str, fpr: str, wanted: int, user_id: UserId) -> None:
-        super().__init__(view, fpr, user_id)
-        self.wanted = _wanted(wanted)
-
-
-class Ask(_WantedQuestion, Command[Answer]):
+class Ask(WantedQuestion, Command[Answer]):
     """Asks for the amount to which a user ID is authenticated."""
     __slots__ = ()
     form, replies = "ask {0.view} {0.fpr} {0.wanted} {0.uid}", (Answer,)
 
 
-class Explain(_Question, Command[Explanation]):
+class Explain(Question, Command[Explanation]):
     """Asks what each certification of a user ID comes to."""
     __slots__ = ()
     form, replies = "explain {0.view} {0.fpr} {0.uid}", (Explanation,)
 
 
-class Absence(_WantedQuestion, Command[Reached | Missed]):
+class Absence(WantedQuestion, Command[Reached | Missed]):
     """Asks why the answer to a wanted amount doesn't reach it."""
     __slots__ = ()
     form, replies = "absence {0.view} {0.fpr} {0.wanted} {0.uid}", (Reached, Missed)
 
 
-class Check(_Question, Command[Accepted | Rejected]):
+class Check(Question, Command[Accepted | Rejected]):
     """Asks whether these paths and this table show that no more is there."""
     __slots__ = ("paths", "table")
     form, replies = "check {0.view} {0.fpr} {0.claim} {0.uid}", (Accepted, Rejected)
@@ -194,7 +145,7 @@ class List(ListingCommand[Binding]):
     form, item = "list {0.view} {0.wanted}", Binding
 
     def __init__(self, view: str, wanted: int) -> None:
-        self.view, self.wanted = spelling.view_name(view), _wanted(wanted)
+        self.view, self.wanted = spelling.view_name(view), wanted_amount(wanted)
 
 
 class Pending(ListingCommand[PendingSignature]):
@@ -222,7 +173,7 @@ class CursorOver(Command[Done]):
 
     def __init__(self, cursor: str, view: str, wanted: int) -> None:
         self.cursor, self.view = spelling.view_name(cursor), spelling.view_name(view)
-        self.wanted = _wanted(wanted)
+        self.wanted = wanted_amount(wanted)
 
 
 class CursorNext(ListingCommand[Binding]):
@@ -234,13 +185,13 @@ class CursorNext(ListingCommand[Binding]):
         self.cursor, self.count = spelling.view_name(cursor), spelling.decimal(count, 1, MOST_WANTED, "count")
 
 
-class CursorClose(_Named, Command[Done]):
+class CursorClose(Named, Command[Done]):
     """Takes a cursor away."""
     __slots__ = ()
     form, replies = "cursor {0.name} close", (Done,)
 
 
-class WatchOn(_WantedQuestion, Command[Watched]):
+class WatchOn(WantedQuestion, Command[Watched]):
     """Asks for an answer's amount now, and again whenever it changes."""
     __slots__ = ("watch",)
     form, replies = "watch {0.watch} on {0.view} {0.fpr} {0.wanted} {0.uid}", (Watched,)
@@ -250,7 +201,7 @@ class WatchOn(_WantedQuestion, Command[Watched]):
         self.watch = spelling.view_name(watch)
 
 
-class WatchOff(_Named, Command[Done]):
+class WatchOff(Named, Command[Done]):
     """Takes a watch away."""
     __slots__ = ()
     form, replies = "watch {0.name} off", (Done,)

@@ -1,5 +1,5 @@
-"""`tukyamid doctor`: does everything work here? It looks at the engine, the verifier, the service and the keyrings, says
-what is missing, and names the command that mends it."""
+"""`tukyamid doctor`: does everything work here? It looks at the engine, the verifier, the service and the keyrings,
+says what is missing, and names the command that mends it."""
 
 from __future__ import annotations
 
@@ -141,5 +141,3 @@ def _sources() -> Iterator[Finding]:
         yield Finding("directory", State.GOOD, f"{directory} is there")
     else:
         yield Finding("directory", State.NOTE, f"there is no certificate directory {directory}")
-
-

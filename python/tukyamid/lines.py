@@ -1,10 +1,14 @@
-"""What each command is: a line, and what answers it."""
+"""What commands are: a line, what answers it, and the fields that several of them have."""
 
 from typing import ClassVar, Generic, TypeVar
 
+from . import spelling
 from .refusals import ProtocolError
 from .replies import Reply
+from .spelling import UserId
 from .values import Value
+
+MOST_WANTED = 2**32 - 1
 
 R = TypeVar("R", bound=Reply)
 T = TypeVar("T")
@@ -37,3 +41,55 @@ class ListingCommand(Line, Generic[T]):
     """A command that is answered by a listing, whose items are of this type."""
     __slots__ = ()
     item: type[T]
+
+
+def wanted_amount(value: int) -> int:
+    """An amount that a question may want."""
+    return spelling.decimal(value, 1, MOST_WANTED, "wanted amount")
+
+
+class OfKey(Line):
+    """A command about one key."""
+    __slots__ = ("fpr",)
+
+    def __init__(self, fpr: str) -> None:
+        self.fpr = spelling.fingerprint(fpr)
+
+
+class OfSignature(Line):
+    """A command about one signature."""
+    __slots__ = ("number",)
+
+    def __init__(self, number: str) -> None:
+        self.number = spelling.number(number)
+
+
+class Named(Line):
+    """A command about one view, cursor or watch."""
+    __slots__ = ("name",)
+
+    def __init__(self, name: str) -> None:
+        self.name = spelling.view_name(name)
+
+
+class Question(Line):
+    """A question about a user ID of a key, in a view."""
+    __slots__ = ("view", "fpr", "user_id")
+
+    def __init__(self, view: str, fpr: str, user_id: UserId) -> None:
+        self.view, self.fpr = spelling.view_name(view), spelling.fingerprint(fpr)
+        self.user_id = spelling.user_id(user_id)
+
+    @property
+    def uid(self) -> str:
+        """The user ID as a line spells it."""
+        return spelling.write_user_id(self.user_id)
+
+
+class WantedQuestion(Question):
+    """A question that has a wanted amount."""
+    __slots__ = ("wanted",)
+
+    def __init__(self, view: str, fpr: str, wanted: int, user_id: UserId) -> None:
+        super().__init__(view, fpr, user_id)
+        self.wanted = wanted_amount(wanted)

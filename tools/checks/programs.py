@@ -15,8 +15,8 @@ from .tree import PYTHON, SHELL, Tree
 
 PLACE = re.compile(r"^(?:\./)?(.+?):(\d+):(?:\d+:)? (.*)$", re.MULTILINE)
 PACKAGE, TOOLS = "tukyamid", ("tools/checks", "tools/nights")
-# What only mypy defines.
-FOR_MYPY = "undefined name 'reveal_type'"
+FOR_MYPY = "tests/suites/typing/programs/"
+MODULES = ("tools", "bench", "python", "packaging")
 # `CDPATH= cd` is meant as it stands.
 SHELLCHECK = ("--format=gcc", "--exclude=SC1007")
 
@@ -25,7 +25,7 @@ def run(tree: Tree, words: list[str], package: str, folder: Path | None = None) 
     """What a tool of Debian's prints on standard output."""
     if not shutil.which(words[0]):
         raise CannotRun(f"{words[0]} isn't installed (apt-get install {package})")
-    places = {**os.environ, "MYPYPATH": ":".join(str(tree.root / place) for place in ("tools", "bench", "python", "packaging"))}
+    places = {**os.environ, "MYPYPATH": ":".join(str(tree.root / place) for place in MODULES)}
     ran = subprocess.run(
         words, cwd=folder or tree.root, env=places, capture_output=True, text=True, check=False
     )
@@ -43,9 +43,14 @@ def shell(tree: Tree) -> Iterator[Finding]:
 
 
 def python(tree: Tree) -> Iterator[Finding]:
-    """What pyflakes says: imports and names that nothing uses, names that nothing defines, syntax errors."""
-    for found in PLACE.finditer(run(tree, ["pyflakes3", *tree.scripts(PYTHON)], "pyflakes3")):
-        if found[3] != FOR_MYPY:
+    """What pyflakes says: imports and names that nothing uses, names that nothing defines, syntax errors.
+
+    A line with `noqa` is as it is on purpose; the programs that the suite of types has read use names of mypy's.
+    """
+    scripts = [path for path in tree.scripts(PYTHON) if not path.startswith(FOR_MYPY)]
+    for found in PLACE.finditer(run(tree, ["pyflakes3", *scripts], "pyflakes3")):
+        lines = (tree.root / found[1]).read_text(encoding="utf-8").splitlines()
+        if "# noqa" not in lines[int(found[2]) - 1]:
             yield Finding(found[1], int(found[2]), found[3], "remove or define it")
 
 

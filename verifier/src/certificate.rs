@@ -1,7 +1,6 @@
 //! Certificates as the engine assembles them: which component each signature of a packet list stands on.
 
-use sequoia_openpgp::Fingerprint;
-
+use crate::fingerprint::Fingerprint;
 use crate::keys;
 use crate::notice::What;
 use crate::number::Place;
@@ -11,7 +10,7 @@ use crate::packets::{kind, Packet, Packets};
 pub const LONGEST: usize = (16_777_216 - "import ".len()) / 2;
 
 pub struct Certificate<'a> {
-    /// None where the key isn't of version 4.
+    /// None unless the key is of version 4 or 6.
     fingerprint: Option<Fingerprint>,
     /// The first is the key.
     packets: Vec<Packet<'a>>,
@@ -37,7 +36,7 @@ impl<'a> Certificate<'a> {
     /// The certificate of a packet list that begins with a key and has no other, or why the engine refuses it.
     pub fn assemble(packets: Vec<Packet<'a>>) -> Result<Certificate<'a>, What> {
         let mut certificate =
-            Certificate { fingerprint: keys::fingerprint(&packets[0].body), packets, standing: Vec::new() };
+            Certificate { fingerprint: Fingerprint::of_key(&packets[0].body), packets, standing: Vec::new() };
         certificate.place_signatures()?;
         if certificate.octets().len() > LONGEST {
             return Err(What::Long);
@@ -69,13 +68,19 @@ impl<'a> Certificate<'a> {
         Ok(())
     }
 
-    pub fn fingerprint(&self) -> Option<&Fingerprint> {
-        self.fingerprint.as_ref()
+    pub fn fingerprint(&self) -> Option<Fingerprint> {
+        self.fingerprint
     }
 
     /// The key's body.
     pub fn key(&self) -> &[u8] {
         &self.packets[0].body
+    }
+
+    /// The bodies of the key and of its subkeys.
+    pub fn keys(&self) -> impl Iterator<Item = &[u8]> {
+        let is_key = |packet: &&Packet| matches!(packet.kind, kind::KEY | kind::SUBKEY);
+        self.packets.iter().filter(is_key).map(|packet| &*packet.body)
     }
 
     pub fn signatures(&self) -> impl ExactSizeIterator<Item = PlacedSignature<'_>> {

@@ -67,9 +67,14 @@ fn names(folder: &Path, lengths: &[usize]) -> io::Result<Vec<String>> {
     Ok(names)
 }
 
+/// Whether a path stands for standard input.
+pub fn is_standard_input(path: &Path) -> bool {
+    path == Path::new("-")
+}
+
 fn read_file(path: &Path, filed: Option<String>, notices: &mut Vec<Notice>) -> io::Result<Text> {
     let name = path.display().to_string();
-    let octets = if name == "-" {
+    let octets = if is_standard_input(path) {
         let mut octets = Vec::new();
         io::stdin().lock().read_to_end(&mut octets)?;
         octets

@@ -2,35 +2,34 @@
 
 use std::collections::HashMap;
 
-use sequoia_openpgp::{Fingerprint, KeyID};
-
 use crate::certificate::Certificate;
+use crate::fingerprint::{Fingerprint, KeyId};
 use crate::keys::{self, VerifyingKey};
 use crate::signature::Issuer;
 
 pub struct IssuerKey {
     pub fingerprint: Fingerprint,
-    /// None where the library can't read the key.
+    /// None if the key can't be read.
     pub key: Option<VerifyingKey>,
 }
 
-/// The version 4 keys of some certificates. Subkeys are none: they certify nothing for the engine.
+/// The primary keys of some certificates. Subkeys are none: they certify nothing for the engine.
 #[derive(Default)]
 pub struct Issuers {
     keys: Vec<IssuerKey>,
     by_fingerprint: HashMap<Fingerprint, usize>,
-    by_id: HashMap<KeyID, Vec<usize>>,
+    by_id: HashMap<KeyId, Vec<usize>>,
 }
 
 impl Issuers {
     pub fn add(&mut self, certificate: &Certificate) {
         let fingerprint = match certificate.fingerprint() {
-            Some(fingerprint) if !self.by_fingerprint.contains_key(fingerprint) => fingerprint.clone(),
+            Some(fingerprint) if !self.by_fingerprint.contains_key(&fingerprint) => fingerprint,
             _ => return,
         };
         let index = self.keys.len();
-        self.by_id.entry(KeyID::from(&fingerprint)).or_default().push(index);
-        self.by_fingerprint.insert(fingerprint.clone(), index);
+        self.by_id.entry(fingerprint.key_id()).or_default().push(index);
+        self.by_fingerprint.insert(fingerprint, index);
         self.keys.push(IssuerKey { fingerprint, key: keys::verifying_key(certificate.key()) });
     }
 

@@ -2,14 +2,13 @@
 
 use std::collections::HashSet;
 
-use sequoia_openpgp::Fingerprint;
-
 use crate::certificate::{Certificate, PlacedSignature};
+use crate::fingerprint::Fingerprint;
 use crate::issuers::{IssuerKey, Issuers};
 use crate::number::{number_of, Number, Place};
 use crate::signature::{kind, Issuer, Signature};
 use crate::stats::{thread_seconds, Counts};
-use crate::verify::{digest, verify, Failure};
+use crate::verify::{digests, verify, Failure};
 
 #[derive(Clone, Debug, PartialEq, Eq)]
 pub enum Verdict {
@@ -35,7 +34,7 @@ impl Judge {
     pub fn certificate(&self, certificate: &Certificate) -> Judged {
         let mut judged = Judged::default();
         let own = match certificate.fingerprint() {
-            Some(fingerprint) => [Issuer::Fingerprint(fingerprint.clone())],
+            Some(fingerprint) => [Issuer::Fingerprint(fingerprint)],
             None => {
                 judged.counts.other += certificate.signatures().len() as u64;
                 return judged;
@@ -84,7 +83,7 @@ impl Judge {
         match maker {
             Ok(issuer) => {
                 counts.good += 1;
-                Some(Verdict::Good(issuer.fingerprint.clone()))
+                Some(Verdict::Good(issuer.fingerprint))
             }
             Err(Failure::Wrong) if is_named => {
                 counts.bad += 1;
@@ -123,17 +122,18 @@ fn maker<'i>(
     placed: &PlacedSignature,
     signature: &Signature,
 ) -> Result<&'i IssuerKey, Failure> {
-    let digest = digest(key, placed, signature)?;
     let mut failure = Failure::Wrong;
-    for issuer in issuers {
-        let verified = match &issuer.key {
-            Some(key) => verify(key, signature, &digest),
-            None => Err(Failure::Unsupported),
-        };
-        match verified {
-            Ok(()) => return Ok(issuer),
-            Err(Failure::Wrong) => {}
-            Err(Failure::Unsupported) => failure = Failure::Unsupported,
+    for digest in digests(key, placed, signature)? {
+        for issuer in issuers {
+            let verified = match &issuer.key {
+                Some(key) => verify(key, signature, &digest),
+                None => Err(Failure::Unsupported),
+            };
+            match verified {
+                Ok(()) => return Ok(issuer),
+                Err(Failure::Wrong) => {}
+                Err(Failure::Unsupported) => failure = Failure::Unsupported,
+            }
         }
     }
     Err(failure)

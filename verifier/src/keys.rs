@@ -1,47 +1,72 @@
-//! Version 4 keys: their fingerprints, the library's form of them, and the public part of secret ones.
+//! Version 4 and version 6 keys: their parts, the form that verifies, and the public part of secret ones.
 
 use std::time::{Duration, UNIX_EPOCH};
 
 use sequoia_openpgp as openpgp;
 
-use openpgp::crypto::hash::Digest;
 use openpgp::crypto::mpi;
 use openpgp::packet::key::{Key4, PublicParts, UnspecifiedRole};
 use openpgp::packet::Key;
-use openpgp::types::{HashAlgorithm, PublicKeyAlgorithm};
-use openpgp::Fingerprint;
+use openpgp::types::PublicKeyAlgorithm;
+
+/// Public-key algorithms that the library doesn't know (RFC 9580, section 9.1).
+pub const ED25519: u8 = 27;
+pub const ED448: u8 = 28;
+/// An algorithm that version 6 keys may not have.
+const EDDSA_LEGACY: u8 = 22;
 
 /// A key that can verify.
-pub type VerifyingKey = Key<PublicParts, UnspecifiedRole>;
-
-/// Version, creation time and algorithm.
-const HEAD: usize = 6;
-
-/// The fingerprint of a version 4 key (RFC 9580, section 5.5.4.2), or None for another body.
-pub fn fingerprint(body: &[u8]) -> Option<Fingerprint> {
-    if body.first() != Some(&4) || body.len() < HEAD || body.len() > 0xffff {
-        return None;
-    }
-    let mut hash = HashAlgorithm::SHA1.context().ok()?;
-    hash.update(&[0x99]);
-    hash.update(&(body.len() as u16).to_be_bytes());
-    hash.update(body);
-    let digest = hash.into_digest().ok()?;
-    Some(Fingerprint::from_bytes(&digest))
+pub enum VerifyingKey {
+    Library(Key<PublicParts, UnspecifiedRole>),
+    Ed25519(Vec<u8>),
+    Ed448(Vec<u8>),
 }
 
-/// The library's form of a version 4 key, or None where the library can't read it.
+/// The parts of a public key's body (RFC 9580, sections 5.5.2.2 and 5.5.2.3).
+pub struct Parts<'a> {
+    pub version: u8,
+    created: u32,
+    algorithm: u8,
+    material: &'a [u8],
+}
+
+impl<'a> Parts<'a> {
+    /// None unless the body is of version 4 or 6 and has all its parts.
+    pub fn read(body: &'a [u8]) -> Option<Parts<'a>> {
+        let head = body.get(..6)?;
+        let created = u32::from_be_bytes([head[1], head[2], head[3], head[4]]);
+        let material = match head[0] {
+            4 if body.len() <= 0xffff => &body[6..],
+            6 => body.get(10..).filter(|material| material.len() == material_length(body))?,
+            _ => return None,
+        };
+        Some(Parts { version: head[0], created, algorithm: head[5], material })
+    }
+}
+
+/// What a version 6 key says of the length of its material.
+fn material_length(body: &[u8]) -> usize {
+    u32::from_be_bytes([body[6], body[7], body[8], body[9]]) as usize
+}
+
+/// The form of a key that verifies, or None if neither this program nor the library can read it.
 pub fn verifying_key(body: &[u8]) -> Option<VerifyingKey> {
-    fingerprint(body)?;
-    let created = u32::from_be_bytes([body[1], body[2], body[3], body[4]]);
-    let algorithm = PublicKeyAlgorithm::from(body[5]);
-    let material = mpi::PublicKey::parse(algorithm, &body[HEAD..]).ok()?;
+    let Parts { version, created, algorithm, material } = Parts::read(body)?;
+    match algorithm {
+        ED25519 => return (material.len() == 32).then(|| VerifyingKey::Ed25519(material.to_vec())),
+        ED448 => return (material.len() == 57).then(|| VerifyingKey::Ed448(material.to_vec())),
+        EDDSA_LEGACY if version == 6 => return None,
+        _ => {}
+    }
+    let algorithm = PublicKeyAlgorithm::from(algorithm);
+    let material = mpi::PublicKey::parse(algorithm, material).ok()?;
     if !is_usable(&material) {
         return None;
     }
+    // Neither the version nor the time has a part in verifying: the digest is made elsewhere.
     let created = UNIX_EPOCH + Duration::from_secs(created.into());
     let key: Key4<PublicParts, UnspecifiedRole> = Key4::new(created, algorithm, material).ok()?;
-    Some(key.into())
+    Some(VerifyingKey::Library(key.into()))
 }
 
 /// Whether no modulus is zero: the library's arithmetic would end the process.
@@ -53,25 +78,24 @@ fn is_usable(material: &mpi::PublicKey) -> bool {
     }
 }
 
-/// How many octets of a secret key's body are its public key, or None where that can't be told.
+/// How many octets of a secret key's body are its public key; None if its version or algorithm isn't known.
 pub fn public_length(body: &[u8]) -> Option<usize> {
-    if body.first() != Some(&4) {
-        return None;
-    }
+    const HEAD: usize = 6;
     let numbers = |count: usize, from: usize| (0..count).try_fold(from, |at, _| number_end(body, at));
     let curve = || Some(HEAD + 1 + *body.get(HEAD)? as usize);
-    let end = match body.get(5)? {
-        1..=3 => numbers(2, HEAD)?,
-        16 | 20 => numbers(3, HEAD)?,
-        17 => numbers(4, HEAD)?,
-        18 => {
+    let end = match (*body.first()?, *body.get(5)?) {
+        (6, _) if body.len() >= 10 => 10usize.checked_add(material_length(body))?,
+        (4, 1..=3) => numbers(2, HEAD)?,
+        (4, 16 | 20) => numbers(3, HEAD)?,
+        (4, 17) => numbers(4, HEAD)?,
+        (4, 18) => {
             let derivation = numbers(1, curve()?)?;
             derivation + 1 + *body.get(derivation)? as usize
         }
-        19 | 22 => numbers(1, curve()?)?,
-        25 | 27 => HEAD + 32,
-        26 => HEAD + 56,
-        28 => HEAD + 57,
+        (4, 19 | 22) => numbers(1, curve()?)?,
+        (4, 25 | 27) => HEAD + 32,
+        (4, 26) => HEAD + 56,
+        (4, 28) => HEAD + 57,
         _ => return None,
     };
     (end <= body.len()).then(|| end)
@@ -99,6 +123,7 @@ mod tests {
             [head(22), vec![2, 0x2b, 6], number.to_vec()].concat(),
             [head(18), vec![2, 0x2b, 6], number.to_vec(), vec![3, 1, 8, 9]].concat(),
             [head(27), vec![5; 32]].concat(),
+            vec![6, 0, 0, 0, 1, 99, 0, 0, 0, 2, 5, 5],
         ];
         for body in bodies {
             let secret = [&body[..], &[0, 1, 2, 3]].concat();
@@ -107,21 +132,23 @@ mod tests {
         }
         assert_eq!(public_length(&[3, 0, 0, 0, 1, 1]), None);
         assert_eq!(public_length(&head(99)), None);
-    }
-
-    #[test]
-    fn a_fingerprint_is_of_the_whole_body() {
-        let body = [4, 0, 0, 3, 0xe8, 0x1b, 1];
-        // As `sha1sum` has it of 99 00 07 and the body.
-        let expected = "7f35c8dbd6b3eb2ffd59cbdd2e41ea291212ac38".parse().unwrap();
-        assert_eq!(fingerprint(&body), Some(expected));
-        assert_eq!(fingerprint(&body[..5]), None);
-        assert_eq!(fingerprint(&[5, 0, 0, 3, 0xe8, 0x1b, 1]), None);
+        assert_eq!(public_length(&[6, 0, 0, 0, 1, 27]), None);
     }
 
     #[test]
     fn a_modulus_of_zero_is_no_key() {
         assert!(verifying_key(&[4, 0, 0, 0, 1, 1, 0, 0, 0, 2, 3]).is_none());
         assert!(verifying_key(&[4, 0, 0, 0, 1, 17, 0, 0, 0, 1, 1, 0, 1, 1, 0, 1, 1]).is_none());
+        assert!(verifying_key(&[6, 0, 0, 0, 1, 1, 0, 0, 0, 5, 0, 0, 0, 2, 3]).is_none());
+    }
+
+    #[test]
+    fn a_version_6_key_has_just_its_material() {
+        let head = [6, 0, 0, 0, 1, 27, 0, 0, 0, 32];
+        let body = [&head[..], &[5; 32]].concat();
+        assert!(matches!(verifying_key(&body), Some(VerifyingKey::Ed25519(material)) if material == [5; 32]));
+        assert!(verifying_key(&body[..41]).is_none());
+        assert!(verifying_key(&[&body[..], &[0]].concat()).is_none());
+        assert!(verifying_key(&[&[4, 0, 0, 0, 1, 28][..], &[5; 32]].concat()).is_none());
     }
 }

@@ -30,7 +30,7 @@ impl<W: Write> Script<W> {
         }
         let number = digits(number);
         match verdict {
-            Verdict::Good(issuer) => self.line(&format!("verdict {number} good {issuer:x}\n")),
+            Verdict::Good(issuer) => self.line(&format!("verdict {number} good {issuer}\n")),
             Verdict::Bad => self.line(&format!("verdict {number} bad\n")),
         }
     }
@@ -60,11 +60,12 @@ pub fn digits(octets: &[u8]) -> String {
 #[cfg(test)]
 mod tests {
     use super::*;
+    use crate::fingerprint::Fingerprint;
 
     #[test]
     fn a_verdict_is_written_once() {
         let mut script = Script::new(Vec::new());
-        let issuer = "7F35C8DBD6B3EB2FFD59CBDD2E41EA291212AC38".parse().unwrap();
+        let issuer = Fingerprint::of_key(&[4, 0, 0, 3, 0xe8, 0x1b, 1]).unwrap();
         script.verdict(&[0x0a; 32], &Verdict::Good(issuer)).unwrap();
         script.verdict(&[0x0a; 32], &Verdict::Bad).unwrap();
         script.verdict(&[0xf0; 32], &Verdict::Bad).unwrap();

@@ -1,6 +1,6 @@
-//! The fields of a version 4 signature (RFC 9580, section 5.2.3), as slices of its body.
+//! The fields of a version 4 or version 6 signature (RFC 9580, section 5.2.3), as slices of its body.
 
-use sequoia_openpgp::{Fingerprint, KeyID};
+use crate::fingerprint::{Fingerprint, KeyId};
 
 /// The kinds of signatures (RFC 9580, section 5.2.1) on which verdicts are given.
 pub mod kind {
@@ -17,11 +17,14 @@ const ISSUER_KEY_ID: u8 = 16;
 const ISSUER_FINGERPRINT: u8 = 33;
 
 pub struct Signature<'a> {
+    pub version: u8,
     pub kind: u8,
     pub key_algorithm: u8,
     pub hash_algorithm: u8,
     /// From the version to the end of the hashed area: what the digest is of, besides what is signed.
     pub hashed: &'a [u8],
+    /// What is hashed first; empty in version 4.
+    pub salt: &'a [u8],
     /// The first two octets of the digest.
     pub digest_front: [u8; 2],
     pub material: &'a [u8],
@@ -32,26 +35,35 @@ pub struct Signature<'a> {
 #[derive(Clone, Debug, PartialEq, Eq)]
 pub enum Issuer {
     Fingerprint(Fingerprint),
-    KeyId(KeyID),
+    KeyId(KeyId),
 }
 
 impl<'a> Signature<'a> {
-    /// None where the body isn't of version 4 or lacks a part. That the areas are lists of subpackets isn't asked.
+    /// None if the body isn't of version 4 or 6, or lacks a part. The areas needn't be lists of subpackets.
     pub fn read(body: &'a [u8]) -> Option<Signature<'a>> {
         let head = body.get(..4)?;
-        if head[0] != 4 {
-            return None;
-        }
-        let (hashed_area, hashed_end) = area(body, 4)?;
-        let (unhashed_area, unhashed_end) = area(body, hashed_end)?;
-        let front = body.get(unhashed_end..unhashed_end + 2)?;
+        let length_size = match head[0] {
+            4 => 2,
+            6 => 4,
+            _ => return None,
+        };
+        let (hashed_area, hashed_end) = field(body, 4, length_size)?;
+        let (unhashed_area, unhashed_end) = field(body, hashed_end, length_size)?;
+        let front_end = unhashed_end + 2;
+        let front = body.get(unhashed_end..front_end)?;
+        let (salt, salt_end) = match head[0] {
+            6 => field(body, front_end, 1)?,
+            _ => (&[][..], front_end),
+        };
         Some(Signature {
+            version: head[0],
             kind: head[1],
             key_algorithm: head[2],
             hash_algorithm: head[3],
             hashed: &body[..hashed_end],
+            salt,
             digest_front: [front[0], front[1]],
-            material: &body[unhashed_end + 2..],
+            material: &body[salt_end..],
             areas: [hashed_area, unhashed_area],
         })
     }
@@ -62,20 +74,20 @@ impl<'a> Signature<'a> {
     }
 }
 
-/// The area whose length stands at a place, and the place behind it.
-fn area(body: &[u8], at: usize) -> Option<(&[u8], usize)> {
-    let length = body.get(at..at + 2)?;
-    let end = at + 2 + u16::from_be_bytes([length[0], length[1]]) as usize;
-    Some((body.get(at + 2..end)?, end))
+/// The field whose length stands at a place, in a number of octets, and the place behind the field.
+fn field(body: &[u8], at: usize, length_size: usize) -> Option<(&[u8], usize)> {
+    let begin = at + length_size;
+    let length = body.get(at..begin)?.iter().fold(0, |length, octet| (length << 8) + usize::from(*octet));
+    let end = begin.checked_add(length)?;
+    Some((body.get(begin..end)?, end))
 }
 
 fn issuer(subpacket: &[u8]) -> Option<Issuer> {
     let (kind, content) = subpacket.split_first()?;
     match (kind & 0x7f, content) {
-        (ISSUER_KEY_ID, id) if id.len() == 8 => Some(Issuer::KeyId(KeyID::from_bytes(id))),
-        (ISSUER_FINGERPRINT, [4, digest @ ..]) if digest.len() == 20 => {
-            Some(Issuer::Fingerprint(Fingerprint::from_bytes(digest)))
-        }
+        (ISSUER_KEY_ID, id) => Some(Issuer::KeyId(KeyId(id.try_into().ok()?))),
+        (ISSUER_FINGERPRINT, [4, digest @ ..]) => Some(Issuer::Fingerprint(Fingerprint::V4(digest.try_into().ok()?))),
+        (ISSUER_FINGERPRINT, [6, digest @ ..]) => Some(Issuer::Fingerprint(Fingerprint::V6(digest.try_into().ok()?))),
         _ => None,
     }
 }
@@ -126,8 +138,21 @@ mod tests {
         let signature = Signature::read(&body).unwrap();
         assert_eq!(signature.hashed, &body[..6 + hashed.len()]);
         assert_eq!((signature.digest_front, signature.material), ([0xab, 0xcd], &[0, 1, 1][..]));
-        let named = [Issuer::Fingerprint(Fingerprint::from_bytes(&[7; 20])), Issuer::KeyId(KeyID::from_bytes(&[8; 8]))];
+        let named = [Issuer::Fingerprint(Fingerprint::V4([7; 20])), Issuer::KeyId(KeyId([8; 8]))];
         assert_eq!(signature.issuers(), named);
+    }
+
+    #[test]
+    fn version_6_has_long_lengths_and_a_salt() {
+        let by_fingerprint = [&[34, 33, 6][..], &[7; 32]].concat();
+        let behind = [0, 0, 0, 0, 0xab, 0xcd, 2, 5, 6, 1, 1];
+        let body = [&[6, 0x10, 27, 8, 0, 0, 0, 35][..], &by_fingerprint, &behind].concat();
+        let signature = Signature::read(&body).unwrap();
+        assert_eq!((signature.hashed, signature.salt), (&body[..43], &[5, 6][..]));
+        assert_eq!((signature.digest_front, signature.material), ([0xab, 0xcd], &[1, 1][..]));
+        assert_eq!(signature.issuers(), [Issuer::Fingerprint(Fingerprint::V6([7; 32]))]);
+        assert!(Signature::read(&body[..body.len() - 2]).is_some());
+        assert!(Signature::read(&body[..body.len() - 3]).is_none());
     }
 
     #[test]
@@ -135,7 +160,7 @@ mod tests {
         let unhashed = [&[9, 16][..], &[8; 8]].concat();
         let body = body(&[200], &unhashed);
         let issuers = Signature::read(&body).unwrap().issuers();
-        assert_eq!(issuers, [Issuer::KeyId(KeyID::from_bytes(&[8; 8]))]);
+        assert_eq!(issuers, [Issuer::KeyId(KeyId([8; 8]))]);
     }
 
     #[test]

@@ -1,2 +1,3 @@
 pub mod Agreed
 pub mod Sum
+pub mod Slices

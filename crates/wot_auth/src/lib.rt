@@ -3,6 +3,7 @@
 
 mod answer;
 mod ask;
+pub mod laws;
 mod sum;
 mod take;
 

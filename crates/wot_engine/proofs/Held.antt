@@ -1,11 +1,11 @@
 -- A run between two lines, where replies are held back: they stand behind what was written.
-use Rattle.std.proofs.Common.{◌≡◌, ℕ, List, [], ◌++◌, Option, Some, None, Result, Ok, ◌⊎◌, inl, inr, refl, sym, ap, subst, ◌∙◌, append_assoc, arith}
+use Rattle.std.proofs.Common.{◌≡◌, ◌≢◌, ℕ, ◌<◌, length, drop, List, [], ◌++◌, Option, Some, None, Result, Ok, ◌⊎◌, inl, inr, refl, sym, ap, subst, ◌∙◌, append_assoc, arith}
 use Rattle.std.proofs.lemmas.List.{append-nil}
 use Rattle.std.specs.Prelude.{IfSome}
 use Rattle.wot_io.specs.Fill.{Took}
 use Rattle.wot_io.specs.Input.{HasNoFeed, lines_of}
 use Rattle.wot_io.specs.declared.fault.LinesFault.{LinesFault}
-use Rattle.wot_io.specs.declared.lines.Line.TheVariants.{Text, Long}
+use Rattle.wot_io.specs.declared.lines.Line.TheVariants.{Text, Long, End}
 use Rattle.wot_io.specs.Sink.{Becomes, GainsPrefix}
 use Rattle.wot_io.specs.ReaderState.{ReaderState}
 use Rattle.wot_io.specs.Given as given
@@ -14,12 +14,14 @@ use Rattle.wot_policy.specs.declared.rows.PolicyRows.{PolicyRows}
 use Rattle.wot_certd.specs.World.{World}
 use Rattle.wot_machine.specs.Whole.{Whole, beginning}
 use Rattle.wot_machine.specs.Law.{OneOutcome}
-use Rattle.wot_machine.specs.Transcript.{AllTold, AnsweredFirst, AnsweredMost, Begun, octets_of}
+use Rattle.wot_machine.specs.Entry.{MayPut}
+use Rattle.wot_machine.specs.Transcript.{AllTold, AnsweredMost, Begun, octets_of}
 use Rattle.wot_machine.proofs.Giving.{all_told, all_weaker}
 use Rattle.wot_engine.specs.Held.{Moves, MovesOf}
-use Rattle.wot_engine.specs.Turn.{Replies}
-use Rattle.wot_engine.proofs.Progress.{Stands, starts, takes_more, took_on}
-use Rattle.wot_engine.proofs.Turns.{First-here, Stood, Turned, cut_most, turned, wrote}
+use Rattle.wot_engine.specs.Ended.{Reached, ReachedWhole}
+use Rattle.wot_engine.specs.Turn.{Replies, use_by}
+use Rattle.wot_engine.proofs.Progress.{Stands, puts_nothing, reaches, starts, takes_more, took_on}
+use Rattle.wot_engine.proofs.Turns.{First-here, Stood, Turned, cut_by, cut_most, turned, wrote}
 
 -- ---- what is held
 
@@ -128,8 +130,41 @@ module _ (rows : PolicyRows) where
       let s = took_on rows origin world input before held taken left (Some ((before ++ h.done) ++ out)) shelf state left' taken' h.stands t in
       cut_most rows law origin world input before (held ++ t.gone) taken' left' shelf state h.done out g'.0 after s g'.1 g'.2) h
 
-  -- what is held was written at last
-  pub Held-first : (left0 written0 : Option (List ℕ)) (origin : Option World) (held : List ℕ) (taken : ℕ) (left written : Option (List ℕ)) (out : List ℕ) (shelf : Option World) (state : Whole) (after : Option (List ℕ))
-      → Held left0 written0 origin held taken left written out shelf state → Becomes written (λ old. old ++ out) after → AllTold left0 written0 origin (λ input before world. AnsweredFirst rows world (lines_of input) before after)
-  Held-first left0 written0 origin held taken left written out shelf state after h b =
-      First-here rows left0 written0 origin held taken left after shelf state (Held-written left0 written0 origin held taken left written out shelf state after h b)
+  -- how far the run has come, whatever is held
+  pub Held-reached : (left0 written0 : Option (List ℕ)) (origin : Option World) (held : List ℕ) (taken : ℕ) (left written : Option (List ℕ)) (out : List ℕ) (shelf : Option World) (state : Whole)
+      → Held left0 written0 origin held taken left written out shelf state → AllTold left0 written0 origin (λ input before world. Reached rows world (lines_of input) before written origin shelf)
+  Held-reached left0 written0 origin held taken left written out shelf state h =
+      all_weaker left0 written0 origin _ _ (λ input before world uncalled h.
+      reaches rows origin world input before held taken left shelf state h.done out 0 written shelf h.stands
+      (h.written_is ∙ ap (λ (x : List ℕ). Some x) (sym (append-nil (before ++ h.done))))
+      (puts_nothing rows origin world shelf h.stands.now state (drop (length h.stands.done) (lines_of input)) h.stands.is_now)) h
+
+  -- the same where a write of what is held was cut short
+  pub Held-reached_cut : (left0 written0 : Option (List ℕ)) (origin : Option World) (held : List ℕ) (taken : ℕ) (left written : Option (List ℕ)) (out : List ℕ) (shelf : Option World) (state : Whole) (after : Option (List ℕ))
+      → Held left0 written0 origin held taken left written out shelf state → IfSome written (λ old. GainsPrefix old after out)
+      → AllTold left0 written0 origin (λ input before world. Reached rows world (lines_of input) before after origin shelf)
+  Held-reached_cut left0 written0 origin held taken left written out shelf state after h g =
+      all_weaker left0 written0 origin _ _ (λ input before world uncalled h.
+      let g' : GainsPrefix (before ++ h.done) after out = subst (λ (w : Option (List ℕ)). IfSome w (λ old. GainsPrefix old after out)) h.written_is g in
+      reaches rows origin world input before held taken left shelf state h.done out g'.0 after shelf h.stands g'.2
+      (puts_nothing rows origin world shelf h.stands.now state (drop (length h.stands.done) (lines_of input)) h.stands.is_now)) h
+
+  -- the same behind a line for which no memory was found
+  pub Held-reached_next : (left0 written0 : Option (List ℕ)) (origin : Option World) (old : ReaderState) (left written : Option (List ℕ)) (out : List ℕ) (shelf : Option World) (state : Whole) (after : Option (List ℕ)) (new : ReaderState) (left' : Option (List ℕ)) (shelf' : Option World) (line : Line)
+      → Held left0 written0 origin old.held old.taken left written out shelf state → IfSome written (λ old. GainsPrefix old after out)
+      → given.Answers line old left new left' → line ≢ End → MayPut state.state (use_by line new.text) shelf shelf'
+      → AllTold left0 written0 origin (λ input before world. Reached rows world (lines_of input) before after origin shelf')
+  Held-reached_next left0 written0 origin old left written out shelf state after new left' shelf' line h g a some m =
+      all_weaker left0 written0 origin _ _ (λ input before world uncalled h.
+      let g' : GainsPrefix (before ++ h.done) after out = subst (λ (w : Option (List ℕ)). IfSome w (λ old. GainsPrefix old after out)) h.written_is g in
+      let cut = cut_by rows origin world input before old left (Some ((before ++ h.done) ++ out)) shelf state new left' shelf' line h.stands a some m in
+      reaches rows origin world input before old.held old.taken left shelf state h.done out g'.0 after shelf' h.stands g'.2 cut.puts) h
+
+  -- what is held was written at last, behind a line for which no memory was found
+  pub Held-first : (left0 written0 : Option (List ℕ)) (origin : Option World) (old : ReaderState) (left written : Option (List ℕ)) (out : List ℕ) (shelf : Option World) (state : Whole) (after : Option (List ℕ)) (new : ReaderState) (left' : Option (List ℕ)) (shelf' : Option World) (line : Line)
+      → Held left0 written0 origin old.held old.taken left written out shelf state → Becomes written (λ old. old ++ out) after
+      → given.Answers line old left new left' → line ≢ End → MayPut state.state (use_by line new.text) shelf shelf' → length new.held < 65536
+      → AllTold left0 written0 origin (λ input before world. ReachedWhole rows world input before left' after origin shelf')
+  Held-first left0 written0 origin old left written out shelf state after new left' shelf' line h b a some m few =
+      First-here rows left0 written0 origin old left after shelf state new left' shelf' line
+      (Held-written left0 written0 origin old.held old.taken left written out shelf state after h b) a some m few

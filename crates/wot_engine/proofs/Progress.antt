@@ -1,7 +1,7 @@
 -- Where a run stands between two lines.
-use Rattle.std.proofs.Common.{◌≡◌, ◌⊎◌, inl, inr, ℕ, ◌+◌, ◌<◌, ◌≤◌, ◌^◌, List, [], ◌∷◌, ◌++◌, length, take, Option, Some, refl, sym, ap, subst, ◌∙◌, append_assoc, arith, length-append}
+use Rattle.std.proofs.Common.{◌≡◌, ◌⊎◌, inl, inr, ℕ, ◌+◌, ◌<◌, ◌≤◌, ◌^◌, List, [], ◌∷◌, ◌++◌, length, take, drop, Option, Some, None, refl, sym, ap, subst, ◌∙◌, append_assoc, arith, length-append}
 use Rattle.std.proofs.lemmas.List.{append-nil, take_at, take-append-le, append_cancel_left}
-use Rattle.std.proofs.Math.Seq.{take-append-add}
+use Rattle.std.proofs.Math.Seq.{drop-append_seam, take-append-add}
 use Rattle.std.proofs.lemmas.Grind.{flat_map-append}
 use Rattle.wot_io.specs.Input.{lines_of, whole_lines_of, HasNoFeed}
 use Rattle.wot_io.specs.Fill.{GivesOf, StopsOf, Took}
@@ -12,7 +12,10 @@ use Rattle.wot_certd.specs.World.{World}
 use Rattle.wot_machine.specs.Whole.{Whole, beginning}
 use Rattle.wot_machine.specs.Law.{OneOutcome}
 use Rattle.wot_machine.specs.Scene.{Scene, Step, opening}
-use Rattle.wot_machine.specs.Transcript.{Run, RepliesTo, Answered, AnsweredFirst, Begun, AnsweredWhole, AnsweredMost, IsNow, Leaves, listed, octets_of}
+use Rattle.wot_machine.specs.Entry.{MayPut, MayPutIn, Use, use_of}
+use Rattle.wot_machine.specs.Lines.{heard}
+use Rattle.wot_machine.specs.Transcript.{Run, RepliesTo, Answered, Begun, IsNow, Leaves, listed, octets_of}
+use Rattle.wot_engine.specs.Ended.{Finished, FinishedMost, FinishedTaken, IsLastTaken, MayPutNext, Reached, ReachedWhole}
 use Rattle.wot_machine.proofs.Giving.{over}
 use Rattle.wot_machine.proofs.Runs.{Run-some, Run-append}
 use Rattle.wot_machine.proofs.CutLines.{lines_of-feed, whole_lines_of-feed, whole_lines_of-none, lines_of-last}
@@ -120,16 +123,18 @@ module _ (rows : PolicyRows) (origin : Option World) (world : World) where
 
   -- the line that is given is the next of all
   pub comes_next : (input before held : List ℕ) (taken : ℕ) (left written : Option (List ℕ)) (shelf : Option World) (state : Whole) (held' : List ℕ) (taken' : ℕ) (left' : Option (List ℕ)) (line : List ℕ)
-      → (s : Stands input before held taken left written shelf state) → GivesOf held s.rest taken held' left' taken' line → (more : List (List ℕ)) × (lines_of input ≡ s.done ++ line ∷ more)
+      → (s : Stands input before held taken left written shelf state) → (g : GivesOf held s.rest taken held' left' taken' line)
+      → lines_of input ≡ s.done ++ line ∷ lines_of (held' ++ g.rest)
   comes_next input before held taken left written shelf state held' taken' left' line s g =
       elim s.lines [
         | inl prefix ↦ elim g.cuts.parts [
-          | inl feed ↦ (
-            lines_of (held' ++ g.rest),
-            ap lines_of (s.parts ∙ ap (λ (x : List ℕ). s.gone ++ x) feed) ∙ prefix.lines (line ++ 10 ∷ (held' ++ g.rest))
-                ∙ ap (λ (ls : List (List ℕ)). s.done ++ ls) (lines_of-feed line (held' ++ g.rest) g.cuts.no_feed),
-          )
-          | inr last ↦ ([], ap lines_of (s.parts ∙ ap (λ (x : List ℕ). s.gone ++ x) last.1) ∙ prefix.lines line ∙ ap (λ (ls : List (List ℕ)). s.done ++ ls) (lines_of-last line last.3 g.cuts.no_feed))
+          | inl feed ↦
+              ap lines_of (s.parts ∙ ap (λ (x : List ℕ). s.gone ++ x) feed) ∙ prefix.lines (line ++ 10 ∷ (held' ++ g.rest))
+              ∙ ap (λ (ls : List (List ℕ)). s.done ++ ls) (lines_of-feed line (held' ++ g.rest) g.cuts.no_feed)
+          | inr last ↦
+              ap lines_of (s.parts ∙ ap (λ (x : List ℕ). s.gone ++ x) last.1) ∙ prefix.lines line
+              ∙ ap (λ (ls : List (List ℕ)). s.done ++ ls) (lines_of-last line last.3 g.cuts.no_feed)
+              ∙ ap (λ (x : List ℕ). s.done ++ line ∷ lines_of x) (sym last.2)
         ]
         | inr ended ↦ elim g.cuts.parts [
           | inl feed ↦ absurd (nil-feed line (held' ++ g.rest) (sym ended.1 ∙ feed))
@@ -195,16 +200,18 @@ module _ (rows : PolicyRows) (origin : Option World) (world : World) where
   take-prefix lines done more e = ap (take (length done)) e ∙ take_at done more (length done) refl
 
   -- the lines given are answered, and each reply is whole
-  pub at_first : (input before held : List ℕ) (taken : ℕ) (left written : Option (List ℕ)) (shelf : Option World) (state : Whole) → Stands input before held taken left written shelf state → AnsweredFirst rows world (lines_of input) before written
-  at_first input before held taken left written shelf state s =
+  pub at_first : (input before held : List ℕ) (taken : ℕ) (left written : Option (List ℕ)) (shelf : Option World) (state : Whole) (source : Option (List ℕ)) (shelf' : Option World)
+      → (s : Stands input before held taken left written shelf state) → (source ≡ Some input) ⊎ IsLastTaken (drop (length s.done) (lines_of input)) source
+      → MayPutNext (over state s.now) (drop (length s.done) (lines_of input)) origin shelf' → ReachedWhole rows world input before source written origin shelf'
+  at_first input before held taken left written shelf state source shelf' s next puts =
       let m = begins input before held taken left written shelf state s in
       record {
         count = length s.done;
-        answered = record {
-          replies = s.replies;
-          told = record { last = over state s.now; run = rw (take-prefix (lines_of input) s.done m.0 m.1) s.run };
-          written = s.written_is;
-        };
+        replies = s.replies;
+        told = record { last = over state s.now; run = rw (take-prefix (lines_of input) s.done m.0 m.1) s.run };
+        written = s.written_is;
+        next = next;
+        left = puts;
       }
 
   -- The replies to the lines given, and to all others.
@@ -250,20 +257,20 @@ module _ (rows : PolicyRows) (origin : Option World) (world : World) where
 
   -- the octets taken that are in no line given have no line feed
   pub at_stop : (input before held : List ℕ) (taken : ℕ) (left written : Option (List ℕ)) (shelf : Option World) (state : Whole) (left' : Option (List ℕ)) (taken' : ℕ) → (s : Stands input before held taken left written shelf state) → StopsOf held s.rest taken left' taken'
-      → AnsweredWhole rows world input before left' written
+      → FinishedTaken rows world input before left' written origin shelf
   at_stop input before held taken left written shelf state left' taken' s t =
       elim s.lines [
         | inl prefix ↦ record {
           octets = s.gone ++ t.passed;
           taken = record { rest = t.rest; input_is = s.parts ∙ ap (λ (x : List ℕ). s.gone ++ x) t.parts ∙ sym (append_assoc s.gone t.passed t.rest); left_is = t.left_is };
-          answered = inl (record { replies = s.replies; told = record { last = over state s.now; run = rw (whole s.gone t.passed s.done prefix t.no_feed) s.run }; written = s.written_is });
+          finished = inl (record { replies = s.replies; told = record { last = over state s.now; run = rw (whole s.gone t.passed s.done prefix t.no_feed) s.run }; written = s.written_is; left = s.is_now });
         }
         | inr ended ↦
             let both = nil-both t.passed t.rest (sym t.parts ∙ ended.1) in
             record {
               octets = input;
               taken = record { rest = t.rest; input_is = sym (ap (λ (x : List ℕ). input ++ x) both.1 ∙ append-nil input); left_is = t.left_is };
-              answered = inr (both.1, record { replies = s.replies; told = record { last = over state s.now; run = rw ended.2 s.run }; written = s.written_is });
+              finished = inr (both.1, record { replies = s.replies; told = record { last = over state s.now; run = rw ended.2 s.run }; written = s.written_is; left = s.is_now });
             }
       ]
     where
@@ -271,7 +278,7 @@ module _ (rows : PolicyRows) (origin : Option World) (world : World) where
       whole gone passed done f h = f.whole passed ∙ ap (λ (ls : List (List ℕ)). done ++ ls) (whole_lines_of-none passed h) ∙ append-nil done
 
   pub at_most : (input before held : List ℕ) (taken : ℕ) (left written : Option (List ℕ)) (shelf : Option World) (state : Whole) (left' : Option (List ℕ)) (taken' : ℕ) → (s : Stands input before held taken left written shelf state) → StopsOf held s.rest taken left' taken'
-      → taken' ≡ 2 ^ 30 → AnsweredMost rows world input before left' written
+      → taken' ≡ 2 ^ 30 → FinishedMost rows world input before left' written origin shelf
   at_most input before held taken left written shelf state left' taken' s t n =
       elim s.lines [
         | inl prefix ↦
@@ -280,7 +287,7 @@ module _ (rows : PolicyRows) (origin : Option World) (world : World) where
               octets = s.gone ++ t.passed;
               taken = record { rest = t.rest; input_is = input_is; left_is = t.left_is };
               size = omega (arith, t.count, s.count, n, ap length input_is, length-append (s.gone ++ t.passed) t.rest);
-              answered = record { replies = s.replies; told = record { last = over state s.now; run = rw (whole s.gone t.passed s.done prefix t.no_feed) s.run }; written = s.written_is };
+              finished = record { replies = s.replies; told = record { last = over state s.now; run = rw (whole s.gone t.passed s.done prefix t.no_feed) s.run }; written = s.written_is; left = s.is_now };
             }
         | inr ended ↦
             let both = nil-both t.passed t.rest (sym t.parts ∙ ended.1) in
@@ -317,3 +324,79 @@ module _ (rows : PolicyRows) (origin : Option World) (world : World) where
           ∙ ap (take (length replies + n)) (append_assoc replies reply (octets_of others))
           ∙ take-append-add replies (reply ++ octets_of others) n
           ∙ ap (λ (x : List ℕ). replies ++ x) (take-append-le n reply (octets_of others) le)
+
+  -- ---- what the next line puts
+
+  -- nothing is put
+  pub puts_nothing : (shelf : Option World) (now : World) (state : Whole) (lines : List (List ℕ)) → IsNow origin shelf now
+      → MayPutNext (over state now) lines origin shelf
+  puts_nothing shelf now state lines is = by origin lines is
+    where
+      by : (o : Option World) (ls : List (List ℕ)) → IsNow o shelf now → MayPutNext (over state now) ls o shelf
+      by None ls is = tt
+      by (Some o) [] is = is
+      by (Some o) (line ∷ ls) is = inl is
+
+  -- no memory was found for it
+  pub puts_next : (shelf shelf' : Option World) (now : World) (state : Whole) (line : List ℕ) (lines : List (List ℕ)) (use_ : Use) → use_of (heard line) ≡ use_
+      → IsNow origin shelf now → MayPut state.state use_ shelf shelf' → MayPutNext (over state now) (line ∷ lines) origin shelf'
+  puts_next shelf shelf' now state line lines use_ e is m = by origin is
+    where
+      by : (o : Option World) → IsNow o shelf now → MayPutNext (over state now) (line ∷ lines) o shelf'
+      by None is = tt
+      by (Some o) is =
+          let there : MayPutIn state.state use_ now shelf' = subst (λ (w : Option World). MayPut state.state use_ w shelf') is m in
+          inr (subst (λ (u : Use). MayPutIn state.state u now shelf') (sym e) there)
+
+  -- What the line that was taken last may have put, and that it is the last one.
+  pub record IsCutShort (unanswered : List (List ℕ)) (last : Scene) (held' : List ℕ) (left' : Option (List ℕ)) (shelf' : Option World) : Type 0 where
+    pub puts : MayPutNext last unanswered origin shelf'
+    pub next : length held' < 65536 → IsLastTaken unanswered left'
+
+  pub cut_short : (input before held : List ℕ) (taken : ℕ) (left written : Option (List ℕ)) (shelf : Option World) (state : Whole) (held' : List ℕ) (taken' : ℕ) (left' : Option (List ℕ)) (line : List ℕ) (use_ : Use) (shelf' : Option World)
+      → (s : Stands input before held taken left written shelf state) → GivesOf held s.rest taken held' left' taken' line
+      → use_of (heard line) ≡ use_ → MayPut state.state use_ shelf shelf'
+      → IsCutShort (drop (length s.done) (lines_of input)) (over state s.now) held' left' shelf'
+  cut_short input before held taken left written shelf state held' taken' left' line use_ shelf' s g e m =
+      let rest : List (List ℕ) = lines_of (held' ++ g.rest) in
+      let is : drop (length s.done) (lines_of input) ≡ line ∷ rest =
+      ap (drop (length s.done)) (comes_next input before held taken left written shelf state held' taken' left' line s g) ∙ drop-append_seam s.done (line ∷ rest) in
+      record {
+        puts = subst (λ (ls : List (List ℕ)). MayPutNext (over state s.now) ls origin shelf') (sym is) (puts_next shelf shelf' s.now state line rest use_ e s.is_now m);
+        next = λ few. record { line = line; behind = held'; rest = g.rest; left_is = g.left_is; lines_are = is; few = few };
+      }
+
+  -- ---- where the run stands, whatever was written last
+
+  pub reaches : (input before held : List ℕ) (taken : ℕ) (left : Option (List ℕ)) (shelf : Option World) (state : Whole) (replies reply : List ℕ) (n : ℕ) (written : Option (List ℕ)) (shelf' : Option World)
+      → (s : Stands input before held taken left (Some ((before ++ replies) ++ reply)) shelf state) → written ≡ Some ((before ++ replies) ++ take n reply)
+      → MayPutNext (over state s.now) (drop (length s.done) (lines_of input)) origin shelf' → Reached rows world (lines_of input) before written origin shelf'
+  reaches input before held taken left shelf state replies reply n written shelf' s w puts =
+      let m = begins input before held taken left (Some ((before ++ replies) ++ reply)) shelf state s in
+      let same : before ++ octets_of s.replies ≡ before ++ (replies ++ reply) = some-same (before ++ octets_of s.replies) (before ++ (replies ++ reply)) (sym s.written_is ∙ ap (λ (x : List ℕ). Some x) (append_assoc before replies reply)) in
+      let parts : octets_of s.replies ≡ replies ++ reply = append_cancel_left before (octets_of s.replies) (replies ++ reply) same in
+      let first : take (length replies + n) (octets_of s.replies) ≡ replies ++ take n reply =
+      ap (take (length replies + n)) parts ∙ take-append-add replies reply n in
+      record {
+        count = length s.done;
+        replies = s.replies;
+        told = record { last = over state s.now; run = rw (take-prefix (lines_of input) s.done m.0 m.1) s.run };
+        size = length replies + n;
+        written = w ∙ ap (λ (x : List ℕ). Some x) (append_assoc before replies (take n reply) ∙ ap (λ (x : List ℕ). before ++ x) (sym first));
+        left = puts;
+      }
+    where
+      some-same : (x y : List ℕ) → Some x ≡ Some y → x ≡ y
+      some-same x y e = cc
+
+  -- where all replies are whole
+  pub reaches_whole : (input before : List ℕ) (source written : Option (List ℕ)) (shelf' : Option World) → ReachedWhole rows world input before source written origin shelf'
+      → Reached rows world (lines_of input) before written origin shelf'
+  reaches_whole input before source written shelf' r = record {
+    count = r.count;
+    replies = r.replies;
+    told = r.told;
+    size = length (octets_of r.replies);
+    written = r.written ∙ ap (λ (x : List ℕ). Some (before ++ x)) (sym (take_at (octets_of r.replies) [] (length (octets_of r.replies)) refl) ∙ ap (take (length (octets_of r.replies))) (append-nil (octets_of r.replies)));
+    left = r.left;
+  }

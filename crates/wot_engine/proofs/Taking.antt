@@ -3,7 +3,11 @@ use Rattle.std.proofs.Common.{◌≡◌, ℕ, ◌≤◌, ◌^◌, List, [], leng
 use Rattle.wot_io.specs.Fill.{Took}
 use Rattle.wot_io.specs.Source.{Loses, LosesOf}
 use Rattle.wot_io.specs.ReaderState.{ReaderState}
+use Rattle.wot_io.specs.Filled.{IsAtEnd}
+use Rattle.wot_io.specs.Given as given
+use Rattle.wot_io.specs.declared.lines.Line.TheVariants.{End}
 use Rattle.wot_machine.specs.Transcript.{HasMost, TakesAtMost}
+use Rattle.wot_engine.specs.Ended.{TakesMost}
 use Rattle.wot_engine.proofs.Replying.{fresh}
 
 loses_nothing : (left : Option (List ℕ)) → Loses left left []
@@ -60,3 +64,21 @@ takes_nothing left = takes_at_most left left 0 (record { gone = []; loses = lose
 pub has_most : (first last : Option (List ℕ)) (taken : ℕ) → Took first 0 last taken → taken ≡ 2 ^ 30 → HasMost first
 has_most None last taken t most = tt
 has_most (Some input) last taken t most = omega (arith, t.count, most, ap length t.loses.parts, length-append t.gone t.loses.rest)
+
+-- where the most was taken, it was
+pub takes_most : (first last : Option (List ℕ)) (taken : ℕ) → Took first 0 last taken → taken ≡ 2 ^ 30 → TakesMost first last
+takes_most None last taken t most = tt
+takes_most (Some input) last taken t most = record {
+  octets = t.gone;
+  taken = record { rest = t.loses.rest; input_is = t.loses.parts; left_is = t.loses.left_is };
+  size = omega (arith, t.count, most);
+}
+
+-- at the end nothing is left
+pub ends_at : (first left last : Option (List ℕ)) (taken : ℕ) (old new : ReaderState) → Took first 0 left taken → given.Answers End old left new last
+    → IsAtEnd first last
+ends_at None left last taken old new t e = tt
+ends_at (Some input) left last taken old new t e =
+    let e' : given.Answers End old (Some t.loses.rest) new last =
+    subst (λ (o : Option (List ℕ)). given.Answers End old o new last) t.loses.left_is e in
+    e'.0.3

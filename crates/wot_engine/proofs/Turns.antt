@@ -1,5 +1,5 @@
 -- The turns of a run, where input, output and shelf are told.
-use Rattle.std.proofs.Common.{◌≡◌, inl, inr, ℕ, ◌+◌, ◌<◌, ◌^◌, List, [], ◌++◌, length, take, Option, Some, None, refl, sym, ap, subst, ◌∙◌, append_assoc, arith, length-append}
+use Rattle.std.proofs.Common.{◌≡◌, ◌≢◌, inl, inr, ℕ, ◌+◌, ◌<◌, ◌^◌, List, [], ◌++◌, length, take, drop, Option, Some, None, refl, sym, ap, subst, ◌∙◌, append_assoc, arith, length-append}
 use Rattle.std.proofs.lemmas.List.{append_cancel_left, append_cancel_right, length-take}
 use Rattle.std.proofs.lemmas.Grind.{flat_map-append}
 use Rattle.wot_io.specs.Input.{lines_of, whole_lines_of}
@@ -12,19 +12,20 @@ use Rattle.wot_script.specs.declared.reply.Reply.{Reply}
 use Rattle.wot_script.specs.Replies.{reply_text}
 use Rattle.wot_certd.specs.World.{World}
 use Rattle.wot_machine.specs.Whole.{Whole, beginning}
-use Rattle.wot_machine.specs.Entry.{IsServed, Use, unused, use_of}
+use Rattle.wot_machine.specs.Entry.{IsServed, MayPut, Use, unused, use_of}
 use Rattle.wot_machine.specs.Law.{OneOutcome}
 use Rattle.wot_machine.specs.Lines.{heard}
 use Rattle.wot_machine.specs.LineStep.{LineStep}
 use Rattle.wot_machine.specs.Scene.{Step, opening}
 use Rattle.wot_machine.specs.Served.{Served}
 use Rattle.wot_machine.specs.Watching.{Tells}
-use Rattle.wot_machine.specs.Transcript.{Run, Answered, AnsweredFirst, Begun, AnsweredWhole, AnsweredMost, AllTold, IsNow, Leaves, listed, octets_of}
+use Rattle.wot_machine.specs.Transcript.{Run, Answered, Begun, AnsweredMost, AllTold, IsNow, Leaves, listed, octets_of}
 use Rattle.wot_machine.proofs.Giving.{IsUncalled, all_told, all_weaker, goes, may_call, over}
 use Rattle.wot_machine.proofs.Runs.{Run-one, Run-prefix}
 use Rattle.wot_machine.proofs.Stepping.{heard_long}
-use Rattle.wot_engine.specs.Turn.{Replies}
-use Rattle.wot_engine.proofs.Progress.{Stands, starts, goes_on, so_far, comes_next, at_end, leaves, at_first, at_stop, at_most}
+use Rattle.wot_engine.specs.Ended.{FinishedMost, FinishedTaken, Reached, ReachedWhole}
+use Rattle.wot_engine.specs.Turn.{Replies, use_by}
+use Rattle.wot_engine.proofs.Progress.{IsCutShort, Stands, starts, goes_on, so_far, comes_next, cut_short, at_end, leaves, at_first, at_stop, at_most, puts_nothing, reaches_whole}
 use Rattle.wot_policy.specs.declared.rows.PolicyRows.{PolicyRows}
 
 module _ (rows : PolicyRows) where
@@ -59,7 +60,7 @@ module _ (rows : PolicyRows) where
       → octets ≡ octets_of (listed reply ++ told) → Turned origin world input before new.held new.taken left' written octets shelf' state'
   turned_by origin world input before old left written shelf state new left' shelf' state' line use_ what reply mid told octets uncalled s g e served does tells same =
       let next = comes_next rows origin world input before old.held old.taken left written shelf state new.held new.taken left' line s g in
-      let went = goes rows origin shelf shelf' s.now state mid state' line use_ what reply told e (may_call origin input s.done line next.0 next.1 uncalled) s.is_now served does tells in
+      let went = goes rows origin shelf shelf' s.now state mid state' line use_ what reply told e (may_call origin input s.done line (lines_of (new.held ++ g.rest)) next uncalled) s.is_now served does tells in
       record {
         held = old.held;
         taken = old.taken;
@@ -101,10 +102,33 @@ module _ (rows : PolicyRows) where
   Begun-here law left0 written0 origin held taken left written shelf state s =
       all_weaker left0 written0 origin _ _ (λ input before world uncalled s. so_far rows origin world law input before held taken left written shelf state s) s
 
-  pub First-here : (left0 written0 : Option (List ℕ)) (origin : Option World) (held : List ℕ) (taken : ℕ) (left written : Option (List ℕ)) (shelf : Option World) (state : Whole) → Stood left0 written0 origin held taken left written shelf state
-      → AllTold left0 written0 origin (λ input before world. AnsweredFirst rows world (lines_of input) before written)
-  First-here left0 written0 origin held taken left written shelf state s =
-      all_weaker left0 written0 origin _ _ (λ input before world uncalled s. at_first rows origin world input before held taken left written shelf state s) s
+  -- the line that was given last had no reply
+  pub cut_by : (origin : Option World) (world : World) (input before : List ℕ) (old : ReaderState) (left written : Option (List ℕ)) (shelf : Option World) (state : Whole) (new : ReaderState) (left' : Option (List ℕ)) (shelf' : Option World) (line : Line)
+      → (s : Stands rows origin world input before old.held old.taken left written shelf state) → given.Answers line old left new left' → line ≢ End
+      → MayPut state.state (use_by line new.text) shelf shelf'
+      → IsCutShort rows origin world (drop (length s.done) (lines_of input)) (over state s.now) new.held left' shelf'
+  cut_by origin world input before old left written shelf state new left' shelf' Text s a some m =
+      let a' = rw s.left_is at a in
+      cut_short rows origin world input before old.held old.taken left written shelf state new.held new.taken left' new.text (use_of (heard new.text)) shelf' s a'.0 refl m
+  cut_by origin world input before old left written shelf state new left' shelf' Long s a some m =
+      let a' = rw s.left_is at a in
+      cut_short rows origin world input before old.held old.taken left written shelf state new.held new.taken left' a'.0 unused shelf' s a'.2 (ap use_of (heard_long a'.0 a'.1)) m
+  cut_by origin world input before old left written shelf state new left' shelf' End s a some m = absurd (some refl)
+
+  pub First-here : (left0 written0 : Option (List ℕ)) (origin : Option World) (old : ReaderState) (left written : Option (List ℕ)) (shelf : Option World) (state : Whole) (new : ReaderState) (left' : Option (List ℕ)) (shelf' : Option World) (line : Line)
+      → Stood left0 written0 origin old.held old.taken left written shelf state → given.Answers line old left new left' → line ≢ End
+      → MayPut state.state (use_by line new.text) shelf shelf' → length new.held < 65536
+      → AllTold left0 written0 origin (λ input before world. ReachedWhole rows world input before left' written origin shelf')
+  First-here left0 written0 origin old left written shelf state new left' shelf' line s a some m few =
+      all_weaker left0 written0 origin _ _ (λ input before world uncalled s.
+      let cut = cut_by origin world input before old left written shelf state new left' shelf' line s a some m in
+      at_first rows origin world input before old.held old.taken left written shelf state left' shelf' s (inr (cut.next few)) cut.puts) s
+
+  pub First-reached : (left0 written0 : Option (List ℕ)) (origin : Option World) (source written : Option (List ℕ)) (shelf' : Option World)
+      → AllTold left0 written0 origin (λ input before world. ReachedWhole rows world input before source written origin shelf')
+      → AllTold left0 written0 origin (λ input before world. Reached rows world (lines_of input) before written origin shelf')
+  First-reached left0 written0 origin source written shelf' r =
+      all_weaker left0 written0 origin _ _ (λ input before world uncalled r. reaches_whole rows origin world input before source written shelf' r) r
 
   pub Answered-end : (left0 written0 : Option (List ℕ)) (origin : Option World) (old : ReaderState) (left written : Option (List ℕ)) (shelf : Option World) (state : Whole) (new : ReaderState) (left' : Option (List ℕ))
       → Stood left0 written0 origin old.held old.taken left written shelf state → given.Answers End old left new left'
@@ -124,7 +148,7 @@ module _ (rows : PolicyRows) where
 
   pub Answered-stop : (left0 written0 : Option (List ℕ)) (origin : Option World) (held : List ℕ) (taken : ℕ) (left written : Option (List ℕ)) (shelf : Option World) (state : Whole) (left' : Option (List ℕ)) (taken' : ℕ)
       → Stood left0 written0 origin held taken left written shelf state → Stops held left taken left' taken'
-      → AllTold left0 written0 origin (λ input before world. AnsweredWhole rows world input before left' written × (taken' ≡ 2 ^ 30 → AnsweredMost rows world input before left' written))
+      → AllTold left0 written0 origin (λ input before world. FinishedTaken rows world input before left' written origin shelf × (taken' ≡ 2 ^ 30 → FinishedMost rows world input before left' written origin shelf))
   Answered-stop left0 written0 origin held taken left written shelf state left' taken' s t =
       all_weaker left0 written0 origin _ _ (λ input before world uncalled s.
       let t' = rw s.left_is at t in (
@@ -198,5 +222,12 @@ module _ (rows : PolicyRows) where
   pub Begun-nothing : OneOutcome rows → (left0 written0 : Option (List ℕ)) (origin : Option World) → AllTold left0 written0 origin (λ input before world. Begun rows world (lines_of input) before written0)
   Begun-nothing law left0 written0 origin = Begun-here law left0 written0 origin [] 0 left0 written0 origin beginning (Stood-init left0 written0 origin)
 
-  pub First-nothing : (left0 written0 : Option (List ℕ)) (origin : Option World) → AllTold left0 written0 origin (λ input before world. AnsweredFirst rows world (lines_of input) before written0)
-  First-nothing left0 written0 origin = First-here left0 written0 origin [] 0 left0 written0 origin beginning (Stood-init left0 written0 origin)
+  pub First-nothing : (left0 written0 : Option (List ℕ)) (origin : Option World) → AllTold left0 written0 origin (λ input before world. ReachedWhole rows world input before left0 written0 origin origin)
+  First-nothing left0 written0 origin =
+      all_told left0 written0 origin _ (λ input before world e f is.
+      let s = starts rows origin world input before left0 written0 origin e f is in
+      at_first rows origin world input before [] 0 left0 written0 origin beginning left0 origin s (inl e)
+      (puts_nothing rows origin world origin s.now beginning (drop (length s.done) (lines_of input)) s.is_now))
+
+  pub Reached-nothing : (left0 written0 : Option (List ℕ)) (origin : Option World) → AllTold left0 written0 origin (λ input before world. Reached rows world (lines_of input) before written0 origin origin)
+  Reached-nothing left0 written0 origin = First-reached left0 written0 origin left0 written0 origin (First-nothing left0 written0 origin)

@@ -5,7 +5,8 @@ use Rattle.wot_io.specs.Input.{lines_of}
 use Rattle.wot_policy.specs.declared.rows.PolicyRows.{PolicyRows}
 use Rattle.wot_certd.specs.World.{World}
 use Rattle.wot_machine.specs.Both.{Ends}
-use Rattle.wot_machine.specs.Transcript.{AllTold, Answered, AnsweredFirst, AnsweredMost, AnsweredWhole, Begun, Leaves}
+use Rattle.wot_machine.specs.Transcript.{AllTold, Answered, AnsweredMost, Begun, Leaves}
+use Rattle.wot_engine.specs.Ended.{FinishedMost, FinishedTaken, Reached, ReachedWhole}
 use Rattle.wot_engine.specs.Forms.{IsForm, IsRun, OnGenerated}
 
 -- what a source has left, or what was written to a sink
@@ -31,22 +32,29 @@ abbrev pub WritesPrefix : PolicyRows → Octets → Octets → Ends (Option Worl
 WritesPrefix rows input output shelf = OnContents input output shelf (λ octets before world.
     Begun rows world (lines_of octets) before output.new)
 
--- The replies to some first lines were written, and each is whole.
+-- Some first lines were answered, of whose replies a prefix was written. The shelf is as they leave it, but for what
+-- the next line puts.
+abbrev pub ReachesSome : PolicyRows → Octets → Octets → Ends (Option World) → Type 0
+ReachesSome rows input output shelf = OnContents input output shelf (λ octets before world.
+    Reached rows world (lines_of octets) before output.new shelf.old shelf.new)
+
+-- The replies to all lines before the last one that was taken were written, each whole. The shelf is as they leave it,
+-- but for what that last line puts.
 abbrev pub WritesSome : PolicyRows → Octets → Octets → Ends (Option World) → Type 0
 WritesSome rows input output shelf = OnContents input output shelf (λ octets before world.
-    AnsweredFirst rows world (lines_of octets) before output.new)
+    ReachedWhole rows world octets before input.new output.new shelf.old shelf.new)
 
--- The replies to all whole lines of the octets taken were written.
+-- The replies to all whole lines of the octets taken were written, and the shelf is as these lines leave it.
 abbrev pub WritesTaken : PolicyRows → Octets → Octets → Ends (Option World) → Type 0
 WritesTaken rows input output shelf = OnContents input output shelf (λ octets before world.
-    AnsweredWhole rows world octets before input.new output.new)
+    FinishedTaken rows world octets before input.new output.new shelf.old shelf.new)
 
 -- The same, and 2 ^ 30 octets were taken.
 abbrev pub WritesMost : PolicyRows → Octets → Octets → Ends (Option World) → Type 0
 WritesMost rows input output shelf = OnContents input output shelf (λ octets before world.
-    AnsweredMost rows world octets before input.new output.new)
+    FinishedMost rows world octets before input.new output.new shelf.old shelf.new)
 
--- Where that is so, this holds.
+-- Where 2 ^ 30 octets were taken and the replies to all whole lines of them were written, this holds.
 abbrev pub OnMost : PolicyRows → Octets → Octets → Ends (Option World) → Type 0 → Type 0
 OnMost rows input output shelf P = OnContents input output shelf (λ octets before world.
     AnsweredMost rows world octets before input.new output.new → P)

@@ -1,20 +1,27 @@
+//! A run: the lines of a source are answered by one machine, and their replies are written to a sink.
+//!
+//! It stands on the reader of lines of `wot_io` and on `Machine::line` and `Machine::tell`. Replies are held back until
+//! more would be read. `run_words` hands its clauses on (`specs/Told.antt`, `specs/Ended.antt`).
 ghost use Rattle.std.specs.Prelude.{◌≡◌, ◌≢◌, ◌<◌, ◌≤◌, ◌+◌, ◌-◌, ◌^◌, [], length};
 ghost use Rattle.std.specs.Prelude.{IfSome, OnErr, OnOk, IsErrOf, vec_items};
 ghost use Rattle.wot_types.specs.Limits.{standard_limits};
 ghost use Rattle.wot_policy.specs.Kept.{IsFaithful, rows_of};
 ghost use Rattle.wot_keyring.specs.Kept.{IsJudgedBy};
 ghost use Rattle.wot_io.specs.Counts.{Rose};
+ghost use Rattle.wot_io.specs.Filled.{IsAtEnd};
 ghost use Rattle.wot_io.specs.Input.{HasNoFeed};
 ghost use Rattle.wot_io.specs.Sink.{GainsPrefix};
-ghost use Rattle.wot_cache.specs.State.{empty};
+ghost use Rattle.wot_cache.specs.State.{empty, state_of};
 ghost use Rattle.wot_machine.specs.Machine.{kept};
 ghost use Rattle.wot_machine.specs.Both.{ends};
+ghost use Rattle.wot_machine.specs.Entry.{MayPutTo};
 ghost use Rattle.wot_machine.specs.Transcript.{HasMost, TakesAtMost};
 ghost use Rattle.wot_engine.specs.Ends.{IsMuchOrMemory};
-ghost use Rattle.wot_engine.specs.Told.{MovesShelf, OnMost, WritesAll, WritesMost, WritesPrefix, WritesSome};
-ghost use Rattle.wot_engine.specs.Told.{WritesTaken};
+ghost use Rattle.wot_engine.specs.Ended.{TakesMost};
+ghost use Rattle.wot_engine.specs.Told.{MovesShelf, OnMost, ReachesSome, WritesAll, WritesMost, WritesPrefix};
+ghost use Rattle.wot_engine.specs.Told.{WritesSome, WritesTaken};
 ghost use Rattle.wot_engine.specs.Held.{Moves};
-ghost use Rattle.wot_engine.specs.Turn.{Says, SaysAll, unread};
+ghost use Rattle.wot_engine.specs.Turn.{Says, SaysAll, unread, use_by};
 ghost use Rattle.wot_engine.specs.declared.run.Stop.TheVariants as stops;
 ghost use Rattle.wot_engine.specs.declared.run.Stop.TheVariants.{Memory as NoMemory, Read, TooMuch, Write};
 
@@ -74,6 +81,8 @@ fn say<D: Shelf, F: Fn(Ask) -> bool>(
     requires faithful { IsFaithful F.Fn policy.old }
     ensures said { OnOk result (Says (rows_of policy.old) line text.now
         (ends kept machine) (ends D.world shelf) (ends vec_items out)) }
+    ensures entries { OnErr result (MayPutTo (state_of machine.old.engine) (use_by line text.now)
+        (ends D.world shelf)) }
     ensures kept { OnErr result (out.new.items ≡ out.old.items) }
     ensures counted { machine.new.engine.keyring.changes ≤ machine.old.engine.keyring.changes + 1 }
     ensures turned { machine.new.engine.turns.count ≤ machine.old.engine.turns.count + 1 }
@@ -105,6 +114,8 @@ fn reply_to<D: Shelf, F: Fn(Ask) -> bool>(
     requires faithful { IsFaithful F.Fn policy.old }
     ensures replies { OnOk result (SaysAll (rows_of policy.old) line text.now
         (ends kept machine) (ends D.world shelf) (ends vec_items out)) }
+    ensures entries { OnErr result (MayPutTo (state_of machine.old.engine) (use_by line text.now)
+        (ends D.world shelf)) }
     ensures kept { OnErr result (out.new.items ≡ out.old.items) }
     ensures counted { machine.new.engine.keyring.changes ≤ machine.old.engine.keyring.changes + 1 }
     ensures turned { machine.new.engine.turns.count ≤ machine.old.engine.turns.count + 1 }
@@ -155,6 +166,8 @@ pub fn run<S: Source, K: Sink, D: Shelf, F: Fn(Ask) -> bool>(
         (ends S.left input) (ends K.written output) (ends D.world shelf)) }
     ensures prefix { WritesPrefix (rows_of policy.old)
         (ends S.left input) (ends K.written output) (ends D.world shelf) }
+    ensures reached { ReachesSome (rows_of policy.old)
+        (ends S.left input) (ends K.written output) (ends D.world shelf) }
     ensures first { IsErrOf result NoMemory → WritesSome (rows_of policy.old)
         (ends S.left input) (ends K.written output) (ends D.world shelf) }
     ensures source { IsErrOf result Read → Rose (S.faults input.old) (S.faults input.new) }
@@ -166,6 +179,8 @@ pub fn run<S: Source, K: Sink, D: Shelf, F: Fn(Ask) -> bool>(
     ensures most_only { OnMost (rows_of policy.old)
         (ends S.left input) (ends K.written output) (ends D.world shelf) (IsMuchOrMemory result) }
     ensures much { IsErrOf result TooMuch → HasMost (S.left input.old) }
+    ensures ended { OnOk result (IsAtEnd (S.left input.old) (S.left input.new)) }
+    ensures took { IsErrOf result TooMuch → TakesMost (S.left input.old) (S.left input.new) }
     ensures at_most { TakesAtMost (S.left input.old) (S.left input.new) }
     ensures faithful { IsFaithful F.Fn policy.new }
     ensures rows { rows_of policy.new ≡ rows_of policy.old }
@@ -208,6 +223,8 @@ fn answer_lines<S: Source, K: Sink, D: Shelf, F: Fn(Ask) -> bool>(
         (ends S.left input) (ends K.written output) (ends D.world shelf)) }
     ensures prefix { WritesPrefix (rows_of policy.old)
         (ends S.left input) (ends K.written output) (ends D.world shelf) }
+    ensures reached { ReachesSome (rows_of policy.old)
+        (ends S.left input) (ends K.written output) (ends D.world shelf) }
     ensures first { IsErrOf result NoMemory → WritesSome (rows_of policy.old)
         (ends S.left input) (ends K.written output) (ends D.world shelf) }
     ensures source { IsErrOf result Read → Rose (S.faults input.old) (S.faults input.new) }
@@ -219,6 +236,8 @@ fn answer_lines<S: Source, K: Sink, D: Shelf, F: Fn(Ask) -> bool>(
     ensures most_only { OnMost (rows_of policy.old)
         (ends S.left input) (ends K.written output) (ends D.world shelf) (IsMuchOrMemory result) }
     ensures much { IsErrOf result TooMuch → HasMost (S.left input.old) }
+    ensures ended { OnOk result (IsAtEnd (S.left input.old) (S.left input.new)) }
+    ensures took { IsErrOf result TooMuch → TakesMost (S.left input.old) (S.left input.new) }
     ensures at_most { TakesAtMost (S.left input.old) (S.left input.new) }
     ensures faithful { IsFaithful F.Fn policy.new }
     ensures rows { rows_of policy.new ≡ rows_of policy.old }

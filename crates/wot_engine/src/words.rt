@@ -1,14 +1,19 @@
+//! The top call, whose contract is what the program promises.
+//!
+//! It stands on `run` and `generate`. A change of a clause changes what `docs/PROOF.md` says under "The promise".
 ghost use Rattle.std.specs.Prelude.{◌≡◌, ◌⊎◌, ◌↔◌, map, string_bytes};
 ghost use Rattle.wot_policy.specs.Kept.{IsFaithful, rows_of};
 ghost use Rattle.wot_io.specs.Counts.{Rose};
+ghost use Rattle.wot_io.specs.Filled.{IsAtEnd};
 ghost use Rattle.wot_machine.specs.Both.{ends};
 ghost use Rattle.wot_machine.specs.Transcript.{TakesAtMost};
 ghost use Rattle.wot_engine.specs.Ends.{status_at};
 ghost use Rattle.wot_engine.specs.Forms.{IsForm};
 ghost use Rattle.wot_engine.specs.Generated.{BeginsSummary, WritesSummary};
 ghost use Rattle.wot_engine.specs.Told.{AreOfRun, Done, IsEither, IsUnfailed, OnScript, ReadsFew};
-ghost use Rattle.wot_engine.specs.Told.{MovesShelf, OnMost, WritesAll, WritesMost, WritesPrefix, WritesSome};
-ghost use Rattle.wot_engine.specs.Told.{WritesTaken};
+ghost use Rattle.wot_engine.specs.Ended.{TakesMost};
+ghost use Rattle.wot_engine.specs.Told.{MovesShelf, OnMost, ReachesSome, WritesAll, WritesMost, WritesPrefix};
+ghost use Rattle.wot_engine.specs.Told.{WritesSome, WritesTaken};
 
 use crate::form::{Form, form_of};
 use crate::generated::generate;
@@ -50,7 +55,12 @@ pub fn run_words<S: Source, K: Sink, D: Shelf, F: Fn(Ask) -> bool>(
     ensures prefix { AreOfRun words.now → WritesPrefix (rows_of policy.old)
         (ends S.left input) (ends K.written output) (ends D.world shelf) }
 
-    // For want of memory no reply is cut: some first lines are answered whole.
+    // Whatever the status, the shelf is as some first lines leave it, whose replies begin with what was written; the
+    // line after them puts no more than its own entry.
+    ensures reached { AreOfRun words.now → ReachesSome (rows_of policy.old)
+        (ends S.left input) (ends K.written output) (ends D.world shelf) }
+
+    // For want of memory no reply is cut: all lines before the last one that was taken are answered whole.
     ensures first { Done 5 words.now result → WritesSome (rows_of policy.old)
         (ends S.left input) (ends K.written output) (ends D.world shelf) }
 
@@ -65,6 +75,10 @@ pub fn run_words<S: Source, K: Sink, D: Shelf, F: Fn(Ask) -> bool>(
     ensures at_most { TakesAtMost (S.left input.old) (S.left input.new) }
     ensures faithful { IsFaithful F.Fn policy.new }
     ensures rows { rows_of policy.new ≡ rows_of policy.old }
+
+    // Whatever sink and shelf tell: with status 0 the source has nothing left, with 6 it gave 2^30 octets.
+    ensures ended { Done 0 words.now result → IsAtEnd (S.left input.old) (S.left input.new) }
+    ensures took { result ≡ 6 → TakesMost (S.left input.old) (S.left input.new) }
 
     // What each status means.
     ensures statuses { (result ≡ 0) ⊎ (result ≡ 2) ⊎ (result ≡ 3) ⊎ (result ≡ 4) ⊎ (result ≡ 5) ⊎ (result ≡ 6) }

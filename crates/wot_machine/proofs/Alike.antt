@@ -135,11 +135,11 @@ asking name (CursorClose cursor) s reply a = absurd a
 asking name (WatchOn watch view target wanted uid) s reply a = absurd a
 asking name (WatchOff watch) s reply a = absurd a
 
--- A step of a question in the one state is one in the other.
-pub step_alike : (rows : PolicyRows) (one other : Whole) (name line : List ℕ) (given told : Served) (reply : Option Reply) (new : Whole) → one.state.held.certs ≡ other.state.held.certs
-    → one.state.held.verdicts ≡ other.state.held.verdicts → view_at one.state.views name ≡ view_at other.state.views name → IsAsk name line
+-- A step of a question in the one state is one in the other, where what the command does is.
+pub step_as : (rows : PolicyRows) (one other : Whole) (name line : List ℕ) (given told : Served) (reply : Option Reply) (new : Whole) (ask : IsAsk name line)
+    → ((r : Reply) (s : State) → Does rows one.state ask.command given r s → Does rows other.state ask.command told r other.state)
     → LineStep rows one line given reply new → LineStep rows other line told reply other
-step_alike rows one other name line given told reply new c v w ask step = long (nat_lt longest (length line)) step
+step_as rows one other name line given told reply new ask does step = long (nat_lt longest (length line)) step
   where
     answers : (o : Option Command) → o ≡ Some ask.command → (r : Option Reply) → HasReply (Answers rows one o given) r new → HasReply (Answers rows other o told) r other
     answers o e None s = absurd s
@@ -148,7 +148,7 @@ step_alike rows one other name line given told reply new c v w ask step = long (
         let s' : Obeys rows one ask.command given r new = subst (λ (o : Option Command). Answers rows one o given r new) e s in
         let rest = asking name ask.command other r ask.asks in
         subst Told (sym e) (record {
-          does = does_alike rows one.state other.state name ask.command given told r new.state c v w ask.asks s'.does;
+          does = does r new.state s'.does;
           counted = inl (refl, refl);
           turned = rest.0;
           paces = rest.1;
@@ -169,6 +169,13 @@ step_alike rows one other name line given told reply new c v w ask step = long (
         → MatchBool b (HasReply (Stays other replies.Long) reply other) (MatchBool (is_silent line) ((reply ≡ None) × (other ≡ other)) (HasReply (Answers rows other (command_of line) told) reply other))
     long true g = refused reply g
     long false g = silent (is_silent line) g
+
+pub step_alike : (rows : PolicyRows) (one other : Whole) (name line : List ℕ) (given told : Served) (reply : Option Reply) (new : Whole) → one.state.held.certs ≡ other.state.held.certs
+    → one.state.held.verdicts ≡ other.state.held.verdicts → view_at one.state.views name ≡ view_at other.state.views name → IsAsk name line
+    → LineStep rows one line given reply new → LineStep rows other line told reply other
+step_alike rows one other name line given told reply new c v w ask step =
+    step_as rows one other name line given told reply new ask
+    (λ r s does. does_alike rows one.state other.state name ask.command given told r s c v w ask.asks does) step
 
 -- What is reached can be.
 pub reached_can_be : (rows : PolicyRows) (world : World) (lines : List (List ℕ)) (replies : List Reply) (s : Scene) → Run rows (opening world) lines replies s → AreNamed s.whole.state.held.certs

@@ -38,3 +38,7 @@ mod StaleTold
 mod Telling
 mod Worth
 mod Settling
+mod Asking
+mod Judging
+mod GoingOn
+mod Slices

@@ -170,7 +170,7 @@ module _
             → (r : Reply) × Checks old (Some view) target claims labels uid r
         by checked = (verdict_on claims checked.0, (checked.0, checked.1, refl))
 
-    Does-one : (old : State) (command : Command) (given : Served) → IsState old → is_pacing command ≡ false → is_watching command ≡ false
+    pub Does-one : (old : State) (command : Command) (given : Served) → IsState old → is_pacing command ≡ false → is_watching command ≡ false
         → IsOne Reply State (Does rows old command given)
     Does-one old (Import octets) given p plain still = Gives-one (import rows old octets)
     Does-one old (Load name) given p plain still = Gives-one (load rows old name given.read)

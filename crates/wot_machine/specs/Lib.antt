@@ -19,9 +19,12 @@ pub mod Ran
 pub mod Stored
 pub mod Stepped
 pub mod Fresh
+pub mod GoesOn
 pub mod Depends
 pub mod Machine
 pub mod Made
+pub mod Asked
 pub mod Joined
 pub mod Worth
 pub mod Settled
+pub mod Slices

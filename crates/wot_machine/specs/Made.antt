@@ -1,5 +1,5 @@
--- How many edges a line makes, and whose marks it leaves. No reply depends on either.
-use Rattle.std.specs.Prelude.{◌≡◌, ◌⊎◌, ℕ, [], Option, Some, None, Result, OnOk}
+-- How many edges a line and the watches behind it make, and whose marks they leave. No reply depends on either.
+use Rattle.std.specs.Prelude.{◌≡◌, ◌≤◌, ◌⊎◌, ℕ, [], ◌∷◌, Option, Some, None, Result, OnOk}
 use Rattle.wot_script.specs.declared.command.Command.{Command}
 use Rattle.wot_script.specs.declared.command.Command.TheVariants.{Ask, Explain, Absence, Check, Time, Close}
 use Rattle.wot_script.specs.declared.command.Command.TheVariants.{CursorNext, WatchOn}
@@ -7,6 +7,7 @@ use Rattle.wot_cache.specs.State.{Engine, OtherMarksStay, marks_at}
 use Rattle.wot_cache.specs.Marks.{IsRefreshed}
 use Rattle.wot_cache.specs.Views.{view_at}
 use Rattle.wot_cursor.specs.Cursors.{Cursor, Cursors, cursor_at}
+use Rattle.wot_watch.specs.Watches.{Watch, Watches}
 
 -- No edge is made, and all marks stay.
 abbrev pub MakesNothing : Engine → Engine → ℕ → ℕ → Type 0
@@ -38,3 +39,25 @@ LineMakes result None cursors old new before after = MakesNothing old new before
 LineMakes result (Some (CursorNext name count)) cursors old new before after =
     PieceMakes result (cursor_at cursors name) old new before after
 LineMakes result (Some command) cursors old new before after = Makes result command old new before after
+
+-- ---- watches
+
+-- What asking a watch makes: what a question from its view makes. One that wants nothing, as no line begins it, isn't
+-- asked.
+pub record WatchMakes {T E : Type 0}
+    (result : Result T E) (watch : Watch) (old new : Engine) (before after : ℕ) : Type 0 where
+  pub none : watch.wanted ≡ 0 → (new ≡ old) × (after ≡ before)
+  pub asked : 1 ≤ watch.wanted → IsRefreshed result watch.view old new before after
+
+-- What asking these watches makes, one after another: each goes on from what the one before it left. Where there is
+-- none, nothing is made.
+abbrev pub WatchesMake : {T E : Type 0} → Result T E → Watches → Engine → Engine → ℕ → ℕ → Type 0
+WatchesMake result [] old new before after = (new ≡ old) × (after ≡ before)
+WatchesMake result (entry ∷ watches) old new before after =
+    (mid : Engine) × (made : ℕ) × WatchMakes result entry.1 old mid before made
+    × WatchesMake result watches mid new made after
+
+-- What telling the watches makes: nothing where their amounts are known, and else what asking all of them makes.
+abbrev pub TellingMakes : {T E : Type 0} → Result T E → Watches → Engine → Engine → ℕ → ℕ → Type 0
+TellingMakes result watches old new before after =
+    ((new ≡ old) × (after ≡ before)) ⊎ WatchesMake result watches old new before after

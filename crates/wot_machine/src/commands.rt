@@ -8,6 +8,7 @@ ghost use Rattle.wot_script.specs.Replies.{is_short};
 ghost use Rattle.wot_cache.specs.State.{marks_at, state_of, OtherMarksStay};
 ghost use Rattle.wot_cache.specs.Turns.{IsOneClosing, IsOneTurn};
 ghost use Rattle.wot_cache.specs.Views.{view_at};
+ghost use Rattle.wot_machine.specs.Asked.{AsksForNew};
 ghost use Rattle.wot_machine.specs.Outcome.{import as import_of, remove as remove_of, set_verdict as set_verdict_of};
 ghost use Rattle.wot_machine.specs.Outcome.{clear_verdict as clear_verdict_of, time as time_of, root as root_of};
 ghost use Rattle.wot_machine.specs.Outcome.{close as close_of};
@@ -40,6 +41,7 @@ pub fn import<F: Fn(Ask) -> bool>(
     ensures turns { engine.new.turns ≡ engine.old.turns }
     ensures counted { IsOneChange engine.old.keyring engine.new.keyring }
     ensures standard { engine.new.keyring.limits ≡ standard_limits }
+    ensures asked { AsksForNew result (state_of engine.old) (state_of engine.new) policy.old policy.new }
     ensures judged { IsJudgedBy (rows_of policy.old) engine.new.keyring }
     ensures faithful { IsFaithful F.Fn policy.new }
     ensures rows { rows_of policy.new ≡ rows_of policy.old }

@@ -5,19 +5,22 @@ ghost use Rattle.wot_script.specs.declared.reply.Reply.{Reply};
 ghost use Rattle.wot_certd.specs.World.{World};
 ghost use Rattle.wot_machine.specs.Absent.{AreClaimsAccepted, DoClaimsLeaveNothing};
 ghost use Rattle.wot_machine.specs.Depends.{DependsOnWhatIsPresent};
+ghost use Rattle.wot_machine.specs.GoesOn.{FreshMachinesGoOn};
 ghost use Rattle.wot_machine.specs.Joined.{NextsAreTold, PiecesJoin, RunsAreExchanges, StaleNumbersDiffer};
 ghost use Rattle.wot_machine.specs.Law.{HaveOneOutcome, HaveOnlyWatchLines, HaveOutcomes, HaveWatchLines};
 ghost use Rattle.wot_machine.specs.Law.{LeadToStates, RefusalsLeaveAll};
+ghost use Rattle.wot_machine.specs.Slices.{DoAnswersRestOnSlices, DoRepliesRestOnSlices};
 ghost use Rattle.wot_machine.specs.Transcript.{HasOneTranscript, StayJudged, Transcript};
 ghost use Rattle.wot_machine.specs.Worth.{QuietLinesTellNothing, WatchLinesAreNews, WatchesAreTrue};
 
+use wot_auth::laws::answers_rest_on_slices;
 use wot_cert::laws::judging;
 use wot_check::laws::{
     accepted_paths_leave_nothing, check_is_one, least_table_is_one, least_tables_are_accepted,
 };
 use wot_edge::laws::answer_is_one;
 use wot_explain::laws::list_is_one;
-use wot_network::laws::record_is_lawful;
+use wot_network::laws::{edges_rest_on_trust, record_is_lawful, records_agree};
 use wot_script::laws::lines_spell_commands;
 
 /// Whatever the shelf gives, each line has a reply or none, and a state after it, and in a state that can be only one
@@ -61,11 +64,42 @@ pub fn reached_states_are_judged()
     judging();
 }
 
+/// A fresh machine that was given the lines of a dump goes on as the one that dumped: whatever lines come then, over
+/// the same shelf, each reply that isn't to a command of a cursor or of a watch is the same.
+pub fn fresh_machines_go_on()
+    ensures { (rows : PolicyRows) → FreshMachinesGoOn rows }
+{
+    reached_states_are_judged();
+    each_line_has_one_outcome();
+    answer_is_one();
+    record_is_lawful();
+    list_is_one();
+    least_table_is_one();
+    check_is_one();
+    lines_spell_commands();
+}
+
 /// Each answer depends only on the certificates, the verdicts, and the roots and the time of the asking view then
 /// present. What else two histories did, and whatever other views are open, the same question has the same reply.
 pub fn answers_depend_on_what_is_present()
     ensures present { (rows : PolicyRows) → DependsOnWhatIsPresent rows }
 {
+    judging();
+    reached_states_are_judged();
+    each_line_has_one_outcome();
+}
+
+/// The reply to `ask` rests on a slice of what is held: the certificates of the roots, of whatever a member certified
+/// with a depth of at least 1, and of the target, with the verdicts on their signatures. Two states that hold the same
+/// there, and in which the asking view is the same, have the same reply, and the same answer.
+pub fn questions_rest_on_slices()
+    ensures replies { (rows : PolicyRows) → DoRepliesRestOnSlices rows }
+    ensures answers { (rows : PolicyRows) → DoAnswersRestOnSlices rows }
+{
+    answers_rest_on_slices();
+    edges_rest_on_trust();
+    records_agree();
+    record_is_lawful();
     judging();
     reached_states_are_judged();
     each_line_has_one_outcome();

@@ -7,6 +7,7 @@ ghost use Rattle.wot_keyring.specs.Import.{IsOneChange};
 ghost use Rattle.wot_script.specs.Replies.{is_short};
 ghost use Rattle.wot_script.specs.declared.command.Command.TheVariants as commands;
 ghost use Rattle.wot_cache.specs.State.{state_of};
+ghost use Rattle.wot_machine.specs.Asked.{AsksForNew};
 ghost use Rattle.wot_machine.specs.Both.{ends};
 ghost use Rattle.wot_machine.specs.Entry.{MayPutTo, loads};
 ghost use Rattle.wot_machine.specs.LineStep.{Loads};
@@ -41,6 +42,7 @@ pub fn load<D: Shelf, F: Fn(Ask) -> bool>(
     ensures turns { engine.new.turns ≡ engine.old.turns }
     ensures counted { IsOneChange engine.old.keyring engine.new.keyring }
     ensures standard { engine.new.keyring.limits ≡ standard_limits }
+    ensures asked { AsksForNew result (state_of engine.old) (state_of engine.new) policy.old policy.new }
     ensures judged { IsJudgedBy (rows_of policy.old) engine.new.keyring }
     ensures faithful { IsFaithful F.Fn policy.new }
     ensures rows { rows_of policy.new ≡ rows_of policy.old }
@@ -73,6 +75,7 @@ fn enter<F: Fn(Ask) -> bool>(
     ensures turns { engine.new.turns ≡ engine.old.turns }
     ensures counted { IsOneChange engine.old.keyring engine.new.keyring }
     ensures standard { engine.new.keyring.limits ≡ standard_limits }
+    ensures asked { AsksForNew result (state_of engine.old) (state_of engine.new) policy.old policy.new }
     ensures judged { IsJudgedBy (rows_of policy.old) engine.new.keyring }
     ensures faithful { IsFaithful F.Fn policy.new }
     ensures rows { rows_of policy.new ≡ rows_of policy.old }

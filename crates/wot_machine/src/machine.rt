@@ -1,3 +1,8 @@
+//! The machine between two lines, and what one line does: it is read as a command, the command is run over the engine
+//! and the shelf, its reply is printed, and the watch lines are told behind it.
+//!
+//! It stands on the functions of the commands beside it, one file each. What a command comes to is defined in
+//! `specs/Outcome.antt` and `specs/LineStep.antt`; a new command has its arm in `run`, `obey` or `act`.
 ghost use Rattle.std.specs.Prelude.{◌≡◌, ◌≤◌, ◌<◌, ◌+◌, ◌-◌, ◌^◌, [], ◌++◌};
 ghost use Rattle.std.specs.Prelude.{length, vec_items, vec_len, vec_capacity};
 ghost use Rattle.std.specs.Prelude.{Some, None, false, true, IfOk, IfSome, IsOk, OnOk, OnErr};
@@ -11,6 +16,7 @@ ghost use Rattle.wot_script.specs.Grammar.{command_of};
 ghost use Rattle.wot_script.specs.Spelling.{HasSpelling, IsWithin};
 ghost use Rattle.wot_script.specs.Replies.{HasWords, is_short, reply_text};
 ghost use Rattle.wot_cache.specs.State.{empty, state_of, StaysButMarks};
+ghost use Rattle.wot_machine.specs.Asked.{LineAsks};
 ghost use Rattle.wot_machine.specs.Lines.{heard, is_silent};
 ghost use Rattle.wot_machine.specs.Entry.{MayPut, entry_for, unused, use_of};
 ghost use Rattle.wot_machine.specs.LineStep.{Does};
@@ -21,7 +27,7 @@ ghost use Rattle.wot_machine.specs.Transcript.{octets_of};
 ghost use Rattle.wot_machine.specs.Machine.{kept, parts, PartsStay, StaysKept};
 ghost use Rattle.wot_machine.specs.Pacing.{is_pacing, settled};
 ghost use Rattle.wot_machine.specs.Fresh.{IsDump, OnDump, IsMadeAnew};
-ghost use Rattle.wot_machine.specs.Made.{LineMakes, Makes};
+ghost use Rattle.wot_machine.specs.Made.{LineMakes, Makes, TellingMakes, WatchesMake};
 ghost use Rattle.wot_script.specs.declared.reply.Reply.TheVariants as replies;
 ghost use Rattle.wot_machine.specs.Settled.{CountsDiffer, IsNoAmount};
 ghost use Rattle.wot_machine.specs.Served.{unserved};
@@ -147,6 +153,9 @@ impl Machine {
             self.old.made self.new.made }
         ensures counted { IsOneChange self.old.engine.keyring self.new.engine.keyring }
         ensures turned { self.new.engine.turns.count ≤ self.old.engine.turns.count + 1 }
+        // The policy is asked once for each sound signature that an import or a load adds, and in no other line.
+        ensures asked { LineAsks result (heard line.now) (state_of self.old.engine) (state_of self.new.engine)
+            policy.old policy.new }
         ensures judged { IsJudgedBy (rows_of policy.old) self.new.engine.keyring }
         ensures faithful { IsFaithful F.Fn policy.new }
         ensures rows { rows_of policy.new ≡ rows_of policy.old }
@@ -190,6 +199,8 @@ impl Machine {
             self.old.made self.new.made }
         ensures counted { IsOneChange self.old.engine.keyring self.new.engine.keyring }
         ensures turned { self.new.engine.turns.count ≤ self.old.engine.turns.count + 1 }
+        ensures asked { LineAsks result (heard line.now) (state_of self.old.engine) (state_of self.new.engine)
+            policy.old policy.new }
         ensures judged { IsJudgedBy (rows_of policy.old) self.new.engine.keyring }
         ensures faithful { IsFaithful F.Fn policy.new }
         ensures rows { rows_of policy.new ≡ rows_of policy.old }
@@ -253,6 +264,9 @@ impl Machine {
     pub fn tell(&mut self, out: &mut Vec<u8>) -> Result<(), Memory>
         ensures tells { OnOk result (TellsBehind (kept self.old) out.old.items (kept self.new) out.new.items) }
         ensures kept { OnErr result (StaysKept self.old self.new × (out.new.items ≡ out.old.items)) }
+        // Nothing is made where the amounts are known, or each watch makes what a question from its view makes.
+        ensures makes { TellingMakes result self.old.watches self.old.engine self.new.engine
+            self.old.made self.new.made }
         ensures stays { StaysButMarks self.old.engine self.new.engine }
         ensures never_less { self.old.made ≤ self.new.made }
     {
@@ -278,6 +292,8 @@ impl Machine {
     pub fn watch_lines(&mut self) -> Result<Vec<Reply>, Memory>
         ensures lines { IfOk result (λ lines. AreLines (state_of self.old.engine) self.old.watches lines.items) }
         ensures each { IfOk result (λ lines. AllByRecursion IsWatchLine lines.items) }
+        ensures makes { WatchesMake result self.old.watches self.old.engine self.new.engine
+            self.old.made self.new.made }
         ensures stays { StaysButMarks self.old.engine self.new.engine }
         ensures cursors { self.new.cursors ≡ self.old.cursors }
         ensures watches { self.new.watches ≡ self.old.watches }
@@ -427,6 +443,8 @@ fn answer<D: Shelf, F: Fn(Ask) -> bool>(
     ensures counted { IsOneChange engine.old.keyring engine.new.keyring }
     ensures turned { engine.new.turns.count ≤ engine.old.turns.count + 1 }
     ensures still { state_of engine.new ≡ state_of engine.old → engine.new.turns ≡ engine.old.turns }
+    ensures asked { LineAsks result (command_of line.now) (state_of engine.old) (state_of engine.new)
+        policy.old policy.new }
     ensures judged { IsJudgedBy (rows_of policy.old) engine.new.keyring }
     ensures faithful { IsFaithful F.Fn policy.new }
     ensures rows { rows_of policy.new ≡ rows_of policy.old }
@@ -474,6 +492,8 @@ fn act<D: Shelf, F: Fn(Ask) -> bool>(
     ensures counted { IsOneChange engine.old.keyring engine.new.keyring }
     ensures turned { engine.new.turns.count ≤ engine.old.turns.count + 1 }
     ensures still { state_of engine.new ≡ state_of engine.old → engine.new.turns ≡ engine.old.turns }
+    ensures asked { LineAsks result (Some command.now) (state_of engine.old) (state_of engine.new)
+        policy.old policy.new }
     ensures judged { IsJudgedBy (rows_of policy.old) engine.new.keyring }
     ensures faithful { IsFaithful F.Fn policy.new }
     ensures rows { rows_of policy.new ≡ rows_of policy.old }
@@ -524,6 +544,8 @@ fn obey<D: Shelf, F: Fn(Ask) -> bool>(
     ensures counted { IsOneChange engine.old.keyring engine.new.keyring }
     ensures turned { OnOk result
         (IsTurnedBy command.now engine.old.views engine.old.turns engine.new.views engine.new.turns) }
+    ensures asked { LineAsks result (Some command.now) (state_of engine.old) (state_of engine.new)
+        policy.old policy.new }
     ensures judged { IsJudgedBy (rows_of policy.old) engine.new.keyring }
     ensures faithful { IsFaithful F.Fn policy.new }
     ensures rows { rows_of policy.new ≡ rows_of policy.old }
@@ -563,6 +585,8 @@ fn run<F: Fn(Ask) -> bool>(
     ensures counted { IsOneChange engine.old.keyring engine.new.keyring }
     ensures turned { OnOk result
         (IsTurnedBy command.now engine.old.views engine.old.turns engine.new.views engine.new.turns) }
+    ensures asked { LineAsks result (Some command.now) (state_of engine.old) (state_of engine.new)
+        policy.old policy.new }
     ensures judged { IsJudgedBy (rows_of policy.old) engine.new.keyring }
     ensures faithful { IsFaithful F.Fn policy.new }
     ensures rows { rows_of policy.new ≡ rows_of policy.old }

@@ -7,6 +7,7 @@ ghost use Rattle.wot_cache.specs.Basis.{HasGrown, IsPresent, RestsOn};
 ghost use Rattle.wot_cache.specs.Marks.{IsRefreshed};
 ghost use Rattle.wot_cache.specs.State.{StaysButMarks, state_of};
 ghost use Rattle.wot_cache.specs.Views.{view_at};
+ghost use Rattle.wot_machine.specs.Made.{WatchMakes, WatchesMake};
 ghost use Rattle.wot_machine.specs.Settled.{AllSettled, AreOpen, AreSettled, IsSettled};
 ghost use Rattle.wot_machine.specs.Watching.{AreLines, BeginsWatch, HasAmount, IsLine, IsWatchLine};
 ghost use Rattle.wot_machine.specs.Watching.{OpensOver, Watching, told_all, told_by};
@@ -97,6 +98,7 @@ pub fn watch_lines(
     ensures settled { IfOk result (λ lines. lines.items ≡ [] → AllSettled engine.new basis.new watches.now) }
     ensures lines { IfOk result (λ lines. AreLines (state_of engine.old) watches.now lines.items) }
     ensures each { IfOk result (λ lines. AllByRecursion IsWatchLine lines.items) }
+    ensures makes { WatchesMake result watches.now engine.old engine.new steps.old.made steps.new.made }
     ensures stays { StaysButMarks engine.old engine.new }
     ensures never_less { steps.old.made ≤ steps.new.made }
 {
@@ -125,6 +127,7 @@ fn watch_line(
     ensures settled { IfOk result (λ line. line ≡ None → IsSettled engine.old basis.new watch.now) }
     ensures grown { HasGrown basis.old basis.new }
     ensures line { IfOk result (IsLine (state_of engine.old) name.now watch.now) }
+    ensures makes { WatchMakes result watch.now engine.old engine.new steps.old.made steps.new.made }
     ensures stays { StaysButMarks engine.old engine.new }
     ensures never_less { steps.old.made ≤ steps.new.made }
 {
@@ -167,6 +170,9 @@ fn amount_of(
     ensures grown { HasGrown basis.old basis.new }
     ensures amount { IfOk result
         (HasAmount (state_of engine.old) (view_at engine.old.views view.now) target.now wanted uid.now) }
+    ensures asked { 1 ≤ wanted →
+        IsRefreshed result view.now engine.old engine.new steps.old.made steps.new.made }
+    ensures unasked { wanted ≡ 0 → (engine.new ≡ engine.old) × (steps.new.made ≡ steps.old.made) }
     ensures stays { StaysButMarks engine.old engine.new }
     ensures never_less { steps.old.made ≤ steps.new.made }
 {

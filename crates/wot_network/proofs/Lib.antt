@@ -13,3 +13,4 @@ pub mod Places
 pub mod Lawful
 pub mod Looking
 pub mod Verdicts
+pub mod Certifying

@@ -4,3 +4,4 @@ pub mod Net
 pub mod Refreshing
 pub mod Local
 pub mod Roads
+pub mod Certified

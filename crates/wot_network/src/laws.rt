@@ -4,6 +4,7 @@ ghost use Rattle.wot_verdict.specs.Verdicts.{Entries};
 ghost use Rattle.wot_edge.specs.Record.{IsRecord};
 ghost use Rattle.wot_keyring.specs.Keyring.{Certificates, Keyring};
 ghost use Rattle.wot_keyring.specs.Later.{IsLater};
+ghost use Rattle.wot_network.specs.Certified.{RestsOnTrust};
 ghost use Rattle.wot_network.specs.Local.{IsLocal};
 ghost use Rattle.wot_network.specs.Net.{Marks, Net, Fits, signatures_in, stale_signatures};
 ghost use Rattle.wot_network.specs.Told.{AreOwn, TellsRows, record_of};
@@ -38,4 +39,10 @@ pub fn record_is_lawful()
 pub fn records_agree()
     ensures local { (certs : Certificates) (verdicts : Entries) (t : ℕ)
         → IsLocal certs verdicts t (record_of certs verdicts t) }
+{}
+
+/// An edge with a depth of at least 1 is into a certificate that its issuer certified so, by a certification that is
+/// found without a look at times, policy or revocations.
+pub fn edges_rest_on_trust()
+    ensures trust { (certs : Certificates) (verdicts : Entries) (t : ℕ) (u : List ℕ) → RestsOnTrust certs verdicts t u }
 {}

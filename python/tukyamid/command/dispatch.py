@@ -35,6 +35,9 @@ def _command(word: str) -> Run | None:
     if word in ("keyring", "status", "log"):
         from . import service
         return lambda words: service.run(word, words)
+    if word == "verify":
+        from ..verifying import command as verifying
+        return verifying.run
     if word == "doctor":
         from .. import doctor
         return doctor.run

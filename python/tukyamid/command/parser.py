@@ -77,16 +77,16 @@ def help_text() -> str:
 
 def parser() -> Parser:
     made = Parser(prog="tukyamid", description=HELP, epilog=EPILOG, add_help=False, allow_abbrev=False,
-                  formatter_class=_Help)
+                  formatter_class=Help)
     made.add_argument("question", nargs="?", help=argparse.SUPPRESS)
     made.add_argument("words", nargs="*", help=argparse.SUPPRESS)
-    _add_inputs(made)
+    add_inputs(made)
     _add_answers(made)
-    _add_programs(made)
+    add_programs(made)
     return made
 
 
-class _Help(argparse.RawDescriptionHelpFormatter):
+class Help(argparse.RawDescriptionHelpFormatter):
     """The help without argparse's own line of usage: the description has it."""
 
     def __init__(self, prog: str) -> None:
@@ -96,26 +96,21 @@ class _Help(argparse.RawDescriptionHelpFormatter):
         pass
 
 
-def _add_inputs(made: Parser) -> None:
+def add_inputs(made: Parser) -> None:
     group = made.add_argument_group("where certificates come from (by default the service's keyring)")
     group.add_argument("--keyring", action="append", default=[], metavar="FILE",
                        help="a keyring, binary or armored; - is standard input; may be given several times")
     group.add_argument("--directory", action="append", default=[], metavar="FOLDER", help="a certificate directory")
     group.add_argument("--gpg", action="store_true", help="gpg's own keyring, and its owner trust as roots")
     group.add_argument("--gpg-keyring", action="store_true", help="gpg's own keyring, without its owner trust")
-    group.add_argument("--root", action="append", default=[], metavar="KEY[:AMOUNT]", type=_typed(values.read_root),
+    group.add_argument("--root", action="append", default=[], metavar="KEY[:AMOUNT]", type=typed(values.read_root),
                        help="a trust root, of amount 120 unless another is given; by default gpg's with --gpg, the "
                             "directory's trust-root with --directory, and else that of sq")
 
 
 def _add_answers(made: Parser) -> None:
     group = made.add_argument_group("the question and its answer")
-    group.add_argument("--time", metavar="TIME", type=_typed(values.read_time),
-                       help="as of this time (UTC): 2024-01-31, 2024-01-31T12:00:00Z, or @SECONDS since 1970")
-    group.add_argument("--amount", metavar="N|partial|full|double", type=_typed(values.read_wanted), default=120,
-                       help="the wanted amount: partial is 40, full 120 (the default), double 240")
-    for word, amount in values.AMOUNTS.items():
-        group.add_argument(f"--{word}", dest="amount", action="store_const", const=amount, help=f"--amount {word}")
+    add_time_and_amount(group)
     group.add_argument("--email", action="store_true", help="USERID is an e-mail address, of any case")
     group.add_argument("--strict", action="store_true",
                        help="a key that gpg or Sequoia takes as expired isn't reached")
@@ -124,7 +119,17 @@ def _add_answers(made: Parser) -> None:
                        metavar="FORM")
 
 
-def _add_programs(made: Parser) -> None:
+def add_time_and_amount(group: argparse._ArgumentGroup) -> None:
+    """As of when, and how far."""
+    group.add_argument("--time", metavar="TIME", type=typed(values.read_time),
+                       help="as of this time (UTC): 2024-01-31, 2024-01-31T12:00:00Z, or @SECONDS since 1970")
+    group.add_argument("--amount", metavar="N|partial|full|double", type=typed(values.read_wanted), default=120,
+                       help="the wanted amount: partial is 40, full 120 (the default), double 240")
+    for word, amount in values.AMOUNTS.items():
+        group.add_argument(f"--{word}", dest="amount", action="store_const", const=amount, help=f"--amount {word}")
+
+
+def add_programs(made: Parser) -> None:
     group = made.add_argument_group("programs, and what is kept")
     group.add_argument("--no-service", action="store_true", help="start an engine for this question alone")
     group.add_argument("--cache", metavar="FOLDER", help="where verified keyrings are kept")
@@ -137,14 +142,14 @@ def _add_programs(made: Parser) -> None:
     group.add_argument("--help", "-h", action="store_true", help="print this help, and end")
 
 
-def _typed(read_word: Callable[[str], Any]) -> Callable[[str], Any]:
+def typed(read_word: Callable[[str], Any]) -> Callable[[str], Any]:
     """What reads an argument: a ValueError is said as it stands."""
-    def typed(text: str) -> Any:
+    def read(text: str) -> Any:
         try:
             return read_word(text)
         except ValueError as error:
             raise argparse.ArgumentTypeError(str(error)) from None
-    return typed
+    return read
 
 
 def _known_notation(name: str) -> NoReturn:

@@ -57,6 +57,11 @@ def read_root(text: str) -> tuple[str, int]:
     return read_key(key), _number(amount, MOST_AMOUNT, said) if colon else 120
 
 
+def read_threshold(text: str) -> int:
+    """How many are needed, at least one."""
+    return _number(text, MOST_WANTED, f"{text!r} is no threshold: write a number from 1 on")
+
+
 def read_user_id(text: str) -> bytes:
     return spelling.user_id(text)
 

@@ -135,6 +135,10 @@ class Finder(Protocol):
 class Database(Protocol):
     """Writes changes, and opens what reads them. One thread uses it at a time."""
 
+    @property
+    def name(self) -> str:
+        """Where it is, for people."""
+
     def apply(self, changes: Sequence[Change]) -> list[int]:
         """Commits these changes at once, and gives behind each the number of the last change so far: one that changes
         nothing takes no number. DatabaseFault where they can't be committed; then none of them is."""

@@ -6,13 +6,16 @@ from __future__ import annotations
 import asyncio
 import contextlib
 from collections import deque
-from collections.abc import Sequence
+from collections.abc import Awaitable, Callable, Sequence
 from pathlib import Path
+from typing import TypeVar
 
 from .framing import ReplyCutter
 
 _FAULT = b"fault shelf\n"
 _PIECE = 1 << 18
+_TRIES = 3
+_R = TypeVar("_R")
 
 
 class Directory:
@@ -27,6 +30,14 @@ class Directory:
 
     async def load(self, line: bytes) -> tuple[bytes, bytes | None]:
         """The reply to a line `load ..` by an engine that holds nothing, and the octets of the entry, or None."""
+        return await again(lambda: self._load(line))
+
+    async def store(self, line: bytes, octets: bytes) -> bytes:
+        """The reply to a line `store FPR` by an engine that holds this certificate."""
+        return await again(lambda: self._store(line, octets))
+
+    async def _load(self, line: bytes) -> tuple[bytes, bytes | None]:
+        await self._start()
         reply = await self._say(line)
         if not reply.startswith(b"ok"):
             return reply, None
@@ -36,8 +47,8 @@ class Directory:
         await self._say(b"drop " + fpr)
         return reply, bytes.fromhex(exported[7:-1].decode())
 
-    async def store(self, line: bytes, octets: bytes) -> bytes:
-        """The reply to a line `store FPR` by an engine that holds this certificate."""
+    async def _store(self, line: bytes, octets: bytes) -> bytes:
+        await self._start()
         reply = await self._say(b"import " + octets.hex().encode())
         if not reply.startswith(b"ok"):
             return reply
@@ -51,24 +62,28 @@ class Directory:
                 self._process.kill()
             await self._process.wait()
 
-    async def _say(self, line: bytes) -> bytes:
-        """The reply to a line. Where the engine ends, another one holds nothing, and the directory has failed."""
+    async def _start(self) -> None:
+        """Starts an engine that holds nothing, unless one runs."""
         if self._process is None or self._process.returncode is not None:
             self._cutter, self._replies = ReplyCutter(), deque()
             self._process = await asyncio.create_subprocess_exec(
                 *self._words, stdin=asyncio.subprocess.PIPE, stdout=asyncio.subprocess.PIPE, limit=_PIECE)
-        process = self._process
-        assert process.stdin is not None and process.stdout is not None
+
+    async def _say(self, line: bytes) -> bytes:
+        """The reply to a line; DirectoryFailed if the engine ends."""
+        assert self._process is not None
+        stdin, stdout = self._process.stdin, self._process.stdout
+        assert stdin is not None and stdout is not None
         try:
-            process.stdin.write(line + b"\n")
-            await process.stdin.drain()
+            stdin.write(line + b"\n")
+            await stdin.drain()
             while not self._replies:
-                octets = await process.stdout.read(_PIECE)
+                octets = await stdout.read(_PIECE)
                 if not octets:
                     raise ConnectionResetError
                 self._replies.extend(self._cutter.cut(octets))
             return self._replies.popleft()
-        except (ConnectionError, ValueError, IndexError):
+        except (ConnectionError, RuntimeError, ValueError, IndexError):  # A RuntimeError is uvloop's, of a closed pipe.
             await self.close()
             raise DirectoryFailed from None
 
@@ -77,3 +92,11 @@ class DirectoryFailed(Exception):
     """The engine that reads the directory has ended."""
 
     reply = _FAULT
+
+
+async def again(call: Callable[[], Awaitable[_R]]) -> _R:
+    """Does what an engine may end at, some times. Loading changes nothing yet, and storing twice is storing once."""
+    for _ in range(_TRIES - 1):
+        with contextlib.suppress(DirectoryFailed):
+            return await call()
+    return await call()

@@ -34,7 +34,6 @@ class Engine:
 
     def __init__(self, program: Sequence[str], journal: Journal, home: Home, point: Point) -> None:
         self.point = point
-        self.seats = 0
         self.waiting: deque[Sent] = deque()
         self.stuck: Change | None = None
         loop = asyncio.get_running_loop()
@@ -121,8 +120,8 @@ class Engine:
             try:
                 status = await self._run()
             except OSError as error:
-                self._fail(error)
-                status = error
+                status = f"{self._program[0]}: {error.strerror or error}"
+                self._fail(OSError(status))
             if self._closing.is_set():
                 return
             if self._is_rolled_back:

@@ -89,7 +89,7 @@ class Seats:
     def _open(self, engine: Engine, value: Value, is_shared: bool = True) -> Seat:
         seats = self._seats.setdefault(engine, [])
         if len(seats) >= VIEWS_OF_AN_ENGINE:
-            self._close(min((seat for seat in seats if not seat.pins), key=lambda seat: seat.used))
+            self._close(min((one for one in seats if not one.pins), key=lambda one: one.used))
         seat = Seat(engine, self.next_name(b"v"), value if is_shared else None, next(self._ticks))
         seats.append(seat)
         if is_shared:

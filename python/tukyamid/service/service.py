@@ -7,6 +7,7 @@ import os
 import signal
 from collections.abc import Sequence
 from dataclasses import dataclass
+from functools import partial
 from pathlib import Path
 
 from .answering import Answering
@@ -14,7 +15,7 @@ from .directory import Directory
 from .hub import Hub
 from .keyrings import Keyrings
 from .session import Rights, Session
-from .sockets import Listening, Passed, notify
+from .sockets import BACKLOG, Listening, Passed, notify
 
 _PATIENCE_AT_THE_END = 30
 
@@ -58,8 +59,8 @@ class Service:
             await self._hub.start()
             for door in doors:
                 door.listening.open()
-            servers = [await loop.create_unix_server(self._factory(door), sock=door.listening.socket, backlog=1024)
-                       for door in doors]
+            servers = [await loop.create_unix_server(partial(self._new_session, self._rights(door)),
+                                                     sock=door.listening.socket, backlog=BACKLOG) for door in doors]
             notify("READY=1")
             self._last_used = loop.time()
             beside = [loop.create_task(self._look_around()), loop.create_task(self._keyrings.watch())]
@@ -74,12 +75,12 @@ class Service:
             await self._directory.close()
             await self._hub.close()
 
-    def _factory(self, door: Door) -> "_Factory":
-        return _Factory(self, Rights(door.may_change, self._settings.most_views))
-
-    def new_session(self, rights: Rights) -> Session:
+    def _new_session(self, rights: Rights) -> Session:
         self._count += 1
         return Session(self._count, self._hub, self._answering, rights, self._opened)
+
+    def _rights(self, door: Door) -> Rights:
+        return Rights(door.may_change, self._settings.most_views)
 
     def _opened(self, session: Session) -> None:
         self._sessions.add(session)
@@ -129,18 +130,7 @@ class Service:
         pids = [engine.pid for engine in self._hub.engines if engine.pid is not None]
         return [("engines", len(pids)), ("memory", sum(map(_resident, [os.getpid(), *pids]))),
                 ("clients", len(self._sessions)), ("process", os.getpid()),
-                ("database", getattr(self._hub.database, "path", "")), ("state", self._hub.fault or "ok")]
-
-
-class _Factory:
-    """Makes the session of each client of a socket."""
-
-    def __init__(self, service: Service, rights: Rights) -> None:
-        self._service = service
-        self._rights = rights
-
-    def __call__(self) -> Session:
-        return self._service.new_session(self._rights)
+                ("database", self._hub.database.name), ("state", self._hub.fault or "ok")]
 
 
 def _resident(pid: int) -> int:

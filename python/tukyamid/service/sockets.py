@@ -10,7 +10,7 @@ from pathlib import Path
 from .places import Lock, Taken, beside
 
 _FIRST_PASSED = 3
-_BACKLOG = 1024
+BACKLOG = 1024
 READ_ONLY = "read-only"
 
 
@@ -40,7 +40,7 @@ class Listening:
         found = self._path.stat()
         self._identity = found.st_dev, found.st_ino
         os.chmod(self._path, self._mode)
-        self.socket.listen(_BACKLOG)
+        self.socket.listen(BACKLOG)
 
     def remove(self) -> None:
         """Takes the file away, so that nobody new connects; if it is still this socket's."""

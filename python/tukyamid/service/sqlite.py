@@ -57,6 +57,10 @@ class Sqlite:
         except OSError as error:
             raise DatabaseFault(f"{error.filename or path}: {error.strerror or error}") from None
 
+    @property
+    def name(self) -> str:
+        return str(self.path)
+
     def _open(self, is_made: bool) -> sqlite3.Connection:
         if is_made:
             self.path.parent.mkdir(mode=0o700, parents=True, exist_ok=True)

@@ -7,6 +7,7 @@ import os
 import pwd
 import re
 import shlex
+import shutil
 import signal
 import subprocess
 import sys
@@ -28,16 +29,15 @@ def of_the_host():
     for folder in Path("/var/lib/tukyamid"), Path("/run/tukyamid"):
         folder.mkdir(exist_ok=True)
         os.chown(folder, place.pw_uid, place.pw_gid)
-    environment = {"PATH": "/usr/bin:/bin", "HOME": "/var/lib/tukyamid", "STATE_DIRECTORY": "/var/lib/tukyamid",
-                   "RUNTIME_DIRECTORY": "/run/tukyamid"}
-    words = [re.sub(r"%S|\$\{STATE_DIRECTORY\}", "/var/lib", word).replace("%t", "/run") for word in words]
+    environment = {"PATH": "/usr/bin:/bin", "HOME": "/var/lib/tukyamid"}
+    words = [word.replace("%S", "/var/lib") for word in words]
     return words, {"user": place.pw_uid, "group": place.pw_gid, "extra_groups": [], "env": environment}
 
 
 def main():
     is_host = sys.argv[1:] == ["host"]
     socket = Path("/run/tukyamid/by-hand") if is_host else Path(os.environ["XDG_RUNTIME_DIR"]) / "by-hand"
-    words, settings = of_the_host() if is_host else (["/usr/bin/tukyamid-server"], {})
+    words, settings = of_the_host() if is_host else (["/usr/bin/tukyamid-server", "serve"], {})
     with subprocess.Popen([*words, "--socket", str(socket)], **settings) as service:
         for _ in range(600):
             if socket.exists():
@@ -50,6 +50,8 @@ def main():
             print("amount", client.ask("me", CAROL, 120, "Carol <carol@example.org>").amount)
         service.send_signal(signal.SIGTERM)
         print("status", service.wait(60))
+    if is_host:
+        shutil.rmtree(socket.parent)  # systemd makes and removes it for the units' sockets.
 
 
 main()

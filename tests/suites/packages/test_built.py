@@ -58,7 +58,9 @@ class Built(unittest.TestCase):
                                  "usr/share/bash-completion/completions/tukyamid",
                                  "usr/share/zsh/vendor-completions/_tukyamid"],
             "tukyamid-server": ["usr/bin/tukyamid-server", "usr/share/man/man1/tukyamid-server.1.gz",
-                                "usr/lib/sysusers.d/tukyamid-server.conf"],
+                                "usr/lib/sysusers.d/tukyamid-server.conf", "lib/systemd/system/tukyamid.service",
+                                "lib/systemd/system/tukyamid.socket", "usr/lib/systemd/user/tukyamid.service",
+                                "usr/lib/systemd/user/tukyamid.socket"],
         }
         if building.HAS_VERIFIER:
             expected["tukyamid-verifier"] = ["usr/bin/wot-verdicts", "usr/share/man/man1/wot-verdicts.1.gz"]
@@ -76,7 +78,8 @@ class Built(unittest.TestCase):
         self.assertEqual(said, (examples / "quickstart.expected").read_bytes())
         named = json.loads((place / "usr/share/tukyamid/build.json").read_text())
         self.assertEqual(named["version"], VERSION)
-        self.assertEqual(named["commit"].removesuffix("-dirty"), output("git", "rev-parse", "HEAD", cwd=plain.ROOT).strip())
+        self.assertEqual(named["commit"].removesuffix("-dirty"),
+                         output("git", "rev-parse", "HEAD", cwd=plain.ROOT).strip())
         self.assertEqual(named["toolchain"], building.TOOLCHAIN)
         self.assertEqual(named["tukyamid-engine sha256"], hashlib.sha256(engine.read_bytes()).hexdigest())
 
@@ -94,7 +97,8 @@ class Built(unittest.TestCase):
                 warnings = [line for line in done.stderr.decode().splitlines() if "can't break line" not in line
                             and "cannot adjust line" not in line]
                 self.assertEqual((done.returncode, warnings), (0, []))
-                self.assertRegex(done.stdout.decode(), r"NAME\W")
+                self.assertRegex(subprocess.run(["zcat", page], capture_output=True, check=True).stdout,
+                                 rb"(?m)^\.SH\s+NAME$")
 
     def test_the_bill_of_materials(self):
         bill = json.loads((building.both()[0] / f"tukyamid_{VERSION}.spdx.json").read_text())
@@ -142,8 +146,10 @@ class Completion(unittest.TestCase):
         return said.split()
 
     def test_bash(self):
-        self.assertEqual(self.bash("tukyamid", "auth"), ["authenticate"])
+        for word in "authenticate", "explain", "status":
+            self.assertEqual(self.bash("tukyamid", word[:4]), [word])
         self.assertEqual(self.bash("tukyamid", "--key"), ["--keyring"])
+        self.assertEqual(self.bash("tukyamid", "lookup", "--ema"), ["--email"])
         self.assertEqual(sorted(self.bash("tukyamid", "--format", "")), ["colons", "dot", "html", "json", "tree"])
 
     def test_zsh(self):
@@ -151,9 +157,9 @@ class Completion(unittest.TestCase):
             self.skipTest("zsh isn't installed")
         file = building.unpacked("python3-tukyamid") / "usr/share/zsh/vendor-completions/_tukyamid"
         subprocess.run(["zsh", "-n", file], check=True)
-        said = output("zsh", "-f", building.__file__.replace("building.py", "complete.zsh"), file.parent,
+        said = output("zsh", "-f", building.__file__.replace("building.py", "complete.zsh"), file.parent, timeout=120,
                       env={**os.environ, "TERM": "dumb"})
-        for word in "authenticate", "explain", "lookup":
+        for word in "authenticate", "identify", "lookup", "keyring":
             self.assertIn(word, said)
 
 
@@ -163,9 +169,10 @@ class Refusals(unittest.TestCase):
     def test_an_engine_that_is_not_there(self):
         if not building.installed(building.needed()):
             self.skipTest("packages are missing")
-        done = building.package(building.folder() / "none", "--engine", "/nowhere", "--without-verifier")
-        self.assertEqual((done.returncode, done.stdout), (69, ""))
-        self.assertIn("/nowhere", done.stderr)
+        for engine in building.folder(), building.folder() / "nothing":
+            done = building.package(building.folder() / "none", "--engine", engine, "--without-verifier")
+            self.assertEqual((done.returncode, done.stdout), (69, ""))
+            self.assertIn(f"{engine} isn't a program", done.stderr)
 
     def test_an_engine_older_than_its_sources(self):
         if not building.installed(building.needed()):

@@ -14,13 +14,13 @@ step() {
 }
 
 user() {
-    setpriv --reuid=1000 --regid=1000 --clear-groups \
+    timeout 600 setpriv --reuid=1000 --regid=1000 --clear-groups \
         env -i HOME=/home/user USER=user PATH=/usr/bin:/bin LC_ALL=C.UTF-8 XDG_RUNTIME_DIR=/run/user/1000 "$@"
 }
 
 files() {
-    find / -xdev \( -path /proc -o -path /sys -o -path /dev -o -path /results -o -path /packages -o -path /tmp \) -prune \
-        -o \( -name '*tukyamid*' -o -name '*wot-verdicts*' \) -print | sort
+    find / -xdev \( -path /proc -o -path /sys -o -path /dev -o -path /results -o -path /packages -o -path /tmp \) \
+        -prune -o \( -name '*tukyamid*' -o -name '*wot-verdicts*' \) -print | sort
 }
 
 
@@ -37,18 +37,23 @@ cd /usr/share/doc/tukyamid/examples && tukyamid-engine run < quickstart.wot | cm
 END
 )"
 if command -v wot-verdicts > /dev/null; then
-    set -- --keyring /usr/share/keyrings/debian-keyring.gpg --root CEBB52301D617E910390FE16587979573442684E \
-        --time 2024-01-01
-    who='Adam Borowski <kilobyte@angband.pl>'
-    key=FD9CE2D8D7754B78AB279BBD2C3B436FEAC68101
-    step answer user tukyamid "$@" authenticate "$key" "$who"
-    step again user tukyamid "$@" authenticate "$key" "$who"
-    step page user tukyamid "$@" --format html authenticate "$key" "$who"
+    step keyring user sh /packages/keyring
+    step answer user sh /packages/answer
+    step page user sh /packages/answer --format html
+    step end user /usr/bin/python3 -c "$(cat << 'END'
+import os, signal, time
+from tukyamid import connect
+process = int(connect("/run/user/1000/tukyamid.socket").status()["process"])
+os.kill(process, signal.SIGTERM)
+while os.path.exists(f"/proc/{process}"):
+    time.sleep(0.1)
+END
+)"
 fi
 step service user /usr/bin/python3 /packages/by_hand.py
 step host /usr/bin/python3 /packages/by_hand.py host
 step remove apt-get remove -y '*tukyamid*'
-step purge apt-get purge -y --autoremove '*tukyamid*'
+step purge apt-get purge -y '*tukyamid*'
 files > /results/left
 grep tukyamid /etc/passwd >> /results/left
 dpkg -l '*tukyamid*' 2> /dev/null | grep '^[^dunp|+]' >> /results/left

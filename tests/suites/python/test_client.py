@@ -1,5 +1,5 @@
-"""The client of a service, plain and asynchronous, and the engine's asynchronous client: the tests of `test_engine` over
-each, what their ends are, and what only the asynchronous one has."""
+"""The client of a service, plain and asynchronous, and the engine's asynchronous client: the tests of `test_engine`
+over each, what their ends are, and what only the asynchronous one has."""
 
 import asyncio
 import inspect
@@ -76,7 +76,7 @@ class OnlyAService(unittest.TestCase):
 
     def test_each_reply_is_its_type(self):
         for client in self.clients:
-            self.assertEqual(client.status(), {"certificates": "3", "database": "/tmp/a\\b c"})
+            self.assertEqual(client.status(), {"certificates": "3", "verdicts": "5", "database": "/tmp/a\\b c"})
             self.assertEqual(list(client.find("address", "a@b")), [Found(A, b"Alice"), Found(B, b"B\\ob \n")])
             self.assertEqual(list(client.find("user-id", b"Alice")), [])
             self.assertEqual(client.find("part", "\\\u00eb").count, 0)

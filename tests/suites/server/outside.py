@@ -26,7 +26,10 @@ PATIENCE = 300  # Of a test that waits for what must come; machines may be slow.
 needs_engine = unittest.skipUnless(os.access(PROGRAM, os.X_OK), f"the engine isn't built: {PROGRAM}")
 
 
-def alone(lines, directory="/nowhere"):
+NO_DIRECTORY = "/dev/null/none"  # Nothing can be made there, so a stray line `store` writes nothing.
+
+
+def alone(lines, directory=NO_DIRECTORY):
     """The replies of the program alone to these lines, one for each that has a reply. They are cut by the Python
     client's framing, not by the server's."""
     script = b"".join(line + b"\n" for line in lines)

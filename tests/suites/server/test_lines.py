@@ -175,7 +175,8 @@ class Watched(Lines):
         for text in (b"no keyring", b"\x99\0", b"\0" * 8 + b"KBXf" + b"\0" * 20):
             self.file.write_bytes(text)
             self.assertRegex(self.add(self.name), b"^fault keyring ")
-        self.assertRegex(self.add(b"/nowhere"), b"^fault keyring /nowhere: No such file")
+        missing = os.fsencode(self.folder / "missing")
+        self.assertRegex(self.add(missing), b"^fault keyring %s: No such file" % missing)
         self.assertEqual(self.status()[b"keyrings"], b"0")
 
     def test_a_fault_that_comes_later(self):

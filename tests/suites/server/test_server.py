@@ -106,7 +106,7 @@ class Words(unittest.TestCase):
                       ["--mode", "10000", "--socket", "s"], ["--mode", "-1", "--socket", "s"], ["backup"]):
             self.assertEqual(self.run_server(*words)[0], 2, words)
         (self.folder / "text").write_bytes(b"no database" * 100)
-        for words in (["--engine", "/nowhere"], ["--engine", "/bin/false"],
+        for words in (["--engine", "./missing"], ["--engine", "/bin/false"],
                       ["--engine", PROGRAM, "--database", "text"], ["--engine", PROGRAM, "--database", "."]):
             status, said = self.run_server("--database", "k.db", "--socket", "s", *words)
             self.assertEqual(status, 1, words)

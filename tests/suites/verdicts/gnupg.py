@@ -23,10 +23,10 @@ def make_home(name):
     return home
 
 
-def gpg(home, *words, given=None, status=0):
-    """Runs gpg at the time of the tests, and gives what it writes."""
+def gpg(home, *words, given=None, status=0, at=NOW):
+    """Runs gpg at a time, and gives what it writes."""
     common = ["--batch", "--yes", "--no-tty", "--passphrase", "", "--pinentry-mode", "loopback",
-              "--faked-system-time", f"{NOW}!", "--trust-model", "always", "--no-auto-check-trustdb"]
+              "--faked-system-time", f"{at}!", "--trust-model", "always", "--no-auto-check-trustdb"]
     if given is not None:
         common.remove("--batch")
         common += ["--command-fd", "0"]

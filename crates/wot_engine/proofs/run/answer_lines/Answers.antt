@@ -1,22 +1,25 @@
-use Rattle.std.proofs.Common.{◌≡◌, ◌^◌, ◌<◌, inl, inr, ℕ, ◌++◌, List, Option, Ok, refl, sym, arith, subst, ◌∙◌}
+use Rattle.std.proofs.Common.{rules, ◌≡◌, ◌≢◌, ◌^◌, ◌<◌, inl, inr, ℕ, ◌++◌, List, Option, Ok, refl, sym, arith, subst, ◌∙◌}
 use Rattle.std.specs.Prelude.{IfSome}
 use Rattle.wot_io.specs.Counts.{Rose}
 use Rattle.wot_io.specs.Input.{lines_of}
 use Rattle.wot_io.specs.Sink.{Becomes, GainsPrefix}
-use Rattle.wot_io.specs.declared.lines.Line.TheVariants.{Long, Text}
+use Rattle.wot_io.specs.declared.lines.Line.TheVariants.{End, Long, Text}
 use Rattle.wot_policy.specs.declared.rows.PolicyRows.{PolicyRows}
 use Rattle.wot_policy.specs.Kept.{rows_of}
 use Rattle.wot_keyring.specs.Kept.{IsJudgedBy}
 use Rattle.wot_certd.specs.World.{World}
+use Rattle.wot_machine.specs.Entry.{MayPut}
 use Rattle.wot_machine.specs.Machine.{kept}
 use Rattle.wot_machine.specs.Transcript.{AllTold, Begun}
 use Rattle.wot_machine.proofs.Giving.{told_always}
+use Rattle.wot_engine.specs.Ended.{Reached}
+use Rattle.wot_engine.specs.Turn.{use_by}
 use Rattle.wot_engine.specs.declared.run.Stop.TheVariants.{Memory, Read, TooMuch, Write}
-use Rattle.wot_engine.proofs.Held.{Held, Held-begun, Held-cut, Held-first, Held-most, Held-moves, Held-none, Held-reply, Held-written, nothing_held}
+use Rattle.wot_engine.proofs.Held.{Held, Held-begun, Held-cut, Held-first, Held-most, Held-moves, Held-none, Held-reached, Held-reached_cut, Held-reached_next, Held-reply, Held-written, nothing_held}
 use Rattle.wot_engine.proofs.Stops.{never, never_ok, on_err, rose_on, stopped}
-use Rattle.wot_engine.proofs.Turns.{Answered-end, Answered-stop, AllTold-weaker, Begun-here, Left-end, Most-end, Most-stop, Stood}
+use Rattle.wot_engine.proofs.Turns.{Answered-end, Answered-stop, AllTold-weaker, Begun-here, First-reached, Left-end, Most-end, Most-stop, Stood}
 use Rattle.wot_engine.proofs.Replying.{answered, not_end, holds, no_fault, within, counted, turned, judged}
-use Rattle.wot_engine.proofs.Taking.{has_most, took_none, took_nothing, took_both, takes_at_most, takes_more}
+use Rattle.wot_engine.proofs.Taking.{ends_at, has_most, took_none, took_nothing, took_both, takes_at_most, takes_more, takes_most}
 use Rattle.wot_engine.proofs.run.answer_lines.Goals.{After-next}
 use Rattle.wot_engine.proofs.run.answer_lines.Goals as goal
 
@@ -40,6 +43,11 @@ begun : (g : _) (c : After-next g)
     → AllTold (g.S.Source.left c.args.input.now) (g.K.Sink.written c.args.output.now) (g.D.Shelf.world c.args.shelf.now) (λ input before world. Begun (rows_of c.args.policy.now) world (lines_of input) before (g.K.Sink.written c.flush.new.output))
 begun g c =
     Held-begun (rows_of c.args.policy.now) c.lines.invariant.law (g.S.Source.left c.args.input.now) (g.K.Sink.written c.args.output.now) (g.D.Shelf.world c.args.shelf.now) c.lines.lines.held c.lines.lines.taken (g.S.Source.left c.lines.input) (g.K.Sink.written c.flush.new.output) c.flush.new.out.items (g.D.Shelf.world c.lines.shelf) (kept c.lines.machine) (flushed g c)
+
+reached : (g : _) (c : After-next g)
+    → AllTold (g.S.Source.left c.args.input.now) (g.K.Sink.written c.args.output.now) (g.D.Shelf.world c.args.shelf.now) (λ input before world. Reached (rows_of c.args.policy.now) world (lines_of input) before (g.K.Sink.written c.flush.new.output) (g.D.Shelf.world c.args.shelf.now) (g.D.Shelf.world c.lines.shelf))
+reached g c =
+    Held-reached (rows_of c.args.policy.now) (g.S.Source.left c.args.input.now) (g.K.Sink.written c.args.output.now) (g.D.Shelf.world c.args.shelf.now) c.lines.lines.held c.lines.lines.taken (g.S.Source.left c.lines.input) (g.K.Sink.written c.flush.new.output) c.flush.new.out.items (g.D.Shelf.world c.lines.shelf) (kept c.lines.machine) (flushed g c)
 
 -- ---- a write failed
 
@@ -95,7 +103,52 @@ returns-in_err-flush-clause-faithful g c = c.lines.invariant.faithful
 pub returns-in_err-flush-clause-rows : goal.returns-in_err-flush-clause-rows
 returns-in_err-flush-clause-rows g c = c.lines.invariant.rows
 
+pub returns-in_err-flush-clause-reached : goal.returns-in_err-flush-clause-reached
+returns-in_err-flush-clause-reached g c =
+    Held-reached_cut (rows_of c.args.policy.now) (g.S.Source.left c.args.input.now) (g.K.Sink.written c.args.output.now) (g.D.Shelf.world c.args.shelf.now) c.lines.lines.held c.lines.lines.taken (g.S.Source.left c.lines.input) (g.K.Sink.written c.lines.output) c.lines.out.items (g.D.Shelf.world c.lines.shelf) (kept c.lines.machine) (g.K.Sink.written c.flush.new.output) c.lines.invariant.held c.in_err-flush.ensures.cut
+
+pub returns-in_err-flush-clause-ended : goal.returns-in_err-flush-clause-ended
+returns-in_err-flush-clause-ended g c =
+    on_err c.from_residual.result Write _ (stopped c.from_residual.result Write c.from_residual.ensures.1)
+
+pub returns-in_err-flush-clause-took : goal.returns-in_err-flush-clause-took
+returns-in_err-flush-clause-took g c e =
+    absurd (never c.from_residual.result Write TooMuch (stopped c.from_residual.result Write c.from_residual.ensures.1) tt e)
+
 -- ---- no line is given
+
+pub returns-in-Ok-End-clause-reached : goal.returns-in-Ok-End-clause-reached
+returns-in-Ok-End-clause-reached g c = reached g (goal.at.returns-in-Ok-End-clause-reached g c).After-next
+
+pub returns-in-Ok-End-clause-ended : goal.returns-in-Ok-End-clause-ended
+returns-in-Ok-End-clause-ended g c =
+    ends_at (g.S.Source.left c.args.input.now) (g.S.Source.left c.lines.input) (g.S.Source.left c.next.new.from) c.lines.lines.taken c.lines.lines c.next.new.self
+    c.lines.invariant.took (rw c.in-Ok-End.field-0-is at c.in-Ok-End.ensures.ok)
+
+pub returns-in-Ok-End-clause-took : goal.returns-in-Ok-End-clause-took
+returns-in-Ok-End-clause-took g c e = absurd (never_ok _ tt TooMuch refl e)
+
+pub returns-in-Err-ReadFault-clause-reached : goal.returns-in-Err-ReadFault-clause-reached
+returns-in-Err-ReadFault-clause-reached g c = reached g (goal.at.returns-in-Err-ReadFault-clause-reached g c).After-next
+
+pub returns-in-Err-ReadFault-clause-ended : goal.returns-in-Err-ReadFault-clause-ended
+returns-in-Err-ReadFault-clause-ended g c = tt
+
+pub returns-in-Err-ReadFault-clause-took : goal.returns-in-Err-ReadFault-clause-took
+returns-in-Err-ReadFault-clause-took g c e = absurd (never _ Read TooMuch refl tt e)
+
+pub returns-in-Err-TooMuch-clause-reached : goal.returns-in-Err-TooMuch-clause-reached
+returns-in-Err-TooMuch-clause-reached g c = reached g (goal.at.returns-in-Err-TooMuch-clause-reached g c).After-next
+
+pub returns-in-Err-TooMuch-clause-ended : goal.returns-in-Err-TooMuch-clause-ended
+returns-in-Err-TooMuch-clause-ended g c = tt
+
+pub returns-in-Err-TooMuch-clause-took : goal.returns-in-Err-TooMuch-clause-took
+returns-in-Err-TooMuch-clause-took g c e =
+    let n : c.next.new.self.taken ≡ 2 ^ 30 = (rw c.in-Err-TooMuch.field-0-is at c.in-Err-TooMuch.ensures.too_much) c.lines.invariant.no_fault refl in
+    takes_most (g.S.Source.left c.args.input.now) (g.S.Source.left c.next.new.from) c.next.new.self.taken
+    (took_both (g.S.Source.left c.args.input.now) (g.S.Source.left c.lines.input) (g.S.Source.left c.next.new.from) 0 c.lines.lines.taken
+    c.next.new.self.taken c.lines.invariant.took c.next.ensures.took) n
 
 pub returns-in-Ok-End-clause-whole : goal.returns-in-Ok-End-clause-whole
 returns-in-Ok-End-clause-whole g c =
@@ -385,9 +438,48 @@ returns-in_default-clause-at_most g c =
 
 pub returns-in_default-clause-first : goal.returns-in_default-clause-first
 returns-in_default-clause-first g c e =
-    Held-first (rows_of c.args.policy.now) (g.S.Source.left c.args.input.now) (g.K.Sink.written c.args.output.now) (g.D.Shelf.world c.args.shelf.now) c.lines.lines.held c.lines.lines.taken (g.S.Source.left c.lines.input) (g.K.Sink.written c.flush.new.output) c.flush.new.out.items (g.D.Shelf.world c.lines.shelf) (kept c.lines.machine) (g.K.Sink.written c.write_all.new.to)
+    let some : c.in-Ok.line ≢ End = search rules in
+    let m : MayPut (kept c.lines.machine).state (use_by c.in-Ok.line c.next.new.self.text) (g.D.Shelf.world c.lines.shelf) (g.D.Shelf.world c.reply_to.new.shelf) =
+    subst (λ (x : List ℕ). MayPut (kept c.lines.machine).state (use_by c.in-Ok.line x) (g.D.Shelf.world c.lines.shelf) (g.D.Shelf.world c.reply_to.new.shelf)) c.text.ensures c.in_default.ensures.entries in
+    Held-first (rows_of c.args.policy.now) (g.S.Source.left c.args.input.now) (g.K.Sink.written c.args.output.now) (g.D.Shelf.world c.args.shelf.now) c.lines.lines (g.S.Source.left c.lines.input) (g.K.Sink.written c.flush.new.output) c.flush.new.out.items (g.D.Shelf.world c.lines.shelf) (kept c.lines.machine) (g.K.Sink.written c.write_all.new.to) c.next.new.self (g.S.Source.left c.next.new.from) (g.D.Shelf.world c.reply_to.new.shelf) c.in-Ok.line
     (flushed g (goal.at.returns-in_default-clause-first g c).After-next)
     (subst (λ (x : List ℕ). Becomes (g.K.Sink.written c.flush.new.output) (λ old. old ++ x) (g.K.Sink.written c.write_all.new.to)) (c.deref.ensures.value ∙ c.in_default.ensures.kept) c.in_ok-write_all.ensures.ok)
+    c.in-Ok.ensures.ok some m c.in-Ok.ensures.near
+
+pub returns-in_default-clause-reached : goal.returns-in_default-clause-reached
+returns-in_default-clause-reached g c =
+    let some : c.in-Ok.line ≢ End = search rules in
+    let m : MayPut (kept c.lines.machine).state (use_by c.in-Ok.line c.next.new.self.text) (g.D.Shelf.world c.lines.shelf) (g.D.Shelf.world c.reply_to.new.shelf) =
+    subst (λ (x : List ℕ). MayPut (kept c.lines.machine).state (use_by c.in-Ok.line x) (g.D.Shelf.world c.lines.shelf) (g.D.Shelf.world c.reply_to.new.shelf)) c.text.ensures c.in_default.ensures.entries in
+    First-reached (rows_of c.args.policy.now) (g.S.Source.left c.args.input.now) (g.K.Sink.written c.args.output.now) (g.D.Shelf.world c.args.shelf.now) (g.S.Source.left c.next.new.from) (g.K.Sink.written c.write_all.new.to) (g.D.Shelf.world c.reply_to.new.shelf)
+    (Held-first (rows_of c.args.policy.now) (g.S.Source.left c.args.input.now) (g.K.Sink.written c.args.output.now) (g.D.Shelf.world c.args.shelf.now) c.lines.lines (g.S.Source.left c.lines.input) (g.K.Sink.written c.flush.new.output) c.flush.new.out.items (g.D.Shelf.world c.lines.shelf) (kept c.lines.machine) (g.K.Sink.written c.write_all.new.to) c.next.new.self (g.S.Source.left c.next.new.from) (g.D.Shelf.world c.reply_to.new.shelf) c.in-Ok.line
+    (flushed g (goal.at.returns-in_default-clause-reached g c).After-next)
+    (subst (λ (x : List ℕ). Becomes (g.K.Sink.written c.flush.new.output) (λ old. old ++ x) (g.K.Sink.written c.write_all.new.to)) (c.deref.ensures.value ∙ c.in_default.ensures.kept) c.in_ok-write_all.ensures.ok)
+    c.in-Ok.ensures.ok some m c.in-Ok.ensures.near)
+
+pub returns-in_default-clause-ended : goal.returns-in_default-clause-ended
+returns-in_default-clause-ended g c = tt
+
+pub returns-in_default-clause-took : goal.returns-in_default-clause-took
+returns-in_default-clause-took g c e = absurd (never _ Memory TooMuch refl tt e)
+
+pub returns-in_err-write_all-clause-reached : goal.returns-in_err-write_all-clause-reached
+returns-in_err-write_all-clause-reached g c =
+    let some : c.in-Ok.line ≢ End = search rules in
+    let m : MayPut (kept c.lines.machine).state (use_by c.in-Ok.line c.next.new.self.text) (g.D.Shelf.world c.lines.shelf) (g.D.Shelf.world c.reply_to.new.shelf) =
+    subst (λ (x : List ℕ). MayPut (kept c.lines.machine).state (use_by c.in-Ok.line x) (g.D.Shelf.world c.lines.shelf) (g.D.Shelf.world c.reply_to.new.shelf)) c.text.ensures c.in_default.ensures.entries in
+    Held-reached_next (rows_of c.args.policy.now) (g.S.Source.left c.args.input.now) (g.K.Sink.written c.args.output.now) (g.D.Shelf.world c.args.shelf.now) c.lines.lines (g.S.Source.left c.lines.input) (g.K.Sink.written c.flush.new.output) c.flush.new.out.items (g.D.Shelf.world c.lines.shelf) (kept c.lines.machine) (g.K.Sink.written c.write_all.new.to) c.next.new.self (g.S.Source.left c.next.new.from) (g.D.Shelf.world c.reply_to.new.shelf) c.in-Ok.line
+    (flushed g (goal.at.returns-in_err-write_all-clause-reached g c).After-next)
+    (subst (λ (x : List ℕ). IfSome (g.K.Sink.written c.flush.new.output) (λ old. GainsPrefix old (g.K.Sink.written c.write_all.new.to) x)) (c.deref.ensures.value ∙ c.in_default.ensures.kept) c.in_err-write_all.ensures.err)
+    c.in-Ok.ensures.ok some m
+
+pub returns-in_err-write_all-clause-ended : goal.returns-in_err-write_all-clause-ended
+returns-in_err-write_all-clause-ended g c =
+    on_err c.from_residual-in_err-write_all.result Write _ (stopped c.from_residual-in_err-write_all.result Write c.from_residual-in_err-write_all.ensures.1)
+
+pub returns-in_err-write_all-clause-took : goal.returns-in_err-write_all-clause-took
+returns-in_err-write_all-clause-took g c e =
+    absurd (never c.from_residual-in_err-write_all.result Write TooMuch (stopped c.from_residual-in_err-write_all.result Write c.from_residual-in_err-write_all.ensures.1) tt e)
 
 pub returns-in_default-clause-faithful : goal.returns-in_default-clause-faithful
 returns-in_default-clause-faithful g c = c.reply_to.ensures.faithful

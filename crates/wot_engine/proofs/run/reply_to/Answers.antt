@@ -7,7 +7,9 @@ use Rattle.wot_machine.specs.Machine.{kept}
 use Rattle.wot_machine.specs.Stepped.{TellsBehind}
 use Rattle.wot_machine.specs.Transcript.{listed, octets_of}
 use Rattle.wot_machine.specs.Whole.{Whole}
-use Rattle.wot_engine.specs.Turn.{RepliesBehind, SaidBehind}
+use Rattle.wot_cache.specs.State.{state_of}
+use Rattle.wot_machine.proofs.Putting.{any_err, served_puts}
+use Rattle.wot_engine.specs.Turn.{RepliesBehind, SaidBehind, use_by}
 use Rattle.wot_engine.proofs.Progress.{joined}
 use Rattle.wot_engine.proofs.run.reply_to.Goals as goal
 
@@ -34,3 +36,12 @@ returns-clause-replies g c =
     both (rows_of c.args.policy.now) c.args.line c.args.text.now (kept c.args.machine.now) (kept c.say.new.machine) (kept c.tell.new.self)
     (g.D.Shelf.world c.args.shelf.now) (g.D.Shelf.world c.say.new.shelf) c.args.out.now.items c.say.new.out.items c.tell.new.out.items
     c.in_ok-say.ensures.said c.in_default.ensures.tells
+
+pub returns-in_err-say-clause-entries : goal.returns-in_err-say-clause-entries
+returns-in_err-say-clause-entries g c = any_err c.from_residual.result _ c.in_err-say.ensures.entries
+
+pub returns-in-Err-clause-entries : goal.returns-in-Err-clause-entries
+returns-in-Err-clause-entries g c =
+    let said = c.in_ok-say.ensures.said in
+    served_puts (state_of c.args.machine.now.engine) (use_by c.args.line c.args.text.now) (g.D.Shelf.world c.args.shelf.now) said.given
+    (g.D.Shelf.world c.say.new.shelf) said.served

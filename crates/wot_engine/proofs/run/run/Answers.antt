@@ -6,7 +6,7 @@ use Rattle.wot_machine.proofs.Giving.{told_always}
 use Rattle.wot_engine.specs.declared.run.Stop.TheVariants.{Memory, Read, TooMuch, Write}
 use Rattle.wot_engine.proofs.Stops.{never, on_err, stopped}
 use Rattle.wot_engine.proofs.Taking.{takes_nothing}
-use Rattle.wot_engine.proofs.Turns.{Begun-nothing, First-nothing}
+use Rattle.wot_engine.proofs.Turns.{Begun-nothing, First-nothing, Reached-nothing}
 use Rattle.wot_engine.proofs.run.run.Goals as goal
 
 -- ---- no memory is found for the reader
@@ -47,6 +47,18 @@ pub returns-in_err-lines-clause-first : goal.returns-in_err-lines-clause-first
 returns-in_err-lines-clause-first g c e =
     First-nothing (rows_of c.args.policy.now) (g.S.Source.left c.args.input.now) (g.K.Sink.written c.args.output.now) (g.D.Shelf.world c.args.shelf.now)
 
+pub returns-in_err-lines-clause-reached : goal.returns-in_err-lines-clause-reached
+returns-in_err-lines-clause-reached g c =
+    Reached-nothing (rows_of c.args.policy.now) (g.S.Source.left c.args.input.now) (g.K.Sink.written c.args.output.now) (g.D.Shelf.world c.args.shelf.now)
+
+pub returns-in_err-lines-clause-ended : goal.returns-in_err-lines-clause-ended
+returns-in_err-lines-clause-ended g c =
+    on_err c.from_residual.result Memory _ (stopped c.from_residual.result Memory c.from_residual.ensures.1)
+
+pub returns-in_err-lines-clause-took : goal.returns-in_err-lines-clause-took
+returns-in_err-lines-clause-took g c e =
+    absurd (never c.from_residual.result Memory TooMuch (stopped c.from_residual.result Memory c.from_residual.ensures.1) tt e)
+
 pub returns-in_err-lines-clause-most_only : goal.returns-in_err-lines-clause-most_only
 returns-in_err-lines-clause-most_only g c =
     told_always (g.S.Source.left c.args.input.now) (g.K.Sink.written c.args.output.now) (g.D.Shelf.world c.args.shelf.now) _ (λ input before world most. inr (stopped c.from_residual.result Memory c.from_residual.ensures.1))
@@ -70,6 +82,15 @@ returns-clause-shelf g c = c.answer_lines.ensures.shelf
 
 pub returns-clause-prefix : goal.returns-clause-prefix
 returns-clause-prefix g c = c.answer_lines.ensures.prefix
+
+pub returns-clause-reached : goal.returns-clause-reached
+returns-clause-reached g c = c.answer_lines.ensures.reached
+
+pub returns-clause-ended : goal.returns-clause-ended
+returns-clause-ended g c = c.answer_lines.ensures.ended
+
+pub returns-clause-took : goal.returns-clause-took
+returns-clause-took g c = c.answer_lines.ensures.took
 
 pub returns-clause-first : goal.returns-clause-first
 returns-clause-first g c = c.answer_lines.ensures.first

@@ -12,8 +12,10 @@ use Rattle.wot_machine.specs.Whole.{Whole}
 use Rattle.wot_machine.specs.Ran.{Seen}
 use Rattle.wot_machine.specs.Served.{unserved}
 use Rattle.wot_machine.specs.Stepped.{Stepped}
+use Rattle.wot_cache.specs.State.{state_of}
+use Rattle.wot_machine.proofs.Putting.{any_err, puts_still}
 use Rattle.wot_machine.proofs.Stepping.{one_reply, too_long}
-use Rattle.wot_engine.specs.Turn.{SaidBehind}
+use Rattle.wot_engine.specs.Turn.{SaidBehind, use_by}
 use Rattle.wot_engine.proofs.run.say.Goals as goal
 
 -- the refusal of a line that is too long, where there is memory
@@ -47,3 +49,10 @@ pub returns-in-Long-clause-said : goal.returns-in-Long-clause-said
 returns-in-Long-clause-said g c =
     refused c.print_reply.result (rows_of c.args.policy.now) c.args.line c.args.text.now (kept c.args.machine.now) (g.D.Shelf.world c.args.shelf.now) c.args.out.now.items c.print_reply.new.out.items
     c.in-Long.is c.print_reply.ensures.appended
+
+pub returns-in-Text-clause-entries : goal.returns-in-Text-clause-entries
+returns-in-Text-clause-entries g c = rw c.in-Text.is c.line.ensures.entries
+
+pub returns-in-Long-clause-entries : goal.returns-in-Long-clause-entries
+returns-in-Long-clause-entries g c =
+    any_err c.print_reply.result _ (puts_still (state_of c.args.machine.now.engine) (use_by c.args.line c.args.text.now) (g.D.Shelf.world c.args.shelf.now))

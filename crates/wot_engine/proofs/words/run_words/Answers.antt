@@ -20,6 +20,12 @@ returns-in-None-clause-whole g c done = absurd (c.in-None.ensures.form (inl done
 pub returns-in-None-clause-shelf : goal.returns-in-None-clause-shelf
 returns-in-None-clause-shelf g c done = absurd (c.in-None.ensures.form (inl done.0))
 
+pub returns-in-None-clause-reached : goal.returns-in-None-clause-reached
+returns-in-None-clause-reached g c form = absurd (c.in-None.ensures.form (inl form))
+
+pub returns-in-None-clause-ended : goal.returns-in-None-clause-ended
+returns-in-None-clause-ended g c done = absurd (c.in-None.ensures.form (inl done.0))
+
 pub returns-in-None-clause-first : goal.returns-in-None-clause-first
 returns-in-None-clause-first g c done = absurd (c.in-None.ensures.form (inl done.0))
 
@@ -54,6 +60,15 @@ returns-in-Some-Run-clause-shelf g c done = is_done c.run.result _ (sym c.status
 
 pub returns-in-Some-Run-clause-prefix : goal.returns-in-Some-Run-clause-prefix
 returns-in-Some-Run-clause-prefix g c form = c.run.ensures.prefix
+
+pub returns-in-Some-Run-clause-reached : goal.returns-in-Some-Run-clause-reached
+returns-in-Some-Run-clause-reached g c form = c.run.ensures.reached
+
+pub returns-in-Some-Run-clause-ended : goal.returns-in-Some-Run-clause-ended
+returns-in-Some-Run-clause-ended g c done = is_done c.run.result _ (sym c.status_of.ensures ∙ done.1) c.run.ensures.ended
+
+pub returns-in-Some-Run-clause-took : goal.returns-in-Some-Run-clause-took
+returns-in-Some-Run-clause-took g c e = c.run.ensures.took (is_much c.run.result (sym c.status_of.ensures ∙ e))
 
 pub returns-in-Some-Run-clause-first : goal.returns-in-Some-Run-clause-first
 returns-in-Some-Run-clause-first g c done = c.run.ensures.first (is_memory c.run.result (sym c.status_of.ensures ∙ done.1))
@@ -118,6 +133,18 @@ returns-in-Some-Generate-clause-shelf g c done =
 pub returns-in-Some-Generate-clause-prefix : goal.returns-in-Some-Generate-clause-prefix
 returns-in-Some-Generate-clause-prefix g c form =
     absurd (one_form (map string_bytes c.args.words.now) c.in-Some-Generate.start c.in-Some-Generate.count form (rw c.in-Some-Generate.field-0-is at c.in-Some-Generate.ensures.form))
+
+pub returns-in-Some-Generate-clause-reached : goal.returns-in-Some-Generate-clause-reached
+returns-in-Some-Generate-clause-reached g c form =
+    absurd (one_form (map string_bytes c.args.words.now) c.in-Some-Generate.start c.in-Some-Generate.count form (rw c.in-Some-Generate.field-0-is at c.in-Some-Generate.ensures.form))
+
+pub returns-in-Some-Generate-clause-ended : goal.returns-in-Some-Generate-clause-ended
+returns-in-Some-Generate-clause-ended g c done =
+    absurd (one_form (map string_bytes c.args.words.now) c.in-Some-Generate.start c.in-Some-Generate.count done.0 (rw c.in-Some-Generate.field-0-is at c.in-Some-Generate.ensures.form))
+
+pub returns-in-Some-Generate-clause-took : goal.returns-in-Some-Generate-clause-took
+returns-in-Some-Generate-clause-took g c e =
+    absurd (never_much c.generate.result c.status_of-in-Some-Generate.result c.status_of-in-Some-Generate.ensures c.generate.ensures.ends e)
 
 pub returns-in-Some-Generate-clause-first : goal.returns-in-Some-Generate-clause-first
 returns-in-Some-Generate-clause-first g c done =

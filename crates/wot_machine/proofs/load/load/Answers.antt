@@ -4,6 +4,7 @@ use Rattle.wot_policy.specs.Kept.{rows_of}
 use Rattle.wot_cache.specs.State.{state_of}
 use Rattle.wot_script.specs.declared.reply.Reply.TheVariants as replies
 use Rattle.wot_machine.specs.Entry.{loads}
+use Rattle.wot_machine.proofs.Judging.{asked_still}
 use Rattle.wot_machine.proofs.Putting.{any_err, puts_none}
 use Rattle.wot_machine.proofs.Refusing.{if_ok}
 use Rattle.wot_machine.proofs.Running.{ran_load, told_so}
@@ -49,3 +50,17 @@ returns-in-Ok-Bytes-clause-entries g c =
 pub returns-in-Err-Memory-clause-entries : goal.returns-in-Err-Memory-clause-entries
 returns-in-Err-Memory-clause-entries g c =
     puts_none (state_of c.args.engine.now) (loads c.args.name.now) (g.D.Shelf.world c.args.shelf.now) (g.D.Shelf.world c.read.new.self) c.read.ensures.after
+
+-- ---- the policy
+
+pub returns-in-Ok-Absent-clause-asked : goal.returns-in-Ok-Absent-clause-asked
+returns-in-Ok-Absent-clause-asked g c = asked_still _ (state_of c.args.engine.now) c.args.policy.now
+
+pub returns-in-Ok-Long-clause-asked : goal.returns-in-Ok-Long-clause-asked
+returns-in-Ok-Long-clause-asked g c = asked_still _ (state_of c.args.engine.now) c.args.policy.now
+
+pub returns-in-Err-Failed-clause-asked : goal.returns-in-Err-Failed-clause-asked
+returns-in-Err-Failed-clause-asked g c = asked_still _ (state_of c.args.engine.now) c.args.policy.now
+
+pub returns-in-Err-Memory-clause-asked : goal.returns-in-Err-Memory-clause-asked
+returns-in-Err-Memory-clause-asked g c = asked_still _ (state_of c.args.engine.now) c.args.policy.now

@@ -9,6 +9,7 @@ use Rattle.wot_machine.specs.declared.told.Told.{Told}
 use Rattle.wot_machine.specs.Entry.{use_of}
 use Rattle.wot_machine.specs.Watching.{is_watching}
 use Rattle.wot_machine.specs.Whole.{whole_of}
+use Rattle.wot_machine.proofs.Judging.{asks_as}
 use Rattle.wot_machine.proofs.Making.{line_makes_plain, refreshed_as, stays}
 use Rattle.wot_machine.proofs.Putting.{any_err, puts_still}
 use Rattle.wot_machine.proofs.Refusing.{if_ok}
@@ -71,6 +72,8 @@ returns-in_default g c =
           (if_ok c.obey.result _ _ (λ reply quiet long. (quiet long, refl, refl)) c.obey.ensures.quiet);
       kept = kept_told c.obey.result c.plain-in_default.result old new c.args.cursors.now c.args.watches.now c.plain-in_default.ensures.same c.obey.ensures.kept;
       makes = line_makes_plain c.obey.result c.plain-in_default.result c.args.command.now c.args.cursors.now old new c.args.steps.now.made c.obey.new.steps.made c.plain-in_default.ensures.same plain c.obey.ensures.makes;
+      asked = asks_as c.obey.result c.plain-in_default.result (λ done. sym c.plain-in_default.ensures.same ∙ done) (Some c.args.command.now)
+          (state_of old) (state_of new) c.args.policy.now c.obey.new.policy c.obey.ensures.asked;
       standard = c.obey.ensures.standard;
       counted = c.obey.ensures.counted;
       turned = few_turns c.obey.result c.args.command.now old new c.obey.ensures.turned c.obey.ensures.kept;

@@ -7,6 +7,7 @@ use Rattle.wot_cache.specs.State.{state_of}
 use Rattle.wot_machine.specs.Fresh.{IsMadeAnew}
 use Rattle.wot_machine.specs.Pacing.{settled}
 use Rattle.wot_machine.specs.Whole.{watched, whole_of}
+use Rattle.wot_machine.proofs.Judging.{asks_not}
 use Rattle.wot_machine.proofs.Dumping.{on_dump, dump_is_read}
 use Rattle.wot_machine.specs.Entry.{use_of}
 use Rattle.wot_machine.proofs.Putting.{puts_still}
@@ -46,3 +47,12 @@ returns-in-Ok-clause-entries g c = rw c.in-Ok.ensures.read c.act.ensures.entries
 pub returns-in-Err-Memory-clause-entries : goal.returns-in-Err-Memory-clause-entries
 returns-in-Err-Memory-clause-entries g c =
     puts_still (state_of c.args.engine.now) (use_of (command_of c.args.line.now)) (g.D.Shelf.world c.args.shelf.now)
+
+pub returns-in-Ok-clause-asked : goal.returns-in-Ok-clause-asked
+returns-in-Ok-clause-asked g c = rw c.in-Ok.ensures.read c.act.ensures.asked
+
+pub returns-in-Err-Line-clause-asked : goal.returns-in-Err-Line-clause-asked
+returns-in-Err-Line-clause-asked g c = asks_not _ (command_of c.args.line.now) (state_of c.args.engine.now) c.args.policy.now
+
+pub returns-in-Err-Memory-clause-asked : goal.returns-in-Err-Memory-clause-asked
+returns-in-Err-Memory-clause-asked g c = asks_not _ (command_of c.args.line.now) (state_of c.args.engine.now) c.args.policy.now

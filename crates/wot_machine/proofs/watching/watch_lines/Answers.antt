@@ -1,4 +1,4 @@
-use Rattle.std.proofs.Common.{None, Some, List, arith, subst, sym, ◌∷◌, ◌∙◌}
+use Rattle.std.proofs.Common.{None, Some, List, arith, refl, subst, sym, ◌∷◌, ◌∙◌}
 use Rattle.std.specs.List.{AllByRecursion}
 use Rattle.wot_script.specs.declared.reply.Reply.{Reply}
 use Rattle.wot_cache.specs.Basis.{Basis}
@@ -6,6 +6,7 @@ use Rattle.wot_cache.specs.State.{State, state_of}
 use Rattle.wot_watch.specs.Watches.{Watch, Watches}
 use Rattle.wot_machine.specs.Settled.{IsSettled}
 use Rattle.wot_machine.specs.Watching.{IsLine, IsWatchLine}
+use Rattle.wot_machine.proofs.Asking.{MakesSoFar, never_ok, so_far_done, so_far_failed, so_far_more}
 use Rattle.wot_machine.proofs.Making.{same_state}
 use Rattle.wot_machine.proofs.Settling.{SettlesSoFar, all_later, present_grown, settled_before, settles_all, settles_not, settles_still, stays_back}
 use Rattle.wot_machine.proofs.Watched.{AreSoFar, all_more, line_is_watch, so_far_all, so_far_line, so_far_still}
@@ -39,6 +40,10 @@ rest-preserved-in-Continue-branch-3 c =
       present_grown c.args.engine.now c.rest.basis c.watch_line.new.basis c.watch_line.ensures.grown kept.6,
       subst (λ (ls : List Reply). SettlesSoFar c.args.engine.now c.watch_line.new.basis all c.next.new.self ls) (sym pushed)
           (settles_not c.args.engine.now c.watch_line.new.basis all c.next.new.self c.in-Some-2.line c.rest.lines.items),
+      so_far_more c.args.engine.now c.args.steps.now.made all c.next.new.self c.in-Some.name.now c.in-Some.watch.now c.rest.engine c.watch_line.new.engine
+          c.rest.steps.made c.watch_line.new.steps.made _ refl
+          (subst (λ (ws : Watches). MakesSoFar c.args.engine.now c.args.steps.now.made all ws c.rest.engine c.rest.steps.made) c.in-Some.ensures.steps kept.8)
+          c.in_ok-line.ensures.makes,
     )
 
 pub rest-preserved : goal.rest-preserved
@@ -74,6 +79,10 @@ rest-preserved c =
       present_grown engine old new c.watch_line.ensures.grown kept.6,
       settles_still c.rests_on.ensures.grown engine old new all c.next.new.self name watch c.rest.lines.items settles
           c.watch_line.ensures.grown settled,
+      so_far_more engine c.args.steps.now.made all c.next.new.self c.in-Some.name.now c.in-Some.watch.now c.rest.engine c.watch_line.new.engine
+          c.rest.steps.made c.watch_line.new.steps.made _ refl
+          (subst (λ (ws : Watches). MakesSoFar engine c.args.steps.now.made all ws c.rest.engine c.rest.steps.made) c.in-Some.ensures.steps kept.8)
+          c.in_ok-line.ensures.makes,
     )
 
 pub returns-clause-settled : goal.returns-clause-settled
@@ -87,3 +96,24 @@ pub returns-clause-lines : goal.returns-clause-lines
 returns-clause-lines c =
     so_far_all (state_of c.args.engine.now) c.args.watches.now c.rest.rest c.rest.lines.items c.rest.invariant.2
     c.in_default.ensures.steps.0
+
+pub returns-clause-makes : goal.returns-clause-makes
+returns-clause-makes c =
+    so_far_done c.args.engine.now c.args.steps.now.made c.args.watches.now c.rest.engine c.rest.steps.made c.rest.rest _
+    c.in_default.ensures.steps.0 c.rest.invariant.8
+
+-- ---- no memory is found
+
+pub returns-in_err-line-clause-makes : goal.returns-in_err-line-clause-makes
+returns-in_err-line-clause-makes c =
+    so_far_failed c.args.engine.now c.args.steps.now.made c.args.watches.now c.next.new.self c.in-Some.name.now c.in-Some.watch.now c.rest.engine c.watch_line.new.engine
+    c.rest.steps.made c.watch_line.new.steps.made _ c.from_residual.result (λ ok. never_ok c.from_residual.result _ c.from_residual.ensures.1 ok)
+    (subst (λ (ws : Watches). MakesSoFar c.args.engine.now c.args.steps.now.made c.args.watches.now ws c.rest.engine c.rest.steps.made) c.in-Some.ensures.steps c.rest.invariant.8)
+    c.watch_line.ensures.makes
+
+pub returns-in_err-push-clause-makes : goal.returns-in_err-push-clause-makes
+returns-in_err-push-clause-makes c =
+    so_far_failed c.args.engine.now c.args.steps.now.made c.args.watches.now c.next.new.self c.in-Some.name.now c.in-Some.watch.now c.rest.engine c.watch_line.new.engine
+    c.rest.steps.made c.watch_line.new.steps.made _ c.from_residual-in_err-push.result (λ ok. never_ok c.from_residual-in_err-push.result _ c.from_residual-in_err-push.ensures.1 ok)
+    (subst (λ (ws : Watches). MakesSoFar c.args.engine.now c.args.steps.now.made c.args.watches.now ws c.rest.engine c.rest.steps.made) c.in-Some.ensures.steps c.rest.invariant.8)
+    c.watch_line.ensures.makes

@@ -3,6 +3,7 @@ use Rattle.std.specs.List.{AllByRecursion}
 use Rattle.wot_cache.specs.Basis.{IsPresent}
 use Rattle.wot_cache.specs.State.{StaysButMarks, state_of}
 use Rattle.wot_machine.specs.Watching.{IsWatchLine}
+use Rattle.wot_machine.proofs.Asking.{MakesSoFar}
 use Rattle.wot_machine.proofs.Settling.{SettlesSoFar}
 use Rattle.wot_machine.proofs.Watched.{AreSoFar}
 use Rattle.wot_machine.proofs.watching.watch_lines.Given as goal
@@ -17,3 +18,4 @@ invariant-rest l =
     × (l.fn.steps.made ≤ l.steps.made)
     × IsPresent l.fn.engine l.basis
     × SettlesSoFar l.fn.engine l.basis l.fn.watches l.rest l.lines.items
+    × MakesSoFar l.fn.engine l.fn.steps.made l.fn.watches l.rest l.engine l.steps.made

@@ -8,6 +8,8 @@ use Rattle.wot_machine.specs.Entry.{use_of}
 use Rattle.wot_machine.specs.Lines.{heard}
 use Rattle.wot_machine.specs.Made.{LineMakes}
 use Rattle.wot_machine.specs.Ran.{Seen}
+use Rattle.wot_machine.specs.Asked.{LineAsks}
+use Rattle.wot_machine.proofs.Judging.{asks_as, asks_not}
 use Rattle.wot_machine.proofs.Making.{line_makes_as}
 use Rattle.wot_machine.proofs.Putting.{any_err, puts_still, served_puts}
 use Rattle.wot_machine.proofs.Running.{passed, told_step}
@@ -48,3 +50,23 @@ returns-in-Some-clause-entries g c =
     let replied = rw c.in-Some.is at c.in_ok-told.ensures.replied in
     any_err c.put.result _ (served_puts (state_of c.args.self.now.engine) (use_of (heard c.args.line.now)) (g.D.Shelf.world c.args.shelf.now) replied.given
     (g.D.Shelf.world c.reply.new.shelf) replied.served)
+
+-- ---- the policy
+
+pub returns-in-Some-clause-asked : goal.returns-in-Some-clause-asked
+returns-in-Some-clause-asked g c =
+    let done : Result (Option Told) Memory = Ok c.in_ok-told.field-0 in
+    let line = heard c.args.line.now in
+    let asked : LineAsks done line (state_of c.args.self.now.engine) (state_of c.put.new.self.engine) c.args.policy.now c.reply.new.policy =
+    subst (λ (e : Engine). LineAsks done line (state_of c.args.self.now.engine) (state_of e) c.args.policy.now c.reply.new.policy) (sym c.put.ensures.engine)
+    c.in_ok-told.ensures.asked in
+    asks_as done c.put.result (λ ok. refl) line (state_of c.args.self.now.engine) (state_of c.put.new.self.engine) c.args.policy.now c.reply.new.policy asked
+
+pub returns-in-None-clause-asked : goal.returns-in-None-clause-asked
+returns-in-None-clause-asked g c =
+    let done : Result (Option Told) Memory = Ok c.in_ok-told.field-0 in
+    asks_as done _ (λ ok. refl) (heard c.args.line.now) (state_of c.args.self.now.engine) (state_of c.reply.new.self.engine) c.args.policy.now c.reply.new.policy
+    c.in_ok-told.ensures.asked
+
+pub returns-in_err-reserve-clause-asked : goal.returns-in_err-reserve-clause-asked
+returns-in_err-reserve-clause-asked g c = asks_not c.from_residual.result (heard c.args.line.now) (state_of c.args.self.now.engine) c.args.policy.now

@@ -8,6 +8,9 @@ use Rattle.wot_machine.specs.Machine.{Machine, kept}
 use Rattle.wot_machine.specs.Made.{LineMakes}
 use Rattle.wot_machine.specs.Pacing.{settled}
 use Rattle.wot_machine.specs.Settled.{AreSettled}
+use Rattle.wot_cache.specs.State.{state_of}
+use Rattle.wot_machine.specs.Asked.{LineAsks}
+use Rattle.wot_machine.proofs.Judging.{asks_as, asks_heard, asks_not}
 use Rattle.wot_machine.proofs.Making.{line_makes_as, makes_heard}
 use Rattle.wot_machine.proofs.Running.{replied_long, replied_silent}
 use Rattle.wot_machine.proofs.Settling.{settled_told}
@@ -49,3 +52,13 @@ invariant_of-self-2 g c =
           c.kept_on.ensures.same c.kept_on.ensures.more c.kept_on.ensures.none c.kept_on.ensures.counted
           (subst (AreSettled old c.self.inside.watches) (sym c.take-basis.ensures.value) c.self.invariant.1),
     )
+
+pub returns-clause-asked : goal.returns-clause-asked
+returns-clause-asked g c =
+    let loud : is_silent c.args.line.now ≡ false = search rules in
+    let done : Result (Option Told) Memory = Ok (Some c.in_ok-told.told) in
+    subst (λ (m : Machine). LineAsks done (heard c.args.line.now) (state_of m.engine) (state_of c.answer.new.engine) c.args.policy.now c.answer.new.policy) c.self.view_is
+    (asks_heard done c.args.line.now (state_of c.self.inside.engine) (state_of c.answer.new.engine) c.args.policy.now c.answer.new.policy
+    c.if-line-gt-LONGEST.false loud
+    (asks_as (Ok c.in_ok-told.told) done (λ ok. refl) (command_of c.args.line.now) (state_of c.self.inside.engine) (state_of c.answer.new.engine)
+    c.args.policy.now c.answer.new.policy c.in_ok-told.ensures.asked))

@@ -1,10 +1,11 @@
-use Rattle.std.proofs.Common.{Result, Ok, ap, subst, sym, ◌∙◌}
+use Rattle.std.proofs.Common.{Result, Ok, inl, ap, refl, subst, sym, ◌∙◌}
 use Rattle.wot_types.specs.declared.memory.Memory.{Memory}
 use Rattle.wot_keyring.specs.Keyring.{Keyring}
 use Rattle.wot_cache.specs.State.{Engine, StaysButMarks}
 use Rattle.wot_machine.specs.Machine.{Machine, kept}
 use Rattle.wot_machine.specs.Stepped.{TellsBehind}
 use Rattle.wot_machine.specs.Watching.{told_all}
+use Rattle.wot_machine.proofs.Asking.{never_ok, telling_made}
 use Rattle.wot_machine.proofs.Making.{same_state}
 use Rattle.wot_machine.proofs.Running.{tells_behind}
 use Rattle.wot_machine.proofs.Settling.{tells_nothing}
@@ -39,3 +40,32 @@ returns-then-is_settled-clause-tells c =
     let had = c.args.out.now.items in
     subst (λ (m : Machine). TellsBehind (kept c.args.self.now) had (kept m) had) (sym c.is_settled.ensures.same)
     (tells_nothing (kept c.args.self.now) had (c.is_settled.ensures.settled c.if-is_settled.true))
+
+-- ---- what is made
+
+pub returns-clause-makes : goal.returns-clause-makes
+returns-clause-makes c =
+    let done : Result (Unit {0}) Memory = Ok tt in
+    telling_made (Ok c.in_ok-lines.lines) done (λ ok. refl) c.args.self.now c.is_settled.new.self c.watch_lines.new.self c.told.new.self
+    c.is_settled.ensures.same c.in_ok-lines.ensures.makes c.told.ensures.engine c.told.ensures.made
+
+pub returns-then-is_settled-clause-makes : goal.returns-then-is_settled-clause-makes
+returns-then-is_settled-clause-makes c =
+    let same = c.is_settled.ensures.same in
+    inl (ap (λ (m : Machine). m.engine) same, ap (λ (m : Machine). m.made) same)
+
+pub returns-in_err-lines-clause-makes : goal.returns-in_err-lines-clause-makes
+returns-in_err-lines-clause-makes c =
+    telling_made c.watch_lines.result c.from_residual.result (λ ok. absurd (never_ok c.from_residual.result _ c.from_residual.ensures.1 ok)) c.args.self.now
+    c.is_settled.new.self c.watch_lines.new.self c.watch_lines.new.self c.is_settled.ensures.same c.watch_lines.ensures.makes refl refl
+
+pub returns-in_err-text-clause-makes : goal.returns-in_err-text-clause-makes
+returns-in_err-text-clause-makes c =
+    telling_made c.watch_lines.result c.from_residual-in_err-text.result (λ ok. absurd (never_ok c.from_residual-in_err-text.result _ c.from_residual-in_err-text.ensures.1 ok)) c.args.self.now
+    c.is_settled.new.self c.watch_lines.new.self c.watch_lines.new.self c.is_settled.ensures.same c.watch_lines.ensures.makes refl refl
+
+pub returns-in_err-extend_from_slice-clause-makes : goal.returns-in_err-extend_from_slice-clause-makes
+returns-in_err-extend_from_slice-clause-makes c =
+    telling_made c.watch_lines.result c.from_residual-in_err-extend_from_slice.result
+    (λ ok. absurd (never_ok c.from_residual-in_err-extend_from_slice.result _ c.from_residual-in_err-extend_from_slice.ensures.1 ok)) c.args.self.now
+    c.is_settled.new.self c.watch_lines.new.self c.watch_lines.new.self c.is_settled.ensures.same c.watch_lines.ensures.makes refl refl

@@ -1,0 +1,150 @@
+-- How often the policy was asked: for what was added, and not at all where nothing was.
+use Rattle.std.proofs.Common.{◌≡◌, ◌≢◌, ℕ, ◌+◌, ◌-◌, ◌≤◌, ◌^◌, true, false, List, length, Option, Some, None, Result, Ok, Err, OnOk, refl, sym, ap, subst, ◌∙◌, arith}
+use Rattle.std.specs.Prelude.{IfOk, is_ok, max, min}
+use Rattle.wot_types.specs.declared.memory.Memory.{Memory}
+use Rattle.wot_policy.specs.declared.policy.Policy.{Policy}
+use Rattle.wot_policy.specs.declared.rows.PolicyRows.{PolicyRows}
+use Rattle.wot_policy.specs.Kept.{asked_more}
+use Rattle.wot_keyring.specs.declared.import.Imported.{Imported}
+use Rattle.wot_keyring.specs.declared.refusal.Refusal.{Refusal}
+use Rattle.wot_keyring.specs.declared.refusal.Refusal.TheVariants as refusals
+use Rattle.wot_keyring.specs.Import.{AsksFor, IsAsked, importing}
+use Rattle.wot_keyring.specs.Keyring.{Keyring}
+use Rattle.wot_script.specs.declared.command.Command.{Command}
+use Rattle.wot_script.specs.declared.command.Command.TheVariants.{Import, Load, Store, Remove, Good, Bad, Unjudge, Time, Root, Close, Ask, Explain, Pending, Keys, Export, Dump, Absence, Check, CursorOver, CursorNext, CursorClose, WatchOn, WatchOff}
+use Rattle.wot_script.specs.declared.reply.Reply.{Reply}
+use Rattle.wot_script.specs.Grammar.{command_of}
+use Rattle.wot_cache.specs.State.{Engine, IsStateAfter, State, state_of}
+use Rattle.wot_machine.specs.declared.refusal.Refused.TheVariants.{Keyring as OfKeyring}
+use Rattle.wot_machine.specs.Asked.{AsksForNew, LineAsks, sound_in}
+use Rattle.wot_machine.specs.Lines.{heard, is_silent, longest}
+use Rattle.wot_machine.specs.Refused.{IsReplyTo}
+use Rattle.wot_machine.proofs.Stepping.{heard_read}
+
+none_more : (n : ℕ) → n ≡ max n (min (n + 0) (2 ^ 64 - 1))
+none_more n = omega arith
+
+nothing_new : (s : State) → 0 ≡ sound_in s - sound_in s
+nothing_new s = omega arith
+
+never : (told : Refusal) (rows : PolicyRows) (k : Keyring) (octets : List ℕ) (n : ℕ) → told ≢ refusals.Memory
+    → IsAsked (Err told) rows k octets n → n ≡ 0
+never (refusals.Packet fault) rows k octets n other a = a
+never (refusals.Cert fault) rows k octets n other a = a
+never refusals.Misfiled rows k octets n other a = a
+never refusals.Clash rows k octets n other a = a
+never (refusals.Full limit) rows k octets n other a = a
+never refusals.Memory rows k octets n other a = absurd (other refl)
+
+-- what holds in any case
+always : {T E : Type 0} (r : Result T E) (P : Type 0) → P → OnOk r P
+always (Ok x) P p = p
+always (Err e) P p = tt
+
+on_less : {A B T E : Type 0} (r : Result A B) (s : Result T E) → (is_ok s ≡ true → is_ok r ≡ true) → (P : Type 0) → OnOk r P → OnOk s P
+on_less r (Err e) less P p = tt
+on_less (Ok a) (Ok b) less P p = p
+on_less (Err e) (Ok b) less P p = let never : false ≡ true = less refl in absurd cc
+
+module _ {F : Type 0} where
+  -- nothing was asked
+  pub not_asked : (p : Policy F) → p ≡ asked_more 0 p
+  not_asked p = ap (λ (n : ℕ). record p { asked = n }) (none_more p.asked)
+
+  -- what was added was asked for
+  pub asked_new : {T E : Type 0} (x : T) (rows : PolicyRows) (old new : Engine) (octets : List ℕ) (counts : Imported) (before after : Policy F)
+      → AsksFor (Ok counts) rows old.keyring octets (λ k. after ≡ asked_more k before)
+      → IsStateAfter (importing rows octets) old new → AsksForNew {E = E} (Ok x) (state_of old) (state_of new) before after
+  asked_new x rows old new octets counts before after a is = record {
+    times = a.0;
+    asked = a.1;
+    exact = a.2 ∙ ap (λ (s : State). sound_in s - sound_in (state_of old)) (sym is);
+  }
+
+  -- nothing was added, and nothing asked
+  pub asked_still : {T E : Type 0} (r : Result T E) (s : State) (p : Policy F) → AsksForNew r s s p p
+  asked_still r s p = record { times = 0; asked = not_asked p; exact = always r _ (nothing_new s) }
+
+  -- what was refused added nothing
+  pub asked_refused : (r : Result Reply Memory) (rows : PolicyRows) (old new : Engine) (octets : List ℕ) (told : Refusal) (before after : Policy F)
+      → AsksFor (Err told) rows old.keyring octets (λ k. after ≡ asked_more k before) → new ≡ old
+      → IfOk r (IsReplyTo (OfKeyring told)) → AsksForNew r (state_of old) (state_of new) before after
+  asked_refused r rows old new octets told before after a same replied = record {
+    times = a.0;
+    asked = a.1;
+    exact = by r replied;
+  }
+    where
+      by : (r : Result Reply Memory) → IfOk r (IsReplyTo (OfKeyring told)) → OnOk r (a.0 ≡ sound_in (state_of new) - sound_in (state_of old))
+      by (Ok reply) is =
+          never told rows old.keyring octets a.0 is.1 a.2 ∙ nothing_new (state_of old)
+          ∙ ap (λ (e : Engine). sound_in (state_of e) - sound_in (state_of old)) (sym same)
+      by (Err e) is = tt
+
+  -- ---- the same for another result, which is Ok at most where that one is
+
+  module _ {A B T E : Type 0} (r : Result A B) (s : Result T E) (less : is_ok s ≡ true → is_ok r ≡ true) where
+    new_as : (old new : State) (before after : Policy F) → AsksForNew r old new before after → AsksForNew s old new before after
+    new_as old new before after a = record { times = a.times; asked = a.asked; exact = on_less r s less _ a.exact }
+
+    pub asks_as : (command : Option Command) (old new : State) (before after : Policy F) → LineAsks r command old new before after
+        → LineAsks s command old new before after
+    asks_as None old new before after a = a
+    asks_as (Some (Import octets)) old new before after a = new_as old new before after a
+    asks_as (Some (Load name)) old new before after a = new_as old new before after a
+    asks_as (Some (Store fpr)) old new before after a = a
+    asks_as (Some (Remove fpr)) old new before after a = a
+    asks_as (Some (Good number fpr)) old new before after a = a
+    asks_as (Some (Bad number)) old new before after a = a
+    asks_as (Some (Unjudge number)) old new before after a = a
+    asks_as (Some (Time view t)) old new before after a = a
+    asks_as (Some (Root view fpr amount)) old new before after a = a
+    asks_as (Some (Close view)) old new before after a = a
+    asks_as (Some (Ask view target wanted uid)) old new before after a = a
+    asks_as (Some (Command.List view wanted)) old new before after a = a
+    asks_as (Some (Explain view fpr uid)) old new before after a = a
+    asks_as (Some (Absence view target wanted uid)) old new before after a = a
+    asks_as (Some (Check view target claims labels uid)) old new before after a = a
+    asks_as (Some Pending) old new before after a = a
+    asks_as (Some Keys) old new before after a = a
+    asks_as (Some (Export fpr)) old new before after a = a
+    asks_as (Some Dump) old new before after a = a
+    asks_as (Some (CursorOver cursor view wanted)) old new before after a = a
+    asks_as (Some (CursorNext cursor count)) old new before after a = a
+    asks_as (Some (CursorClose cursor)) old new before after a = a
+    asks_as (Some (WatchOn watch view target wanted uid)) old new before after a = a
+    asks_as (Some (WatchOff watch)) old new before after a = a
+
+  -- a line that nothing was done for
+  pub asks_not : {T E : Type 0} (r : Result T E) (command : Option Command) (s : State) (p : Policy F) → LineAsks r command s s p p
+  asks_not r None s p = refl
+  asks_not r (Some (Import octets)) s p = asked_still r s p
+  asks_not r (Some (Load name)) s p = asked_still r s p
+  asks_not r (Some (Store fpr)) s p = refl
+  asks_not r (Some (Remove fpr)) s p = refl
+  asks_not r (Some (Good number fpr)) s p = refl
+  asks_not r (Some (Bad number)) s p = refl
+  asks_not r (Some (Unjudge number)) s p = refl
+  asks_not r (Some (Time view t)) s p = refl
+  asks_not r (Some (Root view fpr amount)) s p = refl
+  asks_not r (Some (Close view)) s p = refl
+  asks_not r (Some (Ask view target wanted uid)) s p = refl
+  asks_not r (Some (Command.List view wanted)) s p = refl
+  asks_not r (Some (Explain view fpr uid)) s p = refl
+  asks_not r (Some (Absence view target wanted uid)) s p = refl
+  asks_not r (Some (Check view target claims labels uid)) s p = refl
+  asks_not r (Some Pending) s p = refl
+  asks_not r (Some Keys) s p = refl
+  asks_not r (Some (Export fpr)) s p = refl
+  asks_not r (Some Dump) s p = refl
+  asks_not r (Some (CursorOver cursor view wanted)) s p = refl
+  asks_not r (Some (CursorNext cursor count)) s p = refl
+  asks_not r (Some (CursorClose cursor)) s p = refl
+  asks_not r (Some (WatchOn watch view target wanted uid)) s p = refl
+  asks_not r (Some (WatchOff watch)) s p = refl
+
+  -- the line that was looked at
+  pub asks_heard : {T E : Type 0} (s : Result T E) (line : List ℕ) (old new : State) (before after : Policy F) → length line ≤ longest
+      → is_silent line ≡ false → LineAsks s (command_of line) old new before after → LineAsks s (heard line) old new before after
+  asks_heard s line old new before after short loud a =
+      subst (λ (o : Option Command). LineAsks s o old new before after) (sym (heard_read line short loud)) a

@@ -1,0 +1,34 @@
+-- A machine that was given the lines of a dump goes on as the one that dumped.
+use Rattle.std.specs.Prelude.{◌≡◌, Bool, true, not, ◌&&◌, List, [], ◌∷◌, ℕ, Option, Some, None}
+use Rattle.wot_policy.specs.declared.rows.PolicyRows.{PolicyRows}
+use Rattle.wot_script.specs.declared.command.Command.{Command}
+use Rattle.wot_script.specs.declared.reply.Reply.{Reply}
+use Rattle.wot_certd.specs.World.{World}
+use Rattle.wot_machine.specs.Fresh.{IsMadeAnew}
+use Rattle.wot_machine.specs.Joined.{Exchange, Passes, lines_in}
+use Rattle.wot_machine.specs.Lines.{heard}
+use Rattle.wot_machine.specs.Pacing.{is_pacing}
+use Rattle.wot_machine.specs.Scene.{Scene, opening}
+use Rattle.wot_machine.specs.Transcript.{Run}
+use Rattle.wot_machine.specs.Watching.{is_watching}
+
+-- Whether it is no command of a cursor or of a watch.
+abbrev pub is_of_state : Option Command → Bool
+is_of_state None = true
+is_of_state (Some command) = not (is_pacing command) && not (is_watching command)
+
+-- Line by line the replies are the same, but to the commands of cursors and of watches.
+abbrev pub HaveSameReplies : List Exchange → List Exchange → Type 0
+HaveSameReplies [] [] = Unit {0}
+HaveSameReplies (e ∷ es) (f ∷ fs) = (is_of_state (heard e.line) ≡ true → e.reply ≡ f.reply) × HaveSameReplies es fs
+HaveSameReplies es fs = ⊥
+
+-- Lines led from the start to a state, of which a dump was made anew. Whatever lines come then, over the same shelf,
+-- the two replies to each of them are the same.
+abbrev pub FreshMachinesGoOn : PolicyRows → Type 0
+FreshMachinesGoOn rows =
+    (world : World) (lines : List (List ℕ)) (told : List Reply) (last : Scene)
+    → Run rows (opening world) lines told last
+    → (anew : IsMadeAnew rows last.whole.state) (mine theirs : List Exchange) (here there : Scene)
+    → Passes rows last mine here → Passes rows (record { whole = anew.new; world = last.world }) theirs there
+    → lines_in mine ≡ lines_in theirs → HaveSameReplies mine theirs

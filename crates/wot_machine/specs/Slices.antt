@@ -1,0 +1,68 @@
+-- The part of a state on which the answer to a question about one target rests. A service that keeps its certificates
+-- in a database loads this part into an engine, asks there, and hears what an engine that holds all would reply.
+-- Stands on the slices of wot_network (certificates and verdicts) and of wot_auth (the edges that these tell).
+use Rattle.std.specs.Prelude.{◌≡◌, ◌↔◌, ℕ, List, ◌∷◌, Some}
+use Rattle.std.specs.List.{AllByRecursion}
+use Rattle.std.specs.Option.{option_map}
+use Rattle.wot_types.specs.declared.fpr.Fpr.{Fpr}
+use Rattle.wot_policy.specs.declared.rows.PolicyRows.{PolicyRows}
+use Rattle.wot_script.specs.declared.command.Command.TheVariants.{Ask}
+use Rattle.wot_script.specs.Grammar.{command_of}
+use Rattle.wot_cert.specs.Certificate.{Certificate, unmarked}
+use Rattle.wot_cert.specs.Counts.{all_sigs}
+use Rattle.wot_edge.specs.declared.path.Path.{Path}
+use Rattle.wot_edge.specs.Answer.{IsAnswer}
+use Rattle.wot_edge.specs.Record.{Has}
+use Rattle.wot_keyring.specs.Held.{Held, cert_in}
+use Rattle.wot_keyring.specs.Later.{SaysSame}
+use Rattle.wot_network.specs.Certified.{IsSlice}
+use Rattle.wot_cache.specs.declared.view.View.{View}
+use Rattle.wot_cache.specs.Question.{question_in}
+use Rattle.wot_cache.specs.State.{State}
+use Rattle.wot_cache.specs.Views.{view_at}
+use Rattle.wot_machine.specs.Depends.{AreRepliesAlike, IsReached}
+use Rattle.wot_machine.specs.Whole.{Whole}
+
+-- Both hold the same certificate under a fingerprint, but for marks of admission, or none; and their verdicts on its
+-- signatures are the same.
+pub record HoldAlike (one other : Held) (fpr : Fpr) : Type 0 where
+  pub same : option_map unmarked (cert_in one fpr) ≡ option_map unmarked (cert_in other fpr)
+  pub said : (c : Certificate) → cert_in one fpr ≡ Some c
+      → AllByRecursion (SaysSame one.verdicts other.verdicts) (all_sigs c)
+
+-- A set that is a slice of both, from the view's roots: they hold the same at its members and at the target.
+pub record SharesSlice (view : View) (target : Fpr) (one other : Held) (set : List Fpr) : Type 0 where
+  pub first : IsSlice one.certs one.verdicts view.roots set
+  pub second : IsSlice other.certs other.verdicts view.roots set
+  pub held : (fpr : Fpr) → Has (target ∷ set) fpr → HoldAlike one other fpr
+
+-- For questions about a target from the view of that name two states are alike: the view is open in neither; or it has
+-- the same time and roots in both, which share a slice. Whatever else they hold may differ.
+pub record AreAlikeFor (name : List ℕ) (target : Fpr) (one other : State) : Type 0 where
+  pub view : view_at one.views name ≡ view_at other.views name
+  pub slice : (view : View) → view_at one.views name ≡ Some view
+      → (set : List Fpr) × SharesSlice view target one.held other.held set
+
+-- a line `ask` about the target from the view of that name
+pub record IsQuestion (name : List ℕ) (target : Fpr) (line : List ℕ) : Type 0 where
+  pub wanted : ℕ
+  pub uid : List ℕ
+  pub read : command_of line ≡ Some (Ask name target wanted uid)
+
+-- The reply to `ask` rests on a slice: whatever histories lead to two states that are alike for questions about a
+-- target, each such question has the same reply in both.
+abbrev pub DoRepliesRestOnSlices : PolicyRows → Type 0
+DoRepliesRestOnSlices rows =
+    (name : List ℕ) (target : Fpr) (one other : Whole) → IsReached rows one → IsReached rows other
+    → AreAlikeFor name target one.state other.state
+    → (line : List ℕ) → IsQuestion name target line → AreRepliesAlike rows one other line
+
+-- So does the answer itself, and with it the amount that `list` and `watch` report of a binding.
+abbrev pub DoAnswersRestOnSlices : PolicyRows → Type 0
+DoAnswersRestOnSlices rows =
+    (name : List ℕ) (target : Fpr) (one other : Whole) → IsReached rows one → IsReached rows other
+    → AreAlikeFor name target one.state other.state
+    → (view : View) → view_at one.state.views name ≡ Some view
+    → (uid : List ℕ) (wanted : ℕ) (paths : List Path)
+    → IsAnswer (question_in one.state view target uid) wanted paths
+    ↔ IsAnswer (question_in other.state view target uid) wanted paths

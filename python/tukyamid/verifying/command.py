@@ -1,0 +1,112 @@
+"""The command `tukyamid verify`: did WHOM sign this file?"""
+
+import time
+from collections.abc import Sequence
+
+from ..command.failures import REACHED, WrongWords
+from ..command.inputs import Inputs
+from ..command.output import tell, write
+from ..command.parser import Given, Help, Parser, add_inputs, add_programs, add_time_and_amount, typed
+from ..command.roots import Roots
+from ..command.values import read_threshold
+from ..verifier import Verifier
+from . import shown
+from .content import Content
+from .holding import certificate_file
+from .judgement import Outcome, Wanted, When, judge
+from .signatures import Signed, signatures_on
+from .whom import Whom
+
+VERIFIED, NOT_VERIFIED = 0, 1
+FORMS = {"tree": shown.for_people, "json": shown.for_programs}
+HELP = """usage: tukyamid verify FILE [SIGNATURE] --for WHOM [option..]
+
+Did WHOM sign this file? The verifier checks the signatures on FILE: those in SIGNATURE, or those of FILE itself, a
+signed message or a text with a cleartext signature. Then the engine answers whether their signers are WHOM, at the
+time of signing and now.
+
+WHOM is an address (carol@example.org), a domain (@example.org), or a user ID as it stands."""
+EPILOG = """exit status: 0 enough signers signed, and are WHOM; 1 not so, and the answer says what failed; 2 the words
+are wrong; 3 there is no answer, and standard error says why; 130 it was interrupted.
+"""
+
+
+class GivenToVerify(Given):
+    """The words of `verify`, read. `words` are FILE [SIGNATURE]."""
+    whom: list[Whom]
+    threshold: int
+    when: str
+    output: str | None
+
+
+def run(words: Sequence[str]) -> int:
+    """Answers, and returns the exit status."""
+    made, given = _parser(), GivenToVerify(question="verify")
+    made.parse_intermixed_args(words, given)
+    if given.help:
+        write(made.format_help())
+        return REACHED
+    signed = _signed(given)
+    with Content(given.output) as content:
+        outcome = _outcome(given, signed, content)
+        if outcome.is_verified:
+            content.keep()
+    text = FORMS[given.format](outcome)
+    if given.output == "-":
+        tell(text.removesuffix("\n"), who="")
+    else:
+        write(text)
+    return VERIFIED if outcome.is_verified else NOT_VERIFIED
+
+
+def add_arguments(made: Parser) -> None:
+    """The options that no other question has."""
+    group = made.add_argument_group("what is verified")
+    group.add_argument("--for", dest="whom", metavar="WHOM", action="append", default=[], type=typed(Whom.read),
+                       help="who should have signed; may be given several times, and then each of them will do")
+    group.add_argument("--threshold", metavar="N", type=typed(read_threshold), default=1,
+                       help="how many signers are needed, by default 1; two keys of one certificate are one signer")
+    group.add_argument("--when", choices=[str(one) for one in When], default=str(When.BOTH),
+                       help="when the signer has to be WHOM: at the time of signing, now, or both (the default)")
+    add_time_and_amount(group)
+    group.add_argument("--format", choices=FORMS, default="tree", metavar="FORM",
+                       help=f"how the answer is shown: {', '.join(FORMS)}")
+    group.add_argument("--output", metavar="FILE",
+                       help="once it is verified, write what a signed message or text says to FILE; - is standard "
+                            "output")
+
+
+def _parser() -> Parser:
+    made = Parser(prog="tukyamid verify", description=HELP, epilog=EPILOG, add_help=False, allow_abbrev=False,
+                  formatter_class=Help)
+    made.add_argument("words", nargs="*", help="FILE [SIGNATURE]; - is standard input")
+    add_arguments(made)
+    add_inputs(made)
+    add_programs(made)
+    return made
+
+
+def _signed(given: GivenToVerify) -> Signed:
+    """What is to be verified; WrongWords if the words don't go together."""
+    if not 1 <= len(given.words) <= 2:
+        raise WrongWords("verify takes: FILE [SIGNATURE] --for WHOM")
+    if not given.whom:
+        raise WrongWords("who should have signed? give --for WHOM")
+    if given.output is not None and len(given.words) == 2:
+        raise WrongWords("--output doesn't go with SIGNATURE: what is signed is FILE itself")
+    if [*given.words, *given.keyring].count("-") > 1:
+        raise WrongWords("standard input can be only one of FILE, SIGNATURE and --keyring")
+    return Signed(*given.words)
+
+
+def _outcome(given: GivenToVerify, signed: Signed, content: Content) -> Outcome:
+    now = int(time.time()) if given.time is None else given.time
+    wanted = Wanted(tuple(given.whom), given.amount, given.threshold, When(given.when))
+    with Inputs(given, tell) as inputs:
+        roots = Roots(given, inputs).find(now)
+        for note in roots.notes:
+            tell(note)
+        with certificate_file(inputs.keyring) as certificates:
+            verifier = Verifier(inputs.verifier_words)
+            found = signatures_on(signed, certificates, verifier, given.time, content.path)
+        return judge(inputs.keyring, roots.amounts, found, wanted, now)

@@ -1,0 +1,127 @@
+//! What a signature on data comes to, as a line of the output.
+
+use std::fmt;
+use std::time::UNIX_EPOCH;
+
+use sequoia_openpgp as openpgp;
+
+use openpgp::cert::amalgamation::ValidAmalgamation;
+use openpgp::packet::Signature;
+use openpgp::parse::stream::{VerificationError, VerificationResult};
+use openpgp::Cert;
+
+#[derive(Clone, Copy, Debug, PartialEq, Eq)]
+pub enum Word {
+    /// A key made it over this data, and could at that time.
+    Good,
+    /// The key that it names didn't make it over this data.
+    Bad,
+    /// No key that it names is there.
+    Absent,
+    /// Its key, its dates or its hash algorithm won't do: expired, revoked, not bound, not for signing, too weak.
+    Refused,
+    /// Its version or one of its algorithms isn't known to the library.
+    Unsupported,
+    /// It, or what holds it, isn't well-formed.
+    Malformed,
+}
+
+impl fmt::Display for Word {
+    fn fmt(&self, f: &mut fmt::Formatter<'_>) -> fmt::Result {
+        f.write_str(match self {
+            Word::Good => "good",
+            Word::Bad => "bad",
+            Word::Absent => "absent",
+            Word::Refused => "refused",
+            Word::Unsupported => "unsupported",
+            Word::Malformed => "malformed",
+        })
+    }
+}
+
+/// What isn't known is None. `key` is a key ID if the signature names no fingerprint and no key of the input made it.
+pub struct Finding {
+    word: Word,
+    made: Option<u64>,
+    kind: Option<u8>,
+    hash_algorithm: Option<u8>,
+    certificate: Option<String>,
+    key: Option<String>,
+    why: Option<String>,
+}
+
+impl Finding {
+    pub fn of(result: VerificationResult) -> Finding {
+        use VerificationError::{BadKey, BadSignature, MalformedSignature, MissingKey, UnboundKey};
+        match result {
+            Ok(good) => Finding::new(Word::Good, good.sig).by(good.ka.cert().cert(), &good.ka.fingerprint()),
+            Err(BadSignature { sig, ka, error }) => {
+                Finding::new(word_for(sig, &error), sig).by(ka.cert().cert(), &ka.fingerprint()).because(&error)
+            }
+            Err(BadKey { sig, ka, error }) => {
+                Finding::new(Word::Refused, sig).by(ka.cert().cert(), &ka.fingerprint()).because(&error)
+            }
+            Err(UnboundKey { sig, cert, error }) => {
+                let finding = Finding::new(Word::Refused, sig).because(&error);
+                Finding { certificate: Some(format!("{:x}", cert.fingerprint())), ..finding }
+            }
+            Err(MissingKey { sig }) => Finding::new(Word::Absent, sig),
+            Err(MalformedSignature { sig, error }) => Finding::new(Word::Malformed, sig).because(&error),
+        }
+    }
+
+    /// Of what can't be read as a signature.
+    pub fn unread(word: Word, why: &anyhow::Error) -> Finding {
+        let nothing =
+            Finding { word, made: None, kind: None, hash_algorithm: None, certificate: None, key: None, why: None };
+        nothing.because(why)
+    }
+
+    fn new(word: Word, sig: &Signature) -> Finding {
+        let made = sig.signature_creation_time().and_then(|time| time.duration_since(UNIX_EPOCH).ok());
+        Finding {
+            word,
+            made: made.map(|since| since.as_secs()),
+            kind: Some(sig.typ().into()),
+            hash_algorithm: Some(sig.hash_algo().into()),
+            certificate: None,
+            key: sig.get_issuers().first().map(|issuer| format!("{issuer:x}")),
+            why: None,
+        }
+    }
+
+    fn by(self, cert: &Cert, key: &openpgp::Fingerprint) -> Finding {
+        Finding { certificate: Some(format!("{:x}", cert.fingerprint())), key: Some(format!("{key:x}")), ..self }
+    }
+
+    fn because(self, error: &anyhow::Error) -> Finding {
+        Finding { why: Some(format!("{error:#}")), ..self }
+    }
+}
+
+/// What it means that a key's signature didn't do.
+fn word_for(sig: &Signature, error: &anyhow::Error) -> Word {
+    use openpgp::Error::{
+        Expired, NotYetLive, PolicyViolation, UnsupportedEllipticCurve, UnsupportedPublicKeyAlgorithm,
+    };
+    match error.downcast_ref() {
+        Some(Expired(_) | NotYetLive(_) | PolicyViolation(..)) => Word::Refused,
+        Some(UnsupportedEllipticCurve(_) | UnsupportedPublicKeyAlgorithm(_)) => Word::Unsupported,
+        _ if !sig.hash_algo().is_supported() => Word::Unsupported,
+        _ => Word::Bad,
+    }
+}
+
+/// `signature WORD MADE TYPE HASH CERTIFICATE KEY WHY`, with `-` for what isn't known. WHY is the rest of the line.
+impl fmt::Display for Finding {
+    fn fmt(&self, f: &mut fmt::Formatter<'_>) -> fmt::Result {
+        let Finding { word, made, kind, hash_algorithm, certificate, key, why } = self;
+        let or_dash = |text: &Option<String>| text.clone().unwrap_or_else(|| "-".to_owned());
+        let number = |number: Option<u64>| or_dash(&number.map(|number| number.to_string()));
+        write!(f, "signature {word} {} ", number(*made))?;
+        write!(f, "{} {} ", number(kind.map(u64::from)), number(hash_algorithm.map(u64::from)))?;
+        // What the library says may quote what it read.
+        let why = or_dash(why).replace(|character: char| character.is_control(), " ");
+        write!(f, "{} {} {why}", or_dash(certificate), or_dash(key))
+    }
+}
