@@ -14,6 +14,10 @@ from outside import WORN_ENGINE, Client, Server, expected, needs_engine, with_re
 from tukyamid.service.outbox import Outbox
 from world import Chatter, World
 
+# An engine has sixteen cursors, and a client of these tests up to three. If the service has one engine alone, since
+# that keeps up, no more clients than these find room.
+_WITH_CURSORS = 5
+
 
 def talk(path, name, lines, seed, before_burst):
     """One client: sends its lines in bursts of some size, and waits a moment now and then; gives what it heard. It
@@ -41,8 +45,8 @@ def talk_all(server, count, length, seed=1, before_burst=lambda: None, between=(
         first.send(*world.lines())
         first.end()
     spoken = {b"keys client-%d" % place: [
-        each for line in Chatter(world, seed * 1000 + place).lines(length) for each in (line, *between)]
-        for place in range(count)}
+        each for line in Chatter(world, seed * 1000 + place, 12 if place < _WITH_CURSORS else 0).lines(length)
+        for each in (line, *between)] for place in range(count)}
     with ThreadPoolExecutor(count) as pool:
         talks = {name: pool.submit(talk, server.path, name, lines, seed * 1000 + place, before_burst)
                  for place, (name, lines) in enumerate(spoken.items())}
@@ -92,7 +96,8 @@ class ManyClients(unittest.TestCase):
 
     def test_fifty_clients_at_once(self):
         with Server("--engines", "3") as server:
-            kinds = b"\npiece ", b"\nstale keyring ", b"\nok stored ", b"\nrefused misfiled\n"
+            # Whether a cursor is still current when its next line comes is up to the others: neither is asked for.
+            kinds = b"\nok stored ", b"\nrefused misfiled\n"
             self.check(server, *talk_all(server, 50, 30), kinds)
 
     def test_engines_killed_in_mid_stream(self):

@@ -79,14 +79,15 @@ class World:
 class Chatter:
     """Random lines of one client."""
 
-    def __init__(self, world, seed):
+    def __init__(self, world, seed, cursors=4):
         self._world = world
         self._random = random.Random(seed)
+        self._cursors = cursors  # How often lines of cursors come, beside others.
 
     def lines(self, count):
         front = [b"view p time 5000", b"view p root %s 120" % self._pick(self._world.fprs)]
         makers = [self._view] * 5 + [self._ask] * 6 + [self._tell] * 3 + [self._change] * 4 + \
-            [self._cursor] * 4 + [self._directory, self._other, self._odd]
+            [self._cursor] * self._cursors + [self._directory, self._other, self._odd]
         return front + [self._pick(makers)() for _ in range(count)]
 
     def _pick(self, items):
