@@ -1,8 +1,8 @@
 """Widths of lines and clauses, and lengths of functions and modules.
 
-Lines have at most 120 columns, but for proofs and printed text in documents. A clause of a contract has at most 140,
-with its lines joined and its spaces folded. A function of Rattle has at most 60 lines without its contract, one of
-Python 40; a module of Python has at most 250.
+Lines have at most 120 columns, but for proofs, and in documents for printed text and the tables that benches write. A
+clause of a contract has at most 140, with its lines joined and its spaces folded. A function of Rattle has at most 60
+lines without its contract, one of Python 40; a module of Python has at most 250.
 """
 
 import ast
@@ -71,10 +71,11 @@ def functions_of(text: str, tokens: Tokens) -> Iterator[tuple[int, str, int]]:
 
 
 def long_lines(path: str, text: str) -> Iterator[Finding]:
-    printed = False
+    printed = written = False
     for number, line in enumerate(text.splitlines(), 1):
         printed ^= path.endswith(".md") and line.lstrip().startswith("```")
-        if len(line) > LINE and not printed:
+        written = line.startswith("<!-- bench ") or written and line != "<!-- end -->"
+        if len(line) > LINE and not printed and not written:
             yield Finding(path, number, f"a line of {len(line)} columns", f"break it at {LINE}", "lines")
 
 

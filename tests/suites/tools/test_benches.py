@@ -79,7 +79,7 @@ class Shown(unittest.TestCase):
         self.assertEqual(run("bench/tables", self.runs, page, "--check")[0], 1)
         self.assertEqual(run("bench/tables", self.runs, page)[0], 0)
         text = page.read_text(encoding="utf-8")
-        self.assertIn("| a list | 10, 1,000 | 4, 40 us | the peer: 8, the peer: 80 | 0.5, 0.5 |", text)
+        self.assertIn("| a list | 10, 1,000 | 4, 40 us | the peer: 8, 80 | 0.5, 0.5 |", text)
         self.assertIn("| other |  | 1,234 us |  |  |", text)
         self.assertIn("\n2026-01-02, 4 processors (a processor), load 0 to 2.\n", text)
         self.assertTrue(text.startswith("# Page\n") and text.endswith("<!-- end -->\nbehind\n"))
