@@ -74,8 +74,9 @@ class Keyrings:
 
     async def remove(self, name: str) -> bool:
         """Watches a keyring no longer; what was taken from it stays. False where it isn't watched."""
-        self._stamps.pop(name, None)
-        return await self._hub.write(lambda: self._hub.database.drop_source(name))
+        async with self._lock:  # A keyring that is being read would be noted again behind its removal.
+            self._stamps.pop(name, None)
+            return await self._hub.write(lambda: self._hub.database.drop_source(name))
 
     async def watch(self) -> None:
         """Looks after the keyrings, for ever."""
