@@ -3,6 +3,7 @@
 
 mod digest;
 mod key;
+pub mod laws;
 
 pub use digest::{fingerprint, key_id};
 pub use key::{Key, read_key};

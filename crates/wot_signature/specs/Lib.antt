@@ -4,3 +4,4 @@ pub mod Body
 pub mod Signature
 pub mod Notes
 pub mod Lent
+pub mod VersionFour

@@ -5,6 +5,7 @@
 mod facts;
 mod hints;
 mod known;
+pub mod laws;
 mod notes;
 mod parts;
 mod patterns;
