@@ -4,6 +4,7 @@ mod Asking
 mod Marking
 pub mod Turning
 pub mod Lines
+pub mod DumpSize
 pub mod Replay
 pub mod Counting
 pub mod Grounds

@@ -67,7 +67,7 @@ pub countable : (before now : List ℕ) (all : Views) (e : List ℕ × View) (re
 countable before now all e rest count so_far few = omega (arith, so_far.counted, length-view_commands e (flat_map view_commands rest), few)
 
 -- within the limits there are not many commands
-few_commands : (l : Limits) (views : Views) → l.roots ≤ 64 → AllByRecursion (λ (e : List ℕ × View). length e.1.roots ≤ l.roots) views
+pub few_commands : (l : Limits) (views : Views) → l.roots ≤ 64 → AllByRecursion (λ (e : List ℕ × View). length e.1.roots ≤ l.roots) views
     → length (flat_map view_commands views) ≤ 65 * length views
 few_commands l [] small few = omega arith
 few_commands l (e ∷ views) small few =

@@ -120,6 +120,7 @@ pub fn put_engine(
     ensures count { IfOk result (λ count. count ≡ length (commands_over keyring.now views.now.entries)) }
     ensures kept { OnErr result (out.new.items ≡ out.old.items) }
     ensures read_back { OnOk result (AreLines (commands_over keyring.now views.now.entries)) }
+    ensures size { OnOk result (length (lines_of (commands_over keyring.now views.now.entries)) < 2 ^ 30) }
     ensures restored { OnOk result ((rows : Rows) → IsRestored rows (engine_of keyring.now views.now.entries)) }
 {
     replayed();

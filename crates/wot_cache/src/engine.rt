@@ -448,6 +448,8 @@ impl Engine {
         ensures kept { OnErr result (out.new.items ≡ out.old.items) }
         // Each command is printed as one line, which is read as that command.
         ensures read_back { OnOk result (AreLines (commands_of (state_of self.now))) }
+        // So one run reads it.
+        ensures size { OnOk result (length (lines_of (commands_of (state_of self.now))) < 2 ^ 30) }
         // By whatever rows the fresh engine judges.
         ensures restored { OnOk result ((rows : Rows) → IsRestored rows self.now) }
     {

@@ -6,3 +6,4 @@ pub mod Clear
 pub mod Edges
 pub mod Targets
 pub mod Reasoned
+pub mod Around

@@ -5,3 +5,4 @@ pub mod Explaining
 pub mod Usable
 pub mod Listing
 pub mod Piece
+pub mod Around

@@ -36,3 +36,4 @@ pub mod Since
 pub mod InPlace
 pub mod Entry
 pub mod SpareRoom
+pub mod DumpSize

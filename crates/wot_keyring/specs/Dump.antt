@@ -1,5 +1,5 @@
 -- The commands that make anew what is held, and their text.
-use Rattle.std.specs.Prelude.{◌≡◌, ◌≢◌, ◌≤◌, ℕ, if◌then◌else◌, List, [], ◌∷◌, ◌++◌, map, length}
+use Rattle.std.specs.Prelude.{◌≡◌, ◌≢◌, ◌≤◌, ◌+◌, ◌*◌, ℕ, if◌then◌else◌, List, [], ◌∷◌, ◌++◌, map, length}
 use Rattle.std.specs.Prelude.{Option, Some, None, Result, Ok, Err}
 use Rattle.std.specs.List.{AllByRecursion, flat_map}
 use Rattle.wot_types.specs.declared.fpr.Fpr.{Fpr}
@@ -9,7 +9,7 @@ use Rattle.wot_policy.specs.declared.rows.PolicyRows.{PolicyRows}
 use Rattle.wot_script.specs.declared.command.Command.{Command}
 use Rattle.wot_script.specs.declared.command.Command.TheVariants as commands
 use Rattle.wot_script.specs.Grammar.{command_of}
-use Rattle.wot_script.specs.Spelling.{IsHeard, spelling}
+use Rattle.wot_script.specs.Spelling.{IsHeard, most_octets, spelling}
 use Rattle.wot_verdict.specs.declared.verdict.Verdict.{Verdict}
 use Rattle.wot_verdict.specs.declared.verdict.Verdict.TheVariants.{Good, Bad}
 use Rattle.wot_cert.specs.Certificate.{Certificate}
@@ -47,15 +47,22 @@ command_line_of c = spelling c ++ 10 ∷ []
 abbrev pub lines_of : List Command → List ℕ
 lines_of commands = flat_map command_line_of commands
 
--- The line of a command is one line, isn't passed over, isn't too long, and is read as this command.
+-- The line of a command is one line, isn't passed over, isn't too long, is no longer than such a command's line can be,
+-- and is read as this command.
 pub record IsLine (c : Command) : Type 0 where
   pub no_feed : AllByRecursion (λ octet. octet ≢ 10) (spelling c)
   pub heard : IsHeard (spelling c)
   pub short : length (spelling c) ≤ 16777216
+  pub fits : length (spelling c) ≤ most_octets c
   pub read : command_of (spelling c) ≡ Some c
 
 abbrev pub AreLines : List Command → Type 0
 AreLines commands = AllByRecursion IsLine commands
+
+-- How many octets the lines are at most: two digits for each octet of a certificate, with `import`, a space and a line
+-- feed beside them, and 142 octets and a line feed for each verdict.
+abbrev pub most_dumped : Limits → ℕ
+most_dumped l = 8 * l.certificates + 2 * l.octets + 143 * l.verdicts
 
 -- ---- what the commands do in a fresh keyring
 

@@ -15,7 +15,7 @@ ghost use Rattle.wot_keyring.specs.Kept.{AreSortedByFpr, AreNamed, AreSized, Are
 ghost use Rattle.wot_keyring.specs.Kept.{IsKeyring, StaysJudged};
 ghost use Rattle.wot_policy.specs.declared.rows.PolicyRows.{PolicyRows as Rows};
 ghost use Rattle.wot_policy.specs.Kept.{IsFaithful, rows_of, asked_more};
-ghost use Rattle.wot_keyring.specs.Dump.{commands_of, lines_of, AreLines, IsRestored};
+ghost use Rattle.wot_keyring.specs.Dump.{commands_of, lines_of, most_dumped, AreLines, IsRestored};
 ghost use Rattle.wot_keyring.specs.Import.{IsOneChange, with_united};
 ghost use Rattle.wot_keyring.specs.Held.{held_of, removing, verdict_set, verdict_cleared};
 ghost use Rattle.wot_keyring.specs.Later.{IsLater};
@@ -448,6 +448,7 @@ impl Keyring {
         ensures kept { OnErr result (out.new.items ≡ out.old.items) }
         // Each command is printed as one line, which is read as that command.
         ensures read_back { OnOk result (AreLines (commands_of (held_of self.now))) }
+        ensures size { OnOk result (length (lines_of (commands_of (held_of self.now))) ≤ most_dumped self.now.limits) }
         // By whatever rows the fresh keyring judges.
         ensures restored { OnOk result ((rows : Rows) → IsRestored rows self.now) }
     {

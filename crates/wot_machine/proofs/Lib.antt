@@ -42,3 +42,4 @@ mod Asking
 mod Judging
 mod GoingOn
 mod Slices
+mod Explained

@@ -6,10 +6,12 @@ use Rattle.std.specs.List.{AllByRecursion}
 use Rattle.std.specs.Option.{option_map}
 use Rattle.wot_types.specs.declared.fpr.Fpr.{Fpr}
 use Rattle.wot_policy.specs.declared.rows.PolicyRows.{PolicyRows}
-use Rattle.wot_script.specs.declared.command.Command.TheVariants.{Ask}
+use Rattle.wot_script.specs.declared.command.Command.TheVariants.{Ask, Explain}
 use Rattle.wot_script.specs.Grammar.{command_of}
-use Rattle.wot_cert.specs.Certificate.{Certificate, unmarked}
+use Rattle.wot_verdict.specs.Verdicts.{verdict_at}
+use Rattle.wot_cert.specs.Certificate.{Certificate, Signature, unmarked}
 use Rattle.wot_cert.specs.Counts.{all_sigs}
+use Rattle.wot_cert.specs.Issuer.{good_by}
 use Rattle.wot_edge.specs.declared.path.Path.{Path}
 use Rattle.wot_edge.specs.Answer.{IsAnswer}
 use Rattle.wot_edge.specs.Record.{Has}
@@ -66,3 +68,31 @@ DoAnswersRestOnSlices rows =
     → (uid : List ℕ) (wanted : ℕ) (paths : List Path)
     → IsAnswer (question_in one.state view target uid) wanted paths
     ↔ IsAnswer (question_in other.state view target uid) wanted paths
+
+-- ---- `explain`
+
+-- Both hold the same at the issuer by whom the verdict on a signature is good, if there is one.
+abbrev pub HoldAlikeAtIssuer : Held → Held → Signature → Type 0
+HoldAlikeAtIssuer one other s =
+    (issuer : Fpr) → good_by (verdict_at one.verdicts s.number) ≡ Some issuer → HoldAlike one other issuer
+
+-- For explanations of a certificate from the view of that name two states are alike: the view has the same time and
+-- roots in both or is open in neither, and they hold the same certificate and the same issuers of its signatures.
+-- Whatever else they hold may differ.
+pub record AreAlikeAround (name : List ℕ) (target : Fpr) (one other : State) : Type 0 where
+  pub view : view_at one.views name ≡ view_at other.views name
+  pub here : HoldAlike one.held other.held target
+  pub issuers : (c : Certificate) → cert_in one.held target ≡ Some c
+      → AllByRecursion (HoldAlikeAtIssuer one.held other.held) (all_sigs c)
+
+-- a line `explain` about the certificate from the view of that name
+pub record IsExplaining (name : List ℕ) (target : Fpr) (line : List ℕ) : Type 0 where
+  pub uid : List ℕ
+  pub read : command_of line ≡ Some (Explain name target uid)
+
+-- The reply to `explain` rests on the certificate and on the issuers of its signatures.
+abbrev pub DoExplanationsRestOnIssuers : PolicyRows → Type 0
+DoExplanationsRestOnIssuers rows =
+    (name : List ℕ) (target : Fpr) (one other : Whole) → IsReached rows one → IsReached rows other
+    → AreAlikeAround name target one.state other.state
+    → (line : List ℕ) → IsExplaining name target line → AreRepliesAlike rows one other line

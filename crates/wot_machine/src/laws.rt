@@ -9,7 +9,7 @@ ghost use Rattle.wot_machine.specs.GoesOn.{FreshMachinesGoOn};
 ghost use Rattle.wot_machine.specs.Joined.{NextsAreTold, PiecesJoin, RunsAreExchanges, StaleNumbersDiffer};
 ghost use Rattle.wot_machine.specs.Law.{HaveOneOutcome, HaveOnlyWatchLines, HaveOutcomes, HaveWatchLines};
 ghost use Rattle.wot_machine.specs.Law.{LeadToStates, RefusalsLeaveAll};
-ghost use Rattle.wot_machine.specs.Slices.{DoAnswersRestOnSlices, DoRepliesRestOnSlices};
+ghost use Rattle.wot_machine.specs.Slices.{DoAnswersRestOnSlices, DoExplanationsRestOnIssuers, DoRepliesRestOnSlices};
 ghost use Rattle.wot_machine.specs.Transcript.{HasOneTranscript, StayJudged, Transcript};
 ghost use Rattle.wot_machine.specs.Worth.{QuietLinesTellNothing, WatchLinesAreNews, WatchesAreTrue};
 
@@ -19,7 +19,7 @@ use wot_check::laws::{
     accepted_paths_leave_nothing, check_is_one, least_table_is_one, least_tables_are_accepted,
 };
 use wot_edge::laws::answer_is_one;
-use wot_explain::laws::list_is_one;
+use wot_explain::laws::{explanations_rest_on_issuers, list_is_one};
 use wot_network::laws::{edges_rest_on_trust, record_is_lawful, records_agree};
 use wot_script::laws::lines_spell_commands;
 
@@ -100,6 +100,18 @@ pub fn questions_rest_on_slices()
     edges_rest_on_trust();
     records_agree();
     record_is_lawful();
+    judging();
+    reached_states_are_judged();
+    each_line_has_one_outcome();
+}
+
+/// The reply to `explain` rests on the certificate that is explained, on those of the issuers of its signatures by their
+/// verdicts, and on the verdicts on all their signatures. Two states that hold the same there, and in which the asking
+/// view is the same, have the same reply.
+pub fn explanations_rest_on_slices()
+    ensures { (rows : PolicyRows) → DoExplanationsRestOnIssuers rows }
+{
+    explanations_rest_on_issuers();
     judging();
     reached_states_are_judged();
     each_line_has_one_outcome();

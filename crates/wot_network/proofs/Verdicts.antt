@@ -24,6 +24,7 @@ use Rattle.wot_standing.specs.Usable.{is_key_in_order, is_in_order}
 use Rattle.wot_live.specs.Edge.{edge_by, edge_on}
 use Rattle.wot_live.specs.Rows.{edge_with, edges_on, edges_from, in_edge_order, edges_of, places_where, revoked_of}
 use Rattle.wot_keyring.specs.Later.{SaysSame}
+use Rattle.wot_network.specs.Standings.{GiveSame}
 
 -- ---- lists
 
@@ -89,6 +90,13 @@ module _ (v w : Entries) where
   own_revoked_same fpr t uid h =
       ap (λ (b : Bool). b && not (is_some (newest_certification v fpr t uid))) (list_any_same Same (revokes_by v fpr t) (revokes_by w fpr t) (revokes_same fpr t) uid.sigs h)
       ∙ ap (λ (o : Option Signature). list_any (revokes_by w fpr t) uid.sigs && not (is_some o)) (newest_same is_certification fpr t uid.sigs h)
+
+  pub uid_same : (fpr : Fpr) (t : ℕ) (uid : Component) → SameOn uid → GiveSame v w fpr t uid
+  uid_same fpr t uid h = record {
+    newest = newest_same is_certification fpr t uid.sigs h;
+    unrevoked = unrevoked_same fpr t uid.sigs h;
+    revoked = own_revoked_same fpr t uid h;
+  }
 
   -- ---- standing
 

@@ -5,3 +5,4 @@ pub mod Refreshing
 pub mod Local
 pub mod Roads
 pub mod Certified
+pub mod Standings

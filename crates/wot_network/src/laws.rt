@@ -7,6 +7,7 @@ ghost use Rattle.wot_keyring.specs.Later.{IsLater};
 ghost use Rattle.wot_network.specs.Certified.{RestsOnTrust};
 ghost use Rattle.wot_network.specs.Local.{IsLocal};
 ghost use Rattle.wot_network.specs.Net.{Marks, Net, Fits, signatures_in, stale_signatures};
+ghost use Rattle.wot_network.specs.Standings.{DecideStandings, DecideUserIds};
 ghost use Rattle.wot_network.specs.Told.{AreOwn, TellsRows, record_of};
 
 use wot_edge::laws::entries_are_record;
@@ -45,4 +46,11 @@ pub fn records_agree()
 /// found without a look at times, policy or revocations.
 pub fn edges_rest_on_trust()
     ensures trust { (certs : Certificates) (verdicts : Entries) (t : ℕ) (u : List ℕ) → RestsOnTrust certs verdicts t u }
+{}
+
+/// What verdicts give one certificate rests on the verdicts on its signatures alone: the standing of its key, and on each
+/// user ID what counts and what is revoked.
+pub fn own_verdicts_decide()
+    ensures standings { DecideStandings }
+    ensures user_ids { DecideUserIds }
 {}

@@ -3,6 +3,7 @@ use Rattle.std.specs.List.{flat_map}
 use Rattle.wot_types.specs.declared.limits.Limits.{Limits}
 use Rattle.wot_keyring.specs.Kept.{AreSmall}
 use Rattle.wot_cache.specs.Dump.{engine_of, view_commands}
+use Rattle.wot_cache.proofs.DumpSize.{dump_fits}
 use Rattle.wot_cache.proofs.Lines.{dumped, dumped_lines, few_lines}
 use Rattle.wot_cache.proofs.dump.put_engine.Goals as goal
 
@@ -35,3 +36,10 @@ returns-in-Ok-clause-restored c =
       roots = c.in-Ok.ensures.roots;
       sorted = c.put_views.ensures.sorted;
     })
+
+pub returns-in-Ok-clause-size : goal.returns-in-Ok-clause-size
+returns-in-Ok-clause-size c =
+    let Small : Limits → Type 0 = λ l. AreSmall l in
+    dump_fits (engine_of c.args.keyring.now c.args.views.now.entries)
+      (subst Small c.limits-limits.ensures.limits c.limits-limits.ensures.small) c.requires.within
+      c.in_ok-held.ensures.size (returns-in-Ok-clause-read_back c)

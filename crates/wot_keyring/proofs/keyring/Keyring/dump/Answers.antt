@@ -4,6 +4,7 @@ use Rattle.wot_types.specs.Limits.{standard_limits}
 use Rattle.wot_cert.specs.Certificate.{Certificate}
 use Rattle.wot_cert.specs.Text.{size_of}
 use Rattle.wot_keyring.specs.Keyring.{Keyring}
+use Rattle.wot_keyring.proofs.DumpSize.{dump_fits}
 use Rattle.wot_keyring.proofs.Lines.{dumped, dumped_lines, sizes_of}
 use Rattle.wot_keyring.proofs.keyring.Keyring.dump.Goals as goal
 
@@ -21,3 +22,7 @@ pub returns-in-Ok-clause-read_back : goal.returns-in-Ok-clause-read_back
 returns-in-Ok-clause-read_back c =
     dumped_lines c.args.self.now c.certs.result c.self.inside.verdicts c.certs.ensures.certs (ap (λ (k : Keyring). k.verdicts) c.self.view_is)
     c.in_ok-put_certs.ensures.lines c.in-Ok.ensures.lines
+
+pub returns-in-Ok-clause-size : goal.returns-in-Ok-clause-size
+returns-in-Ok-clause-size c =
+    dump_fits c.args.self.now c.self.inside.keyring (returns-in-Ok-clause-read_back c)
