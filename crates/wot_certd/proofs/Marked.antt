@@ -1,9 +1,9 @@
--- The mark of a new file, `_`, stands in no entry's place.
+-- The mark of a new file, `_`, is in no entry's place.
 use Rattle.std.proofs.Common.{zero, suc, arith, refl, subst, sym, ◌∙◌, Result, Ok, Err}
 use Rattle.std.specs.Prelude.{◌≡◌, ◌≢◌, IfOk, ℕ, ◌/◌, ◌%◌, List, [], ◌∷◌, ◌++◌, take, drop, slice_index, codes}
 use Rattle.std.specs.List.{AllByRecursion}
 use Rattle.std.specs.Fmt.{decimal}
-use Rattle.hex.specs.Hex.{encode_lower, encode_with, lower_digits}
+use Rattle.hex.specs.Hex.{encode_with, lower_digits}
 use Rattle.wot_types.specs.declared.fpr.Fpr.{Fpr}
 use Rattle.wot_types.specs.declared.name.Name.{Name}
 use Rattle.wot_types.specs.declared.name.Name.TheVariants.{Cert, TrustRoot}
@@ -78,11 +78,13 @@ marked name number h =
     let named = folder_of name ++ codes "_" in
     let filed = named ++ file_of name in
     let dotted = filed ++ codes "." in
-    (back (folder_of name) (codes "_") (front named (file_of name) (front filed (codes ".") (front dotted (decimal number) h)))).0
+    (back (folder_of name) (codes "_")
+    (front named (file_of name) (front filed (codes ".") (front dotted (decimal number) h)))).0
     refl
 
 is_no_entry : (name entry : Name) (number : ℕ) → place_beside name number ≢ place_of entry
-is_no_entry name entry number e = marked name number (let P : List ℕ → Type 0 = Unmarked in subst P (sym e) (unmarked entry))
+is_no_entry name entry number e =
+    marked name number (let P : List ℕ → Type 0 = Unmarked in subst P (sym e) (unmarked entry))
 
 -- so no text that spells it is one
 pub text_is_no_entry : {T E : Type 0} (result : Result T E) (bytes : T → List ℕ) (name : Name) (number : ℕ)

@@ -1,5 +1,7 @@
+-- The places of certificates: digits of fingerprints, split by a slash, and read back.
 use Rattle.std.proofs.Common.{arith, ap, refl, sym, inl, inr, ◌∙◌, cond, ◌==◌}
-use Rattle.std.specs.Prelude.{◌≡◌, ℕ, ◌+◌, ◌/◌, ◌%◌, ◌<◌, ◌≤◌, ◌⊎◌, Bool, true, false, List, [], ◌∷◌, ◌++◌, length, take, drop, slice_index, codes, Option, Some, None, Err}
+use Rattle.std.specs.Prelude.{◌≡◌, ℕ, ◌+◌, ◌/◌, ◌%◌, ◌<◌, ◌≤◌, ◌⊎◌, Bool, true, false, List, [], ◌∷◌, ◌++◌, length}
+use Rattle.std.specs.Prelude.{take, drop, slice_index, codes, Option, Some, None, Err}
 use Rattle.std.specs.Result.{result_ok}
 use Rattle.std.specs.Option.{option_map, option_or}
 use Rattle.std.proofs.lemmas.Bool.{eqb-true}
@@ -30,23 +32,27 @@ some_octets (V4 octets) h = omega (arith, h)
 some_octets (V6 octets) h = omega (arith, h)
 
 -- digits of another number of octets are not read
-unread : (count : ℕ) (octets : List ℕ) → (length octets ≡ count → ⊥) → array_of_digits count (encode_lower octets) ≡ None
+unread : (count : ℕ) (octets : List ℕ) → (length octets ≡ count → ⊥)
+    → array_of_digits count (encode_lower octets) ≡ None
 unread count octets apart = by (length (encode_lower octets) % 2 == 1) (length (encode_lower octets) / 2 == count) refl
   where
     same : length (encode_lower octets) / 2 ≡ length octets
     same = let e = length-encode_with lower_digits octets in omega (arith, e)
 
     by : (odd right : Bool) → (length (encode_lower octets) / 2 == count) ≡ right
-        → result_ok (cond odd (Err OddLength) (cond right (decode_pairs 0 (encode_lower octets)) (Err InvalidStringLength))) ≡ None
+        → result_ok (cond odd (Err OddLength)
+        (cond right (decode_pairs 0 (encode_lower octets)) (Err InvalidStringLength))) ≡ None
     by true right e = refl
     by false false e = refl
     by false true e = absurd (apart (sym same ∙ eqb-true (length (encode_lower octets) / 2) count e))
 
 pub fpr_read_back : (fpr : Fpr) → IsFpr fpr → fpr_of_digits (digits_of fpr) ≡ Some fpr
 fpr_read_back (V4 octets) h =
-    ap (λ r. option_or (option_map V4 (result_ok r)) (option_map V6 (array_of_digits 32 (encode_lower octets)))) (decode_sized-encode_lower octets 20 h.0 h.1)
+    ap (λ r. option_or (option_map V4 (result_ok r)) (option_map V6 (array_of_digits 32 (encode_lower octets))))
+    (decode_sized-encode_lower octets 20 h.0 h.1)
 fpr_read_back (V6 octets) h =
-    ap (λ o. option_or (option_map V4 o) (option_map V6 (array_of_digits 32 (encode_lower octets)))) (unread 20 octets (λ e. omega (arith, h.0, e)))
+    ap (λ o. option_or (option_map V4 o) (option_map V6 (array_of_digits 32 (encode_lower octets))))
+    (unread 20 octets (λ e. omega (arith, h.0, e)))
     ∙ ap (λ r. option_map V6 (result_ok r)) (decode_sized-encode_lower octets 32 h.0 h.1)
 
 -- as many digits as a fingerprint has
@@ -83,7 +89,8 @@ joined_again (a ∷ b ∷ digits) h = refl
 
 pub digits_there : (place : List ℕ) (fpr : Fpr) → IsFpr fpr → place ≡ split_digits (digits_of fpr)
     → take 2 place ++ drop 3 place ≡ digits_of fpr
-digits_there place fpr f e = rw e (joined_again (digits_of fpr) (some_digits (length (digits_of fpr)) (length_digits fpr f)))
+digits_there place fpr f e =
+    rw e (joined_again (digits_of fpr) (some_digits (length (digits_of fpr)) (length_digits fpr f)))
 
 pub read_there : (place : List ℕ) (fpr : Fpr) → IsFpr fpr → place ≡ split_digits (digits_of fpr)
     → fpr_of_digits (take 2 place ++ drop 3 place) ≡ Some fpr
@@ -96,8 +103,10 @@ length_there place fpr f e =
     let split = length_split (digits_of fpr) (some_digits (length (digits_of fpr)) digits) in
     one_more (length (digits_of fpr)) (length place) (ap length e ∙ split) digits
 
-pub slash_there : (place : List ℕ) (fpr : Fpr) → IsFpr fpr → place ≡ split_digits (digits_of fpr) → slice_index place 2 ≡ 47
-slash_there place fpr f e = rw e (slash_between (digits_of fpr) (some_digits (length (digits_of fpr)) (length_digits fpr f)))
+pub slash_there : (place : List ℕ) (fpr : Fpr) → IsFpr fpr → place ≡ split_digits (digits_of fpr)
+    → slice_index place 2 ≡ 47
+slash_there place fpr f e =
+    rw e (slash_between (digits_of fpr) (some_digits (length (digits_of fpr)) (length_digits fpr f)))
 
 pub stands_there : (place : List ℕ) → 3 ≤ length place → slice_index place 2 ≡ 47
     → split_digits (take 2 place ++ drop 3 place) ≡ place

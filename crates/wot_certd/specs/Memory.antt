@@ -4,7 +4,7 @@ use Rattle.wot_types.specs.declared.name.Name.{Name}
 use Rattle.wot_io.specs.Counts.{next_count}
 use Rattle.wot_certd.specs.World.{World, with_entry}
 
--- What it tells, and the count of faults.
+-- What contracts see of it, and the count of faults.
 pub record ShelfMemory : Type 0 where
   pub world : World
   pub faults : ℕ

@@ -10,7 +10,7 @@ use Rattle.wot_types.specs.declared.fpr.Fpr.{Fpr}
 use Rattle.wot_types.specs.declared.fpr.Fpr.TheVariants.{V4, V6}
 use Rattle.wot_types.specs.Fpr.{digits_of, fpr_cmp}
 
--- Certificates come in the order of their fingerprints, and the trust root last.
+-- Certificates in the order of their fingerprints, and then the trust root.
 abbrev pub name_cmp : Name → Name → Ordering
 name_cmp (Cert a) (Cert b) = fpr_cmp a b
 name_cmp (Cert a) TrustRoot = Less
@@ -21,12 +21,12 @@ name_cmp TrustRoot TrustRoot = Equal
 abbrev pub split_digits : List ℕ → List ℕ
 split_digits digits = take 2 digits ++ codes "/" ++ drop 2 digits
 
--- Where an entry stands in a directory: a certificate by the digits of its fingerprint in lower case.
+-- The place of an entry in a directory: for a certificate, the digits of its fingerprint in lower case.
 abbrev pub place_of : Name → List ℕ
 place_of (Cert fpr) = split_digits (digits_of fpr)
 place_of TrustRoot = codes "trust-root"
 
--- The folder of an entry in the directory, with a slash behind it. The trust root stands in the directory itself.
+-- The folder of an entry in the directory, with a slash behind it. The trust root lies in the directory itself.
 abbrev pub folder_of : Name → List ℕ
 folder_of (Cert fpr) = take 2 (digits_of fpr) ++ codes "/"
 folder_of TrustRoot = []
@@ -36,7 +36,7 @@ abbrev pub file_of : Name → List ℕ
 file_of (Cert fpr) = drop 2 (digits_of fpr)
 file_of TrustRoot = codes "trust-root"
 
--- Where the new file of an entry is written before it takes the entry's place: `_FILE.NUMBER` in the entry's folder.
+-- The place where the new file of an entry is written before it is renamed: `_FILE.NUMBER` in the entry's folder.
 abbrev pub place_beside : Name → ℕ → List ℕ
 place_beside name number = folder_of name ++ codes "_" ++ file_of name ++ codes "." ++ decimal number
 

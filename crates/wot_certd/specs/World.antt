@@ -1,5 +1,5 @@
--- The world of a shelf: what it tells, and what each call gives and leaves. Calls are numbered from 1.
-use Rattle.std.specs.Prelude.{ℕ, ◌==◌, ◌&&◌, Bool, not, if◌then◌else◌, nat_lt, List, [], length, Option, Some, None}
+-- The world of a shelf: what it holds, what each call returns, and what it leaves. Calls are numbered from 1.
+use Rattle.std.specs.Prelude.{ℕ, ◌==◌, ◌&&◌, Bool, not, if◌then◌else◌, nat_lt, List, length, Option, Some, None}
 use Rattle.std.specs.List.{list_any}
 use Rattle.std.specs.BTreeMap.{is_at, insert_entry}
 use Rattle.std.specs.Map.{lookup}
@@ -23,8 +23,8 @@ entry_at entries name = lookup (is_name name) entries
 abbrev pub with_entry : Entries → Name → List ℕ → Entries
 with_entry entries name octets = insert_entry name_cmp entries name octets
 
--- The entries, how many calls were made, the numbers of the calls that fail, and the numbers of the replaces that
--- put their octets although they fail.
+-- The entries, how many calls were made, the numbers of the calls that fail, and the numbers of the replaces that store
+-- their octets although they fail.
 pub record World : Type 0 where
   pub entries : Entries
   pub calls : ℕ
@@ -39,11 +39,11 @@ is_one_of numbers number = list_any (λ n. n == number) numbers
 abbrev pub fails_next : World → Bool
 fails_next world = is_one_of world.fails (next_count world.calls)
 
--- whether the next call puts its octets although it fails
+-- whether the next call stores its octets although it fails
 abbrev pub late_next : World → Bool
 late_next world = is_one_of world.late (next_count world.calls)
 
--- after one more call that left the entries
+-- after one more call that changed no entry
 abbrev pub called : World → World
 called world = record world { calls = next_count world.calls }
 
@@ -54,20 +54,20 @@ pub data Answer : Type 0 where
   long : Answer
   entry : List ℕ → Answer
 
--- What is answered of an entry, or of none.
+-- The answer for an entry, or for none.
 abbrev pub entry_answer : Option (List ℕ) → Answer
 entry_answer None = absent
 entry_answer (Some octets) = if nat_lt 8388608 (length octets) then long else entry octets
 
--- what the next call answers, where it reads this name; `called` is the world after it
+-- the answer of the next call, if it reads this name; `called` is the world after it
 abbrev pub read_answer : World → Name → Answer
 read_answer world name = if fails_next world then fault else entry_answer (entry_at world.entries name)
 
--- after one more call that put these octets under the name
+-- after one more call that stored these octets under the name
 abbrev pub put_by_call : World → Name → List ℕ → World
 put_by_call world name octets = called (record world { entries = with_entry world.entries name octets })
 
--- After the next call, where it puts these octets under the name; `fails_next` is whether it fails.
+-- After the next call, if it stores these octets under the name; `fails_next` says whether it fails.
 abbrev pub after_replace : World → Name → List ℕ → World
 after_replace world name octets =
     if fails_next world && not (late_next world) then called world else put_by_call world name octets

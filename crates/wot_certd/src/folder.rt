@@ -1,5 +1,8 @@
-//! The certificate directory in the file system. How its files are read and written stands in `writing`; here is what
-//! contracts see of it: a count of faults.
+//! The certificate directory in the file system. Contracts see only its count of faults, since a real directory's
+//! contents aren't known in advance.
+//!
+//! `writing` reads and writes the files. `main` in `wot_cli` makes one for a run; `tests/suites/directory` tests it
+//! over the built program.
 ghost use Rattle.std.specs.Prelude.{◌≡◌, ◌≤◌, None, IfOk, OnOk, IsErrOf};
 ghost use Rattle.wot_io.specs.Counts.{Rose, next_count};
 ghost use Rattle.wot_certd.specs.Shelf.{IsWithin};
@@ -12,8 +15,7 @@ use std::marker::Model;
 use std::rt::Files;
 use wot_types::{Memory, Name};
 
-/// A certificate directory in the file system. It tells nothing of its entries, and contracts see its count of faults
-/// alone.
+/// A certificate directory in the file system. Contracts see only its count of faults.
 #[derive(Drop)]
 pub struct FolderShelf<'a, R: Files> {
     files: &'a R,
@@ -31,7 +33,7 @@ impl<'a, R: Files> Model for FolderShelf<'a, R> {
 }
 
 impl<'a, R: Files> FolderShelf<'a, R> {
-    /// The directory in this folder, which needn't be there. `files` is the runtime of `main`.
+    /// The directory in this folder, which needn't exist. `files` is the runtime of `main`.
     pub fn new(alloc: Global, files: &'a R, folder: &str) -> Result<FolderShelf<'a, R>, Memory>
         ensures { IfOk result (λ shelf. shelf ≡ 0) }
     {
@@ -44,8 +46,8 @@ impl<'a, R: Files> FolderShelf<'a, R> {
         })
     }
 
-    /// What an error is. "Out of memory" is the program's own; every error that the system reports is a fault, which is
-    /// counted, also where the system has no memory.
+    /// Sorts an error. If the program itself ran out of memory, it is `Memory`. Every error that the system reports is
+    /// a fault and is counted, even if the system is out of memory.
     fn fault_of(&mut self, error: &io::Error) -> ShelfFault
         ensures cause { result ≡ ShelfFault.Failed → self.new ≡ next_count self.old }
         ensures wanting { result ≡ ShelfFault.Memory → self.new ≡ self.old }
@@ -59,7 +61,7 @@ impl<'a, R: Files> FolderShelf<'a, R> {
     }
 }
 
-/// Every error of the system is a fault, but that a file or its folder isn't there when it is read.
+/// Every error of the system is a fault, except that a file to be read, or its folder, doesn't exist.
 impl<R: Files> Shelf for FolderShelf<'_, R> {
     ghost world = { λ _. None };
 
@@ -79,7 +81,7 @@ impl<R: Files> Shelf for FolderShelf<'_, R> {
         }
     }
 
-    /// A new file is written beside the old one, stored, and takes its place; then the folders are stored.
+    /// Writes and syncs a new file next to the old one, renames it over the old one, and syncs the folders.
     fn replace(&mut self, name: &Name, bytes: &[u8]) -> Result<(), ShelfFault>
         ensures later { self.old ≤ self.new }
         ensures cause { IsErrOf result ShelfFault.Failed → Rose self.old self.new }

@@ -1,4 +1,8 @@
-//! The certificate directory: shelves of entries, and the names under which the entries stand.
+//! The certificate directory: the trait `Shelf`, a shelf in memory and one in the file system, and where each entry
+//! lies.
+//!
+//! It stands on `wot_io`, whose counts of faults it uses, and `hex`. `load` and `store` of `wot_machine` read and
+//! replace entries through `Shelf`; `main` opens the directory.
 #![tactic(auto)]
 
 mod folder;

@@ -1,7 +1,11 @@
+//! A certificate directory in memory, with calls that fail on demand. It is for tests, and shows what `Shelf` promises:
+//! its contracts say exactly what each call does.
+//!
+//! It stands on `specs/World.antt` and `specs/Memory.antt`.
 ghost use Rattle.std.specs.Prelude.{◌≡◌, ◌≤◌, [], Some, IfOk, IfErr, IfSome, OnOk, OnErr, IsErrOf};
 ghost use Rattle.std.specs.Option.{option_copied};
 ghost use Rattle.wot_io.specs.Counts.{Rose, next_count};
-ghost use Rattle.wot_certd.specs.World.{is_one_of, called, fails_next, late_next, entry_at, with_entry, put_by_call};
+ghost use Rattle.wot_certd.specs.World.{is_one_of, called, fails_next, entry_at, with_entry};
 ghost use Rattle.wot_certd.specs.World.{entry_answer, read_answer};
 ghost use Rattle.wot_certd.specs.Shelf.{IsWithin, Gives, Answers, AnswersReplace, Becomes, Replaces};
 ghost use Rattle.wot_certd.specs.Memory.{entered, faulted};
@@ -45,7 +49,7 @@ fn put(entries: &mut Entries, name: Name, octets: Vec<u8>) -> Result<(), Memory>
     Ok(())
 }
 
-/// Gives a copy of the octets of an entry, where they aren't too many.
+/// A copy of an entry's octets, unless they are too many.
 fn copy_of(alloc: Global, octets: &[u8]) -> Result<Given, Memory>
     ensures gives { IfOk result (λ given. Gives given (entry_answer (Some octets.now))) }
     ensures within { IfOk result (λ given. IsWithin given) }
@@ -84,8 +88,8 @@ impl Model for MemoryShelf {
 }
 
 impl MemoryShelf {
-    /// An empty shelf. The calls with the numbers in `fails`, counted from 1, fail. A replace whose
-    /// number is in `late`, too, puts its octets although it fails.
+    /// An empty shelf. The calls whose numbers, counted from 1, are in `fails` fail. A replace whose number is in
+    /// `late` too stores its octets although it fails.
     pub fn new(alloc: Global, fails: Vec<u64>, late: Vec<u64>) -> MemoryShelf
         ensures { result ≡ record {
           world = record { entries = []; calls = 0; fails = fails.items; late = late.items };
@@ -102,7 +106,7 @@ impl MemoryShelf {
         }
     }
 
-    /// Sets an entry, by no call of the shelf. After `Memory` all is as before.
+    /// Sets an entry without a call of the shelf. After `Memory` nothing changed.
     pub fn put(&mut self, name: Name, bytes: Vec<u8>) -> Result<(), Memory>
         ensures set { OnOk result (self.new ≡ entered self.old name bytes.items) }
         ensures kept { OnErr result (self.new ≡ self.old) }
@@ -110,7 +114,7 @@ impl MemoryShelf {
         put(&mut self.entries, name, bytes)
     }
 
-    /// Counts a call, and tells whether it fails.
+    /// Counts a call, and returns whether it fails.
     fn call(&mut self) -> bool
         ensures fails { result ≡ fails_next self.old.world }
         ensures called { self.new ≡ record self.old { world = called self.old.world } }
@@ -119,14 +123,14 @@ impl MemoryShelf {
         self.fails.contains(&self.calls)
     }
 
-    /// Whether the call that was counted last puts its octets although it fails.
+    /// Whether the last counted call stores its octets although it fails.
     fn is_late(&self) -> bool
         ensures { result ≡ is_one_of self.now.world.late self.now.world.calls }
     {
         self.late.contains(&self.calls)
     }
 
-    /// Counts a fault, and tells it.
+    /// Counts a fault, and returns it.
     fn fault(&mut self) -> ShelfFault
         ensures told { result ≡ ShelfFault.Failed }
         ensures counted { self.new ≡ faulted self.old }
@@ -136,7 +140,7 @@ impl MemoryShelf {
         ShelfFault::Failed
     }
 
-    /// Gives what stands under a name.
+    /// Reads the entry under a name.
     fn give(&self, name: &Name) -> Result<Given, ShelfFault>
         ensures gives { IfOk result (λ given. Gives given (entry_answer (entry_at self.now.world.entries name.now))) }
         ensures within { IfOk result (λ given. IsWithin given) }
@@ -151,7 +155,7 @@ impl MemoryShelf {
         }
     }
 
-    /// Puts a copy of these octets under a name.
+    /// Stores a copy of these octets under a name.
     fn put_copy(&mut self, name: &Name, bytes: &[u8]) -> Result<(), Memory>
         ensures set { OnOk result (self.new ≡ entered self.old name.now bytes.now) }
         ensures kept { OnErr result (self.new ≡ self.old) }
@@ -173,7 +177,7 @@ impl Shelf for MemoryShelf {
         ensures later { self.old.faults ≤ self.new.faults }
         ensures cause { IsErrOf result ShelfFault.Failed → Rose self.old.faults self.new.faults }
 
-        // What the trait leaves open: the count rises in these calls alone.
+        // What the trait leaves open: the count rises in these calls only.
         ensures counted { IsErrOf result ShelfFault.Failed → self.new.faults ≡ next_count self.old.faults }
         ensures given { OnOk result (self.new.faults ≡ self.old.faults) }
         ensures wanting { IsErrOf result ShelfFault.Memory → self.new.faults ≡ self.old.faults }
@@ -191,7 +195,7 @@ impl Shelf for MemoryShelf {
         ensures later { self.old.faults ≤ self.new.faults }
         ensures cause { IsErrOf result ShelfFault.Failed → Rose self.old.faults self.new.faults }
 
-        // What the trait leaves open: the count rises in these calls alone, and "out of memory" leaves all entries.
+        // What the trait leaves open: the count rises in these calls only, and out of memory changes no entry.
         ensures counted { IsErrOf result ShelfFault.Failed → self.new.faults ≡ next_count self.old.faults }
         ensures done { OnOk result (self.new.faults ≡ self.old.faults) }
         ensures wanting { IsErrOf result ShelfFault.Memory

@@ -1,3 +1,5 @@
+//! The places of entries in a directory, and the place next to an entry where its new file is written. Both are pure
+//! functions of the name, defined in `specs/Names.antt`. A change here changes what other programs find in a directory.
 // The places of entries in a directory, and the place beside an entry where its new file is written. Both are pure
 // functions of the name, defined in `specs/Names.antt`. A change changes what other programs find in a directory.
 ghost use Rattle.std.specs.Prelude.{◌≡◌, ◌≢◌, ◌↔◌, ◌⊎◌, ◌+◌, ◌≤◌, ◌++◌, Some, take, drop, slice_index, codes, length};
@@ -12,8 +14,8 @@ ghost use Rattle.wot_certd.specs.Names.{IsFpr, IsName, file_of, folder_of, place
 use std::alloc::Global;
 use wot_types::{Fpr, Memory, Name};
 
-/// Where an entry stands in a directory: a certificate at the first two digits of its fingerprint, in lower case, a
-/// slash and the others; the trust root at `trust-root`.
+/// The place of an entry in a directory. A certificate lies at the first two digits of its fingerprint, in lower case,
+/// a slash and the other digits. The trust root lies at `trust-root`.
 pub fn name_of(alloc: Global, name: &Name) -> Result<String, Memory>
     ensures place { IfOk result (λ text. string_bytes text ≡ place_of name.now) }
 {
@@ -23,8 +25,8 @@ pub fn name_of(alloc: Global, name: &Name) -> Result<String, Memory>
     Ok(text)
 }
 
-/// Where the new file of an entry is written before it takes the entry's place: in the same folder, at `_FILE.NUMBER`.
-/// No entry stands there, whatever its name, so no reader of the directory takes it for one.
+/// The place where the new file of an entry is written before it is renamed: in the same folder, `_FILE.NUMBER`. No
+/// entry has such a place, so no reader of the directory takes the file for an entry.
 pub fn name_beside(alloc: Global, name: &Name, number: u32) -> Result<String, Memory>
     ensures place { IfOk result (λ text. string_bytes text ≡ place_beside name.now number) }
     ensures apart { IfOk result (λ text. (entry : NameOf) → string_bytes text ≢ place_of entry) }
@@ -76,7 +78,7 @@ fn file_text(alloc: Global, name: &Name) -> Result<String, Memory>
     }
 }
 
-/// The digits of a fingerprint's octets behind the first.
+/// The digits of a fingerprint's octets after the first.
 #[tactic(auto, using(crate::proofs::Places::other_digits, crate::proofs::Places::some_octets))]
 fn file_digits(alloc: Global, fpr: &Fpr) -> Result<String, Memory>
     ensures { IfOk result (λ text. string_bytes text ≡ drop 2 (digits_of fpr.now)) }
@@ -85,7 +87,7 @@ fn file_digits(alloc: Global, fpr: &Fpr) -> Result<String, Memory>
     Ok(hex::encode(alloc, others)?)
 }
 
-/// The name of the entry that stands at this place; `None` for every other text, also where a digit is in upper case.
+/// The name of the entry at this place. `None` for every other text, upper-case digits included.
 pub fn fpr_of(text: &str) -> Option<Name>
     ensures found { IfSome result (λ name. text.now ≡ place_of name) }
     ensures again { (name : NameOf) → IsName name → text.now ≡ place_of name → result ≡ Some name }
@@ -114,7 +116,7 @@ fn certificate_at(place: &[u8]) -> Option<Name>
     }
 }
 
-/// The fingerprint of the certificate that stands at this place: its 40 or 64 digits, and a slash between.
+/// The fingerprint of the certificate at this place: 40 or 64 digits with a slash among them.
 fn fpr_at(place: &[u8]) -> Option<Fpr>
     ensures found { IfSome result (λ fpr. place.now ≡ split_digits (digits_of fpr)) }
     ensures again { (fpr : FprOf) → IsFpr fpr → place.now ≡ split_digits (digits_of fpr) → result ≡ Some fpr }
@@ -129,7 +131,7 @@ fn fpr_at(place: &[u8]) -> Option<Fpr>
     }
 }
 
-/// Whether a slash stands behind the first two of 41 or 65 octets.
+/// Whether these are 41 or 65 octets with a slash after the first two.
 fn is_split(place: &[u8]) -> bool
     ensures long { IsTrue result → (length place.now ≡ 41) ⊎ (length place.now ≡ 65) }
     ensures slash { IsTrue result → slice_index place.now 2 ≡ 47 }
@@ -138,7 +140,7 @@ fn is_split(place: &[u8]) -> bool
     (place.len() == 41 || place.len() == 65) && place[2] == b'/'
 }
 
-/// The fingerprint whose digits, so many, stand at this place.
+/// The fingerprint whose `DIGITS` digits are this place.
 #[tactic(auto, using(crate::proofs::Places::placing))]
 fn fpr_of_split<const DIGITS: usize>(place: &[u8]) -> Option<Fpr>
     requires long { length place.now ≡ DIGITS + 1 }
@@ -154,7 +156,7 @@ fn fpr_of_split<const DIGITS: usize>(place: &[u8]) -> Option<Fpr>
     }
 }
 
-/// A fingerprint, where it is printed by these digits.
+/// The fingerprint, if it is printed as these digits.
 fn as_printed(fpr: Fpr, digits: &[u8]) -> Option<Fpr>
     ensures same { IfSome result (λ found. (found ≡ fpr) × (digits.now ≡ digits_of fpr)) }
     ensures again { digits.now ≡ digits_of fpr → result ≡ Some fpr }
@@ -188,7 +190,7 @@ fn put_both(to: &mut [u8], front: &[u8], back: &[u8])
     second.copy_from_slice(back);
 }
 
-/// Whether a fingerprint is printed by these digits.
+/// Whether a fingerprint is printed as these digits.
 fn are_printed(fpr: &Fpr, digits: &[u8]) -> bool
     ensures { IsTrue result ↔ (digits_of fpr.now ≡ digits.now) }
 {

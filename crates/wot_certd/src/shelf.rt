@@ -1,3 +1,7 @@
+//! The trait `Shelf`: how entries of a certificate directory are read and replaced.
+//!
+//! It stands on `specs/World.antt` and `specs/Shelf.antt`. `FolderShelf` and `MemoryShelf` implement it, and
+//! `wot_machine` calls it. The longest entry is set here; `docs/PROTOCOL.md` states that limit.
 ghost use Rattle.std.specs.Prelude.{◌≤◌, ℕ, Option, IfOk, IfSome, IsErrOf};
 ghost use Rattle.wot_io.specs.Counts.{Rose};
 ghost use Rattle.wot_certd.specs.World.{World, called, fails_next, read_answer};
@@ -5,10 +9,10 @@ ghost use Rattle.wot_certd.specs.Shelf.{IsWithin, Answers, AnswersReplace, Becom
 
 use wot_types::Name;
 
-/// The most octets of an entry that is given.
+/// The most octets of an entry that can be read.
 pub const LONGEST: usize = 8_388_608;
 
-/// What a shelf has under a name.
+/// What a read of a name found.
 #[derive(Drop)]
 pub enum Given {
     /// The octets of the entry.
@@ -19,24 +23,24 @@ pub enum Given {
     Long,
 }
 
-/// Why a call gave nothing.
+/// Why a call failed.
 #[derive(Clone, Copy, PartialEq, Eq)]
 pub enum ShelfFault {
     /// The shelf failed.
     Failed,
-    /// No memory was found.
+    /// Out of memory.
     Memory,
 }
 
-/// Where the entries of a certificate directory are read and replaced.
+/// A certificate directory, whose entries can be read and replaced.
 pub trait Shelf {
-    /// Its entries, how many calls were made, and which calls fail, where it tells them.
+    /// The entries, how many calls were made, and which calls fail, if the shelf shows them to contracts.
     ghost world: { Self → Option World };
 
-    /// How often it has failed. The count stands still at its last value.
+    /// How often the shelf has failed. The count stays at its last value.
     ghost faults: { Self → ℕ };
 
-    /// Gives what stands under a name. No entry changes.
+    /// Reads the entry under a name. No entry changes.
     fn read(&mut self, name: &Name) -> Result<Given, ShelfFault>
         ensures within { IfOk result (λ given. IsWithin given) }
         ensures answers { IfSome (world self.old) (λ old. Answers result (read_answer old name.now)) }
@@ -44,8 +48,8 @@ pub trait Shelf {
         ensures later { faults self.old ≤ faults self.new }
         ensures cause { IsErrOf result ShelfFault.Failed → Rose (faults self.old) (faults self.new) };
 
-    /// Puts these octets under a name, in place of what stood there. After `Failed` they stand there exactly where the
-    /// call is one of the late ones; after `Memory` they may.
+    /// Stores these octets under a name, in place of the old entry. After `Failed` they are stored if and only if the
+    /// call is one of the late ones. After `Memory` they may be.
     fn replace(&mut self, name: &Name, bytes: &[u8]) -> Result<(), ShelfFault>
         ensures answers { IfSome (world self.old) (λ old. AnswersReplace result (fails_next old)) }
         ensures after { Replaces (world self.old) name.now bytes.now result (world self.new) }

@@ -1,6 +1,9 @@
 //! Files of a directory, read and replaced. The system's calls have no contract: what is said of paths is proved here,
 //! and what is done with them is tested over the built program (`tests/suites/directory`).
-ghost use Rattle.std.specs.Prelude.{◌≡◌, ◌≤◌, IfOk, string_bytes};
+//!
+//! It stands on std's files and on the places of `name`. A change here changes what a crash can leave in a user's
+//! directory.
+ghost use Rattle.std.specs.Prelude.{◌≡◌, IfOk, string_bytes};
 ghost use Rattle.wot_certd.specs.Names.{path_in, place_beside, place_of};
 ghost use Rattle.wot_certd.specs.Shelf.{IsWithin};
 
@@ -15,7 +18,7 @@ use wot_types::{Memory, Name};
 /// How many octets are read at a time.
 const PIECE: usize = 16384;
 
-/// How many names are tried for the new file before the directory is given up.
+/// How many names are tried for a new file before the write fails.
 const TRIES: u32 = 1000;
 
 /// The path of a place in a directory.
@@ -38,7 +41,7 @@ pub fn path_of(alloc: Global, folder: &str, name: &Name) -> io::Result<String>
     }
 }
 
-/// The path of a new file beside an entry.
+/// The path of a new file next to an entry.
 fn path_beside(alloc: Global, folder: &str, name: &Name, number: u32) -> io::Result<String>
     ensures { IfOk result (λ path. string_bytes path ≡ path_in folder.now (place_beside name.now number)) }
 {
@@ -48,8 +51,8 @@ fn path_beside(alloc: Global, folder: &str, name: &Name, number: u32) -> io::Res
     }
 }
 
-/// Reads an entry's file. It is absent if the file or its folder doesn't exist. A link is followed. Anything but a
-/// regular file is an error, and isn't opened: a FIFO would block, and a device may never end.
+/// Reads an entry's file. The entry is absent if the file or its folder doesn't exist. Links are followed. Anything but
+/// a regular file is an error, and isn't opened: a FIFO would block, and a device may never end.
 pub fn read_entry<R: Files>(files: &R, alloc: Global, path: &str) -> io::Result<Given>
     ensures within { IfOk result (λ given. IsWithin given) }
 {
@@ -61,7 +64,7 @@ pub fn read_entry<R: Files>(files: &R, alloc: Global, path: &str) -> io::Result<
     }
 }
 
-/// Reads a regular file, which another program may take away before it is opened.
+/// Reads a regular file, which another program may remove before it is opened.
 fn read_file<R: Files>(files: &R, alloc: Global, path: &str) -> io::Result<Given>
     ensures within { IfOk result (λ given. IsWithin given) }
 {
@@ -89,8 +92,8 @@ fn read_all<F: Read>(alloc: Global, file: &mut F) -> io::Result<Given>
     Ok(Given::Long)
 }
 
-/// Puts these octets into an entry's file: a new file is written beside the old one and takes its place whole. Creates
-/// missing folders. On failure neither the new file nor a folder that was created for it is left.
+/// Replaces an entry's file: a new file is written next to the old one and renamed over it. Creates missing folders. On
+/// failure neither the new file nor a folder that was created for it is left.
 pub fn write_entry<R: Files>(
     files: &R,
     alloc: Global,
@@ -114,7 +117,7 @@ pub fn write_entry<R: Files>(
     sync_folders(files, parent, there)
 }
 
-/// Writes a new file beside the old one, and renames it.
+/// Writes a new file next to the old one, and renames it.
 fn write_beside<R: Files>(
     files: &R,
     alloc: Global,
@@ -134,7 +137,7 @@ fn write_beside<R: Files>(
     done
 }
 
-/// Opens a new file beside an entry, under the first number that is free.
+/// Opens a new file next to an entry, under the first free number.
 fn open_beside<R: Files>(
     files: &R,
     alloc: Global,
@@ -158,7 +161,7 @@ fn fill<F: Write + OpenFile>(out: &mut F, octets: &[u8]) -> io::Result<()> {
     out.sync_all()
 }
 
-/// The folder of a path whose own path ends there; none where no name of the path ends.
+/// The prefix of a path up to this offset, if it is the path of a folder. None if no name ends there.
 fn folder_to(path: &str, end: usize) -> Option<&str> {
     match path.split_at_checked(end) {
         Some((folder, rest)) if rest.is_empty() || rest.starts_with('/') => Some(folder),
@@ -166,7 +169,7 @@ fn folder_to(path: &str, end: usize) -> Option<&str> {
     }
 }
 
-/// How many octets of a path name a folder that exists; 0 where none of its folders does.
+/// The length of the longest prefix of a path that is an existing folder; 0 if there is none.
 fn length_there<R: Files>(files: &R, path: &str) -> io::Result<usize> {
     for end in (1..=path.len()).rev() {
         if let Some(folder) = folder_to(path, end) {
@@ -178,7 +181,7 @@ fn length_there<R: Files>(files: &R, path: &str) -> io::Result<usize> {
     Ok(0)
 }
 
-/// Removes the folders of a path behind those that were there. One that isn't empty stays.
+/// Removes the folders of a path, innermost first, except those that existed before. One that isn't empty stays.
 fn remove_folders<R: Files>(files: &R, path: &str, there: usize) {
     for end in (1..=path.len()).rev() {
         if end <= there {
@@ -190,8 +193,8 @@ fn remove_folders<R: Files>(files: &R, path: &str, there: usize) {
     }
 }
 
-/// Waits until the system has stored the names in the last folder of a path, and those of the folders behind what was
-/// there.
+/// Waits until the system has stored the names in the last folder of a path, and in each folder in which one was
+/// created.
 fn sync_folders<R: Files>(files: &R, path: &str, there: usize) -> io::Result<()> {
     sync_folder(files, path)?;
     for end in (1..path.len()).rev() {
@@ -205,7 +208,7 @@ fn sync_folders<R: Files>(files: &R, path: &str, there: usize) -> io::Result<()>
     sync_first(files, path, there)
 }
 
-/// The same of the name of the first folder, where that is new, too.
+/// Waits until the system has stored the name of the path's first folder, if that is new.
 fn sync_first<R: Files>(files: &R, path: &str, there: usize) -> io::Result<()> {
     if there > 0 {
         return Ok(());

@@ -7,16 +7,20 @@ use Rattle.std.specs.Option.{unwrap_or}
 use Rattle.std.specs.BTreeMap.{insert_entry}
 use Rattle.std.specs.List.{AllByRecursion}
 
-pub all-insert_entry : {K X : Type 0} (P : X → Type 0) (cmp : K → K → Ordering) (es : List (K × X)) (k : K) (v : X) → AllByRecursion (λ e. P e.1) es → P v → AllByRecursion (λ e. P e.1) (insert_entry cmp es k v)
+pub all-insert_entry : {K X : Type 0} (P : X → Type 0) (cmp : K → K → Ordering) (es : List (K × X)) (k : K) (v : X)
+    → AllByRecursion (λ e. P e.1) es → P v → AllByRecursion (λ e. P e.1) (insert_entry cmp es k v)
 all-insert_entry P cmp [] k v all p = (p, tt)
 all-insert_entry P cmp (e ∷ es) k v all p =
-    elim (cmp k e.0) as (λ o. AllByRecursion (λ e. P e.1) (match_ordering o ((k, v) ∷ e ∷ es) ((e.0, v) ∷ es) (e ∷ insert_entry cmp es k v))) [
+    elim (cmp k e.0) as
+    (λ o. AllByRecursion (λ e. P e.1)
+    (match_ordering o ((k, v) ∷ e ∷ es) ((e.0, v) ∷ es) (e ∷ insert_entry cmp es k v))) [
       | Less ↦ (p, all)
       | Equal ↦ (p, all.1)
       | Greater ↦ (all.0, all-insert_entry P cmp es k v all.1 p)
     ]
 
-pub all-remove_entry : {K X : Type 0} (P : X → Type 0) (test : K → Bool) (es : List (K × X)) → AllByRecursion (λ e. P e.1) es → AllByRecursion (λ e. P e.1) (remove_entry test es)
+pub all-remove_entry : {K X : Type 0} (P : X → Type 0) (test : K → Bool) (es : List (K × X))
+    → AllByRecursion (λ e. P e.1) es → AllByRecursion (λ e. P e.1) (remove_entry test es)
 all-remove_entry P test [] all = tt
 all-remove_entry P test (e ∷ es) all =
     elim (test e.0) as (λ b. AllByRecursion (λ e. P e.1) (cond b es (e ∷ remove_entry test es))) [

@@ -1,5 +1,6 @@
--- A record whose rows stand in order is one.
-use Rattle.std.proofs.Common.{◌≡◌, inl, inr, Bool, true, false, cond, List, [], ◌∷◌, map, Some, refl, sym, ap, subst, ◌∙◌}
+-- A record whose rows are in order is lawful.
+use Rattle.std.proofs.Common.{◌≡◌, inl, inr, Bool, true, false, cond, List, [], ◌∷◌, map, Some, refl, sym, ap, subst}
+use Rattle.std.proofs.Common.{◌∙◌}
 use Rattle.std.specs.declared.cmp.Ordering.TheVariants.{Less, Equal}
 use Rattle.std.specs.Ordering.{nat_cmp, ordering_then}
 use Rattle.std.specs.Option.{unwrap_or}
@@ -37,15 +38,25 @@ apart x y less e f =
     let clash : Less ≡ Equal = sym less ∙ sym same ∙ tie in cc
 
 -- the first row isn't one of the later ones' issuer and user ID
-first_apart : (z : Row) (rows : List Row) (y : Row) → AllByRecursion (λ (w : EdgeFacts). edge_cmp z.edge w ≡ Less) (map (λ (r : Row). r.edge) rows) → Has rows y → z.edge.issuer ≡ y.edge.issuer → z.edge.uid ≡ y.edge.uid → ⊥
-first_apart z rows y all h e f = apart z.edge y.edge (all_has (λ (w : EdgeFacts). edge_cmp z.edge w ≡ Less) (map (λ (r : Row). r.edge) rows) y.edge all (has_edge rows y h)) e f
+first_apart : (z : Row) (rows : List Row) (y : Row)
+    → AllByRecursion (λ (w : EdgeFacts). edge_cmp z.edge w ≡ Less) (map (λ (r : Row). r.edge) rows) → Has rows y
+    → z.edge.issuer ≡ y.edge.issuer → z.edge.uid ≡ y.edge.uid → ⊥
+first_apart z rows y all h e f =
+    apart z.edge y.edge
+    (all_has (λ (w : EdgeFacts). edge_cmp z.edge w ≡ Less) (map (λ (r : Row). r.edge) rows) y.edge all
+    (has_edge rows y h)) e f
 
-rows_one : (rows : List Row) → IsStrictlySortedBy edge_cmp (map (λ (r : Row). r.edge) rows) → (x y : Row) → Has rows x → Has rows y → x.edge.issuer ≡ y.edge.issuer → x.edge.uid ≡ y.edge.uid → x ≡ y
+rows_one : (rows : List Row) → IsStrictlySortedBy edge_cmp (map (λ (r : Row). r.edge) rows) → (x y : Row) → Has rows x
+    → Has rows y → x.edge.issuer ≡ y.edge.issuer → x.edge.uid ≡ y.edge.uid → x ≡ y
 unfolding IsStrictlySortedBy
 rows_one [] s x y h k e f = absurd h
 rows_one (z ∷ rows) s x y (inl h) (inl k) e f = h ∙ sym k
-rows_one (z ∷ rows) s x y (inl h) (inr k) e f = absurd (first_apart z rows y s.0 k (ap (λ (w : Row). w.edge.issuer) (sym h) ∙ e) (ap (λ (w : Row). w.edge.uid) (sym h) ∙ f))
-rows_one (z ∷ rows) s x y (inr h) (inl k) e f = absurd (first_apart z rows x s.0 h (ap (λ (w : Row). w.edge.issuer) (sym k) ∙ sym e) (ap (λ (w : Row). w.edge.uid) (sym k) ∙ sym f))
+rows_one (z ∷ rows) s x y (inl h) (inr k) e f =
+    absurd (first_apart z rows y s.0 k (ap (λ (w : Row). w.edge.issuer) (sym h) ∙ e)
+    (ap (λ (w : Row). w.edge.uid) (sym h) ∙ f))
+rows_one (z ∷ rows) s x y (inr h) (inl k) e f =
+    absurd (first_apart z rows x s.0 h (ap (λ (w : Row). w.edge.issuer) (sym k) ∙ sym e)
+    (ap (λ (w : Row). w.edge.uid) (sym k) ∙ sym f))
 rows_one (z ∷ rows) s x y (inr h) (inr k) e f = rows_one rows s.1 x y h k e f
 
 pub no_rows : (fpr : Fpr) → AreRows fpr []
@@ -57,8 +68,10 @@ entry_rows [] fpr all = no_rows fpr
 entry_rows (t ∷ told) fpr all = by (entry_rows told fpr all.1) (same_fpr fpr t.0) refl
   where
     by : AreRows fpr (edges_into told fpr) → (b : Bool) → same_fpr fpr t.0 ≡ b
-        → AreRows fpr (map (λ (r : Row). r.edge) (unwrap_or (cond b (Some t.1) (lookup (is_at (fpr_cmp fpr)) told)) blank).rows)
-    by ih true f = subst (λ (x : Fpr). AreRows x (map (λ (r : Row). r.edge) t.1.rows)) (sym (same_fpr-true fpr t.0 f)) all.0
+        → AreRows fpr
+        (map (λ (r : Row). r.edge) (unwrap_or (cond b (Some t.1) (lookup (is_at (fpr_cmp fpr)) told)) blank).rows)
+    by ih true f =
+        subst (λ (x : Fpr). AreRows x (map (λ (r : Row). r.edge) t.1.rows)) (sym (same_fpr-true fpr t.0 f)) all.0
     by ih false f = ih
 
 pub is_record : (told : Record) → AreEntries told → IsRecord told

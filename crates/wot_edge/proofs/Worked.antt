@@ -1,5 +1,6 @@
--- Worked questions, each with wrong answers that stand next to it.
-use Rattle.std.proofs.Common.{◌≡◌, ◌≤◌, inl, inr, ℕ, true, false, cond, List, [], ◌∷◌, Option, Some, None, refl, subst, arith}
+-- Worked questions, each with wrong answers next to it.
+use Rattle.std.proofs.Common.{◌≡◌, ◌≤◌, inl, inr, ℕ, true, false, cond, List, [], ◌∷◌, Option, Some, None, refl, subst}
+use Rattle.std.proofs.Common.{arith}
 use Rattle.std.specs.Option.{unwrap_or}
 use Rattle.wot_types.specs.declared.fpr.Fpr.{Fpr}
 use Rattle.wot_types.specs.declared.fpr.Fpr.TheVariants.{V4}
@@ -37,7 +38,8 @@ C = key 5
 
 -- X certifies the one user ID of Y, with a depth and an amount
 abbrev edge : Fpr → Fpr → ℕ → ℕ → EdgeFacts
-edge x y depth amount = record { issuer = x; target = y; uid = 0; sig = 0; made = 2000; depth = depth; amount = amount; scoped = false }
+edge x y depth amount =
+    record { issuer = x; target = y; uid = 0; sig = 0; made = 2000; depth = depth; amount = amount; scoped = false }
 
 abbrev step : Fpr → Fpr → ℕ → ℕ → Step
 step x y depth amount = step_of (edge x y depth amount)
@@ -45,21 +47,21 @@ step x y depth amount = step_of (edge x y depth amount)
 abbrev row : Fpr → Fpr → ℕ → ℕ → Row
 row x y depth amount = record { edge = edge x y depth amount; usable = true; scope = true }
 
--- the same where the scope doesn't hold, and where the edge isn't usable
+-- such a certification whose scope doesn't hold, and one that isn't usable
 abbrev row_elsewhere : Fpr → Fpr → ℕ → ℕ → Row
 row_elsewhere x y depth amount = record { edge = edge x y depth amount; usable = true; scope = false }
 
 abbrev row_unusable : Fpr → Fpr → ℕ → ℕ → Row
 row_unusable x y depth amount = record { edge = edge x y depth amount; usable = false; scope = true }
 
--- rows into a certificate that hasn't the wanted user ID, and into one that has
+-- rows into a certificate without the wanted user ID, and into one with it
 abbrev into : List Row → Entry
 into rows = record { rows = rows; place = None; in_order = false }
 
 abbrev asked : List Row → Entry
 asked rows = record { rows = rows; place = Some 0; in_order = true }
 
--- R is the one root, of complete trust
+-- R is the only root, with full trust
 abbrev ask : Record → Question
 ask told = asks told ((R, 120) ∷ []) T
 
@@ -67,27 +69,34 @@ abbrev path : ℕ → List Step → Path
 path amount steps = record { amount = amount; root = start T steps; steps = steps }
 
 one_root : (fpr : Fpr) → root_amount ((R, 120) ∷ []) fpr ≤ 120
-one_root fpr = elim (same_fpr fpr R) as (λ b. unwrap_or (cond b (Some 120) None) 0 ≤ 120) [ true ↦ omega arith | false ↦ omega arith ]
+one_root fpr =
+    elim (same_fpr fpr R) as (λ b. unwrap_or (cond b (Some 120) None) 0 ≤ 120)
+    [ true ↦ omega arith | false ↦ omega arith ]
 
 -- what comes next after these paths, as the search by layers finds it
-next_is : (told : Record) (earlier : List Path) (o : Option (List Step)) → next_of 120 (ask told) (use_of earlier) ≡ o → AreNextOrSpent (ask told) (use_of earlier) o
-next_is told earlier o e = subst (AreNextOrSpent (ask told) (use_of earlier)) e (next_of_is (ask told) (use_of earlier) 120 one_root)
+next_is : (told : Record) (earlier : List Path) (o : Option (List Step)) → next_of 120 (ask told) (use_of earlier) ≡ o
+    → AreNextOrSpent (ask told) (use_of earlier) o
+next_is told earlier o e =
+    subst (AreNextOrSpent (ask told) (use_of earlier)) e (next_of_is (ask told) (use_of earlier) 120 one_root)
 
--- an answer of one path that reaches what is wanted, or after which none is left
-reaches_it : (told : Record) (p : Path) → IsNextPath (ask told) (use_of []) p → 120 ≤ p.amount → IsAnswer (ask told) 120 (p ∷ [])
+-- an answer of one path that reaches the wanted amount, or after which no path is left
+reaches_it : (told : Record) (p : Path) → IsNextPath (ask told) (use_of []) p → 120 ≤ p.amount
+    → IsAnswer (ask told) 120 (p ∷ [])
 reaches_it told p n le = taken_answer (ask told) 120 (p ∷ []) (omega arith) (omega arith, n, inl (omega (arith, le)))
 
-leaves_none : (told : Record) (p : Path) → IsNextPath (ask told) (use_of []) p → IsSpent (ask told) (use_of (p ∷ [])) → IsAnswer (ask told) 120 (p ∷ [])
+leaves_none : (told : Record) (p : Path) → IsNextPath (ask told) (use_of []) p → IsSpent (ask told) (use_of (p ∷ []))
+    → IsAnswer (ask told) 120 (p ∷ [])
 leaves_none told p n s = taken_answer (ask told) 120 (p ∷ []) (omega arith) (omega arith, n, inr s)
 
 no_path : (told : Record) → IsSpent (ask told) (use_of []) → IsAnswer (ask told) 120 []
 no_path told s = taken_answer (ask told) 120 [] (omega arith) (inr s)
 
--- no answer begins with a path, where none is left
-not_any : (told : Record) → IsSpent (ask told) (use_of []) → (p : Path) (paths : List Path) → IsAnswer (ask told) 120 (p ∷ paths) → ⊥
+-- no answer begins with a path if none is left
+not_any : (told : Record) → IsSpent (ask told) (use_of []) → (p : Path) (paths : List Path)
+    → IsAnswer (ask told) 120 (p ∷ paths) → ⊥
 not_any told s p paths a = s p.steps a.each.0.steps.0
 
--- 0 is no answer, where there is a path
+-- 0 is no answer if there is a path
 not_none : (told : Record) (p : Path) → IsNextPath (ask told) (use_of []) p → IsAnswer (ask told) 120 [] → ⊥
 not_none told p n a = elim a.ends [ inl le ↦ absurd (omega (arith, le)) | inr s ↦ s p.steps n.steps.0 ]
 
@@ -97,9 +106,12 @@ abbrev own : Question
 own = asks ((R, asked (row R R 0 120 ∷ [])) ∷ []) ((R, 100) ∷ []) R
 
 own_root : (fpr : Fpr) → root_amount ((R, 100) ∷ []) fpr ≤ 100
-own_root fpr = elim (same_fpr fpr R) as (λ b. unwrap_or (cond b (Some 100) None) 0 ≤ 100) [ true ↦ omega arith | false ↦ omega arith ]
+own_root fpr =
+    elim (same_fpr fpr R) as (λ b. unwrap_or (cond b (Some 100) None) 0 ≤ 100)
+    [ true ↦ omega arith | false ↦ omega arith ]
 
-own_next : (earlier : List Path) (o : Option (List Step)) → next_of 100 own (use_of earlier) ≡ o → AreNextOrSpent own (use_of earlier) o
+own_next : (earlier : List Path) (o : Option (List Step)) → next_of 100 own (use_of earlier) ≡ o
+    → AreNextOrSpent own (use_of earlier) o
 own_next earlier o e = subst (AreNextOrSpent own (use_of earlier)) e (next_of_is own (use_of earlier) 100 own_root)
 
 abbrev own_path : Path
@@ -107,10 +119,15 @@ own_path = record { amount = 100; root = R; steps = step R R 0 120 ∷ [] }
 
 pub own_answer : IsAnswer own 200 (own_path ∷ [])
 unfolding first_from climbed
-own_answer = taken_answer own 200 (own_path ∷ []) (omega arith) (omega arith, record { steps = own_next [] (Some own_path.steps) refl; root = refl; amount = refl }, inr (own_next (own_path ∷ []) None refl))
+own_answer = taken_answer own 200 (own_path ∷ []) (omega arith) (
+  omega arith,
+  record { steps = own_next [] (Some own_path.steps) refl; root = refl; amount = refl },
+  inr (own_next (own_path ∷ []) None refl),
+)
 
 -- not the edge's amount
-pub own_whole : (paths : List Path) → IsAnswer own 200 (record { amount = 120; root = R; steps = step R R 0 120 ∷ [] } ∷ paths) → ⊥
+pub own_whole : (paths : List Path)
+    → IsAnswer own 200 (record { amount = 120; root = R; steps = step R R 0 120 ∷ [] } ∷ paths) → ⊥
 own_whole paths a = absurd (let e = a.each.0.amount in omega (arith, e))
 
 -- ---- one step
@@ -141,9 +158,11 @@ unfolding first_from climbed
 absent = no_path [] (next_is [] [] None refl)
 
 -- an edge that isn't usable
-pub unusable : (p : Path) (paths : List Path) → IsAnswer (ask ((T, asked (row_unusable R T 0 120 ∷ [])) ∷ [])) 120 (p ∷ paths) → ⊥
+pub unusable : (p : Path) (paths : List Path)
+    → IsAnswer (ask ((T, asked (row_unusable R T 0 120 ∷ [])) ∷ [])) 120 (p ∷ paths) → ⊥
 unfolding first_from climbed
-unusable = not_any ((T, asked (row_unusable R T 0 120 ∷ [])) ∷ []) (next_is ((T, asked (row_unusable R T 0 120 ∷ [])) ∷ []) [] None refl)
+unusable = not_any ((T, asked (row_unusable R T 0 120 ∷ [])) ∷ [])
+    (next_is ((T, asked (row_unusable R T 0 120 ∷ [])) ∷ []) [] None refl)
 
 -- ---- two steps need a depth of 1
 
@@ -155,7 +174,8 @@ two_steps_path = path 120 (step R A 1 120 ∷ step A T 0 120 ∷ [])
 
 two_steps_next : IsNextPath (ask (two_steps 1)) (use_of []) two_steps_path
 unfolding first_from climbed
-two_steps_next = record { steps = next_is (two_steps 1) [] (Some two_steps_path.steps) refl; root = refl; amount = refl }
+two_steps_next =
+    record { steps = next_is (two_steps 1) [] (Some two_steps_path.steps) refl; root = refl; amount = refl }
 
 pub two_steps_answer : IsAnswer (ask (two_steps 1)) 120 (two_steps_path ∷ [])
 two_steps_answer = reaches_it (two_steps 1) two_steps_path two_steps_next (omega arith)
@@ -173,17 +193,19 @@ shallow = no_path (two_steps 0) shallow_spent
 pub shallow_taken : (p : Path) (paths : List Path) → IsAnswer (ask (two_steps 0)) 120 (p ∷ paths) → ⊥
 shallow_taken = not_any (two_steps 0) shallow_spent
 
--- ---- three steps: the first edge needs a depth of 2, and 255 is without bound
+-- ---- three steps: the first edge needs a depth of 2, and 255 is unlimited
 
 abbrev three_steps : ℕ → ℕ → Record
-three_steps first second = (T, asked (row B T 0 120 ∷ [])) ∷ (B, into (row A B second 120 ∷ [])) ∷ (A, into (row R A first 120 ∷ [])) ∷ []
+three_steps first second =
+    (T, asked (row B T 0 120 ∷ [])) ∷ (B, into (row A B second 120 ∷ [])) ∷ (A, into (row R A first 120 ∷ [])) ∷ []
 
 abbrev three_steps_path : Path
 three_steps_path = path 120 (step R A 255 120 ∷ step A B 1 120 ∷ step B T 0 120 ∷ [])
 
 three_steps_next : IsNextPath (ask (three_steps 255 1)) (use_of []) three_steps_path
 unfolding first_from climbed
-three_steps_next = record { steps = next_is (three_steps 255 1) [] (Some three_steps_path.steps) refl; root = refl; amount = refl }
+three_steps_next =
+    record { steps = next_is (three_steps 255 1) [] (Some three_steps_path.steps) refl; root = refl; amount = refl }
 
 pub three_steps_answer : IsAnswer (ask (three_steps 255 1)) 120 (three_steps_path ∷ [])
 three_steps_answer = reaches_it (three_steps 255 1) three_steps_path three_steps_next (omega arith)
@@ -218,12 +240,14 @@ unfolding first_from climbed
 round_next = record { steps = next_is narrow (direct ∷ []) (Some round.steps) refl; root = refl; amount = refl }
 
 pub narrow_answer : IsAnswer (ask narrow) 120 (direct ∷ round ∷ [])
-narrow_answer = taken_answer (ask narrow) 120 (direct ∷ round ∷ []) (omega arith) (omega arith, direct_next, (omega arith, round_next, inl refl))
+narrow_answer =
+    taken_answer (ask narrow) 120 (direct ∷ round ∷ []) (omega arith)
+    (omega arith, direct_next, (omega arith, round_next, inl refl))
 
 pub widest_first : (paths : List Path) → IsAnswer (ask narrow) 120 (round ∷ paths) → ⊥
 widest_first paths a = a.each.0.steps.1 direct.steps direct_next.steps.0 (inl (omega arith))
 
--- what is wanted isn't reached by the first alone, and a third is one too many
+-- the first alone doesn't reach the wanted amount, and a third is one too many
 pub narrow_short : IsAnswer (ask narrow) 120 (direct ∷ []) → ⊥
 narrow_short a = elim a.ends [ inl le ↦ absurd (omega (arith, le)) | inr s ↦ s round.steps round_next.steps.0 ]
 
@@ -233,7 +257,8 @@ narrow_more p a = absurd (let short = a.short in omega (arith, short))
 -- ---- an edge that two paths share is used once: of B and C the lesser is taken, and then nothing is left
 
 abbrev fork : Record
-fork = (T, asked (row B T 0 120 ∷ row C T 0 120 ∷ [])) ∷ (A, into (row R A 2 60 ∷ [])) ∷ (B, into (row A B 1 120 ∷ [])) ∷ (C, into (row A C 1 120 ∷ [])) ∷ []
+fork = (T, asked (row B T 0 120 ∷ row C T 0 120 ∷ [])) ∷ (A, into (row R A 2 60 ∷ [])) ∷ (B, into (row A B 1 120 ∷ []))
+    ∷ (C, into (row A C 1 120 ∷ [])) ∷ []
 
 abbrev through : Fpr → Path
 through x = path 60 (step R A 2 60 ∷ step A x 1 120 ∷ step x T 0 120 ∷ [])
@@ -273,10 +298,15 @@ out_of_scope = no_path scope_fails scope_spent
 pub out_of_scope_taken : (p : Path) (paths : List Path) → IsAnswer (ask scope_fails) 120 (p ∷ paths) → ⊥
 out_of_scope_taken = not_any scope_fails scope_spent
 
--- of the last edge no scope is asked
+-- the scope of the last edge doesn't matter
 pub last_scope : IsAnswer (ask ((T, asked (row_elsewhere R T 0 120 ∷ [])) ∷ [])) 120 (one_step_path ∷ [])
 unfolding first_from climbed
-last_scope = reaches_it ((T, asked (row_elsewhere R T 0 120 ∷ [])) ∷ []) one_step_path (record { steps = next_is ((T, asked (row_elsewhere R T 0 120 ∷ [])) ∷ []) [] (Some one_step_path.steps) refl; root = refl; amount = refl }) (omega arith)
+last_scope = reaches_it ((T, asked (row_elsewhere R T 0 120 ∷ [])) ∷ []) one_step_path
+    (record {
+      steps = next_is ((T, asked (row_elsewhere R T 0 120 ∷ [])) ∷ []) [] (Some one_step_path.steps) refl;
+      root = refl;
+      amount = refl;
+    }) (omega arith)
 
 -- ---- the first suffix found may lack depth: R into A would need a depth of 2
 
@@ -298,7 +328,8 @@ shorter = path 70 (step R B 1 70 ∷ step B T 0 120 ∷ [])
 
 shorter_next : IsNextPath (ask (lacking (row R B 1 70 ∷ []))) (use_of []) shorter
 unfolding first_from climbed
-shorter_next = record { steps = next_is (lacking (row R B 1 70 ∷ [])) [] (Some shorter.steps) refl; root = refl; amount = refl }
+shorter_next =
+    record { steps = next_is (lacking (row R B 1 70 ∷ [])) [] (Some shorter.steps) refl; root = refl; amount = refl }
 
 shorter_spent : IsSpent (ask (lacking (row R B 1 70 ∷ []))) (use_of (shorter ∷ []))
 unfolding first_from climbed
@@ -310,14 +341,22 @@ shorter_answer = leaves_none (lacking (row R B 1 70 ∷ [])) shorter shorter_nex
 pub shorter_none : IsAnswer (ask (lacking (row R B 1 70 ∷ []))) 120 [] → ⊥
 shorter_none = not_none (lacking (row R B 1 70 ∷ [])) shorter shorter_next
 
--- ---- a path may end with the target's own certification of its user ID, and then the edge into the target needs a depth of 1
+-- ---- a path may end with the target's own certification of its user ID, and then the edge into the target needs a
+-- depth of 1
 
--- of two user IDs, the wanted one is certified by the target alone
+-- of two user IDs, the wanted one is certified only by the target
 abbrev own_uid : EdgeFacts
 own_uid = record { issuer = T; target = T; uid = 1; sig = 0; made = 2000; depth = 0; amount = 120; scoped = false }
 
 abbrev wanted_own : ℕ → Record
-wanted_own depth = (T, record { rows = row R T depth 60 ∷ record { edge = own_uid; usable = true; scope = true } ∷ []; place = Some 1; in_order = true }) ∷ []
+wanted_own depth = (
+  T,
+  record {
+    rows = row R T depth 60 ∷ record { edge = own_uid; usable = true; scope = true } ∷ [];
+    place = Some 1;
+    in_order = true;
+  },
+) ∷ []
 
 abbrev own_end : Path
 own_end = path 60 (step R T 1 60 ∷ step_of own_uid ∷ [])
@@ -340,10 +379,11 @@ own_end_shallow_spent = next_is (wanted_own 0) [] None refl
 pub own_end_shallow : (p : Path) (paths : List Path) → IsAnswer (ask (wanted_own 0)) 120 (p ∷ paths) → ⊥
 own_end_shallow = not_any (wanted_own 0) own_end_shallow_spent
 
--- ---- of as many edges the greatest amount comes first, before the least list
+-- ---- among paths of one length the greatest amount comes first, and only then the least list
 
 abbrev wider : Record
-wider = (T, asked (row B T 0 120 ∷ row C T 0 120 ∷ [])) ∷ (B, into (row R B 1 30 ∷ [])) ∷ (C, into (row R C 1 90 ∷ [])) ∷ []
+wider = (T, asked (row B T 0 120 ∷ row C T 0 120 ∷ [])) ∷ (B, into (row R B 1 30 ∷ [])) ∷ (C, into (row R C 1 90 ∷ []))
+    ∷ []
 
 abbrev by_B : Path
 by_B = path 30 (step R B 1 30 ∷ step B T 0 120 ∷ [])
@@ -360,7 +400,9 @@ unfolding first_from climbed
 by_B_next = record { steps = next_is wider (by_C ∷ []) (Some by_B.steps) refl; root = refl; amount = refl }
 
 pub wider_answer : IsAnswer (ask wider) 120 (by_C ∷ by_B ∷ [])
-wider_answer = taken_answer (ask wider) 120 (by_C ∷ by_B ∷ []) (omega arith) (omega arith, by_C_next, (omega arith, by_B_next, inl refl))
+wider_answer =
+    taken_answer (ask wider) 120 (by_C ∷ by_B ∷ []) (omega arith)
+    (omega arith, by_C_next, (omega arith, by_B_next, inl refl))
 
 pub lesser_first : (paths : List Path) → IsAnswer (ask wider) 120 (by_B ∷ paths) → ⊥
 lesser_first paths a = a.each.0.steps.1 by_C.steps by_C_next.steps.0 (inr (refl, inl (omega arith)))
@@ -371,7 +413,8 @@ abbrev second_uid : EdgeFacts
 second_uid = record { issuer = R; target = A; uid = 1; sig = 0; made = 2000; depth = 1; amount = 100; scoped = false }
 
 abbrev two_uids : Record
-two_uids = (T, asked (row A T 0 120 ∷ [])) ∷ (A, into (row R A 1 60 ∷ record { edge = second_uid; usable = true; scope = true } ∷ [])) ∷ []
+two_uids = (T, asked (row A T 0 120 ∷ []))
+    ∷ (A, into (row R A 1 60 ∷ record { edge = second_uid; usable = true; scope = true } ∷ [])) ∷ []
 
 abbrev by_second : Path
 by_second = path 100 (step_of second_uid ∷ step A T 0 120 ∷ [])
@@ -393,11 +436,18 @@ used_by_edge p paths a = by_second_spent p.steps a.each.1.0.steps.0
 -- of two edges of one amount the one on the lesser user ID is taken
 
 abbrev even_uids : Record
-even_uids = (T, asked (row A T 0 120 ∷ [])) ∷ (A, into (row R A 1 100 ∷ record { edge = second_uid; usable = true; scope = true } ∷ [])) ∷ []
+even_uids = (T, asked (row A T 0 120 ∷ []))
+    ∷ (A, into (row R A 1 100 ∷ record { edge = second_uid; usable = true; scope = true } ∷ [])) ∷ []
 
 by_first_next : IsNextPath (ask even_uids) (use_of []) (path 100 (step R A 1 100 ∷ step A T 0 120 ∷ []))
 unfolding first_from climbed
-by_first_next = record { steps = next_is even_uids [] (Some (step R A 1 100 ∷ step A T 0 120 ∷ [])) refl; root = refl; amount = refl }
+by_first_next =
+    record {
+      steps = next_is even_uids [] (Some (step R A 1 100 ∷ step A T 0 120 ∷ [])) refl;
+      root = refl;
+      amount = refl;
+    }
 
 pub greater_uid : (paths : List Path) → IsAnswer (ask even_uids) 120 (by_second ∷ paths) → ⊥
-greater_uid paths a = a.each.0.steps.1 (step R A 1 100 ∷ step A T 0 120 ∷ []) by_first_next.steps.0 (inr (refl, inr (refl, refl)))
+greater_uid paths a =
+    a.each.0.steps.1 (step R A 1 100 ∷ step A T 0 120 ∷ []) by_first_next.steps.0 (inr (refl, inr (refl, refl)))

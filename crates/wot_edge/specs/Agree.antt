@@ -10,9 +10,9 @@ use Rattle.wot_edge.specs.Path.{Question}
 abbrev pub scoped_edge : Row → EdgeFacts × Bool
 scoped_edge row = (row.edge, row.scope)
 
--- One target is asked for. Of each fingerprint of the set these are the same: the edges into it with
--- their scopes, the place of U and whether it is in order for U, and its amount as a root. So is
--- whether each edge between two of the set is usable.
+-- Both ask about one target. For each fingerprint of the set both have the same edges into it with the same scopes, the
+-- same place of U, the same validity as a target for U, and the same amount as a root. Each edge between two of the set
+-- is usable in both or in neither.
 pub record Agree (q other : Question) (set : List Fpr) : Type 0 where
   pub target : q.target ≡ other.target
   pub rows : (fpr : Fpr) → Has set fpr

@@ -3,7 +3,7 @@ use Rattle.std.specs.Prelude.{◌⊎◌, ℕ, ◌<◌, ◌≤◌, List, [], ◌�
 use Rattle.wot_edge.specs.declared.path.Path.{Path}
 use Rattle.wot_edge.specs.Path.{Question, Use, use_of, IsNextPath, IsSpent}
 
--- the next path, or none where no valid path of positive amount is left
+-- the next path, or none if no valid path of positive amount is left
 abbrev pub IsNextOrSpent : Question → Use → Option Path → Type 0
 IsNextOrSpent q used None = IsSpent q used
 IsNextOrSpent q used (Some path) = IsNextPath q used path

@@ -1,4 +1,4 @@
--- Edges into a fingerprint that stand in the order of issuer and user ID, and a record of such rows.
+-- Edges into a fingerprint in the order of issuer and user ID, and a record of such rows.
 use Rattle.std.specs.Prelude.{◌≡◌, List, map}
 use Rattle.std.specs.List.{AllByRecursion}
 use Rattle.std.specs.List.Sorted.{IsStrictlySortedBy}

@@ -13,7 +13,8 @@ use Rattle.wot_edge.specs.Order.{steps_cmp}
 use Rattle.wot_edge.specs.Record.{Has, Record, Row, entry_at, rows_into}
 use Rattle.wot_edge.specs.Roots.{root_amount}
 
--- The question how far U is a user ID of the target: by the record of U, and by the amounts of the roots.
+-- The question to which amount U is authenticated as a user ID of the target, given the record of U and the amounts of
+-- the roots.
 pub record Question : Type 0 where
   pub told : Record
   pub roots : List (Fpr × ℕ)
@@ -29,19 +30,19 @@ abbrev pub start : Fpr → List Step → Fpr
 start target [] = target
 start target (step ∷ rest) = step.issuer
 
--- what a path tells of an edge
+-- what a path says about an edge
 abbrev pub step_of : EdgeFacts → Step
 step_of edge =
     record { issuer = edge.issuer; target = edge.target; uid = edge.uid; depth = edge.depth; amount = edge.amount }
 
--- What an edge owes to the steps after it. The last one is on U. Any other has a depth of at least
--- their number, a scope that holds for U, and an issuer other than the target.
+-- What the steps after an edge demand of it. The last edge is on U. Any other has a depth of at least their number, a
+-- scope that holds for U, and an issuer other than the target.
 abbrev pub Reaches : Question → Row → List Step → Type 0
 Reaches q row [] = (entry_at q.told q.target).place ≡ Some row.edge.uid
 Reaches q row (next ∷ rest) =
     (length (next ∷ rest) ≤ row.edge.depth) × (row.scope ≡ true) × (row.edge.issuer ≢ q.target)
 
--- a step that may stand before others: a usable edge into where they begin
+-- a step that may come before others: a usable edge into where they begin
 pub record Stands (q : Question) (step : Step) (rest : List Step) : Type 0 where
   pub row : Row
   pub into : Has (rows_into q.told (start q.target rest)) row
@@ -61,7 +62,7 @@ abbrev pub Distinct : List Fpr → Type 0
 Distinct [] = Unit {0}
 Distinct (x ∷ xs) = (Has xs x → ⊥) × Distinct xs
 
--- a valid path: of 1 to 255 edges, from a root to the target, which is in order for U
+-- a valid path: of 1 to 255 edges, from a root to the target, which is a valid target for U
 pub record IsValid (q : Question) (steps : List Step) : Type 0 where
   pub some : 1 ≤ length steps
   pub few : length steps ≤ 255
@@ -70,7 +71,7 @@ pub record IsValid (q : Question) (steps : List Step) : Type 0 where
   pub root : 0 < root_amount q.roots (start q.target steps)
   pub in_order : (entry_at q.told q.target).in_order ≡ true
 
--- ---- what earlier paths leave
+-- ---- residual amounts
 
 -- what earlier paths use of each pair of issuer and target, and of each root
 pub record Use : Type 0 where
@@ -81,7 +82,7 @@ pub record Use : Type 0 where
 abbrev pub is_of : Fpr → Fpr → Step → Bool
 is_of issuer target step = same_fpr issuer step.issuer && same_fpr target step.target
 
--- what these steps use of a pair: the amount, once, where one of them is of it
+-- what these steps use of a pair: the amount, once, if one of them is of it
 abbrev pub pair_part : Fpr → Fpr → ℕ → List Step → ℕ
 pair_part issuer target amount steps = if list_any (is_of issuer target) steps then amount else 0
 

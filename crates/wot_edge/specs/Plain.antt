@@ -1,4 +1,4 @@
--- Roads that are kept in memory, for tests and benches. A user ID is one octet, and that octet is its place.
+-- Networks in memory, for tests and benches. A user ID is one octet, and that octet is its place.
 use Rattle.std.specs.Prelude.{◌≡◌, ℕ, ◌&&◌, ◌||◌, not, nat_lt, nat_eq, Bool, true, false}
 use Rattle.std.specs.Prelude.{List, [], ◌∷◌, map, Option, Some, None}
 use Rattle.std.specs.declared.cmp.Ordering.TheVariants.{Less}
@@ -34,7 +34,7 @@ abbrev pub holds_inside : ℕ → Option ℕ → Bool
 holds_inside inside None = false
 holds_inside inside (Some x) = nat_eq x inside
 
--- An edge made at 0 isn't usable.
+-- An edge created at 0 isn't usable.
 abbrev pub row_of : ℕ → Option ℕ → EdgeFacts → Row
 row_of inside place edge =
     record { edge = edge; usable = nat_lt 0 edge.made; scope = not edge.scoped || holds_inside inside place }

@@ -1,4 +1,4 @@
--- The record of a user ID U: all that the roads tell of U, as finite data.
+-- The record of a user ID U: everything that a network says about U, as finite data.
 use Rattle.std.specs.Prelude.{◌≡◌, ◌⊎◌, ℕ, Bool, false, List, [], ◌∷◌, map, Option, None}
 use Rattle.std.specs.Option.{unwrap_or}
 use Rattle.std.specs.Map.{lookup}
@@ -18,21 +18,21 @@ pub record Row : Type 0 where
   pub usable : Bool
   pub scope : Bool
 
--- what is told of a fingerprint: the edges into it, the place of U among its user IDs, and whether it is in order for
--- U
+-- what is known of a fingerprint: the edges into it, the place of U among its user IDs, and whether it is a valid
+-- target for U
 pub record Entry : Type 0 where
   pub rows : List Row
   pub place : Option ℕ
   pub in_order : Bool
 
--- what is told of a fingerprint that isn't there
+-- what is known of a fingerprint that isn't there
 abbrev pub blank : Entry
 blank = record { rows = []; place = None; in_order = false }
 
 abbrev pub Record : Type 0
 Record = List (Fpr × Entry)
 
--- what a record tells of a fingerprint
+-- what a record says about a fingerprint
 abbrev pub entry_at : Record → Fpr → Entry
 entry_at told fpr = unwrap_or (lookup (is_at (fpr_cmp fpr)) told) blank
 
@@ -44,7 +44,7 @@ rows_into told fpr = (entry_at told fpr).rows
 abbrev pub edges_into : Record → Fpr → List EdgeFacts
 edges_into told fpr = map (λ row. row.edge) (rows_into told fpr)
 
--- what is so of each row of an edge
+-- what holds for each row of an edge
 abbrev pub EachRow : Record → EdgeFacts → (Row → Type 0) → Type 0
 EachRow told edge holds = (row : Row) → Has (rows_into told edge.target) row → row.edge ≡ edge → holds row
 

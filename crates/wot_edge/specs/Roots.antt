@@ -8,7 +8,7 @@ use Rattle.std.specs.List.Sorted.{IsStrictlySortedBy}
 use Rattle.wot_types.specs.declared.fpr.Fpr.{Fpr}
 use Rattle.wot_types.specs.Fpr.{fpr_cmp}
 
--- a root's amount, and 0 where it is none
+-- a root's amount, or 0 if the key isn't a root
 abbrev pub root_amount : List (Fpr × ℕ) → Fpr → ℕ
 root_amount roots fpr = unwrap_or (lookup (is_at (fpr_cmp fpr)) roots) 0
 
@@ -20,7 +20,7 @@ NoneOver most roots = (fpr : Fpr) → root_amount roots fpr ≤ most
 abbrev pub AreAmounts : List (Fpr × ℕ) → Type 0
 AreAmounts roots = AllByRecursion (λ root. (0 < root.1) × (root.1 ≤ 255)) roots
 
--- what every value of `Roots` is
+-- the invariant of `Roots`
 pub record IsRoots (roots : List (Fpr × ℕ)) : Type 0 where
   pub order : IsStrictlySortedBy fpr_cmp (keys_of roots)
   pub amounts : AreAmounts roots

@@ -1,4 +1,4 @@
--- What holds of the orders of steps and of lists of steps, for the proofs of all crates.
+-- Laws of the orders of steps and of lists of steps, for the proofs of all crates.
 use Rattle.std.proofs.Common.{◌≡◌, ◌⊎◌, inl, inr, true, List, Ordering, refl, sym}
 use Rattle.std.specs.declared.cmp.Ordering.TheVariants.{Less, Equal, Greater}
 use Rattle.std.specs.Ordering.{is_lt, nat_cmp, ordering_reverse}

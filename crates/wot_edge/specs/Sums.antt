@@ -12,7 +12,7 @@ use Rattle.wot_edge.specs.declared.path.Step.{Step}
 use Rattle.wot_edge.specs.declared.used.Pair.{Pair}
 use Rattle.wot_edge.specs.Path.{Use, pair_part, path_pair, path_root}
 
--- the sum at a key, and 0 where it has none
+-- the sum at a key, or 0 if it has none
 abbrev pub sum_at : {K : Type 0} → (K → K → Ordering) → List (K × ℕ) → K → ℕ
 sum_at cmp sums key = unwrap_or (lookup (is_at (cmp key)) sums) 0
 
@@ -20,7 +20,7 @@ sum_at cmp sums key = unwrap_or (lookup (is_at (cmp key)) sums) 0
 abbrev pub value_at : {V : Type 0} → List (Fpr × V) → Fpr → Option V
 value_at entries fpr = lookup (is_at (fpr_cmp fpr)) entries
 
--- this is the value at this fingerprint now; at all others there is what there was
+-- this is now the value at this fingerprint; all others are unchanged
 abbrev pub PutsAt : {V : Type 0} → List (Fpr × V) → List (Fpr × V) → Fpr → Option V → Type 0
 PutsAt old new fpr value = (q : Fpr) → value_at new q ≡ cond (is_at (fpr_cmp fpr) q) value (value_at old q)
 
@@ -51,7 +51,7 @@ added_at amount steps pair = pair_part pair.issuer pair.target amount steps
 abbrev pub RaisesAll : List (Pair × ℕ) → List (Pair × ℕ) → ℕ → List Step → Type 0
 RaisesAll old new amount steps = (q : Pair) → kept_at new q ≡ kept_at old q + added_at amount steps q
 
--- by what this step adds that later ones do not
+-- by what this step adds and later ones don't
 abbrev pub RaisesStep : List (Pair × ℕ) → List (Pair × ℕ) → ℕ → Step → List Step → Type 0
 RaisesStep old new amount step later =
     (q : Pair) → kept_at new q + added_at amount later q ≡ kept_at old q + added_at amount (step ∷ later) q
@@ -66,7 +66,7 @@ pair_sum sums issuer target = sum_at pair_cmp sums.pairs (record { issuer = issu
 abbrev pub root_sum : Sums → Fpr → ℕ
 root_sum sums fpr = sum_at fpr_cmp sums.roots fpr
 
--- each pair's sum has risen by what a path uses of it; and so of the roots
+-- each pair's sum has risen by what a path uses of it, and so has each root's
 abbrev pub PairsRise : Sums → Sums → Path → Type 0
 PairsRise old new path =
     (issuer target : Fpr) → pair_sum new issuer target ≡ pair_sum old issuer target + path_pair issuer target path
@@ -74,7 +74,7 @@ PairsRise old new path =
 abbrev pub RootsRise : Sums → Sums → Path → Type 0
 RootsRise old new path = (fpr : Fpr) → root_sum new fpr ≡ root_sum old fpr + path_root fpr path
 
--- no pair's sum is another; and so of the roots
+-- no pair's sum has changed, and no root's
 abbrev pub PairsStay : Sums → Sums → Type 0
 PairsStay old new = (issuer target : Fpr) → pair_sum new issuer target ≡ pair_sum old issuer target
 

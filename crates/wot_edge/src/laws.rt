@@ -1,4 +1,5 @@
-//! Laws of the definitions. Each function does nothing: its contract is the law.
+//! Laws of paths and answers. Each function does nothing: its contract is the law, and the crates above cite it by a
+//! call. They stand on `specs/Path.antt`, `specs/Answer.antt` and `specs/Capacity.antt`.
 ghost use Rattle.std.specs.Prelude.{◌≡◌, ◌≤◌, ◌*◌, ◌↔◌, ℕ, List, [], length};
 ghost use Rattle.wot_types.specs.declared.fpr.Fpr.{Fpr};
 ghost use Rattle.wot_edge.specs.declared.path.Path.{Path};
@@ -22,7 +23,7 @@ pub fn answer_is_one()
         → IsAnswer q wanted a → IsAnswer q wanted b → a ≡ b }
 {}
 
-/// The amount is 0 exactly where there is no valid path of positive amount at all.
+/// The amount is 0 if and only if there is no valid path of positive amount at all.
 pub fn zero_is_no_path()
     ensures zero { (q : Question) (wanted : ℕ) (paths : List Path) → 1 ≤ wanted → IsAnswer q wanted paths
         → (amount_of paths ≡ 0) ↔ NoPath q }
@@ -37,7 +38,7 @@ pub fn paths_fit()
         → amount_of paths ≤ 255 * length q.roots }
 {}
 
-/// Rows into each fingerprint that stand in the order of issuer and user ID are a record.
+/// Rows into each fingerprint that are in the order of issuer and user ID are a record.
 pub fn entries_are_record()
     ensures lawful { (told : Record) → AreEntries told → IsRecord told }
 {}

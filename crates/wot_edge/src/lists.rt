@@ -1,3 +1,7 @@
+//! The lists of steps and of paths that contracts see as lists.
+//!
+//! They are made from vectors and become vectors again without a copy. Paths, answers and proofs of absence consist of
+//! them.
 ghost use Rattle.std.specs.Prelude.{◌≡◌, IfOk};
 
 use crate::{Path, Step};
@@ -5,7 +9,7 @@ use std::alloc::Global;
 use std::marker::Model;
 use wot_types::Memory;
 
-/// The steps of a path, from the root on.
+/// The steps of a path, from the root to the target.
 #[derive(Drop)]
 pub struct StepList {
     items: Vec<Step, Global>,
@@ -21,7 +25,7 @@ impl Model for StepList {
 }
 
 impl StepList {
-    /// The list of these.
+    /// The list of these steps, without a copy.
     pub fn new(items: Vec<Step>) -> StepList
         ensures items { result ≡ items.items }
     {
@@ -40,7 +44,7 @@ impl StepList {
         self.items
     }
 
-    /// The same list once more.
+    /// A copy.
     pub fn duplicate(&self) -> Result<StepList, Memory>
         ensures same { IfOk result (λ made. made ≡ self.now) }
     {
@@ -66,7 +70,7 @@ impl Model for PathList {
 }
 
 impl PathList {
-    /// The list of these.
+    /// The list of these paths, without a copy.
     pub fn new(items: Vec<Path>) -> PathList
         ensures items { result ≡ items.items }
     {
@@ -85,7 +89,7 @@ impl PathList {
         self.items
     }
 
-    /// The same list once more.
+    /// A copy.
     pub fn duplicate(&self) -> Result<PathList, Memory>
         ensures same { IfOk result (λ made. made ≡ self.now) }
     {

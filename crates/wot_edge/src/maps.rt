@@ -1,10 +1,14 @@
+//! Maps keyed by fingerprints, in the order of `wot_types`.
+//!
+//! They stand on std's map and on `specs/Sums.antt`. `used` keeps the sums of roots in one, and `roots` and `plain`
+//! their entries.
 // Maps by fingerprint, by the order of fingerprints.
-ghost use Rattle.std.specs.Prelude.{◌≡◌, ◌+◌, ◌<◌, ◌^◌, cond, OnOk, OnErr, IsSome, Some, None, if◌then◌else◌};
+ghost use Rattle.std.specs.Prelude.{◌≡◌, ◌+◌, ◌<◌, ◌^◌, OnOk, OnErr, IsSome, Some, None};
 ghost use Rattle.std.specs.BTreeMap.{insert_entry, is_at};
-ghost use Rattle.std.specs.Map.{lookup, remove_entry};
+ghost use Rattle.std.specs.Map.{remove_entry};
 ghost use Rattle.std.specs.Option.{option_copied};
 ghost use Rattle.wot_types.specs.declared.fpr.Fpr.{Fpr as TheFpr};
-ghost use Rattle.wot_types.specs.Fpr.{fpr_cmp, same_fpr};
+ghost use Rattle.wot_types.specs.Fpr.{fpr_cmp};
 ghost use Rattle.wot_edge.specs.Sums.{PutsAt, part_at, sum_at, value_at};
 
 use crate::sums::{make_room, raise};
@@ -23,7 +27,7 @@ pub fn put<V: Drop>(map: &mut BTreeMap<Fpr, V, Global>, fpr: Fpr, value: V) -> R
     Ok(())
 }
 
-/// Takes out the value at a fingerprint.
+/// Removes the value at a fingerprint.
 pub fn take_out<V: Drop>(map: &mut BTreeMap<Fpr, V, Global>, fpr: &Fpr)
     ensures entries { map.new.entries ≡ remove_entry (is_at (fpr_cmp fpr.now)) map.old.entries }
     ensures gets { PutsAt map.old.entries map.new.entries fpr.now None }
@@ -31,7 +35,7 @@ pub fn take_out<V: Drop>(map: &mut BTreeMap<Fpr, V, Global>, fpr: &Fpr)
     let _ = map.remove(fpr);
 }
 
-/// Gives the fingerprint an entry. No sum is another then.
+/// Makes sure that a fingerprint has an entry. No sum changes.
 pub fn make_root_room(sums: &mut BTreeMap<Fpr, u32, Global>, fpr: Fpr) -> Result<(), Memory>
     ensures same { (q : TheFpr) → sum_at fpr_cmp sums.new.entries q ≡ sum_at fpr_cmp sums.old.entries q }
     ensures here { OnOk result (IsSome (value_at sums.new.entries fpr)) }
@@ -39,7 +43,7 @@ pub fn make_root_room(sums: &mut BTreeMap<Fpr, u32, Global>, fpr: Fpr) -> Result
     make_room(sums, fpr)
 }
 
-/// Raises the sum at a fingerprint that has an entry.
+/// Adds to the sum at a fingerprint that has an entry.
 pub fn raise_root(sums: &mut BTreeMap<Fpr, u32, Global>, fpr: Fpr, amount: u8)
     requires here { IsSome (value_at sums.old.entries fpr) }
     requires fits { sum_at fpr_cmp sums.old.entries fpr + amount < 2 ^ 32 }

@@ -1,7 +1,9 @@
+//! What a path uses of its pairs of issuer and target: its amount once for each pair, however many of its steps are of
+//! it.
+//!
+//! It stands on `sums` and on `specs/Sums.antt`. `Used::add` calls it.
 // What a path uses of its pairs.
-ghost use Rattle.std.specs.Prelude.{◌≡◌, ◌+◌, ◌<◌, ◌^◌, ◌∷◌, ℕ, List, OnOk, IsSome, if◌then◌else◌};
-ghost use Rattle.std.specs.BTreeMap.{is_at};
-ghost use Rattle.std.specs.Map.{lookup};
+ghost use Rattle.std.specs.Prelude.{◌≡◌, ◌+◌, ◌<◌, ◌^◌, OnOk};
 ghost use Rattle.std.specs.List.{list_any};
 ghost use Rattle.wot_types.specs.Fpr.{same_fpr};
 ghost use Rattle.wot_edge.specs.declared.path.Step.{Step as TheStep};
@@ -29,7 +31,7 @@ fn is_pair(issuer: &Fpr, target: &Fpr, step: &Step) -> bool
     same(issuer, &step.issuer) && same(target, &step.target)
 }
 
-/// Whether some step is of this pair.
+/// Whether a step is of this pair.
 fn any_of(issuer: &Fpr, target: &Fpr, steps: &[Step]) -> bool
     ensures any { result ≡ list_any (is_of issuer.now target.now) steps.now }
 {
@@ -53,7 +55,7 @@ fn make_room_for(pairs: &mut BTreeMap<Pair, u32, Global>, step: &Step) -> Result
     make_room(pairs, pair_of_step(step))
 }
 
-/// Gives the pair of each step an entry. No sum is another then.
+/// Makes sure that the pair of each step has an entry. No sum changes.
 pub fn make_rooms(pairs: &mut BTreeMap<Pair, u32, Global>, steps: &[Step]) -> Result<(), Memory>
     ensures same { (q : ThePair) → kept_at pairs.new.entries q ≡ kept_at pairs.old.entries q }
     ensures here { OnOk result ((step : TheStep) → Has steps.now step
@@ -67,7 +69,7 @@ pub fn make_rooms(pairs: &mut BTreeMap<Pair, u32, Global>, steps: &[Step]) -> Re
     Ok(())
 }
 
-/// Raises the sum of the step's pair, where no later step is of that pair.
+/// Adds to the sum of the step's pair, unless a later step is of that pair.
 fn raise_step(pairs: &mut BTreeMap<Pair, u32, Global>, step: &Step, later: &[Step], amount: u8)
     requires here { HasSum pairs.old.entries (pair_of step.now) }
     requires fits { kept_at pairs.old.entries (pair_of step.now) + amount < 2 ^ 32 }
@@ -79,7 +81,7 @@ fn raise_step(pairs: &mut BTreeMap<Pair, u32, Global>, step: &Step, later: &[Ste
     }
 }
 
-/// Raises the sum of each pair of these steps, once.
+/// Adds to the sum of each pair of these steps, once.
 pub fn raise_all(pairs: &mut BTreeMap<Pair, u32, Global>, steps: &[Step], amount: u8)
     requires here { (step : TheStep) → Has steps.now step → HasSum pairs.old.entries (pair_of step) }
     requires fits { (q : ThePair) → kept_at pairs.old.entries q + added_at amount steps.now q < 2 ^ 32 }

@@ -1,5 +1,6 @@
-//! Roads that are kept in memory, for tests and benches of the crates above. No part of the product
-//! uses them.
+//! A network in memory, built line by line, for tests and benches of the crates above; the program doesn't use it.
+//!
+//! It implements `Roads` by `specs/Plain.antt`, and is the example of how that trait is met.
 ghost use Rattle.std.specs.Prelude.{◌≡◌, ◌↔◌, ◌&&◌, ◌||◌, not, [], true, false, IfOk, OnErr};
 ghost use Rattle.std.specs.BTreeMap.{is_at};
 ghost use Rattle.std.specs.Map.{lookup};
@@ -17,7 +18,7 @@ use std::collections::BTreeMap;
 use std::marker::Model;
 use wot_types::{Fpr, Memory, compare_fprs};
 
-/// The edges into a certificate, and whether it is in order.
+/// The edges into a certificate, and whether it is a valid target.
 #[derive(Drop)]
 pub struct PlainLine {
     edges: Vec<Edge, Global>,
@@ -46,8 +47,8 @@ impl PlainLine {
     }
 }
 
-/// A network that is built line by line. A user ID is one octet, and that octet is its place. An edge
-/// that was made at 0 isn't usable. A limited scope holds for one user ID alone.
+/// A network that is built line by line. A user ID is one octet, and that octet is its place. An edge created at 0
+/// isn't usable. A limited scope holds for only one user ID.
 #[derive(Drop)]
 pub struct PlainRoads {
     lines: BTreeMap<Fpr, PlainLine, Global>,
@@ -76,8 +77,8 @@ impl PlainRoads {
         }
     }
 
-    /// Gives a certificate these edges into it; `false` exactly where they aren't all into it, or
-    /// aren't in the order of issuer and user ID, one for each. After `false` and `Memory` the network is as before.
+    /// Sets the edges into a certificate. Returns `false` if and only if not all are into it, or they aren't in the
+    /// order of issuer and user ID, one for each. After `false` and `Memory` the network is unchanged.
     pub fn put(&mut self, fpr: Fpr, in_order: bool, edges: Vec<Edge>) -> Result<bool, Memory>
         ensures rows { IfOk result (λ done. (done ≡ true) ↔ AreRows fpr edges.items) }
         ensures put { IfOk result (λ done. done ≡ true
@@ -154,7 +155,7 @@ fn are_rows(fpr: &Fpr, edges: &[Edge]) -> bool
     true
 }
 
-/// Whether an edge is into a certificate, and less than the first of the later ones.
+/// Whether an edge is into a certificate, and before the first of the later ones in the order.
 fn may_precede(fpr: &Fpr, edge: &Edge, later: &[Edge]) -> bool
     ensures may { (result ≡ true) ↔ MayPrecede fpr.now edge.now later.now }
 {
@@ -187,7 +188,7 @@ fn compare_edges(a: &Edge, b: &Edge) -> Ordering
     }
 }
 
-/// Where a user ID stands: its one octet.
+/// The place of a user ID: its one octet.
 fn place_in(uid: &[u8]) -> Option<u32>
     ensures place { result ≡ place_of uid.now }
 {

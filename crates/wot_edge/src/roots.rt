@@ -1,4 +1,7 @@
-ghost use Rattle.std.specs.Prelude.{◌≡◌, ◌<◌, ◌^◌, [], length, OnOk, OnErr, if◌then◌else◌, Ok};
+//! The trust roots and their amounts.
+//!
+//! It stands on std's map and on `specs/Roots.antt`. Each view of `wot_cache` has its own; paths begin at them.
+ghost use Rattle.std.specs.Prelude.{◌≡◌, ◌<◌, [], length, OnOk, OnErr, if◌then◌else◌, Ok};
 ghost use Rattle.std.specs.BTreeMap.{insert_entry, is_at};
 ghost use Rattle.std.specs.Map.{remove_entry};
 ghost use Rattle.std.specs.Iterator.{YieldsFirst, item_count};
@@ -13,7 +16,7 @@ use std::collections::btree_map::Iter;
 use std::marker::Model;
 use wot_types::{Fpr, Memory};
 
-/// The trust roots with their amounts, in the order of their fingerprints. None has the amount 0.
+/// The trust roots with their amounts, in the order of their fingerprints. No root has the amount 0.
 #[derive(Drop)]
 pub struct Roots {
     amounts: BTreeMap<Fpr, u8, Global>,
@@ -41,8 +44,7 @@ impl Roots {
         }
     }
 
-    /// Gives a root its amount; 0 takes the root away, and needs no memory. After `Memory` the
-    /// roots are as before.
+    /// Sets the amount of a root. 0 removes the root, and takes no memory. After `Memory` the roots are unchanged.
     pub fn set(&mut self, fpr: Fpr, amount: u8) -> Result<(), Memory>
         ensures set { OnOk result (0 < amount → self.new ≡ insert_entry fpr_cmp self.old fpr amount) }
         ensures gets { OnOk result ((q : TheFpr)
@@ -58,7 +60,7 @@ impl Roots {
         Ok(())
     }
 
-    /// The amount of a root; 0 where it is none.
+    /// The amount of a root; 0 if the key isn't one.
     pub fn get(&self, fpr: &Fpr) -> u8
         ensures amount { result ≡ root_amount self.now fpr.now }
     {
@@ -87,7 +89,7 @@ impl Roots {
     }
 }
 
-/// Goes over roots and their amounts, in order.
+/// Iterates over roots and their amounts, in order.
 #[derive(Drop)]
 pub struct RootsIter<'a> {
     entries: Iter<'a, Fpr, u8>,

@@ -1,3 +1,7 @@
+//! Sums by a key: a key without an entry has the sum 0.
+//!
+//! They stand on std's map. `pairs` and `maps` add to them in two steps, first the room and then the amounts, so that
+//! out of memory changes no sum.
 // Sums by a key: a key without an entry has the sum 0.
 ghost use Rattle.std.specs.Prelude.{◌≡◌, ◌+◌, ◌<◌, ◌^◌, OnOk, IsSome, if◌then◌else◌};
 ghost use Rattle.std.specs.BTreeMap.{get};
@@ -18,7 +22,7 @@ pub fn sum_of<K: Ord + Copy>(sums: &BTreeMap<K, u32, Global>, key: &K) -> u32
     }
 }
 
-/// Gives the key an entry. No sum is another then.
+/// Makes sure that a key has an entry. No sum changes.
 pub fn make_room<K: Ord + Copy>(sums: &mut BTreeMap<K, u32, Global>, key: K) -> Result<(), Memory>
     ensures same { (q : K) → sum_at K.cmp sums.new.entries q ≡ sum_at K.cmp sums.old.entries q }
     ensures here { OnOk result (IsSome (get K.cmp sums.new key)) }
@@ -31,7 +35,7 @@ pub fn make_room<K: Ord + Copy>(sums: &mut BTreeMap<K, u32, Global>, key: K) -> 
     Ok(())
 }
 
-/// Raises the sum at a key that has an entry.
+/// Adds to the sum at a key that has an entry.
 pub fn raise<K: Ord + Copy>(sums: &mut BTreeMap<K, u32, Global>, key: K, amount: u8)
     requires here { IsSome (get K.cmp sums.old key) }
     requires fits { sum_at K.cmp sums.old.entries key + amount < 2 ^ 32 }

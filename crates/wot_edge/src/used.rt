@@ -1,3 +1,7 @@
+//! What the paths of an answer use of each pair and each root, so that later paths get only what is left.
+//!
+//! It stands on `pairs` and `maps`, and on `specs/Path.antt`. `wot_auth` adds each path to it before it asks for the
+//! next.
 ghost use Rattle.std.specs.Prelude.{◌≡◌, ◌<◌, ◌+◌, ◌^◌, OnOk, OnErr};
 ghost use Rattle.wot_types.specs.declared.fpr.Fpr.{Fpr as TheFpr};
 ghost use Rattle.wot_edge.specs.Path.{path_pair, path_root};
@@ -34,7 +38,7 @@ impl Model for Used {
 }
 
 impl Used {
-    /// Nothing is used yet.
+    /// Nothing used yet.
     pub fn new(alloc: Global) -> Used
         ensures pairs { (issuer target : TheFpr) → pair_sum result issuer target ≡ 0 }
         ensures roots { (fpr : TheFpr) → root_sum result fpr ≡ 0 }
@@ -45,7 +49,7 @@ impl Used {
         }
     }
 
-    /// What the paths that have an edge from this issuer into this target use, together.
+    /// What the paths with an edge from this issuer to this target use together.
     pub fn pair(&self, issuer: &Fpr, target: &Fpr) -> u32
         ensures sum { result ≡ pair_sum self.now issuer.now target.now }
     {
@@ -59,7 +63,7 @@ impl Used {
         }
     }
 
-    /// What the paths from this root use, together.
+    /// What the paths from this root use together.
     pub fn root(&self, fpr: &Fpr) -> u32
         ensures sum { result ≡ root_sum self.now fpr.now }
     {
@@ -69,8 +73,7 @@ impl Used {
         }
     }
 
-    /// Adds what a path uses: its amount of its root, and of each of its pairs once. After `Memory`
-    /// each sum is as before.
+    /// Adds what a path uses: its amount of its root, and of each of its pairs once. After `Memory` no sum changed.
     pub fn add(&mut self, path: &Path) -> Result<(), Memory>
         requires pairs_fit { (issuer target : TheFpr)
             → pair_sum self.old issuer target + path_pair issuer target path.now < 2 ^ 32 }

@@ -1,4 +1,4 @@
--- Lines and the octets that they stand for.
+-- Lines and the octets that spell them.
 use Rattle.std.proofs.Common.{◌≡◌, ◌≢◌, ℕ, Bool, true, false, eqb, List, [], ◌∷◌, ◌++◌, refl}
 use Rattle.std.proofs.lemmas.Bool.{eqb-true}
 use Rattle.wot_io.specs.Input.{lines_of, HasNoFeed}

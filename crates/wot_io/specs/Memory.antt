@@ -2,8 +2,8 @@
 use Rattle.std.specs.Prelude.{◌≡◌, ◌⊎◌, ◌-◌, ◌<◌, ◌++◌, ℕ, List, length, take, drop, min, Contains}
 use Rattle.wot_io.specs.Counts.{next_count}
 
--- The octets still to come, how many of them a read gives at most, the numbers of the reads that fail,
--- how many reads were made, and the count of faults.
+-- The octets that are left, how many of them a read returns at most, the numbers of the reads that fail, how many reads
+-- were made, and the count of faults.
 pub record SourceMemory : Type 0 where
   pub left : List ℕ
   pub piece : ℕ
@@ -11,7 +11,7 @@ pub record SourceMemory : Type 0 where
   pub calls : ℕ
   pub faults : ℕ
 
--- How many octets a read gives that has this much room.
+-- How many octets a read with this much room returns.
 abbrev pub read_size : SourceMemory → ℕ → ℕ
 read_size source room = min source.piece (min room (length source.left))
 
@@ -19,7 +19,7 @@ read_size source room = min source.piece (min room (length source.left))
 abbrev pub ReadFails : SourceMemory → Type 0
 ReadFails source = Contains source.fails (next_count source.calls)
 
--- After a read that gave so many octets.
+-- After a read that returned `size` octets.
 abbrev pub after_read : SourceMemory → ℕ → SourceMemory
 after_read source size = record source { left = drop size source.left; calls = next_count source.calls }
 
@@ -49,7 +49,7 @@ write_size sink octets = min sink.piece (min (length octets) (room_left sink))
 abbrev pub WriteFails : SinkMemory → List ℕ → Type 0
 WriteFails sink octets = Contains sink.fails (next_count sink.calls) ⊎ ((room_left sink ≡ 0) × (0 < length octets))
 
--- After a write that took so many of these octets.
+-- After a write that took `size` of these octets.
 abbrev pub after_write : SinkMemory → List ℕ → ℕ → SinkMemory
 after_write sink octets size = record sink { written = sink.written ++ take size octets; calls = next_count sink.calls }
 

@@ -1,4 +1,4 @@
--- The parts of a reader of lines, as they are laid out.
+-- The parts of a reader of lines as they lie in memory, and their invariants.
 use Rattle.std.specs.Prelude.{◌≡◌, ◌-◌, ◌≤◌, ◌^◌, drop, take, vec_len, vec_capacity}
 use Rattle.wot_io.specs.declared.buffer.Buffer.TheInside as buffer
 use Rattle.wot_io.specs.declared.intake.Intake.TheInside as intake

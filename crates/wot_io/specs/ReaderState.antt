@@ -1,20 +1,20 @@
--- What is seen of a reader of lines, and of its parts.
+-- What contracts see of a reader of lines and of its parts.
 use Rattle.std.specs.Prelude.{ℕ, List, Option}
 use Rattle.wot_io.specs.declared.fault.LinesFault.{LinesFault}
 
--- The octets held, the line last given, how many octets were taken, and the fault.
+-- The buffered octets, the current line, how many octets were read, and the fault.
 pub record ReaderState : Type 0 where
   pub held : List ℕ
   pub text : List ℕ
   pub taken : ℕ
   pub fault : Option LinesFault
 
--- The octets held, and the line last given.
+-- The buffered octets, and the current line.
 pub record Holding : Type 0 where
   pub held : List ℕ
   pub text : List ℕ
 
--- How many octets were taken, and the last piece of them.
+-- How many octets were read, and the last piece of them.
 pub record Taking : Type 0 where
   pub taken : ℕ
   pub piece : List ℕ

@@ -1,3 +1,5 @@
+//! The octets that were read and aren't part of a line yet, and the current line. `fill` appends to it, `pass` and
+//! `Lines::next` take from it. The longest line is set here; `docs/PROTOCOL.md` states that limit.
 ghost use Rattle.std.specs.Prelude.{◌≡◌, ◌+◌, ◌<◌, ◌≤◌, [], ◌++◌, length, take, drop, IfOk};
 
 use crate::intake::PIECE;
@@ -8,8 +10,8 @@ use wot_types::Memory;
 /// The most octets of a line, without its line feed.
 pub const LONGEST: usize = 16777216;
 
-/// The octets that were taken and aren't given yet, and the line last given. Both stand in one
-/// place, so that a line is given without moving an octet.
+/// The octets that were read and not yet returned, and the current line. Both lie in one vector, so returning a line
+/// moves no octet.
 #[derive(Drop)]
 pub struct Buffer {
     octets: Vec<u8>,
@@ -31,7 +33,7 @@ impl Model for Buffer {
 }
 
 impl Buffer {
-    /// Reserves room for the longest line and the piece in which it is found to be too long.
+    /// Reserves room for the longest line and for one piece more, in which a line turns out to be too long.
     pub fn new(alloc: Global) -> Result<Buffer, Memory>
         ensures { IfOk result (λ buffer. buffer ≡ record { held = []; text = [] }) }
     {
@@ -43,7 +45,7 @@ impl Buffer {
         })
     }
 
-    /// The octets that aren't given yet.
+    /// The octets that weren't returned yet.
     pub fn held(&self) -> &[u8]
         ensures { result.now ≡ self.now.held }
     {
@@ -51,14 +53,14 @@ impl Buffer {
         held
     }
 
-    /// The line last given.
+    /// The current line.
     pub fn text(&self) -> &[u8]
         ensures { result.now ≡ self.now.text }
     {
         &self.octets[self.text_start..self.text_end]
     }
 
-    /// Gives the first octets held, which a line feed follows.
+    /// Makes the first `size` octets the current line, and drops the line feed behind them.
     pub fn give(&mut self, size: usize)
         requires { size < length self.old.held }
         ensures text { self.new.text ≡ take size self.old.held }
@@ -69,7 +71,7 @@ impl Buffer {
         self.start = self.text_end + 1;
     }
 
-    /// Passes over the first octets held and the line feed that follows them.
+    /// Drops the first `size` octets and the line feed behind them.
     pub fn skip(&mut self, size: usize)
         requires { size < length self.old.held }
         ensures text { self.new.text ≡ [] }
@@ -79,7 +81,7 @@ impl Buffer {
         self.start += size + 1;
     }
 
-    /// Gives all that is held.
+    /// Makes all octets the current line.
     pub fn give_all(&mut self)
         ensures text { self.new.text ≡ self.old.held }
         ensures held { self.new.held ≡ [] }
@@ -89,7 +91,7 @@ impl Buffer {
         self.start = self.text_end;
     }
 
-    /// Gives nothing.
+    /// Leaves no current line.
     pub fn give_none(&mut self)
         ensures text { self.new.text ≡ [] }
         ensures held { self.new.held ≡ self.old.held }
@@ -97,7 +99,7 @@ impl Buffer {
         self.text_start = self.text_end;
     }
 
-    /// Drops all.
+    /// Drops all octets and the current line.
     pub fn clear(&mut self)
         ensures { self.new ≡ record { held = []; text = [] } }
     {
@@ -107,7 +109,7 @@ impl Buffer {
         self.text_end = 0;
     }
 
-    /// Holds these octets too. The line that was given is gone.
+    /// Appends octets. There is no current line afterwards.
     pub fn append(&mut self, piece: &[u8])
         requires { length self.old.held + length piece.now ≤ 16842752 }
         ensures text { self.new.text ≡ [] }

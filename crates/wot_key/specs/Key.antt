@@ -17,12 +17,12 @@ version_in body = slice_index body 0
 abbrev pub is_v4 : List ℕ → Bool
 is_v4 body = nat_le 6 (length body) && nat_le (length body) 65535 && (version_in body == 4)
 
--- how many octets of material a body of version 6 says that it has: four octets behind the algorithm
+-- how many octets of material a body of version 6 says it has: four octets after the algorithm
 abbrev pub material_in : List ℕ → ℕ
 material_in body = from_be_bytes w32 (take 4 (drop 6 body))
 
--- A body of version 6: the octet 6, four octets of creation time, an algorithm octet, four octets that say how many
--- octets of material there are, and so many octets; fewer than 2^32 octets in all.
+-- A body of version 6: the octet 6, four octets of creation time, an algorithm octet, four octets with the number of
+-- octets of material, and that many octets; fewer than 2^32 octets in all.
 abbrev pub is_v6 : List ℕ → Bool
 is_v6 body =
     nat_le 10 (length body) && nat_lt (length body) (2 ^ 32) && (version_in body == 6)
@@ -31,11 +31,11 @@ is_v6 body =
 abbrev pub is_readable : List ℕ → Bool
 is_readable body = is_v4 body || is_v6 body
 
--- when a key was made, in seconds since 1970: four octets behind the first (RFC 9580, section 5.5.2)
+-- when a key was created, in seconds since 1970: four octets after the first (RFC 9580, section 5.5.2)
 abbrev pub created_in : List ℕ → ℕ
 created_in body = from_be_bytes w32 (take 4 (drop 1 body))
 
--- what a readable body says
+-- what a body that can be parsed says
 abbrev pub key_of : List ℕ → Option Key
 key_of body =
     if is_readable body
@@ -46,7 +46,7 @@ key_of body =
 abbrev pub hashed_text : List ℕ → List ℕ
 hashed_text body = 153 ∷ to_be_bytes w16 (length body) ++ body
 
--- the digest by which a version 4 key is known
+-- the digest that is a version 4 fingerprint
 unfoldable pub v4_digest : List ℕ → List ℕ
 v4_digest body = sha1 (hashed_text body)
 
@@ -54,7 +54,7 @@ v4_digest body = sha1 (hashed_text body)
 abbrev pub hashed_text_v6 : List ℕ → List ℕ
 hashed_text_v6 body = 155 ∷ to_be_bytes w32 (length body) ++ body
 
--- the digest by which a version 6 key is known
+-- the digest that is a version 6 fingerprint
 unfoldable pub v6_digest : List ℕ → List ℕ
 v6_digest body = sha256 (hashed_text_v6 body)
 
@@ -62,7 +62,7 @@ v6_digest body = sha256 (hashed_text_v6 body)
 unfoldable pub fpr_of : List ℕ → Fpr
 fpr_of body = if version_in body == 6 then V6 (v6_digest body) else V4 (v4_digest body)
 
--- its fingerprint, where the body is readable
+-- the fingerprint, if the body can be parsed
 abbrev pub fingerprint_of : List ℕ → Option Fpr
 fingerprint_of body = if is_readable body then Some (fpr_of body) else None
 

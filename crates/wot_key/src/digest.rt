@@ -1,3 +1,7 @@
+//! Fingerprints and key IDs (RFC 9580, sections 5.5.4.2 and 5.5.4.3).
+//!
+//! It stands on the contracts of `sha1` and `sha2` and on `specs/Key.antt`. Certificates are kept by the fingerprint
+//! that is made here.
 ghost use Rattle.std.specs.Prelude.{◌≡◌, ◌≤◌, ◌<◌, ◌^◌, drop, take, length};
 ghost use Rattle.wot_key.specs.Key.{fingerprint_of, key_id_of, v4_digest, v6_digest};
 
@@ -6,9 +10,9 @@ use sha1::Sha1;
 use sha2::{Digest, Sha256};
 use wot_types::Fpr;
 
-/// The fingerprint of the key with this body (RFC 9580, sections 5.5.4.2 and 5.5.4.3). Of version 4: SHA-1 over the
-/// octet 0x99, the two octets of the body's length and the body. Of version 6: SHA-256 over the octet 0x9B, the
-/// four octets of the length and the body. `None` where the body isn't readable.
+/// The fingerprint of the key with this body (RFC 9580, sections 5.5.4.2 and 5.5.4.3). Version 4: SHA-1 over the octet
+/// 0x99, the two octets of the body's length and the body. Version 6: SHA-256 over the octet 0x9B, the four octets of
+/// the length and the body. `None` if the body can't be parsed.
 #[tactic(auto, unfolding(crate::specs::Key::fpr_of))]
 pub fn fingerprint(body: &[u8]) -> Option<Fpr>
     ensures digest { result ≡ fingerprint_of body.now }

@@ -1,18 +1,22 @@
+//! What the body of a public key packet says: version, creation time and algorithm.
+//!
+//! It stands on `specs/Key.antt`, which says which bodies can be parsed. Imports refuse a primary key that it can't
+//! parse.
 ghost use Rattle.std.specs.Prelude.{◌≡◌};
 ghost use Rattle.wot_key.specs.Key.{is_readable, is_v4, is_v6, key_of};
 
-/// What the body of a public key packet says of its key (RFC 9580, section 5.5.2).
+/// What the body of a public key packet says about the key (RFC 9580, section 5.5.2).
 #[derive(Clone, Copy, PartialEq, Eq)]
 pub struct Key {
     /// The version, which is 4 or 6.
     pub version: u8,
-    /// When the key was made, in seconds since 1970.
+    /// When the key was created, in seconds since 1970.
     pub created: u32,
-    /// The number of the public key algorithm. Any is taken.
+    /// The number of the public key algorithm. Every number is accepted.
     pub algorithm: u8,
 }
 
-/// Whether a body is readable.
+/// Whether a body can be parsed.
 pub(crate) fn test_readable(body: &[u8]) -> bool
     ensures test { result ≡ is_readable body.now }
 {
@@ -35,9 +39,9 @@ fn test_v6(body: &[u8]) -> bool
     material as usize == body.len() - 10
 }
 
-/// Reads the body of a public key packet, without its header. `None` where it is neither a body of a version 4 key
-/// of 6 to 65,535 octets, nor one of a version 6 key of fewer than 2^32 octets, of which the material is as long as
-/// it says. RFC 9580 also knows keys of versions 2 and 3, and sets no such bounds. The key material isn't looked at.
+/// Reads the body of a public key packet, without its header. `None` unless it is a version 4 body of 6 to 65,535
+/// octets, or a version 6 body of fewer than 2^32 octets whose material is as long as it says. RFC 9580 also knows keys
+/// of versions 2 and 3, and sets no such bounds. The key material isn't looked at.
 pub fn read_key(body: &[u8]) -> Option<Key>
     ensures read { result ≡ key_of body.now }
 {

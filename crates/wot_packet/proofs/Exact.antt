@@ -1,5 +1,6 @@
 -- A text spells one list or has one first fault.
-use Rattle.std.proofs.Common.{◌≡◌, ◌⊎◌, inl, inr, ℕ, ◌+◌, ◌≤◌, List, ◌++◌, length, Result, Ok, Err, refl, sym, ap, subst, ◌∙◌, arith, zero-add}
+use Rattle.std.proofs.Common.{◌≡◌, ◌⊎◌, inl, inr, ℕ, ◌+◌, ◌≤◌, List, ◌++◌, length, Result, Ok, Err, refl, sym, ap}
+use Rattle.std.proofs.Common.{subst, ◌∙◌, arith, zero-add}
 use Rattle.std.proofs.lemmas.List.Elements.{recursion_from_All}
 use Rattle.wot_packet.specs.Spelling.{AreOctets, Spelled, Spells, IsFirstFault}
 use Rattle.wot_packet.specs.Reading.{packets_from, packets_of}
@@ -24,33 +25,49 @@ fault_read text fault h =
 pub read_means : (text : List ℕ) → AreOctets text → ListMeans 0 text (packets_of text)
 read_means text h = list_means (length text) 0 text (omega arith) (recursion_from_All IsOctet text h)
 
-means_list : (text : List ℕ) (found : Result (List Spelled) PacketFault) (packets : List Spelled) → ListMeans 0 text found → found ≡ Ok packets → Spells text packets
+means_list : (text : List ℕ) (found : Result (List Spelled) PacketFault) (packets : List Spelled)
+    → ListMeans 0 text found → found ≡ Ok packets → Spells text packets
 means_list text found packets h e = subst (ListMeans 0 text) e h
 
-means_fault : (text : List ℕ) (found : Result (List Spelled) PacketFault) (fault : PacketFault) → ListMeans 0 text found → found ≡ Err fault → IsFirstFault text fault
+means_fault : (text : List ℕ) (found : Result (List Spelled) PacketFault) (fault : PacketFault) → ListMeans 0 text found
+    → found ≡ Err fault → IsFirstFault text fault
 means_fault text found fault h e =
     let k : ListMeans 0 text (Err fault) = subst (ListMeans 0 text) e h in
-    record { prefix = k.prefix; rest = k.rest; split = k.split; offset = k.offset ∙ zero-add (length k.prefix); packets = k.packets; spelled = k.spelled; here = k.here }
+    record {
+      prefix = k.prefix;
+      rest = k.rest;
+      split = k.split;
+      offset = k.offset ∙ zero-add (length k.prefix);
+      packets = k.packets;
+      spelled = k.spelled;
+      here = k.here;
+    }
 
-pub read_list : (text : List ℕ) (packets : List Spelled) → AreOctets text → packets_of text ≡ Ok packets → Spells text packets
+pub read_list : (text : List ℕ) (packets : List Spelled) → AreOctets text → packets_of text ≡ Ok packets
+    → Spells text packets
 read_list text packets h e = means_list text (packets_of text) packets (read_means text h) e
 
-pub read_fault : (text : List ℕ) (fault : PacketFault) → AreOctets text → packets_of text ≡ Err fault → IsFirstFault text fault
+pub read_fault : (text : List ℕ) (fault : PacketFault) → AreOctets text → packets_of text ≡ Err fault
+    → IsFirstFault text fault
 read_fault text fault h e = means_fault text (packets_of text) fault (read_means text h) e
 
-pub one_list : (text : List ℕ) (packets others : List Spelled) → Spells text packets → Spells text others → packets ≡ others
+pub one_list : (text : List ℕ) (packets others : List Spelled) → Spells text packets → Spells text others
+    → packets ≡ others
 one_list text packets others h k = let e = list_read text packets h in let f = list_read text others k in cc
 
-pub one_fault : (text : List ℕ) (fault other : PacketFault) → IsFirstFault text fault → IsFirstFault text other → fault ≡ other
+pub one_fault : (text : List ℕ) (fault other : PacketFault) → IsFirstFault text fault → IsFirstFault text other
+    → fault ≡ other
 one_fault text fault other h k = let e = fault_read text fault h in let f = fault_read text other k in cc
 
-pub never_both : (text : List ℕ) (packets : List Spelled) (fault : PacketFault) → Spells text packets → IsFirstFault text fault → ⊥
+pub never_both : (text : List ℕ) (packets : List Spelled) (fault : PacketFault) → Spells text packets
+    → IsFirstFault text fault → ⊥
 never_both text packets fault h k = let e = list_read text packets h in let f = fault_read text fault k in cc
 
 abbrev pub ListOrFault : List ℕ → Type 0
 ListOrFault text = ((packets : List Spelled) × Spells text packets) ⊎ ((fault : PacketFault) × IsFirstFault text fault)
 
-either : (text : List ℕ) (found : Result (List Spelled) PacketFault) → AreOctets text → packets_of text ≡ found → ListOrFault text
+either : (text : List ℕ) (found : Result (List Spelled) PacketFault) → AreOctets text → packets_of text ≡ found
+    → ListOrFault text
 either text (Ok packets) h e = inl (packets, read_list text packets h e)
 either text (Err fault) h e = inr (fault, read_fault text fault h e)
 

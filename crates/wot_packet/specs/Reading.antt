@@ -1,4 +1,4 @@
--- The plain reader: what stands at the beginning of the octets, packet by packet.
+-- The plain reader: what is at the beginning of the octets, packet by packet.
 use Rattle.std.specs.Prelude.{ℕ, zero, suc, ◌+◌, ◌-◌, ◌*◌, ◌/◌, ◌%◌, nat_lt, ◌==◌, if◌then◌else◌, List, [], ◌∷◌, length}
 use Rattle.std.specs.Prelude.{take, drop, Result, Ok, Err}
 use Rattle.std.specs.Int.{w16, w32, from_be_bytes}
@@ -7,17 +7,17 @@ use Rattle.wot_packet.specs.declared.packet.PacketFault.{PacketFault}
 use Rattle.wot_packet.specs.declared.packet.Why.{Why}
 use Rattle.wot_packet.specs.declared.packet.Why.TheVariants.{NotAPacket, CutLength, CutBody, Partial, Indeterminate}
 
--- a length that is one octet, and what is behind it
+-- a length of one octet, and what is behind it
 abbrev pub one_octet : List ℕ → Result (ℕ × List ℕ) Why
 one_octet (a ∷ rest) = Ok (a, rest)
 one_octet _ = Err CutLength
 
--- the same of two octets
+-- a length of two octets, and what is behind it
 abbrev pub two_octets : List ℕ → Result (ℕ × List ℕ) Why
 two_octets (a ∷ b ∷ rest) = Ok (from_be_bytes w16 (a ∷ b ∷ []), rest)
 two_octets _ = Err CutLength
 
--- the same of four octets
+-- a length of four octets, and what is behind it
 abbrev pub four_octets : List ℕ → Result (ℕ × List ℕ) Why
 four_octets (a ∷ b ∷ c ∷ d ∷ rest) = Ok (from_be_bytes w32 (a ∷ b ∷ c ∷ d ∷ []), rest)
 four_octets _ = Err CutLength
@@ -76,12 +76,12 @@ body_of (Ok headed) =
 abbrev pub first_of : List ℕ → Result First Why
 first_of octets = body_of (headed_of octets)
 
--- the packet before the list, or the fault, that stands further on
+-- the packet before the list that follows it, or the fault that follows it
 abbrev pub before : Spelled → Result (List Spelled) PacketFault → Result (List Spelled) PacketFault
 before packet (Ok packets) = Ok (packet ∷ packets)
 before packet (Err fault) = Err fault
 
--- what so many octets from this offset on begin with, and what others make of the octets behind it and their offset
+-- the first packet of `count` octets from offset `at` on, and then what `others` makes of the octets behind it
 abbrev pub read_on : ℕ → ℕ → Result First Why → (ℕ → List ℕ → Result (List Spelled) PacketFault)
     → Result (List Spelled) PacketFault
 read_on at count (Err why) others = Err (record { at = at; why = why })
@@ -89,7 +89,7 @@ read_on at count (Ok first) others =
     before (record { kind = first.kind; body = first.body; at = at })
     (others (at + (count - length first.rest)) first.rest)
 
--- the packets of these octets from this offset on, at most so many
+-- the packets of these octets from this offset on, at most `most`
 abbrev pub packets_from : ℕ → ℕ → List ℕ → Result (List Spelled) PacketFault
 packets_from most at [] = Ok []
 packets_from zero at (octet ∷ octets) = Ok []

@@ -65,7 +65,7 @@ abbrev pub IsIndeterminate : List ℕ → Type 0
 IsIndeterminate [] = ⊥
 IsIndeterminate (tag ∷ octets) = (kind : ℕ) × (kind < 16) × (tag ≡ 128 + 4 * kind + 3)
 
--- That is why no packet stands at the beginning of these octets.
+-- This is why no packet is at the beginning of these octets.
 abbrev pub IsFault : Why → List ℕ → Type 0
 IsFault NotAPacket octets = IsNotAPacket octets
 IsFault CutLength octets = IsCutLength octets
@@ -73,7 +73,7 @@ IsFault CutBody octets = IsCutBody octets
 IsFault Partial octets = IsPartial octets
 IsFault Indeterminate octets = IsIndeterminate octets
 
--- The first fault of a text: what stands before it spells a list of packets, and no packet begins there.
+-- The first fault of a text: what comes before it spells a list of packets, and no packet begins there.
 pub record IsFirstFault (text : List ℕ) (fault : PacketFault) : Type 0 where
   pub prefix : List ℕ
   pub rest : List ℕ
@@ -90,11 +90,11 @@ spelled_of packet = record { kind = packet.kind; body = packet.body.now; at = pa
 abbrev pub spelled_all : List Packet → List Spelled
 spelled_all packets = map spelled_of packets
 
--- the same packets, each so many octets further on
+-- these packets, each `shift` octets further on
 abbrev pub moved : ℕ → List Spelled → List Spelled
 moved shift packets = map (λ packet. record { kind = packet.kind; body = packet.body; at = shift + packet.at }) packets
 
--- The length of each body is one that four octets tell.
+-- The length of each body fits in four octets.
 abbrev pub AreShort : List Spelled → Type 0
 AreShort packets = AllByRecursion (λ (p : Spelled). length p.body < 2 ^ 32) packets
 
@@ -105,6 +105,6 @@ SpellsSome text = (packets : List Spelled) × Spells text packets
 abbrev pub HasFault : List ℕ → Type 0
 HasFault text = (fault : PacketFault) × IsFirstFault text fault
 
--- where the text behind it spells others, both spell the two lists, one behind the other
+-- if the text behind it spells others, both together spell the concatenation of the lists
 abbrev pub SpellsBoth : List ℕ → List ℕ → List Spelled → List Spelled → Type 0
 SpellsBoth text more packets others = Spells more others → Spells (text ++ more) (packets ++ moved (length text) others)

@@ -1,4 +1,4 @@
--- The numbers by which the reasons are told.
+-- The numbers of the reasons in replies.
 use Rattle.std.specs.Prelude.{ℕ}
 use Rattle.wot_packet.specs.declared.packet.Why.{Why}
 use Rattle.wot_packet.specs.declared.packet.Why.TheVariants.{NotAPacket, CutLength, CutBody, Partial, Indeterminate}

@@ -23,7 +23,7 @@ written kind body = shortest_header kind (length body) ++ body
 abbrev pub CanBeWritten : ℕ → List ℕ → Type 0
 CanBeWritten kind body = (kind < 64) × (length body < 2 ^ 32)
 
--- the octets of packets, each its type and its body, one behind the other
+-- the octets of packets, each its type and its body, one after another
 abbrev pub written_all : List (ℕ × List ℕ) → List ℕ
 written_all [] = []
 written_all (packet ∷ packets) = written packet.0 packet.1 ++ written_all packets
@@ -37,14 +37,14 @@ placed at (packet ∷ packets) =
 abbrev pub AllCanBeWritten : List (ℕ × List ℕ) → Type 0
 AllCanBeWritten packets = All (λ packet. CanBeWritten packet.0 packet.1) packets
 
--- what is written before a text that spells a list spells that packet before that list
+-- a packet that is written in front of a text is spelled in front of that text's list
 abbrev pub SpellsBefore : ℕ → List ℕ → List ℕ → List Spelled → Type 0
 SpellsBefore kind body text packets =
     Spells text packets
     → Spells (written kind body ++ text)
     (record { kind = kind; body = body; at = 0 } ∷ moved (length (written kind body)) packets)
 
--- it is the shortest header of this kind and size, or longer than that one
+-- it is the shortest header for this type and size, or longer than that
 abbrev pub IsNoShorter : List ℕ → ℕ → ℕ → Type 0
 IsNoShorter header kind size =
     (header ≡ shortest_header kind size) ⊎ (length (shortest_header kind size) < length header)

@@ -1,3 +1,7 @@
+//! The header of one packet, in the OpenPGP and in the legacy format.
+//!
+//! It stands on the plain reader in `specs/Reading.antt`. `read` reads each packet through it; a change changes which
+//! texts are packets, and where the first fault of others is.
 ghost use Rattle.std.specs.Prelude.{◌<◌};
 ghost use Rattle.wot_packet.specs.Answers.{Finds};
 ghost use Rattle.wot_packet.specs.Reading.{openpgp_length, legacy_length, headed_of};
@@ -5,7 +9,7 @@ ghost use Rattle.wot_packet.specs.Seen.{headed_seen};
 
 use crate::Why;
 
-/// A packet's header (RFC 9580, section 4.2), and what is behind it.
+/// A packet's header (RFC 9580, section 4.2), and the octets after it.
 #[derive(Clone, Copy)]
 pub(crate) struct Header<'a> {
     pub kind: u8,
@@ -13,7 +17,7 @@ pub(crate) struct Header<'a> {
     pub rest: &'a [u8],
 }
 
-/// A length in the OpenPGP format (section 4.2.1), and what is behind it.
+/// Reads a length in the OpenPGP format (section 4.2.1). Returns it with the octets after it.
 fn openpgp(octets: &[u8]) -> Result<(usize, &[u8]), Why>
     ensures { Finds (λ found. (found.0, found.1.now)) result (openpgp_length octets.now) }
 {
@@ -32,7 +36,7 @@ fn openpgp(octets: &[u8]) -> Result<(usize, &[u8]), Why>
     }
 }
 
-/// A length in the legacy format (section 4.2.2), of this length type, and what is behind it.
+/// Reads a length in the legacy format (section 4.2.2), of this length type. Returns it with the octets after it.
 fn legacy(length_type: u8, octets: &[u8]) -> Result<(usize, &[u8]), Why>
     requires { length_type < 4 }
     ensures { Finds (λ found. (found.0, found.1.now)) result (legacy_length length_type octets.now) }
@@ -49,7 +53,7 @@ fn legacy(length_type: u8, octets: &[u8]) -> Result<(usize, &[u8]), Why>
     }
 }
 
-/// The header that stands at the beginning.
+/// Reads the header at the beginning.
 pub(crate) fn read_header(octets: &[u8]) -> Result<Header<'_>, Why>
     ensures { Finds headed_seen result (headed_of octets.now) }
 {

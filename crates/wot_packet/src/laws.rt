@@ -1,4 +1,5 @@
-//! Laws of the framing. Each function does nothing; its contract is the law, for whoever builds on the definitions.
+//! Laws of the framing. Each function does nothing: its contract is the law, and the crates above cite it by a call.
+//! They stand on `specs/Spelling.antt`, `specs/Reading.antt` and `specs/Writing.antt`.
 ghost use Rattle.std.specs.Prelude.{◌≡◌, ◌<◌, ◌^◌, ◌⊎◌, ◌↔◌, ℕ, List, Ok, Err};
 ghost use Rattle.wot_packet.specs.Header.{IsOpenpgpHeader};
 ghost use Rattle.wot_packet.specs.Reading.{packets_of};
@@ -26,19 +27,19 @@ pub fn list_or_fault()
         Spells text packets → IsFirstFault text fault → ⊥ }
 {}
 
-/// Two texts, one behind the other, spell the two lists, one behind the other.
+/// The concatenation of two texts spells the concatenation of their lists.
 pub fn joined()
     ensures { (text more : List ℕ) (packets others : List Spelled)
         → Spells text packets → SpellsBoth text more packets others }
 {}
 
-/// What is written before a text that spells a list spells that packet before that list.
+/// A packet that is written in front of a text is spelled in front of that text's list.
 pub fn written_first()
     ensures { (kind : ℕ) (body text : List ℕ) (packets : List Spelled)
         → CanBeWritten kind body → SpellsBefore kind body text packets }
 {}
 
-/// Packets that are written one behind the other are spelled, in that order, and read back so.
+/// Packets that are written one after another are spelled in that order, and read back.
 pub fn written_back()
     ensures spelled { (packets : List (ℕ × List ℕ)) → AllCanBeWritten packets
         → Spells (written_all packets) (placed 0 packets) }
@@ -46,7 +47,7 @@ pub fn written_back()
         → packets_of (written_all packets) ≡ Ok (placed 0 packets) }
 {}
 
-/// What is written has the shortest header in the OpenPGP format: each other one is longer.
+/// A written packet has the shortest header in the OpenPGP format: every other one is longer.
 pub fn shortest()
     ensures is_header { (kind size : ℕ) → kind < 64 → size < 2 ^ 32 →
         IsOpenpgpHeader (shortest_header kind size) kind size }
@@ -54,7 +55,7 @@ pub fn shortest()
         → AreOctets header → IsOpenpgpHeader header kind size → IsNoShorter header kind size }
 {}
 
-/// The plain reader of the definitions gives what a text spells, or its first fault.
+/// The plain reader of the definitions returns what a text spells, or its first fault.
 pub fn plain_reader()
     ensures lists { (text : List ℕ) (packets : List Spelled) → AreOctets text →
         ((packets_of text ≡ Ok packets) ↔ Spells text packets) }

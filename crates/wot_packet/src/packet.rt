@@ -1,3 +1,6 @@
+//! The types of this crate: a packet, why no packet can be read at an offset, and the errors of reading.
+//!
+//! The numbers of the reasons are defined in `specs/Why.antt`; `docs/PROTOCOL.md` lists them for `refused packet`.
 ghost use Rattle.std.specs.Prelude.{◌≡◌};
 ghost use Rattle.wot_packet.specs.Why.{number_of};
 ghost use Rattle.wot_packet.specs.declared.packet.ReadFault.TheVariants.{Memory};
@@ -11,11 +14,11 @@ pub struct Packet<'a> {
     pub kind: u8,
     /// The offset of its first octet in the text.
     pub at: usize,
-    /// The octets of the text behind its header.
+    /// The octets of the text after the header.
     pub body: &'a [u8],
 }
 
-/// Why no packet stands at an offset.
+/// Why no packet can be read at an offset.
 #[derive(Clone, Copy, Debug, PartialEq, Eq)]
 pub enum Why {
     /// Bit 7 of the first octet is clear.
@@ -31,7 +34,7 @@ pub enum Why {
 }
 
 impl Why {
-    /// The number by which the reason is told.
+    /// The number of the reason in a reply.
     pub fn number(self) -> u8
         ensures { result ≡ number_of self }
     {
@@ -39,20 +42,20 @@ impl Why {
     }
 }
 
-/// Where, and why, no packet stands.
+/// Where, and why, no packet can be read.
 #[derive(Clone, Copy, Debug, PartialEq, Eq)]
 pub struct PacketFault {
-    /// The offset of the first octet that begins no packet.
+    /// The offset at which no packet begins.
     pub at: usize,
     pub why: Why,
 }
 
-/// Why a text was not read.
+/// Why a text wasn't read.
 #[derive(Clone, Copy, PartialEq, Eq)]
 pub enum ReadFault {
-    /// The text is no list of packets; this is its first fault.
+    /// The text isn't a list of packets; this is its first fault.
     Packet(PacketFault),
-    /// No memory was found.
+    /// Out of memory.
     Memory,
 }
 

@@ -1,3 +1,7 @@
+//! `read_packets`: a text as a list of packets, or its first fault.
+//!
+//! It stands on `header` and on the definitions of what a text spells (`specs/Spelling.antt`). Imports, loads and dumps
+//! read certificates through it.
 ghost use Rattle.std.specs.Prelude.{◌≡◌, ◌<◌, ◌≤◌, ◌*◌, ◌^◌, List, length, IfOk, IfErr};
 ghost use Rattle.std.specs.List.{All};
 ghost use Rattle.wot_packet.specs.Answers.{Finds, IfPacket, Gives, AnswersList, AnswersFault};
@@ -10,7 +14,7 @@ use crate::header::read_header;
 use crate::{Packet, PacketFault, ReadFault, Why};
 use std::alloc::Global;
 
-/// The packet at the beginning of the octets, which begin at this offset, and what is behind it.
+/// Reads the packet at the beginning of the octets, which begin at offset `at`. Returns it with the octets after it.
 fn first_packet(octets: &[u8], at: usize) -> Result<(Packet<'_>, &[u8]), Why>
     ensures offset { IfOk result (λ found. found.0.at ≡ at) }
     ensures first { Finds (λ found. first_seen found.0 found.1.now) result (first_of octets.now) }
@@ -30,14 +34,14 @@ fn first_packet(octets: &[u8], at: usize) -> Result<(Packet<'_>, &[u8]), Why>
     ))
 }
 
-/// Reads a text as a list of packets, each with the offset of its first octet, in either format and with lengths
-/// of every form but the partial and the indeterminate one (RFC 9580, section 4.2). An empty text is the empty
-/// list. No octet is copied: the list of packets is all that takes memory.
+/// Reads a text as a list of packets, each with the offset of its first octet, in either format and with every form of
+/// length except the partial and the indeterminate one (RFC 9580, section 4.2). An empty text is the empty list. No
+/// octet is copied: only the list of packets takes memory.
 pub fn read_packets<'a>(alloc: Global, bytes: &'a [u8]) -> Result<Vec<Packet<'a>>, ReadFault>
-    // What is answered is what the text spells, or its first fault.
+    // The result is what the text spells, or its first fault.
     ensures spelled { IfOk result (λ packets. Spells bytes.now (spelled_all packets.items)) }
     ensures fault { IfErr result (λ answer. IfPacket answer (λ fault. IsFirstFault bytes.now fault)) }
-    // The same, by the plain reader.
+    // The plain reader returns it too.
     ensures reader { Gives (λ found. spelled_all found.items) result (packets_of bytes.now) }
     // A packet that was read can be written.
     ensures bounds { IfOk result (λ packets. All (λ packet.
@@ -46,7 +50,7 @@ pub fn read_packets<'a>(alloc: Global, bytes: &'a [u8]) -> Result<Vec<Packet<'a>
     // Each packet has two octets or more.
     ensures few { IfOk result (λ packets. 2 * length packets.items ≤ length bytes.now) }
 
-    // Each list that the text spells is answered, and each first fault told, unless no memory is found.
+    // Every list that the text spells, and every first fault, is returned, unless memory runs out.
     ensures each_list { (packets : List Spelled) → Spells bytes.now packets →
         AnswersList (λ found. spelled_all found.items) result packets }
     ensures each_fault { (fault : PacketFault) → IsFirstFault bytes.now fault →

@@ -1,3 +1,6 @@
+//! `write_packet`: a packet in the OpenPGP format, with the shortest length.
+//!
+//! It stands on `specs/Writing.antt`. Exports, dumps and the directory's entries are written by it.
 ghost use Rattle.std.specs.Prelude.{◌≡◌, ◌<◌, ◌≤◌, ◌^◌, ◌++◌, length, OnOk, OnErr};
 ghost use Rattle.wot_packet.specs.Writing.{shortest_header, written};
 
@@ -23,7 +26,7 @@ fn write_header(kind: u8, length: usize, out: &mut Vec<u8>) -> Result<(), Memory
     Ok(())
 }
 
-/// Appends a packet in the OpenPGP format, with the shortest length. After `Memory`, `out` is as before.
+/// Appends a packet in the OpenPGP format, with the shortest length. After `Memory`, `out` is unchanged.
 pub fn write_packet(kind: u8, body: &[u8], out: &mut Vec<u8>) -> Result<(), Memory>
     requires kind { kind ≤ 63 }
     requires size { length body.now < 2 ^ 32 }

@@ -5,10 +5,12 @@ use Rattle.wot_pattern.specs.declared.item.Item.{Item}
 use Rattle.wot_pattern.specs.declared.mark.Mark.{Mark}
 use Rattle.wot_pattern.specs.declared.mark.Mark.TheVariants as m
 use Rattle.wot_pattern.specs.Marks.{mark_of}
-use Rattle.wot_pattern.specs.Reading.{Atom, exactly, any, start, end, range, Reading, nothing, single, sequence, either, star, plus, optional}
+use Rattle.wot_pattern.specs.Reading.{Atom, exactly, any, start, end, range, Reading, nothing, single, sequence, either}
+use Rattle.wot_pattern.specs.Reading.{star, plus, optional}
 use Rattle.wot_pattern.specs.Grammar as g
 use Rattle.wot_pattern.specs.Grammar.{Part, Items, Range, Reads}
-use Rattle.wot_pattern.specs.Steps.{Level, Last, none, atom, piece, State, at, flushed, joined, level_so_far, with_atom, entered, left, with_piece, ParserStepBy, ParserStep, Runs, accepted, next, fresh}
+use Rattle.wot_pattern.specs.Steps.{Level, Last, none, atom, piece, State, at, flushed, joined, level_so_far, with_atom}
+use Rattle.wot_pattern.specs.Steps.{entered, left, with_piece, ParserStepBy, ParserStep, Runs, accepted, next, fresh}
 
 pub head_same : {A : Type 0} {c d : A} {t u : List A} → c ∷ t ≡ d ∷ u → c ≡ d
 head_same {A} {c} e = ap (λ (l : List A). elim l [ [] ↦ c | x ∷ xs ↦ x ]) e
@@ -35,11 +37,14 @@ Claim g.branch n t p r =
     × ((fs : List Level) (e : Option Reading) → Reaches (at n fs e nothing none) t (at n fs e b l) r)
 Claim g.piece n t p r =
     (l : Last) × last_is l p
-    × ((fs : List Level) (e : Option Reading) (b : Reading) (l₀ : Last) → Reaches (at n fs e b l₀) t (at n fs e (flushed l₀ b) l) r)
+    × ((fs : List Level) (e : Option Reading) (b : Reading) (l₀ : Last)
+    → Reaches (at n fs e b l₀) t (at n fs e (flushed l₀ b) l) r)
 Claim g.atom n t p r =
-    (fs : List Level) (e : Option Reading) (b : Reading) (l₀ : Last) → Reaches (at n fs e b l₀) t (at n fs e (flushed l₀ b) (atom p)) r
+    (fs : List Level) (e : Option Reading) (b : Reading) (l₀ : Last)
+    → Reaches (at n fs e b l₀) t (at n fs e (flushed l₀ b) (atom p)) r
 
-step_at : (k : Mark) (s s' : State) (c : ℕ) (t t' : List ℕ) → mark_of c ≡ k → ParserStepBy k s c t s' t' → ParserStep s (c ∷ t) s' t'
+step_at : (k : Mark) (s s' : State) (c : ℕ) (t t' : List ℕ) → mark_of c ≡ k → ParserStepBy k s c t s' t'
+    → ParserStep s (c ∷ t) s' t'
 step_at k s s' c t t' e h = subst (λ x. ParserStepBy x s c t s' t') (sym e) h
 
 flushed_is : (l : Last) (b p q : Reading) → last_is l p → b ≡ q → flushed l b ≡ sequence q p
@@ -58,7 +63,8 @@ claim (g.next_branch {n = n} {c = c} {t = t} {u = u} {r = r} {p = p} {b = q} h o
       l',
       ap (λ x. either p x) is',
       λ fs x run. go fs x (next {s' = at n fs (Some p) nothing none} {t' = u}
-          (step_at m.Bar (at n fs e b l) (at n fs (Some p) nothing none) c u u o (refl, ap (λ y. at n fs (Some y) nothing none) (sym is)))
+          (step_at m.Bar (at n fs e b l) (at n fs (Some p) nothing none) c u u o
+          (refl, ap (λ y. at n fs (Some y) nothing none) (sym is)))
           (go' fs (Some p) x run)),
     )
 claim g.no_piece = (nothing, none, refl, λ fs e x run. run)
@@ -72,21 +78,24 @@ claim (g.starred {n = n} {c = c} {t = t} {r = r} {a = a} h o) = (
   refl,
   λ fs e b l x run.
       claim h fs e b l x (next {s' = at n fs e (flushed l b) (piece (star a))} {t' = r}
-      (step_at m.Star (at n fs e (flushed l b) (atom a)) (at n fs e (flushed l b) (piece (star a))) c r r o (a, refl, refl, refl)) run),
+      (step_at m.Star (at n fs e (flushed l b) (atom a)) (at n fs e (flushed l b) (piece (star a))) c r r o
+      (a, refl, refl, refl)) run),
 )
 claim (g.repeated {n = n} {c = c} {t = t} {r = r} {a = a} h o) = (
   piece (plus a),
   refl,
   λ fs e b l x run.
       claim h fs e b l x (next {s' = at n fs e (flushed l b) (piece (plus a))} {t' = r}
-      (step_at m.Plus (at n fs e (flushed l b) (atom a)) (at n fs e (flushed l b) (piece (plus a))) c r r o (a, refl, refl, refl)) run),
+      (step_at m.Plus (at n fs e (flushed l b) (atom a)) (at n fs e (flushed l b) (piece (plus a))) c r r o
+      (a, refl, refl, refl)) run),
 )
 claim (g.optioned {n = n} {c = c} {t = t} {r = r} {a = a} h o) = (
   piece (optional a),
   refl,
   λ fs e b l x run.
       claim h fs e b l x (next {s' = at n fs e (flushed l b) (piece (optional a))} {t' = r}
-      (step_at m.Optional (at n fs e (flushed l b) (atom a)) (at n fs e (flushed l b) (piece (optional a))) c r r o (a, refl, refl, refl)) run),
+      (step_at m.Optional (at n fs e (flushed l b) (atom a)) (at n fs e (flushed l b) (piece (optional a))) c r r o
+      (a, refl, refl, refl)) run),
 )
 claim (g.group {n = n} {c = c} {d = d} {t = t} {r = r} {p = p} o h o') =
     let (e', b', l', is, go) = claim h in
@@ -95,7 +104,8 @@ claim (g.group {n = n} {c = c} {d = d} {t = t} {r = r} {p = p} o h o') =
     next {s' = at n (f ∷ fs) None nothing none} {t' = t}
     (step_at m.Open (at (suc n) fs e b l) (at n (f ∷ fs) None nothing none) c t t o (n, refl, refl, refl))
     (go (f ∷ fs) x (next {s' = at (suc n) fs e (flushed l b) (atom p)} {t' = r}
-    (step_at m.Close (at n (f ∷ fs) e' b' l') (at (suc n) fs e (flushed l b) (atom p)) d r r o' (f, fs, refl, refl, ap (λ y. at (suc n) fs e (flushed l b) (atom y)) (sym is)))
+    (step_at m.Close (at n (f ∷ fs) e' b' l') (at (suc n) fs e (flushed l b) (atom p)) d r r o'
+    (f, fs, refl, refl, ap (λ y. at (suc n) fs e (flushed l b) (atom y)) (sym is)))
     run))
 claim (g.ranged {n = n} {c = c} {t = t} {r = r} {a = a} o h) =
     λ fs e b l x run. next {s' = at n fs e (flushed l b) (atom (single a))} {t' = r}
@@ -111,7 +121,8 @@ claim (g.ended {n = n} {c = c} {r = r} o) =
     (step_at m.End (at n fs e b l) (at n fs e (flushed l b) (atom (single end))) c r r o (refl, refl)) run
 claim (g.escaped {n = n} {c = c} {d = d} {r = r} o) =
     λ fs e b l x run. next {s' = at n fs e (flushed l b) (atom (single (exactly d)))} {t' = r}
-    (step_at m.Escape (at n fs e b l) (at n fs e (flushed l b) (atom (single (exactly d)))) c (d ∷ r) r o (d, refl, refl)) run
+    (step_at m.Escape (at n fs e b l) (at n fs e (flushed l b) (atom (single (exactly d)))) c (d ∷ r) r o
+    (d, refl, refl)) run
 claim (g.plain {n = n} {c = c} {r = r} o) =
     λ fs e b l x run. next {s' = at n fs e (flushed l b) (atom (single (exactly c)))} {t' = r}
     (step_at m.Plain (at n fs e b l) (at n fs e (flushed l b) (atom (single (exactly c)))) c r r o (refl, refl)) run
@@ -119,9 +130,12 @@ claim (g.plain {n = n} {c = c} {r = r} o) =
 pub runs_from_reads : (text : List ℕ) (p : Reading) → Reads g.pattern 64 text p [] → Runs (fresh 64 []) text p
 runs_from_reads text p h = let (e, b, l, is, go) = claim h in go [] p (accepted refl is)
 
-pub some_same : {A B : Type 0} (x y : A) (u v : B) → ◌≡◌ {A = Option (A × B)} (Some (x, u)) (Some (y, v)) → (x ≡ y) × (u ≡ v)
-some_same {A} {B} x y u v e =
-    (ap (λ (o : Option (A × B)). elim o [ None ↦ x | Some p ↦ p.0 ]) e, ap (λ (o : Option (A × B)). elim o [ None ↦ u | Some p ↦ p.1 ]) e)
+pub some_same : {A B : Type 0} (x y : A) (u v : B) → ◌≡◌ {A = Option (A × B)} (Some (x, u)) (Some (y, v))
+    → (x ≡ y) × (u ≡ v)
+some_same {A} {B} x y u v e = (
+  ap (λ (o : Option (A × B)). elim o [ None ↦ x | Some p ↦ p.0 ]) e,
+  ap (λ (o : Option (A × B)). elim o [ None ↦ u | Some p ↦ p.1 ]) e,
+)
 
 -- the rest of a range, and what it has read, are determined
 Items-along :
@@ -159,7 +173,8 @@ pred_same : (k n n' : ℕ) → k ≡ suc n → k ≡ suc n' → n ≡ n'
 pred_same k n n' e e' = ap pred (sym e ∙ e')
 
 -- both come to the same
-meet : {s a b : State} {t u v : List ℕ} → s ≡ a → t ≡ u → (x : State) (w : List ℕ) → x ≡ b → w ≡ v → a ≡ b → u ≡ v → (s ≡ x) × (t ≡ w)
+meet : {s a b : State} {t u v : List ℕ} → s ≡ a → t ≡ u → (x : State) (w : List ℕ) → x ≡ b → w ≡ v → a ≡ b → u ≡ v
+    → (s ≡ x) × (t ≡ w)
 meet e f x w e' f' h k = (e ∙ h ∙ sym e', f ∙ k ∙ sym f')
 
 ParserStepBy-same :
@@ -186,7 +201,8 @@ ParserStepBy-same m.Optional s c t a u b v (x, h, e, f) (y, h', e', f') =
     meet f e b v f' e' (ap (λ z. with_piece s (optional z)) (last_same s.last x y h h')) refl
 ParserStepBy-same m.Plain s c t a u b v (e, f) (e', f') = meet f e b v f' e' refl refl
 
-ParserStep-same : (s : State) (t : List ℕ) (a : State) (u : List ℕ) (b : State) (v : List ℕ) → ParserStep s t a u → ParserStep s t b v → (a ≡ b) × (u ≡ v)
+ParserStep-same : (s : State) (t : List ℕ) (a : State) (u : List ℕ) (b : State) (v : List ℕ) → ParserStep s t a u
+    → ParserStep s t b v → (a ≡ b) × (u ≡ v)
 ParserStep-same s [] a u b v h k = absurd h
 ParserStep-same s (c ∷ t) a u b v h k = ParserStepBy-same (mark_of c) s c t a u b v h k
 
@@ -196,7 +212,8 @@ Runs-step (accepted e f) k = absurd k
 Runs-step {s' = b} {t' = v} {p = p} (next {s = s} {s' = a} {t = t} {t' = u} h run) k =
     let (e, f) = ParserStep-same s t a u b v h k in subst (λ x. Runs b x p) f (subst (λ x. Runs x u p) e run)
 
-pub Runs-stuck : {s : State} {c : ℕ} {t : List ℕ} {p : Reading} → Runs s (c ∷ t) p → ((s' : State) (t' : List ℕ) → ParserStep s (c ∷ t) s' t' → ⊥) → ⊥
+pub Runs-stuck : {s : State} {c : ℕ} {t : List ℕ} {p : Reading} → Runs s (c ∷ t) p
+    → ((s' : State) (t' : List ℕ) → ParserStep s (c ∷ t) s' t' → ⊥) → ⊥
 Runs-stuck (next {s' = a} {t' = u} h run) k = k a u h
 
 pub Runs-end : {s : State} {p : Reading} → Runs s [] p → (s.outer ≡ []) × (level_so_far s ≡ p)

@@ -1,10 +1,12 @@
 -- What the two passes keep true: which trees hold up to a position, from where they may begin.
-use Rattle.std.specs.Prelude.{◌≡◌, ℕ, zero, suc, ◌+◌, ◌<◌, ◌≤◌, ◌⊎◌, Bool, true, false, ◌&&◌, ◌||◌, not, nat_le, List, [], ◌∷◌, length, Option, Some, None, slice_get}
+use Rattle.std.specs.Prelude.{◌≡◌, ℕ, zero, suc, ◌+◌, ◌<◌, ◌≤◌, ◌⊎◌, Bool, true, false, ◌&&◌, ◌||◌, not, nat_le, List}
+use Rattle.std.specs.Prelude.{[], ◌∷◌, length, Option, Some, None, slice_get}
 use Rattle.std.proofs.Common.{refl, sym, subst, ap, ◌∙◌, inl, inr, arith}
 use Rattle.std.proofs.lemmas.Bool.{cases_lt, leb-true, le-leb, eqb-true, eq-eqb, false≢true}
 use Rattle.wot_pattern.specs.declared.item.Item.{Item}
 use Rattle.wot_pattern.specs.declared.flow.Flow.{Flow}
-use Rattle.wot_pattern.specs.Reading.{Atom, exactly, any, start, end, range, Reading, nothing, single, sequence, either, star, plus, optional}
+use Rattle.wot_pattern.specs.Reading.{Atom, exactly, any, start, end, range, Reading, nothing, single, sequence, either}
+use Rattle.wot_pattern.specs.Reading.{star, plus, optional}
 use Rattle.wot_pattern.specs.Meaning.{Turns, InItems, Takes, OneTaken, AtomHolds, Holds}
 use Rattle.wot_pattern.specs.Passes.{flow, in_items, takes, holds_empty}
 use Rattle.wot_pattern.proofs.Tells.{Tells, tells_or, tells_and, tells_as, tells_always, tells_never}
@@ -12,7 +14,8 @@ use Rattle.wot_pattern.proofs.Tells.{Tells, tells_or, tells_and, tells_as, tells
 Turns-le :
     (R : ℕ → ℕ → Type 0) → ((i j : ℕ) → R i j → i ≤ j) → (n i j : ℕ) → Turns R n i j → i ≤ j
 Turns-le R f zero i j e = omega arith
-Turns-le R f (suc n) i j (k, r, more) = let a : i ≤ k = f i k r in let b : k ≤ j = Turns-le R f n k j more in omega arith
+Turns-le R f (suc n) i j (k, r, more) =
+    let a : i ≤ k = f i k r in let b : k ≤ j = Turns-le R f n k j more in omega arith
 
 Turns-snoc : (R : ℕ → ℕ → Type 0) (n i k j : ℕ) → Turns R n i k → R k j → Turns R (suc n) i j
 Turns-snoc R zero i k j e r = (j, subst (λ x. R x j) (sym e) r, refl)
@@ -54,7 +57,8 @@ module _ (text : List ℕ) where
   pub Holds-le : (r : Reading) (i j : ℕ) → Holds text r i j → i ≤ j
   Holds-le nothing i j h = omega arith
   Holds-le (single a) i j h = AtomHolds-le a i j h
-  Holds-le (sequence p q) i j (k, h, h') = let a : i ≤ k = Holds-le p i k h in let b : k ≤ j = Holds-le q k j h' in omega arith
+  Holds-le (sequence p q) i j (k, h, h') =
+      let a : i ≤ k = Holds-le p i k h in let b : k ≤ j = Holds-le q k j h' in omega arith
   Holds-le (either p q) i j h = elim h [ inl x ↦ Holds-le p i j x | inr y ↦ Holds-le q i j y ]
   Holds-le (star p) i j (n, h) = Turns-le (Holds text p) (λ i j. Holds-le p i j) n i j h
   Holds-le (plus p) i j (n, h) = Turns-le (Holds text p) (λ i j. Holds-le p i j) (suc n) i j h
@@ -89,7 +93,8 @@ module _ (text : List ℕ) where
     star_closed j k (m, b, (n, t)) h = (m, b, (suc n, Turns-snoc (Holds text p) n m j k t h))
 
     -- a turn from where one may begin, in the loop
-    loops : (i : ℕ) → Ended p (After B (star p)) i → (j : ℕ) × (j < i) × B j × ((n : ℕ) × Turns (Holds text p) (suc n) j i)
+    loops : (i : ℕ) → Ended p (After B (star p)) i
+        → (j : ℕ) × (j < i) × B j × ((n : ℕ) × Turns (Holds text p) (suc n) j i)
     loops i (m, l, (j, b, (n, t)), h) =
         let a : j ≤ m = Turns-le (Holds text p) (λ i j. Holds-le p i j) n j m t in
         (j, omega arith, b, (n, Turns-snoc (Holds text p) n j m i t h))
@@ -117,7 +122,8 @@ module _ (text : List ℕ) where
 
     -- where a turn may begin
     pub loop_begins :
-        (i : ℕ) (x b : Bool) → Tells x (B i) → Tells b (Ended p (After B (star p)) i) → Tells (x || b) (After B (star p) i)
+        (i : ℕ) (x b : Bool) → Tells x (B i) → Tells b (Ended p (After B (star p)) i)
+        → Tells (x || b) (After B (star p) i)
     loop_begins i x b h k = tells_as (x || b) (B i ⊎ Ended p (After B (star p)) i) (After B (star p) i)
         (tells_or x b (B i) (Ended p (After B (star p)) i) h k)
         (elim [ inl c ↦ (i, c, (0, refl)) | inr e ↦ let (j, l, c, (n, t)) = loops i e in (j, c, (suc n, t)) ])
@@ -149,7 +155,8 @@ module _ (text : List ℕ) where
         (λ (m, a, b).
         let l : i ≤ m = Holds-le p i m a in let l' : m ≤ i = Holds-le q m i b in let e : m ≡ i = omega arith in
         (subst (λ y. Holds text p i y) e a, subst (λ y. Holds text q y i) e b));
-    ended = tells_as (g.ended || (f.ended && g.empty)) (Ended q (After B p) i ⊎ (Ended p B i × Holds text q i i)) (Ended (sequence p q) B i)
+    ended = tells_as (g.ended || (f.ended && g.empty)) (Ended q (After B p) i ⊎ (Ended p B i × Holds text q i i))
+        (Ended (sequence p q) B i)
         (tells_or g.ended (f.ended && g.empty) (Ended q (After B p) i) (Ended p B i × Holds text q i i) k.ended
         (tells_and f.ended g.empty (Ended p B i) (Holds text q i i) h.ended k.empty))
         (elim [
@@ -168,12 +175,15 @@ module _ (text : List ℕ) where
   pub second_begins :
       (B : ℕ → Type 0) (p : Reading) (i : ℕ) (x : Bool) (f : Flow) → Tells x (B i) → Right p B i f
       → Tells (f.ended || (x && f.empty)) (After B p i)
-  second_begins B p i x f h k = tells_as (f.ended || (x && f.empty)) (Ended p B i ⊎ (B i × Holds text p i i)) (After B p i)
-      (tells_or f.ended (x && f.empty) (Ended p B i) (B i × Holds text p i i) k.ended (tells_and x f.empty (B i) (Holds text p i i) h k.empty))
+  second_begins B p i x f h k =
+      tells_as (f.ended || (x && f.empty)) (Ended p B i ⊎ (B i × Holds text p i i)) (After B p i)
+      (tells_or f.ended (x && f.empty) (Ended p B i) (B i × Holds text p i i) k.ended
+      (tells_and x f.empty (B i) (Holds text p i i) h k.empty))
       (elim [ inl (j, l, b, a) ↦ (j, b, a) | inr (b, a) ↦ (i, b, a) ])
       (λ (j, b, a). elim (cases_lt j i) [
         | inl l ↦ inl (j, l, b, a)
-        | inr l ↦ let m : j ≤ i = Holds-le p j i a in let e : j ≡ i = omega arith in inr (subst B e b, subst (λ y. Holds text p y i) e a)
+        | inr l ↦ let m : j ≤ i =
+            Holds-le p j i a in let e : j ≡ i = omega arith in inr (subst B e b, subst (λ y. Holds text p y i) e a)
       ])
 
   pub right_either :
@@ -188,16 +198,19 @@ module _ (text : List ℕ) where
   }
 
   pub right_star :
-      (B : ℕ → Type 0) (p : Reading) (i : ℕ) (f : Flow) → Right p (After B (star p)) i f → Right (star p) B i (flow true f.ended)
+      (B : ℕ → Type 0) (p : Reading) (i : ℕ) (f : Flow) → Right p (After B (star p)) i f
+      → Right (star p) B i (flow true f.ended)
   right_star B p i f h = record {
     empty = tells_always (Holds text (star p) i i) (0, refl);
     ended = star_ended B p i f.ended h.ended;
   }
 
-  pub right_plus : (B : ℕ → Type 0) (p : Reading) (i : ℕ) (f : Flow) → Right p (After B (star p)) i f → Right (plus p) B i f
+  pub right_plus : (B : ℕ → Type 0) (p : Reading) (i : ℕ) (f : Flow) → Right p (After B (star p)) i f
+      → Right (plus p) B i f
   right_plus B p i f h = record { empty = plus_empty B p i f.empty h.empty; ended = plus_ended B p i f.ended h.ended }
 
-  pub right_optional : (B : ℕ → Type 0) (p : Reading) (i : ℕ) (f : Flow) → Right p B i f → Right (optional p) B i (flow true f.ended)
+  pub right_optional : (B : ℕ → Type 0) (p : Reading) (i : ℕ) (f : Flow) → Right p B i f
+      → Right (optional p) B i (flow true f.ended)
   right_optional B p i f h = record {
     empty = tells_always (Holds text (optional p) i i) (inl refl);
     ended = tells_as f.ended (Ended p B i) (Ended (optional p) B i) h.ended
@@ -210,9 +223,12 @@ module _ (text : List ℕ) where
       → (a : Atom) → Tells (holds_empty first last a) (AtomHolds text a i i)
   empty_atom first last i h k start = tells_as first (i ≡ 0) (AtomHolds text start i i) h (λ e. (e, e)) (λ e. e.0)
   empty_atom first last i h k end = tells_as last (i ≡ length text) (AtomHolds text end i i) k (λ e. (e, e)) (λ e. e.0)
-  empty_atom first last i h k (exactly d) = tells_never false (OneTaken (exactly d) text i i) refl (λ e. let e' : i ≡ i + 1 = e.0 in omega arith)
-  empty_atom first last i h k any = tells_never false (OneTaken any text i i) refl (λ e. let e' : i ≡ i + 1 = e.0 in omega arith)
-  empty_atom first last i h k (range n xs) = tells_never false (OneTaken (range n xs) text i i) refl (λ e. let e' : i ≡ i + 1 = e.0 in omega arith)
+  empty_atom first last i h k (exactly d) =
+      tells_never false (OneTaken (exactly d) text i i) refl (λ e. let e' : i ≡ i + 1 = e.0 in omega arith)
+  empty_atom first last i h k any =
+      tells_never false (OneTaken any text i i) refl (λ e. let e' : i ≡ i + 1 = e.0 in omega arith)
+  empty_atom first last i h k (range n xs) =
+      tells_never false (OneTaken (range n xs) text i i) refl (λ e. let e' : i ≡ i + 1 = e.0 in omega arith)
 
   pub right_single :
       (first last : Bool) (i : ℕ) → Tells first (i ≡ 0) → Tells last (i ≡ length text)

@@ -1,4 +1,4 @@
--- A text says one thing at most.
+-- A text has at most one reading.
 use Rattle.std.specs.Prelude.{◌≡◌, ℕ, List}
 use Rattle.wot_pattern.specs.Reading.{Reading}
 use Rattle.wot_pattern.specs.Grammar.{Says}

@@ -6,7 +6,8 @@ use Rattle.wot_pattern.specs.Reading.{Reading, nothing, single, sequence, either
 use Rattle.wot_pattern.specs.Tokens as t
 use Rattle.wot_pattern.specs.Tokens.{Token, tokens}
 use Rattle.wot_pattern.specs.Passes.{flow, takes, holds_empty, settled_one, settled, advanced_one, advanced, behind}
-use Rattle.wot_pattern.proofs.Flows.{Ended, After, Right, right_nothing, right_single, right_sequence, right_either, right_star, right_plus, right_optional, second_begins, loop_begins, taken_ended}
+use Rattle.wot_pattern.proofs.Flows.{Ended, After, Right, right_nothing, right_single, right_sequence, right_either}
+use Rattle.wot_pattern.proofs.Flows.{right_star, right_plus, right_optional, second_begins, loop_begins, taken_ended}
 use Rattle.wot_pattern.proofs.Tells.{Tells}
 
 last_of_two : {A : Type 0} (xs ys zs : List A) (a : A) → (xs ++ (ys ++ a ∷ [])) ++ zs ≡ xs ++ (ys ++ a ∷ zs)
@@ -28,8 +29,10 @@ settles_two first last t ps qs gs hs gs' hs' f f' p q g h k e us ss st =
     let two = ap (λ l. settled first last (ps ++ (qs ++ t ∷ us)) l st) (last_of_two gs hs ss f) in
     let three = h (qs ++ t ∷ us) (hs ++ f ∷ ss) st in
     let four = ap (behind gs') (k (t ∷ us) (f ∷ ss) (p ∷ st)) in
-    let five = ap (λ (r : Flow × List Flow). behind gs' (behind hs' (behind (r.0 ∷ []) (settled first last us ss r.1)))) (e st) in
-    let six = ap (λ l. (l, (settled first last us ss (g ∷ st)).1)) (sym (last_of_two gs' hs' (settled first last us ss (g ∷ st)).0 f')) in
+    let five = ap (λ (r : Flow × List Flow). behind gs' (behind hs' (behind (r.0 ∷ []) (settled first last us ss r.1))))
+    (e st) in
+    let six = ap (λ l. (l, (settled first last us ss (g ∷ st)).1))
+    (sym (last_of_two gs' hs' (settled first last us ss (g ∷ st)).0 f')) in
     one ∙ two ∙ three ∙ four ∙ five ∙ six
 
 settles_one :
@@ -42,7 +45,8 @@ settles_one first last t ps gs gs' f f' p g h e us ss st =
     let two = ap (λ l. settled first last (ps ++ t ∷ us) l st) (append_assoc gs (f ∷ []) ss) in
     let three = h (t ∷ us) (f ∷ ss) st in
     let five = ap (λ (r : Flow × List Flow). behind gs' (behind (r.0 ∷ []) (settled first last us ss r.1))) (e st) in
-    let six = ap (λ l. (l, (settled first last us ss (g ∷ st)).1)) (sym (append_assoc gs' (f' ∷ []) (settled first last us ss (g ∷ st)).0)) in
+    let six = ap (λ l. (l, (settled first last us ss (g ∷ st)).1))
+    (sym (append_assoc gs' (f' ∷ []) (settled first last us ss (g ∷ st)).0)) in
     one ∙ two ∙ three ∙ five ∙ six
 
 -- the second pass goes over these nodes, where their tree may begin as x says, and changes their slots
@@ -62,7 +66,8 @@ advances_two c t ps qs gs hs gs' hs' f x p q h k e us ss st ss' st' run =
     let here : advanced c (t ∷ us) (f ∷ ss) st ≡ (f ∷ ss', q ∷ p ∷ st') =
     ap (λ (r : List Flow × List Bool). ((advanced_one c t f r.1).0 ∷ r.0, (advanced_one c t f r.1).1)) run
     ∙ ap (λ (r : Flow × List Bool). (r.0 ∷ ss', r.1)) (e st') in
-    let three = h (qs ++ t ∷ us) (hs ++ f ∷ ss) st (hs' ++ f ∷ ss') st' (k (t ∷ us) (f ∷ ss) st (f ∷ ss') (p ∷ st') here) in
+    let three = h (qs ++ t ∷ us) (hs ++ f ∷ ss) st (hs' ++ f ∷ ss') st'
+    (k (t ∷ us) (f ∷ ss) st (f ∷ ss') (p ∷ st') here) in
     let four = ap (λ l. (l, st')) (sym (last_of_two gs' hs' ss' f)) in
     one ∙ two ∙ three ∙ four
 
@@ -82,12 +87,14 @@ advances_one c t ps gs gs' f x p h e us ss st ss' st' run =
     one ∙ two ∙ three ∙ four
 
 module _ (text : List ℕ) where
-  -- before the first pass at position i: of each atom the slot tells whether it ended there, where its tree may begin at B
+  -- before the first pass at position i: of each atom the slot tells whether it ended there, where its tree may begin
+  -- at B
   abbrev pub Marked : Reading → (ℕ → Type 0) → ℕ → List Flow → Type 0
   Marked nothing B i fs = (f : Flow) × (fs ≡ f ∷ [])
   Marked (single a) B i fs = (f : Flow) × (fs ≡ f ∷ []) × Tells f.ended (Ended text (single a) B i)
   Marked (sequence p q) B i fs =
-      (gs : List Flow) × (hs : List Flow) × (f : Flow) × (fs ≡ gs ++ (hs ++ f ∷ [])) × Marked p B i gs × Marked q (After text B p) i hs
+      (gs : List Flow) × (hs : List Flow) × (f : Flow) × (fs ≡ gs ++ (hs ++ f ∷ [])) × Marked p B i gs
+      × Marked q (After text B p) i hs
   Marked (either p q) B i fs =
       (gs : List Flow) × (hs : List Flow) × (f : Flow) × (fs ≡ gs ++ (hs ++ f ∷ [])) × Marked p B i gs × Marked q B i hs
   Marked (star p) B i fs = (gs : List Flow) × (f : Flow) × (fs ≡ gs ++ f ∷ []) × Marked p (After text B (star p)) i gs
@@ -99,13 +106,16 @@ module _ (text : List ℕ) where
   Ready nothing B i fs = (f : Flow) × (fs ≡ f ∷ [])
   Ready (single a) B i fs = (f : Flow) × (fs ≡ f ∷ [])
   Ready (sequence p q) B i fs =
-      (gs : List Flow) × (hs : List Flow) × (f : Flow) × (fs ≡ gs ++ (hs ++ f ∷ [])) × Right text p B i f × Ready p B i gs × Ready q (After text B p) i hs
+      (gs : List Flow) × (hs : List Flow) × (f : Flow) × (fs ≡ gs ++ (hs ++ f ∷ [])) × Right text p B i f
+      × Ready p B i gs × Ready q (After text B p) i hs
   Ready (either p q) B i fs =
       (gs : List Flow) × (hs : List Flow) × (f : Flow) × (fs ≡ gs ++ (hs ++ f ∷ [])) × Ready p B i gs × Ready q B i hs
   Ready (star p) B i fs =
-      (gs : List Flow) × (f : Flow) × (fs ≡ gs ++ f ∷ []) × Right text p (After text B (star p)) i f × Ready p (After text B (star p)) i gs
+      (gs : List Flow) × (f : Flow) × (fs ≡ gs ++ f ∷ []) × Right text p (After text B (star p)) i f
+      × Ready p (After text B (star p)) i gs
   Ready (plus p) B i fs =
-      (gs : List Flow) × (f : Flow) × (fs ≡ gs ++ f ∷ []) × Right text p (After text B (star p)) i f × Ready p (After text B (star p)) i gs
+      (gs : List Flow) × (f : Flow) × (fs ≡ gs ++ f ∷ []) × Right text p (After text B (star p)) i f
+      × Ready p (After text B (star p)) i gs
   Ready (optional p) B i fs = (gs : List Flow) × (f : Flow) × (fs ≡ gs ++ f ∷ []) × Ready p B i gs
 
   -- what the first pass makes of a tree's slots
@@ -140,8 +150,12 @@ module _ (text : List ℕ) where
           through = flow (a.through.empty && b.through.empty) (b.through.ended || (a.through.ended && b.through.empty));
           ready = (a.slots, b.slots, a.through, refl, a.right, a.ready, b.ready);
           right = right_sequence text B p q i a.through b.through a.right b.right;
-          goes = subst (λ l. Settles first last (tokens (sequence p q)) l (a.slots ++ (b.slots ++ a.through ∷ [])) (flow (a.through.empty && b.through.empty) (b.through.ended || (a.through.ended && b.through.empty)))) (sym e)
-              (settles_two first last t.sequence (tokens p) (tokens q) gs hs a.slots b.slots f a.through a.through b.through (flow (a.through.empty && b.through.empty) (b.through.ended || (a.through.ended && b.through.empty))) a.goes b.goes (λ st. refl));
+          goes = subst (λ l. Settles first last (tokens (sequence p q)) l (a.slots ++ (b.slots ++ a.through ∷ []))
+              (flow (a.through.empty && b.through.empty) (b.through.ended || (a.through.ended && b.through.empty))))
+              (sym e)
+              (settles_two first last t.sequence (tokens p) (tokens q) gs hs a.slots b.slots f a.through a.through
+              b.through (flow (a.through.empty && b.through.empty)
+              (b.through.ended || (a.through.ended && b.through.empty))) a.goes b.goes (λ st. refl));
         }
     settling (either p q) B fs (gs, hs, f, e, h, k) =
         let a = settling p B gs h in
@@ -151,8 +165,11 @@ module _ (text : List ℕ) where
           through = flow (a.through.empty || b.through.empty) (a.through.ended || b.through.ended);
           ready = (a.slots, b.slots, f, refl, a.ready, b.ready);
           right = right_either text B p q i a.through b.through a.right b.right;
-          goes = subst (λ l. Settles first last (tokens (either p q)) l (a.slots ++ (b.slots ++ f ∷ [])) (flow (a.through.empty || b.through.empty) (a.through.ended || b.through.ended))) (sym e)
-              (settles_two first last t.either (tokens p) (tokens q) gs hs a.slots b.slots f f a.through b.through (flow (a.through.empty || b.through.empty) (a.through.ended || b.through.ended)) a.goes b.goes (λ st. refl));
+          goes = subst (λ l. Settles first last (tokens (either p q)) l (a.slots ++ (b.slots ++ f ∷ []))
+              (flow (a.through.empty || b.through.empty) (a.through.ended || b.through.ended))) (sym e)
+              (settles_two first last t.either (tokens p) (tokens q) gs hs a.slots b.slots f f a.through b.through
+              (flow (a.through.empty || b.through.empty) (a.through.ended || b.through.ended)) a.goes b.goes
+              (λ st. refl));
         }
     settling (star p) B fs (gs, f, e, h) =
         let a = settling p (After text B (star p)) gs h in
@@ -161,8 +178,10 @@ module _ (text : List ℕ) where
           through = flow true a.through.ended;
           ready = (a.slots, a.through, refl, a.right, a.ready);
           right = right_star text B p i a.through a.right;
-          goes = subst (λ l. Settles first last (tokens (star p)) l (a.slots ++ a.through ∷ []) (flow true a.through.ended)) (sym e)
-              (settles_one first last t.star (tokens p) gs a.slots f a.through a.through (flow true a.through.ended) a.goes (λ st. refl));
+          goes = subst (λ l. Settles first last (tokens (star p)) l (a.slots ++ a.through ∷ [])
+              (flow true a.through.ended)) (sym e)
+              (settles_one first last t.star (tokens p) gs a.slots f a.through a.through (flow true a.through.ended)
+              a.goes (λ st. refl));
         }
     settling (plus p) B fs (gs, f, e, h) =
         let a = settling p (After text B (star p)) gs h in
@@ -181,8 +200,10 @@ module _ (text : List ℕ) where
           through = flow true a.through.ended;
           ready = (a.slots, f, refl, a.ready);
           right = right_optional text B p i a.through a.right;
-          goes = subst (λ l. Settles first last (tokens (optional p)) l (a.slots ++ f ∷ []) (flow true a.through.ended)) (sym e)
-              (settles_one first last t.optional (tokens p) gs a.slots f f a.through (flow true a.through.ended) a.goes (λ st. refl));
+          goes = subst (λ l. Settles first last (tokens (optional p)) l (a.slots ++ f ∷ []) (flow true a.through.ended))
+              (sym e)
+              (settles_one first last t.optional (tokens p) gs a.slots f f a.through (flow true a.through.ended) a.goes
+              (λ st. refl));
         }
 
   -- what the second pass makes of them, for the next position
@@ -192,20 +213,23 @@ module _ (text : List ℕ) where
     pub goes : Advances c (tokens r) fs slots x
 
   module _ (c i : ℕ) (is_char : slice_get text i ≡ Some c) where
-    pub advancing : (r : Reading) (B : ℕ → Type 0) (fs : List Flow) (x : Bool) → Ready r B i fs → Tells x (B i) → Advancing c r B i fs x
+    pub advancing : (r : Reading) (B : ℕ → Type 0) (fs : List Flow) (x : Bool) → Ready r B i fs → Tells x (B i)
+        → Advancing c r B i fs x
     advancing nothing B fs x (f, e) h = record {
       slots = f ∷ [];
       marked = (f, refl);
       goes = λ us ss st ss' st' run.
           ap (λ l. advanced c (t.nothing ∷ us) (l ++ ss) st) e
-          ∙ ap (λ (r : List Flow × List Bool). ((advanced_one c t.nothing f r.1).0 ∷ r.0, (advanced_one c t.nothing f r.1).1)) run;
+          ∙ ap (λ (r : List Flow × List Bool).
+          ((advanced_one c t.nothing f r.1).0 ∷ r.0, (advanced_one c t.nothing f r.1).1)) run;
     }
     advancing (single a) B fs x (f, e) h = record {
       slots = flow false (x && takes a c) ∷ [];
       marked = (flow false (x && takes a c), refl, taken_ended text B a i c x is_char h);
       goes = λ us ss st ss' st' run.
           ap (λ l. advanced c (t.single a ∷ us) (l ++ ss) st) e
-          ∙ ap (λ (r : List Flow × List Bool). ((advanced_one c (t.single a) f r.1).0 ∷ r.0, (advanced_one c (t.single a) f r.1).1)) run;
+          ∙ ap (λ (r : List Flow × List Bool).
+          ((advanced_one c (t.single a) f r.1).0 ∷ r.0, (advanced_one c (t.single a) f r.1).1)) run;
     }
     advancing (sequence p q) B fs x (gs, hs, f, e, w, h, k) hx =
         let y : Bool = f.ended || (x && f.empty) in
@@ -215,7 +239,8 @@ module _ (text : List ℕ) where
           slots = a.slots ++ (b.slots ++ f ∷ []);
           marked = (a.slots, b.slots, f, refl, a.marked, b.marked);
           goes = subst (λ l. Advances c (tokens (sequence p q)) l (a.slots ++ (b.slots ++ f ∷ [])) x) (sym e)
-              (advances_two c t.sequence (tokens p) (tokens q) gs hs a.slots b.slots f x x y a.goes b.goes (λ st. refl));
+              (advances_two c t.sequence (tokens p) (tokens q) gs hs a.slots b.slots f x x y a.goes b.goes
+              (λ st. refl));
         }
     advancing (either p q) B fs x (gs, hs, f, e, h, k) hx =
         let a = advancing p B gs x h hx in

@@ -1,5 +1,5 @@
--- What a text says as a pattern, and whether that matches, as functions. By the laws in `laws` they are the relations
--- `Says` and `Matches`, so that a fact that rests on them can be told by true or false.
+-- What a text says as a regular expression, and whether that matches, as functions. By the laws in `laws` they agree
+-- with the relations `Says` and `Matches`, so that code can decide what rests on these.
 use Rattle.std.specs.Prelude.{ℕ, zero, suc, Bool, true, false, ◌==◌, ◌||◌, nat_le, List, [], ◌∷◌, length, Option, Some}
 use Rattle.std.specs.Prelude.{None, if◌then◌else◌, replicate}
 use Rattle.std.specs.Option.{option_map, option_and_then}
@@ -90,13 +90,13 @@ abbrev pub finished : List Level → Reading → Option Reading
 finished [] reading = Some reading
 finished (f ∷ fs) reading = None
 
--- what the rest of a text makes of a state, in at most so many steps
+-- what the rest of a text makes of a state, in at most this many steps
 abbrev pub run_from : ℕ → State → List ℕ → Option Reading
 run_from n s [] = finished s.outer (level_so_far s)
 run_from zero s (c ∷ text) = None
 run_from (suc n) s (c ∷ text) = option_and_then (λ (far : Far). run_from n far.0 far.1) (stepped (mark_of c) s c text)
 
--- what a text says, if it is a pattern
+-- what a text says, if it is a regular expression
 unfoldable pub pattern_of : List ℕ → Option Reading
 pattern_of text = if nat_le (length text) 1024 then run_from (length text) (fresh 64 []) text else None
 
@@ -111,6 +111,6 @@ matches_from nodes first (c ∷ text) slots =
     is_through (top (settled first false nodes slots []).1)
     || matches_from nodes false text (advanced c nodes (settled first false nodes slots []).0 (true ∷ [])).0
 
--- whether a pattern matches a text
+-- whether a regular expression matches a text
 unfoldable pub matches_in : Reading → List ℕ → Bool
 matches_in reading text = matches_from (tokens reading) true text (replicate (length (tokens reading)) no_flow)

@@ -1,5 +1,5 @@
--- The grammar of patterns (RFC 9580, section 8). A text is the list of its characters' code points.
--- Each form stands at the beginning of a text, and leaves a rest.
+-- The grammar of regular expressions (RFC 9580, section 8). A text is the list of its characters' code points. Each
+-- form is at the beginning of a text, and leaves a rest.
 use Rattle.std.specs.Prelude.{◌≡◌, ◌≢◌, ℕ, suc, ◌≤◌, ◌==◌, Bool, true, false, not, ◌&&◌, nat_le, if◌then◌else◌}
 use Rattle.std.specs.Prelude.{List, [], ◌∷◌, ◌++◌, length, Option, Some, None}
 use Rattle.wot_pattern.specs.declared.item.Item.{Item}
@@ -18,13 +18,13 @@ caret = 94
 abbrev pub closing_bracket : ℕ
 closing_bracket = 93
 
--- the code points from one to the other, with both ends
+-- the code points from one to the other, both included
 abbrev pub from_to : ℕ → ℕ → Item
 from_to c d = record { from = c; to = d }
 
--- An item of a range, with any character at its beginning, and the rest. Where that character is followed by a dash and
--- then by another character than the closing bracket, the item goes from the one to the other, which isn't less. Else
--- it stands for itself.
+-- An item of a range, which begins with any character, and the rest. If a dash follows and then a character other than
+-- the closing bracket, the item goes from the one to the other, which isn't less. Otherwise the character stands for
+-- itself.
 abbrev pub item : List ℕ → Option (Item × List ℕ)
 item [] = None
 item (c ∷ []) = Some (from_to c c, [])
@@ -34,7 +34,7 @@ item (c ∷ h ∷ d ∷ rest) =
     then (if nat_le c d then Some (from_to c d, rest) else None)
     else Some (from_to c c, h ∷ d ∷ rest)
 
--- The first item of a range: a dash there stands for itself alone.
+-- The first item of a range: a dash there stands for itself.
 abbrev pub first_item : List ℕ → Option (Item × List ℕ)
 first_item [] = None
 first_item (c ∷ rest) = if c == dash then Some (from_to c c, rest) else item (c ∷ rest)
@@ -46,7 +46,7 @@ pub data Items : List ℕ → List Item → List ℕ → Type 0 where
       {c : ℕ} {t u rest : List ℕ} {x : Item} {xs : List Item}
       → c ≢ closing_bracket → item (c ∷ t) ≡ Some (x, u) → Items u xs rest → Items (c ∷ t) (x ∷ xs) rest
 
--- A range, after its opening bracket: a caret straight there negates it.
+-- A range, after its opening bracket: a caret right there negates it.
 pub data Range : List ℕ → Atom → List ℕ → Type 0 where
   negated :
       {c : ℕ} {t u rest : List ℕ} {x : Item} {xs : List Item}
@@ -75,8 +75,8 @@ pub data Part : Type 0 where
   piece : Part
   atom : Part
 
--- Reads part levels text reading rest: such a part stands at the beginning of the text, with parentheses in it
--- nested at most so many levels deep, says this, and leaves that rest.
+-- Reads part levels text reading rest: such a part is at the beginning of the text, with parentheses nested at most
+-- this many levels deep, says this, and leaves that rest.
 pub data Reads : Part → ℕ → List ℕ → Reading → List ℕ → Type 0 where
   -- pattern = branch { "|" branch }
   first_branch : {n : ℕ} {t r : List ℕ} {b : Reading} → Reads branch n t b r → Reads pattern n t b r
@@ -107,8 +107,8 @@ pub data Reads : Part → ℕ → List ℕ → Reading → List ℕ → Type 0 w
   escaped : {n c d : ℕ} {r : List ℕ} → mark_of c ≡ Escape → Reads atom n (c ∷ d ∷ r) (single (exactly d)) r
   plain : {n c : ℕ} {r : List ℕ} → mark_of c ≡ Plain → Reads atom n (c ∷ r) (single (exactly c)) r
 
--- The text is a pattern that says this: it has at most 1,024 characters, and its parentheses are nested at most 64
--- deep.
+-- The text is a regular expression that says this: it has at most 1,024 characters, and its parentheses are nested at
+-- most 64 deep.
 pub record Says (text : List ℕ) (reading : Reading) : Type 0 where
   pub short : length text ≤ 1024
   pub whole : Reads pattern 64 text reading []

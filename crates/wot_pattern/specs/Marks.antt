@@ -1,4 +1,4 @@
--- What a character of a pattern means where an atom or an operator may begin.
+-- What a character means where an atom or an operator may begin.
 use Rattle.std.specs.Prelude.{ℕ, ◌==◌, if◌then◌else◌}
 use Rattle.wot_pattern.specs.declared.mark.Mark.{Mark}
 use Rattle.wot_pattern.specs.declared.mark.Mark.TheVariants.{Escape, Bracket, Open, Close, Bar, Any, Start, End, Star}

@@ -1,5 +1,5 @@
--- What a pattern means: a relation between it, a text and two positions of the text, from and to.
--- Place k stands before the text's character k, counted from 0.
+-- What a regular expression means: a relation between it, a text and two positions in the text, from and to. Position k
+-- is before the text's character k, counted from 0.
 use Rattle.std.specs.Prelude.{◌≡◌, ℕ, zero, suc, ◌+◌, ◌≤◌, ◌⊎◌, true, false, List, [], ◌∷◌, length, Some, slice_get}
 use Rattle.wot_pattern.specs.declared.item.Item.{Item}
 use Rattle.wot_pattern.specs.Reading.{Atom, exactly, any, start, end, range, Reading, nothing, single, sequence, either}
@@ -42,6 +42,6 @@ Holds text (star p) from to = (n : ℕ) × Turns (Holds text p) n from to
 Holds text (plus p) from to = (n : ℕ) × Turns (Holds text p) (suc n) from to
 Holds text (optional p) from to = (from ≡ to) ⊎ Holds text p from to
 
--- the pattern holds between some two positions of the text
+-- the expression matches between some two positions of the text
 abbrev pub Matches : List ℕ → Reading → Type 0
 Matches text reading = (from : ℕ) × (to : ℕ) × (from ≤ length text) × (to ≤ length text) × Holds text reading from to

@@ -1,4 +1,4 @@
--- The tree that a list of nodes stands for, each node behind those that it is made of.
+-- The tree that a list of nodes stands for. Each node comes after those that it is made of.
 use Rattle.std.specs.Prelude.{◌≡◌, List, map}
 use Rattle.wot_pattern.specs.declared.node.Leaf.{Leaf}
 use Rattle.wot_pattern.specs.declared.node.Leaf.TheVariants as l

@@ -13,7 +13,7 @@ flow empty ended = record { empty = empty; ended = ended }
 abbrev pub no_flow : Flow
 no_flow = flow false false
 
--- what lies on top of a stack, where d stands for nothing, and what lies below it
+-- the top of a stack, or d if the stack is empty, and what is below it
 abbrev pub top_or : {A : Type 0} → A → List A → A
 top_or d [] = d
 top_or d (x ∷ xs) = x
@@ -41,7 +41,7 @@ takes end c = false
 takes (range false items) c = in_items c items
 takes (range true items) c = not (in_items c items)
 
--- the atom holds between a position and itself, which may be the text's first or its last
+-- the atom matches the empty text at a position, which may be the text's first or its last
 abbrev pub holds_empty : Bool → Bool → Atom → Bool
 holds_empty first last start = first
 holds_empty first last end = last

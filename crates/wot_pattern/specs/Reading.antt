@@ -1,4 +1,4 @@
--- What a pattern says, as a tree. Parentheses leave no node: a group means what it encloses.
+-- What a regular expression says, as a tree. Parentheses leave no node: a group means what it encloses.
 use Rattle.std.specs.Prelude.{ℕ, Bool, List}
 use Rattle.wot_pattern.specs.declared.item.Item.{Item}
 

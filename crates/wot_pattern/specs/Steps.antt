@@ -1,6 +1,5 @@
--- How far a pattern was read, level by level. Contracts of the parser's private functions name this. `Deciding` rests
--- on it, and so do the public laws on what `Deciding` has, which lead to the grammar: a reader has to believe the
--- grammar alone.
+-- How far a regular expression was read, level by level. Contracts of the parser's private functions name this, and
+-- `Deciding` rests on it. The public laws relate it to the grammar, so a reader has to believe only the grammar.
 use Rattle.std.specs.Prelude.{◌≡◌, ℕ, suc, ◌+◌, Bool, List, [], ◌∷◌, ◌++◌, length, drop, slice_index, Option, Some}
 use Rattle.std.specs.Prelude.{None, is_some}
 use Rattle.wot_pattern.specs.declared.mark.Mark.{Mark}
@@ -18,7 +17,7 @@ use Rattle.wot_pattern.specs.declared.builder.LastRead.TheVariants.{Nothing, Ato
 use Rattle.wot_pattern.specs.declared.builder.Operator.{Operator}
 use Rattle.wot_pattern.specs.declared.builder.Operator.TheVariants as o
 
--- a level that waits for a closing parenthesis: its branches before the present one, and the present one
+-- a level that waits for a closing parenthesis: its branches before the current one, and the current one
 pub record Level : Type 0 where
   pub earlier : Option Reading
   pub branch : Reading
@@ -32,7 +31,7 @@ pub data Last : Type 0 where
 pub record State : Type 0 where
   -- how many more levels may be opened
   pub levels : ℕ
-  -- the levels around the present one, the innermost first
+  -- the levels around the current one, the innermost first
   pub outer : List Level
   pub earlier : Option Reading
   pub branch : Reading
@@ -47,7 +46,7 @@ flushed none b = b
 flushed (atom a) b = sequence b a
 flushed (piece a) b = sequence b a
 
--- the branches together
+-- the branches, joined
 abbrev pub joined : Option Reading → Reading → Reading
 joined None b = b
 joined (Some p) b = either p b
@@ -116,7 +115,7 @@ last_read none = Nothing
 last_read (atom a) = Atom
 last_read (piece p) = Piece
 
--- whether there is a branch before the present one, the outermost level first
+-- whether there is a branch before the current one, the outermost level first
 abbrev pub outer_flags : List Level → List Bool
 outer_flags [] = []
 outer_flags (f ∷ fs) = outer_flags fs ++ is_some f.earlier ∷ []
@@ -129,7 +128,7 @@ pub record Builds (b : Builder) (s : State) : Type 0 where
   pub last : b.last ≡ last_read s.last
   pub levels : s.levels + length s.outer ≡ 64
 
--- the same with what was read last in the branch
+-- the builder has come this far, with what was read last in the branch
 abbrev pub flat : State → State
 flat s = at s.levels s.outer s.earlier (flushed s.last s.branch) none
 
@@ -144,7 +143,7 @@ fresh n fs = at n fs None nothing none
 
 -- ---- what a builder does, from each state that it has come to
 
--- the branches of the present level are put together
+-- the branches of the current level are joined
 abbrev pub IsJoined : Builder → Builder → Type 0
 IsJoined old new =
     (s : State) → Builds old s → tokens_of new.nodes.items ≡ outer_tokens s.outer ++ tokens (level_so_far s)

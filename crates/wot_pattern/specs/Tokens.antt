@@ -1,4 +1,4 @@
--- A tree as the list of its nodes, each behind those that it is made of.
+-- A tree as the list of its nodes, each after those that it is made of.
 use Rattle.std.specs.Prelude.{◌≡◌, ℕ, zero, suc, true, false, List, [], ◌∷◌, ◌++◌, refl}
 use Rattle.std.specs.Coded.{Coded, code_by, coded×, coded_ℕ, coded_list}
 use Rattle.std.proofs.Common.{sym, ◌∙◌, ap, append_assoc}
@@ -73,7 +73,7 @@ pub tree-tokens : (x : Reading) → tree (tokens x) ≡ x
 tree-tokens x =
     ap last_or_nothing (ap (λ l. all_grown l []) (sym (append-nil (tokens x))) ∙ all_grown-tokens x [] [])
 
--- What tells two trees apart: a number for the kind of each node, a character, and the items of a range.
+-- What distinguishes two trees: a number for the kind of each node, a character, and the items of a range.
 abbrev pub Numbers : Type 0
 Numbers = ℕ × (ℕ × List Item)
 

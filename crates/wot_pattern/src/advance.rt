@@ -1,3 +1,6 @@
+//! The matcher's second pass at a position: which atoms take the character there.
+//!
+//! It stands on `leaf` and `stack`, and on `specs/Passes.antt`. `matcher` calls it after `settle`.
 ghost use Rattle.std.specs.Prelude.{◌≡◌, ◌+◌, ◌<◌, ◌≤◌, [], ◌∷◌, true, length, max, reverse, vec_len, vec_capacity};
 ghost use Rattle.wot_pattern.specs.Nodes.{token_of, tokens_of};
 ghost use Rattle.wot_pattern.specs.Passes.{advanced_one, advanced};
@@ -7,8 +10,7 @@ use crate::leaf::takes;
 use crate::node::Node;
 use crate::stack::{put, take_or};
 
-/// Takes off the stack whether this node's tree may begin here, puts there whether the trees in it may, and gives the
-/// node's slot.
+/// Pops whether this node's tree may begin here, pushes whether the trees in it may, and returns the node's new slot.
 fn advance_one(node: &Node, slot: Flow, begins: &mut Vec<bool>, character: char) -> Flow
     requires room { vec_len begins.old < vec_capacity begins.old }
     requires two { 2 ≤ vec_capacity begins.old }
@@ -49,7 +51,7 @@ fn advance_one(node: &Node, slot: Flow, begins: &mut Vec<bool>, character: char)
     }
 }
 
-/// The second pass at a position of the text: marks the atoms that take the character there, where they may begin.
+/// The second pass at a position of the text: marks the atoms that may begin there and take the character.
 pub fn advance(nodes: &[Node], slots: &mut [Flow], begins: &mut Vec<bool>, character: char)
     requires slots { length slots.old ≡ length nodes.now }
     requires room { length nodes.now + 1 ≤ vec_capacity begins.old }

@@ -1,7 +1,9 @@
-ghost use Rattle.std.specs.Prelude.{◌≡◌, ℕ, suc, [], ◌∷◌, ◌++◌, List, IfErr, IfOk, OnOk};
+//! Builds the nodes of an expression while it is read, one piece after another, with a level for each open parenthesis.
+//!
+//! It stands on `node` and on `specs/Steps.antt`. `parser` calls it; the limit on nesting is set here.
+ghost use Rattle.std.specs.Prelude.{◌≡◌, [], IfErr, IfOk, OnOk};
 ghost use Rattle.wot_pattern.specs.Reading.{Reading, single};
-ghost use Rattle.wot_pattern.specs.Nodes.{atom_of, tokens_of};
-ghost use Rattle.wot_pattern.specs.Tokens.{tokens};
+ghost use Rattle.wot_pattern.specs.Nodes.{atom_of};
 ghost use Rattle.wot_pattern.specs.Steps.{Applies, Builds, Enters, IsJoined, Leaves, State};
 ghost use Rattle.wot_pattern.specs.Steps.{atom, barred, flat, fresh, level_so_far, with_atom};
 ghost use Rattle.wot_pattern.specs.declared.fault.PatternFault.TheVariants.{Unreadable, Memory};
@@ -11,7 +13,7 @@ use crate::node::{Leaf, Node};
 use crate::pattern::Pattern;
 use std::alloc::Global;
 
-/// What was read last of a branch.
+/// The end of the current branch.
 #[derive(Clone, Copy)]
 pub enum LastRead {
     Nothing,
@@ -21,7 +23,7 @@ pub enum LastRead {
     Piece,
 }
 
-/// What stands behind an atom.
+/// The operator after an atom.
 #[derive(Clone, Copy)]
 pub enum Operator {
     Star,
@@ -32,13 +34,13 @@ pub enum Operator {
 /// How many parentheses may be open at once.
 const LEVELS: usize = 64;
 
-/// Puts the nodes of a pattern together, from its beginning on.
+/// Builds the nodes of an expression from its beginning on.
 #[derive(Drop)]
 pub struct Builder {
     pub nodes: Vec<Node>,
-    /// Of each level that is left open: whether it has a branch before the present one.
+    /// For each enclosing level: whether it has a branch before the current one.
     pub outer: Vec<bool>,
-    /// The same of the present level.
+    /// Whether the current level has a branch before the current one.
     pub earlier: bool,
     pub last: LastRead,
 }
@@ -58,7 +60,7 @@ impl Builder {
         })
     }
 
-    /// Puts what was read last into the branch.
+    /// Appends what was read last to the branch.
     fn flush(&mut self) -> Result<(), PatternFault>
         ensures fault { IfErr result (λ e. e ≡ Memory) }
         ensures flat { OnOk result ((s : State) → Builds self.old s → Builds self.new (flat s)) }
@@ -73,7 +75,7 @@ impl Builder {
         Ok(())
     }
 
-    /// Puts the branches of the present level together.
+    /// Joins the branches of the current level.
     fn join(&mut self) -> Result<(), PatternFault>
         ensures fault { IfErr result (λ e. e ≡ Memory) }
         ensures joined { OnOk result (IsJoined self.old self.new) }
@@ -97,7 +99,7 @@ impl Builder {
         Ok(())
     }
 
-    /// An opening parenthesis, which is unreadable where too many are open.
+    /// An opening parenthesis. `Unreadable` if too many are open.
     pub fn open(&mut self) -> Result<(), PatternFault>
         ensures builds { OnOk result (Enters self.old self.new) }
         ensures unreadable { IfErr result (λ e. e ≡ Unreadable → (s : State) → Builds self.old s → s.levels ≡ 0) }
@@ -112,7 +114,7 @@ impl Builder {
         Ok(())
     }
 
-    /// A closing parenthesis, which is unreadable where none is open.
+    /// A closing parenthesis. `Unreadable` if none is open.
     pub fn close(&mut self) -> Result<(), PatternFault>
         ensures builds { OnOk result (Leaves self.old self.new) }
         ensures unreadable { IfErr result (λ e. e ≡ Unreadable → (s : State) → Builds self.old s → s.outer ≡ []) }
@@ -126,7 +128,7 @@ impl Builder {
         Ok(())
     }
 
-    /// The end of a branch that another one follows.
+    /// A bar: the end of a branch that another one follows.
     pub fn bar(&mut self) -> Result<(), PatternFault>
         ensures fault { IfErr result (λ e. e ≡ Memory) }
         ensures builds { OnOk result ((s : State) → Builds self.old s → Builds self.new (barred s)) }
@@ -138,7 +140,7 @@ impl Builder {
         Ok(())
     }
 
-    /// An operator, which is unreadable where no atom stands before it.
+    /// An operator. `Unreadable` if no atom comes right before it.
     pub fn repeat(&mut self, operator: Operator) -> Result<(), PatternFault>
         ensures builds { OnOk result (Applies operator self.old self.new) }
         ensures unreadable { IfErr result (λ e. e ≡ Unreadable → (s : State) (a : Reading) → Builds self.old s
@@ -157,7 +159,7 @@ impl Builder {
         Ok(())
     }
 
-    /// The end of the text, which is unreadable where a parenthesis is open.
+    /// The end of the text. `Unreadable` if a parenthesis is open.
     pub fn finish(mut self) -> Result<Pattern, PatternFault>
         requires { (s : State) × Builds self s }
         ensures whole { IfOk result (λ p. (s : State) → Builds self s → (s.outer ≡ []) × (p ≡ level_so_far s)) }

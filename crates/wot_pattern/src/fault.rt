@@ -1,14 +1,16 @@
+//! Why a text couldn't be parsed as a regular expression. `wot_scope` takes a malformed one as one that matches
+//! nothing.
 ghost use Rattle.std.specs.Prelude.{◌≡◌};
 ghost use Rattle.wot_pattern.specs.declared.fault.PatternFault.TheVariants.{Memory};
 
 use std::alloc::{AllocError, AllocFailed};
 
-/// Why a text gave no pattern.
+/// Why a text couldn't be parsed.
 #[derive(Clone, Copy, PartialEq, Eq)]
 pub enum PatternFault {
-    /// The text isn't a pattern.
+    /// The text isn't a regular expression of RFC 9580, or exceeds a limit.
     Unreadable,
-    /// No memory was found.
+    /// Out of memory.
     Memory,
 }
 

@@ -1,9 +1,11 @@
-/// What a tree lets through at one position of the text.
+//! What the matcher keeps for each part of an expression at the current position. `settle` computes it, `advance` uses
+//! it.
+/// Which matches of a tree end at one position of the text.
 #[derive(Clone, Copy)]
 pub struct Flow {
-    /// It holds between this position and itself.
+    /// The empty match at this position.
     pub empty: bool,
-    /// It began before this position, where it may begin, and ends here.
+    /// A match that began at an earlier position where it may begin, and ends here.
     pub ended: bool,
 }
 

@@ -1,3 +1,6 @@
+//! Single atoms: which characters they take, and where they match nothing at all.
+//!
+//! It stands on `item` and on `specs/Meaning.antt`. Both passes of the matcher use it.
 ghost use Rattle.std.specs.Prelude.{◌≡◌};
 ghost use Rattle.wot_pattern.specs.Nodes.{atom_of};
 ghost use Rattle.wot_pattern.specs.Passes.{in_items, takes, holds_empty};
@@ -16,7 +19,7 @@ fn in_items(items: &[Item], character: char) -> bool
     false
 }
 
-/// Whether the atom holds over this one character.
+/// Whether the atom matches this one character.
 pub fn takes(leaf: &Leaf, character: char) -> bool
     ensures { result ≡ takes (atom_of leaf.now) character }
 {
@@ -32,7 +35,7 @@ pub fn takes(leaf: &Leaf, character: char) -> bool
     }
 }
 
-/// Whether the atom holds between a position and itself, which may be the text's first or its last.
+/// Whether the atom matches the empty text at a position, which may be the text's first or its last.
 pub fn holds_empty(leaf: &Leaf, first: bool, last: bool) -> bool
     ensures { result ≡ holds_empty first last (atom_of leaf.now) }
 {

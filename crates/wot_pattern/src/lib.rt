@@ -1,4 +1,8 @@
-//! Patterns that limit the scope of a trust signature (RFC 9580, section 8).
+//! Regular expressions that limit the scope of a trust signature (RFC 9580, section 8): parsed into a tree, and matched
+//! in time proportional to both lengths.
+//!
+//! It stands on std and `wot_types`. `wot_scope` parses and matches through it; its public contracts speak of
+//! `specs/Grammar.antt` and `specs/Meaning.antt` only.
 #![tactic(auto)]
 
 mod advance;

@@ -1,7 +1,10 @@
+//! What each character of an expression means outside of brackets.
+//!
+//! It stands on `specs/Marks.antt`. `parser` takes one step by each mark.
 ghost use Rattle.std.specs.Prelude.{◌≡◌};
 ghost use Rattle.wot_pattern.specs.Marks.{mark_of};
 
-/// What a character of a pattern means where an atom or an operator may begin.
+/// What a character means where an atom or an operator may begin.
 #[derive(Clone, Copy)]
 pub enum Mark {
     Escape,

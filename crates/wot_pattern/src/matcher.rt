@@ -1,3 +1,7 @@
+//! `Matcher`: whether an expression matches a text, in one walk along the text without backtracking.
+//!
+//! It stands on `settle` and `advance`, and on `specs/Meaning.antt`. `wot_scope` makes one for each regular expression
+//! and user ID.
 ghost use Rattle.std.specs.Prelude.{◌≡◌, ◌+◌, ◌≤◌, ◌↔◌, IsTrue, IfOk, length, vec_capacity};
 ghost use Rattle.std.specs.Str.{chars};
 ghost use Rattle.wot_pattern.specs.Reading.{Reading};
@@ -14,7 +18,7 @@ use std::alloc::Global;
 use std::marker::Model;
 use wot_types::Memory;
 
-/// A pattern with the room that matching takes. Contracts see the pattern's reading.
+/// A parsed expression with the memory that matching takes. Contracts see the expression's tree.
 #[derive(Drop)]
 pub struct Matcher {
     nodes: Vec<Node>,
@@ -41,7 +45,7 @@ impl Model for Matcher {
 }
 
 impl Matcher {
-    /// Reserves what `matches` needs, so that it takes no memory.
+    /// Reserves all memory that `matches` needs.
     pub fn new(alloc: Global, pattern: Pattern) -> Result<Matcher, Memory>
         ensures same { IfOk result (λ m. m ≡ pattern) }
     {
@@ -58,8 +62,8 @@ impl Matcher {
         })
     }
 
-    /// Whether the pattern holds between some two positions of the text. It takes time in proportion to the length of
-    /// the pattern times that of the text.
+    /// Whether the expression matches some part of the text. Takes time proportional to the length of the expression
+    /// times that of the text.
     pub fn matches(&mut self, text: &str) -> bool
         ensures exactly { IsTrue result ↔ Matches (chars text.now) self.old }
         ensures same { self.new ≡ self.old }
@@ -74,7 +78,7 @@ impl Matcher {
     }
 }
 
-/// Moves along the text, and keeps at each position which atoms ended there.
+/// Walks along the text, and keeps at each position which atoms end there.
 fn finds(
     nodes: &[Node],
     slots: &mut [Flow],

@@ -1,4 +1,8 @@
-ghost use Rattle.std.specs.Prelude.{◌≡◌, ℕ, ◌+◌, ◌<◌, ◌≤◌, List, [], length, drop, slice_index, IfOk, IfErr};
+//! `parse`: a text to a parsed expression (RFC 9580, section 8).
+//!
+//! It stands on `mark`, `range` and `builder`, and on `specs/Grammar.antt`. The limit on length is set here; a change
+//! of the grammar changes which scopes match, and `docs/PROFILE.md`.
+ghost use Rattle.std.specs.Prelude.{◌≡◌, ℕ, ◌+◌, ◌<◌, ◌≤◌, List, [], length, IfOk, IfErr};
 ghost use Rattle.std.specs.Str.{chars};
 ghost use Rattle.wot_pattern.specs.Reading.{Reading};
 ghost use Rattle.wot_pattern.specs.Grammar.{Reads, Says, pattern};
@@ -13,11 +17,11 @@ use crate::pattern::Pattern;
 use crate::range::read_range;
 use std::alloc::Global;
 
-/// How many characters a pattern may have.
+/// The most characters of an expression.
 const LONGEST: usize = 1024;
 
-/// Reads a pattern (RFC 9580, section 8), of at most 1,024 characters, with parentheses nested at most 64 deep.
-/// `Unreadable` comes exactly where the text is no such pattern.
+/// Parses a regular expression (RFC 9580, section 8) of at most 1,024 characters, with parentheses nested at most 64
+/// deep. Returns `Unreadable` if and only if the text isn't one.
 pub fn parse(alloc: Global, text: &str) -> Result<Pattern, PatternFault>
     ensures read { IfOk result (λ p. Says (chars text.now) p) }
     ensures unreadable { IfErr result (λ e. e ≡ Unreadable → (p : Reading) → Says (chars text.now) p → ⊥) }
@@ -26,13 +30,13 @@ pub fn parse(alloc: Global, text: &str) -> Result<Pattern, PatternFault>
     read_pattern(alloc, &characters)
 }
 
-/// A text says one thing at most.
+/// A text has at most one reading.
 #[tactic(auto, using(crate::proofs::Law::says_one))]
 pub fn one_reading()
     ensures one { (text : List ℕ) (p q : Reading) → Says text p → Says text q → p ≡ q }
 {}
 
-/// The characters of a text that isn't too long.
+/// The characters of a text, unless it is too long.
 fn characters_of(alloc: Global, text: &str) -> Result<Vec<char>, PatternFault>
     ensures all { IfOk result (λ v. v.items ≡ chars text.now) }
     ensures short { IfOk result (λ v. length v.items ≤ 1024) }
@@ -62,7 +66,7 @@ fn read_pattern(alloc: Global, text: &[char]) -> Result<Pattern, PatternFault>
     builder.finish()
 }
 
-/// Reads on from a character with this mark, and gives the position behind what was read.
+/// Takes one step at a character with this mark. Returns the position after what was read.
 fn step_by(
     alloc: Global,
     builder: &mut Builder,

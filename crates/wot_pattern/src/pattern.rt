@@ -1,3 +1,5 @@
+//! `Pattern`: a parsed regular expression. Contracts see its tree (`specs/Reading.antt`), and not its nodes. `parser`
+//! makes one, and `Matcher` takes it.
 ghost use Rattle.std.specs.Prelude.{◌≡◌};
 ghost use Rattle.wot_pattern.specs.Reading.{Reading};
 ghost use Rattle.wot_pattern.specs.Nodes.{tokens_of};
@@ -6,7 +8,7 @@ ghost use Rattle.wot_pattern.specs.Tokens.{tokens};
 use crate::node::Node;
 use std::marker::Model;
 
-/// A pattern that was read. Contracts see its reading.
+/// A parsed regular expression. Contracts see its tree.
 #[derive(Drop)]
 pub struct Pattern {
     nodes: Vec<Node>,
@@ -27,7 +29,7 @@ impl Model for Pattern {
 }
 
 impl Pattern {
-    /// The pattern of these nodes, which are those of one tree.
+    /// The expression with these nodes, which are those of one tree.
     pub(crate) fn from_nodes(nodes: Vec<Node>) -> Pattern
         requires { (r : Reading) × (tokens_of nodes.items ≡ tokens r) }
         ensures { (r : Reading) → tokens_of nodes.items ≡ tokens r → result ≡ r }
@@ -35,7 +37,7 @@ impl Pattern {
         Pattern { nodes }
     }
 
-    /// The pattern's nodes, each behind those that it is made of.
+    /// The nodes, each after those that it is made of.
     pub(crate) fn into_nodes(self) -> Vec<Node>
         ensures { tokens_of result.items ≡ tokens self }
     {

@@ -1,16 +1,19 @@
+//! Reads bracket expressions: their items, a dash, and the negating caret.
+//!
+//! It stands on `item` and on `specs/Grammar.antt`. `parser` calls `read_range` at each opening bracket.
 ghost use Rattle.std.specs.Prelude.{◌≡◌, ℕ, ◌+◌, ◌<◌, ◌≤◌, List, Some, None, length, drop, IfOk, IfErr, IfSome, IsNone};
 ghost use Rattle.wot_pattern.specs.Reading.{Atom};
 ghost use Rattle.wot_pattern.specs.Nodes.{atom_of};
 ghost use Rattle.wot_pattern.specs.Grammar.{AddsItems, Items, NoItems, Range, ReadsRange, first_item, item};
 ghost use Rattle.wot_pattern.specs.declared.item.Item.{Item};
-ghost use Rattle.wot_pattern.specs.declared.fault.PatternFault.TheVariants.{Unreadable, Memory};
+ghost use Rattle.wot_pattern.specs.declared.fault.PatternFault.TheVariants.{Unreadable};
 
 use crate::fault::PatternFault;
 use crate::item::Item;
 use crate::node::Leaf;
 use std::alloc::Global;
 
-/// The item at the beginning of a text, and how many characters it takes.
+/// Reads the item at the beginning of a text. Returns it with its number of characters.
 fn read_item(text: &[char]) -> Option<(Item, usize)>
     ensures some { IfSome result (λ read. item text.now ≡ Some (read.0, drop read.1 text.now)) }
     ensures within { IfSome result (λ read. (0 < read.1) × (read.1 ≤ length text.now)) }
@@ -51,7 +54,7 @@ fn read_item(text: &[char]) -> Option<(Item, usize)>
     }
 }
 
-/// The same for the first item of a range, where a dash stands for itself alone.
+/// Reads the first item of a bracket expression, in which a dash stands for itself.
 fn read_first_item(text: &[char]) -> Option<(Item, usize)>
     ensures some { IfSome result (λ read. first_item text.now ≡ Some (read.0, drop read.1 text.now)) }
     ensures within { IfSome result (λ read. (0 < read.1) × (read.1 ≤ length text.now)) }
@@ -63,7 +66,7 @@ fn read_first_item(text: &[char]) -> Option<(Item, usize)>
     }
 }
 
-/// Reads the items of a range after its first, up to the closing bracket, and gives the position behind that.
+/// Reads the items after the first, up to the closing bracket. Returns the position after that.
 fn read_items(items: &mut Vec<Item>, text: &[char], start: usize) -> Result<usize, PatternFault>
     requires { start ≤ length text.now }
     ensures read { IfOk result (λ end.
@@ -86,7 +89,7 @@ fn read_items(items: &mut Vec<Item>, text: &[char], start: usize) -> Result<usiz
     Err(PatternFault::Unreadable)
 }
 
-/// Reads a range behind its opening bracket and its mark of negation.
+/// Reads a bracket expression after its opening bracket and its caret, if any.
 fn read_all_items(
     alloc: Global,
     text: &[char],
@@ -108,7 +111,7 @@ fn read_all_items(
     Ok((Leaf::Range { negated, items }, end))
 }
 
-/// Reads a range behind its opening bracket, and gives the position behind the closing one.
+/// Reads a bracket expression after its opening bracket. Returns the position after the closing one.
 pub fn read_range(alloc: Global, text: &[char], start: usize) -> Result<(Leaf, usize), PatternFault>
     requires { start ≤ length text.now }
     ensures read { IfOk result (λ read. Range (drop start text.now) (atom_of read.0) (drop read.1 text.now)) }

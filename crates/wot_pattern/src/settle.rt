@@ -1,3 +1,6 @@
+//! The matcher's first pass at a position: which matches of each part end there.
+//!
+//! It stands on `flow`, `leaf` and `stack`, and on `specs/Passes.antt`. `matcher` calls it before `advance`.
 ghost use Rattle.std.specs.Prelude.{◌≡◌, ◌+◌, ◌<◌, ◌≤◌, true, [], ◌∷◌, length, reverse, vec_len, vec_capacity};
 ghost use Rattle.wot_pattern.specs.Nodes.{token_of, tokens_of};
 ghost use Rattle.wot_pattern.specs.Passes.{settled_one, settled, top};
@@ -7,7 +10,7 @@ use crate::leaf::holds_empty;
 use crate::node::Node;
 use crate::stack::{put, take_or};
 
-/// Puts a flow onto the stack that holds between the position and itself.
+/// Pushes a flow with the empty match.
 fn put_empty(ready: &mut Vec<Flow>, ended: bool)
     requires { vec_len ready.old < vec_capacity ready.old }
     ensures items { reverse ready.new.items ≡ record { empty = true; ended = ended } ∷ reverse ready.old.items }
@@ -18,8 +21,7 @@ fn put_empty(ready: &mut Vec<Flow>, ended: bool)
     put(ready, Flow { empty, ended });
 }
 
-/// Takes the flows of the trees in this node off the stack, puts the flow of its own tree there, and gives the node's
-/// slot.
+/// Pops the flows of the trees in this node, pushes the flow of its own tree, and returns the node's new slot.
 fn settle_one(node: &Node, slot: Flow, ready: &mut Vec<Flow>, first: bool, last: bool) -> Flow
     requires { vec_len ready.old < vec_capacity ready.old }
     ensures slot { result ≡ (settled_one first last (token_of node.now) slot (reverse ready.old.items)).0 }
@@ -73,7 +75,7 @@ fn settle_one(node: &Node, slot: Flow, ready: &mut Vec<Flow>, first: bool, last:
     }
 }
 
-/// The first pass at a position of the text: what the tree lets through there. The position may be the text's first
+/// The first pass at a position of the text: which matches of the tree end there. The position may be the text's first
 /// or its last.
 pub fn settle(
     nodes: &[Node],

@@ -1,7 +1,8 @@
+//! A stack with reserved room, kept in a vector. Both passes of the matcher keep what they computed for parts on one.
 ghost use Rattle.std.specs.Prelude.{◌≡◌, ◌+◌, ◌<◌, ◌≤◌, ◌∷◌, reverse, vec_len, vec_capacity};
 ghost use Rattle.wot_pattern.specs.Passes.{top_or, below};
 
-/// Takes the top of a stack, or gives `none` where the stack is empty.
+/// Pops the top of a stack, or returns `none` if the stack is empty.
 pub fn take_or<T: Copy + Drop>(stack: &mut Vec<T>, none: T) -> T
     ensures top { result ≡ top_or none (reverse stack.old.items) }
     ensures below { reverse stack.new.items ≡ below (reverse stack.old.items) }
@@ -15,7 +16,7 @@ pub fn take_or<T: Copy + Drop>(stack: &mut Vec<T>, none: T) -> T
     }
 }
 
-/// Puts a value onto a stack that has room for it.
+/// Pushes a value onto a stack that has room for it.
 pub fn put<T: Drop>(stack: &mut Vec<T>, value: T)
     requires { vec_len stack.old < vec_capacity stack.old }
     ensures items { reverse stack.new.items ≡ value ∷ reverse stack.old.items }

@@ -5,24 +5,24 @@ use Rattle.wot_policy.specs.declared.rows.Row.{Row}
 use Rattle.wot_policy.specs.declared.rows.Row.TheVariants.{Never, Before, Always}
 use Rattle.wot_policy.specs.declared.rows.PolicyRows.{PolicyRows}
 
--- whether a row admits what was made at that moment
+-- whether a row admits what was created at that moment
 abbrev pub row_admits : Row → ℕ → Bool
 row_admits Never made = false
 row_admits (Before moment) made = nat_lt made moment
 row_admits Always made = true
 
--- whether a kind of signature takes something back (RFC 9580, section 5.2.1)
+-- whether a signature type is a revocation (RFC 9580, section 5.2.1)
 abbrev pub is_revoking : ℕ → Bool
 is_revoking kind =
     nat_eq kind 32  -- a key revocation, 0x20
     || (nat_eq kind 40  -- a subkey revocation, 0x28
     || nat_eq kind 48)  -- a certification revocation, 0x30
 
--- the rows for a kind of signature
+-- the rows for a signature type
 abbrev pub rows_for : PolicyRows → ℕ → List Row
 rows_for rows kind = if is_revoking kind then rows.revoking else rows.plain
 
--- the row of what is asked: that of its hash number, among the rows for its kind
+-- the row of what is asked: that of its hash number, among the rows for its type
 abbrev pub row_of : PolicyRows → Ask → Row
 row_of rows ask = slice_index_or (rows_for rows ask.kind) ask.hash Never
 
@@ -30,7 +30,7 @@ row_of rows ask = slice_index_or (rows_for rows ask.kind) ask.hash Never
 abbrev pub admits : PolicyRows → Ask → Bool
 admits rows ask = row_admits (row_of rows ask) ask.made
 
--- What is asked fits its types. Only of such asks a policy speaks.
+-- What is asked fits its types. A policy promises nothing about other questions.
 pub record Fits (ask : Ask) : Type 0 where
   pub kind : ask.kind < 256
   pub hash : ask.hash < 256

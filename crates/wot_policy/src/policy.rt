@@ -1,13 +1,17 @@
+//! A policy: a closure that says which signatures count, and how often it was asked.
+//!
+//! It stands on `rows` and on `specs/Kept.antt`. `wot_cert` asks it once for each new signature, so a change here
+//! proves everything that imports again.
 ghost use Rattle.std.specs.Prelude.{◌≡◌};
 ghost use Rattle.wot_policy.specs.Admits.{admits};
 ghost use Rattle.wot_policy.specs.Kept.{AnswersBy, IsFaithful, rows_of, asked_of, asked_more};
 
 use crate::{Ask, PolicyRows};
 
-/// A closure that answers by rows, and how often it was asked. No call shows the rows.
+/// A closure that answers by rows, and how often it was asked. No call returns the rows.
 ///
-/// That it answers by them (`IsFaithful`) is a condition of `judge` and not an invariant: neither a ghost field nor a
-/// model's invariant can speak of a bound on `Fn`.
+/// That it answers by them (`IsFaithful`) is a condition of `judge` and not an invariant, because neither a ghost field
+/// nor a model's invariant can mention a bound on `Fn`.
 #[derive(Drop)]
 pub struct Policy<F> {
     judge: F,
@@ -41,7 +45,7 @@ impl<F: Fn(Ask) -> bool> Policy<F> {
         (self.judge)(ask)
     }
 
-    /// How often the policy was asked. The count stands still at `u64::MAX`.
+    /// How often the policy was asked. The count stays at `u64::MAX`.
     pub fn asked(&self) -> u64
         ensures count { result ≡ asked_of self.now }
     {

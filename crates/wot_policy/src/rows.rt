@@ -1,3 +1,7 @@
+//! What a policy is asked, and the tables of rows that answer it.
+//!
+//! It stands on `specs/Admits.antt`, which follows RFC 9580, sections 5.2.1 and 9.5. `standard` has the rows of the
+//! program; `docs/PROFILE.md` explains them.
 ghost use Rattle.std.specs.Prelude.{◌≡◌};
 ghost use Rattle.wot_policy.specs.Admits.{admits as admits_by, is_revoking as takes_back};
 
@@ -11,33 +15,33 @@ const CERTIFICATION_REVOCATION: u8 = 0x30;
 /// What a policy is asked about a signature.
 #[derive(Clone, Copy, PartialEq, Eq)]
 pub struct Ask {
-    /// The kind of signature (RFC 9580, section 5.2.1).
+    /// The signature type (RFC 9580, section 5.2.1).
     pub kind: u8,
     /// The number of its hash algorithm (RFC 9580, section 9.5).
     pub hash: u8,
-    /// When it was made, in seconds from 1970 on.
+    /// When it was created, in seconds since 1970.
     pub made: u32,
 }
 
-/// For which times of signing a hash algorithm counts.
+/// For which creation times a hash algorithm counts.
 #[derive(Clone, Copy, PartialEq, Eq)]
 pub enum Row {
     Never,
-    /// Before this moment, in seconds from 1970 on; not at the moment itself.
+    /// Only before this moment, in seconds since 1970.
     Before(u32),
     Always,
 }
 
-/// The rows by which signatures are admitted. Item h of either list is the row of the hash number h.
+/// The rows that decide which signatures count. Item h of either list is the row of hash algorithm h.
 #[derive(Clone, Copy, PartialEq, Eq)]
 pub struct PolicyRows {
-    /// For the kinds of signature that take nothing back.
+    /// For signature types other than revocations.
     pub plain: [Row; 256],
-    /// For revocations, of a key, a subkey or a certification.
+    /// For revocations of a key, a subkey or a certification.
     pub revoking: [Row; 256],
 }
 
-/// Whether signatures of this kind take something back.
+/// Whether signatures of this type are revocations.
 fn is_revoking(kind: u8) -> bool
     ensures { result ≡ takes_back kind }
 {

@@ -1,15 +1,18 @@
+//! The standard rows: which hash algorithms count, for which signature types, and until when.
+//!
+//! They stand on `specs/Standard.antt`. A change here changes answers, and `docs/PROFILE.md`, which states the rows.
 ghost use Rattle.std.specs.Prelude.{◌≡◌, ℕ, ◌<◌, slice_index_or};
 ghost use Rattle.wot_policy.specs.declared.rows.Row.TheVariants.{Never};
 ghost use Rattle.wot_policy.specs.Standard.{IsStandard, found_in, table_with};
 
 use crate::{PolicyRows, Row};
 
-/// The first moment of 1 February 2013, in seconds from 1970 on.
+/// The first moment of 1 February 2013, in seconds since 1970.
 const FEBRUARY_2013: u32 = 1_359_676_800;
 
-/// The standard rows (RFC 9580, section 9.5, has the numbers). What has a hash number of SHA-2 or SHA-3 counts. What
-/// has one of SHA-1 or RIPEMD-160 counts where it was made before February 2013, and a revocation whenever it was made,
-/// so that none by an old key is lost. Nothing else counts.
+/// The standard rows (RFC 9580, section 9.5, has the numbers). Signatures over SHA-2 and SHA-3 count. Signatures over
+/// SHA-1 and RIPEMD-160 count if they were created before February 2013. Revocations over these count whenever they
+/// were created, so that no revocation by an old key is lost. Nothing else counts.
 pub fn standard_rows() -> PolicyRows
     ensures standard { IsStandard result }
 {
@@ -19,7 +22,7 @@ pub fn standard_rows() -> PolicyRows
     }
 }
 
-/// The rows where SHA-1 and RIPEMD-160 have this one.
+/// The rows in which SHA-1 and RIPEMD-160 have the row `old`.
 fn rows_with(old: Row) -> [Row; 256]
     ensures { (hash : ℕ) → hash < 256 → slice_index_or result hash Never ≡ found_in (table_with old) hash }
 {

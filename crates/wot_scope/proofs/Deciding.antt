@@ -1,5 +1,5 @@
--- What the function tells of a scope is what the relation says.
-use Rattle.std.specs.Prelude.{◌≡◌, ◌⊎◌, ◌↔◌, ℕ, Bool, true, false, ◌||◌, List, [], ◌∷◌, Option, Some, None}
+-- The function for a scope agrees with the relation.
+use Rattle.std.specs.Prelude.{◌≡◌, ◌↔◌, ℕ, true, false, List, [], ◌∷◌, Option, Some, None}
 use Rattle.std.proofs.Common.{refl, ap, ◌∙◌, inl, inr}
 use Rattle.std.specs.List.{list_any}
 use Rattle.std.specs.Option.{option_map_or}
@@ -17,10 +17,12 @@ module _ (reads : (text : List ℕ) (p : Reading) → (pattern_of text ≡ Some 
   text_says : (uid octets : List ℕ) → text_matches uid octets ≡ true → TextMatches octets uid
   unfolding text_matches
   text_says uid octets e =
-      let (u, h) = and_parts (is_utf8 octets) (option_map_or (λ (p : Reading). matches_in p (chars uid)) (pattern_of (chars octets)) false) e in
+      let (u, h) = and_parts (is_utf8 octets)
+      (option_map_or (λ (p : Reading). matches_in p (chars uid)) (pattern_of (chars octets)) false) e in
       (IsUtf8-from_is_utf8 octets u, by (pattern_of (chars octets)) refl h)
     where
-      by : (o : Option Reading) → pattern_of (chars octets) ≡ o → option_map_or (λ (p : Reading). matches_in p (chars uid)) o false ≡ true
+      by : (o : Option Reading) → pattern_of (chars octets) ≡ o
+          → option_map_or (λ (p : Reading). matches_in p (chars uid)) o false ≡ true
           → (p : Reading) × Says (chars octets) p × Matches (chars uid) p
       by None f h = absurd (false≢true h)
       by (Some p) f h = (p, (reads (chars octets) p).0 f, (matches (chars uid) p).0 h)
@@ -28,8 +30,11 @@ module _ (reads : (text : List ℕ) (p : Reading) → (pattern_of text ≡ Some 
   text_told : (uid octets : List ℕ) → TextMatches octets uid → text_matches uid octets ≡ true
   unfolding text_matches
   text_told uid octets (u, h) =
-      and_from (is_utf8 octets) (option_map_or (λ (p : Reading). matches_in p (chars uid)) (pattern_of (chars octets)) false) (is_utf8-from_IsUtf8 octets u)
-      (ap (λ (o : Option Reading). option_map_or (λ (p : Reading). matches_in p (chars uid)) o false) ((reads (chars octets) h.0).1 h.1) ∙ (matches (chars uid) h.0).1 h.2)
+      and_from (is_utf8 octets)
+      (option_map_or (λ (p : Reading). matches_in p (chars uid)) (pattern_of (chars octets)) false)
+      (is_utf8-from_IsUtf8 octets u)
+      (ap (λ (o : Option Reading). option_map_or (λ (p : Reading). matches_in p (chars uid)) o false)
+      ((reads (chars octets) h.0).1 h.1) ∙ (matches (chars uid) h.0).1 h.2)
 
   one_says : (uid : List ℕ) (texts : List (List ℕ)) → list_any (text_matches uid) texts ≡ true → OneMatches texts uid
   one_says uid [] e = absurd (false≢true e)
@@ -40,13 +45,18 @@ module _ (reads : (text : List ℕ) (p : Reading) → (pattern_of text ≡ Some 
 
   one_told : (uid : List ℕ) (texts : List (List ℕ)) → OneMatches texts uid → list_any (text_matches uid) texts ≡ true
   one_told uid [] h = absurd h
-  one_told uid (octets ∷ more) (inl h) = or_left (text_matches uid octets) (list_any (text_matches uid) more) (text_told uid octets h)
-  one_told uid (octets ∷ more) (inr h) = or_right (text_matches uid octets) (list_any (text_matches uid) more) (one_told uid more h)
+  one_told uid (octets ∷ more) (inl h) =
+      or_left (text_matches uid octets) (list_any (text_matches uid) more) (text_told uid octets h)
+  one_told uid (octets ∷ more) (inr h) =
+      or_right (text_matches uid octets) (list_any (text_matches uid) more) (one_told uid more h)
 
   pub scope_told : (texts : List (List ℕ)) (uid : List ℕ) → (scope_holds texts uid ≡ true) ↔ ScopeHolds texts uid
   unfolding scope_holds
   scope_told [] uid = (λ e. tt, λ h. refl)
   scope_told (octets ∷ more) uid = (
-    λ e. let (u, h) = and_parts (is_utf8 uid) (list_any (text_matches uid) (octets ∷ more)) e in (IsUtf8-from_is_utf8 uid u, one_says uid (octets ∷ more) h),
-    λ h. and_from (is_utf8 uid) (list_any (text_matches uid) (octets ∷ more)) (is_utf8-from_IsUtf8 uid h.0) (one_told uid (octets ∷ more) h.1),
+    λ e. let (u, h) =
+        and_parts (is_utf8 uid) (list_any (text_matches uid) (octets ∷ more)) e in
+        (IsUtf8-from_is_utf8 uid u, one_says uid (octets ∷ more) h),
+    λ h. and_from (is_utf8 uid) (list_any (text_matches uid) (octets ∷ more)) (is_utf8-from_IsUtf8 uid h.0)
+        (one_told uid (octets ∷ more) h.1),
   )

@@ -1,4 +1,5 @@
-//! Laws of the definitions. Each function does nothing: its contract is the law.
+//! A law of the definition of a scope. The function does nothing: its contract is the law, which rests on the laws of
+//! `wot_pattern`.
 ghost use Rattle.std.specs.Prelude.{◌↔◌, ℕ, List, IsTrue};
 ghost use Rattle.wot_scope.specs.Scope.{ScopeHolds};
 ghost use Rattle.wot_scope.specs.Deciding.{scope_holds};

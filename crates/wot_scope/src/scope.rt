@@ -1,3 +1,7 @@
+//! `in_scope`: whether one of a signature's regular expressions matches a user ID.
+//!
+//! It stands on `scopes` of `wot_signature`, on `parse` and `Matcher`, and on `specs/Scope.antt`. A change here changes
+//! which edges a path may use.
 ghost use Rattle.std.specs.Prelude.{◌≡◌, ◌↔◌, ◌∷◌, IsTrue, IfOk};
 ghost use Rattle.wot_signature.specs.Signature.{scopes_of};
 ghost use Rattle.wot_scope.specs.Scope.{TextMatches, OneMatches, ScopeHolds};
@@ -10,8 +14,8 @@ use wot_pattern::{Matcher, PatternFault, one_reading, parse};
 use wot_signature::{Scopes, scopes};
 use wot_types::Memory;
 
-/// Whether the scope of this signature body holds for the user ID: the body has no pattern, or the user ID is UTF-8
-/// and one of its readable patterns matches it.
+/// Whether the scope of this signature body holds for the user ID: the body has no regular expression, or the user ID
+/// is UTF-8 and a well-formed regular expression of the body matches it.
 pub fn in_scope(alloc: Global, body: &[u8], uid: &[u8]) -> Result<bool, Memory>
     ensures holds { IfOk result (λ holds. IsTrue holds ↔ ScopeHolds (scopes_of body.now) uid.now) }
     ensures told { IfOk result (λ holds. holds ≡ scope_holds (scopes_of body.now) uid.now) }
@@ -50,7 +54,7 @@ fn one_matches(alloc: Global, first: &[u8], others: Scopes<'_>, uid: &str) -> Re
     Ok(false)
 }
 
-/// Whether these octets are a readable pattern that matches the user ID.
+/// Whether these octets are a well-formed regular expression that matches the user ID.
 fn text_matches(alloc: Global, octets: &[u8], uid: &str) -> Result<bool, Memory>
     ensures { IfOk result (λ holds. IsTrue holds ↔ TextMatches octets.now uid.now) }
 {

@@ -1,5 +1,6 @@
 -- Paths that are claimed, and labels, printed and read.
-use Rattle.std.proofs.Common.{◌≡◌, ℕ, ◌+◌, ◌*◌, ◌<◌, ◌≤◌, ◌^◌, true, List, [], ◌∷◌, ◌++◌, length, Option, Some, refl, ◌∙◌, arith, length-append}
+use Rattle.std.proofs.Common.{◌≡◌, ℕ, ◌+◌, ◌*◌, ◌<◌, ◌≤◌, ◌^◌, true, List, [], ◌∷◌, ◌++◌, length, Option, Some, refl}
+use Rattle.std.proofs.Common.{◌∙◌, arith, length-append}
 use Rattle.std.specs.Prelude.{nat_le}
 use Rattle.std.specs.Fmt.{decimal}
 use Rattle.std.specs.List.{AllByRecursion, flat_map}
@@ -9,7 +10,9 @@ use Rattle.hex.specs.Hex.{lower_digits}
 use Rattle.wot_types.specs.Fpr.{digits_of, fpr_of_digits, octets_of}
 use Rattle.wot_types.specs.declared.fpr.Fpr.{Fpr}
 use Rattle.wot_script.specs.ClaimLaws.{IsClaimPrinted, IsLabelPrinted, IsStepPrinted}
-use Rattle.wot_script.specs.Claims.{claim_of, claim_text, claim_with, claims_of, field_of, field_text, IsPathSpelled, is_rising, items_of, items_text, label_of, label_text, labels_of, most_paths, rising, step_of, step_text}
+use Rattle.wot_script.specs.Claims.{claim_of, claim_text, claim_with, claims_of, field_of, field_text, IsPathSpelled}
+use Rattle.wot_script.specs.Claims.{is_rising, items_of, items_text, label_of, label_text, labels_of, most_paths}
+use Rattle.wot_script.specs.Claims.{rising, step_of, step_text}
 use Rattle.wot_script.specs.Decimal.{decimal_up_to, positive_up_to}
 use Rattle.wot_script.specs.Fields.{◌>>=◌, cut_at}
 use Rattle.wot_script.specs.declared.reply.ClaimLine.{ClaimLine}
@@ -40,7 +43,8 @@ step_reads : (step : ClaimStepLine) → fpr_of_digits (digits_of step.0) ≡ Som
 unfolding step_of lacks_test
 step_reads step key number =
     bound (cut_at 46 (step_text step)) (digits_of step.0, decimal step.1)
-    (λ parts. fpr_of_digits parts.0 >>= (λ issuer. decimal_up_to 4294967295 parts.1 >>= (λ place. Some (record { 0 = issuer; 1 = place }))))
+    (λ parts. fpr_of_digits parts.0 >>=
+    (λ issuer. decimal_up_to 4294967295 parts.1 >>= (λ place. Some (record { 0 = issuer; 1 = place }))))
     (cut_lacking 46 (digits_of step.0) (decimal step.1) (lacks_digits 46 (octets_of step.0) (omega arith) refl))
     ∙ bound (fpr_of_digits (digits_of step.0)) step.0
     (λ issuer. decimal_up_to 4294967295 (decimal step.1) >>= (λ place. Some (record { 0 = issuer; 1 = place }))) key
@@ -59,7 +63,10 @@ step_printed step key number small = record {
         parts_lack 32 46 step.0 step.1 (omega arith) refl (λ e. omega arith) (lacks_decimal 32 step.1 refl small),
         (
           parts_lack 44 46 step.0 step.1 (omega arith) refl (λ e. omega arith) (lacks_decimal 44 step.1 refl small),
-          (parts_lack 45 46 step.0 step.1 (omega arith) refl (λ e. omega arith) (lacks_decimal 45 step.1 refl small), tt),
+          (
+            parts_lack 45 46 step.0 step.1 (omega arith) refl (λ e. omega arith) (lacks_decimal 45 step.1 refl small),
+            tt,
+          ),
         ),
       ),
     ),
@@ -91,7 +98,10 @@ label_printed label key number small = record {
       parts_lack 32 61 label.0 label.1 (omega arith) refl (λ e. omega arith) (lacks_decimal 32 label.1 refl small),
       (
         parts_lack 44 61 label.0 label.1 (omega arith) refl (λ e. omega arith) (lacks_decimal 44 label.1 refl small),
-        (parts_lack 45 61 label.0 label.1 (omega arith) refl (λ e. omega arith) (lacks_decimal 45 label.1 refl small), tt),
+        (
+          parts_lack 45 61 label.0 label.1 (omega arith) refl (λ e. omega arith) (lacks_decimal 45 label.1 refl small),
+          tt,
+        ),
       ),
     ),
   );
@@ -104,12 +114,14 @@ steps_read : (steps : List ClaimStepLine) → 1 ≤ length steps → AllByRecurs
     → items_of 47 step_of (items_text 47 step_text steps) ≡ Some steps
 steps_read [] some all = absurd (omega arith)
 steps_read (step ∷ steps) some all =
-    items_read 47 step_of step_text step steps (item step all.0) (all_follow IsStepPrinted (IsItem 47 step_of step_text) steps item all.1)
+    items_read 47 step_of step_text step steps (item step all.0)
+    (all_follow IsStepPrinted (IsItem 47 step_of step_text) steps item all.1)
   where
     item : (s : ClaimStepLine) → IsStepPrinted s → IsItem 47 step_of step_text s
     item s is = record { back = is.back; free = is.free.0 }
 
-claim_reads : (claim : ClaimLine) → IsPathSpelled claim → positive_up_to 255 (decimal claim.0) ≡ Some claim.0 → claim.0 < 2 ^ 64
+claim_reads : (claim : ClaimLine) → IsPathSpelled claim → positive_up_to 255 (decimal claim.0) ≡ Some claim.0
+    → claim.0 < 2 ^ 64
     → AllByRecursion IsStepPrinted claim.1 → claim_of (claim_text claim) ≡ Some claim
 unfolding claim_of
 claim_reads claim spelled amount small all =
@@ -149,7 +161,8 @@ length-items separator most text (item ∷ items) all =
 path_lacks : (x : ℕ) (claim : ClaimLine) → (47 ≡ x → ⊥) → Lacks x (decimal claim.0)
     → AllByRecursion (λ step. Lacks x (step_text step)) claim.1 → Lacks x (claim_text claim)
 path_lacks x claim apart amount all =
-    lacks-append x (decimal claim.0) (47 ∷ items_text 47 step_text claim.1) amount (apart, lacks_items x 47 step_text claim.1 apart all)
+    lacks-append x (decimal claim.0) (47 ∷ items_text 47 step_text claim.1) amount
+    (apart, lacks_items x 47 step_text claim.1 apart all)
 
 pub claim_printed : (claim : ClaimLine) → IsPathSpelled claim → positive_up_to 255 (decimal claim.0) ≡ Some claim.0
     → claim.0 < 2 ^ 64 → AllByRecursion IsStepPrinted claim.1 → IsClaimPrinted claim
@@ -208,7 +221,8 @@ pub claims_field : (claims : List ClaimLine) → AllByRecursion IsClaimPrinted c
     → IsField claims_of (1 + most_paths claims) (field_text claim_text claims) claims
 claims_field claims all = record {
   back = field_read claim_of claim_text claims
-      (all_follow IsClaimPrinted (IsItem 44 claim_of claim_text) claims (λ c is. record { back = is.back; free = is.free.1.1.0 }) all)
+      (all_follow IsClaimPrinted (IsItem 44 claim_of claim_text) claims
+      (λ c is. record { back = is.back; free = is.free.1.1.0 }) all)
       (all_follow IsClaimPrinted (λ c. Lacks 45 (claim_text c)) claims (λ c is. is.free.1.1.1.0) all);
   line = lacks_field 10 claim_text claims (λ e. omega arith) (λ e. omega arith)
       (all_follow IsClaimPrinted (λ c. Lacks 10 (claim_text c)) claims (λ c is. is.free.0) all);
@@ -231,7 +245,8 @@ labels_field labels all rises = record {
   back =
       bound (field_of label_of (field_text label_text labels)) labels rising
       (field_read label_of label_text labels
-      (all_follow IsLabelPrinted (IsItem 44 label_of label_text) labels (λ l is. record { back = is.back; free = is.free.1.1.0 }) all)
+      (all_follow IsLabelPrinted (IsItem 44 label_of label_text) labels
+      (λ l is. record { back = is.back; free = is.free.1.1.0 }) all)
       (all_follow IsLabelPrinted (λ l. Lacks 45 (label_text l)) labels (λ l is. is.free.1.1.1.0) all))
       ∙ rw rises refl;
   line = lacks_field 10 label_text labels (λ e. omega arith) (λ e. omega arith)

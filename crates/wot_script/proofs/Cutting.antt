@@ -1,5 +1,6 @@
 -- Where the first such octet is, there a text is cut.
-use Rattle.std.proofs.Common.{◌≡◌, ℕ, zero, suc, ◌+◌, ◌-◌, ◌<◌, ◌==◌, Bool, true, false, List, [], ◌∷◌, Option, Some, None, length, take, drop, get_or, refl, ap, ◌∙◌, arith, length-drop}
+use Rattle.std.proofs.Common.{◌≡◌, ℕ, zero, suc, ◌+◌, ◌-◌, ◌<◌, ◌==◌, Bool, true, false, List, [], ◌∷◌, Option, Some}
+use Rattle.std.proofs.Common.{None, length, take, drop, get_or, refl, ap, ◌∙◌, arith, length-drop}
 use Rattle.std.proofs.lemmas.Bool.{eq-eqb, ne_eqb}
 use Rattle.std.proofs.lemmas.List.{take_all}
 use Rattle.std.proofs.lemmas.Option.{same_Some}
@@ -13,7 +14,8 @@ cut_at-cons separator octet octets apart = rw (ne_eqb octet separator apart) ref
 
 -- the first one is at k
 pub cut_there : (separator : ℕ) (text : List ℕ) (k : ℕ) → k < length text → get_or text k 0 ≡ separator
-    → ((j : ℕ) → j < k → get_or text j 0 ≡ separator → ⊥) → cut_at separator text ≡ Some (take k text, drop (suc k) text)
+    → ((j : ℕ) → j < k → get_or text j 0 ≡ separator → ⊥)
+    → cut_at separator text ≡ Some (take k text, drop (suc k) text)
 cut_there separator [] k within same before = absurd (omega arith)
 cut_there separator (octet ∷ octets) zero within same before = rw (eq-eqb octet separator same) refl
 cut_there separator (octet ∷ octets) (suc k) within same before =
@@ -42,7 +44,8 @@ cut_short separator (octet ∷ octets) parts e =
     by (octet == separator) refl (cut_at separator octets) refl (λ later c. cut_short separator octets later c)
   where
     by : (b : Bool) → (octet == separator) ≡ b → (o : Option (List ℕ × List ℕ)) → cut_at separator octets ≡ o
-        → ((later : List ℕ × List ℕ) → cut_at separator octets ≡ Some later → length later.0 + (1 + length later.1) ≡ length octets)
+        → ((later : List ℕ × List ℕ) → cut_at separator octets ≡ Some later
+        → length later.0 + (1 + length later.1) ≡ length octets)
         → length parts.0 + (1 + length parts.1) ≡ length (octet ∷ octets)
     by true same o c shorter =
         let there : Some ([], octets) ≡ Some parts = rw same at e in
@@ -54,4 +57,9 @@ cut_short separator (octet ∷ octets) parts e =
     by false apart (Some later) c shorter =
         let there : Some (octet ∷ later.0, later.1) ≡ Some parts = rw (apart, c) at e in
         let is : (octet ∷ later.0, later.1) ≡ parts = same_Some (octet ∷ later.0, later.1) parts there in
-        omega (arith, shorter later c, ap (λ (p : List ℕ × List ℕ). length p.0) is, ap (λ (p : List ℕ × List ℕ). length p.1) is)
+        omega (
+          arith,
+          shorter later c,
+          ap (λ (p : List ℕ × List ℕ). length p.0) is,
+          ap (λ (p : List ℕ × List ℕ). length p.1) is,
+        )

@@ -1,5 +1,7 @@
 -- User IDs, printed and read.
-use Rattle.std.proofs.Common.{◌≡◌, ℕ, zero, suc, ◌+◌, ◌<◌, ◌==◌, Bool, true, false, ◌&&◌, inl, inr, List, [], ◌∷◌, ◌++◌, Option, Some, None, length, drop, get_or, refl, sym, ap, ◌∙◌, arith, add-one, drop-cons, append_assoc}
+use Rattle.std.proofs.Common.{◌≡◌, ℕ, zero, suc, ◌+◌, ◌<◌, ◌==◌, Bool, true, false, ◌&&◌, inl, inr, List, [], ◌∷◌, ◌++◌}
+use Rattle.std.proofs.Common.{Option, Some, None, length, drop, get_or, refl, sym, ap, ◌∙◌, arith, add-one, drop-cons}
+use Rattle.std.proofs.Common.{append_assoc}
 use Rattle.std.specs.Prelude.{nat_le}
 use Rattle.std.specs.Option.{option_map}
 use Rattle.std.specs.Result.{result_ok}
@@ -18,13 +20,16 @@ use Rattle.wot_script.specs.declared.uid.Place.TheVariants.{Outside, High}
 -- ---- reading
 
 twice : (old made : List ℕ) (o : Option (List ℕ))
-    → option_map (λ others. old ++ others) (option_map (λ others. made ++ others) o) ≡ option_map (λ others. (old ++ made) ++ others) o
+    → option_map (λ others. old ++ others) (option_map (λ others. made ++ others) o) ≡ option_map
+    (λ others. (old ++ made) ++ others) o
 twice old made None = refl
 twice old made (Some others) = ap Some (sym (append_assoc old made others))
 
-turned : (old new : List ℕ) (next : Place) (octets : List ℕ) (t : Option (List ℕ × Place)) → Turned old new t (Some next)
+turned : (old new : List ℕ) (next : Place) (octets : List ℕ) (t : Option (List ℕ × Place))
+    → Turned old new t (Some next)
     → option_map (λ others. new ++ others) (unescaped_from octets next)
-    ≡ option_map (λ others. old ++ others) (t >>= (λ n. option_map (λ others. n.0 ++ others) (unescaped_from octets n.1)))
+    ≡ option_map (λ others. old ++ others)
+    (t >>= (λ n. option_map (λ others. n.0 ++ others) (unescaped_from octets n.1)))
 turned old new next octets None h = cc h
 turned old new next octets (Some read) h =
     ap (λ place. option_map (λ others. new ++ others) (unescaped_from octets place)) (same_Some next read.1 h.1)

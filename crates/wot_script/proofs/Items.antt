@@ -1,5 +1,6 @@
 -- Items of a list, read and printed.
-use Rattle.std.proofs.Common.{◌≡◌, ℕ, zero, suc, ◌<◌, ◌≤◌, ◌==◌, Bool, true, false, List, [], ◌∷◌, ◌++◌, length, take, get_or, Option, Some, None, refl, ap, ◌∙◌, arith, append-nil, append_assoc}
+use Rattle.std.proofs.Common.{◌≡◌, ℕ, zero, suc, ◌<◌, ◌≤◌, ◌==◌, Bool, true, false, List, [], ◌∷◌, ◌++◌, length, take}
+use Rattle.std.proofs.Common.{get_or, Option, Some, None, refl, ap, ◌∙◌, arith, append-nil, append_assoc}
 use Rattle.std.specs.List.{slice_split, flat_map, AllByRecursion}
 use Rattle.std.specs.Option.{option_map}
 use Rattle.std.proofs.lemmas.Bool.{eq-eqb, ne_eqb}
@@ -19,10 +20,12 @@ pub parts_where_cut : (separator : ℕ) (text field rest : List ℕ) → cut_at 
     → parts_of separator text ≡ field ∷ parts_of separator rest
 parts_where_cut separator [] field rest e = absurd cc
 parts_where_cut separator (octet ∷ octets) field rest e =
-    by (octet == separator) refl (cut_at separator octets) refl (λ first others. parts_where_cut separator octets first others)
+    by (octet == separator) refl (cut_at separator octets) refl
+    (λ first others. parts_where_cut separator octets first others)
   where
     by : (b : Bool) → (octet == separator) ≡ b → (o : Option (List ℕ × List ℕ)) → cut_at separator octets ≡ o
-        → ((first others : List ℕ) → cut_at separator octets ≡ Some (first, others) → parts_of separator octets ≡ first ∷ parts_of separator others)
+        → ((first others : List ℕ) → cut_at separator octets ≡ Some (first, others)
+        → parts_of separator octets ≡ first ∷ parts_of separator others)
         → parts_of separator (octet ∷ octets) ≡ field ∷ parts_of separator rest
     by true same o cut later =
         let is : Some ([], octets) ≡ Some (field, rest) = rw same at e in
@@ -36,13 +39,15 @@ parts_where_cut separator (octet ∷ octets) field rest e =
         let both : (octet ∷ parts.0, parts.1) ≡ (field, rest) = same_Some (octet ∷ parts.0, parts.1) (field, rest) is in
         rw (apart, later parts.0 parts.1 cut) (ap (λ (p : List ℕ × List ℕ). p.0 ∷ parts_of separator p.1) both)
 
-pub parts_where_whole : (separator : ℕ) (text : List ℕ) → cut_at separator text ≡ None → parts_of separator text ≡ text ∷ []
+pub parts_where_whole : (separator : ℕ) (text : List ℕ) → cut_at separator text ≡ None
+    → parts_of separator text ≡ text ∷ []
 parts_where_whole separator [] e = refl
 parts_where_whole separator (octet ∷ octets) e =
     by (octet == separator) refl (cut_at separator octets) refl (parts_where_whole separator octets)
   where
     by : (b : Bool) → (octet == separator) ≡ b → (o : Option (List ℕ × List ℕ)) → cut_at separator octets ≡ o
-        → (cut_at separator octets ≡ None → parts_of separator octets ≡ octets ∷ []) → parts_of separator (octet ∷ octets) ≡ (octet ∷ octets) ∷ []
+        → (cut_at separator octets ≡ None → parts_of separator octets ≡ octets ∷ [])
+        → parts_of separator (octet ∷ octets) ≡ (octet ∷ octets) ∷ []
     by true same o cut later =
         let is : Some ([], octets) ≡ None = rw same at e in
         absurd cc
@@ -58,7 +63,8 @@ module _ {A : Type 0} (read : List ℕ → Option A) where
   abbrev pub with_read : List A → Option (List A) → Option (List A)
   with_read items others = option_map (λ more. items ++ more) others
 
-  pub none_read : (separator : ℕ) (text field rest : List ℕ) → cut_at separator text ≡ Some (field, rest) → read field ≡ None
+  pub none_read : (separator : ℕ) (text field rest : List ℕ) → cut_at separator text ≡ Some (field, rest)
+      → read field ≡ None
       → items_of separator read text ≡ None
   none_read separator text field rest cut e = rw (parts_where_cut separator text field rest cut, e) refl
 
@@ -71,14 +77,16 @@ module _ {A : Type 0} (read : List ℕ → Option A) where
   joined_with items item None = refl
   joined_with items item (Some others) = ap Some (append_assoc items (item ∷ []) others)
 
-  pub one_read : (separator : ℕ) (text field rest : List ℕ) (items : List A) (item : A) → cut_at separator text ≡ Some (field, rest)
+  pub one_read : (separator : ℕ) (text field rest : List ℕ) (items : List A) (item : A)
+      → cut_at separator text ≡ Some (field, rest)
       → read field ≡ Some item
       → with_read (items ++ item ∷ []) (items_of separator read rest) ≡ with_read items (items_of separator read text)
   one_read separator text field rest items item cut e =
       joined_with items item (items_of separator read rest)
       ∙ rw (parts_where_cut separator text field rest cut, e) refl
 
-  pub last_read : (separator : ℕ) (text : List ℕ) (items : List A) (item : A) → cut_at separator text ≡ None → read text ≡ Some item
+  pub last_read : (separator : ℕ) (text : List ℕ) (items : List A) (item : A) → cut_at separator text ≡ None
+      → read text ≡ Some item
       → Some (items ++ item ∷ []) ≡ with_read items (items_of separator read text)
   last_read separator text items item cut e = rw (parts_where_whole separator text cut, e) refl
 
@@ -144,25 +152,30 @@ pub field_read : {A : Type 0} (read : List ℕ → Option A) (text : A → List 
     → field_of read (field_text text items) ≡ Some items
 field_read read text [] all dashes = refl
 field_read read text (item ∷ items) all dashes =
-    rw (apart_dash (items_text 44 text (item ∷ items)) (lacks_items 45 44 text (item ∷ items) (λ e. omega arith) dashes))
+    rw (apart_dash (items_text 44 text (item ∷ items))
+    (lacks_items 45 44 text (item ∷ items) (λ e. omega arith) dashes))
     (items_read 44 read text item items all.0 all.1)
 
 -- ---- lists of facts
 
-pub all_taken : {A : Type 0} (P : A → Type 0) (xs : List A) (i : ℕ) (d : A) → i < length xs → AllByRecursion P (take i xs)
+pub all_taken : {A : Type 0} (P : A → Type 0) (xs : List A) (i : ℕ) (d : A) → i < length xs
+    → AllByRecursion P (take i xs)
     → P (get_or xs i d) → AllByRecursion P (take (suc i) xs)
 all_taken P [] i d h all one = absurd (omega arith)
 all_taken P (x ∷ xs) zero d h all one = (one, tt)
 all_taken P (x ∷ xs) (suc i) d h all one = (all.0, all_taken P xs i d (omega arith) all.1 one)
 
-pub all_at_end : {A : Type 0} (P : A → Type 0) (xs : List A) (i : ℕ) → length xs ≤ i → AllByRecursion P (take i xs) → AllByRecursion P xs
+pub all_at_end : {A : Type 0} (P : A → Type 0) (xs : List A) (i : ℕ) → length xs ≤ i → AllByRecursion P (take i xs)
+    → AllByRecursion P xs
 all_at_end P xs i h all = rw (take_all i xs h) at all
 
-pub all_follow : {A : Type 0} (P Q : A → Type 0) (xs : List A) → ((x : A) → P x → Q x) → AllByRecursion P xs → AllByRecursion Q xs
+pub all_follow : {A : Type 0} (P Q : A → Type 0) (xs : List A) → ((x : A) → P x → Q x) → AllByRecursion P xs
+    → AllByRecursion Q xs
 all_follow P Q [] h all = tt
 all_follow P Q (x ∷ xs) h all = (h x all.0, all_follow P Q xs h all.1)
 
-pub all_at : {A : Type 0} (P : A → Type 0) (xs : List A) (i : ℕ) (d : A) → i < length xs → AllByRecursion P xs → P (get_or xs i d)
+pub all_at : {A : Type 0} (P : A → Type 0) (xs : List A) (i : ℕ) (d : A) → i < length xs → AllByRecursion P xs
+    → P (get_or xs i d)
 all_at P [] i d h all = absurd (omega arith)
 all_at P (x ∷ xs) zero d h all = all.0
 all_at P (x ∷ xs) (suc i) d h all = all_at P xs i d (omega arith) all.1

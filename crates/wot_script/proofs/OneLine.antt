@@ -1,5 +1,6 @@
 -- The lines of commands have no line feed, and aren't too long.
-use Rattle.std.proofs.Common.{◌≡◌, ℕ, ◌+◌, ◌*◌, ◌/◌, ◌%◌, ◌≤◌, ◌<◌, ◌==◌, Bool, true, false, cond, ◌&&◌, List, [], ◌∷◌, ◌++◌, length, Option, Some, None, Result, Err, refl, arith, length-append}
+use Rattle.std.proofs.Common.{◌≡◌, ℕ, ◌+◌, ◌*◌, ◌/◌, ◌%◌, ◌≤◌, ◌<◌, ◌==◌, Bool, true, false, cond, ◌&&◌, List, [], ◌∷◌}
+use Rattle.std.proofs.Common.{◌++◌, length, Option, Some, None, Result, Err, refl, arith, length-append}
 use Rattle.std.specs.Prelude.{◌^◌, codes, nat_lt, nat_le}
 use Rattle.std.specs.Option.{option_map, option_or}
 use Rattle.std.specs.Result.{result_ok}
@@ -25,9 +26,13 @@ use Rattle.wot_script.specs.declared.reply.LabelLine.{LabelLine}
 use Rattle.wot_script.specs.Spelling.{IsLineFor, most_octets}
 use Rattle.wot_script.specs.Texts.{joined}
 use Rattle.wot_script.specs.declared.command.Command.{Command}
-use Rattle.wot_script.specs.declared.command.Command.TheVariants.{Import, Load, Store, Remove, Good, Bad, Unjudge, Time, Root, Close, Ask, Explain, Pending, Keys, Export, Dump, Absence, Check, CursorOver, CursorNext, CursorClose, WatchOn, WatchOff}
+use Rattle.wot_script.specs.declared.command.Command.TheVariants.{Import, Load, Store, Remove, Good, Bad, Unjudge, Time}
+use Rattle.wot_script.specs.declared.command.Command.TheVariants.{Root, Close, Ask, Explain, Pending, Keys, Export}
+use Rattle.wot_script.specs.declared.command.Command.TheVariants.{Dump, Absence, Check, CursorOver, CursorNext}
+use Rattle.wot_script.specs.declared.command.Command.TheVariants.{CursorClose, WatchOn, WatchOff}
 use Rattle.wot_script.specs.Uid.{escape, escaped}
-use Rattle.wot_script.proofs.Spaceless.{Lacks, feedless_digits, lacks_from_test, lacks_decimal, lacks_test, lacks_view_name}
+use Rattle.wot_script.proofs.Spaceless.{Lacks, feedless_digits, lacks_from_test, lacks_decimal, lacks_test}
+use Rattle.wot_script.proofs.Spaceless.{lacks_view_name}
 
 -- ---- no line feed
 
@@ -49,14 +54,18 @@ plain_feedless octet false h = ((λ e. omega arith), ((λ e. omega arith), feedl
 
 escape_feedless : (octet : ℕ) → Lacks 10 (escape octet)
 escape_feedless octet =
-    elim (octet == 92) as (λ b. Lacks 10 (cond b (92 ∷ 92 ∷ []) (cond (nat_le 32 octet && nat_le octet 126) (octet ∷ []) (92 ∷ 120 ∷ encode_lower (octet ∷ []))))) [
+    elim (octet == 92) as
+    (λ b. Lacks 10
+    (cond b (92 ∷ 92 ∷ [])
+    (cond (nat_le 32 octet && nat_le octet 126) (octet ∷ []) (92 ∷ 120 ∷ encode_lower (octet ∷ []))))) [
       | true ↦ ((λ e. omega arith), ((λ e. omega arith), tt))
       | false ↦ plain_feedless octet (nat_le 32 octet && nat_le octet 126) refl
     ]
 
 escapes_feedless : (octets : List ℕ) → Lacks 10 (flat_map escape octets)
 escapes_feedless [] = tt
-escapes_feedless (octet ∷ octets) = lacks-append 10 (escape octet) (flat_map escape octets) (escape_feedless octet) (escapes_feedless octets)
+escapes_feedless (octet ∷ octets) =
+    lacks-append 10 (escape octet) (flat_map escape octets) (escape_feedless octet) (escapes_feedless octets)
 
 pub feedless_escaped : (octets : List ℕ) → Lacks 10 (escaped octets)
 unfolding escaped
@@ -66,7 +75,8 @@ feedless_escaped octets = escapes_feedless octets
 
 -- digits that are read as so many octets are twice as many
 read_sized : (odd right : Bool) (r : Result (List ℕ) FromHexError) (octets : List ℕ)
-    → result_ok (cond odd (Err OddLength) (cond right r (Err InvalidStringLength))) ≡ Some octets → (odd ≡ false) × (right ≡ true)
+    → result_ok (cond odd (Err OddLength) (cond right r (Err InvalidStringLength))) ≡ Some octets
+    → (odd ≡ false) × (right ≡ true)
 read_sized true right r octets e = cc e
 read_sized false false r octets e = cc e
 read_sized false true r octets e = (refl, refl)
@@ -78,31 +88,41 @@ sized n digits octets e =
     let half = eqb-true (length digits / 2) n read.1 in
     omega (arith, half, even)
 
-mapped_from : {A B : Type 0} (f : A → B) (o : Option A) (b : B) (P : Type 0) → option_map f o ≡ Some b → ((a : A) → o ≡ Some a → P) → P
+mapped_from : {A B : Type 0} (f : A → B) (o : Option A) (b : B) (P : Type 0) → option_map f o ≡ Some b
+    → ((a : A) → o ≡ Some a → P) → P
 mapped_from f None b P e h = cc e
 mapped_from f (Some a) b P e h = h a refl
 
 pub length-fpr_digits : (digits : List ℕ) (fpr : Fpr) → fpr_of_digits digits ≡ Some fpr → length digits ≤ 64
 length-fpr_digits digits fpr e = by (array_of_digits 20 digits) refl e
   where
-    by : (o : Option (List ℕ)) → array_of_digits 20 digits ≡ o → option_or (option_map V4 o) (option_map V6 (array_of_digits 32 digits)) ≡ Some fpr → length digits ≤ 64
+    by : (o : Option (List ℕ)) → array_of_digits 20 digits ≡ o
+        → option_or (option_map V4 o) (option_map V6 (array_of_digits 32 digits)) ≡ Some fpr → length digits ≤ 64
     by (Some octets) f g = let size = sized 20 digits octets f in omega (arith, size)
-    by None f g = mapped_from V6 (array_of_digits 32 digits) fpr (length digits ≤ 64) g (λ octets h. let size = sized 32 digits octets h in omega (arith, size))
+    by None f g =
+        mapped_from V6 (array_of_digits 32 digits) fpr (length digits ≤ 64) g
+        (λ octets h. let size = sized 32 digits octets h in omega (arith, size))
 
-pub length-number_digits : (digits : List ℕ) (number : SigNumber) → number_of_digits digits ≡ Some number → length digits ≡ 64
-length-number_digits digits number e = mapped_from (λ octets. record { 0 = octets }) (array_of_digits 32 digits) number (length digits ≡ 64) e (sized 32 digits)
+pub length-number_digits : (digits : List ℕ) (number : SigNumber) → number_of_digits digits ≡ Some number
+    → length digits ≡ 64
+length-number_digits digits number e =
+    mapped_from (λ octets. record { 0 = octets }) (array_of_digits 32 digits) number (length digits ≡ 64) e
+    (sized 32 digits)
 
 pub length-digits : (octets : List ℕ) → length (encode_lower octets) ≡ 2 * length octets
 length-digits octets = length-encode_with lower_digits octets
 
 length-escape : (octet : ℕ) → length (escape octet) ≤ 4
 length-escape octet =
-    elim (octet == 92) as (λ b. length (cond b (92 ∷ 92 ∷ []) (cond (nat_le 32 octet && nat_le octet 126) (octet ∷ []) (92 ∷ 120 ∷ encode_lower (octet ∷ [])))) ≤ 4) [
+    elim (octet == 92) as
+    (λ b. length (cond b (92 ∷ 92 ∷ [])
+    (cond (nat_le 32 octet && nat_le octet 126) (octet ∷ []) (92 ∷ 120 ∷ encode_lower (octet ∷ [])))) ≤ 4) [
       | true ↦ omega arith
-      | false ↦ elim (nat_le 32 octet && nat_le octet 126) as (λ b. length (cond b (octet ∷ []) (92 ∷ 120 ∷ encode_lower (octet ∷ []))) ≤ 4) [
-        | true ↦ omega arith
-        | false ↦ omega (arith, length-digits (octet ∷ []))
-      ]
+      | false ↦ elim (nat_le 32 octet && nat_le octet 126) as
+          (λ b. length (cond b (octet ∷ []) (92 ∷ 120 ∷ encode_lower (octet ∷ []))) ≤ 4) [
+            | true ↦ omega arith
+            | false ↦ omega (arith, length-digits (octet ∷ []))
+          ]
     ]
 
 length-escapes : (octets : List ℕ) → length (flat_map escape octets) ≤ 4 * length octets
@@ -134,7 +154,8 @@ length-joined : (texts : List (List ℕ)) → length (joined texts) ≡ sizes te
 length-joined [] = refl
 length-joined (text ∷ texts) = omega (arith, length-append text (joined texts), length-joined texts)
 
-one_line : (command : Command) (first : ℕ) (prefix : List ℕ) (texts : List (List ℕ)) → lacks_test 10 (first ∷ prefix) ≡ true
+one_line : (command : Command) (first : ℕ) (prefix : List ℕ) (texts : List (List ℕ))
+    → lacks_test 10 (first ∷ prefix) ≡ true
     → (first ≡ 35 → ⊥) → AllByRecursion (Lacks 10) texts → sizes ((first ∷ prefix) ∷ texts) ≤ most_octets command
     → IsLineFor command (joined ((first ∷ prefix) ∷ texts))
 one_line command first prefix texts fine apart free short = record {
@@ -169,8 +190,13 @@ pub record AreDigits (digits : List ℕ) : Type 0 where
 pub fpr_digits : (fpr : Fpr) → fpr_of_digits (digits_of fpr) ≡ Some fpr → AreDigits (digits_of fpr)
 fpr_digits fpr e = record { free = feedless_digits (octets_of fpr); size = length-fpr_digits (digits_of fpr) fpr e }
 
-pub number_digits_are : (number : SigNumber) → number_of_digits (number_digits number) ≡ Some number → AreDigits (number_digits number)
-number_digits_are number e = record { free = feedless_digits number.0; size = omega (arith, length-number_digits (number_digits number) number e) }
+pub number_digits_are : (number : SigNumber) → number_of_digits (number_digits number) ≡ Some number
+    → AreDigits (number_digits number)
+number_digits_are number e =
+    record {
+      free = feedless_digits number.0;
+      size = omega (arith, length-number_digits (number_digits number) number e);
+    }
 
 pub load_line : (name : Name) (text : List ℕ) → Lacks 10 text → length text ≤ 64
     → IsLineFor (Load name) (joined (codes "load " ∷ text ∷ []))
@@ -181,17 +207,20 @@ load_line name text free size =
 pub store_line : (fpr : Fpr) (ds : List ℕ) → AreDigits ds → IsLineFor (Store fpr) (joined (codes "store " ∷ ds ∷ []))
 unfolding lacks_test
 store_line fpr ds digits =
-    one_line (Store fpr) 115 (codes "tore ") (ds ∷ []) refl (λ e. omega arith) (digits.free, tt) (omega (arith, digits.size))
+    one_line (Store fpr) 115 (codes "tore ") (ds ∷ []) refl (λ e. omega arith) (digits.free, tt)
+    (omega (arith, digits.size))
 
 pub remove_line : (fpr : Fpr) (ds : List ℕ) → AreDigits ds → IsLineFor (Remove fpr) (joined (codes "drop " ∷ ds ∷ []))
 unfolding lacks_test
 remove_line fpr ds digits =
-    one_line (Remove fpr) 100 (codes "rop ") (ds ∷ []) refl (λ e. omega arith) (digits.free, tt) (omega (arith, digits.size))
+    one_line (Remove fpr) 100 (codes "rop ") (ds ∷ []) refl (λ e. omega arith) (digits.free, tt)
+    (omega (arith, digits.size))
 
 pub export_line : (fpr : Fpr) (ds : List ℕ) → AreDigits ds → IsLineFor (Export fpr) (joined (codes "export " ∷ ds ∷ []))
 unfolding lacks_test
 export_line fpr ds digits =
-    one_line (Export fpr) 101 (codes "xport ") (ds ∷ []) refl (λ e. omega arith) (digits.free, tt) (omega (arith, digits.size))
+    one_line (Export fpr) 101 (codes "xport ") (ds ∷ []) refl (λ e. omega arith) (digits.free, tt)
+    (omega (arith, digits.size))
 
 pub good_line : (number : SigNumber) (fpr : Fpr) (ns ds : List ℕ) → AreDigits ns → AreDigits ds
     → IsLineFor (Good number fpr) (joined (codes "verdict " ∷ ns ∷ codes " good " ∷ ds ∷ []))
@@ -200,13 +229,15 @@ good_line number fpr ns ds numbers digits =
     one_line (Good number fpr) 118 (codes "erdict ") (ns ∷ codes " good " ∷ ds ∷ []) refl (λ e. omega arith)
     (numbers.free, (word (codes " good ") refl, (digits.free, tt))) (omega (arith, numbers.size, digits.size))
 
-pub bad_line : (number : SigNumber) (ns : List ℕ) → AreDigits ns → IsLineFor (Bad number) (joined (codes "verdict " ∷ ns ∷ codes " bad" ∷ []))
+pub bad_line : (number : SigNumber) (ns : List ℕ) → AreDigits ns
+    → IsLineFor (Bad number) (joined (codes "verdict " ∷ ns ∷ codes " bad" ∷ []))
 unfolding lacks_test
 bad_line number ns numbers =
     one_line (Bad number) 118 (codes "erdict ") (ns ∷ codes " bad" ∷ []) refl (λ e. omega arith)
     (numbers.free, (word (codes " bad") refl, tt)) (omega (arith, numbers.size))
 
-pub unjudge_line : (number : SigNumber) (ns : List ℕ) → AreDigits ns → IsLineFor (Unjudge number) (joined (codes "verdict " ∷ ns ∷ codes " none" ∷ []))
+pub unjudge_line : (number : SigNumber) (ns : List ℕ) → AreDigits ns
+    → IsLineFor (Unjudge number) (joined (codes "verdict " ∷ ns ∷ codes " none" ∷ []))
 unfolding lacks_test
 unjudge_line number ns numbers =
     one_line (Unjudge number) 118 (codes "erdict ") (ns ∷ codes " none" ∷ []) refl (λ e. omega arith)
@@ -226,7 +257,8 @@ pub record IsNumeral (digits : List ℕ) : Type 0 where
   pub size : length digits ≤ 20
 
 pub numeral : (n : ℕ) → n < 2 ^ 64 → IsNumeral (decimal n)
-numeral n small = record { free = lacks_decimal 10 n refl small; size = length-decimal-le 20 n (omega arith) (omega arith) small }
+numeral n small =
+    record { free = lacks_decimal 10 n refl small; size = length-decimal-le 20 n (omega arith) (omega arith) small }
 
 pub time_line : (view : List ℕ) (t : ℕ) (ts : List ℕ) → IsName view → IsNumeral ts
     → IsLineFor (Time view t) (joined (codes "view " ∷ view ∷ codes " time " ∷ ts ∷ []))
@@ -239,11 +271,13 @@ pub root_line : (view : List ℕ) (fpr : Fpr) (amount : ℕ) (ds ns : List ℕ) 
     → IsLineFor (Root view fpr amount) (joined (codes "view " ∷ view ∷ codes " root " ∷ ds ∷ codes " " ∷ ns ∷ []))
 unfolding lacks_test
 root_line view fpr amount ds ns name digits number =
-    one_line (Root view fpr amount) 118 (codes "iew ") (view ∷ codes " root " ∷ ds ∷ codes " " ∷ ns ∷ []) refl (λ e. omega arith)
+    one_line (Root view fpr amount) 118 (codes "iew ") (view ∷ codes " root " ∷ ds ∷ codes " " ∷ ns ∷ []) refl
+    (λ e. omega arith)
     (name.free, (word (codes " root ") refl, (digits.free, (word (codes " ") refl, (number.free, tt)))))
     (omega (arith, name.size, digits.size, number.size))
 
-pub close_line : (view : List ℕ) → IsName view → IsLineFor (Close view) (joined (codes "view " ∷ view ∷ codes " close" ∷ []))
+pub close_line : (view : List ℕ) → IsName view
+    → IsLineFor (Close view) (joined (codes "view " ∷ view ∷ codes " close" ∷ []))
 unfolding lacks_test
 close_line view name =
     one_line (Close view) 118 (codes "iew ") (view ∷ codes " close" ∷ []) refl (λ e. omega arith)
@@ -253,25 +287,35 @@ close_line view name =
 asking_line : (command : Command) (first : ℕ) (prefix view uid ds ws : List ℕ) → lacks_test 10 (first ∷ prefix) ≡ true
     → (first ≡ 35 → ⊥) → length prefix ≤ 7 → 128 + 4 * length uid ≤ most_octets command
     → IsName view → AreDigits ds → IsNumeral ws
-    → IsLineFor command (joined ((first ∷ prefix) ∷ view ∷ codes " " ∷ ds ∷ codes " " ∷ ws ∷ codes " " ∷ escaped uid ∷ []))
+    → IsLineFor command
+    (joined ((first ∷ prefix) ∷ view ∷ codes " " ∷ ds ∷ codes " " ∷ ws ∷ codes " " ∷ escaped uid ∷ []))
 unfolding lacks_test
 asking_line command first prefix view uid ds ws fine apart short most name digits number =
-    one_line command first prefix (view ∷ codes " " ∷ ds ∷ codes " " ∷ ws ∷ codes " " ∷ escaped uid ∷ []) fine apart
-    (name.free, (word (codes " ") refl, (digits.free, (word (codes " ") refl, (number.free, (word (codes " ") refl, (feedless_escaped uid, tt)))))))
+    one_line command first prefix (view ∷ codes " " ∷ ds ∷ codes " " ∷ ws ∷ codes " " ∷ escaped uid ∷ []) fine apart (
+      name.free,
+      (
+        word (codes " ") refl,
+        (digits.free, (word (codes " ") refl, (number.free, (word (codes " ") refl, (feedless_escaped uid, tt))))),
+      ),
+    )
     (omega (arith, short, most, name.size, digits.size, number.size, length-escaped uid))
 
 pub ask_line : (view : List ℕ) (fpr : Fpr) (wanted : ℕ) (uid ds ws : List ℕ) → IsName view → AreDigits ds → IsNumeral ws
-    → IsLineFor (Ask view fpr wanted uid) (joined (codes "ask " ∷ view ∷ codes " " ∷ ds ∷ codes " " ∷ ws ∷ codes " " ∷ escaped uid ∷ []))
+    → IsLineFor (Ask view fpr wanted uid)
+    (joined (codes "ask " ∷ view ∷ codes " " ∷ ds ∷ codes " " ∷ ws ∷ codes " " ∷ escaped uid ∷ []))
 unfolding lacks_test
 ask_line view fpr wanted uid ds ws name digits number =
-    asking_line (Ask view fpr wanted uid) 97 (codes "sk ") view uid ds ws refl (λ e. omega arith) (omega arith) (omega arith) name digits number
+    asking_line (Ask view fpr wanted uid) 97 (codes "sk ") view uid ds ws refl (λ e. omega arith) (omega arith)
+    (omega arith) name digits number
 
-pub absence_line : (view : List ℕ) (fpr : Fpr) (wanted : ℕ) (uid ds ws : List ℕ) → IsName view → AreDigits ds → IsNumeral ws
+pub absence_line : (view : List ℕ) (fpr : Fpr) (wanted : ℕ) (uid ds ws : List ℕ) → IsName view → AreDigits ds
+    → IsNumeral ws
     → IsLineFor (Absence view fpr wanted uid)
     (joined (codes "absence " ∷ view ∷ codes " " ∷ ds ∷ codes " " ∷ ws ∷ codes " " ∷ escaped uid ∷ []))
 unfolding lacks_test
 absence_line view fpr wanted uid ds ws name digits number =
-    asking_line (Absence view fpr wanted uid) 97 (codes "bsence ") view uid ds ws refl (λ e. omega arith) (omega arith) (omega arith)
+    asking_line (Absence view fpr wanted uid) 97 (codes "bsence ") view uid ds ws refl (λ e. omega arith) (omega arith)
+    (omega arith)
     name digits number
 
 pub list_line : (view : List ℕ) (wanted : ℕ) (ws : List ℕ) → IsName view → IsNumeral ws
@@ -282,14 +326,17 @@ list_line view wanted ws name number =
     (name.free, (word (codes " ") refl, (number.free, tt))) (omega (arith, name.size, number.size))
 
 pub explain_line : (view : List ℕ) (fpr : Fpr) (uid ds : List ℕ) → IsName view → AreDigits ds
-    → IsLineFor (Explain view fpr uid) (joined (codes "explain " ∷ view ∷ codes " " ∷ ds ∷ codes " " ∷ escaped uid ∷ []))
+    → IsLineFor (Explain view fpr uid)
+    (joined (codes "explain " ∷ view ∷ codes " " ∷ ds ∷ codes " " ∷ escaped uid ∷ []))
 unfolding lacks_test
 explain_line view fpr uid ds name digits =
-    one_line (Explain view fpr uid) 101 (codes "xplain ") (view ∷ codes " " ∷ ds ∷ codes " " ∷ escaped uid ∷ []) refl (λ e. omega arith)
+    one_line (Explain view fpr uid) 101 (codes "xplain ") (view ∷ codes " " ∷ ds ∷ codes " " ∷ escaped uid ∷ []) refl
+    (λ e. omega arith)
     (name.free, (word (codes " ") refl, (digits.free, (word (codes " ") refl, (feedless_escaped uid, tt)))))
     (omega (arith, name.size, digits.size, length-escaped uid))
 
-pub check_line : (view : List ℕ) (fpr : Fpr) (claims : List ClaimLine) (labels : List LabelLine) (uid ds cs ls : List ℕ) → IsName view
+pub check_line : (view : List ℕ) (fpr : Fpr) (claims : List ClaimLine) (labels : List LabelLine) (uid ds cs ls : List ℕ)
+    → IsName view
     → AreDigits ds → Lacks 10 cs → length cs ≤ 1 + most_paths claims → Lacks 10 ls → length ls ≤ 1 + 128 * length labels
     → IsLineFor (Check view fpr claims labels uid)
     (joined (codes "check " ∷ view ∷ codes " " ∷ ds ∷ codes " " ∷ cs ∷ codes " " ∷ ls ∷ codes " " ∷ escaped uid ∷ []))
@@ -321,10 +368,12 @@ check_line view fpr claims labels uid ds cs ls name digits cf c lf l =
     (omega (arith, name.size, digits.size, c, l, length-escaped uid))
 
 pub over_line : (name view : List ℕ) (wanted : ℕ) (ws : List ℕ) → IsName name → IsName view → IsNumeral ws
-    → IsLineFor (CursorOver name view wanted) (joined (codes "cursor " ∷ name ∷ codes " over " ∷ view ∷ codes " " ∷ ws ∷ []))
+    → IsLineFor (CursorOver name view wanted)
+    (joined (codes "cursor " ∷ name ∷ codes " over " ∷ view ∷ codes " " ∷ ws ∷ []))
 unfolding lacks_test
 over_line name view wanted ws first second number =
-    one_line (CursorOver name view wanted) 99 (codes "ursor ") (name ∷ codes " over " ∷ view ∷ codes " " ∷ ws ∷ []) refl (λ e. omega arith)
+    one_line (CursorOver name view wanted) 99 (codes "ursor ") (name ∷ codes " over " ∷ view ∷ codes " " ∷ ws ∷ []) refl
+    (λ e. omega arith)
     (first.free, (word (codes " over ") refl, (second.free, (word (codes " ") refl, (number.free, tt)))))
     (omega (arith, first.size, second.size, number.size))
 
@@ -335,19 +384,23 @@ next_line name count ns first number =
     one_line (CursorNext name count) 99 (codes "ursor ") (name ∷ codes " next " ∷ ns ∷ []) refl (λ e. omega arith)
     (first.free, (word (codes " next ") refl, (number.free, tt))) (omega (arith, first.size, number.size))
 
-pub end_line : (name : List ℕ) → IsName name → IsLineFor (CursorClose name) (joined (codes "cursor " ∷ name ∷ codes " close" ∷ []))
+pub end_line : (name : List ℕ) → IsName name
+    → IsLineFor (CursorClose name) (joined (codes "cursor " ∷ name ∷ codes " close" ∷ []))
 unfolding lacks_test
 end_line name first =
     one_line (CursorClose name) 99 (codes "ursor ") (name ∷ codes " close" ∷ []) refl (λ e. omega arith)
     (first.free, (word (codes " close") refl, tt)) (omega (arith, first.size))
 
-pub on_line : (name view : List ℕ) (fpr : Fpr) (wanted : ℕ) (uid ds ws : List ℕ) → IsName name → IsName view → AreDigits ds → IsNumeral ws
+pub on_line : (name view : List ℕ) (fpr : Fpr) (wanted : ℕ) (uid ds ws : List ℕ) → IsName name → IsName view
+    → AreDigits ds → IsNumeral ws
     → IsLineFor (WatchOn name view fpr wanted uid)
-    (joined (codes "watch " ∷ name ∷ codes " on " ∷ view ∷ codes " " ∷ ds ∷ codes " " ∷ ws ∷ codes " " ∷ escaped uid ∷ []))
+    (joined (codes "watch " ∷ name ∷ codes " on " ∷ view ∷ codes " " ∷ ds ∷ codes " " ∷ ws ∷ codes " " ∷ escaped
+    uid ∷ []))
 unfolding lacks_test
 on_line name view fpr wanted uid ds ws first second digits number =
     one_line (WatchOn name view fpr wanted uid) 119 (codes "atch ")
-    (name ∷ codes " on " ∷ view ∷ codes " " ∷ ds ∷ codes " " ∷ ws ∷ codes " " ∷ escaped uid ∷ []) refl (λ e. omega arith) (
+    (name ∷ codes " on " ∷ view ∷ codes " " ∷ ds ∷ codes " " ∷ ws ∷ codes " " ∷ escaped uid ∷ []) refl
+    (λ e. omega arith) (
       first.free,
       (
         word (codes " on ") refl,
@@ -368,7 +421,8 @@ on_line name view fpr wanted uid ds ws first second digits number =
     )
     (omega (arith, first.size, second.size, digits.size, number.size, length-escaped uid))
 
-pub off_line : (name : List ℕ) → IsName name → IsLineFor (WatchOff name) (joined (codes "watch " ∷ name ∷ codes " off" ∷ []))
+pub off_line : (name : List ℕ) → IsName name
+    → IsLineFor (WatchOff name) (joined (codes "watch " ∷ name ∷ codes " off" ∷ []))
 unfolding lacks_test
 off_line name first =
     one_line (WatchOff name) 119 (codes "atch ") (name ∷ codes " off" ∷ []) refl (λ e. omega arith)

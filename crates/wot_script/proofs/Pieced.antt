@@ -1,5 +1,6 @@
 -- Texts that are put piece by piece.
-use Rattle.std.proofs.Common.{◌≡◌, ℕ, zero, suc, ◌+◌, ◌<◌, ◌≤◌, List, [], ◌∷◌, ◌++◌, length, take, refl, ap, ◌∙◌, arith, length-append, get_or, Err}
+use Rattle.std.proofs.Common.{◌≡◌, ℕ, zero, suc, ◌+◌, ◌<◌, ◌≤◌, List, [], ◌∷◌, ◌++◌, length, take, refl, ap, ◌∙◌, arith}
+use Rattle.std.proofs.Common.{length-append, get_or, Err}
 use Rattle.std.specs.Prelude.{Vec, vec_len, vec_capacity}
 use Rattle.std.specs.declared.alloc.Global.{Global}
 use Rattle.std.proofs.lemmas.List.{take_all, take-append-le}
@@ -19,16 +20,23 @@ pub length-put_so_far : {X : Type 0} (f : X → List ℕ) (xs : List X) (i : ℕ
 length-put_so_far f [] i d lt = absurd (omega arith)
 length-put_so_far f (x ∷ xs) zero d lt = omega (arith, length-append (f x) (flat_map f xs))
 length-put_so_far f (x ∷ xs) (suc i) d lt =
-    omega (arith, length-put_so_far f xs i d (omega arith), length-append (f x) (flat_map f (take i xs)), length-append (f x) (flat_map f xs))
+    omega (
+      arith,
+      length-put_so_far f xs i d (omega arith),
+      length-append (f x) (flat_map f (take i xs)),
+      length-append (f x) (flat_map f xs),
+    )
 
 -- the digits of octets are the digits of each, one after another
-pub encode_lower_by_octets : (octets : List ℕ) → encode_lower octets ≡ flat_map (λ octet. encode_lower (octet ∷ [])) octets
+pub encode_lower_by_octets : (octets : List ℕ)
+    → encode_lower octets ≡ flat_map (λ octet. encode_lower (octet ∷ [])) octets
 unfolding encode_with
 encode_lower_by_octets [] = refl
 encode_lower_by_octets (octet ∷ octets) = ap (λ text. encode_lower (octet ∷ []) ++ text) (encode_lower_by_octets octets)
 
 -- where there was no room for a piece, there was none for all of them
-full_so_far : {X : Type 0} (f : X → List ℕ) (xs : List X) (i : ℕ) (d : X) (before now : List ℕ) (cap_before cap len_before len : ℕ)
+full_so_far : {X : Type 0} (f : X → List ℕ) (xs : List X) (i : ℕ) (d : X) (before now : List ℕ)
+    (cap_before cap len_before len : ℕ)
     → i < length xs → PutSoFar before now (flat_map f (take i xs)) cap_before cap
     → len_before ≡ length before → len ≡ length now → cap < len + length (f (get_or xs i d))
     → cap_before < len_before + length (flat_map f xs)
@@ -39,7 +47,8 @@ full_so_far f xs i d before now cap_before cap len_before len h so_far is_before
     omega (arith, so_far.grows, fits, size, parts)
 
 -- what was put so far is cut off again
-cut_off : (before now again made after : List ℕ) (start : ℕ) → now ≡ before ++ made → again ≡ now → start ≡ length before → after ≡ take start again → after ≡ before
+cut_off : (before now again made after : List ℕ) (start : ℕ) → now ≡ before ++ made → again ≡ now
+    → start ≡ length before → after ≡ take start again → after ≡ before
 cut_off before now again made after start text same is cut =
     cut
     ∙ ap (take start) (same ∙ text)
@@ -48,19 +57,25 @@ cut_off before now again made after start text same is cut =
     ∙ take_all (length before) before (omega arith)
 
 -- Where a piece couldn't be put, and what was put before it is cut off again, no piece was put.
-pub none_put : {X : Type 0} (f : X → List ℕ) (xs : List X) (i : ℕ) (d : X) (old now again after : Vec ℕ Global) (start : ℕ) (fault other : Memory)
+pub none_put : {X : Type 0} (f : X → List ℕ) (xs : List X) (i : ℕ) (d : X) (old now again after : Vec ℕ Global)
+    (start : ℕ) (fault other : Memory)
     → i < length xs → PutSoFar old.items now.items (flat_map f (take i xs)) (vec_capacity old) (vec_capacity now)
-    → vec_len old ≡ length old.items → vec_len now ≡ length now.items → Appends (f (get_or xs i d)) now again (Err other)
-    → start ≡ vec_len old → after.items ≡ take start again.items → vec_capacity after ≡ vec_capacity again → Appends (flat_map f xs) old after (Err fault)
+    → vec_len old ≡ length old.items → vec_len now ≡ length now.items
+    → Appends (f (get_or xs i d)) now again (Err other)
+    → start ≡ vec_len old → after.items ≡ take start again.items → vec_capacity after ≡ vec_capacity again
+    → Appends (flat_map f xs) old after (Err fault)
 none_put f xs i d old now again after start fault other lt so_far is_old is_now failed is cut same = record {
   appended = tt;
-  kept = cut_off old.items now.items again.items (flat_map f (take i xs)) after.items start so_far.text failed.kept (is ∙ is_old) cut;
-  full = full_so_far f xs i d old.items now.items (vec_capacity old) (vec_capacity now) (vec_len old) (vec_len now) lt so_far is_old is_now failed.full;
+  kept = cut_off old.items now.items again.items (flat_map f (take i xs)) after.items start so_far.text failed.kept
+      (is ∙ is_old) cut;
+  full = full_so_far f xs i d old.items now.items (vec_capacity old) (vec_capacity now) (vec_len old) (vec_len now) lt
+      so_far is_old is_now failed.full;
   grows = omega (arith, so_far.grows, failed.grows, same);
 }
 
 -- at the end all pieces were put
-pub all_put : {X : Type 0} (f : X → List ℕ) (xs : List X) (i : ℕ) (before now : List ℕ) (cap_before cap : ℕ) → length xs ≤ i
+pub all_put : {X : Type 0} (f : X → List ℕ) (xs : List X) (i : ℕ) (before now : List ℕ) (cap_before cap : ℕ)
+    → length xs ≤ i
     → PutSoFar before now (flat_map f (take i xs)) cap_before cap → now ≡ before ++ flat_map f xs
 all_put f xs i before now cap_before cap h so_far =
     so_far.text ∙ ap (λ put. before ++ flat_map f put) (take_all i xs h)

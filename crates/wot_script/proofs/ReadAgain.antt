@@ -26,13 +26,17 @@ prints_claim (Check view fpr claims labels uid) e =
     let paths = field_text claim_text claims in
     let table = field_text label_text labels in
     record {
-      printed = λ sum. ap (λ (text : List ℕ). joined_line (codes "absence missed " ∷ decimal sum ∷ []) ++ (codes "claim " ++ text)) (claim_in paths table (10 ∷ []));
-      read = ap (λ (text : List ℕ). command_of (codes "check " ++ (view ++ 32 ∷ (digits_of fpr ++ 32 ∷ text)))) (sym (claim_in paths table (32 ∷ (escaped uid ++ []))))
+      printed = λ sum. ap
+          (λ (text : List ℕ). joined_line (codes "absence missed " ∷ decimal sum ∷ []) ++ (codes "claim " ++ text))
+          (claim_in paths table (10 ∷ []));
+      read = ap (λ (text : List ℕ). command_of (codes "check " ++ (view ++ 32 ∷ (digits_of fpr ++ 32 ∷ text))))
+          (sym (claim_in paths table (32 ∷ (escaped uid ++ []))))
           ∙ e;
     }
 prints_claim _ e = tt
 
-pub old_is_read : (command : Command) → command_of (spelling command) ≡ Some command → (text : List ℕ) → IsOldLine command text → command_of text ≡ Some command
+pub old_is_read : (command : Command) → command_of (spelling command) ≡ Some command → (text : List ℕ)
+    → IsOldLine command text → command_of text ≡ Some command
 unfolding spelling
 old_is_read (Import octets) e text h = ap command_of h ∙ e
 old_is_read (Good number (V4 octets)) e text h = ap command_of h ∙ e

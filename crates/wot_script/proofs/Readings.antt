@@ -13,13 +13,19 @@ use Rattle.wot_script.specs.declared.reply.ClaimLine.{ClaimLine}
 use Rattle.wot_script.specs.declared.reply.LabelLine.{LabelLine}
 use Rattle.wot_script.specs.Decimal.{decimal_up_to, positive_up_to}
 use Rattle.wot_script.specs.Fields.{◌>>=◌, cut, octets_of_hex}
-use Rattle.wot_script.specs.Grammar.{about_of, checked_of, command_of, drop_of, entry_of, explained_of, export_of, import_of, judgement_of, listed_of, load_of, question_of, root_of, setting_of, single_of, store_of, verdict_of, view_of, over_of, paced_of, watch_of, watched_of}
+use Rattle.wot_script.specs.Grammar.{about_of, checked_of, command_of, drop_of, entry_of, explained_of, export_of}
+use Rattle.wot_script.specs.Grammar.{import_of, judgement_of, listed_of, load_of, question_of, root_of, setting_of}
+use Rattle.wot_script.specs.Grammar.{single_of, store_of, verdict_of, view_of, over_of, paced_of, watch_of, watched_of}
 use Rattle.wot_script.specs.Texts.{joined}
 use Rattle.wot_script.specs.Uid.{unescaped}
 use Rattle.wot_script.specs.declared.command.Command.{Command}
-use Rattle.wot_script.specs.declared.command.Command.TheVariants.{Import, Load, Store, Remove, Good, Bad, Unjudge, Time, Root, Close, Ask, Explain, Pending, Keys, Export, Dump, Absence, Check, CursorOver, CursorNext, CursorClose, WatchOn, WatchOff}
+use Rattle.wot_script.specs.declared.command.Command.TheVariants.{Import, Load, Store, Remove, Good, Bad, Unjudge, Time}
+use Rattle.wot_script.specs.declared.command.Command.TheVariants.{Root, Close, Ask, Explain, Pending, Keys, Export}
+use Rattle.wot_script.specs.declared.command.Command.TheVariants.{Dump, Absence, Check, CursorOver, CursorNext}
+use Rattle.wot_script.specs.declared.command.Command.TheVariants.{CursorClose, WatchOn, WatchOff}
 use Rattle.wot_script.specs.declared.read.About.{About}
-use Rattle.wot_script.specs.declared.read.About.TheVariants.{Setting, Asked, Listed, Explained, Missed, Checked, Paced, Watched}
+use Rattle.wot_script.specs.declared.read.About.TheVariants.{Setting, Asked, Listed, Explained, Missed, Checked, Paced}
+use Rattle.wot_script.specs.declared.read.About.TheVariants.{Watched}
 use Rattle.wot_script.specs.declared.read.Question.{Question}
 use Rattle.wot_script.proofs.Spaceless.{Spaceless, cut_spaceless, spaceless_view_name}
 
@@ -30,7 +36,8 @@ bound o a f e = rw e refl
 pub import_reads : (digits octets : List ℕ) → octets_of_hex digits ≡ Some octets
     → command_of (joined (codes "import " ∷ digits ∷ [])) ≡ Some (Import octets)
 unfolding command_of import_of
-import_reads digits octets e = ap (λ text. option_map Import (octets_of_hex text)) (append-nil digits) ∙ ap (option_map Import) e
+import_reads digits octets e =
+    ap (λ text. option_map Import (octets_of_hex text)) (append-nil digits) ∙ ap (option_map Import) e
 
 pub load_reads : (text : List ℕ) (name : Name) → entry_of text ≡ Some name
     → command_of (joined (codes "load " ∷ text ∷ [])) ≡ Some (Load name)
@@ -40,17 +47,20 @@ load_reads text name e = ap (λ rest. option_map Load (entry_of rest)) (append-n
 pub store_reads : (digits : List ℕ) (fpr : Fpr) → fpr_of_digits digits ≡ Some fpr
     → command_of (joined (codes "store " ∷ digits ∷ [])) ≡ Some (Store fpr)
 unfolding command_of store_of
-store_reads digits fpr e = ap (λ text. option_map Store (fpr_of_digits text)) (append-nil digits) ∙ ap (option_map Store) e
+store_reads digits fpr e =
+    ap (λ text. option_map Store (fpr_of_digits text)) (append-nil digits) ∙ ap (option_map Store) e
 
 pub drop_reads : (digits : List ℕ) (fpr : Fpr) → fpr_of_digits digits ≡ Some fpr
     → command_of (joined (codes "drop " ∷ digits ∷ [])) ≡ Some (Remove fpr)
 unfolding command_of drop_of
-drop_reads digits fpr e = ap (λ text. option_map Remove (fpr_of_digits text)) (append-nil digits) ∙ ap (option_map Remove) e
+drop_reads digits fpr e =
+    ap (λ text. option_map Remove (fpr_of_digits text)) (append-nil digits) ∙ ap (option_map Remove) e
 
 pub export_reads : (digits : List ℕ) (fpr : Fpr) → fpr_of_digits digits ≡ Some fpr
     → command_of (joined (codes "export " ∷ digits ∷ [])) ≡ Some (Export fpr)
 unfolding command_of export_of
-export_reads digits fpr e = ap (λ text. option_map Export (fpr_of_digits text)) (append-nil digits) ∙ ap (option_map Export) e
+export_reads digits fpr e =
+    ap (λ text. option_map Export (fpr_of_digits text)) (append-nil digits) ∙ ap (option_map Export) e
 
 pub pending_reads : command_of (codes "pending") ≡ Some Pending
 unfolding command_of single_of
@@ -69,7 +79,8 @@ verdict_reads : (digits text : List ℕ) (number : SigNumber) (command : Command
     → command_of (codes "verdict " ++ (digits ++ 32 ∷ text)) ≡ Some command
 unfolding command_of verdict_of
 verdict_reads digits text number command free number_is e =
-    bound (cut (digits ++ 32 ∷ text)) (digits, text) (λ first. number_of_digits first.0 >>= (λ n. judgement_of n first.1))
+    bound (cut (digits ++ 32 ∷ text)) (digits, text)
+    (λ first. number_of_digits first.0 >>= (λ n. judgement_of n first.1))
     (cut_spaceless digits text free)
     ∙ bound (number_of_digits digits) number (λ n. judgement_of n text) number_is
     ∙ e
@@ -84,7 +95,8 @@ pub good_reads : (ns ds : List ℕ) (number : SigNumber) (fpr : Fpr) → Spacele
     → fpr_of_digits ds ≡ Some fpr
     → command_of (joined (codes "verdict " ∷ ns ∷ codes " good " ∷ ds ∷ [])) ≡ Some (Good number fpr)
 good_reads ns ds number fpr free number_is fpr_is =
-    verdict_reads ns (codes "good " ++ (ds ++ [])) number (Good number fpr) free number_is (good_judged number ds fpr fpr_is)
+    verdict_reads ns (codes "good " ++ (ds ++ [])) number (Good number fpr) free number_is
+    (good_judged number ds fpr fpr_is)
 
 bad_judged : (number : SigNumber) → judgement_of number (codes "bad") ≡ Some (Bad number)
 unfolding judgement_of
@@ -92,7 +104,8 @@ bad_judged number = refl
 
 pub bad_reads : (ns : List ℕ) (number : SigNumber) → Spaceless ns → number_of_digits ns ≡ Some number
     → command_of (joined (codes "verdict " ∷ ns ∷ codes " bad" ∷ [])) ≡ Some (Bad number)
-bad_reads ns number free number_is = verdict_reads ns (codes "bad") number (Bad number) free number_is (bad_judged number)
+bad_reads ns number free number_is =
+    verdict_reads ns (codes "bad") number (Bad number) free number_is (bad_judged number)
 
 none_judged : (number : SigNumber) → judgement_of number (codes "none") ≡ Some (Unjudge number)
 unfolding judgement_of
@@ -100,7 +113,8 @@ none_judged number = refl
 
 pub none_reads : (ns : List ℕ) (number : SigNumber) → Spaceless ns → number_of_digits ns ≡ Some number
     → command_of (joined (codes "verdict " ∷ ns ∷ codes " none" ∷ [])) ≡ Some (Unjudge number)
-none_reads ns number free number_is = verdict_reads ns (codes "none") number (Unjudge number) free number_is (none_judged number)
+none_reads ns number free number_is =
+    verdict_reads ns (codes "none") number (Unjudge number) free number_is (none_judged number)
 
 name_is : (name : List ℕ) → is_view_name name ≡ true → view_name_of name ≡ Some name
 name_is name h = rw h refl
@@ -108,12 +122,14 @@ name_is name h = rw h refl
 view_reads : (about : About) (name text : List ℕ) (command : Command) → is_view_name name ≡ true
     → about_of about name text ≡ Some command → view_of about (name ++ 32 ∷ text) ≡ Some command
 view_reads about name text command h e =
-    bound (cut (name ++ 32 ∷ text)) (name, text) (λ first. view_name_of first.0 >>= (λ view. about_of about view first.1))
+    bound (cut (name ++ 32 ∷ text)) (name, text)
+    (λ first. view_name_of first.0 >>= (λ view. about_of about view first.1))
     (cut_spaceless name text (spaceless_view_name name h))
     ∙ bound (view_name_of name) name (λ view. about_of about view text) (name_is name h)
     ∙ e
 
-setting_reads : (name text : List ℕ) (command : Command) → is_view_name name ≡ true → setting_of name text ≡ Some command
+setting_reads : (name text : List ℕ) (command : Command) → is_view_name name ≡ true
+    → setting_of name text ≡ Some command
     → command_of (codes "view " ++ (name ++ 32 ∷ text)) ≡ Some command
 unfolding command_of
 setting_reads name text command h e = view_reads Setting name text command h e
@@ -122,11 +138,13 @@ time_set : (name digits : List ℕ) (t : ℕ) → decimal_up_to 4294967295 digit
     → setting_of name (codes "time " ++ (digits ++ [])) ≡ Some (Time name t)
 unfolding setting_of
 time_set name digits t e =
-    ap (λ text. option_map (Time name) (decimal_up_to 4294967295 text)) (append-nil digits) ∙ ap (option_map (Time name)) e
+    ap (λ text. option_map (Time name) (decimal_up_to 4294967295 text)) (append-nil digits)
+    ∙ ap (option_map (Time name)) e
 
 pub time_reads : (name digits : List ℕ) (t : ℕ) → is_view_name name ≡ true → decimal_up_to 4294967295 digits ≡ Some t
     → command_of (joined (codes "view " ∷ name ∷ codes " time " ∷ digits ∷ [])) ≡ Some (Time name t)
-time_reads name digits t h e = setting_reads name (codes "time " ++ (digits ++ [])) (Time name t) h (time_set name digits t e)
+time_reads name digits t h e =
+    setting_reads name (codes "time " ++ (digits ++ [])) (Time name t) h (time_set name digits t e)
 
 root_of_parts : (name ds text : List ℕ) (fpr : Fpr) (amount : ℕ) → Spaceless ds → fpr_of_digits ds ≡ Some fpr
     → decimal_up_to 255 text ≡ Some amount → root_of name (ds ++ 32 ∷ text) ≡ Some (Root name fpr amount)
@@ -144,7 +162,8 @@ root_set name text = refl
 
 pub root_reads : (name ds an : List ℕ) (fpr : Fpr) (amount : ℕ) → is_view_name name ≡ true → Spaceless ds
     → fpr_of_digits ds ≡ Some fpr → decimal_up_to 255 an ≡ Some amount
-    → command_of (joined (codes "view " ∷ name ∷ codes " root " ∷ ds ∷ codes " " ∷ an ∷ [])) ≡ Some (Root name fpr amount)
+    → command_of (joined (codes "view " ∷ name ∷ codes " root " ∷ ds ∷ codes " " ∷ an ∷ [])) ≡ Some
+    (Root name fpr amount)
 root_reads name ds an fpr amount h free fpr_is amount_is =
     setting_reads name (codes "root " ++ (ds ++ 32 ∷ (an ++ []))) (Root name fpr amount) h
     (root_set name (ds ++ 32 ∷ (an ++ []))
@@ -187,13 +206,15 @@ pub question_reads : (ds ws us uid : List ℕ) (fpr : Fpr) (wanted : ℕ) → Sp
     → Spaceless ws → positive_up_to 4294967295 ws ≡ Some wanted → unescaped us ≡ Some uid
     → question_of (joined (ds ∷ codes " " ∷ ws ∷ codes " " ∷ us ∷ [])) ≡ Some (question fpr wanted uid)
 question_reads ds ws us uid fpr wanted free fpr_is free_too wanted_is uid_is =
-    question_reads_as ds ws (us ++ []) uid fpr wanted free fpr_is free_too wanted_is (ap unescaped (append-nil us) ∙ uid_is)
+    question_reads_as ds ws (us ++ []) uid fpr wanted free fpr_is free_too wanted_is
+    (ap unescaped (append-nil us) ∙ uid_is)
 
 pub ask_reads : (name text : List ℕ) (q : Question) → is_view_name name ≡ true → question_of text ≡ Some q
     → command_of (codes "ask " ++ (name ++ 32 ∷ text)) ≡ Some (Ask name q.fpr q.wanted q.uid)
 unfolding command_of
 ask_reads name text q h e =
-    view_reads Asked name text (Ask name q.fpr q.wanted q.uid) h (ap (option_map (λ (o : Question). Ask name o.fpr o.wanted o.uid)) e)
+    view_reads Asked name text (Ask name q.fpr q.wanted q.uid) h
+    (ap (option_map (λ (o : Question). Ask name o.fpr o.wanted o.uid)) e)
 
 pub absence_reads : (name text : List ℕ) (q : Question) → is_view_name name ≡ true → question_of text ≡ Some q
     → command_of (codes "absence " ++ (name ++ 32 ∷ text)) ≡ Some (Absence name q.fpr q.wanted q.uid)
@@ -210,7 +231,8 @@ list_reads name ws wanted h e =
     (ap (λ text. option_map (Command.List name) (positive_up_to 4294967295 text)) (append-nil ws)
     ∙ ap (option_map (Command.List name)) e)
 
-explained_reads : (name ds us uid : List ℕ) (fpr : Fpr) → Spaceless ds → fpr_of_digits ds ≡ Some fpr → unescaped us ≡ Some uid
+explained_reads : (name ds us uid : List ℕ) (fpr : Fpr) → Spaceless ds → fpr_of_digits ds ≡ Some fpr
+    → unescaped us ≡ Some uid
     → explained_of name (ds ++ 32 ∷ us) ≡ Some (Explain name fpr uid)
 unfolding explained_of
 explained_reads name ds us uid fpr free fpr_is uid_is =
@@ -234,26 +256,37 @@ checked_reads : (name ds cs ls us uid : List ℕ) (fpr : Fpr) (claims : List Cla
     → checked_of name (ds ++ 32 ∷ (cs ++ 32 ∷ (ls ++ 32 ∷ us))) ≡ Some (Check name fpr claims labels uid)
 unfolding checked_of
 checked_reads name ds cs ls us uid fpr claims labels df d cf c lf l u =
-    rw (cut_spaceless ds (cs ++ 32 ∷ (ls ++ 32 ∷ us)) df, d, cut_spaceless cs (ls ++ 32 ∷ us) cf, c, cut_spaceless ls us lf, l, u) refl
+    rw (
+      cut_spaceless ds (cs ++ 32 ∷ (ls ++ 32 ∷ us)) df,
+      d,
+      cut_spaceless cs (ls ++ 32 ∷ us) cf,
+      c,
+      cut_spaceless ls us lf,
+      l,
+      u,
+    ) refl
 
 pub check_reads : (name ds cs ls us uid : List ℕ) (fpr : Fpr) (claims : List ClaimLine) (labels : List LabelLine)
     → is_view_name name ≡ true → Spaceless ds → fpr_of_digits ds ≡ Some fpr → Spaceless cs → claims_of cs ≡ Some claims
     → Spaceless ls → labels_of ls ≡ Some labels → unescaped us ≡ Some uid
-    → command_of (joined (codes "check " ∷ name ∷ codes " " ∷ ds ∷ codes " " ∷ cs ∷ codes " " ∷ ls ∷ codes " " ∷ us ∷ []))
+    → command_of (joined
+    (codes "check " ∷ name ∷ codes " " ∷ ds ∷ codes " " ∷ cs ∷ codes " " ∷ ls ∷ codes " " ∷ us ∷ []))
     ≡ Some (Check name fpr claims labels uid)
 unfolding command_of
 check_reads name ds cs ls us uid fpr claims labels h df d cf c lf l u =
     view_reads Checked name (ds ++ 32 ∷ (cs ++ 32 ∷ (ls ++ 32 ∷ (us ++ [])))) (Check name fpr claims labels uid) h
     (checked_reads name ds cs ls (us ++ []) uid fpr claims labels df d cf c lf l (ap unescaped (append-nil us) ∙ u))
 
-over_reads_of : (name view ws : List ℕ) (wanted : ℕ) → is_view_name view ≡ true → positive_up_to 4294967295 ws ≡ Some wanted
+over_reads_of : (name view ws : List ℕ) (wanted : ℕ) → is_view_name view ≡ true
+    → positive_up_to 4294967295 ws ≡ Some wanted
     → over_of name (view ++ 32 ∷ ws) ≡ Some (CursorOver name view wanted)
 unfolding over_of
 over_reads_of name view ws wanted h e =
     bound (cut (view ++ 32 ∷ ws)) (view, ws)
     (λ first. view_name_of first.0 >>= (λ v. positive_up_to 4294967295 first.1 >>= (λ w. Some (CursorOver name v w))))
     (cut_spaceless view ws (spaceless_view_name view h))
-    ∙ bound (view_name_of view) view (λ v. positive_up_to 4294967295 ws >>= (λ w. Some (CursorOver name v w))) (name_is view h)
+    ∙ bound (view_name_of view) view (λ v. positive_up_to 4294967295 ws >>= (λ w. Some (CursorOver name v w)))
+    (name_is view h)
     ∙ bound (positive_up_to 4294967295 ws) wanted (λ w. Some (CursorOver name view w)) e
 
 paced_reads : (name text : List ℕ) (command : Command) → is_view_name name ≡ true → paced_of name text ≡ Some command
@@ -267,7 +300,8 @@ over_paced name text = refl
 
 pub over_reads : (name view ws : List ℕ) (wanted : ℕ) → is_view_name name ≡ true → is_view_name view ≡ true
     → positive_up_to 4294967295 ws ≡ Some wanted
-    → command_of (joined (codes "cursor " ∷ name ∷ codes " over " ∷ view ∷ codes " " ∷ ws ∷ [])) ≡ Some (CursorOver name view wanted)
+    → command_of (joined (codes "cursor " ∷ name ∷ codes " over " ∷ view ∷ codes " " ∷ ws ∷ [])) ≡ Some
+    (CursorOver name view wanted)
 over_reads name view ws wanted h k e =
     paced_reads name (codes "over " ++ (view ++ 32 ∷ (ws ++ []))) (CursorOver name view wanted) h
     (over_paced name (view ++ 32 ∷ (ws ++ []))
@@ -277,11 +311,14 @@ next_paced : (name digits : List ℕ) (count : ℕ) → positive_up_to 429496729
     → paced_of name (codes "next " ++ (digits ++ [])) ≡ Some (CursorNext name count)
 unfolding paced_of
 next_paced name digits count e =
-    ap (λ text. option_map (CursorNext name) (positive_up_to 4294967295 text)) (append-nil digits) ∙ ap (option_map (CursorNext name)) e
+    ap (λ text. option_map (CursorNext name) (positive_up_to 4294967295 text)) (append-nil digits)
+    ∙ ap (option_map (CursorNext name)) e
 
-pub next_reads : (name digits : List ℕ) (count : ℕ) → is_view_name name ≡ true → positive_up_to 4294967295 digits ≡ Some count
+pub next_reads : (name digits : List ℕ) (count : ℕ) → is_view_name name ≡ true
+    → positive_up_to 4294967295 digits ≡ Some count
     → command_of (joined (codes "cursor " ∷ name ∷ codes " next " ∷ digits ∷ [])) ≡ Some (CursorNext name count)
-next_reads name digits count h e = paced_reads name (codes "next " ++ (digits ++ [])) (CursorNext name count) h (next_paced name digits count e)
+next_reads name digits count h e =
+    paced_reads name (codes "next " ++ (digits ++ [])) (CursorNext name count) h (next_paced name digits count e)
 
 end_paced : (name : List ℕ) → paced_of name (codes "close") ≡ Some (CursorClose name)
 unfolding paced_of
@@ -296,12 +333,15 @@ watch_reads : (name view text : List ℕ) (q : Question) → is_view_name view �
 unfolding watch_of
 watch_reads name view text q h e =
     bound (cut (view ++ 32 ∷ text)) (view, text)
-    (λ first. view_name_of first.0 >>= (λ v. question_of first.1 >>= (λ (o : Question). Some (WatchOn name v o.fpr o.wanted o.uid))))
+    (λ first. view_name_of first.0 >>=
+    (λ v. question_of first.1 >>= (λ (o : Question). Some (WatchOn name v o.fpr o.wanted o.uid))))
     (cut_spaceless view text (spaceless_view_name view h))
-    ∙ bound (view_name_of view) view (λ v. question_of text >>= (λ (o : Question). Some (WatchOn name v o.fpr o.wanted o.uid))) (name_is view h)
+    ∙ bound (view_name_of view) view
+    (λ v. question_of text >>= (λ (o : Question). Some (WatchOn name v o.fpr o.wanted o.uid))) (name_is view h)
     ∙ bound (question_of text) q (λ (o : Question). Some (WatchOn name view o.fpr o.wanted o.uid)) e
 
-watched_reads : (name text : List ℕ) (command : Command) → is_view_name name ≡ true → watched_of name text ≡ Some command
+watched_reads : (name text : List ℕ) (command : Command) → is_view_name name ≡ true
+    → watched_of name text ≡ Some command
     → command_of (codes "watch " ++ (name ++ 32 ∷ text)) ≡ Some command
 unfolding command_of
 watched_reads name text command h e = view_reads Watched name text command h e
@@ -310,8 +350,10 @@ on_watched : (name text : List ℕ) → watched_of name (codes "on " ++ text) �
 unfolding watched_of
 on_watched name text = refl
 
-pub on_reads : (name view text : List ℕ) (q : Question) → is_view_name name ≡ true → is_view_name view ≡ true → question_of text ≡ Some q
-    → command_of (codes "watch " ++ (name ++ 32 ∷ (codes "on " ++ (view ++ 32 ∷ text)))) ≡ Some (WatchOn name view q.fpr q.wanted q.uid)
+pub on_reads : (name view text : List ℕ) (q : Question) → is_view_name name ≡ true → is_view_name view ≡ true
+    → question_of text ≡ Some q
+    → command_of (codes "watch " ++ (name ++ 32 ∷ (codes "on " ++ (view ++ 32 ∷ text)))) ≡ Some
+    (WatchOn name view q.fpr q.wanted q.uid)
 on_reads name view text q h k e =
     watched_reads name (codes "on " ++ (view ++ 32 ∷ text)) (WatchOn name view q.fpr q.wanted q.uid) h
     (on_watched name (view ++ 32 ∷ text) ∙ watch_reads name view text q k e)

@@ -1,5 +1,6 @@
 -- Octets that a text doesn't have. Fields have no space in them, so a line that was joined of them is cut there again.
-use Rattle.std.proofs.Common.{◌≡◌, ℕ, zero, suc, ◌/◌, ◌%◌, ◌<◌, ◌^◌, ◌==◌, Bool, true, false, not, ◌&&◌, List, [], ◌∷◌, ◌++◌, Some, refl, ap, ◌∙◌, arith}
+use Rattle.std.proofs.Common.{◌≡◌, ℕ, zero, suc, ◌/◌, ◌%◌, ◌<◌, ◌^◌, ◌==◌, Bool, true, false, not, ◌&&◌, List, [], ◌∷◌}
+use Rattle.std.proofs.Common.{◌++◌, Some, refl, ap, ◌∙◌, arith}
 use Rattle.std.specs.Prelude.{◌≢◌, slice_index}
 use Rattle.std.specs.Option.{option_map}
 use Rattle.std.specs.List.{AllByRecursion, list_all}
@@ -40,8 +41,10 @@ lacks_place x (octet ∷ octets) (suc k) some none e = lacks_place x octets k so
 lacks_encoded : (x : ℕ) (table octets : List ℕ) → 0 < x → Lacks x table → Lacks x (encode_with table octets)
 unfolding encode_with
 lacks_encoded x table [] some none = tt
-lacks_encoded x table (octet ∷ octets) some none =
-    (lacks_place x table (octet / 16) some none, (lacks_place x table (octet % 16) some none, lacks_encoded x table octets some none))
+lacks_encoded x table (octet ∷ octets) some none = (
+  lacks_place x table (octet / 16) some none,
+  (lacks_place x table (octet % 16) some none, lacks_encoded x table octets some none),
+)
 
 -- a test that computes
 unfoldable pub lacks_test : ℕ → List ℕ → Bool
@@ -70,10 +73,12 @@ pub lacks_digits : (x : ℕ) (octets : List ℕ) → 0 < x → lacks_test x lowe
 lacks_digits x octets some h = lacks_encoded x lower_digits octets some (lacks_from_test x lower_digits h)
 
 pub spaceless_digits : (octets : List ℕ) → Spaceless (encode_lower octets)
-spaceless_digits octets = lacks_encoded 32 lower_digits octets (omega arith) (lacks_from_test 32 lower_digits spaceless_lower)
+spaceless_digits octets =
+    lacks_encoded 32 lower_digits octets (omega arith) (lacks_from_test 32 lower_digits spaceless_lower)
 
 pub feedless_digits : (octets : List ℕ) → Lacks 10 (encode_lower octets)
-feedless_digits octets = lacks_encoded 10 lower_digits octets (omega arith) (lacks_from_test 10 lower_digits feedless_lower)
+feedless_digits octets =
+    lacks_encoded 10 lower_digits octets (omega arith) (lacks_from_test 10 lower_digits feedless_lower)
 
 -- an octet that the test refuses isn't among those that it takes
 refused_apart : (test : ℕ → Bool) (x octet : ℕ) → test x ≡ false → test octet ≡ true → octet ≡ x → ⊥
@@ -81,7 +86,8 @@ refused_apart test x octet out h e =
     let at : test x ≡ true = rw e at h in
     both_ways (test x) out at
 
-lacks_refused : (test : ℕ → Bool) (x : ℕ) (octets : List ℕ) → test x ≡ false → list_all test octets ≡ true → Lacks x octets
+lacks_refused : (test : ℕ → Bool) (x : ℕ) (octets : List ℕ) → test x ≡ false → list_all test octets ≡ true
+    → Lacks x octets
 lacks_refused test x [] out h = tt
 lacks_refused test x (octet ∷ octets) out h =
     let parts = and_parts (test octet) (list_all test octets) h in
@@ -90,7 +96,8 @@ lacks_refused test x (octet ∷ octets) out h =
 pub lacks_view_name : (x : ℕ) (name : List ℕ) → is_name_octet x ≡ false → is_view_name name ≡ true → Lacks x name
 lacks_view_name x name out h = lacks_refused is_name_octet x name out (and_parts _ (list_all is_name_octet name) h).1
 
-lacks_ascii_digits : (x : ℕ) (octets : List ℕ) → is_ascii_digit x ≡ false → all_ascii_digits octets ≡ true → Lacks x octets
+lacks_ascii_digits : (x : ℕ) (octets : List ℕ) → is_ascii_digit x ≡ false → all_ascii_digits octets ≡ true
+    → Lacks x octets
 lacks_ascii_digits x [] out h = tt
 lacks_ascii_digits x (octet ∷ octets) out h =
     let parts = and_parts (is_ascii_digit octet) (all_ascii_digits octets) h in

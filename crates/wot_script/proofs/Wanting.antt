@@ -1,5 +1,6 @@
 -- A question that was read wants at least 1, and an import that was read is short.
-use Rattle.std.proofs.Common.{◌≡◌, ℕ, ◌+◌, ◌≤◌, ◌%◌, ◌==◌, Bool, true, false, ◌&&◌, List, [], ◌∷◌, length, Option, Some, None, Result, Ok, Err, refl, ap, arith}
+use Rattle.std.proofs.Common.{◌≡◌, ℕ, ◌+◌, ◌≤◌, ◌%◌, ◌==◌, Bool, true, false, ◌&&◌, List, [], ◌∷◌, length, Option, Some}
+use Rattle.std.proofs.Common.{None, Result, Ok, Err, refl, ap, arith}
 use Rattle.std.specs.Prelude.{codes, nat_lt, nat_le, IfSome, if◌then◌else◌}
 use Rattle.std.specs.Option.{option_map}
 use Rattle.std.specs.Result.{result_ok}
@@ -16,21 +17,29 @@ use Rattle.wot_types.specs.Fpr.{fpr_of_digits}
 use Rattle.wot_types.specs.SigNumber.{number_of_digits}
 use Rattle.wot_types.specs.ViewName.{view_name_of}
 use Rattle.wot_types.specs.declared.number.SigNumber.{SigNumber}
-use Rattle.wot_script.specs.Claims.{all_of, claim_of, claim_with, claims_of, field_of, IsLabelSpelled, IsPathSpelled, is_rising, items_of, label_of, labels_of, rising, step_of}
+use Rattle.wot_script.specs.Claims.{all_of, claim_of, claim_with, claims_of, field_of, IsLabelSpelled, IsPathSpelled}
+use Rattle.wot_script.specs.Claims.{is_rising, items_of, label_of, labels_of, rising, step_of}
 use Rattle.wot_script.specs.declared.reply.ClaimStepLine.{ClaimStepLine}
 use Rattle.wot_script.specs.declared.reply.LabelLine.{LabelLine}
 use Rattle.wot_script.specs.Decimal.{decimal_up_to, is_decimal, positive_up_to}
 use Rattle.wot_script.specs.Fields.{◌>>=◌, behind, cut, cut_at}
 use Rattle.wot_script.proofs.Cutting.{cut_short}
 use Rattle.wot_script.proofs.Items.{parts_of}
-use Rattle.wot_script.specs.Grammar.{about_of, asked_of, checked_of, command_of, drop_of, entry_of, explained_of, export_of, import_of, judgement_of, listed_of, load_of, missed_of, question_of, read_behind, root_of, setting_of, single_of, store_of, verdict_of, view_of, over_of, paced_of, watch_of, watched_of}
+use Rattle.wot_script.specs.Grammar.{about_of, asked_of, checked_of, command_of, drop_of, entry_of, explained_of}
+use Rattle.wot_script.specs.Grammar.{export_of, import_of, judgement_of, listed_of, load_of, missed_of, question_of}
+use Rattle.wot_script.specs.Grammar.{read_behind, root_of, setting_of, single_of, store_of, verdict_of, view_of}
+use Rattle.wot_script.specs.Grammar.{over_of, paced_of, watch_of, watched_of}
 use Rattle.wot_script.specs.Spelling.{HasSpelling, IsWithin}
 use Rattle.wot_script.specs.Uid.{unescaped}
 use Rattle.wot_script.specs.declared.command.Command.{Command}
 use Rattle.wot_script.specs.declared.read.About.{About}
-use Rattle.wot_script.specs.declared.read.About.TheVariants.{Setting, Asked, Listed, Explained, Missed, Checked, Paced, Watched}
+use Rattle.wot_script.specs.declared.read.About.TheVariants.{Setting, Asked, Listed, Explained, Missed, Checked, Paced}
+use Rattle.wot_script.specs.declared.read.About.TheVariants.{Watched}
 use Rattle.wot_script.specs.declared.read.Question.{Question}
-use Rattle.wot_script.specs.declared.command.Command.TheVariants.{Import, Load, Store, Remove, Good, Bad, Unjudge, Time, Root, Close, Ask, Explain, Pending, Keys, Export, Dump, Absence, CursorOver, CursorNext, CursorClose, WatchOn, WatchOff}
+use Rattle.wot_script.specs.declared.command.Command.TheVariants.{Import, Load, Store, Remove, Good, Bad, Unjudge, Time}
+use Rattle.wot_script.specs.declared.command.Command.TheVariants.{Root, Close, Ask, Explain, Pending, Keys, Export}
+use Rattle.wot_script.specs.declared.command.Command.TheVariants.{Dump, Absence, CursorOver, CursorNext, CursorClose}
+use Rattle.wot_script.specs.declared.command.Command.TheVariants.{WatchOn, WatchOff}
 
 behind_short : (prefix text rest : List ℕ) → behind prefix text ≡ Some rest → length rest ≤ length text
 behind_short [] text rest e = let same : text ≡ rest = cc in omega (arith, ap length same)
@@ -59,26 +68,33 @@ length-parts_of separator (octet ∷ octets) = by (octet == separator) refl (len
 
 -- ---- what was read of each part
 
-bound_keeps : {A B : Type 0} (P : B → Type 0) (o : Option A) (f : A → Option B) → ((a : A) → o ≡ Some a → IfSome (f a) P) → IfSome (o >>= f) P
+bound_keeps : {A B : Type 0} (P : B → Type 0) (o : Option A) (f : A → Option B)
+    → ((a : A) → o ≡ Some a → IfSome (f a) P) → IfSome (o >>= f) P
 bound_keeps P None f h = tt
 bound_keeps P (Some a) f h = h a refl
 
-all_of_keeps : {A : Type 0} (P : A → Type 0) (read : List ℕ → Option A) → ((text : List ℕ) → IfSome (read text) P) → (texts : List (List ℕ))
+all_of_keeps : {A : Type 0} (P : A → Type 0) (read : List ℕ → Option A) → ((text : List ℕ) → IfSome (read text) P)
+    → (texts : List (List ℕ))
     → IfSome (all_of read texts) (λ items. AllByRecursion P items × (length items ≡ length texts))
 all_of_keeps {A = A} P read h [] = (tt, refl)
 all_of_keeps {A = A} P read h (text ∷ texts) = by (read text) (h text) (all_of read texts) (all_of_keeps P read h texts)
   where
-    by : (o : Option A) → IfSome o P → (os : Option (List A)) → IfSome os (λ items. AllByRecursion P items × (length items ≡ length texts))
-        → IfSome (o >>= (λ item. option_map (λ items. item ∷ items) os)) (λ items. AllByRecursion P items × (length items ≡ length (text ∷ texts)))
+    by : (o : Option A) → IfSome o P → (os : Option (List A))
+        → IfSome os (λ items. AllByRecursion P items × (length items ≡ length texts))
+        → IfSome (o >>= (λ item. option_map (λ items. item ∷ items) os))
+        (λ items. AllByRecursion P items × (length items ≡ length (text ∷ texts)))
     by None one os all = tt
     by (Some item) one None all = tt
     by (Some item) one (Some items) all = ((one, all.0), omega (arith, all.1))
 
-field_keeps : {A : Type 0} (P : A → Type 0) (read : List ℕ → Option A) → ((text : List ℕ) → IfSome (read text) P) → (text : List ℕ)
+field_keeps : {A : Type 0} (P : A → Type 0) (read : List ℕ → Option A) → ((text : List ℕ) → IfSome (read text) P)
+    → (text : List ℕ)
     → IfSome (field_of read text) (λ items. AllByRecursion P items × (length items ≤ 1 + length text))
-field_keeps {A = A} P read h text = by (bytes_eq text (codes "-")) (items_of 44 read text) (all_of_keeps P read h (parts_of 44 text))
+field_keeps {A = A} P read h text =
+    by (bytes_eq text (codes "-")) (items_of 44 read text) (all_of_keeps P read h (parts_of 44 text))
   where
-    by : (b : Bool) (o : Option (List A)) → IfSome o (λ items. AllByRecursion P items × (length items ≡ length (parts_of 44 text)))
+    by : (b : Bool) (o : Option (List A))
+        → IfSome o (λ items. AllByRecursion P items × (length items ≡ length (parts_of 44 text)))
         → IfSome (if b then Some [] else o) (λ items. AllByRecursion P items × (length items ≤ 1 + length text))
     by true o h = (tt, omega arith)
     by false None h = tt
@@ -92,12 +108,14 @@ module _ (size : ℕ) where
   abbrev pub Spelled : Option Command → Type 0
   Spelled o = IfSome o (λ command. HasSpelling command × IsWithin size command)
 
-  mapped : {A : Type 0} (f : A → Command) (o : Option A) → ((a : A) → o ≡ Some a → HasSpelling (f a) × IsWithin size (f a))
+  mapped : {A : Type 0} (f : A → Command) (o : Option A)
+      → ((a : A) → o ≡ Some a → HasSpelling (f a) × IsWithin size (f a))
       → Spelled (option_map f o)
   mapped f None h = tt
   mapped f (Some a) h = h a refl
 
-  bound : {A : Type 0} (o : Option A) (f : A → Option Command) → ((a : A) → o ≡ Some a → Spelled (f a)) → Spelled (o >>= f)
+  bound : {A : Type 0} (o : Option A) (f : A → Option Command) → ((a : A) → o ≡ Some a → Spelled (f a))
+      → Spelled (o >>= f)
   bound None f h = tt
   bound (Some a) f h = h a refl
 
@@ -106,7 +124,8 @@ module _ (size : ℕ) where
   behind_either None read other h k = k
   behind_either (Some text) read other h k = h text
 
-  chosen : (b : Bool) (command : Command) (other : Option Command) → HasSpelling command × IsWithin size command → Spelled other
+  chosen : (b : Bool) (command : Command) (other : Option Command) → HasSpelling command × IsWithin size command
+      → Spelled other
       → Spelled (if b then Some command else other)
   chosen true command other h k = h
   chosen false command other h k = k
@@ -114,16 +133,20 @@ module _ (size : ℕ) where
   positive_wanted : (most : ℕ) (text : List ℕ) (n : ℕ) → positive_up_to most text ≡ Some n → 1 ≤ n
   unfolding positive_up_to
   positive_wanted most text n e =
-      let got = cond_some (is_decimal text && nat_lt 0 (digits_value 10 text) && nat_le (digits_value 10 text) most) (digits_value 10 text) n e in
-      let both = and_parts (is_decimal text && nat_lt 0 (digits_value 10 text)) (nat_le (digits_value 10 text) most) got.0 in
+      let got = cond_some (is_decimal text && nat_lt 0 (digits_value 10 text) && nat_le (digits_value 10 text) most)
+      (digits_value 10 text) n e in
+      let both = and_parts (is_decimal text && nat_lt 0 (digits_value 10 text)) (nat_le (digits_value 10 text) most)
+      got.0 in
       let some = and_parts (is_decimal text) (nat_lt 0 (digits_value 10 text)) both.0 in
       omega (arith, ltb-true 0 (digits_value 10 text) some.1, got.1)
 
   positive_most : (most : ℕ) (text : List ℕ) (n : ℕ) → positive_up_to most text ≡ Some n → n ≤ most
   unfolding positive_up_to
   positive_most most text n e =
-      let got = cond_some (is_decimal text && nat_lt 0 (digits_value 10 text) && nat_le (digits_value 10 text) most) (digits_value 10 text) n e in
-      let both = and_parts (is_decimal text && nat_lt 0 (digits_value 10 text)) (nat_le (digits_value 10 text) most) got.0 in
+      let got = cond_some (is_decimal text && nat_lt 0 (digits_value 10 text) && nat_le (digits_value 10 text) most)
+      (digits_value 10 text) n e in
+      let both = and_parts (is_decimal text && nat_lt 0 (digits_value 10 text)) (nat_le (digits_value 10 text) most)
+      got.0 in
       omega (arith, leb-true (digits_value 10 text) most both.1, got.1)
 
   -- a question wants at least 1
@@ -151,7 +174,8 @@ module _ (size : ℕ) where
   unfolding import_of
   import_spelled text short = decoded (decode_of text) refl
     where
-      even : (b : Bool) (r : Result (List ℕ) FromHexError) (octets : List ℕ) → (if b then Err OddLength else r) ≡ Ok octets → r ≡ Ok octets
+      even : (b : Bool) (r : Result (List ℕ) FromHexError) (octets : List ℕ)
+          → (if b then Err OddLength else r) ≡ Ok octets → r ≡ Ok octets
       even true r octets e = absurd cc
       even false r octets e = e
 
@@ -191,31 +215,39 @@ module _ (size : ℕ) where
   unfolding judgement_of
   judgement_spelled number text =
       behind_either (behind (codes "good ") text) (λ digits. option_map (Good number) (fpr_of_digits digits))
-      (if bytes_eq text (codes "bad") then Some (Bad number) else if bytes_eq text (codes "none") then Some (Unjudge number) else None)
+      (if bytes_eq text (codes "bad") then Some (Bad number) else if bytes_eq text (codes "none") then Some
+      (Unjudge number) else None)
       (λ digits. mapped (Good number) (fpr_of_digits digits) (λ fpr e. (tt, tt)))
-      (chosen (bytes_eq text (codes "bad")) (Bad number) (if bytes_eq text (codes "none") then Some (Unjudge number) else None) (tt, tt)
+      (chosen (bytes_eq text (codes "bad")) (Bad number)
+      (if bytes_eq text (codes "none") then Some (Unjudge number) else None) (tt, tt)
       (chosen (bytes_eq text (codes "none")) (Unjudge number) None (tt, tt) tt))
 
   verdict_spelled : (text : List ℕ) → Spelled (verdict_of text)
   unfolding verdict_of
   verdict_spelled text =
       bound (cut text) (λ first. number_of_digits first.0 >>= (λ number. judgement_of number first.1))
-      (λ first e. bound (number_of_digits first.0) (λ number. judgement_of number first.1) (λ number d. judgement_spelled number first.1))
+      (λ first e. bound (number_of_digits first.0) (λ number. judgement_of number first.1)
+      (λ number d. judgement_spelled number first.1))
 
   root_spelled : (view text : List ℕ) → Spelled (root_of view text)
   unfolding root_of
   root_spelled view text =
-      bound (cut text) (λ first. fpr_of_digits first.0 >>= (λ fpr. decimal_up_to 255 first.1 >>= (λ amount. Some (Root view fpr amount))))
-      (λ first e. bound (fpr_of_digits first.0) (λ fpr. decimal_up_to 255 first.1 >>= (λ amount. Some (Root view fpr amount)))
+      bound (cut text)
+      (λ first. fpr_of_digits first.0 >>=
+      (λ fpr. decimal_up_to 255 first.1 >>= (λ amount. Some (Root view fpr amount))))
+      (λ first e. bound (fpr_of_digits first.0)
+      (λ fpr. decimal_up_to 255 first.1 >>= (λ amount. Some (Root view fpr amount)))
       (λ fpr d. bound (decimal_up_to 255 first.1) (λ amount. Some (Root view fpr amount)) (λ amount a. (tt, tt))))
 
   setting_spelled : (view text : List ℕ) → Spelled (setting_of view text)
   unfolding setting_of
   setting_spelled view text =
       behind_either (behind (codes "time ") text) (λ digits. option_map (Time view) (decimal_up_to 4294967295 digits))
-      (read_behind (behind (codes "root ") text) (root_of view) (if bytes_eq text (codes "close") then Some (Close view) else None))
+      (read_behind (behind (codes "root ") text) (root_of view)
+      (if bytes_eq text (codes "close") then Some (Close view) else None))
       (λ digits. mapped (Time view) (decimal_up_to 4294967295 digits) (λ t e. (tt, tt)))
-      (behind_either (behind (codes "root ") text) (root_of view) (if bytes_eq text (codes "close") then Some (Close view) else None)
+      (behind_either (behind (codes "root ") text) (root_of view)
+      (if bytes_eq text (codes "close") then Some (Close view) else None)
       (root_spelled view) (chosen (bytes_eq text (codes "close")) (Close view) None (tt, tt) tt))
 
   asked_spelled : (view text : List ℕ) → Spelled (asked_of view text)
@@ -224,14 +256,16 @@ module _ (size : ℕ) where
 
   missed_spelled : (view text : List ℕ) → Spelled (missed_of view text)
   missed_spelled view text =
-      mapped (λ (q : Question). Absence view q.fpr q.wanted q.uid) (question_of text) (λ q e. (question_wants text q e, tt))
+      mapped (λ (q : Question). Absence view q.fpr q.wanted q.uid) (question_of text)
+      (λ q e. (question_wants text q e, tt))
 
   label_positive : (text : List ℕ) → IfSome (label_of text) IsLabelSpelled
   unfolding label_of
   label_positive text =
       bound_keeps IsLabelSpelled (cut_at 61 text) _ (λ parts c.
       bound_keeps IsLabelSpelled (fpr_of_digits parts.0) _ (λ fpr f.
-      bound_keeps IsLabelSpelled (positive_up_to 255 parts.1) _ (λ n e. (positive_wanted 255 parts.1 n e, positive_most 255 parts.1 n e))))
+      bound_keeps IsLabelSpelled (positive_up_to 255 parts.1) _
+      (λ n e. (positive_wanted 255 parts.1 n e, positive_most 255 parts.1 n e))))
 
   any_step : (text : List ℕ) → IfSome (step_of text) (λ step. Unit {0})
   any_step text = by (step_of text)
@@ -256,25 +290,33 @@ module _ (size : ℕ) where
       bound_keeps IsPathSpelled (positive_up_to 255 parts.0) _ (λ n e.
       bound_keeps IsPathSpelled (items_of 47 step_of parts.1) _ (λ steps i.
       few n steps (positive_wanted 255 parts.0 n e)
-      (omega (arith, some_parts parts.1, (so _ (items_of 47 step_of parts.1) steps i (all_of_keeps _ step_of any_step (parts_of 47 parts.1))).1)))))
+      (omega (
+        arith,
+        some_parts parts.1,
+        (so _ (items_of 47 step_of parts.1) steps i (all_of_keeps _ step_of any_step (parts_of 47 parts.1))).1,
+      )))))
     where
       few : (n : ℕ) (steps : List ClaimStepLine) → 1 ≤ n → 1 ≤ length steps → IfSome (claim_with n steps) IsPathSpelled
       few n steps some many = by (nat_le (length steps) 255) refl
         where
-          by : (b : Bool) → nat_le (length steps) 255 ≡ b → IfSome (if b then Some (record { 0 = n; 1 = steps }) else None) IsPathSpelled
+          by : (b : Bool) → nat_le (length steps) 255 ≡ b
+              → IfSome (if b then Some (record { 0 = n; 1 = steps }) else None) IsPathSpelled
           by true e = (some, many, leb-true (length steps) 255 e)
           by false e = tt
 
-  labels_rise : (text : List ℕ) → IfSome (labels_of text) (λ labels. AllByRecursion IsLabelSpelled labels × (is_rising labels ≡ true))
+  labels_rise : (text : List ℕ)
+      → IfSome (labels_of text) (λ labels. AllByRecursion IsLabelSpelled labels × (is_rising labels ≡ true))
   labels_rise text = by (field_of label_of text) (field_keeps _ label_of label_positive text)
     where
-      by : (o : Option (List LabelLine)) → IfSome o (λ labels. AllByRecursion IsLabelSpelled labels × (length labels ≤ 1 + length text))
+      by : (o : Option (List LabelLine))
+          → IfSome o (λ labels. AllByRecursion IsLabelSpelled labels × (length labels ≤ 1 + length text))
           → IfSome (o >>= rising) (λ labels. AllByRecursion IsLabelSpelled labels × (is_rising labels ≡ true))
       by None h = tt
       by (Some labels) h = up (is_rising labels) refl
         where
           up : (b : Bool) → is_rising labels ≡ b
-              → IfSome (if b then Some labels else None) (λ labels. AllByRecursion IsLabelSpelled labels × (is_rising labels ≡ true))
+              → IfSome (if b then Some labels else None)
+              (λ labels. AllByRecursion IsLabelSpelled labels × (is_rising labels ≡ true))
           up true e = (h.0, e)
           up false e = tt
 
@@ -300,34 +342,44 @@ module _ (size : ℕ) where
   explained_spelled : (view text : List ℕ) → Spelled (explained_of view text)
   unfolding explained_of
   explained_spelled view text =
-      bound (cut text) (λ second. fpr_of_digits second.0 >>= (λ fpr. unescaped second.1 >>= (λ uid. Some (Explain view fpr uid))))
+      bound (cut text)
+      (λ second. fpr_of_digits second.0 >>= (λ fpr. unescaped second.1 >>= (λ uid. Some (Explain view fpr uid))))
       (λ second e. bound (fpr_of_digits second.0) (λ fpr. unescaped second.1 >>= (λ uid. Some (Explain view fpr uid)))
       (λ fpr f. bound (unescaped second.1) (λ uid. Some (Explain view fpr uid)) (λ uid u. (tt, tt))))
 
   over_spelled : (cursor text : List ℕ) → Spelled (over_of cursor text)
   unfolding over_of
   over_spelled cursor text =
-      bound (cut text) (λ first. view_name_of first.0 >>= (λ view. positive_up_to 4294967295 first.1 >>= (λ wanted. Some (CursorOver cursor view wanted))))
-      (λ first e. bound (view_name_of first.0) (λ view. positive_up_to 4294967295 first.1 >>= (λ wanted. Some (CursorOver cursor view wanted)))
+      bound (cut text)
+      (λ first. view_name_of first.0 >>=
+      (λ view. positive_up_to 4294967295 first.1 >>= (λ wanted. Some (CursorOver cursor view wanted))))
+      (λ first e. bound (view_name_of first.0)
+      (λ view. positive_up_to 4294967295 first.1 >>= (λ wanted. Some (CursorOver cursor view wanted)))
       (λ view v. bound (positive_up_to 4294967295 first.1) (λ wanted. Some (CursorOver cursor view wanted))
       (λ wanted w. (positive_wanted 4294967295 first.1 wanted w, tt))))
 
   paced_spelled : (cursor text : List ℕ) → Spelled (paced_of cursor text)
   unfolding paced_of
   paced_spelled cursor text =
-      let next : List ℕ → Option Command = λ digits. option_map (CursorNext cursor) (positive_up_to 4294967295 digits) in
+      let next : List ℕ → Option Command =
+      λ digits. option_map (CursorNext cursor) (positive_up_to 4294967295 digits) in
       let close : Option Command = if bytes_eq text (codes "close") then Some (CursorClose cursor) else None in
-      behind_either (behind (codes "over ") text) (over_of cursor) (read_behind (behind (codes "next ") text) next close)
+      behind_either (behind (codes "over ") text) (over_of cursor)
+      (read_behind (behind (codes "next ") text) next close)
       (over_spelled cursor)
       (behind_either (behind (codes "next ") text) next close
-      (λ digits. mapped (CursorNext cursor) (positive_up_to 4294967295 digits) (λ count e. (positive_wanted 4294967295 digits count e, tt)))
+      (λ digits. mapped (CursorNext cursor) (positive_up_to 4294967295 digits)
+      (λ count e. (positive_wanted 4294967295 digits count e, tt)))
       (chosen (bytes_eq text (codes "close")) (CursorClose cursor) None (tt, tt) tt))
 
   watch_spelled : (watch text : List ℕ) → Spelled (watch_of watch text)
   unfolding watch_of
   watch_spelled watch text =
-      bound (cut text) (λ first. view_name_of first.0 >>= (λ view. question_of first.1 >>= (λ (q : Question). Some (WatchOn watch view q.fpr q.wanted q.uid))))
-      (λ first e. bound (view_name_of first.0) (λ view. question_of first.1 >>= (λ (q : Question). Some (WatchOn watch view q.fpr q.wanted q.uid)))
+      bound (cut text)
+      (λ first. view_name_of first.0 >>=
+      (λ view. question_of first.1 >>= (λ (q : Question). Some (WatchOn watch view q.fpr q.wanted q.uid))))
+      (λ first e. bound (view_name_of first.0)
+      (λ view. question_of first.1 >>= (λ (q : Question). Some (WatchOn watch view q.fpr q.wanted q.uid)))
       (λ view v. bound (question_of first.1) (λ (q : Question). Some (WatchOn watch view q.fpr q.wanted q.uid))
       (λ q e. (question_wants first.1 q e, tt))))
 
@@ -356,7 +408,8 @@ module _ (size : ℕ) where
 
   -- what stands behind a word is no longer than the line
   behind_word : (word line : List ℕ) (read : List ℕ → Option Command) (other : Option Command) → length line ≤ size
-      → ((text : List ℕ) → length text ≤ size → Spelled (read text)) → Spelled other → Spelled (read_behind (behind word line) read other)
+      → ((text : List ℕ) → length text ≤ size → Spelled (read text)) → Spelled other
+      → Spelled (read_behind (behind word line) read other)
   behind_word word line read other short h k = at (behind word line) refl
     where
       at : (o : Option (List ℕ)) → behind word line ≡ o → Spelled (read_behind o read other)
@@ -398,7 +451,8 @@ module _ (size : ℕ) where
       single_spelled line))))))))))))))
 
 -- the same where the reading is known
-pub spelled_at : (line : List ℕ) (command : Command) → command_of line ≡ Some command → HasSpelling command × IsWithin (length line) command
+pub spelled_at : (line : List ℕ) (command : Command) → command_of line ≡ Some command
+    → HasSpelling command × IsWithin (length line) command
 spelled_at line command e =
     let all : Spelled (length line) (command_of line) = spelled_of (length line) line (omega arith) in
     rw e at all

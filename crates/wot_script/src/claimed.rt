@@ -1,3 +1,5 @@
+//! Laws: printed paths and labels are read back. Each function proves one for its values, and `laws` and `spelled` use
+//! them. They stand on `specs/Claims.antt`; a change of a claim's format changes all of them.
 ghost use Rattle.std.specs.List.{AllByRecursion};
 ghost use Rattle.wot_script.specs.ClaimLaws.{IsClaimPrinted, IsLabelPrinted, IsStepPrinted};
 ghost use Rattle.wot_script.specs.Claims.{IsLabelSpelled, IsPathSpelled};
@@ -5,7 +7,7 @@ ghost use Rattle.wot_script.specs.Claims.{IsLabelSpelled, IsPathSpelled};
 use crate::spelled::{decimal_is_read, positive_is_read};
 use crate::{ClaimLine, ClaimStepLine, LabelLine};
 
-/// Laws: what is printed of claims is read back.
+/// A law: a printed step is read back.
 fn step_is_read(step: &ClaimStepLine)
     ensures { IsStepPrinted step.now }
 {

@@ -1,3 +1,7 @@
+//! Claims and tables of labels in a line: `claim PATHS TABLE` in the reply to `absence`, and the fields of `check`.
+//!
+//! It reads and prints them by `specs/Claims.antt`, and stands on `fields`, `decimal` and `piece`. `read`, `spell` and
+//! `tell` use it.
 ghost use Rattle.std.specs.Prelude.{◌≡◌, ◌++◌, ◌∷◌, ℕ, List, Option, IfOk};
 ghost use Rattle.std.specs.List.{flat_map};
 ghost use Rattle.std.specs.Option.{option_map};
@@ -18,7 +22,7 @@ use wot_types::{Fpr, Memory, compare_fprs};
 
 /// An item of a list in a line.
 pub trait Item: Drop {
-    /// What a text spells.
+    /// The item that a text spells.
     ghost item_of: { List ℕ → Option Self };
 
     /// Reads an item.
@@ -117,7 +121,7 @@ fn read_field<T: Item>(alloc: Global, text: &[u8]) -> Result<Option<Vec<T>>, Mem
     read_items(alloc, b',', text)
 }
 
-/// Reads paths that are claimed.
+/// Reads claimed paths.
 pub fn read_claims(alloc: Global, text: &[u8]) -> Result<Option<ClaimLines>, Memory>
     ensures { IfOk result (λ claims. claims ≡ claims_of text.now) }
 {
@@ -188,7 +192,7 @@ impl Printed for ClaimLine {
     }
 }
 
-/// Appends this octet and an item.
+/// Appends a separator and an item.
 fn put_other<T: Printed>(separator: u8, item: &T, out: &mut Vec<u8>) -> Result<(), Memory>
     ensures { Appends (separator ∷ T.text item.now) out.old out.new result }
 {

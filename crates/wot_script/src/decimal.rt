@@ -1,8 +1,10 @@
+//! Decimal numbers without leading zeros, up to a bound. It stands on `specs/Decimal.antt`. Times, amounts and counts
+//! in lines are read through it; `itoa` prints them.
 ghost use Rattle.std.specs.Prelude.{◌≡◌, ◌≤◌, IfSome};
 ghost use Rattle.wot_script.specs.Decimal.{decimal_up_to, digits_up_to, positive_up_to};
 
-/// The number that digits spell behind those of `value`, of at most `most`. Each turn makes the
-/// number ten times as large, unless it is 0, so the recursion ends early on a long text.
+/// The number that digits spell after those of `value`, if it is at most `most`. Each step makes the number ten times
+/// as large, unless it is 0, so the recursion ends early on a long text.
 fn read_digits(most: u32, value: u32, digits: &[u8]) -> Option<u32>
     requires { value ≤ most }
     ensures read { result ≡ digits_up_to most value digits.now }
@@ -36,7 +38,7 @@ pub fn read_decimal(most: u32, text: &[u8]) -> Option<u32>
     }
 }
 
-/// The same without 0.
+/// Reads a decimal from 1 to `most`, without leading zeros.
 #[tactic(auto, unfolding(crate::specs::Decimal::decimal_up_to, crate::specs::Decimal::positive_up_to))]
 pub fn read_positive(most: u32, text: &[u8]) -> Option<u32>
     ensures read { result ≡ positive_up_to most text.now }

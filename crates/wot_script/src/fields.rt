@@ -1,8 +1,10 @@
+//! Lines cut into fields: prefixes, and the field before a separator. It stands on `specs/Fields.antt`. `read` and
+//! `claims` take all lines apart with it.
 ghost use Rattle.std.specs.Prelude.{◌≡◌, Some, None};
 ghost use Rattle.std.specs.Option.{option_map};
 ghost use Rattle.wot_script.specs.Fields.{behind, cut, cut_at};
 
-/// What stands behind a prefix.
+/// The text after a prefix.
 pub fn after_prefix<'a>(prefix: &[u8], text: &'a [u8]) -> Option<&'a [u8]>
     ensures { option_map (λ rest. rest.now) result ≡ behind prefix.now text.now }
 {
@@ -21,14 +23,14 @@ pub fn after_prefix<'a>(prefix: &[u8], text: &'a [u8]) -> Option<&'a [u8]>
     }
 }
 
-/// A field, and what stands behind the octet after it.
+/// A field, and the text after its separator.
 #[derive(Clone, Copy)]
 pub struct Parts<'a> {
     pub field: &'a [u8],
     pub rest: &'a [u8],
 }
 
-/// The field before the first such octet, and what stands behind that octet.
+/// Cuts a text at the first separator.
 pub fn cut_at(separator: u8, text: &[u8]) -> Option<Parts<'_>>
     ensures { option_map (λ parts. (parts.field.now, parts.rest.now)) result ≡ cut_at separator text.now }
 {
@@ -43,7 +45,7 @@ pub fn cut_at(separator: u8, text: &[u8]) -> Option<Parts<'_>>
     None
 }
 
-/// The same at the first space.
+/// Cuts a text at the first space.
 pub fn cut_field(text: &[u8]) -> Option<Parts<'_>>
     ensures { option_map (λ parts. (parts.field.now, parts.rest.now)) result ≡ cut text.now }
 {

@@ -1,4 +1,5 @@
-//! Laws of the grammar. Each function does nothing: its contract is the law.
+//! Laws of the grammar. Each function does nothing: its contract is the law, and `wot_machine` and tests cite it by a
+//! call. They stand on `specs/Grammar.antt` and `specs/Laws.antt`.
 ghost use Rattle.std.specs.Prelude.{◌≡◌, ℕ, List, Some};
 ghost use Rattle.wot_script.specs.declared.command.Command.{Command as TheCommand};
 ghost use Rattle.wot_script.specs.Grammar.{command_of};
@@ -8,14 +9,14 @@ ghost use Rattle.wot_script.specs.Spelling.{HasSpelling};
 use crate::Command;
 use crate::spelled::spelling_is_read;
 
-/// Each command that a line spells has a spelling: a question wants at least 1.
+/// Every command that a line spells can be printed: a question wants at least 1.
 pub fn lines_spell_commands()
     ensures spelled { (line : List ℕ) (command : TheCommand) → command_of line ≡ Some command → HasSpelling command }
 {}
 
-/// The text that `absence` prints behind `claim `, put into a line `check` between the fingerprint and the user ID, is
-/// read as the paths and the table of which it was printed. So a printed claim is checked by sending it back, if the
-/// line isn't longer than a line may be.
+/// The text that `absence` prints after `claim `, put into a `check` line between the fingerprint and the user ID, is
+/// read as the paths and the table that it was printed from. So a printed claim can be checked by sending it back, if
+/// the line isn't too long.
 pub fn printed_claim_is_read(check: &Command)
     requires spelled { HasSpelling check.now }
     ensures printed { PrintsClaim check.now }
@@ -23,7 +24,7 @@ pub fn printed_claim_is_read(check: &Command)
     spelling_is_read(check);
 }
 
-/// Each line of a dump from before version 6 is read as the command that it was printed of, with the same fingerprints.
+/// Every line of a dump from before version 6 is still read as the command that it was printed from.
 pub fn old_lines_are_read(command: &Command)
     requires spelled { HasSpelling command.now }
     ensures read { (line : List ℕ) → IsOldLine command.now line → command_of line ≡ Some command.now }

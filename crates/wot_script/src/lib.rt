@@ -1,4 +1,8 @@
 //! The script: how lines are read as commands, and how commands and replies are printed.
+//!
+//! It stands on `wot_types`, `hex` and `itoa`. `docs/PROTOCOL.md` specifies the lines, and `specs/Grammar.antt`,
+//! `specs/Spelling.antt` and `specs/Replies.antt` define them. `wot_machine` answers the commands; dumps and generated
+//! scripts print them.
 #![tactic(auto)]
 
 mod claimed;

@@ -1,3 +1,6 @@
+//! The lines of replies that have several: paths and steps, bindings, reasons, pending signatures, keys.
+//!
+//! It prints them by `specs/Replies.antt` and stands on `piece`. `tell` puts the first line in front of them.
 ghost use Rattle.std.specs.Prelude.{◌≡◌, ◌++◌, ℕ, List};
 ghost use Rattle.std.specs.List.{flat_map};
 ghost use Rattle.wot_script.specs.Appends.{Appends};
@@ -9,7 +12,7 @@ use crate::words::reason_word;
 use crate::{AnswerLine, BindLine, Hint, KeyLine, Lines, PendingLine, ReasonLine};
 use wot_types::{Fpr, Memory};
 
-/// A line of a reply behind its first.
+/// A line of a reply after its first.
 pub trait Printed {
     /// Its octets, with its line feed.
     ghost text: { Self → List ℕ };
@@ -129,7 +132,7 @@ impl Printed for ReasonLine {
     }
 }
 
-/// The piece that tells a hint.
+/// The piece that prints a hint.
 fn hint_piece(hint: &Hint) -> Piece<'_>
     ensures { piece_text result ≡ hint_text hint.now }
 {
@@ -194,7 +197,7 @@ fn put_lines<T: Printed>(lines: &[T], out: &mut Vec<u8>) -> Result<(), Memory>
     Ok(())
 }
 
-/// Appends a first line, made of these pieces, and lines behind it.
+/// Appends a first line, made of these pieces, and the lines after it.
 pub fn put_headed<T: Printed>(
     head: &[Piece<'_>],
     lines: &Lines<T>,

@@ -1,3 +1,5 @@
+//! Lists of lines, made from vectors and turned back into vectors without a copy. Contracts see them as lists. Replies
+//! and commands hold them, so that a reply can be compared with its definition.
 ghost use Rattle.std.specs.Prelude.{◌≡◌, [], ◌∷◌, ◌++◌, OnOk, OnErr};
 
 use crate::{
@@ -22,16 +24,16 @@ pub type BindLines = Lines<BindLine>;
 /// The lines of reasons.
 pub type ReasonLines = Lines<ReasonLine>;
 
-/// The lines of signatures that have no verdict.
+/// The lines of signatures without a verdict.
 pub type PendingLines = Lines<PendingLine>;
 
 /// The lines of a list of certificates.
 pub type KeyLines = Lines<KeyLine>;
 
-/// Paths that are claimed.
+/// Claimed paths.
 pub type ClaimLines = Lines<ClaimLine>;
 
-/// The steps of one.
+/// The steps of a claimed path.
 pub type ClaimStepLines = Lines<ClaimStepLine>;
 
 /// A table of labels.
@@ -79,7 +81,7 @@ impl<T> Lines<T> {
 }
 
 impl<T: Drop> Lines<T> {
-    /// Appends one line. After `Memory` the list is as before.
+    /// Appends one line. After `Memory` the list is unchanged.
     pub fn push(&mut self, line: T) -> Result<(), Memory>
         ensures pushed { OnOk result (self.new ≡ self.old ++ line ∷ []) }
         ensures kept { OnErr result (self.new ≡ self.old) }

@@ -1,3 +1,5 @@
+//! A list of octets, made from a vector and turned back into one without a copy. Contracts see it as a list. The octets
+//! of `import`, `export` and `dump` are such lists.
 ghost use Rattle.std.specs.Prelude.{◌≡◌, [], ◌∷◌, ◌++◌, OnOk, OnErr};
 
 use std::alloc::Global;
@@ -43,7 +45,7 @@ impl Octets {
         octets
     }
 
-    /// Appends one octet. After `Memory` the list is as before.
+    /// Appends one octet. After `Memory` the list is unchanged.
     pub fn push(&mut self, octet: u8) -> Result<(), Memory>
         ensures pushed { OnOk result (self.new ≡ self.old ++ octet ∷ []) }
         ensures kept { OnErr result (self.new ≡ self.old) }

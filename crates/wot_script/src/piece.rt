@@ -1,3 +1,7 @@
+//! Pieces that lines are printed from: words, numbers, fingerprints, hexadecimal octets, user IDs.
+//!
+//! It stands on `hex`, `itoa` and `specs/Pieces.antt`. All that is printed goes through `put_pieces`, which appends
+//! everything or nothing.
 ghost use Rattle.std.specs.Prelude.{◌≡◌, ◌∷◌, []};
 ghost use Rattle.std.specs.Fmt.{decimal};
 ghost use Rattle.hex.specs.Hex.{encode_lower};
@@ -24,8 +28,8 @@ pub enum Piece<'a> {
     Uid(&'a [u8]),
 }
 
-/// Appends octets. Like each call of this file it leaves `out` as before after `Memory`, which comes
-/// only where the capacity lacked, and the capacity never shrinks.
+/// Appends octets. As with every call of this file, `out` is unchanged after `Memory`, which occurs only if the
+/// capacity was too small, and the capacity never shrinks.
 fn put_text(text: &[u8], out: &mut Vec<u8>) -> Result<(), Memory>
     ensures { Appends text.now out.old out.new result }
 {

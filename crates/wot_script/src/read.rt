@@ -1,4 +1,8 @@
-ghost use Rattle.std.specs.Prelude.{◌≡◌, ◌≤◌, length, Some, None, IfOk, IsErrOf};
+//! `read_line`: a line to its command.
+//!
+//! It stands on `fields`, `decimal`, `uid` and `claims`, and on `specs/Grammar.antt`, which it follows function by
+//! function. A new command is a function here and a clause there.
+ghost use Rattle.std.specs.Prelude.{◌≡◌, length, Some, None, IfOk, IsErrOf};
 ghost use Rattle.std.specs.Option.{option_map};
 ghost use Rattle.wot_types.specs.Fpr.{fpr_of_digits};
 ghost use Rattle.wot_script.specs.Fields.{octets_of_hex};
@@ -18,12 +22,12 @@ use hex::FromHexError;
 use std::alloc::Global;
 use wot_types::{Fpr, Memory, Name, SigNumber, UserId, ViewName};
 
-/// Why a line gave no command.
+/// Why a line is no command.
 #[derive(Clone, Copy)]
 pub enum LineFault {
     /// It spells no command.
     Line,
-    /// No memory was found.
+    /// Out of memory.
     Memory,
 }
 
@@ -156,7 +160,7 @@ fn read_setting(view: ViewName, text: &[u8]) -> Option<Command>
     None
 }
 
-/// What is asked from a view.
+/// A question to a view.
 #[derive(Drop)]
 pub struct Question {
     pub fpr: Fpr,
@@ -327,10 +331,10 @@ fn read_watched(alloc: Global, watch: ViewName, text: &[u8]) -> Result<Option<Co
     Ok(None)
 }
 
-/// What a line says of a view, of a cursor, or of a watch.
+/// Which command a line with the name of a view, a cursor or a watch is.
 #[derive(Clone, Copy)]
 pub enum About {
-    /// It sets it.
+    /// It opens, changes or closes the view.
     Setting,
     /// It asks for an answer.
     Asked,
@@ -338,9 +342,9 @@ pub enum About {
     Listed,
     /// It asks for reasons.
     Explained,
-    /// It asks why an amount is missed.
+    /// It asks for a proof of absence.
     Missed,
-    /// It claims why an amount is missed.
+    /// It asks to check a proof of absence.
     Checked,
     /// It is about a cursor.
     Paced,
@@ -445,14 +449,14 @@ fn read_command(alloc: Global, line: &[u8]) -> Result<Option<Command>, Memory>
     Ok(read_single(line))
 }
 
-/// Reads a line, which comes without its line feed, as a command. An empty line and a comment are no
-/// commands. The line's length isn't looked at.
+/// Reads a line, without its line feed, as a command. Empty lines and comments are no commands. There is no limit on
+/// the length here.
 pub fn read_line(alloc: Global, line: &[u8]) -> Result<Command, LineFault>
     ensures read { IfOk result (λ command. command_of line.now ≡ Some command) }
     ensures line { IsErrOf result LineFault.Line → command_of line.now ≡ None }
-    // A question, a list and a cursor that were read want at least 1, and a piece has room for one.
+    // A question, a list and a cursor that were read want at least 1, and `next` asks for at least 1.
     ensures spelled { IfOk result HasSpelling }
-    // An import's octets are two digits each, and each path of a claim has some octet of its own.
+    // An import's octets have two digits each, and each path of a claim has octets of its own.
     ensures within { IfOk result (IsWithin (length line.now)) }
 {
     match read_command(alloc, line) {

@@ -1,13 +1,17 @@
+//! The replies, and the lines in them.
+//!
+//! `specs/Replies.antt` defines how each is printed. `wot_machine` makes them, and its definitions speak of replies as
+//! these values; clients parse what `print_reply` makes of them.
 use crate::{
     AnswerLines, BindLines, ClaimLines, ClaimStepLines, KeyLines, LabelLines, Octets, PendingLines,
     ReasonLines,
 };
 use wot_types::{Fpr, Limit, SigNumber, UserId, ViewName};
 
-/// What is answered to a line.
+/// The reply to a line.
 #[derive(Drop)]
 pub enum Reply {
-    /// To `import`: readable key packets, unreadable ones, and what was not held before.
+    /// To `import`: the key packets that can be parsed, those that can't, and what wasn't held before.
     Taken(u64, u64, u64),
     /// To `store`: the size of the entry that was written, in octets.
     Stored(u64),
@@ -15,27 +19,28 @@ pub enum Reply {
     Done,
     /// To `ask`: the sum of the amounts, the number of paths, and each path with its steps.
     Amount(u32, u64, AnswerLines),
-    /// To `list`: the number of bindings, and a line of each.
+    /// To `list`: the number of bindings, and a line for each.
     List(u64, BindLines),
-    /// To `explain`: the number of the target's word, the number of signatures, and a line of each.
+    /// To `explain`: the number of the target's word, the number of signatures, and a line for each.
     Explained(u8, u64, ReasonLines),
-    /// To `pending`: the number of signatures, and a line of each.
+    /// To `pending`: the number of signatures, and a line for each.
     Pending(u64, PendingLines),
-    /// To `keys`: the number of certificates, and a line of each.
+    /// To `keys`: the number of certificates, and a line for each.
     Keys(u64, KeyLines),
     /// To `export`.
     Export(Octets),
     /// To `dump`: the number of commands, and their lines with line feeds.
     Dump(u64, Octets),
-    /// To `absence`, where the answer reaches what is wanted: its sum.
+    /// To `absence`, if the answer reaches the wanted amount: its sum.
     Reached(u32),
-    /// To `absence`, where it doesn't: its sum, its paths, and the least table of absence after them.
+    /// To `absence`, if it doesn't: its sum, its paths, and the least table that proves that no path is left after
+    /// them.
     Missed(u32, ClaimLines, LabelLines),
-    /// To `check`: the sum of the paths, and no more is there.
+    /// To `check`: the sum of the paths. No further path is left.
     CheckedYes(u32),
     /// To `check`: some path isn't valid, or has another amount.
     CheckedNoPaths,
-    /// To `check`: the paths are good, and the table doesn't show that no more is there.
+    /// To `check`: the paths are right, but the table doesn't show that no further path is left.
     CheckedNoTable,
     /// The line is too long.
     Long,
@@ -43,9 +48,9 @@ pub enum Reply {
     Line,
     /// The view isn't open.
     View,
-    /// The shelf failed.
+    /// The certificate directory failed.
     Shelf,
-    /// The first packet fault: its number and its offset.
+    /// The first fault of the packets: its number and its offset.
     Packet(u8, usize),
     /// A packet of compressed data.
     Compressed,
@@ -57,31 +62,31 @@ pub enum Reply {
     Order(usize),
     /// No key.
     Empty,
-    /// The entry of the shelf isn't the one certificate that its name tells.
+    /// The entry of the certificate directory isn't exactly the certificate of its name.
     Misfiled,
-    /// One fingerprint, two key bodies.
+    /// Two key bodies with one fingerprint.
     Clash,
     /// The named thing isn't there.
     Absent,
-    /// The change would pass this limit.
+    /// The change would exceed this limit.
     Full(Limit),
-    /// To `cursor` with `next`: the number of bindings, and a line of each.
+    /// To `cursor` with `next`: the number of bindings, and a line for each.
     Piece(u64, BindLines),
-    /// What is held has changed since the cursor began: the count of changes then, and now.
+    /// The keyring has changed since the cursor started: the count of changes then, and now.
     StaleKeyring(u64, u64),
-    /// The view has changed since the cursor began: its turn then, and now.
+    /// The view has changed since the cursor started: its count of changes then, and now.
     StaleView(u64, u64),
-    /// No such cursor is there.
+    /// There is no such cursor.
     NoCursor,
-    /// As many cursors as may be are there.
+    /// There are already as many cursors as allowed.
     FullCursors,
-    /// To `watch` with `on`, and behind a line that changes it: the sum of the watch's answer.
+    /// To `watch` with `on`, and after a line that changes it: the sum of the watch's answer.
     WatchAmount(ViewName, u32),
     /// The view of the watch isn't open.
     WatchGone(ViewName),
-    /// No such watch is there.
+    /// There is no such watch.
     NoWatch,
-    /// As many watches as may be are there.
+    /// There are already as many watches as allowed.
     FullWatches,
 }
 
@@ -107,11 +112,11 @@ pub enum ReasonLine {
     Edge(SigNumber, Fpr, u8, u8),
 }
 
-/// A signature that has no verdict: its number, its certificate, and a hint of its issuer.
+/// A signature without a verdict: its number, its certificate, and a hint at its issuer.
 #[derive(Clone, Copy)]
 pub struct PendingLine(pub SigNumber, pub Fpr, pub Hint);
 
-/// What a signature says of its issuer.
+/// What a signature says about its issuer.
 #[derive(Clone, Copy)]
 pub enum Hint {
     /// The fingerprint.
@@ -126,15 +131,15 @@ pub enum Hint {
 #[derive(Clone, Copy)]
 pub struct KeyLine(pub Fpr, pub u64, pub u64);
 
-/// A path that is claimed: its amount, 1 to 255, and its steps from the root on, 1 to 255 of them.
+/// A claimed path: its amount, 1 to 255, and its 1 to 255 steps from the root on.
 #[derive(Drop)]
 pub struct ClaimLine(pub u8, pub ClaimStepLines);
 
-/// A step that is claimed: its issuer, and the place of the user ID that it certifies among the target's, in the
-/// order of their octets. The target is the issuer of the next step, and of the last one the target of the claim.
+/// A claimed step: its issuer, and the place of the certified user ID among the target's, ordered by octets. The target
+/// is the issuer of the next step, or of the last step the target of the claim.
 #[derive(Clone, Copy)]
 pub struct ClaimStepLine(pub Fpr, pub u32);
 
-/// A label of a table of absence: a fingerprint, and its number, 1 to 255.
+/// A label in the table of a proof of absence: a fingerprint, and its number, 1 to 255.
 #[derive(Clone, Copy)]
 pub struct LabelLine(pub Fpr, pub u8);

@@ -1,3 +1,5 @@
+//! Laws: replies of one line are short, so that they can be printed into reserved room when memory runs out. They stand
+//! on `specs/Replies.antt`; `tell` uses them, and a longer word or reply breaks them.
 ghost use Rattle.std.specs.Prelude.{◌≡◌, ◌≤◌, length, true};
 ghost use Rattle.std.specs.Fmt.{decimal};
 ghost use Rattle.wot_script.specs.Replies.{is_short, reply_text};

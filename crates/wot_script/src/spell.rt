@@ -1,3 +1,7 @@
+//! `print_command`: a command to its line.
+//!
+//! It stands on `piece` and on `specs/Spelling.antt`. Dumps and generated scripts are printed through it, and its
+//! contract says that `read_line` reads each line back.
 ghost use Rattle.std.specs.Prelude.{◌≡◌, ◌++◌, OnOk, OnErr};
 ghost use Rattle.wot_script.specs.Appends.{Appends};
 ghost use Rattle.wot_script.specs.Grammar.{command_of};
@@ -45,7 +49,7 @@ fn put_root<'a>(
     )
 }
 
-/// Appends a question from a view, behind a word.
+/// Appends a question to a view, after a word.
 fn put_question<'a>(
     word: &'a [u8],
     view: &'a ViewName,
@@ -249,14 +253,14 @@ fn put_command(command: &Command, out: &mut Vec<u8>) -> Result<(), Memory>
     }
 }
 
-/// Appends the line of a command, without a line feed. After `Memory`, `out` is as before.
+/// Appends the line of a command, without a line feed. After `Memory`, `out` is unchanged.
 pub fn print_command(command: &Command, out: &mut Vec<u8>) -> Result<(), Memory>
     requires { HasSpelling command.now }
     ensures appended { OnOk result (out.new.items ≡ out.old.items ++ spelling command.now) }
     ensures kept { OnErr result (out.new.items ≡ out.old.items) }
-    // What is printed is read as this command.
+    // The printed line is read back as this command.
     ensures read_back { command_of (spelling command.now) ≡ Some command.now }
-    // It is one line, and not passed over.
+    // It is one line, and neither empty nor a comment.
     ensures line { IsLineFor command.now (spelling command.now) }
 {
     spelling_is_read(command);

@@ -1,3 +1,5 @@
+//! Laws: the line of a command is read back as that command, field by field. `spell` uses the last one. They stand on
+//! `specs/Spelling.antt` and `specs/Grammar.antt`, and a change of either shows here first.
 ghost use Rattle.std.specs.Prelude.{◌≡◌, ◌≢◌, ◌≤◌, ◌<◌, ◌^◌, true, length};
 ghost use Rattle.std.specs.Fmt.{decimal};
 ghost use Rattle.std.specs.List.{AllByRecursion};
@@ -21,20 +23,20 @@ fn hex_is_read(octets: &[u8])
     let _octets = octets;
 }
 
-/// A law: a user ID that is printed is read as that user ID.
+/// A law: a printed user ID is read back.
 fn uid_is_read(octets: &[u8])
     ensures { unescaped (escaped octets.now) ≡ Some octets.now }
 {
     let _octets = octets;
 }
 
-/// A law: a number that is printed is read as that number.
+/// A law: a printed number is read back.
 pub fn decimal_is_read(most: u32, number: u32)
     requires { number ≤ most }
     ensures { decimal_up_to most (decimal number) ≡ Some number }
 {}
 
-/// The same of a number that isn't 0.
+/// A law: a printed number that isn't 0 is read back as such.
 pub fn positive_is_read(most: u32, number: u32)
     requires some { 1 ≤ number }
     requires within { number ≤ most }
@@ -42,7 +44,7 @@ pub fn positive_is_read(most: u32, number: u32)
     ensures small { number < 2 ^ 64 }
 {}
 
-/// A law: the name of an entry that is printed is read as that name, and is short.
+/// A law: a printed name of an entry is read back, and is short.
 fn entry_is_read(name: &Name)
     ensures read { entry_of (entry_text name.now) ≡ Some name.now }
     ensures short { length (entry_text name.now) ≤ 64 }
@@ -54,14 +56,14 @@ fn entry_is_read(name: &Name)
     }
 }
 
-/// A law: what names a view, a cursor or a watch is spelled as such a name.
+/// A law: the name of a view, a cursor or a watch is spelled as such a name.
 fn name_is_valid(name: &ViewName)
     ensures { is_view_name name.now ≡ true }
 {
     let _octets = name.octets();
 }
 
-/// A law: a name, and a number that isn't 0 behind it, are read as these.
+/// A law: a name and a number that isn't 0 are read back.
 fn wanted_is_read(name: &ViewName, wanted: u32)
     requires { 1 ≤ wanted }
     ensures name { is_view_name name.now ≡ true }
@@ -72,7 +74,7 @@ fn wanted_is_read(name: &ViewName, wanted: u32)
     positive_is_read(u32::MAX, wanted);
 }
 
-/// A law: a question that is printed behind the name of a view is read as that question.
+/// A law: a question that is printed after the name of a view is read back.
 fn question_is_read(view: &ViewName, fpr: &Fpr, wanted: u32, uid: &UserId)
     requires { 1 ≤ wanted }
     ensures name { is_view_name view.now ≡ true }
@@ -85,8 +87,8 @@ fn question_is_read(view: &ViewName, fpr: &Fpr, wanted: u32, uid: &UserId)
     uid_is_read(uid.octets());
 }
 
-/// A law: the spelling of a command is read as that command, and is one line, which isn't passed over
-/// and is no longer than said.
+/// A law: the line of a command is read back as that command, is one line, is neither empty nor a comment, and is no
+/// longer than `specs/Spelling.antt` says.
 pub fn spelling_is_read(command: &Command)
     requires { HasSpelling command.now }
     ensures read { command_of (spelling command.now) ≡ Some command.now }

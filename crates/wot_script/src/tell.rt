@@ -1,3 +1,7 @@
+//! `print_reply`: a reply to its octets.
+//!
+//! It stands on `piece`, `lines`, `claims` and `words`, and on `specs/Replies.antt`. Whatever a client reads is printed
+//! here; `docs/PROTOCOL.md` specifies it.
 ghost use Rattle.std.specs.Prelude.{◌≡◌, ◌<◌, ◌≤◌, ◌+◌, ◌∷◌, [], ◌++◌, codes, length, vec_len, vec_capacity, true};
 ghost use Rattle.std.specs.Prelude.{OnOk, OnErr, IsOk};
 ghost use Rattle.std.specs.Fmt.{decimal};
@@ -94,7 +98,7 @@ fn put_piece(count: u64, lines: &BindLines, out: &mut Vec<u8>) -> Result<(), Mem
     put_headed(&[Text(b"piece "), Decimal(count), Text(b"\n")], lines, out)
 }
 
-/// Appends a line of words and a number.
+/// Appends a line with words and a number.
 fn put_number(words: &[u8], number: u64, out: &mut Vec<u8>) -> Result<(), Memory>
     ensures { Appends (joined_line (words.now ∷ decimal number ∷ [])) out.old out.new result }
 {
@@ -268,17 +272,17 @@ fn put_reply(reply: &Reply, out: &mut Vec<u8>) -> Result<(), Memory>
     }
 }
 
-/// Appends the octets of a reply, with its line feeds. After `Memory`, `out` is as before.
+/// Appends the octets of a reply, with its line feeds. After `Memory`, `out` is unchanged.
 pub fn print_reply(reply: &Reply, out: &mut Vec<u8>) -> Result<(), Memory>
-    // Each word of an explanation has its number.
+    // Every number of a word in an explanation has a word.
     requires words { HasWords reply.now }
     ensures appended { OnOk result (out.new.items ≡ out.old.items ++ reply_text reply.now) }
     ensures kept { OnErr result (out.new.items ≡ out.old.items) }
-    // A reply of one line, other than that of `export`, has at most 128 octets, and no memory is needed
-    // where there is room for these.
+    // A reply of one line, except that of `export`, has at most 128 octets, and takes no memory if there is room for
+    // these.
     ensures short { is_short reply.now ≡ true → length (reply_text reply.now) ≤ 128 }
     ensures room { is_short reply.now ≡ true → vec_len out.old + 128 ≤ vec_capacity out.old → IsOk result }
-    // It fails only where the capacity lacked.
+    // It fails only if the capacity was too small.
     ensures full { OnErr result (vec_capacity out.old < vec_len out.old + length (reply_text reply.now)) }
     ensures grows { vec_capacity out.old ≤ vec_capacity out.new }
 {

@@ -1,3 +1,5 @@
+//! User IDs in lines: reading their escapes. It stands on `specs/Uid.antt`, and `piece` prints them. User IDs may hold
+//! any octets, so a line feed in one is always escaped.
 ghost use Rattle.std.specs.Prelude.{◌≡◌, ◌∷◌, [], IfOk};
 ghost use Rattle.std.specs.Option.{option_map};
 ghost use Rattle.wot_types.specs.Digits.{array_of_digits};
@@ -7,16 +9,16 @@ ghost use Rattle.wot_script.specs.Turned.{Turned};
 use std::alloc::Global;
 use wot_types::{Memory, UserId};
 
-/// Where the reading of a user ID stands.
+/// The state in which a user ID is read.
 #[derive(Clone, Copy)]
 pub enum Place {
-    /// Outside of an escape.
+    /// Outside an escape.
     Outside,
-    /// Behind a backslash.
+    /// After a backslash.
     Backslash,
-    /// Behind `\x`.
+    /// After `\x`.
     High,
-    /// Behind `\x` and one digit.
+    /// After `\x` and one digit.
     Low(u8),
 }
 

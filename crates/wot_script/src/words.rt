@@ -1,7 +1,11 @@
+//! The words of `explain`: why a key isn't a valid target, and why a certification doesn't count.
+//!
+//! The tables are in `specs/Words.antt`; `wot_explain` decides which word applies, and `docs/PROTOCOL.md` explains
+//! each.
 ghost use Rattle.std.specs.Prelude.{◌≡◌};
 ghost use Rattle.wot_script.specs.Words.{reason_words, target_words, word_at};
 
-/// The word of this number that tells why a target isn't in order; `ok` where it is.
+/// The word of this number for why a key isn't a valid target; `ok` if it is one.
 pub fn target_word(number: u8) -> &'static [u8]
     ensures { result.now ≡ word_at target_words number }
 {
@@ -17,7 +21,7 @@ pub fn target_word(number: u8) -> &'static [u8]
     }
 }
 
-/// The word of this number that tells why a certification isn't a usable edge; `edge` where it is.
+/// The word of this number for why a certification isn't a usable edge; `edge` if it is one.
 pub fn reason_word(number: u8) -> &'static [u8]
     ensures { result.now ≡ word_at reason_words number }
 {

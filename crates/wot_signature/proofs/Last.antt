@@ -1,5 +1,6 @@
--- One subpacket more at the end.
-use Rattle.std.proofs.Common.{◌≡◌, ℕ, Bool, true, false, cond, ◌||◌, List, [], ◌∷◌, ◌++◌, map, Option, Some, None, refl, ap, ◌∙◌}
+-- One more subpacket at the end.
+use Rattle.std.proofs.Common.{◌≡◌, ℕ, Bool, true, false, cond, ◌||◌, List, [], ◌∷◌, ◌++◌, map, Option, Some, None, refl}
+use Rattle.std.proofs.Common.{ap, ◌∙◌}
 use Rattle.std.specs.Prelude.{filter, slice_index, is_some}
 use Rattle.std.specs.List.{list_any}
 use Rattle.std.specs.Option.{option_map_or, option_or}
@@ -17,25 +18,32 @@ last_of-push : {A : Type 0} (xs : List A) (y : A) → last_of (xs ++ y ∷ []) �
 last_of-push [] y = refl
 last_of-push (x ∷ xs) y = last_of-cons x xs y
 
-bodies_of-push : (k : ℕ) (ss : List Subpacket) (s : Subpacket) → bodies_of k (ss ++ s ∷ []) ≡ bodies_of k ss ++ cond (is_known_of k s) (s.body ∷ []) []
+bodies_of-push : (k : ℕ) (ss : List Subpacket) (s : Subpacket)
+    → bodies_of k (ss ++ s ∷ []) ≡ bodies_of k ss ++ cond (is_known_of k s) (s.body ∷ []) []
 bodies_of-push k [] s =
-    elim (is_known_of k s) as (λ b. map (λ (t : Subpacket). t.body) (cond b (s ∷ []) []) ≡ cond b (s.body ∷ []) []) [ true ↦ refl | false ↦ refl ]
+    elim (is_known_of k s) as (λ b. map (λ (t : Subpacket). t.body) (cond b (s ∷ []) []) ≡ cond b (s.body ∷ []) [])
+    [ true ↦ refl | false ↦ refl ]
 bodies_of-push k (t ∷ ss) s =
     elim (is_known_of k t) as
     (λ b.
-    map (λ (u : Subpacket). u.body) (cond b (t ∷ filter (is_known_of k) (ss ++ s ∷ [])) (filter (is_known_of k) (ss ++ s ∷ [])))
-    ≡ map (λ (u : Subpacket). u.body) (cond b (t ∷ filter (is_known_of k) ss) (filter (is_known_of k) ss)) ++ cond (is_known_of k s) (s.body ∷ []) [])
+    map (λ (u : Subpacket). u.body)
+    (cond b (t ∷ filter (is_known_of k) (ss ++ s ∷ [])) (filter (is_known_of k) (ss ++ s ∷ [])))
+    ≡ map (λ (u : Subpacket). u.body) (cond b (t ∷ filter (is_known_of k) ss) (filter (is_known_of k) ss)) ++ cond
+    (is_known_of k s) (s.body ∷ []) [])
     [ true ↦ ap (λ zs. t.body ∷ zs) (bodies_of-push k ss s) | false ↦ bodies_of-push k ss s ]
 
-last_of-more : {A : Type 0} (b : Bool) (xs : List A) (y : A) → last_of (xs ++ cond b (y ∷ []) []) ≡ cond b (Some y) (last_of xs)
+last_of-more : {A : Type 0} (b : Bool) (xs : List A) (y : A)
+    → last_of (xs ++ cond b (y ∷ []) []) ≡ cond b (Some y) (last_of xs)
 last_of-more true xs y = last_of-push xs y
 last_of-more false xs y = ap last_of (append-nil xs)
 
--- the last body of a type, with one subpacket more
-pub last_body_of-push : (k : ℕ) (ss : List Subpacket) (s : Subpacket) → last_body_of k (ss ++ s ∷ []) ≡ cond (is_known_of k s) (Some s.body) (last_body_of k ss)
+-- the last body of a type, with one more subpacket
+pub last_body_of-push : (k : ℕ) (ss : List Subpacket) (s : Subpacket)
+    → last_body_of k (ss ++ s ∷ []) ≡ cond (is_known_of k s) (Some s.body) (last_body_of k ss)
 last_body_of-push k ss s = ap last_of (bodies_of-push k ss s) ∙ last_of-more (is_known_of k s) (bodies_of k ss) s.body
 
-said : {A B : Type 0} (b : Bool) (f : A → B) (y : A) (o : Option A) (d : B) → option_map_or f (cond b (Some y) o) d ≡ cond b (f y) (option_map_or f o d)
+said : {A B : Type 0} (b : Bool) (f : A → B) (y : A) (o : Option A) (d : B)
+    → option_map_or f (cond b (Some y) o) d ≡ cond b (f y) (option_map_or f o d)
 said true f y o d = refl
 said false f y o d = refl
 
@@ -43,15 +51,17 @@ is_said : {A : Type 0} (b : Bool) (y : A) (o : Option A) → is_some (cond b (So
 is_said true y o = refl
 is_said false y o = refl
 
--- what a type says, with one subpacket more
+-- what a type says, with one more subpacket
 says-push :
     {A : Type 0} (k : ℕ) (meaning : List ℕ → A) (otherwise : A) (ss : List Subpacket) (s : Subpacket) →
     says k meaning otherwise (ss ++ s ∷ []) ≡ cond (is_known_of k s) (meaning s.body) (says k meaning otherwise ss)
 says-push k meaning otherwise ss s =
-    ap (λ o. option_map_or meaning o otherwise) (last_body_of-push k ss s) ∙ said (is_known_of k s) meaning s.body (last_body_of k ss) otherwise
+    ap (λ o. option_map_or meaning o otherwise) (last_body_of-push k ss s)
+    ∙ said (is_known_of k s) meaning s.body (last_body_of k ss) otherwise
 
--- whether there is one of a type, with one subpacket more
-has-push : (k : ℕ) (ss : List Subpacket) (s : Subpacket) → is_some (last_body_of k (ss ++ s ∷ [])) ≡ cond (is_known_of k s) true (is_some (last_body_of k ss))
+-- whether there is one of a type, with one more subpacket
+has-push : (k : ℕ) (ss : List Subpacket) (s : Subpacket)
+    → is_some (last_body_of k (ss ++ s ∷ [])) ≡ cond (is_known_of k s) true (is_some (last_body_of k ss))
 has-push k ss s = ap is_some (last_body_of-push k ss s) ∙ is_said (is_known_of k s) s.body (last_body_of k ss)
 
 or_to_prefix : (a b c : Bool) → (a || (b || c)) ≡ (b || (a || c))
@@ -64,8 +74,9 @@ any-push : {A : Type 0} (p : A → Bool) (xs : List A) (y : A) → list_any p (x
 any-push p [] y = refl
 any-push p (x ∷ xs) y = ap (λ b. p x || b) (any-push p xs y) ∙ or_to_prefix (p x) (p y) (list_any p xs)
 
--- the notes of one subpacket more
-pub notes_in-push : (kind hash : ℕ) (ss : List Subpacket) (s : Subpacket) → notes_in kind hash (ss ++ s ∷ []) ≡ note_more (notes_in kind hash ss) s
+-- the notes of one more subpacket
+pub notes_in-push : (kind hash : ℕ) (ss : List Subpacket) (s : Subpacket)
+    → notes_in kind hash (ss ++ s ∷ []) ≡ note_more (notes_in kind hash ss) s
 notes_in-push kind hash ss s =
     λ i. record {
       facts = record {
@@ -91,7 +102,7 @@ one_or : {A : Type 0} (b : Bool) (x : A) (o : Option A) → cond b (Some x) o �
 one_or true x o = refl
 one_or false x o = refl
 
--- the last body of a type: that of one subpacket more, or else the one before
+-- the last body of a type: that of the further subpacket, or else the one before
 pub last_body_of-or :
     (k : ℕ) (ss : List Subpacket) (s : Subpacket) →
     last_body_of k (ss ++ s ∷ []) ≡ option_or (cond (is_known_of k s) (Some s.body) None) (last_body_of k ss)

@@ -9,7 +9,8 @@ pub record Walked {A : Type 0} (value_of : List Subpacket → A) (all left : Lis
   pub split : all ≡ seen ++ left
   pub so_far : value ≡ value_of seen
 
-pub walked_none : {A : Type 0} (value_of : List Subpacket → A) (all : List Subpacket) (value : A) → value ≡ value_of [] → Walked value_of all all value
+pub walked_none : {A : Type 0} (value_of : List Subpacket → A) (all : List Subpacket) (value : A) → value ≡ value_of []
+    → Walked value_of all all value
 walked_none value_of all value h = record { seen = []; split = refl; so_far = h }
 
 pub walked_more :
@@ -24,5 +25,7 @@ walked_more value_of more push all left value s left' value' w e h =
       so_far = h ∙ ap (λ v. more v s) w.so_far ∙ sym (push w.seen s);
     }
 
-pub walked_all : {A : Type 0} (value_of : List Subpacket → A) (all left : List Subpacket) (value : A) → Walked value_of all left value → left ≡ [] → value ≡ value_of all
-walked_all value_of all left value w e = w.so_far ∙ ap value_of (sym (w.split ∙ ap (λ ss. w.seen ++ ss) e ∙ append-nil w.seen))
+pub walked_all : {A : Type 0} (value_of : List Subpacket → A) (all left : List Subpacket) (value : A)
+    → Walked value_of all left value → left ≡ [] → value ≡ value_of all
+walked_all value_of all left value w e =
+    w.so_far ∙ ap value_of (sym (w.split ∙ ap (λ ss. w.seen ++ ss) e ∙ append-nil w.seen))

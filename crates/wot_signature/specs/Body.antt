@@ -3,33 +3,33 @@ use Rattle.std.specs.Prelude.{ℕ, Bool, false, nat_lt, nat_le, ◌==◌, if◌t
 use Rattle.std.specs.Prelude.{Option, Some, None}
 use Rattle.std.specs.Int.{w16, w32, from_be_bytes}
 
--- the kind, the number of the hash algorithm, and the two areas
+-- the signature type, the number of the hash algorithm, and the two areas
 pub record Parts : Type 0 where
   pub kind : ℕ
   pub hash : ℕ
   pub hashed : List ℕ
   pub unhashed : List ℕ
 
--- so many octets, and what is behind them
+-- this many octets, and what is behind them
 abbrev pub octets_at : ℕ → List ℕ → Option (List ℕ × List ℕ)
 octets_at size octets = if nat_lt (length octets) size then None else Some (take size octets, drop size octets)
 
--- the octets behind two octets that say how many they are, and what is behind those
+-- a field after its length in two octets, and what is behind it
 abbrev pub short_field_at : List ℕ → Option (List ℕ × List ℕ)
 short_field_at (high ∷ low ∷ rest) = octets_at (from_be_bytes w16 (high ∷ low ∷ [])) rest
 short_field_at _ = None
 
--- the octets behind four octets that say how many they are, and what is behind those
+-- a field after its length in four octets, and what is behind it
 abbrev pub long_field_at : List ℕ → Option (List ℕ × List ℕ)
 long_field_at (a ∷ b ∷ c ∷ d ∷ rest) = octets_at (from_be_bytes w32 (a ∷ b ∷ c ∷ d ∷ [])) rest
 long_field_at _ = None
 
--- Behind the areas of version 4 stand two octets of the hash, and the material, if any.
+-- After the areas of version 4 come two octets of the hash, and the material, if any.
 abbrev pub ends_v4 : List ℕ → Bool
 ends_v4 rest = nat_le 2 (length rest)
 
--- Behind the areas of version 6 stand two octets of the hash, an octet that says how many octets the salt has, the
--- salt, and the material, if any.
+-- After the areas of version 6 come two octets of the hash, an octet with the length of the salt, the salt, and the
+-- material, if any.
 abbrev pub ends_v6 : List ℕ → Bool
 ends_v6 (high ∷ low ∷ size ∷ rest) = nat_le size (length rest)
 ends_v6 _ = false
@@ -44,16 +44,16 @@ abbrev pub with_hashed : (List ℕ → Option (List ℕ × List ℕ)) → (List 
 with_hashed field_at ends kind hash None = None
 with_hashed field_at ends kind hash (Some hashed) = with_unhashed ends kind hash hashed.0 (field_at hashed.1)
 
--- The hashed and the unhashed area, of version 4, with what has to stand behind them.
+-- The hashed and the unhashed area of version 4, if what has to follow them does.
 abbrev pub areas_v4 : ℕ → ℕ → List ℕ → Option Parts
 areas_v4 kind hash rest = with_hashed short_field_at ends_v4 kind hash (short_field_at rest)
 
--- the same of version 6
+-- the hashed and the unhashed area of version 6, if what has to follow them does
 abbrev pub areas_v6 : ℕ → ℕ → List ℕ → Option Parts
 areas_v6 kind hash rest = with_hashed long_field_at ends_v6 kind hash (long_field_at rest)
 
--- The parts of a body: the version, the kind, the key algorithm, the hash algorithm, and the areas of its version. None
--- where a part is missing, and for a version other than 4 and 6. The salt's length isn't compared with the hash.
+-- The parts of a body: the version, the signature type, the key algorithm, the hash algorithm, and the areas of its
+-- version. None if a part is missing or the version is neither 4 nor 6. The salt's length isn't compared with the hash.
 abbrev pub parts_of : List ℕ → Option Parts
 parts_of (version ∷ kind ∷ algorithm ∷ hash ∷ rest) =
     if version == 4 then areas_v4 kind hash rest

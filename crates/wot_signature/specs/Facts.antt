@@ -22,19 +22,19 @@ is_set octet = not (octet == 0)
 abbrev pub issuer_in : List ℕ → Fpr
 issuer_in body = if slice_index body 0 == 6 then V6 (drop 1 body) else V4 (drop 1 body)
 
--- what the last known one of a type says, or what holds where there is none
+-- what the last known subpacket of a type says, or a default if there is none
 abbrev pub says : {A : Type 0} → ℕ → (List ℕ → A) → A → List Subpacket → A
 says kind meaning otherwise subpackets = option_map_or meaning (last_body_of kind subpackets) otherwise
 
--- one that isn't known, and must not be passed over
+-- an unknown critical subpacket
 abbrev pub is_refused : Subpacket → Bool
 is_refused subpacket = not (is_known subpacket) && subpacket.critical
 
--- There is a creation time, and none is critical and unknown.
+-- There is a creation time, and no unknown critical subpacket.
 abbrev pub is_sound : List Subpacket → Bool
 is_sound subpackets = is_some (last_body_of 2 subpackets) && not (list_any is_refused subpackets)
 
--- the facts of a signature of this kind and hash algorithm with these hashed subpackets
+-- the facts of a signature of this type and hash algorithm with these hashed subpackets
 abbrev pub facts_in : ℕ → ℕ → List Subpacket → SigFacts
 facts_in kind hash subpackets = record {
   kind = kind;

@@ -15,7 +15,7 @@ abbrev pub is_issuer : List ℕ → Bool
 is_issuer body =
     ((length body == 21) && (slice_index body 0 == 4)) || ((length body == 33) && (slice_index body 0 == 6))
 
--- The type is known, and has this body: as many octets as it says, and the version before an issuer fingerprint.
+-- The type is known, and the body fits it: it has the type's length, and an issuer fingerprint begins with its version.
 abbrev pub fits : ℕ → List ℕ → Bool
 fits kind body =
     if (kind == 2 || kind == 3) || kind == 9 then length body == 4

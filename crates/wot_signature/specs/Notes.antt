@@ -1,4 +1,4 @@
--- What was noted of the hashed subpackets so far.
+-- What the hashed subpackets read so far say.
 use Rattle.std.specs.Prelude.{ℕ, Bool, true, false, not, ◌||◌, ◌&&◌, ◌==◌, slice_index, List, Some, if◌then◌else◌}
 use Rattle.std.specs.Prelude.{is_some}
 use Rattle.std.specs.List.{list_any}
@@ -16,7 +16,7 @@ notes_in kind hash subpackets = record {
   refused = list_any is_refused subpackets;
 }
 
--- the facts with one subpacket more, which is known or isn't
+-- the facts after one more subpacket, known or not
 abbrev pub fact_more : Bool → SigFacts → Subpacket → SigFacts
 fact_more known f s = record f {
   made = (if known && (s.kind == 2) then number_in s.body else f.made);
@@ -31,7 +31,7 @@ fact_more known f s = record f {
   issuer = (if known && (s.kind == 33) then Some (issuer_in s.body) else f.issuer);
 }
 
--- the notes with one subpacket more, which is known or isn't
+-- the notes after one more subpacket, known or not
 abbrev pub note_as : Bool → Notes → Subpacket → Notes
 note_as known n s = record {
   facts = fact_more known n.facts s;
@@ -42,6 +42,6 @@ note_as known n s = record {
 abbrev pub note_more : Notes → Subpacket → Notes
 note_more n s = note_as (is_known s) n s
 
--- the facts that come of the notes in the end
+-- the facts after the last subpacket
 abbrev pub facts_from : Notes → SigFacts
 facts_from n = record n.facts { sound = n.dated && not n.refused }

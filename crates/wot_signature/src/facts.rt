@@ -1,23 +1,27 @@
+//! The facts of a signature, one field for each subpacket that has an effect.
+//!
+//! `specs/Facts.antt` defines their values. A new fact also needs a type in `known` and a case in `notes`;
+//! `docs/CHANGING.md` has the steps.
 use wot_types::Fpr;
 
-/// What a signature says by its hashed subpackets. Of several subpackets of one type the last known one counts.
+/// What the hashed subpackets of a signature say. If several have one type, the last known one counts.
 #[derive(Clone, Copy, PartialEq, Eq)]
 pub struct SigFacts {
-    /// The kind of signature: 0x10 to 0x13 are certifications, 0x1F stands on the key, 0x20 and 0x30 revoke.
+    /// The signature type: 0x10 to 0x13 are certifications, 0x1F is on the key, 0x20 and 0x30 revoke.
     pub kind: u8,
     /// The number of the hash algorithm.
     pub hash: u8,
-    /// When it was made, in seconds since 1970; 0 where it doesn't say.
+    /// When it was created, in seconds since 1970; 0 if it doesn't say.
     pub made: u32,
-    /// For how many seconds it holds; 0 is for ever.
+    /// Its validity period in seconds; 0 if it doesn't expire.
     pub lasts: u32,
-    /// For how many seconds the key holds; 0 is for ever.
+    /// The key's validity period in seconds; 0 if it doesn't expire.
     pub key_lasts: u32,
-    /// How many further introducers it trusts.
+    /// The depth of a trust signature: how many further introducers may follow.
     pub depth: u8,
-    /// The amount of trust; 120, in full, where it doesn't say.
+    /// The amount of trust; 120, which is full trust, if it doesn't say.
     pub amount: u8,
-    /// Whether it has a scope pattern, readable or not.
+    /// Whether it has a regular expression, well-formed or not.
     pub scoped: bool,
     /// Whether it can be revoked.
     pub revocable: bool,
@@ -25,8 +29,8 @@ pub struct SigFacts {
     pub primary: bool,
     /// The code of the reason for a revocation.
     pub reason: Option<u8>,
-    /// The fingerprint of the key that is said to have made it.
+    /// The fingerprint of the key that it names as its issuer.
     pub issuer: Option<Fpr>,
-    /// Whether it has a creation time, and no critical subpacket that is unknown.
+    /// Whether it has a creation time, and no unknown critical subpacket.
     pub sound: bool,
 }

@@ -1,3 +1,7 @@
+//! The key ID that a signature names as its issuer.
+//!
+//! It stands on `read_body` and on `specs/Signature.antt`. It is a hint for verifiers: `pending` replies name it, and
+//! no answer depends on it.
 ghost use Rattle.std.specs.Prelude.{◌≡◌, length, if◌then◌else◌, Some, None};
 ghost use Rattle.wot_subpacket.specs.Seen.{seen};
 ghost use Rattle.wot_signature.specs.Known.{is_known_of, last_body_of};
@@ -7,8 +11,8 @@ use crate::known::{ISSUER_KEY_ID, is_known};
 use crate::read_body::read_body_of;
 use wot_subpacket::{Area, Sub};
 
-/// The last issuer key ID of the hashed area, else of the unhashed area where that is a list of subpackets.
-/// It only hints at who made the signature. `None` too where the body isn't readable.
+/// The last issuer key ID of the hashed area, or else of the unhashed area if that is a list of subpackets. It is only
+/// a hint at the issuer. `None` if there is none or the body can't be parsed.
 #[tactic(auto, unfolding(crate::specs::Signature::hint_of))]
 pub fn hint(body: &[u8]) -> Option<[u8; 8]>
     ensures hint { result ≡ hint_of body.now }

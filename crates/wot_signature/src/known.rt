@@ -1,3 +1,7 @@
+//! Which subpackets are known: their types, and which bodies fit them.
+//!
+//! It stands on `specs/Known.antt`. A critical subpacket that isn't known here makes a signature count for nothing, so
+//! a change changes answers.
 ghost use Rattle.std.specs.Prelude.{◌≡◌, ◌==◌};
 ghost use Rattle.std.specs.List.{list_any};
 ghost use Rattle.wot_subpacket.specs.Seen.{seen};
@@ -27,7 +31,7 @@ pub(crate) const REASON: u8 = 29;
 
 pub(crate) const ISSUER_FINGERPRINT: u8 = 33;
 
-/// Whether the type is listed and the body fits it.
+/// Whether the type is known and the body fits it.
 pub(crate) fn is_known(sub: &Sub<'_>) -> bool
     ensures { result ≡ is_known_spec (seen sub.now) }
 {

@@ -1,3 +1,7 @@
+//! The walk over the hashed subpackets that collects the facts of a signature.
+//!
+//! It stands on `known` and on `specs/Notes.antt`, which says what each further subpacket changes. `read_signature`
+//! returns what it collects.
 ghost use Rattle.std.specs.Prelude.{◌≡◌, drop, length, [], true};
 ghost use Rattle.wot_subpacket.specs.Seen.{seen};
 ghost use Rattle.wot_signature.specs.Facts.{number_in as number_in_spec, issuer_in as issuer_in_spec};
@@ -9,14 +13,14 @@ use crate::known::{self, is_known};
 use wot_subpacket::{Area, Sub};
 use wot_types::Fpr;
 
-/// What was noted of the hashed subpackets so far.
+/// What the hashed subpackets read so far say.
 #[derive(Clone, Copy)]
 pub(crate) struct Notes {
-    /// The facts, but for whether they are sound.
+    /// The facts; `sound` isn't decided yet.
     pub(crate) facts: SigFacts,
     /// There was a creation time.
     pub(crate) dated: bool,
-    /// There was a critical one that is unknown.
+    /// There was an unknown critical subpacket.
     pub(crate) refused: bool,
 }
 
@@ -101,7 +105,7 @@ fn number_in(body: &[u8]) -> u32
     u32::from_be_bytes([body[0], body[1], body[2], body[3]])
 }
 
-/// The fingerprint behind the octet of its version.
+/// The fingerprint after the octet of its version.
 fn issuer_in(body: &[u8]) -> Fpr
     requires { is_issuer body.now ≡ true }
     ensures { result ≡ issuer_in_spec body.now }

@@ -1,3 +1,7 @@
+//! The parts of a signature body: type, hash algorithm and both areas, in the forms of versions 4 and 6 (RFC 9580,
+//! section 5.2.3).
+//!
+//! It stands on `specs/Body.antt`. `read_body` parses the hashed area that it cuts out.
 ghost use Rattle.std.specs.Prelude.{IfSome};
 ghost use Rattle.wot_subpacket.specs.Slice.{IsSliceOf};
 ghost use Rattle.wot_signature.specs.Body.{
@@ -18,7 +22,7 @@ pub(crate) struct Parts<'a> {
     pub(crate) unhashed: &'a [u8],
 }
 
-/// The parts of a body; `None` where a part is missing, and for a version other than 4 and 6.
+/// Cuts a body into its parts. `None` if a part is missing or the version is neither 4 nor 6.
 pub(crate) fn parts_of(body: &[u8]) -> Option<Parts<'_>>
     ensures parts { Lends (parts_of_spec body.now) result lent_parts }
     ensures slice { IfSome result (λ parts. IsSliceOf parts.hashed.now body.now) }
@@ -33,7 +37,7 @@ pub(crate) fn parts_of(body: &[u8]) -> Option<Parts<'_>>
     }
 }
 
-/// The areas of version 4, before two octets of the hash and the material.
+/// The areas of version 4. Two octets of the hash and the material follow them.
 fn areas_v4(kind: u8, hash: u8, octets: &[u8]) -> Option<Parts<'_>>
     ensures parts { Lends (areas_v4_spec kind hash octets.now) result lent_parts }
     ensures slice { IfSome result (λ parts. IsSliceOf parts.hashed.now octets.now) }
@@ -51,7 +55,8 @@ fn areas_v4(kind: u8, hash: u8, octets: &[u8]) -> Option<Parts<'_>>
     })
 }
 
-/// The areas of version 6, before two octets of the hash, an octet with the salt's length, the salt and the material.
+/// The areas of version 6. Two octets of the hash, an octet with the salt's length, the salt and the material follow
+/// them.
 fn areas_v6(kind: u8, hash: u8, octets: &[u8]) -> Option<Parts<'_>>
     ensures parts { Lends (areas_v6_spec kind hash octets.now) result lent_parts }
     ensures slice { IfSome result (λ parts. IsSliceOf parts.hashed.now octets.now) }
@@ -69,7 +74,7 @@ fn areas_v6(kind: u8, hash: u8, octets: &[u8]) -> Option<Parts<'_>>
     })
 }
 
-/// The octets behind two octets that say how many they are, and what is behind those.
+/// A field after its length in two octets, and the octets after it.
 fn short_field(octets: &[u8]) -> Option<(&[u8], &[u8])>
     ensures found { Lends (short_field_at octets.now) result (λ found. (found.0.now, found.1.now)) }
     ensures slice { IfSome result (λ found. IsSliceOf found.0.now octets.now) }
@@ -85,7 +90,7 @@ fn short_field(octets: &[u8]) -> Option<(&[u8], &[u8])>
     Some((&rest[..size], &rest[size..]))
 }
 
-/// The octets behind four octets that say how many they are, and what is behind those.
+/// A field after its length in four octets, and the octets after it.
 fn long_field(octets: &[u8]) -> Option<(&[u8], &[u8])>
     ensures found { Lends (long_field_at octets.now) result (λ found. (found.0.now, found.1.now)) }
     ensures slice { IfSome result (λ found. IsSliceOf found.0.now octets.now) }

@@ -1,3 +1,6 @@
+//! The regular expressions of a signature, as texts in place (RFC 9580, section 5.2.3.22).
+//!
+//! It stands on `read_body` and on `texts`. `wot_scope` parses and matches them.
 ghost use Rattle.std.specs.Prelude.{◌≡◌, IfSome};
 ghost use Rattle.std.specs.Option.{option_map};
 ghost use Rattle.std.specs.List.{AllByRecursion};
@@ -8,8 +11,8 @@ use crate::Scopes;
 use crate::read_body::read_body_of;
 use wot_subpacket::AreaIter;
 
-/// The pattern texts of a signature body in order, each a slice of the body without one zero octet at its end;
-/// none for a body that isn't readable. They need not be readable patterns.
+/// The texts of a signature's regular expressions in order, each a slice of the body without one zero octet at its end.
+/// None for a body that can't be parsed. They needn't be well-formed.
 #[tactic(auto, unfolding(crate::specs::Signature::scopes_of))]
 pub fn scopes(body: &[u8]) -> Scopes<'_>
     ensures texts { result ≡ scopes_of body.now }

@@ -1,3 +1,7 @@
+//! `read_signature`: a signature body to its facts.
+//!
+//! It stands on `read_body` and `notes`, and on `specs/Signature.antt`. Everything above that decides by a signature
+//! starts here.
 ghost use Rattle.std.specs.Prelude.{◌≡◌, is_some};
 ghost use Rattle.wot_signature.specs.Signature.{facts_of, is_readable};
 
@@ -5,8 +9,8 @@ use crate::SigFacts;
 use crate::notes::notes_of;
 use crate::read_body::read_body_of;
 
-/// The facts of a signature body, of which the hashed area alone is asked; `None` where the body isn't readable:
-/// it is of another version than 4 and 6, a part is missing, or the hashed area is no list of subpackets.
+/// The facts of a signature body, taken from the hashed area only. `None` if the body can't be parsed: its version is
+/// neither 4 nor 6, a part is missing, or the hashed area isn't a list of subpackets.
 #[tactic(auto, unfolding(crate::specs::Signature::facts_of, crate::specs::Signature::is_readable))]
 pub fn read_signature(body: &[u8]) -> Option<SigFacts>
     ensures facts { result ≡ facts_of body.now }

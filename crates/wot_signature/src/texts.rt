@@ -1,3 +1,5 @@
+//! The iterator over a signature's regular expressions. It stands on `AreaIter` of `wot_subpacket`; `scopes` makes it,
+//! and `wot_scope` takes one text after another from it.
 ghost use Rattle.std.specs.Prelude.{◌≡◌};
 ghost use Rattle.std.specs.Iterator.{YieldsFirstRef};
 ghost use Rattle.wot_signature.specs.Signature.{texts_in, trimmed};
@@ -6,7 +8,7 @@ use crate::known::PATTERN;
 use std::marker::Model;
 use wot_subpacket::AreaIter;
 
-/// The pattern texts of a signature that are left, in order. Contracts see their list.
+/// Iterates over the texts of a signature's regular expressions. Contracts see the list of those that are left.
 #[derive(Drop)]
 pub struct Scopes<'a> {
     pub(crate) subs: Option<AreaIter<'a>>,
@@ -47,7 +49,7 @@ fn next_text<'a>(subs: &mut AreaIter<'a>) -> Option<&'a [u8]>
     None
 }
 
-/// Without one zero octet at the end.
+/// The text of a body: without one zero octet at its end.
 fn text_of(body: &[u8]) -> &[u8]
     ensures { result.now ≡ trimmed body.now }
 {

@@ -7,7 +7,7 @@ use Rattle.wot_subpacket.specs.declared.fault.AreaFault.TheVariants.{CutLength, 
 use Rattle.wot_subpacket.specs.Subpacket.{Subpacket, subpacket_of}
 use Rattle.wot_subpacket.specs.Length.{length_at}
 
--- a subpacket of so many octets, and what is behind it
+-- a subpacket of this many octets, and what is behind it
 abbrev pub cut_at : ℕ → List ℕ → Result (Subpacket × List ℕ) AreaFault
 cut_at size octets =
     if size == 0 then Err Zero
@@ -27,13 +27,13 @@ abbrev pub before : Subpacket → Result (List Subpacket) AreaFault → Result (
 before first (Ok others) = Ok (first ∷ others)
 before first (Err fault) = Err fault
 
--- the first one, before those that are read behind it
+-- the first one, in front of those that are read behind it
 abbrev pub then_read : Result (Subpacket × List ℕ) AreaFault → (List ℕ → Result (List Subpacket) AreaFault)
     → Result (List Subpacket) AreaFault
 then_read (Err fault) read = Err fault
 then_read (Ok found) read = before found.0 (read found.1)
 
--- the subpackets that no more than so many octets spell
+-- the subpackets that at most this many octets spell
 abbrev pub spelled : ℕ → List ℕ → Result (List Subpacket) AreaFault
 spelled most [] = Ok []
 spelled zero (o ∷ octets) = Err CutBody
@@ -43,6 +43,6 @@ spelled (suc most) (o ∷ octets) = then_read (first_of (o ∷ octets)) (spelled
 unfoldable pub subpackets_of : List ℕ → Result (List Subpacket) AreaFault
 subpackets_of octets = spelled (length octets) octets
 
--- the same list, where there is one
+-- the list, if there is one
 abbrev pub list_of : List ℕ → List Subpacket
 list_of octets = result_unwrap_or (subpackets_of octets) []

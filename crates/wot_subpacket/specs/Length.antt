@@ -13,7 +13,7 @@ abbrev pub four_octets_at : List ℕ → Option (ℕ × List ℕ)
 four_octets_at octets =
     if nat_lt (length octets) 4 then None else Some (from_be_bytes w32 (take 4 octets), drop 4 octets)
 
--- the length at the beginning of octets, and what is behind it; none where octets of the length are missing
+-- the length at the beginning of octets, and what is behind it; none if octets of the length are missing
 abbrev pub length_at : List ℕ → Option (ℕ × List ℕ)
 length_at [] = None
 length_at (first ∷ rest) =

@@ -1,11 +1,11 @@
--- Subpackets as the code lends them.
+-- Subpackets as the code borrows them.
 use Rattle.std.specs.Prelude.{◌≡◌, ℕ, List, Result, Ok, Err}
 use Rattle.std.specs.Borrow.{Bor}
 use Rattle.wot_subpacket.specs.declared.fault.AreaFault.{AreaFault}
 use Rattle.wot_subpacket.specs.declared.sub.Sub.{Sub}
 use Rattle.wot_subpacket.specs.Subpacket.{Subpacket}
 
--- the subpacket that is lent
+-- the borrowed subpacket
 abbrev pub seen : Sub → Subpacket
 seen sub = record { critical = sub.critical; kind = sub.kind; body = sub.body.now }
 

@@ -1,3 +1,7 @@
+//! An area of a signature: checked once as a list of subpackets, and then read as often as needed.
+//!
+//! It stands on `first` and on `specs/Area.antt`. `wot_signature` reads facts, hints and regular expressions through
+//! `Area::iter`.
 ghost use Rattle.std.specs.Prelude.{◌≡◌, ◌<◌, ◌^◌, length, IfOk, IsOk, MatchResult};
 ghost use Rattle.wot_subpacket.specs.Area.{subpackets_of};
 ghost use Rattle.wot_subpacket.specs.Slice.{HaveSlicesOf};
@@ -6,7 +10,7 @@ use crate::first::first;
 use crate::{AreaFault, Sub};
 use std::marker::Model;
 
-/// An area of a signature: octets that are a list of subpackets. Contracts see that list.
+/// An area of a signature: octets that are a list of subpackets. Contracts see the list.
 #[derive(Drop)]
 pub struct Area<'a> {
     bytes: &'a [u8],
@@ -25,7 +29,7 @@ impl<'a> Model for Area<'a> {
 }
 
 impl<'a> Area<'a> {
-    /// The octets as a list of subpackets, or the first fault from the beginning. Reads each length once.
+    /// Reads the octets as a list of subpackets. Returns the first fault if they aren't one. Each length is read once.
     pub fn new(bytes: &'a [u8]) -> Result<Area<'a>, AreaFault>
         ensures read { result ≡ subpackets_of bytes.now }
         ensures slices { IfOk result (HaveSlicesOf bytes.now) }
@@ -59,7 +63,7 @@ fn check(bytes: &[u8]) -> Result<(), AreaFault>
     Ok(())
 }
 
-/// The subpackets of an area that are left, in order. Contracts see their list.
+/// Iterates over the subpackets of an area. Contracts see the list of those that are left.
 #[derive(Drop)]
 pub struct AreaIter<'a> {
     rest: &'a [u8],
@@ -93,7 +97,7 @@ impl<'a> Iterator for AreaIter<'a> {
                 self.rest = behind;
                 Some(sub)
             }
-            // The octets are a list, so that only their end has no first one.
+            // The octets are a list, so there is a first one except at the end.
             Err(_) => None,
         }
     }

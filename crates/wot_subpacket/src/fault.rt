@@ -1,9 +1,11 @@
-/// Why octets are no list of subpackets. The first fault from the beginning is told.
+//! Why octets aren't a list of subpackets. `Area::new` returns it; `wot_signature` takes a signature with such a hashed
+//! area as malformed.
+/// Why octets aren't a list of subpackets. The first fault from the beginning is returned.
 #[derive(Clone, Copy, PartialEq, Eq)]
 pub enum AreaFault {
     /// Octets of a length are missing.
     CutLength,
-    /// A length is 0, so that there is no type.
+    /// A length is 0, so there is no type.
     Zero,
     /// Fewer octets are left than the length says.
     CutBody,

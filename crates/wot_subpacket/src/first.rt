@@ -1,3 +1,6 @@
+//! The first subpacket of some octets: its length, its type with the critical bit, and its body.
+//!
+//! It stands on `size` and on `specs/Subpacket.antt`. All of `area` rests on it.
 ghost use Rattle.std.specs.Prelude.{◌≡◌, ◌<◌, length};
 ghost use Rattle.wot_subpacket.specs.Area.{first_of};
 ghost use Rattle.wot_subpacket.specs.Seen.{seen, GivesFirst};
@@ -6,7 +9,7 @@ ghost use Rattle.wot_subpacket.specs.Subpacket.{subpacket_of};
 use crate::size::length_of;
 use crate::{AreaFault, Sub};
 
-/// The first subpacket, and the octets behind it. No octets have the fault `CutLength`.
+/// Reads the first subpacket. Returns it with the octets after it. The fault of no octets is `CutLength`.
 pub(crate) fn first(bytes: &[u8]) -> Result<(Sub<'_>, &[u8]), AreaFault>
     ensures { GivesFirst result (first_of bytes.now) }
 {

@@ -1,7 +1,10 @@
+//! The length in front of a subpacket, in one, two or five octets. It stands on `specs/Length.antt`. `first` reads each
+//! length through it.
 ghost use Rattle.std.specs.Prelude.{◌≡◌, ◌<◌, ◌≤◌, MatchOption, None, Some};
 ghost use Rattle.wot_subpacket.specs.Length.{length_at, two_octets_at, four_octets_at};
 
-/// The length at the beginning, and the octets behind it; `None` where octets of the length are missing.
+/// Reads the length at the beginning. Returns it with the octets after it, or `None` if octets of the length are
+/// missing.
 pub(crate) fn length_of(bytes: &[u8]) -> Option<(usize, &[u8])>
     ensures { MatchOption result (length_at bytes.now ≡ None)
         (λ found. length_at bytes.now ≡ Some (found.0, found.1.now)) }

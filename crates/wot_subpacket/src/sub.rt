@@ -1,7 +1,8 @@
-/// A subpacket of a signature, as it lies in its area.
+//! A subpacket, borrowed from its area. `wot_signature` decides what each type means; nothing here does.
+/// A subpacket of a signature, borrowed from its area.
 #[derive(Clone, Copy, PartialEq, Eq)]
 pub struct Sub<'a> {
-    /// Whether who doesn't know it must refuse the signature.
+    /// Whether a reader that doesn't know the type has to reject the signature.
     pub critical: bool,
     /// The type, below 128.
     pub kind: u8,

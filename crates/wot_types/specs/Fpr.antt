@@ -14,7 +14,7 @@ abbrev pub octets_of : Fpr → List ℕ
 octets_of (V4 octets) = octets
 octets_of (V6 octets) = octets
 
--- the version of the key that it is of
+-- the version of the key
 abbrev pub version_of : Fpr → ℕ
 version_of (V4 octets) = 4
 version_of (V6 octets) = 6
@@ -37,6 +37,6 @@ fpr_of_digits digits = option_or (option_map V4 (array_of_digits 20 digits)) (op
 abbrev pub fpr_cmp : Fpr → Fpr → Ordering
 fpr_cmp a b = ordering_then (slice_cmp nat_cmp (octets_of a) (octets_of b)) (nat_cmp (version_of a) (version_of b))
 
--- whether two are one
+-- whether two fingerprints are equal
 abbrev pub same_fpr : Fpr → Fpr → Bool
 same_fpr a b = is_eq (fpr_cmp a b)

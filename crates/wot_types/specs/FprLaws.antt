@@ -1,5 +1,5 @@
--- What holds of the order of fingerprints. A fingerprint is one with another exactly where the two tie in their order.
--- The law `fingerprints_tie_where_equal` says it too; proofs of the crates above cite it from here.
+-- Laws of the order of fingerprints: two fingerprints are equal if and only if they tie in it. The law
+-- `fingerprints_tie_where_equal` says so too. Proofs of the crates above cite it from here.
 use Rattle.std.specs.Prelude.{◌≡◌, true}
 use Rattle.std.specs.declared.cmp.Ordering.{Ordering}
 use Rattle.std.specs.declared.cmp.Ordering.TheVariants.{Less, Equal, Greater}
@@ -26,6 +26,6 @@ turned Greater = refl
 pub same_fpr-sym : (a b : Fpr) → same_fpr a b ≡ same_fpr b a
 same_fpr-sym a b = ap is_eq (fpr_total.antisymm a b) ∙ turned (fpr_cmp b a)
 
--- the order by which maps keep fingerprints is this one
+-- the order that maps of fingerprints use
 pub same_cmp : ghosts.cmp ≡ fpr_cmp
 same_cmp = refl

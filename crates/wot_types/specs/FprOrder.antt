@@ -1,4 +1,5 @@
--- The order of fingerprints is total, and decides what is one. This file alone looks at how a fingerprint is made.
+-- The order of fingerprints is total, and fingerprints that tie in it are equal. Only this file takes fingerprints
+-- apart.
 use Rattle.std.specs.Prelude.{◌≡◌, false, length}
 use Rattle.std.specs.declared.cmp.Ordering.{Ordering}
 use Rattle.std.specs.declared.cmp.Ordering.TheVariants.{Less, Equal, Greater}
@@ -18,7 +19,7 @@ use Rattle.wot_types.specs.Fpr.{octets_of, version_of, octets_in, fpr_cmp}
 pub fpr_total : IsTotalOrder fpr_cmp
 fpr_total = then_total (on_total octets_of nat_list_cmp_total) (on_total version_of nat_cmp_total)
 
--- fingerprints that tie are one
+-- fingerprints that tie are equal
 pub fpr_exact : (a b : Fpr) → fpr_cmp a b ≡ Equal → a ≡ b
 fpr_exact (V4 xs) (V4 ys) e = ap V4 (exact_bytes xs ys (then-Equal (slice_cmp nat_cmp xs ys) Equal e).0)
 fpr_exact (V4 xs) (V6 ys) e = absurd (true≢false (ap is_lt {x = Less} (then-Equal (slice_cmp nat_cmp xs ys) Less e).1))
@@ -41,7 +42,7 @@ greater_behind Less = refl
 greater_behind Equal = refl
 greater_behind Greater = refl
 
--- the test of two fingerprints is that of their order
+-- the derived equality test agrees with the order
 pub fpr_ties : (a b : Fpr) → ghosts.eq a b ≡ is_eq (fpr_cmp a b)
 fpr_ties (V4 xs) (V4 ys) = texts_ties xs ys ∙ tied_before (slice_cmp nat_cmp xs ys)
 fpr_ties (V4 xs) (V6 ys) = less_behind (slice_cmp nat_cmp xs ys)
@@ -58,7 +59,7 @@ decided Less p h = refl
 decided Equal p h = absurd (h refl)
 decided Greater p h = refl
 
--- fingerprints of as many octets as their versions have are ordered by these alone
+-- fingerprints whose lengths fit their versions are ordered by their octets alone
 pub by_octets : (a b : Fpr) → length (octets_of a) ≡ octets_in a → length (octets_of b) ≡ octets_in b
     → fpr_cmp a b ≡ slice_cmp nat_cmp (octets_of a) (octets_of b)
 by_octets (V4 xs) (V4 ys) h k = itself (slice_cmp nat_cmp xs ys)

@@ -1,4 +1,4 @@
--- Facts on orders and plain lists that proofs of several crates cite.
+-- Laws of orders and plain lists that proofs of several crates cite.
 use Rattle.std.specs.Prelude.{◌≡◌, Bool, List, [], ◌∷◌, ◌++◌, map, filter}
 use Rattle.std.specs.List.{AllByRecursion, flat_map}
 use Rattle.std.specs.declared.cmp.Ordering.{Ordering}

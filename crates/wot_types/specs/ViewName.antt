@@ -15,7 +15,7 @@ is_name_octet octet =
 abbrev pub is_view_name : List ℕ → Bool
 is_view_name text = nat_lt 0 (length text) && nat_le (length text) 32 && list_all is_name_octet text
 
--- the name that a text is, seen as its octets; none for every other text
+-- the octets of the name if the text is one, otherwise none
 abbrev pub view_name_of : List ℕ → Option (List ℕ)
 view_name_of text = if is_view_name text then Some text else None
 

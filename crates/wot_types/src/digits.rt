@@ -1,3 +1,5 @@
+//! One law about hexadecimal digits: decoding undoes encoding. It stands on the contract of `hex`. `fpr` and `number`
+//! need it to show that what they print is what they read.
 ghost use Rattle.std.specs.Prelude.{◌≡◌, length};
 ghost use Rattle.hex.specs.Hex.{encode_lower};
 ghost use Rattle.wot_types.specs.Digits.{array_of_digits};

@@ -1,3 +1,7 @@
+//! Fingerprints of version 4 and version 6 keys: their octets, how they are read and printed, and their order.
+//!
+//! It stands on `hex` and on `specs/Fpr.antt`. Maps everywhere are ordered by fingerprints, and dumps and replies print
+//! them, so a change here touches all of it. The order's own proof is `specs/FprOrder.antt`.
 ghost use Rattle.std.specs.Prelude.{◌≡◌, ◌<◌, ◌≤◌, ◌+◌, ◌++◌, length, vec_len, vec_capacity, OnOk, OnErr, Some, None};
 ghost use Rattle.std.specs.Cmp.Lexicographic.{slice_cmp};
 ghost use Rattle.std.specs.Option.{option_map};
@@ -20,7 +24,7 @@ pub enum Fpr {
 }
 
 impl Fpr {
-    /// Its octets, 20 or 32.
+    /// The 20 or 32 octets.
     pub fn octets(&self) -> &[u8]
         ensures octets { result.now ≡ octets_of self.now }
         ensures size { length (octets_of self.now) ≡ octets_in self.now }
@@ -31,7 +35,7 @@ impl Fpr {
         }
     }
 
-    /// The version of the key that it is of: 4 or 6.
+    /// The version of the key, 4 or 6.
     pub fn version(&self) -> u8
         ensures version { result ≡ version_of self.now }
     {
@@ -52,7 +56,7 @@ impl Fpr {
     pub fn print(&self, out: &mut Vec<u8>) -> Result<(), Memory>
         ensures printed { OnOk result (out.new.items ≡ out.old.items ++ digits_of self.now) }
         ensures kept { OnErr result (out.new.items ≡ out.old.items) }
-        // It fails only where room was missing, and the capacity never shrinks.
+        // It fails only if room was missing, and the capacity never shrinks.
         ensures full { OnErr result (vec_capacity out.old < vec_len out.old + length (digits_of self.now)) }
         ensures grows { vec_capacity out.old ≤ vec_capacity out.new }
     {
@@ -186,8 +190,7 @@ pub fn compare_fprs(left: &Fpr, right: &Fpr) -> Ordering
     compare_octets(left.octets(), right.octets())
 }
 
-/// How many octets are compared one by one. Most fingerprints differ in one of these, and then the rest isn't looked
-/// at.
+/// How many octets are compared one by one before the slices are. Most fingerprints differ in one of these.
 const HEADS: u8 = 4;
 
 fn compare_octets(left: &[u8], right: &[u8]) -> Ordering

@@ -1,3 +1,7 @@
+//! The limits on what a keyring and its views hold, the standard values, and the word for each limit in a refusal.
+//!
+//! Values and words are defined in `specs/Limits.antt`. A change of a value also changes `docs/PROTOCOL.md` and the
+//! model.
 ghost use Rattle.std.specs.Prelude.{◌≡◌};
 ghost use Rattle.wot_types.specs.Limits.{limit_word, standard_limits};
 
@@ -37,7 +41,7 @@ impl Limits {
     }
 }
 
-/// A limit that a change would pass, in the order in which they are told.
+/// A limit that a change would exceed. If it would exceed several, the first in this order is reported.
 #[derive(Clone, Copy, Debug, PartialEq, Eq)]
 pub enum Limit {
     Certificate,
@@ -50,7 +54,7 @@ pub enum Limit {
 }
 
 impl Limit {
-    /// The word by which a refusal names it.
+    /// The word for the limit in a refusal.
     pub fn word(self) -> &'static [u8]
         ensures word { result.now ≡ limit_word self }
     {

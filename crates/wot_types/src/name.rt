@@ -1,3 +1,5 @@
+//! The names of entries in a certificate directory. `wot_certd` says which file an entry is; `load` and `store` of
+//! `wot_machine` use these names.
 use crate::Fpr;
 
 /// The name of an entry of a certificate directory.

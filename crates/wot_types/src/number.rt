@@ -1,3 +1,7 @@
+//! Signature numbers: how they are read and printed, and their order.
+//!
+//! It stands on `hex` and on `specs/SigNumber.antt`. `wot_verdict` says which number a signature has; verdicts are kept
+//! by these numbers.
 ghost use Rattle.std.specs.Prelude.{◌≡◌, ◌<◌, ◌≤◌, ◌+◌, ◌++◌, length, vec_len, vec_capacity, OnOk, OnErr};
 ghost use Rattle.wot_types.specs.SigNumber.{number_digits, number_cmp, number_of_digits};
 
@@ -5,7 +9,7 @@ use crate::Memory;
 use crate::digits::digits_are_read;
 use std::cmp::Ordering;
 
-/// The number by which a signature is known: a SHA-256 digest. Numbers are ordered by their octets.
+/// The number of a signature, a SHA-256 digest. Numbers are ordered by their octets.
 #[derive(Clone, Copy, PartialEq, Eq, PartialOrd, Ord)]
 pub struct SigNumber(pub [u8; 32]);
 
@@ -25,7 +29,7 @@ impl SigNumber {
     pub fn print(&self, out: &mut Vec<u8>) -> Result<(), Memory>
         ensures printed { OnOk result (out.new.items ≡ out.old.items ++ number_digits self.now) }
         ensures kept { OnErr result (out.new.items ≡ out.old.items) }
-        // It fails only where room was missing, and the capacity never shrinks.
+        // It fails only if room was missing, and the capacity never shrinks.
         ensures full { OnErr result (vec_capacity out.old < vec_len out.old + length (number_digits self.now)) }
         ensures grows { vec_capacity out.old ≤ vec_capacity out.new }
     {
@@ -43,7 +47,7 @@ impl SigNumber {
     }
 }
 
-/// How two numbers compare: as their octets do, octet by octet.
+/// Compares two numbers octet by octet.
 pub fn compare_numbers(left: &SigNumber, right: &SigNumber) -> Ordering
     ensures octets { result ≡ number_cmp left.now right.now }
 {

@@ -1,14 +1,16 @@
+//! The count of the edges that were made, which benches and tests read to see how much was computed again. It stands on
+//! nothing, and no reply depends on it.
 ghost use Rattle.std.specs.Prelude.{◌≡◌};
 
-/// Counts the edges that were made.
+/// Counts how many edges were computed.
 #[derive(Drop, PartialEq, Eq)]
 pub struct Steps {
-    /// How many, so far. The count stands still at `u64::MAX`.
+    /// How many so far. The count stays at `u64::MAX`.
     pub made: u64,
 }
 
 impl Steps {
-    /// Nothing was made yet.
+    /// A count of zero.
     pub fn new() -> Steps
         ensures none { result.made ≡ 0 }
     {

@@ -1,3 +1,5 @@
+//! User IDs as values: contracts see the list of octets. Nothing parses them. Certificates, questions, listings and
+//! cursors hold them, so a change here proves all of these again.
 ghost use Rattle.std.specs.Prelude.{◌≡◌, IfOk};
 
 use crate::Memory;
@@ -27,7 +29,7 @@ impl UserId {
         Ok(UserId { octets })
     }
 
-    /// Its octets.
+    /// The octets.
     pub fn octets(&self) -> &[u8]
         ensures whole { result.now ≡ self.now }
     {

@@ -1,3 +1,7 @@
+//! Names of views: which texts are names, and their order.
+//!
+//! It stands on `specs/ViewName.antt`. Cursors and watches have such names too. A change of what a name is made of also
+//! changes `docs/PROTOCOL.md`.
 ghost use Rattle.std.specs.Prelude.{◌≡◌, true, IfOk};
 ghost use Rattle.std.specs.List.{list_all};
 ghost use Rattle.wot_types.specs.ViewName.{is_name_octet, is_view_name, view_name_of, view_name_cmp};
@@ -26,7 +30,7 @@ impl Model for ViewName {
 }
 
 impl ViewName {
-    /// Reads a name; `None` for every text that isn't one.
+    /// Reads a name. `None` for a text that isn't one.
     pub fn read(alloc: Global, text: &[u8]) -> Result<Option<ViewName>, Memory>
         ensures read { IfOk result (λ name. name ≡ view_name_of text.now) }
     {
@@ -37,7 +41,7 @@ impl ViewName {
         Ok(Some(ViewName { octets }))
     }
 
-    /// Its octets.
+    /// The octets.
     pub fn octets(&self) -> &[u8]
         ensures whole { result.now ≡ self.now }
         ensures name { is_view_name self.now ≡ true }
@@ -45,7 +49,7 @@ impl ViewName {
         self.octets.as_slice()
     }
 
-    /// An equal name.
+    /// A copy.
     pub fn duplicate(&self, alloc: Global) -> Result<ViewName, Memory>
         ensures equal { IfOk result (λ name. name ≡ self.now) }
     {
@@ -132,7 +136,7 @@ impl Ord for ViewName {
     }
 }
 
-/// How two names compare: as their octets do, octet by octet.
+/// Compares two names octet by octet.
 pub fn compare_view_names(left: &ViewName, right: &ViewName) -> Ordering
     ensures octets { result ≡ view_name_cmp left.now right.now }
 {

@@ -1,15 +1,15 @@
--- The number of a signature at its place.
+-- The number of a signature on a component.
 use Rattle.std.specs.Prelude.{ℕ, List, [], ◌∷◌, ◌++◌, length, codes}
 use Rattle.std.specs.Int.{w32, to_be_bytes}
 use Rattle.sha2.specs.Sha256.{sha256}
 use Rattle.wot_types.specs.declared.number.SigNumber.{SigNumber}
 
--- octets behind their length in four octets
+-- octets after their length in four octets
 abbrev pub field : List ℕ → List ℕ
 field octets = to_be_bytes w32 (length octets) ++ octets
 
--- Five fields: the text `wot1`, the key's body, one octet for the kind of place, the body of the component (empty where
--- the signature stands on the key), and the signature's body.
+-- Five fields: the text `wot1`, the key's body, one octet for the kind of component, the body of the component (empty
+-- for a signature on the key), and the signature's body.
 abbrev pub numbered_text : List ℕ → ℕ → List ℕ → List ℕ → List ℕ
 numbered_text key kind component signature =
     field (codes "wot1") ++ field key ++ field (kind ∷ []) ++ field component ++ field signature

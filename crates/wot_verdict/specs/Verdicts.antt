@@ -18,7 +18,7 @@ is_number number = is_at (number_cmp number)
 abbrev pub verdict_at : Entries → SigNumber → Option Verdict
 verdict_at verdicts number = lookup (is_number number) verdicts
 
--- with this verdict on the number, in its place in the order
+-- with this verdict on the number
 abbrev pub with_verdict : Entries → SigNumber → Verdict → Entries
 with_verdict verdicts number verdict = insert_entry number_cmp verdicts number verdict
 
@@ -26,6 +26,6 @@ with_verdict verdicts number verdict = insert_entry number_cmp verdicts number v
 abbrev pub without_verdict : Entries → SigNumber → Entries
 without_verdict verdicts number = remove_entry (is_number number) verdicts
 
--- The numbers ascend, so that none stands twice.
+-- The numbers ascend, so none occurs twice.
 abbrev pub AreSortedByNumber : Entries → Type 0
 AreSortedByNumber verdicts = IsStrictlySortedBy number_cmp (keys_of verdicts)

@@ -1,4 +1,7 @@
-//! The numbers of signatures, and the verdicts on them.
+//! Signature numbers, and the verdicts on them.
+//!
+//! It stands on `sha2` and `wot_types`. `wot_cert` numbers each signature that it holds; `wot_keyring` keeps the
+//! verdicts, and edges exist only for signatures with a verdict.
 #![tactic(auto)]
 
 mod number;

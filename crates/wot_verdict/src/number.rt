@@ -1,3 +1,7 @@
+//! The number of a signature: a digest of the signature and of what it is on.
+//!
+//! It stands on the contract of `sha2` and on `specs/Number.antt`. Verifiers compute it too (`docs/PROTOCOL.md`), so a
+//! change breaks every kept verdict.
 ghost use Rattle.std.specs.Prelude.{◌≡◌, ◌<◌, ◌^◌, ◌++◌, ℕ, List, length};
 ghost use Rattle.sha2.specs.Hashers.{Holds256};
 ghost use Rattle.wot_verdict.specs.Number.{field, number_of as number_at};
@@ -13,11 +17,11 @@ fn feed(hasher: &mut Sha256, octets: &[u8])
     hasher.update(octets);
 }
 
-/// The number of a signature at its place: SHA-256 (FIPS 180-4) over five fields, each behind its length in four
+/// The number of a signature on a component: SHA-256 (FIPS 180-4) over five fields, each after its length in four
 /// octets.
 ///
-/// `kind` is 0 for a signature on the key itself, 1 on a user ID, 2 on a user attribute and 3 on a subkey.
-/// `component` is the body of what the signature stands on, empty where that is the key.
+/// `kind` is 0 for a signature on the key itself, 1 on a user ID, 2 on a user attribute and 3 on a subkey. `component`
+/// is the body of the component that the signature is on, empty for the key itself.
 #[tactic(auto, unfolding(crate::specs::Number::number_of))]
 pub fn number_of(key: &[u8], kind: u8, component: &[u8], signature: &[u8]) -> SigNumber
     requires key { length key.now < 2 ^ 32 }

@@ -1,4 +1,8 @@
-ghost use Rattle.std.specs.Prelude.{◌≡◌, ◌≢◌, ◌<◌, ◌^◌, ◌↔◌, [], Bool, length, IsTrue, IfOk, OnOk, OnErr, Some, None};
+//! Verdicts by signature number.
+//!
+//! It stands on std's map and on `specs/Verdicts.antt`. `wot_keyring` keeps one such map for all certificates, within
+//! the limit on verdicts, and a dump prints it.
+ghost use Rattle.std.specs.Prelude.{◌≡◌, ◌≢◌, ◌<◌, ◌^◌, ◌↔◌, [], length, IsTrue, IfOk, OnOk, OnErr, Some, None};
 ghost use Rattle.std.specs.Prelude.{is_some, cond};
 ghost use Rattle.std.specs.Iterator.{YieldsFirst, item_count};
 ghost use Rattle.wot_types.specs.declared.number.SigNumber.{SigNumber as Number};
@@ -26,7 +30,7 @@ impl Model for Verdicts {
 }
 
 impl Verdicts {
-    /// No verdict yet. Takes no memory.
+    /// No verdicts. Takes no memory.
     pub fn new(alloc: Global) -> Verdicts
         ensures none { result ≡ [] }
     {
@@ -42,8 +46,8 @@ impl Verdicts {
         self.by_number.get(number).copied()
     }
 
-    /// Sets the verdict on a number, in place of an earlier one. The answer is whether something changed.
-    /// After `Memory` all is as before.
+    /// Sets the verdict on a number, in place of an earlier one. Returns whether something changed. After `Memory`
+    /// nothing did.
     pub fn set(&mut self, number: SigNumber, verdict: Verdict) -> Result<bool, Memory>
         ensures set { OnOk result (self.new ≡ with_verdict self.old number verdict) }
         ensures at_each { OnOk result ((q : Number)
@@ -56,7 +60,7 @@ impl Verdicts {
         Ok(differs(old, verdict))
     }
 
-    /// Takes the verdict on a number away, and says whether there was one.
+    /// Removes the verdict on a number. Returns whether there was one.
     pub fn clear(&mut self, number: &SigNumber) -> bool
         ensures cleared { self.new ≡ without_verdict self.old number.now }
         ensures at_each { (q : Number)
@@ -75,7 +79,7 @@ impl Verdicts {
         self.by_number.len()
     }
 
-    /// Each number with its verdict, once, in the order of the numbers.
+    /// The numbers with their verdicts, in the order of the numbers.
     pub fn iter(&self) -> VerdictsIter<'_>
         ensures entries { result ≡ self.now }
         ensures sorted { AreSortedByNumber self.now }
@@ -92,7 +96,7 @@ fn differs(old: Option<Verdict>, new: Verdict) -> bool
     old != Some(new)
 }
 
-/// The entries of [`Verdicts`] that are still to come.
+/// Iterates over the entries of [`Verdicts`].
 #[derive(Drop)]
 pub struct VerdictsIter<'a> {
     entries: Iter<'a, SigNumber, Verdict>,

@@ -1,4 +1,4 @@
-use Rattle.std.proofs.Common.{ℕ, ◌-◌, length}
+use Rattle.std.proofs.Common.{◌-◌, length}
 use Rattle.wot_certd.proofs.writing.read_all.Given as goal
 
 abbrev pub decreases-loop-piece : goal.decreases-loop-piece

@@ -6,5 +6,6 @@ use Rattle.wot_edge.proofs.maps.make_root_room.Goals as goal
 
 pub returns-clause-same : goal.returns-clause-same
 returns-clause-same c =
-    let P : (Fpr → Fpr → Ordering) → Type 0 = λ cmp. (q : Fpr) → sum_at cmp c.make_room.new.sums.entries q ≡ sum_at cmp c.args.sums.now.entries q in
+    let P : (Fpr → Fpr → Ordering) → Type 0 =
+    λ cmp. (q : Fpr) → sum_at cmp c.make_room.new.sums.entries q ≡ sum_at cmp c.args.sums.now.entries q in
     subst P same_cmp c.make_room.ensures.same

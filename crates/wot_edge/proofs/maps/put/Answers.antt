@@ -7,5 +7,7 @@ use Rattle.wot_edge.proofs.maps.put.Goals as goal
 
 pub returns-clause-gets : goal.returns-clause-gets
 returns-clause-gets g c q =
-    let P : (Fpr → Fpr → Ordering) → Type 0 = λ cmp. lookup (is_at (cmp q)) c.insert.new.self.entries ≡ cond (is_at (cmp c.args.fpr) q) (Some c.args.value) (lookup (is_at (cmp q)) c.args.map.now.entries) in
+    let P : (Fpr → Fpr → Ordering) → Type 0 =
+    λ cmp. lookup (is_at (cmp q)) c.insert.new.self.entries ≡ cond (is_at (cmp c.args.fpr) q) (Some c.args.value)
+    (lookup (is_at (cmp q)) c.args.map.now.entries) in
     subst P same_cmp (c.in_ok-insert.ensures.updates.0 q)

@@ -9,5 +9,10 @@ use Rattle.wot_edge.proofs.maps.raise_root.Goals as goal
 pub returns : goal.returns
 returns c =
     let old = c.args.sums.now.entries in
-    let P : (Fpr → Fpr → Ordering) → Type 0 = λ cmp. (q : Fpr) → sum_at cmp c.raise.new.sums.entries q ≡ sum_at cmp old q + cond (is_eq (cmp c.args.fpr q)) c.args.amount 0 in
-    record { raised = λ q. subst P same_cmp c.raise.ensures.raised q ∙ ap (λ (b : Bool). sum_at fpr_cmp old q + cond b c.args.amount 0) (same_fpr-sym c.args.fpr q) }
+    let P : (Fpr → Fpr → Ordering) → Type 0 =
+    λ cmp. (q : Fpr)
+    → sum_at cmp c.raise.new.sums.entries q ≡ sum_at cmp old q + cond (is_eq (cmp c.args.fpr q)) c.args.amount 0 in
+    record {
+      raised = λ q. subst P same_cmp c.raise.ensures.raised q
+          ∙ ap (λ (b : Bool). sum_at fpr_cmp old q + cond b c.args.amount 0) (same_fpr-sym c.args.fpr q);
+    }

@@ -8,10 +8,13 @@ use Rattle.wot_edge.proofs.pairs.make_room_for.Goals as goal
 
 pub returns-clause-same : goal.returns-clause-same
 returns-clause-same c =
-    let P : (Pair → Pair → Ordering) → Type 0 = λ cmp. (q : Pair) → sum_at cmp c.make_room.new.sums.entries q ≡ sum_at cmp c.args.pairs.now.entries q in
+    let P : (Pair → Pair → Ordering) → Type 0 =
+    λ cmp. (q : Pair) → sum_at cmp c.make_room.new.sums.entries q ≡ sum_at cmp c.args.pairs.now.entries q in
     subst P same_pair_cmp c.make_room.ensures.same
 
 pub returns-clause-others : goal.returns-clause-others
 returns-clause-others c =
-    let P : (Pair → Pair → Ordering) → Type 0 = λ cmp. (q : Pair) → IsSome (lookup (is_at (cmp q)) c.args.pairs.now.entries) → IsSome (lookup (is_at (cmp q)) c.make_room.new.sums.entries) in
+    let P : (Pair → Pair → Ordering) → Type 0 =
+    λ cmp. (q : Pair) → IsSome (lookup (is_at (cmp q)) c.args.pairs.now.entries)
+    → IsSome (lookup (is_at (cmp q)) c.make_room.new.sums.entries) in
     subst P same_pair_cmp c.make_room.ensures.others

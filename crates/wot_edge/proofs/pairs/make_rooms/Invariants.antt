@@ -10,7 +10,8 @@ use Rattle.wot_edge.proofs.pairs.make_rooms.Given as goal
 abbrev pub invariant-rest : goal.invariant-rest
 invariant-rest l = record {
   same : (q : Pair) → sum_at pair_cmp l.pairs.entries q ≡ sum_at pair_cmp l.fn.pairs.entries q;
-  here : (step : Step) → Has l.steps step → Has l.rest step ⊎ IsSome (lookup (is_at (pair_cmp (pair_of step))) l.pairs.entries);
+  here : (step : Step) → Has l.steps step
+      → Has l.rest step ⊎ IsSome (lookup (is_at (pair_cmp (pair_of step))) l.pairs.entries);
 }
 
 abbrev pub decreases-rest : goal.decreases-rest

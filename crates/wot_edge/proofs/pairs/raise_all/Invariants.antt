@@ -10,7 +10,9 @@ use Rattle.wot_edge.proofs.pairs.raise_all.Given as goal
 
 abbrev pub invariant-rest : goal.invariant-rest
 invariant-rest l = record {
-  raised : (q : Pair) → sum_at pair_cmp l.pairs.entries q + pair_part q.issuer q.target l.amount l.rest ≡ sum_at pair_cmp l.fn.pairs.entries q + pair_part q.issuer q.target l.amount l.steps;
+  raised : (q : Pair)
+      → sum_at pair_cmp l.pairs.entries q + pair_part q.issuer q.target l.amount l.rest ≡ sum_at pair_cmp
+      l.fn.pairs.entries q + pair_part q.issuer q.target l.amount l.steps;
   here : (step : Step) → Has l.rest step → IsSome (lookup (is_at (pair_cmp (pair_of step))) l.pairs.entries);
 }
 

@@ -1,4 +1,4 @@
-use Rattle.std.proofs.Common.{◌↔◌, refl, sym, subst}
+use Rattle.std.proofs.Common.{refl, sym, subst}
 use Rattle.wot_edge.specs.Lawful.{AreRows}
 use Rattle.wot_edge.proofs.PlainTold.{rows_before, rows_first, rows_rest, rows_end}
 use Rattle.wot_edge.proofs.plain.are_rows.Goals as goal
@@ -27,4 +27,5 @@ rest-preserved c =
     )
 
 pub returns : goal.returns
-returns c = record { rows = (λ e. c.rest.invariant.0 (rows_end c.args.fpr.now c.rest.rest.now c.in_default.ensures.cases), λ r. refl) }
+returns c = record
+    { rows = (λ e. c.rest.invariant.0 (rows_end c.args.fpr.now c.rest.rest.now c.in_default.ensures.cases), λ r. refl) }

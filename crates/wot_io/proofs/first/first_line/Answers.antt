@@ -12,12 +12,14 @@ nothing (x ∷ xs) e = absurd (omega (arith, e))
 pub returns-in-Some-clause-first : goal.returns-in-Some-clause-first
 returns-in-Some-clause-first c =
     ap lines_of c.in-Some.ensures.found ∙ lines_of-feed _ _ c.in-Some.ensures.none
-    ∙ ap (λ (rest : List ℕ). take c.in-Some.i c.args.text.now ∷ lines_of rest) (sym (take_rest c.args.text.now (c.in-Some.i + 1)))
+    ∙ ap (λ (rest : List ℕ). take c.in-Some.i c.args.text.now ∷ lines_of rest)
+    (sym (take_rest c.args.text.now (c.in-Some.i + 1)))
 
 pub returns-in-None-clause-first : goal.returns-in-None-clause-first
 returns-in-None-clause-first c =
     let text = c.args.text.now in
     let some : text ≢ [] = λ e. absurd (omega (arith, ap length e, c.requires)) in
     let front : c.split_at.result.0.now ≡ text = c.split_at.ensures.front ∙ take-length text in
-    let back : c.split_at.result.1.now ≡ [] = c.split_at.ensures.back ∙ nothing (drop (length text) text) (omega (arith, length-drop (length text) text)) in
+    let back : c.split_at.result.1.now ≡ [] =
+    c.split_at.ensures.back ∙ nothing (drop (length text) text) (omega (arith, length-drop (length text) text)) in
     lines_of-last text some c.in-None.ensures.none ∙ rw (front, back) refl

@@ -9,7 +9,8 @@ use Rattle.wot_packet.proofs.read.read_packets.Goals.{After-drop-packets}
 
 told : (c : After-drop-packets) → IsFirstFault c.args.bytes.now (record { at = c.packets.at; why = c.in-Err.why })
 told c =
-    fault_here c.args.bytes.now c.packets.at c.packets.packets.items c.in-Err.why (λ i. omega (arith, c.type_inv.bytes i)) c.packets.invariant c.packets-test.true
+    fault_here c.args.bytes.now c.packets.at c.packets.packets.items c.in-Err.why
+    (λ i. omega (arith, c.type_inv.bytes i)) c.packets.invariant c.packets-test.true
     (ap first_of (sym c.split_at.ensures.back) ∙ c.in-Err.ensures.first)
 
 pub returns-in-Err-clause-fault : goal.returns-in-Err-clause-fault
@@ -19,37 +20,46 @@ pub returns-in-Err-clause-reader : goal.returns-in-Err-clause-reader
 returns-in-Err-clause-reader c = fault_read c.args.bytes.now (record { at = c.packets.at; why = c.in-Err.why }) (told c)
 
 pub returns-in-Err-clause-each_list : goal.returns-in-Err-clause-each_list
-returns-in-Err-clause-each_list c = λ packets h. never_both c.args.bytes.now packets (record { at = c.packets.at; why = c.in-Err.why }) h (told c)
+returns-in-Err-clause-each_list c =
+    λ packets h. never_both c.args.bytes.now packets (record { at = c.packets.at; why = c.in-Err.why }) h (told c)
 
 pub returns-in-Err-clause-each_fault : goal.returns-in-Err-clause-each_fault
-returns-in-Err-clause-each_fault c = λ fault h. one_fault c.args.bytes.now (record { at = c.packets.at; why = c.in-Err.why }) fault (told c) h
+returns-in-Err-clause-each_fault c =
+    λ fault h. one_fault c.args.bytes.now (record { at = c.packets.at; why = c.in-Err.why }) fault (told c) h
 
 pub packets-preserved : goal.packets-preserved
 packets-preserved c =
     rw c.in_ok-push.ensures.items
-    (one_more c.args.bytes.now c.packets.at c.packets.packets.items c.in-Ok.found.0 c.in-Ok.found.1.now (λ i. omega (arith, c.type_inv.bytes i)) c.packets.invariant c.packets-test.true
+    (one_more c.args.bytes.now c.packets.at c.packets.packets.items c.in-Ok.found.0 c.in-Ok.found.1.now
+    (λ i. omega (arith, c.type_inv.bytes i)) c.packets.invariant c.packets-test.true
     c.in-Ok.ensures.offset (ap first_of (sym c.split_at.ensures.back) ∙ c.in-Ok.ensures.first))
 
 pub returns-clause-each_list : goal.returns-clause-each_list
 returns-clause-each_list c = λ packets h.
-    one_list c.args.bytes.now (spelled_all c.packets.packets.items) packets (all_read c.args.bytes.now c.packets.at c.packets.packets.items c.packets.invariant c.packets-test.false) h
+    one_list c.args.bytes.now (spelled_all c.packets.packets.items) packets
+    (all_read c.args.bytes.now c.packets.at c.packets.packets.items c.packets.invariant c.packets-test.false) h
 
 pub returns-clause-each_fault : goal.returns-clause-each_fault
 returns-clause-each_fault c = λ fault h.
-    never_both c.args.bytes.now (spelled_all c.packets.packets.items) fault (all_read c.args.bytes.now c.packets.at c.packets.packets.items c.packets.invariant c.packets-test.false) h
+    never_both c.args.bytes.now (spelled_all c.packets.packets.items) fault
+    (all_read c.args.bytes.now c.packets.at c.packets.packets.items c.packets.invariant c.packets-test.false) h
 
 pub returns-clause-bounds : goal.returns-clause-bounds
 returns-clause-bounds c =
-    packet_bounds c.args.bytes.now c.packets.packets.items (λ i. omega (arith, c.type_inv.bytes i)) (all_read c.args.bytes.now c.packets.at c.packets.packets.items c.packets.invariant c.packets-test.false)
+    packet_bounds c.args.bytes.now c.packets.packets.items (λ i. omega (arith, c.type_inv.bytes i))
+    (all_read c.args.bytes.now c.packets.at c.packets.packets.items c.packets.invariant c.packets-test.false)
 
 pub returns-clause-short : goal.returns-clause-short
 returns-clause-short c =
-    packets_short c.args.bytes.now c.packets.packets.items (λ i. omega (arith, c.type_inv.bytes i)) (all_read c.args.bytes.now c.packets.at c.packets.packets.items c.packets.invariant c.packets-test.false)
+    packets_short c.args.bytes.now c.packets.packets.items (λ i. omega (arith, c.type_inv.bytes i))
+    (all_read c.args.bytes.now c.packets.at c.packets.packets.items c.packets.invariant c.packets-test.false)
 
 pub returns-clause-few : goal.returns-clause-few
 returns-clause-few c =
-    packets_few c.args.bytes.now c.packets.packets.items (all_read c.args.bytes.now c.packets.at c.packets.packets.items c.packets.invariant c.packets-test.false)
+    packets_few c.args.bytes.now c.packets.packets.items
+    (all_read c.args.bytes.now c.packets.at c.packets.packets.items c.packets.invariant c.packets-test.false)
 
 pub returns-clause-reader : goal.returns-clause-reader
 returns-clause-reader c =
-    list_read c.args.bytes.now (spelled_all c.packets.packets.items) (all_read c.args.bytes.now c.packets.at c.packets.packets.items c.packets.invariant c.packets-test.false)
+    list_read c.args.bytes.now (spelled_all c.packets.packets.items)
+    (all_read c.args.bytes.now c.packets.at c.packets.packets.items c.packets.invariant c.packets-test.false)

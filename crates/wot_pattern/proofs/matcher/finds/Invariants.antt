@@ -15,5 +15,6 @@ invariant-places l = record {
   slots : length l.slots ≡ length l.nodes;
   ready : vec_capacity l.fn.ready ≤ vec_capacity l.ready;
   begins : vec_capacity l.fn.begins ≤ vec_capacity l.begins;
-  walks : (r : Reading) → tokens_of l.nodes ≡ tokens r → Walking (chars l.text) r (chars (chars_rest l.rest)) l.first l.slots;
+  walks : (r : Reading) → tokens_of l.nodes ≡ tokens r
+      → Walking (chars l.text) r (chars (chars_rest l.rest)) l.first l.slots;
 }

@@ -5,5 +5,6 @@ use Rattle.wot_pattern.proofs.settle.settle.Given as goal
 
 abbrev pub invariant-loop-at : goal.invariant-loop-at
 invariant-loop-at l =
-    (settled l.first l.last (tokens_of l.nodes) l.fn.slots [] ≡ behind (take l.at l.slots) (settled l.first l.last (tokens_of (drop l.at l.nodes)) (drop l.at l.slots) (reverse l.ready.items)))
+    (settled l.first l.last (tokens_of l.nodes) l.fn.slots [] ≡ behind (take l.at l.slots)
+    (settled l.first l.last (tokens_of (drop l.at l.nodes)) (drop l.at l.slots) (reverse l.ready.items)))
     × (length l.slots ≡ length l.nodes) × (vec_len l.ready ≤ l.at) × (vec_capacity l.fn.ready ≤ vec_capacity l.ready)

@@ -11,7 +11,9 @@ returns c =
     let revoking = c.rows_with-2.result in
     record {
       standard = λ ask h.
-          elim (is_revoking ask.kind) as (λ b. slice_index_or (if b then revoking else plain) ask.hash Never ≡ found_in (table_with (if b then Always else Before february_2013)) ask.hash) [
+          elim (is_revoking ask.kind) as
+          (λ b. slice_index_or (if b then revoking else plain) ask.hash Never ≡ found_in
+          (table_with (if b then Always else Before february_2013)) ask.hash) [
             | true ↦ c.rows_with-2.ensures ask.hash h
             | false ↦ c.rows_with.ensures ask.hash h
           ];

@@ -3,4 +3,5 @@ use Rattle.wot_script.proofs.ClaimTexts.{label_printed}
 use Rattle.wot_script.proofs.claimed.label_is_read.Goals as goal
 
 pub returns : goal.returns
-returns c = label_printed c.args.label.now c.printed_is_read.ensures.read_back (rw c.from.ensures at c.positive_is_read.ensures.read) (omega arith)
+returns c = label_printed c.args.label.now c.printed_is_read.ensures.read_back
+    (rw c.from.ensures at c.positive_is_read.ensures.read) (omega arith)

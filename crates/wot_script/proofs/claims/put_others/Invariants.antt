@@ -5,4 +5,6 @@ use Rattle.wot_script.proofs.claims.put_others.Given as goal
 
 abbrev pub invariant-loop-item : goal.invariant-loop-item
 invariant-loop-item g l =
-    PutSoFar l.initial.out.items l.out.items (flat_map (λ item. l.separator ∷ g.T.Printed.text item) (take l.item-index l.items)) (vec_capacity l.initial.out) (vec_capacity l.out)
+    PutSoFar l.initial.out.items l.out.items
+    (flat_map (λ item. l.separator ∷ g.T.Printed.text item) (take l.item-index l.items)) (vec_capacity l.initial.out)
+    (vec_capacity l.out)

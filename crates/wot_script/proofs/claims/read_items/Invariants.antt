@@ -5,7 +5,8 @@ use Rattle.wot_script.proofs.claims.read_items.Given as goal
 
 abbrev pub invariant-parts : goal.invariant-parts
 invariant-parts g l =
-    with_read g.T.Item.item_of l.items.items (items_of l.separator g.T.Item.item_of l.rest) ≡ items_of l.separator g.T.Item.item_of l.text
+    with_read g.T.Item.item_of l.items.items (items_of l.separator g.T.Item.item_of l.rest) ≡ items_of l.separator
+    g.T.Item.item_of l.text
 
 abbrev pub decreases-parts : goal.decreases-parts
 decreases-parts g l = length l.rest

@@ -6,4 +6,6 @@ use Rattle.wot_script.proofs.piece.put_hex.Given as goal
 
 abbrev pub invariant-loop-octet : goal.invariant-loop-octet
 invariant-loop-octet l =
-    PutSoFar l.initial.out.items l.out.items (flat_map (λ octet. encode_lower (octet ∷ [])) (take l.octet-index l.octets)) (vec_capacity l.initial.out) (vec_capacity l.out)
+    PutSoFar l.initial.out.items l.out.items
+    (flat_map (λ octet. encode_lower (octet ∷ [])) (take l.octet-index l.octets)) (vec_capacity l.initial.out)
+    (vec_capacity l.out)

@@ -5,4 +5,5 @@ use Rattle.wot_script.proofs.piece.put_pieces.Given as goal
 
 abbrev pub invariant-loop-piece : goal.invariant-loop-piece
 invariant-loop-piece l =
-    PutSoFar l.initial.out.items l.out.items (pieces_text (take l.piece-index l.pieces)) (vec_capacity l.initial.out) (vec_capacity l.out)
+    PutSoFar l.initial.out.items l.out.items (pieces_text (take l.piece-index l.pieces)) (vec_capacity l.initial.out)
+    (vec_capacity l.out)

@@ -6,4 +6,5 @@ use Rattle.wot_script.proofs.piece.put_uid.Given as goal
 
 abbrev pub invariant-loop-octet : goal.invariant-loop-octet
 invariant-loop-octet l =
-    PutSoFar l.initial.out.items l.out.items (flat_map escape (take l.octet-index l.octets)) (vec_capacity l.initial.out) (vec_capacity l.out)
+    PutSoFar l.initial.out.items l.out.items (flat_map escape (take l.octet-index l.octets))
+    (vec_capacity l.initial.out) (vec_capacity l.out)

@@ -7,4 +7,7 @@ use Rattle.wot_script.proofs.spelled.question_is_read.Goals as goal
 
 pub returns-clause-read : goal.returns-clause-read
 returns-clause-read c =
-    question_reads (digits_of c.args.fpr.now) (decimal c.args.wanted) (escaped c.args.uid.now) c.args.uid.now c.args.fpr.now c.args.wanted (spaceless_digits (octets_of c.args.fpr.now)) c.printed_is_read.ensures.read_back (spaceless_decimal c.args.wanted c.positive_is_read.ensures.small) c.positive_is_read.ensures.read (rw c.octets.ensures.whole at c.uid_is_read.ensures)
+    question_reads (digits_of c.args.fpr.now) (decimal c.args.wanted) (escaped c.args.uid.now) c.args.uid.now
+    c.args.fpr.now c.args.wanted (spaceless_digits (octets_of c.args.fpr.now)) c.printed_is_read.ensures.read_back
+    (spaceless_decimal c.args.wanted c.positive_is_read.ensures.small) c.positive_is_read.ensures.read
+    (rw c.octets.ensures.whole at c.uid_is_read.ensures)

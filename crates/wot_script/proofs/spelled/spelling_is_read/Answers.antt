@@ -10,14 +10,22 @@ use Rattle.wot_script.specs.Texts.{joined}
 use Rattle.wot_script.specs.declared.read.Question.{Question}
 use Rattle.wot_script.specs.Uid.{escaped}
 use Rattle.wot_script.proofs.Spaceless.{spaceless_digits}
-use Rattle.wot_script.proofs.Readings.{absence_reads, ask_reads, bad_reads, check_reads, close_reads, drop_reads, dump_reads, explain_reads, export_reads, good_reads, import_reads, keys_reads, list_reads, load_reads, none_reads, pending_reads, question, root_reads, store_reads, time_reads, end_reads, next_reads, over_reads, off_reads, on_reads}
-use Rattle.wot_script.proofs.OneLine.{absence_line, ask_line, bad_line, check_line, close_line, dump_line, explain_line, export_line, fpr_digits, good_line, import_line, keys_line, list_line, load_line, name_is, number_digits_are, numeral, pending_line, remove_line, root_line, store_line, time_line, unjudge_line, end_line, next_line, over_line, off_line, on_line}
+use Rattle.wot_script.proofs.Readings.{absence_reads, ask_reads, bad_reads, check_reads, close_reads, drop_reads}
+use Rattle.wot_script.proofs.Readings.{dump_reads, explain_reads, export_reads, good_reads, import_reads, keys_reads}
+use Rattle.wot_script.proofs.Readings.{list_reads, load_reads, none_reads, pending_reads, question, root_reads}
+use Rattle.wot_script.proofs.Readings.{store_reads, time_reads, end_reads, next_reads, over_reads, off_reads, on_reads}
+use Rattle.wot_script.proofs.OneLine.{absence_line, ask_line, bad_line, check_line, close_line, dump_line, explain_line}
+use Rattle.wot_script.proofs.OneLine.{export_line, fpr_digits, good_line, import_line, keys_line, list_line, load_line}
+use Rattle.wot_script.proofs.OneLine.{name_is, number_digits_are, numeral, pending_line, remove_line, root_line}
+use Rattle.wot_script.proofs.OneLine.{store_line, time_line, unjudge_line, end_line, next_line, over_line, off_line}
+use Rattle.wot_script.proofs.OneLine.{on_line}
 use Rattle.wot_script.proofs.spelled.spelling_is_read.Goals as goal
 
 pub returns-in-Import : goal.returns-in-Import
 unfolding spelling
 returns-in-Import c = rw c.in-Import.is (record {
-  read = import_reads (encode_lower c.in-Import.octets) c.in-Import.octets (rw c.items.ensures.whole at c.hex_is_read.ensures);
+  read = import_reads (encode_lower c.in-Import.octets) c.in-Import.octets
+      (rw c.items.ensures.whole at c.hex_is_read.ensures);
   line = import_line c.in-Import.octets;
 })
 
@@ -25,56 +33,73 @@ pub returns-in-Load : goal.returns-in-Load
 unfolding spelling
 returns-in-Load c = rw c.in-Load.is (record {
   read = load_reads (entry_text c.in-Load.name) c.in-Load.name c.entry_is_read.ensures.read;
-  line = load_line c.in-Load.name (entry_text c.in-Load.name) c.entry_is_read.ensures.free c.entry_is_read.ensures.short;
+  line = load_line c.in-Load.name (entry_text c.in-Load.name) c.entry_is_read.ensures.free
+      c.entry_is_read.ensures.short;
 })
 
 pub returns-in-Store : goal.returns-in-Store
 unfolding spelling
 returns-in-Store c = rw c.in-Store.is (record {
   read = store_reads (digits_of c.in-Store.fpr) c.in-Store.fpr c.printed_is_read.ensures.read_back;
-  line = store_line c.in-Store.fpr (digits_of c.in-Store.fpr) (fpr_digits c.in-Store.fpr c.printed_is_read.ensures.read_back);
+  line = store_line c.in-Store.fpr (digits_of c.in-Store.fpr)
+      (fpr_digits c.in-Store.fpr c.printed_is_read.ensures.read_back);
 })
 
 pub returns-in-Remove : goal.returns-in-Remove
 unfolding spelling
 returns-in-Remove c = rw c.in-Remove.is (record {
   read = drop_reads (digits_of c.in-Remove.fpr) c.in-Remove.fpr c.printed_is_read-in-Remove.ensures.read_back;
-  line = remove_line c.in-Remove.fpr (digits_of c.in-Remove.fpr) (fpr_digits c.in-Remove.fpr c.printed_is_read-in-Remove.ensures.read_back);
+  line = remove_line c.in-Remove.fpr (digits_of c.in-Remove.fpr)
+      (fpr_digits c.in-Remove.fpr c.printed_is_read-in-Remove.ensures.read_back);
 })
 
 pub returns-in-Good : goal.returns-in-Good
 unfolding spelling
 returns-in-Good c = rw c.in-Good.is (record {
-  read = good_reads (number_digits c.in-Good.number) (digits_of c.in-Good.fpr) c.in-Good.number c.in-Good.fpr (spaceless_digits c.in-Good.number.0) c.printed_is_read-in-Good.ensures.read_back c.printed_is_read-in-Good-2.ensures.read_back;
-  line = good_line c.in-Good.number c.in-Good.fpr (number_digits c.in-Good.number) (digits_of c.in-Good.fpr) (number_digits_are c.in-Good.number c.printed_is_read-in-Good.ensures.read_back) (fpr_digits c.in-Good.fpr c.printed_is_read-in-Good-2.ensures.read_back);
+  read = good_reads (number_digits c.in-Good.number) (digits_of c.in-Good.fpr) c.in-Good.number c.in-Good.fpr
+      (spaceless_digits c.in-Good.number.0) c.printed_is_read-in-Good.ensures.read_back
+      c.printed_is_read-in-Good-2.ensures.read_back;
+  line = good_line c.in-Good.number c.in-Good.fpr (number_digits c.in-Good.number) (digits_of c.in-Good.fpr)
+      (number_digits_are c.in-Good.number c.printed_is_read-in-Good.ensures.read_back)
+      (fpr_digits c.in-Good.fpr c.printed_is_read-in-Good-2.ensures.read_back);
 })
 
 pub returns-in-Bad : goal.returns-in-Bad
 unfolding spelling
 returns-in-Bad c = rw c.in-Bad.is (record {
-  read = bad_reads (number_digits c.in-Bad.number) c.in-Bad.number (spaceless_digits c.in-Bad.number.0) c.printed_is_read-in-Bad.ensures.read_back;
-  line = bad_line c.in-Bad.number (number_digits c.in-Bad.number) (number_digits_are c.in-Bad.number c.printed_is_read-in-Bad.ensures.read_back);
+  read = bad_reads (number_digits c.in-Bad.number) c.in-Bad.number (spaceless_digits c.in-Bad.number.0)
+      c.printed_is_read-in-Bad.ensures.read_back;
+  line = bad_line c.in-Bad.number (number_digits c.in-Bad.number)
+      (number_digits_are c.in-Bad.number c.printed_is_read-in-Bad.ensures.read_back);
 })
 
 pub returns-in-Unjudge : goal.returns-in-Unjudge
 unfolding spelling
 returns-in-Unjudge c = rw c.in-Unjudge.is (record {
-  read = none_reads (number_digits c.in-Unjudge.number) c.in-Unjudge.number (spaceless_digits c.in-Unjudge.number.0) c.printed_is_read-in-Unjudge.ensures.read_back;
-  line = unjudge_line c.in-Unjudge.number (number_digits c.in-Unjudge.number) (number_digits_are c.in-Unjudge.number c.printed_is_read-in-Unjudge.ensures.read_back);
+  read = none_reads (number_digits c.in-Unjudge.number) c.in-Unjudge.number (spaceless_digits c.in-Unjudge.number.0)
+      c.printed_is_read-in-Unjudge.ensures.read_back;
+  line = unjudge_line c.in-Unjudge.number (number_digits c.in-Unjudge.number)
+      (number_digits_are c.in-Unjudge.number c.printed_is_read-in-Unjudge.ensures.read_back);
 })
 
 pub returns-in-Time : goal.returns-in-Time
 unfolding spelling
 returns-in-Time c = rw c.in-Time.is (record {
-  read = time_reads c.in-Time.view (decimal c.in-Time.t) c.in-Time.t c.octets-name.ensures.name c.decimal_is_read.ensures;
-  line = time_line c.in-Time.view c.in-Time.t (decimal c.in-Time.t) (name_is c.in-Time.view c.octets-name.ensures.name) (numeral c.in-Time.t (omega arith));
+  read = time_reads c.in-Time.view (decimal c.in-Time.t) c.in-Time.t c.octets-name.ensures.name
+      c.decimal_is_read.ensures;
+  line = time_line c.in-Time.view c.in-Time.t (decimal c.in-Time.t) (name_is c.in-Time.view c.octets-name.ensures.name)
+      (numeral c.in-Time.t (omega arith));
 })
 
 pub returns-in-Root : goal.returns-in-Root
 unfolding spelling
 returns-in-Root c = rw c.in-Root.is (record {
-  read = root_reads c.in-Root.view (digits_of c.in-Root.fpr) (decimal c.in-Root.amount) c.in-Root.fpr c.in-Root.amount c.octets-name-in-Root.ensures.name (spaceless_digits (octets_of c.in-Root.fpr)) c.printed_is_read-in-Root.ensures.read_back (rw c.from.ensures at c.decimal_is_read-in-Root.ensures);
-  line = root_line c.in-Root.view c.in-Root.fpr c.in-Root.amount (digits_of c.in-Root.fpr) (decimal c.in-Root.amount) (name_is c.in-Root.view c.octets-name-in-Root.ensures.name) (fpr_digits c.in-Root.fpr c.printed_is_read-in-Root.ensures.read_back) (numeral c.in-Root.amount (omega arith));
+  read = root_reads c.in-Root.view (digits_of c.in-Root.fpr) (decimal c.in-Root.amount) c.in-Root.fpr c.in-Root.amount
+      c.octets-name-in-Root.ensures.name (spaceless_digits (octets_of c.in-Root.fpr))
+      c.printed_is_read-in-Root.ensures.read_back (rw c.from.ensures at c.decimal_is_read-in-Root.ensures);
+  line = root_line c.in-Root.view c.in-Root.fpr c.in-Root.amount (digits_of c.in-Root.fpr) (decimal c.in-Root.amount)
+      (name_is c.in-Root.view c.octets-name-in-Root.ensures.name)
+      (fpr_digits c.in-Root.fpr c.printed_is_read-in-Root.ensures.read_back) (numeral c.in-Root.amount (omega arith));
 })
 
 pub returns-in-Close : goal.returns-in-Close
@@ -89,22 +114,31 @@ unfolding spelling
 returns-in-Ask c =
     let q : Question = question c.in-Ask.fpr c.in-Ask.wanted c.in-Ask.uid in
     rw c.in-Ask.is (record {
-      read = ask_reads c.in-Ask.view (joined (question_parts c.in-Ask.fpr c.in-Ask.wanted c.in-Ask.uid)) q c.question_is_read.ensures.name c.question_is_read.ensures.read;
-      line = ask_line c.in-Ask.view c.in-Ask.fpr c.in-Ask.wanted c.in-Ask.uid (digits_of c.in-Ask.fpr) (decimal c.in-Ask.wanted) (name_is c.in-Ask.view c.question_is_read.ensures.name) (fpr_digits c.in-Ask.fpr c.question_is_read.ensures.digits) (numeral c.in-Ask.wanted (omega arith));
+      read = ask_reads c.in-Ask.view (joined (question_parts c.in-Ask.fpr c.in-Ask.wanted c.in-Ask.uid)) q
+          c.question_is_read.ensures.name c.question_is_read.ensures.read;
+      line = ask_line c.in-Ask.view c.in-Ask.fpr c.in-Ask.wanted c.in-Ask.uid (digits_of c.in-Ask.fpr)
+          (decimal c.in-Ask.wanted) (name_is c.in-Ask.view c.question_is_read.ensures.name)
+          (fpr_digits c.in-Ask.fpr c.question_is_read.ensures.digits) (numeral c.in-Ask.wanted (omega arith));
     })
 
 pub returns-in-List : goal.returns-in-List
 unfolding spelling
 returns-in-List c = rw c.in-List.is (record {
-  read = list_reads c.in-List.view (decimal c.in-List.wanted) c.in-List.wanted c.wanted_is_read.ensures.name c.wanted_is_read.ensures.read;
-  line = list_line c.in-List.view c.in-List.wanted (decimal c.in-List.wanted) (name_is c.in-List.view c.wanted_is_read.ensures.name) (numeral c.in-List.wanted (omega arith));
+  read = list_reads c.in-List.view (decimal c.in-List.wanted) c.in-List.wanted c.wanted_is_read.ensures.name
+      c.wanted_is_read.ensures.read;
+  line = list_line c.in-List.view c.in-List.wanted (decimal c.in-List.wanted)
+      (name_is c.in-List.view c.wanted_is_read.ensures.name) (numeral c.in-List.wanted (omega arith));
 })
 
 pub returns-in-Explain : goal.returns-in-Explain
 unfolding spelling
 returns-in-Explain c = rw c.in-Explain.is (record {
-  read = explain_reads c.in-Explain.view (digits_of c.in-Explain.fpr) (escaped c.in-Explain.uid) c.in-Explain.uid c.in-Explain.fpr c.octets-name-in-Explain.ensures.name (spaceless_digits (octets_of c.in-Explain.fpr)) c.printed_is_read-in-Explain.ensures.read_back (rw c.octets.ensures.whole at c.uid_is_read.ensures);
-  line = explain_line c.in-Explain.view c.in-Explain.fpr c.in-Explain.uid (digits_of c.in-Explain.fpr) (name_is c.in-Explain.view c.octets-name-in-Explain.ensures.name) (fpr_digits c.in-Explain.fpr c.printed_is_read-in-Explain.ensures.read_back);
+  read = explain_reads c.in-Explain.view (digits_of c.in-Explain.fpr) (escaped c.in-Explain.uid) c.in-Explain.uid
+      c.in-Explain.fpr c.octets-name-in-Explain.ensures.name (spaceless_digits (octets_of c.in-Explain.fpr))
+      c.printed_is_read-in-Explain.ensures.read_back (rw c.octets.ensures.whole at c.uid_is_read.ensures);
+  line = explain_line c.in-Explain.view c.in-Explain.fpr c.in-Explain.uid (digits_of c.in-Explain.fpr)
+      (name_is c.in-Explain.view c.octets-name-in-Explain.ensures.name)
+      (fpr_digits c.in-Explain.fpr c.printed_is_read-in-Explain.ensures.read_back);
 })
 
 pub returns-in-Pending : goal.returns-in-Pending
@@ -125,7 +159,8 @@ pub returns-in-Export : goal.returns-in-Export
 unfolding spelling
 returns-in-Export c = rw c.in-Export.is (record {
   read = export_reads (digits_of c.in-Export.fpr) c.in-Export.fpr c.printed_is_read-in-Export.ensures.read_back;
-  line = export_line c.in-Export.fpr (digits_of c.in-Export.fpr) (fpr_digits c.in-Export.fpr c.printed_is_read-in-Export.ensures.read_back);
+  line = export_line c.in-Export.fpr (digits_of c.in-Export.fpr)
+      (fpr_digits c.in-Export.fpr c.printed_is_read-in-Export.ensures.read_back);
 })
 
 pub returns-in-Dump : goal.returns-in-Dump
@@ -140,8 +175,14 @@ unfolding spelling
 returns-in-Absence c =
     let q : Question = question c.in-Absence.fpr c.in-Absence.wanted c.in-Absence.uid in
     rw c.in-Absence.is (record {
-      read = absence_reads c.in-Absence.view (joined (question_parts c.in-Absence.fpr c.in-Absence.wanted c.in-Absence.uid)) q c.question_is_read-in-Absence.ensures.name c.question_is_read-in-Absence.ensures.read;
-      line = absence_line c.in-Absence.view c.in-Absence.fpr c.in-Absence.wanted c.in-Absence.uid (digits_of c.in-Absence.fpr) (decimal c.in-Absence.wanted) (name_is c.in-Absence.view c.question_is_read-in-Absence.ensures.name) (fpr_digits c.in-Absence.fpr c.question_is_read-in-Absence.ensures.digits) (numeral c.in-Absence.wanted (omega arith));
+      read = absence_reads c.in-Absence.view
+          (joined (question_parts c.in-Absence.fpr c.in-Absence.wanted c.in-Absence.uid)) q
+          c.question_is_read-in-Absence.ensures.name c.question_is_read-in-Absence.ensures.read;
+      line = absence_line c.in-Absence.view c.in-Absence.fpr c.in-Absence.wanted c.in-Absence.uid
+          (digits_of c.in-Absence.fpr) (decimal c.in-Absence.wanted)
+          (name_is c.in-Absence.view c.question_is_read-in-Absence.ensures.name)
+          (fpr_digits c.in-Absence.fpr c.question_is_read-in-Absence.ensures.digits)
+          (numeral c.in-Absence.wanted (omega arith));
     })
 
 pub returns-in-Check : goal.returns-in-Check
@@ -149,24 +190,40 @@ unfolding spelling
 returns-in-Check c =
     let spelled : IsClaimSpelled c.in-Check.claims c.in-Check.labels = rw c.in-Check.is at c.requires in
     let claims = claims_field c.in-Check.claims (rw c.items-in-Check.ensures.whole at c.claims_are_read.ensures) in
-    let labels = labels_field c.in-Check.labels (rw c.items-in-Check-2.ensures.whole at c.labels_are_read.ensures) spelled.rise in
+    let labels = labels_field c.in-Check.labels (rw c.items-in-Check-2.ensures.whole at c.labels_are_read.ensures)
+    spelled.rise in
     rw c.in-Check.is (record {
-      read = check_reads c.in-Check.view (digits_of c.in-Check.fpr) (field_text claim_text c.in-Check.claims) (field_text label_text c.in-Check.labels) (escaped c.in-Check.uid) c.in-Check.uid c.in-Check.fpr c.in-Check.claims c.in-Check.labels c.octets-name-in-Check.ensures.name (spaceless_digits (octets_of c.in-Check.fpr)) c.printed_is_read-in-Check.ensures.read_back claims.free claims.back labels.free labels.back (rw c.octets-in-Check.ensures.whole at c.uid_is_read-in-Check.ensures);
-      line = check_line c.in-Check.view c.in-Check.fpr c.in-Check.claims c.in-Check.labels c.in-Check.uid (digits_of c.in-Check.fpr) (field_text claim_text c.in-Check.claims) (field_text label_text c.in-Check.labels) (name_is c.in-Check.view c.octets-name-in-Check.ensures.name) (fpr_digits c.in-Check.fpr c.printed_is_read-in-Check.ensures.read_back) claims.line claims.size labels.line labels.size;
+      read = check_reads c.in-Check.view (digits_of c.in-Check.fpr) (field_text claim_text c.in-Check.claims)
+          (field_text label_text c.in-Check.labels) (escaped c.in-Check.uid) c.in-Check.uid c.in-Check.fpr
+          c.in-Check.claims c.in-Check.labels c.octets-name-in-Check.ensures.name
+          (spaceless_digits (octets_of c.in-Check.fpr)) c.printed_is_read-in-Check.ensures.read_back claims.free
+          claims.back labels.free labels.back (rw c.octets-in-Check.ensures.whole at c.uid_is_read-in-Check.ensures);
+      line = check_line c.in-Check.view c.in-Check.fpr c.in-Check.claims c.in-Check.labels c.in-Check.uid
+          (digits_of c.in-Check.fpr) (field_text claim_text c.in-Check.claims) (field_text label_text c.in-Check.labels)
+          (name_is c.in-Check.view c.octets-name-in-Check.ensures.name)
+          (fpr_digits c.in-Check.fpr c.printed_is_read-in-Check.ensures.read_back) claims.line claims.size labels.line
+          labels.size;
     })
 
 pub returns-in-CursorOver : goal.returns-in-CursorOver
 unfolding spelling
 returns-in-CursorOver c = rw c.in-CursorOver.is (record {
-  read = over_reads c.in-CursorOver.cursor c.in-CursorOver.view (decimal c.in-CursorOver.wanted) c.in-CursorOver.wanted c.octets-cursor.ensures.name c.octets-name-in-CursorOver.ensures.name c.positive_is_read.ensures.read;
-  line = over_line c.in-CursorOver.cursor c.in-CursorOver.view c.in-CursorOver.wanted (decimal c.in-CursorOver.wanted) (name_is c.in-CursorOver.cursor c.octets-cursor.ensures.name) (name_is c.in-CursorOver.view c.octets-name-in-CursorOver.ensures.name) (numeral c.in-CursorOver.wanted (omega arith));
+  read = over_reads c.in-CursorOver.cursor c.in-CursorOver.view (decimal c.in-CursorOver.wanted) c.in-CursorOver.wanted
+      c.octets-cursor.ensures.name c.octets-name-in-CursorOver.ensures.name c.positive_is_read.ensures.read;
+  line = over_line c.in-CursorOver.cursor c.in-CursorOver.view c.in-CursorOver.wanted (decimal c.in-CursorOver.wanted)
+      (name_is c.in-CursorOver.cursor c.octets-cursor.ensures.name)
+      (name_is c.in-CursorOver.view c.octets-name-in-CursorOver.ensures.name)
+      (numeral c.in-CursorOver.wanted (omega arith));
 })
 
 pub returns-in-CursorNext : goal.returns-in-CursorNext
 unfolding spelling
 returns-in-CursorNext c = rw c.in-CursorNext.is (record {
-  read = next_reads c.in-CursorNext.cursor (decimal c.in-CursorNext.count) c.in-CursorNext.count c.wanted_is_read-in-CursorNext.ensures.name c.wanted_is_read-in-CursorNext.ensures.read;
-  line = next_line c.in-CursorNext.cursor c.in-CursorNext.count (decimal c.in-CursorNext.count) (name_is c.in-CursorNext.cursor c.wanted_is_read-in-CursorNext.ensures.name) (numeral c.in-CursorNext.count (omega arith));
+  read = next_reads c.in-CursorNext.cursor (decimal c.in-CursorNext.count) c.in-CursorNext.count
+      c.wanted_is_read-in-CursorNext.ensures.name c.wanted_is_read-in-CursorNext.ensures.read;
+  line = next_line c.in-CursorNext.cursor c.in-CursorNext.count (decimal c.in-CursorNext.count)
+      (name_is c.in-CursorNext.cursor c.wanted_is_read-in-CursorNext.ensures.name)
+      (numeral c.in-CursorNext.count (omega arith));
 })
 
 pub returns-in-CursorClose : goal.returns-in-CursorClose
@@ -181,8 +238,15 @@ unfolding spelling
 returns-in-WatchOn c =
     let q : Question = question c.in-WatchOn.fpr c.in-WatchOn.wanted c.in-WatchOn.uid in
     rw c.in-WatchOn.is (record {
-      read = on_reads c.in-WatchOn.watch c.in-WatchOn.view (joined (question_parts c.in-WatchOn.fpr c.in-WatchOn.wanted c.in-WatchOn.uid)) q c.octets-watch.ensures.name c.question_is_read-in-WatchOn.ensures.name c.question_is_read-in-WatchOn.ensures.read;
-      line = on_line c.in-WatchOn.watch c.in-WatchOn.view c.in-WatchOn.fpr c.in-WatchOn.wanted c.in-WatchOn.uid (digits_of c.in-WatchOn.fpr) (decimal c.in-WatchOn.wanted) (name_is c.in-WatchOn.watch c.octets-watch.ensures.name) (name_is c.in-WatchOn.view c.question_is_read-in-WatchOn.ensures.name) (fpr_digits c.in-WatchOn.fpr c.question_is_read-in-WatchOn.ensures.digits) (numeral c.in-WatchOn.wanted (omega arith));
+      read = on_reads c.in-WatchOn.watch c.in-WatchOn.view
+          (joined (question_parts c.in-WatchOn.fpr c.in-WatchOn.wanted c.in-WatchOn.uid)) q c.octets-watch.ensures.name
+          c.question_is_read-in-WatchOn.ensures.name c.question_is_read-in-WatchOn.ensures.read;
+      line = on_line c.in-WatchOn.watch c.in-WatchOn.view c.in-WatchOn.fpr c.in-WatchOn.wanted c.in-WatchOn.uid
+          (digits_of c.in-WatchOn.fpr) (decimal c.in-WatchOn.wanted)
+          (name_is c.in-WatchOn.watch c.octets-watch.ensures.name)
+          (name_is c.in-WatchOn.view c.question_is_read-in-WatchOn.ensures.name)
+          (fpr_digits c.in-WatchOn.fpr c.question_is_read-in-WatchOn.ensures.digits)
+          (numeral c.in-WatchOn.wanted (omega arith));
     })
 
 pub returns-in-WatchOff : goal.returns-in-WatchOff

@@ -9,5 +9,8 @@ use Rattle.wot_signature.proofs.hints.last_key_id.Goals as goal
 
 pub loop-sub-preserved : goal.loop-sub-preserved
 loop-sub-preserved c =
-    walked_more (last_body_of 16) (λ (last : Option (List ℕ)) (s : Subpacket). option_or (cond (is_known_of 16 s) (Some s.body) None) last) (last_body_of-or 16)
-    _ c.loop-sub.sub-iterator c.loop-sub.last (seen c.in-Some.sub) _ _ c.loop-sub.invariant c.in-Some.ensures.steps (c.or-last.ensures ∙ ap (λ o. option_or o c.loop-sub.last) c.key_id_of.ensures)
+    walked_more (last_body_of 16)
+    (λ (last : Option (List ℕ)) (s : Subpacket). option_or (cond (is_known_of 16 s) (Some s.body) None) last)
+    (last_body_of-or 16)
+    _ c.loop-sub.sub-iterator c.loop-sub.last (seen c.in-Some.sub) _ _ c.loop-sub.invariant c.in-Some.ensures.steps
+    (c.or-last.ensures ∙ ap (λ o. option_or o c.loop-sub.last) c.key_id_of.ensures)

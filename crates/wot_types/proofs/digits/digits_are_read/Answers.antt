@@ -5,4 +5,5 @@ use Rattle.wot_types.proofs.digits.digits_are_read.Goals as goal
 
 pub returns : goal.returns
 returns c =
-    ap result_ok (decode_sized-encode_lower c.args.octets.now (length c.args.octets.now) refl (λ i. omega (arith, c.type_inv.octets i)))
+    ap result_ok (decode_sized-encode_lower c.args.octets.now (length c.args.octets.now) refl
+    (λ i. omega (arith, c.type_inv.octets i)))

@@ -6,4 +6,7 @@ use Rattle.wot_types.specs.FprOrder.{by_octets}
 use Rattle.wot_types.proofs.fpr.compare_fprs.Goals as goal
 
 pub returns-clause-octets : goal.returns-clause-octets
-returns-clause-octets c = c.compare_octets.ensures ∙ ap (λ l. slice_cmp nat_cmp l c.octets-2.result.now) c.octets.ensures.octets ∙ ap (slice_cmp nat_cmp (octets_of c.args.left.now)) c.octets-2.ensures.octets ∙ sym (by_octets c.args.left.now c.args.right.now c.octets.ensures.size c.octets-2.ensures.size)
+returns-clause-octets c =
+    c.compare_octets.ensures ∙ ap (λ l. slice_cmp nat_cmp l c.octets-2.result.now) c.octets.ensures.octets
+    ∙ ap (slice_cmp nat_cmp (octets_of c.args.left.now)) c.octets-2.ensures.octets
+    ∙ sym (by_octets c.args.left.now c.args.right.now c.octets.ensures.size c.octets-2.ensures.size)

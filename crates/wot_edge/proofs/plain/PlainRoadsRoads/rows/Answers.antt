@@ -7,12 +7,15 @@ use Rattle.wot_edge.proofs.Recorded.{no_rows}
 use Rattle.wot_edge.proofs.plain.PlainRoadsRoads.rows.Goals as goal
 
 pub returns-in-Some-clause-rows : goal.returns-in-Some-clause-rows
-returns-in-Some-clause-rows c uid = c.rows.ensures.rows ∙ sym (line_edges c.args.self.now uid c.args.target.now c.in-Some.line.now (sym c.in-Some.ensures.line))
+returns-in-Some-clause-rows c uid =
+    c.rows.ensures.rows
+    ∙ sym (line_edges c.args.self.now uid c.args.target.now c.in-Some.line.now (sym c.in-Some.ensures.line))
 
 pub returns-in-Some-clause-order : goal.returns-in-Some-clause-order
 returns-in-Some-clause-order c =
     subst (λ (edges : List EdgeFacts). IsStrictlySortedBy edge_cmp edges) (sym c.rows.ensures.rows)
-    (line_rows c.args.self.now.lines c.args.target.now c.in-Some.line.now c.line_at.ensures.lines (sym c.in-Some.ensures.line)).order
+    (line_rows c.args.self.now.lines c.args.target.now c.in-Some.line.now c.line_at.ensures.lines
+    (sym c.in-Some.ensures.line)).order
 
 pub returns-in-Some-clause-lawful : goal.returns-in-Some-clause-lawful
 returns-in-Some-clause-lawful c uid = told_is_record c.args.self.now uid c.line_at.ensures.lines

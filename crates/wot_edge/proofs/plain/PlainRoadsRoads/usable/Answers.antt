@@ -7,5 +7,6 @@ use Rattle.wot_edge.proofs.plain.PlainRoadsRoads.usable.Goals as goal
 
 pub returns : goal.returns
 returns c = record {
-  usable = λ uid row h e. ap (λ (r : Row). r.usable) (told_made c.args.self.now uid c.args.edge.now.target row h) ∙ ap (λ (edge : EdgeFacts). nat_lt 0 edge.made) (e ∙ sym c.facts.ensures.facts);
+  usable = λ uid row h e. ap (λ (r : Row). r.usable) (told_made c.args.self.now uid c.args.edge.now.target row h)
+      ∙ ap (λ (edge : EdgeFacts). nat_lt 0 edge.made) (e ∙ sym c.facts.ensures.facts);
 }

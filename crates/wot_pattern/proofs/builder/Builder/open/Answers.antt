@@ -22,8 +22,10 @@ returns-clause-builds c = λ s b.
       n,
       is,
       record {
-        nodes = entered_nodes (tokens_of c.flush.new.self.nodes.items) (tokens_of c.push-2.new.self.items) s.outer s.earlier (flushed s.last s.branch) f.nodes (rw c.in_ok-push-2.ensures.items (simp map-append));
-        outer = c.in_ok-push.ensures.items ∙ ap (λ x. x ++ c.flush.new.self.earlier ∷ []) f.outer ∙ ap (λ x. outer_flags s.outer ++ x ∷ []) f.earlier;
+        nodes = entered_nodes (tokens_of c.flush.new.self.nodes.items) (tokens_of c.push-2.new.self.items) s.outer
+            s.earlier (flushed s.last s.branch) f.nodes (rw c.in_ok-push-2.ensures.items (simp map-append));
+        outer = c.in_ok-push.ensures.items ∙ ap (λ x. x ++ c.flush.new.self.earlier ∷ []) f.outer
+            ∙ ap (λ x. outer_flags s.outer ++ x ∷ []) f.earlier;
         earlier = search rules;
         last = f.last;
         levels = omega arith;
