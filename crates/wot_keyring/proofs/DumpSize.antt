@@ -47,7 +47,7 @@ settings_most [] = omega arith
 settings_most (e ∷ verdicts) = omega (arith, setting_most e.0 e.1, settings_most verdicts)
 
 -- a certificate without its stamp
-bare : Fpr × Kept → Fpr × Certificate
+abbrev bare : Fpr × Kept → Fpr × Certificate
 bare e = (e.0, e.1.cert)
 
 pub dump_fits : (k : Keyring) → IsKeyring k → AreLines (commands_of (held_of k))

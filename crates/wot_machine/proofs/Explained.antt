@@ -12,6 +12,7 @@ use Rattle.wot_cert.specs.Judged.{judged}
 use Rattle.wot_keyring.specs.Dump.{judged_by}
 use Rattle.wot_keyring.specs.Held.{Held, cert_in}
 use Rattle.wot_network.specs.Local.{AgreeAt}
+use Rattle.wot_network.specs.Told.{AreOwn}
 use Rattle.wot_explain.specs.Around.{AgreeAround, AgreeAtIssuer, AreExplainedAlike}
 use Rattle.wot_explain.specs.declared.explained.Explained.{Explained}
 use Rattle.wot_cache.specs.declared.view.View.{View}

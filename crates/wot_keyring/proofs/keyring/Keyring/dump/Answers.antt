@@ -1,8 +1,10 @@
-use Rattle.std.proofs.Common.{◌≤◌, List, ap, subst, sym}
+use Rattle.std.proofs.Common.{◌≤◌, List, length, ap, subst, sym}
 use Rattle.std.specs.List.{AllByRecursion}
 use Rattle.wot_types.specs.Limits.{standard_limits}
 use Rattle.wot_cert.specs.Certificate.{Certificate}
 use Rattle.wot_cert.specs.Text.{size_of}
+use Rattle.wot_keyring.specs.Dump.{AreLines, commands_of, lines_of, most_dumped}
+use Rattle.wot_keyring.specs.Held.{held_of}
 use Rattle.wot_keyring.specs.Keyring.{Keyring}
 use Rattle.wot_keyring.proofs.DumpSize.{dump_fits}
 use Rattle.wot_keyring.proofs.Lines.{dumped, dumped_lines, sizes_of}
@@ -25,4 +27,5 @@ returns-in-Ok-clause-read_back c =
 
 pub returns-in-Ok-clause-size : goal.returns-in-Ok-clause-size
 returns-in-Ok-clause-size c =
-    dump_fits c.args.self.now c.self.inside.keyring (returns-in-Ok-clause-read_back c)
+    subst (λ (k : Keyring). AreLines (commands_of (held_of k)) → length (lines_of (commands_of (held_of k))) ≤ most_dumped k.limits)
+      c.self.view_is (dump_fits _ c.self.invariant.0) (returns-in-Ok-clause-read_back c)
