@@ -27,8 +27,14 @@ short_fit : (commands : List Command) → AreShort commands → AreLines command
     → length (lines_of commands) ≤ 129 * length commands
 short_fit [] short lines = omega arith
 short_fit (c ∷ commands) short lines =
-    omega (arith, length-append (command_line_of c) (lines_of commands), length-append (spelling c) (10 ∷ []), lines.0.fits,
-      short.0, short_fit commands short.1 lines.1)
+    omega (
+      arith,
+      length-append (command_line_of c) (lines_of commands),
+      length-append (spelling c) (10 ∷ []),
+      lines.0.fits,
+      short.0,
+      short_fit commands short.1 lines.1,
+    )
 
 both_short : (first last : List Command) → AreShort first → AreShort last → AreShort (first ++ last)
 both_short [] last h k = k

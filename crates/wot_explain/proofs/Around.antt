@@ -101,19 +101,19 @@ module _ (standings : DecideStandings) (user_ids : DecideUserIds)
         → reason_word verdicts certs t uid s ≡ reason_word other others t uid s
     word_same s agree =
         ap (λ (standing : Option Standing). first_word (reason_words verdicts t uid s (verdict_at verdicts s.number) standing))
-          (issuer_same s agree.1)
+        (issuer_same s agree.1)
         ∙ ap (λ (said : Option Verdict). first_word (reason_words verdicts t uid s said (issuer_standing other others t said)))
-          agree.0
+        agree.0
         ∙ ap (λ (words : List Word). first_word (verdict_words s (verdict_at other s.number)
-          ++ counting_words s (good_by (verdict_at other s.number)) ++ words
-          ++ issuer_words (made_of s) (issuer_standing other others t (verdict_at other s.number))))
-          (time_same s (good_by (verdict_at other s.number)))
+        ++ counting_words s (good_by (verdict_at other s.number)) ++ words
+        ++ issuer_words (made_of s) (issuer_standing other others t (verdict_at other s.number))))
+        (time_same s (good_by (verdict_at other s.number)))
 
     step_same : (target : Fpr) (place : ℕ) (s : Signature) → AgreesOf s
         → step_by verdicts target place uid s ≡ step_by other target place uid s
     step_same target place s agree =
         ap (λ (said : Option Verdict). option_map step_of
-          (option_and_then (λ issuer. edge_by issuer target place uid.sigs s) (good_by said))) agree.0
+        (option_and_then (λ issuer. edge_by issuer target place uid.sigs s) (good_by said))) agree.0
 
     reason_same : (target : Fpr) (place : ℕ) (s : Signature) → AgreesOf s
         → reason_of verdicts certs t target place uid s ≡ reason_of other others t target place uid s
@@ -131,7 +131,7 @@ module _ (standings : DecideStandings) (user_ids : DecideUserIds)
       let revoked = (user_ids verdicts other (own c) t uid on).revoked in
       let reasons : reasons_on verdicts certs t (own c) place uid ≡ reasons_on other others t (own c) place uid =
       map_filter_same AgreesOf is_certification (reason_of verdicts certs t (own c) place uid)
-        (reason_of other others t (own c) place uid) (reason_same uid on (own c) place) uid.sigs agree in
+      (reason_of other others t (own c) place uid) (reason_same uid on (own c) place) uid.sigs agree in
       ap (λ (s : Standing). with_parts (target_word s t (is_own_revoked verdicts (own c) t uid)) (reasons_on verdicts certs t (own c) place uid)) standing
       ∙ ap (λ (b : Bool). with_parts (target_word (standing_of other c t) t b) (reasons_on verdicts certs t (own c) place uid)) revoked
       ∙ ap (λ (rs : List Reason). with_parts (target_word (standing_of other c t) t (is_own_revoked other (own c) t uid)) rs) reasons
@@ -146,7 +146,7 @@ module _ (standings : DecideStandings) (user_ids : DecideUserIds)
   uids_of P c h =
       let parts = all_each P (λ (p : Component). p.sigs) (parts_in c) (all_back P c.direct (sigs_on (parts_in c)) h) in
       all_prefix (λ (p : Component). AllByRecursion P p.sigs) c.user_ids c.attributes
-        (all_prefix (λ (p : Component). AllByRecursion P p.sigs) (c.user_ids ++ c.attributes) c.subkeys parts)
+      (all_prefix (λ (p : Component). AllByRecursion P p.sigs) (c.user_ids ++ c.attributes) c.subkeys parts)
 
   at_same : (c : Certificate) → AllByRecursion (SaysSame verdicts other) (all_sigs c)
       → AllByRecursion (AgreeAtIssuer certs verdicts others other) (all_sigs c) → (place : ℕ)
@@ -158,9 +158,9 @@ module _ (standings : DecideStandings) (user_ids : DecideUserIds)
       by None e = refl
       by (Some uid) e =
           let on = at_place (λ (p : Component). AllByRecursion (SaysSame verdicts other) p.sigs) uid c.user_ids
-            (uids_of (SaysSame verdicts other) c said) place e in
+          (uids_of (SaysSame verdicts other) c said) place e in
           let agree = at_place (λ (p : Component). AllByRecursion AgreesOf p.sigs) uid c.user_ids
-            (uids_of AgreesOf c (all_both (SaysSame verdicts other) (AgreeAtIssuer certs verdicts others other) (all_sigs c) said issuers)) place e in
+          (uids_of AgreesOf c (all_both (SaysSame verdicts other) (AgreeAtIssuer certs verdicts others other) (all_sigs c) said issuers)) place e in
           ap (λ (x : Explained). Some x) (explained_same c place uid said on agree)
 
   found_same : (fpr : Fpr) (u : List ℕ) → AgreeAround certs verdicts others other fpr
@@ -168,7 +168,7 @@ module _ (standings : DecideStandings) (user_ids : DecideUserIds)
   found_same fpr u agree =
       by (lookup (is_fpr fpr) certs) refl
       ∙ ap (option_and_then (λ (c : Certificate). option_and_then (explained_at other others t c) (place_of u c.user_ids)))
-        agree.here.same
+      agree.here.same
     where
       by : (o : Option Certificate) → lookup (is_fpr fpr) certs ≡ o
           → option_and_then (λ (c : Certificate). option_and_then (explained_at verdicts certs t c) (place_of u c.user_ids)) o

@@ -27,8 +27,13 @@ lines_most commands = sum_of line_most commands
 lines_fit : (commands : List Command) → AreLines commands → length (lines_of commands) ≤ lines_most commands
 lines_fit [] lines = omega arith
 lines_fit (c ∷ commands) lines =
-    omega (arith, length-append (command_line_of c) (lines_of commands), length-append (spelling c) (10 ∷ []), lines.0.fits,
-      lines_fit commands lines.1)
+    omega (
+      arith,
+      length-append (command_line_of c) (lines_of commands),
+      length-append (spelling c) (10 ∷ []),
+      lines.0.fits,
+      lines_fit commands lines.1,
+    )
 
 most-append : (first last : List Command) → lines_most (first ++ last) ≡ lines_most first + lines_most last
 most-append [] last = omega arith

@@ -44,8 +44,8 @@ module _ (local : AreExplainedAlike) (rows : PolicyRows) (forgets : (c : Certifi
     here = agrees target alike.here;
     issuers = λ c found.
         all_then (HoldAlikeAtIssuer one.held other.held)
-          (AgreeAtIssuer one.held.certs one.held.verdicts other.held.certs other.held.verdicts)
-          (λ s h issuer good. agrees issuer (h issuer good)) (all_sigs c) (alike.issuers c found);
+        (AgreeAtIssuer one.held.certs one.held.verdicts other.held.certs other.held.verdicts)
+        (λ s h issuer good. agrees issuer (h issuer good)) (all_sigs c) (alike.issuers c found);
   }
 
   from_view : (shown : Option View) (uid : List ℕ) → explained_from one shown target uid ≡ explained_from other shown target uid

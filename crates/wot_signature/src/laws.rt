@@ -6,8 +6,7 @@ ghost use Rattle.wot_signature.specs.VersionFour.{facts_v4, hint_v4, scopes_v4};
 
 /// A body that begins with the octet 4 is read as it was before version 6: the same bodies are readable, with the same
 /// facts, patterns and issuer's key ID.
-#[tactic(auto, unfolding(crate::specs::Signature::facts_of, crate::specs::Signature::read_body_of,
-    crate::specs::Signature::scopes_of, crate::specs::Signature::hint_of))]
+#[tactic(auto, unfolding(crate::specs::Signature::facts_of, crate::specs::Signature::read_body_of, crate::specs::Signature::scopes_of, crate::specs::Signature::hint_of))]
 pub fn version_four_is_read_alone()
     ensures facts { (rest : List ℕ) → facts_of (4 ∷ rest) ≡ facts_v4 (4 ∷ rest) }
     ensures scopes { (rest : List ℕ) → scopes_of (4 ∷ rest) ≡ scopes_v4 (4 ∷ rest) }

@@ -41,5 +41,5 @@ pub returns-in-Ok-clause-size : goal.returns-in-Ok-clause-size
 returns-in-Ok-clause-size c =
     let Small : Limits → Type 0 = λ l. AreSmall l in
     dump_fits (engine_of c.args.keyring.now c.args.views.now.entries)
-      (subst Small c.limits-limits.ensures.limits c.limits-limits.ensures.small) c.requires.within
-      c.in_ok-held.ensures.size (returns-in-Ok-clause-read_back c)
+    (subst Small c.limits-limits.ensures.limits c.limits-limits.ensures.small) c.requires.within
+    c.in_ok-held.ensures.size (returns-in-Ok-clause-read_back c)
