@@ -1,3 +1,4 @@
+//! An answer: its sum and its paths. `specs` of `wot_edge` say which answer is right; replies to `ask` print it.
 ghost use Rattle.std.specs.Prelude.{◌≡◌, IfOk};
 
 use wot_edge::PathList;
@@ -12,7 +13,7 @@ pub struct Answer {
 }
 
 impl Answer {
-    /// An equal answer.
+    /// A copy.
     pub fn duplicate(&self) -> Result<Answer, Memory>
         ensures same { IfOk result (λ made. made ≡ self.now) }
     {

@@ -1,3 +1,7 @@
+//! The calls for an answer: plain, metered, and within a table of reach.
+//!
+//! They stand on `take` and on `specs/Agreed.antt`. All three return the one answer of `wot_edge/specs/Answer.antt`;
+//! they differ in cost and in what they note.
 ghost use Rattle.std.specs.Prelude.{◌≡◌, ◌≤◌, ◌↔◌, [], length, true, Err, None, is_some, IfOk};
 ghost use Rattle.wot_types.specs.declared.fpr.Fpr.{Fpr as TheFpr};
 ghost use Rattle.wot_edge.specs.Roots.{root_amount};
@@ -16,10 +20,10 @@ use wot_edge::{Roads, Roots};
 use wot_search::{Consulted, LookFault, Metered, Reach, Unnoted};
 use wot_types::{Fpr, Memory};
 
-/// How far a user ID of the target is authenticated: next paths until their sum reaches what is
-/// wanted, or no valid path of positive amount is left. The last path isn't cut, and the sum isn't
-/// claimed to be a maximum flow. An absent target or user ID has the amount 0. What was looked at
-/// is added to `consulted`: whatever agrees on it gives this answer.
+/// Computes to which amount a user ID of the target is authenticated: next paths until their sum reaches the wanted
+/// amount or no valid path of positive amount is left. The last path isn't cut, and the sum isn't claimed to be a
+/// maximum flow. An absent target or user ID has the amount 0. What was looked at is added to `consulted`: every
+/// network that agrees on it has this answer.
 pub fn authenticate<R: Roads>(
     alloc: Global,
     roads: &R,
@@ -56,8 +60,8 @@ pub fn authenticate<R: Roads>(
     Ok(answer)
 }
 
-/// The same answer, unless that takes one look more than the meter has left: then `Spent`. What was looked at is noted,
-/// and leads to the target.
+/// Computes the answer, or returns `Spent` if that takes more looks than the meter has left. What was looked at is
+/// noted, and leads to the target.
 pub fn authenticate_metered<R: Roads>(
     alloc: Global,
     roads: &R,
@@ -75,7 +79,7 @@ pub fn authenticate_metered<R: Roads>(
     ensures local { IfOk result (IsAnswerOfAgreeing (asks (R.told roads.now uid.now) roots.now target.now) wanted
         metered.new.consulted) }
 
-    // An error is `Spent` exactly if one look more than was left was asked for.
+    // An error is `Spent` if and only if the search asked for one look too many.
     ensures spent { result ≡ Err LookFault.Spent → metered.new.left ≡ None }
     ensures wanting { result ≡ Err LookFault.Memory → is_some metered.new.left ≡ true }
     ensures grows { Grows metered.old.consulted metered.new.consulted }
@@ -99,8 +103,7 @@ fn look_fault(left: Option<u64>) -> LookFault
     }
 }
 
-/// The same answer, by searches that pass over each issuer where it would stand further before the target than its
-/// reach. Nothing is noted of what they looked at.
+/// Computes the answer by searches that skip issuers beyond their reach. What they look at isn't noted.
 pub fn authenticate_within<R: Roads>(
     alloc: Global,
     roads: &R,

@@ -1,4 +1,5 @@
-//! Laws of answers. Each function does nothing: its contract is the law.
+//! A law of answers. The function does nothing: its contract is the law, which says what part of a network is enough
+//! for an answer. It stands on `specs/Slices.antt`; `wot_machine` exports it.
 ghost use Rattle.wot_auth.specs.Slices.{AreWithinSlices, DoSlicesAnswer};
 
 /// An answer rests on a slice: the roots, whatever a member certified with a depth of at least 1, and the target. Each

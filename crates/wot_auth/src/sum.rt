@@ -1,3 +1,7 @@
+//! The sum of an answer without its last path.
+//!
+//! It stands on `next_below` of `wot_search` and on `specs/Sum.antt`. Lists and cursors, which print sums only, ask it
+//! for each binding.
 ghost use Rattle.std.specs.Prelude.{◌≤◌, length, IfOk};
 ghost use Rattle.wot_edge.specs.Path.{asks};
 ghost use Rattle.wot_search.specs.Reach.{IsReach};
@@ -9,7 +13,7 @@ use wot_edge::{Path, Roads, Roots, Used};
 use wot_search::{Asked, Next, Reach, next_below};
 use wot_types::{Fpr, Memory};
 
-/// The sum of the answer alone. Of its last path no more than the amount is looked for, where that suffices.
+/// The sum of the answer. Of its last path only the amount is looked for if that suffices.
 pub fn sum_within<R: Roads>(
     alloc: Global,
     roads: &R,
@@ -24,12 +28,12 @@ pub fn sum_within<R: Roads>(
     requires reach { IsReach (R.told roads.now) roots.now reach.now }
     ensures sum { IfOk result (λ sum. IsSumOf (asks (R.told roads.now uid.now) roots.now target.now) wanted sum) }
 {
-    // What the bounds rest on: no root has more than 255, and next paths use no more than there is.
+    // Laws for the bounds: no root has more than 255, and next paths use no more than there is.
     let _count = roots.len();
     paths_fit();
     answer_is_one();
     next_path_is_one();
-    // What is told is lawful.
+    // The record is lawful.
     let _rows = roads.rows(target);
     let asked = Asked {
         roots,

@@ -1,3 +1,6 @@
+//! The loop that takes next paths until an answer is complete.
+//!
+//! It stands on `next_offered` of `wot_search` and on `Used` of `wot_edge`. `ask` wraps it for each kind of call.
 ghost use Rattle.std.specs.Prelude.{◌≡◌, ◌≤◌, length, IfOk};
 ghost use Rattle.wot_edge.specs.Record.{IsRecord};
 ghost use Rattle.wot_edge.specs.Path.{asks};
@@ -14,7 +17,7 @@ use wot_edge::{Path, PathList, Roads, Roots, Used};
 use wot_search::{Asked, Notes, Reach, next_offered};
 use wot_types::{Fpr, Memory};
 
-/// Takes next paths until their sum reaches what is wanted, or none is left.
+/// Takes next paths until their sum reaches the wanted amount, or none is left.
 pub fn take<R: Roads, N: Notes>(
     alloc: Global,
     roads: &R,
@@ -37,10 +40,10 @@ pub fn take<R: Roads, N: Notes>(
     ensures local { IfOk result (IsAnswerLocally reach.now (asks (R.told roads.now uid.now) roots.now target.now) wanted
         (N.noted notes.new)) }
 {
-    // What the bounds rest on: no root has more than 255, and next paths use no more than there is.
+    // Laws for the bounds: no root has more than 255, and next paths use no more than there is.
     let _count = roots.len();
     paths_fit();
-    // What is told is lawful.
+    // The record is lawful.
     let _rows = roads.rows(target);
     let asked = Asked {
         roots,

@@ -1,5 +1,6 @@
 -- A table of reach in the making: its fingerprints, one after the other.
-use Rattle.std.proofs.Common.{◌≡◌, ◌⊎◌, inl, inr, ℕ, ◌+◌, ◌<◌, ◌≤◌, Bool, true, false, cond, Ordering, Less, Equal, Greater, List, [], ◌∷◌, length, get_or, drop, Some, None, refl, sym, subst, ◌∙◌}
+use Rattle.std.proofs.Common.{◌≡◌, ◌⊎◌, inl, inr, ℕ, ◌+◌, ◌<◌, ◌≤◌, Bool, true, false, cond, Ordering, Less, Equal}
+use Rattle.std.proofs.Common.{Greater, List, [], ◌∷◌, length, get_or, drop, Some, None, refl, sym, subst, ◌∙◌}
 use Rattle.std.specs.Map.{lookup}
 use Rattle.std.specs.Ordering.{match_ordering}
 use Rattle.std.specs.BTreeMap.{insert_entry, is_at}
@@ -14,17 +15,20 @@ use Rattle.wot_search.proofs.Enough.{absent_enough}
 
 -- ---- keys
 
-pub keys_inserted : (cmp : Fpr → Fpr → Ordering) (fprs : List Fpr) (es : List (Fpr × ℕ)) (k : Fpr) (n : ℕ) → AreKeysOf fprs es → Has fprs k → AreKeysOf fprs (insert_entry cmp es k n)
+pub keys_inserted : (cmp : Fpr → Fpr → Ordering) (fprs : List Fpr) (es : List (Fpr × ℕ)) (k : Fpr) (n : ℕ)
+    → AreKeysOf fprs es → Has fprs k → AreKeysOf fprs (insert_entry cmp es k n)
 keys_inserted cmp fprs [] k n all has = (has, tt)
 keys_inserted cmp fprs (e ∷ es) k n all has =
-    elim (cmp k e.0) as (λ o. AreKeysOf fprs (match_ordering o ((k, n) ∷ e ∷ es) ((e.0, n) ∷ es) (e ∷ insert_entry cmp es k n))) [
+    elim (cmp k e.0) as
+    (λ o. AreKeysOf fprs (match_ordering o ((k, n) ∷ e ∷ es) ((e.0, n) ∷ es) (e ∷ insert_entry cmp es k n))) [
       | Less ↦ (has, all)
       | Equal ↦ all
       | Greater ↦ (all.0, keys_inserted cmp fprs es k n all.1 has)
     ]
 
 -- a fingerprint that is no key has no number
-key_or_none : (fprs : List Fpr) (es : List (Fpr × ℕ)) (fpr : Fpr) → AreKeysOf fprs es → (lookup (is_at (fpr_cmp fpr)) es ≡ None) ⊎ Has fprs fpr
+key_or_none : (fprs : List Fpr) (es : List (Fpr × ℕ)) (fpr : Fpr) → AreKeysOf fprs es
+    → (lookup (is_at (fpr_cmp fpr)) es ≡ None) ⊎ Has fprs fpr
 key_or_none fprs [] fpr all = inl refl
 key_or_none fprs (e ∷ es) fpr all = by (is_at (fpr_cmp fpr) e.0) refl (key_or_none fprs es fpr all.1)
   where
@@ -36,13 +40,15 @@ key_or_none fprs (e ∷ es) fpr all = by (is_at (fpr_cmp fpr) e.0) refl (key_or_
 -- ---- the check
 
 module _ (told : List ℕ → Record) (roots : List (Fpr × ℕ)) where
-  pub none_checked : (numbers : List (Fpr × ℕ)) (fprs : List Fpr) → AreKeysOf fprs numbers → HaveEnoughBut told roots (number_of numbers) fprs
+  pub none_checked : (numbers : List (Fpr × ℕ)) (fprs : List Fpr) → AreKeysOf fprs numbers
+      → HaveEnoughBut told roots (number_of numbers) fprs
   none_checked numbers fprs keys fpr = elim (key_or_none fprs numbers fpr keys) [
     | inl none ↦ inl (absent_enough told roots numbers fpr none)
     | inr has ↦ inr has
   ]
 
-  pub one_checked : (number : Fpr → ℕ) (fprs : List Fpr) (i : ℕ) (fpr : Fpr) → i < length fprs → fpr ≡ get_or fprs i fpr → HaveEnoughBut told roots number (drop i fprs)
+  pub one_checked : (number : Fpr → ℕ) (fprs : List Fpr) (i : ℕ) (fpr : Fpr) → i < length fprs → fpr ≡ get_or fprs i fpr
+      → HaveEnoughBut told roots number (drop i fprs)
       → HasEnough told roots number fpr → HaveEnoughBut told roots number (drop (i + 1) fprs)
   one_checked number fprs i fpr lt is but enough other = elim (but other) [
     | inl done ↦ inl done
@@ -52,7 +58,8 @@ module _ (told : List ℕ → Record) (roots : List (Fpr × ℕ)) where
     ]
   ]
 
-  pub all_checked : (number : Fpr → ℕ) (fprs : List Fpr) (i : ℕ) → length fprs ≤ i → HaveEnoughBut told roots number (drop i fprs) → HaveEnough told roots number
+  pub all_checked : (number : Fpr → ℕ) (fprs : List Fpr) (i : ℕ) → length fprs ≤ i
+      → HaveEnoughBut told roots number (drop i fprs) → HaveEnough told roots number
   all_checked number fprs i le but fpr = elim (but fpr) [
     | inl done ↦ done
     | inr there ↦ absurd (subst (λ (xs : List Fpr). Has xs fpr) (drop_all i fprs le) there)

@@ -11,11 +11,13 @@ as_good-refl : (used : Use) (goal : Goal) (a : List Step) → IsAsGood used goal
 as_good-refl used Widest a = omega arith
 as_good-refl used Least a = not_less_itself a
 
-as_good-trans : (used : Use) (goal : Goal) (a b c : List Step) → IsAsGood used goal a b → IsAsGood used goal b c → IsAsGood used goal a c
+as_good-trans : (used : Use) (goal : Goal) (a b c : List Step) → IsAsGood used goal a b → IsAsGood used goal b c
+    → IsAsGood used goal a c
 as_good-trans used Widest a b c m n = omega (arith, m, n)
 as_good-trans used Least a b c m n = not_less-trans a b c m n
 
-as_good-cons : (used : Use) (goal : Goal) (x : Step) (a b : List Step) → IsAsGood used goal a b → IsAsGood used goal (x ∷ a) (x ∷ b)
+as_good-cons : (used : Use) (goal : Goal) (x : Step) (a b : List Step) → IsAsGood used goal a b
+    → IsAsGood used goal (x ∷ a) (x ∷ b)
 as_good-cons used Widest x a b m = omega (arith, m)
 as_good-cons used Least x a b m = λ l. m (cons_less x b a l)
 

@@ -1,5 +1,6 @@
 -- The edges into one fingerprint, one after the other.
-use Rattle.std.proofs.Common.{◌≡◌, ◌⊎◌, inl, inr, ℕ, suc, zero, ◌+◌, ◌<◌, ◌≤◌, Bool, cond, List, [], ◌∷◌, length, get_or, drop, refl, sym, ap, subst, ◌∙◌, arith, true, le-leb}
+use Rattle.std.proofs.Common.{◌≡◌, ◌⊎◌, inl, inr, ℕ, suc, zero, ◌+◌, ◌<◌, ◌≤◌, Bool, cond, List, [], ◌∷◌, length}
+use Rattle.std.proofs.Common.{get_or, drop, refl, sym, ap, subst, ◌∙◌, arith, true, le-leb}
 use Rattle.std.specs.Prelude.{nat_le}
 use Rattle.std.proofs.lemmas.Bool.{and_from}
 use Rattle.std.proofs.lemmas.List.{drop_more, drop_all}
@@ -28,32 +29,42 @@ has_at (x ∷ xs) zero d lt = inl refl
 has_at (x ∷ xs) (suc i) d lt = inr (has_at xs i d (omega (arith, lt)))
 
 -- an edge into a fingerprint is one of those into its target
-pub edge_into : (told : Record) → IsRecord told → (at : Fpr) (edge : EdgeFacts) → Has (edges_into told at) edge → Has (edges_into told edge.target) edge × (edge.target ≡ at)
+pub edge_into : (told : Record) → IsRecord told → (at : Fpr) (edge : EdgeFacts) → Has (edges_into told at) edge
+    → Has (edges_into told edge.target) edge × (edge.target ≡ at)
 edge_into told good at edge h =
     let r = row_there told at edge h in
     let t : edge.target ≡ at = ap (λ (x : EdgeFacts). x.target) (sym r.2) ∙ good.into at r.0 r.1 in
     (subst (λ (f : Fpr). Has (edges_into told f) edge) (sym t) h, t)
 
-pub edge_known : (told : List ℕ → Record) → ((id : List ℕ) → IsRecord (told id)) → (at : Fpr) (edges : List EdgeFacts) → ((id : List ℕ) → edges ≡ edges_into (told id) at) → (edge : EdgeFacts) → Has edges edge → (id : List ℕ) → Has (edges_into (told id) edge.target) edge × (edge.target ≡ at)
-edge_known told good at edges e edge h id = edge_into (told id) (good id) at edge (subst (λ (xs : List EdgeFacts). Has xs edge) (e id) h)
+pub edge_known : (told : List ℕ → Record) → ((id : List ℕ) → IsRecord (told id)) → (at : Fpr) (edges : List EdgeFacts)
+    → ((id : List ℕ) → edges ≡ edges_into (told id) at) → (edge : EdgeFacts) → Has edges edge → (id : List ℕ)
+    → Has (edges_into (told id) edge.target) edge × (edge.target ≡ at)
+edge_known told good at edges e edge h id =
+    edge_into (told id) (good id) at edge (subst (λ (xs : List EdgeFacts). Has xs edge) (e id) h)
 
 -- an edge that may stand before others leads on
-leads : (quest : Quest) (row : Row) (rest : List Step) → 0 < length rest → Reaches quest.question row rest → length rest < quest.reach row.edge.issuer → leads_on quest.reach row.edge ≡ true
+leads : (quest : Quest) (row : Row) (rest : List Step) → 0 < length rest → Reaches quest.question row rest
+    → length rest < quest.reach row.edge.issuer → leads_on quest.reach row.edge ≡ true
 leads quest row [] some r far = absurd (omega (arith, some))
 leads quest row (next ∷ rest) some r far =
     let deep = r.0 in
-    and_from (nat_le 1 row.edge.depth) (nat_le 2 (quest.reach row.edge.issuer)) (le-leb 1 row.edge.depth (omega (arith, deep))) (le-leb 2 (quest.reach row.edge.issuer) (omega (arith, far)))
+    and_from (nat_le 1 row.edge.depth) (nat_le 2 (quest.reach row.edge.issuer))
+    (le-leb 1 row.edge.depth (omega (arith, deep))) (le-leb 2 (quest.reach row.edge.issuer) (omega (arith, far)))
 
 -- each edge into a fingerprint that may matter before so many others is one of these
 abbrev pub HasAllBefore : Quest → ℕ → Fpr → List EdgeFacts → Type 0
-HasAllBefore quest size at edges = (edge : EdgeFacts) → Has (edges_into quest.question.told at) edge → (0 < size → leads_on quest.reach edge ≡ true) → Has edges edge
+HasAllBefore quest size at edges =
+    (edge : EdgeFacts) → Has (edges_into quest.question.told at) edge → (0 < size → leads_on quest.reach edge ≡ true)
+    → Has edges edge
 
 -- the width of the rest
-pub width_is : (quest : Quest) (found : Found) (size : ℕ) (at : Fpr) (rest : List Step) → Kept quest found rest → length rest ≡ size → start quest.question.target rest ≡ at → width quest.used rest ≡ wide_of size (found at)
+pub width_is : (quest : Quest) (found : Found) (size : ℕ) (at : Fpr) (rest : List Step) → Kept quest found rest
+    → length rest ≡ size → start quest.question.target rest ≡ at → width quest.used rest ≡ wide_of size (found at)
 width_is quest found size at [] k l e = subst (λ (n : ℕ). width quest.used [] ≡ wide_of n (found at)) l refl
 width_is quest found size at (x ∷ xs) k l e =
     subst (λ (n : ℕ). width quest.used (x ∷ xs) ≡ wide_of n (found at)) l
-    (sym (ap (λ (b : Bool). cond b 255 (node_width (found at))) (suc-zero (length xs)) ∙ ap (λ (f : Fpr). node_width (found f)) (sym e) ∙ ap node_width k.0))
+    (sym (ap (λ (b : Bool). cond b 255 (node_width (found at))) (suc-zero (length xs))
+    ∙ ap (λ (f : Fpr). node_width (found f)) (sym e) ∙ ap node_width k.0))
 
 -- ---- edges so far
 
@@ -63,28 +74,45 @@ module _ (quest : Quest) (size : ℕ) where
 
   -- in whatever is found later, what is taken from a place on is taken from the beginning on
   abbrev pub TakenFrom : Found → List EdgeFacts → ℕ → List Step → Type 0
-  TakenFrom now edges i rest = (found : Found) → Onward quest size now found → TakenAll found (drop i edges) rest → TakenAll found edges rest
+  TakenFrom now edges i rest =
+      (found : Found) → Onward quest size now found → TakenAll found (drop i edges) rest → TakenAll found edges rest
 
-  pub taken_more : (now new : Found) (edges : List EdgeFacts) (i : ℕ) (edge : EdgeFacts) (rest : List Step) → i < length edges → edge ≡ get_or edges i edge → TakenFrom now edges i rest → Onward quest size now new → IsTaken quest new edge rest → TakenFrom new edges (i + 1) rest
+  pub taken_more : (now new : Found) (edges : List EdgeFacts) (i : ℕ) (edge : EdgeFacts) (rest : List Step)
+      → i < length edges → edge ≡ get_or edges i edge → TakenFrom now edges i rest → Onward quest size now new
+      → IsTaken quest new edge rest → TakenFrom new edges (i + 1) rest
   taken_more now new edges i edge rest lt is from on t found on' all =
-      from found (onward_trans quest size now new found on on') (subst (λ (xs : List EdgeFacts). TakenAll found xs rest) (sym (drop_more edges i edge lt)) (λ e h. elim h [
-        | inl f ↦ subst (λ (z : EdgeFacts). IsTaken quest found z rest) (is ∙ sym f) (λ row h' e' u r le far. on'.covers (step_of edge ∷ rest) (t row h' e' u r le far))
+      from found (onward_trans quest size now new found on on')
+      (subst (λ (xs : List EdgeFacts). TakenAll found xs rest) (sym (drop_more edges i edge lt)) (λ e h. elim h [
+        | inl f ↦ subst (λ (z : EdgeFacts). IsTaken quest found z rest) (is ∙ sym f)
+            (λ row h' e' u r le far. on'.covers (step_of edge ∷ rest) (t row h' e' u r le far))
         | inr k ↦ all e k
       ]))
 
-  pub taken_end : (now : Found) (edges : List EdgeFacts) (i : ℕ) (rest : List Step) → length edges ≤ i → TakenFrom now edges i rest → TakenAll now edges rest
-  taken_end now edges i rest le from = from now (onward_refl quest size now) (subst (λ (xs : List EdgeFacts). TakenAll now xs rest) (sym (drop_all i edges le)) (λ e h. absurd h))
+  pub taken_end : (now : Found) (edges : List EdgeFacts) (i : ℕ) (rest : List Step) → length edges ≤ i
+      → TakenFrom now edges i rest → TakenAll now edges rest
+  taken_end now edges i rest le from =
+      from now (onward_refl quest size now)
+      (subst (λ (xs : List EdgeFacts). TakenAll now xs rest) (sym (drop_all i edges le)) (λ e h. absurd h))
 
-  pub taken_all : (found : Found) (edges : List EdgeFacts) (at : Fpr) (rest : List Step) → HasAllBefore quest size at edges → length rest ≡ size → start quest.question.target rest ≡ at → TakenAll found edges rest → AreTaken quest found rest
+  pub taken_all : (found : Found) (edges : List EdgeFacts) (at : Fpr) (rest : List Step)
+      → HasAllBefore quest size at edges → length rest ≡ size → start quest.question.target rest ≡ at
+      → TakenAll found edges rest → AreTaken quest found rest
   taken_all found edges at rest matter long there all step s =
       let row = s.stands.row in
       let h = subst (λ (f : Fpr). Has (rows_into quest.question.told f) row) there s.stands.into in
-      let left : quest.least ≤ step_left quest.used (step_of row.edge) = subst (λ (z : Step). quest.least ≤ step_left quest.used z) (sym s.stands.shown) s.left in
-      let far : length rest < quest.reach row.edge.issuer = subst (λ (z : Step). length rest < quest.reach z.issuer) (sym s.stands.shown) s.high in
-      let has = matter row.edge (row_edge quest.question.told at row h) (λ some. leads quest row rest (omega (arith, some, long)) s.stands.reaches far) in
-      subst (λ (z : Step). Covered quest found (z ∷ rest)) s.stands.shown (all row.edge has row s.stands.into refl s.stands.usable s.stands.reaches left far)
+      let left : quest.least ≤ step_left quest.used (step_of row.edge) =
+      subst (λ (z : Step). quest.least ≤ step_left quest.used z) (sym s.stands.shown) s.left in
+      let far : length rest < quest.reach row.edge.issuer =
+      subst (λ (z : Step). length rest < quest.reach z.issuer) (sym s.stands.shown) s.high in
+      let has = matter row.edge (row_edge quest.question.told at row h)
+      (λ some. leads quest row rest (omega (arith, some, long)) s.stands.reaches far) in
+      subst (λ (z : Step). Covered quest found (z ∷ rest)) s.stands.shown
+      (all row.edge has row s.stands.into refl s.stands.usable s.stands.reaches left far)
 
-  pub rest_now : (old now : Reached) (at : Fpr) (wide : ℕ) (edge : EdgeFacts) (rest : List Step) → Kept quest (look old.nodes) rest → length rest ≡ size → start quest.question.target rest ≡ at → wide ≡ wide_of size (look old.nodes at) → edge.target ≡ at → Advances quest size old now → IsRest quest (look now.nodes) size edge.target wide rest
+  pub rest_now : (old now : Reached) (at : Fpr) (wide : ℕ) (edge : EdgeFacts) (rest : List Step)
+      → Kept quest (look old.nodes) rest → length rest ≡ size → start quest.question.target rest ≡ at
+      → wide ≡ wide_of size (look old.nodes at) → edge.target ≡ at → Advances quest size old now
+      → IsRest quest (look now.nodes) size edge.target wide rest
   rest_now old now at wide edge rest k l there w t a = record {
     kept = a.onward.keeps rest (omega (arith, l)) k;
     long = l;
@@ -93,7 +121,11 @@ module _ (quest : Quest) (size : ℕ) where
   }
 
   pub advances_trans : (a b c : Reached) → Advances quest size a b → Advances quest size b c → Advances quest size a c
-  advances_trans a b c m n = record { growing = n.growing; onward = onward_trans quest size (look a.nodes) (look b.nodes) (look c.nodes) m.onward n.onward }
+  advances_trans a b c m n =
+      record {
+        growing = n.growing;
+        onward = onward_trans quest size (look a.nodes) (look b.nodes) (look c.nodes) m.onward n.onward;
+      }
 
   pub advances_refl : (a : Reached) → IsGrowing quest size (look a.nodes) a.layer.items → Advances quest size a a
   advances_refl a growing = record { growing = growing; onward = onward_refl quest size (look a.nodes) }
@@ -103,9 +135,12 @@ module _ (quest : Quest) where
   NotedAll set edges rest = (edge : EdgeFacts) → Has edges edge → IsNoted quest set edge rest
 
   abbrev pub NotedFrom : (Fpr → Type 0) → List EdgeFacts → ℕ → List Step → Type 0
-  NotedFrom now edges i rest = (edge : EdgeFacts) → Has edges edge → Has (drop i edges) edge ⊎ IsNoted quest now edge rest
+  NotedFrom now edges i rest =
+      (edge : EdgeFacts) → Has edges edge → Has (drop i edges) edge ⊎ IsNoted quest now edge rest
 
-  pub noted_more : (now new : Fpr → Type 0) (edges : List EdgeFacts) (i : ℕ) (edge : EdgeFacts) (rest : List Step) → i < length edges → edge ≡ get_or edges i edge → NotedFrom now edges i rest → Widens now new → IsNoted quest new edge rest → NotedFrom new edges (i + 1) rest
+  pub noted_more : (now new : Fpr → Type 0) (edges : List EdgeFacts) (i : ℕ) (edge : EdgeFacts) (rest : List Step)
+      → i < length edges → edge ≡ get_or edges i edge → NotedFrom now edges i rest → Widens now new
+      → IsNoted quest new edge rest → NotedFrom new edges (i + 1) rest
   noted_more now new edges i edge rest lt is from on t e h = elim (from e h) [
     | inl there ↦ elim (subst (λ (xs : List EdgeFacts). Has xs e) (drop_more edges i edge lt) there) [
       | inl f ↦ inr (subst (λ (z : EdgeFacts). IsNoted quest new z rest) (is ∙ sym f) t)
@@ -114,23 +149,28 @@ module _ (quest : Quest) where
     | inr noted ↦ inr (λ row h' e' r le far. on e.issuer (noted row h' e' r le far))
   ]
 
-  pub noted_end : (now : Fpr → Type 0) (edges : List EdgeFacts) (i : ℕ) (rest : List Step) → length edges ≤ i → NotedFrom now edges i rest → NotedAll now edges rest
+  pub noted_end : (now : Fpr → Type 0) (edges : List EdgeFacts) (i : ℕ) (rest : List Step) → length edges ≤ i
+      → NotedFrom now edges i rest → NotedAll now edges rest
   noted_end now edges i rest le from e h = elim (from e h) [
     | inl there ↦ absurd (subst (λ (xs : List EdgeFacts). Has xs e) (drop_all i edges le) there)
     | inr noted ↦ noted
   ]
 
-  pub noted_all : (size : ℕ) (set : Fpr → Type 0) (edges : List EdgeFacts) (at : Fpr) (rest : List Step) → HasAllBefore quest size at edges → length rest ≡ size → start quest.question.target rest ≡ at → set at → NotedAll set edges rest → IsSeen quest set rest
+  pub noted_all : (size : ℕ) (set : Fpr → Type 0) (edges : List EdgeFacts) (at : Fpr) (rest : List Step)
+      → HasAllBefore quest size at edges → length rest ≡ size → start quest.question.target rest ≡ at → set at
+      → NotedAll set edges rest → IsSeen quest set rest
   noted_all size set edges at rest matter long there it all = record {
     it = subst set (sym there) it;
     issuers = λ row h r le far.
         let h' = subst (λ (f : Fpr). Has (rows_into quest.question.told f) row) there h in
-        let has = matter row.edge (row_edge quest.question.told at row h') (λ some. leads quest row rest (omega (arith, some, long)) r far) in
+        let has = matter row.edge (row_edge quest.question.told at row h')
+        (λ some. leads quest row rest (omega (arith, some, long)) r far) in
         all row.edge has row h refl r le far;
   }
 
 -- the issuer of an edge into a fingerprint is near it
-pub near_issuer : (told : Record) (at : Fpr) (edge : EdgeFacts) → Has (edges_into told at) edge → IsNear told at edge.issuer
+pub near_issuer : (told : Record) (at : Fpr) (edge : EdgeFacts) → Has (edges_into told at) edge
+    → IsNear told at edge.issuer
 near_issuer told at edge h =
     let r = row_there told at edge h in
     inr (r.0, r.1, ap (λ (x : EdgeFacts). x.issuer) (sym r.2))

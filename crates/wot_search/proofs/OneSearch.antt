@@ -1,5 +1,6 @@
 -- Where one search serves as two: all that it found is of the greatest amount.
-use Rattle.std.proofs.Common.{◌≡◌, ◌⊎◌, inl, inr, ℕ, ◌<◌, ◌≤◌, Bool, true, false, cond, nat_le, List, [], ◌∷◌, length, Option, Some, None, ap, subst, arith}
+use Rattle.std.proofs.Common.{◌≡◌, ◌⊎◌, inl, inr, ℕ, ◌<◌, ◌≤◌, Bool, true, false, cond, nat_le, List, [], ◌∷◌, length}
+use Rattle.std.proofs.Common.{Option, Some, None, ap, subst, arith}
 use Rattle.std.proofs.lemmas.Bool.{and_parts, leb-true}
 use Rattle.std.specs.BTreeMap.{is_at}
 use Rattle.std.specs.List.{list_all}
@@ -26,7 +27,8 @@ use Rattle.wot_search.proofs.Rooted.{widest_quest, least_quest, rooted_amount}
 
 -- ---- roots
 
-pub none_over_more : (most : ℕ) (root : Fpr × ℕ) (roots : List (Fpr × ℕ)) → root.1 ≤ most → NoneOver most roots → NoneOver most (root ∷ roots)
+pub none_over_more : (most : ℕ) (root : Fpr × ℕ) (roots : List (Fpr × ℕ)) → root.1 ≤ most → NoneOver most roots
+    → NoneOver most (root ∷ roots)
 none_over_more most root roots le none fpr = by (same_fpr fpr root.0)
   where
     by : (b : Bool) → unwrap_or (cond b (Some root.1) (lookup (is_at (fpr_cmp fpr)) roots)) 0 ≤ most
@@ -34,7 +36,8 @@ none_over_more most root roots le none fpr = by (same_fpr fpr root.0)
     by false = none fpr
 
 -- nor is more left of one
-pub roots_left : (q : Question) (used : Use) (most : ℕ) → NoneOver most q.roots → (fpr : Fpr) → root_left q used fpr ≤ most
+pub roots_left : (q : Question) (used : Use) (most : ℕ) → NoneOver most q.roots → (fpr : Fpr)
+    → root_left q used fpr ≤ most
 roots_left q used most none fpr = (let n = none fpr in omega (arith, n))
 
 -- ---- widths
@@ -43,11 +46,13 @@ some_is : (a b : Node) → Some a ≡ Some b → a ≡ b
 some_is a b e = ap (λ (o : Option Node). unwrap_or o a) e
 
 -- each node that a look-up finds has at least so much
-pub all_wide : (amount : ℕ) (entries : List (Fpr × Node)) → list_all (λ (node : Node). nat_le amount node.width) (values_of entries) ≡ true
+pub all_wide : (amount : ℕ) (entries : List (Fpr × Node))
+    → list_all (λ (node : Node). nat_le amount node.width) (values_of entries) ≡ true
     → (fpr : Fpr) (node : Node) → lookup (is_at (fpr_cmp fpr)) entries ≡ Some node → amount ≤ node.width
 all_wide amount [] t fpr node at = absurd cc
 all_wide amount (x ∷ entries) t fpr node at =
-    let both = and_parts (nat_le amount x.1.width) (list_all (λ (n : Node). nat_le amount n.width) (values_of entries)) t in
+    let both = and_parts (nat_le amount x.1.width) (list_all (λ (n : Node). nat_le amount n.width) (values_of entries))
+    t in
     by both.0 (all_wide amount entries both.1 fpr node) (same_fpr fpr x.0) at
   where
     by : nat_le amount x.1.width ≡ true → (lookup (is_at (fpr_cmp fpr)) entries ≡ Some node → amount ≤ node.width)
@@ -79,11 +84,19 @@ module _ (reach : Fpr → ℕ) (q : Question) (used : Use) where
   rooted_as_wide steps r = record { some = r.some; few = r.few; suffix = suffix_wide steps r.suffix; root = r.root }
 
   -- where no root has more than this path, it is a widest one
-  first_wide : (path : Path) → ((fpr : Fpr) → root_left q used fpr ≤ path.amount) → path.amount ≡ path_amount q used path.steps → IsFirst any path.steps → IsFirst wide path.steps
-  first_wide path most amount f = record { rooted = rooted_as_wide path.steps f.rooted; first = λ other r. by other (f.first other (rooted_any other r)) }
+  first_wide : (path : Path) → ((fpr : Fpr) → root_left q used fpr ≤ path.amount)
+      → path.amount ≡ path_amount q used path.steps → IsFirst any path.steps → IsFirst wide path.steps
+  first_wide path most amount f =
+      record {
+        rooted = rooted_as_wide path.steps f.rooted;
+        first = λ other r. by other (f.first other (rooted_any other r));
+      }
     where
-      by : (other : List Step) → (length path.steps < length other) ⊎ ((length path.steps ≡ length other) × IsGood q used Least path.steps other)
-          → (length path.steps < length other) ⊎ ((length path.steps ≡ length other) × (path_amount q used other ≤ path_amount q used path.steps))
+      by : (other : List Step)
+          → (length path.steps < length other)
+          ⊎ ((length path.steps ≡ length other) × IsGood q used Least path.steps other)
+          → (length path.steps < length other)
+          ⊎ ((length path.steps ≡ length other) × (path_amount q used other ≤ path_amount q used path.steps))
       by other (inl lt) = inl lt
       by other (inr m) =
           let a = least_most used (root_left q used (start q.target other)) other in
@@ -93,15 +106,18 @@ module _ (reach : Fpr → ℕ) (q : Question) (used : Use) where
   pub none_wide : IsResult any None → IsResult wide None
   none_wide none other r = none other (rooted_any other r)
 
-  pub some_wide : (path : Path) → ((fpr : Fpr) → root_left q used fpr ≤ path.amount) → IsResult any (Some path) → IsResult wide (Some path)
-  some_wide path most f = record { first = first_wide path most f.amount f.first; root = f.root; amount = f.amount; long = f.long }
+  pub some_wide : (path : Path) → ((fpr : Fpr) → root_left q used fpr ≤ path.amount) → IsResult any (Some path)
+      → IsResult wide (Some path)
+  some_wide path most f =
+      record { first = first_wide path most f.amount f.first; root = f.root; amount = f.amount; long = f.long }
 
   -- the path has some amount
   pub path_some : (path : Path) → IsResult any (Some path) → 1 ≤ path.amount
   path_some path f = (let a = rooted_amount any path.steps f.first.rooted in let e = f.amount in omega (arith, a, e))
 
   pub looked_wide : (size : ℕ) (set : Fpr → Type 0) → IsLooked any size set → IsLooked wide size set
-  looked_wide size set looked rest lt t = (let seen = looked rest lt (suffix_any rest t) in record { it = seen.it; issuers = seen.issuers })
+  looked_wide size set looked rest lt t =
+      (let seen = looked rest lt (suffix_any rest t) in record { it = seen.it; issuers = seen.issuers })
 
   -- ---- where so much is left of all that was found, a search for so much finds the same
 
@@ -111,34 +127,54 @@ module _ (reach : Fpr → ℕ) (q : Question) (used : Use) where
 
     suffix_less : (steps : List Step) → Suffix more steps → Suffix any steps
     suffix_less [] t = tt
-    suffix_less (step ∷ rest) t = (record { stands = t.0.stands; left = let a = t.0.left in omega (arith, pos, a); high = t.0.high }, suffix_less rest t.1)
+    suffix_less (step ∷ rest) t = (
+      record { stands = t.0.stands; left = let a = t.0.left in omega (arith, pos, a); high = t.0.high },
+      suffix_less rest t.1,
+    )
 
     kept_less : (steps : List Step) → Kept more found steps → Kept any found steps
     kept_less [] k = tt
-    kept_less (step ∷ rest) k =
-        (k.0, record { stands = k.1.stands; left = let a = k.1.left in omega (arith, pos, a); high = k.1.high }, kept_less rest k.2)
+    kept_less (step ∷ rest) k = (
+      k.0,
+      record { stands = k.1.stands; left = let a = k.1.left in omega (arith, pos, a); high = k.1.high },
+      kept_less rest k.2,
+    )
 
     kept_more : (steps : List Step) → Kept any found steps → Kept more found steps
     kept_more [] k = tt
-    kept_more (step ∷ rest) k =
-        (k.0, record { stands = k.1.stands; left = let w = each step.issuer (node_of used step rest) k.0 in omega (arith, w); high = k.1.high }, kept_more rest k.2)
+    kept_more (step ∷ rest) k = (
+      k.0,
+      record {
+        stands = k.1.stands;
+        left = let w = each step.issuer (node_of used step rest) k.0 in
+            omega (arith, w);
+        high = k.1.high;
+      },
+      kept_more rest k.2,
+    )
 
-    entry_more : (most : ℕ) (fpr : Fpr) (node : Node) → IsEntry any found most fpr node → IsEntry more found most fpr node
-    entry_more most fpr node e = record { rest = e.rest; kept = kept_more (node.step ∷ e.rest) e.kept; few = e.few; there = e.there }
+    entry_more : (most : ℕ) (fpr : Fpr) (node : Node) → IsEntry any found most fpr node
+        → IsEntry more found most fpr node
+    entry_more most fpr node e =
+        record { rest = e.rest; kept = kept_more (node.step ∷ e.rest) e.kept; few = e.few; there = e.there }
 
     covered_more : (other : List Step) → Covered any found other → Covered more found other
-    covered_more other c = record { steps = c.steps; kept = kept_more c.steps c.kept; some = c.some; same = c.same; most = c.most }
+    covered_more other c =
+        record { steps = c.steps; kept = kept_more c.steps c.kept; some = c.some; same = c.same; most = c.most }
 
     pub complete_more : (most : ℕ) → IsComplete any found most → IsComplete more found most
     complete_more most complete other some few t = covered_more other (complete other some few (suffix_less other t))
 
     pub layer_more : (size : ℕ) (layer : List Fpr) → IsLayer any found size layer → IsLayer more found size layer
     layer_more size layer l = record {
-      each = λ fpr h. (let b = l.each fpr h in record { steps = b.steps; kept = kept_more b.steps b.kept; long = b.long; there = b.there });
+      each = λ fpr h.
+          (let b = l.each fpr h in
+          record { steps = b.steps; kept = kept_more b.steps b.kept; long = b.long; there = b.there });
       all = λ steps k long. l.all steps (kept_less steps k) long;
     }
 
-  pub after_more : (amount size : ℕ) (reached : Reached) (set : Fpr → Type 0) → 1 ≤ amount → ((fpr : Fpr) (node : Node) → look reached.nodes fpr ≡ Some node → amount ≤ node.width)
+  pub after_more : (amount size : ℕ) (reached : Reached) (set : Fpr → Type 0) → 1 ≤ amount
+      → ((fpr : Fpr) (node : Node) → look reached.nodes fpr ≡ Some node → amount ≤ node.width)
       → IsAfter any size reached set → IsAfter (least_quest reach q used amount) size reached (λ fpr. Unit {0})
   after_more amount size reached set pos each after = record {
     entries = λ fpr node at. entry_more amount pos (look reached.nodes) each size fpr node (after.entries fpr node at);

@@ -18,12 +18,15 @@ use Rattle.wot_search.specs.Suffix.{Serves, Suffix, Found, Kept, node_of}
 use Rattle.wot_search.specs.Layer.{link_cmp}
 
 -- An edge may also stand before fewer edges from the same issuer.
-pub reaches_shorter : (q : Question) (row : Row) (rest other : List Step) → 1 ≤ length rest → 1 ≤ length other → length other ≤ length rest → Reaches q row rest → Reaches q row other
+pub reaches_shorter : (q : Question) (row : Row) (rest other : List Step) → 1 ≤ length rest → 1 ≤ length other
+    → length other ≤ length rest → Reaches q row rest → Reaches q row other
 reaches_shorter q row [] other a b le r = absurd (omega arith)
 reaches_shorter q row (x ∷ rest) [] a b le r = absurd (omega arith)
 reaches_shorter q row (x ∷ rest) (y ∷ other) a b le r = (let d = r.0 in omega (arith, d, le), r.1, r.2)
 
-pub serves_shorter : (quest : Quest) (step : Step) (rest other : List Step) → 1 ≤ length rest → 1 ≤ length other → length other ≤ length rest → start quest.question.target other ≡ start quest.question.target rest → Serves quest step rest → Serves quest step other
+pub serves_shorter : (quest : Quest) (step : Step) (rest other : List Step) → 1 ≤ length rest → 1 ≤ length other
+    → length other ≤ length rest → start quest.question.target other ≡ start quest.question.target rest
+    → Serves quest step rest → Serves quest step other
 serves_shorter quest step rest other a b le e s = record {
   stands = record {
     row = s.stands.row;
@@ -37,8 +40,11 @@ serves_shorter quest step rest other a b le e s = record {
 }
 
 -- an edge that may stand before others is into where they begin
-pub serves_into : (quest : Quest) → IsRecord quest.question.told → (step : Step) (rest : List Step) → Serves quest step rest → step.target ≡ start quest.question.target rest
-serves_into quest good step rest s = ap (λ (x : Step). x.target) (sym s.stands.shown) ∙ good.into (start quest.question.target rest) s.stands.row s.stands.into
+pub serves_into : (quest : Quest) → IsRecord quest.question.told → (step : Step) (rest : List Step)
+    → Serves quest step rest → step.target ≡ start quest.question.target rest
+serves_into quest good step rest s =
+    ap (λ (x : Step). x.target) (sym s.stands.shown)
+    ∙ good.into (start quest.question.target rest) s.stands.row s.stands.into
 
 pub kept_suffix : (quest : Quest) (found : Found) (steps : List Step) → Kept quest found steps → Suffix quest steps
 kept_suffix quest found [] k = tt
@@ -48,14 +54,17 @@ some_is : (a b : Node) → Some a ≡ Some b → a ≡ b
 some_is a b e = cc
 
 -- Of as many edges one suffix was found that begins there.
-pub kept_one : (quest : Quest) → IsRecord quest.question.told → (found : Found) (a b : List Step) → length a ≡ length b → start quest.question.target a ≡ start quest.question.target b → Kept quest found a → Kept quest found b → a ≡ b
+pub kept_one : (quest : Quest) → IsRecord quest.question.told → (found : Found) (a b : List Step) → length a ≡ length b
+    → start quest.question.target a ≡ start quest.question.target b → Kept quest found a → Kept quest found b → a ≡ b
 kept_one quest good found [] [] l e j k = refl
 kept_one quest good found [] (y ∷ b) l e j k = absurd (omega arith)
 kept_one quest good found (x ∷ a) [] l e j k = absurd (omega arith)
 kept_one quest good found (x ∷ a) (y ∷ b) l e j k =
-    let same : node_of quest.used x a ≡ node_of quest.used y b = some_is (node_of quest.used x a) (node_of quest.used y b) (sym j.0 ∙ ap found e ∙ k.0) in
+    let same : node_of quest.used x a ≡ node_of quest.used y b =
+    some_is (node_of quest.used x a) (node_of quest.used y b) (sym j.0 ∙ ap found e ∙ k.0) in
     let first : x ≡ y = ap (λ (n : Node). n.step) same in
-    let there : start quest.question.target a ≡ start quest.question.target b = sym (serves_into quest good x a j.1) ∙ ap (λ (z : Step). z.target) first ∙ serves_into quest good y b k.1 in
+    let there : start quest.question.target a ≡ start quest.question.target b =
+    sym (serves_into quest good x a j.1) ∙ ap (λ (z : Step). z.target) first ∙ serves_into quest good y b k.1 in
     let rest : a ≡ b = kept_one quest good found a b (omega (arith, l)) there j.2 k.2 in
     ap (λ (z : Step). z ∷ a) first ∙ ap (λ (z : List Step). y ∷ z) rest
 
@@ -70,12 +79,18 @@ then_then Equal p r e = refl
 then_then Greater p r e = absurd cc
 
 -- Two suffixes of one issuer, and of as many edges, compare as their first edges do.
-pub links : (quest : Quest) → IsRecord quest.question.told → (found : Found) (x : Step) (a : List Step) (y : Step) (b : List Step) → x.issuer ≡ y.issuer → length a ≡ length b
-    → Serves quest x a → Serves quest y b → Kept quest found a → Kept quest found b → steps_cmp (x ∷ a) (y ∷ b) ≡ link_cmp x y
+pub links : (quest : Quest) → IsRecord quest.question.told
+    → (found : Found) (x : Step) (a : List Step) (y : Step) (b : List Step) → x.issuer ≡ y.issuer → length a ≡ length b
+    → Serves quest x a → Serves quest y b → Kept quest found a → Kept quest found b
+    → steps_cmp (x ∷ a) (y ∷ b) ≡ link_cmp x y
 links quest good found x a y b e l s t j k =
-    let tied : fpr_cmp x.issuer y.issuer ≡ Equal = subst (λ (f : Fpr). fpr_cmp x.issuer f ≡ Equal) e (tied_itself fpr_total x.issuer) in
+    let tied : fpr_cmp x.issuer y.issuer ≡ Equal =
+    subst (λ (f : Fpr). fpr_cmp x.issuer f ≡ Equal) e (tied_itself fpr_total x.issuer) in
     then_then (fpr_cmp x.issuer y.issuer) (link_cmp x y) (steps_cmp a b) tied
     ∙ then_of (link_cmp x y) (steps_cmp a b) (λ f.
-    let same : x.target ≡ y.target = fpr_exact x.target y.target (then-Equal (fpr_cmp x.target y.target) (nat_cmp x.uid y.uid) f).0 in
-    let there : start quest.question.target a ≡ start quest.question.target b = sym (serves_into quest good x a s) ∙ same ∙ serves_into quest good y b t in
-    subst (λ (z : List Step). steps_cmp a z ≡ Equal) (kept_one quest good found a b l there j k) (tied_itself steps_total a))
+    let same : x.target ≡ y.target =
+    fpr_exact x.target y.target (then-Equal (fpr_cmp x.target y.target) (nat_cmp x.uid y.uid) f).0 in
+    let there : start quest.question.target a ≡ start quest.question.target b =
+    sym (serves_into quest good x a s) ∙ same ∙ serves_into quest good y b t in
+    subst (λ (z : List Step). steps_cmp a z ≡ Equal) (kept_one quest good found a b l there j k)
+    (tied_itself steps_total a))

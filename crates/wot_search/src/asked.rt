@@ -1,9 +1,11 @@
+//! A question to a search: roots, target, user ID, and the table of reach.
+//!
+//! `specs/Asked.antt` relates it to the question of `wot_edge`. Searches turn it into a `Quest`.
 use crate::reach::Reach;
 use wot_edge::Roots;
 use wot_types::Fpr;
 
-/// What is asked of a search: paths from roots to a user ID of the target. No issuer is looked for further before the
-/// target than its reach.
+/// A question to a search: paths from roots to a user ID of the target. Issuers are looked for within their reach only.
 #[derive(Clone, Copy)]
 pub struct Asked<'a> {
     pub roots: &'a Roots,

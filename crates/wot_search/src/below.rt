@@ -1,4 +1,6 @@
-//! The next path, or only its amount where that is enough: then the least of those of this amount isn't looked for.
+//! The next path, or only its amount if that is enough: then the least path of this amount isn't looked for.
+//!
+//! It stands on `first`, `offered` and `offers`. `wot_auth` uses it when only the sum of an answer is wanted.
 ghost use Rattle.std.specs.Prelude.{IfOk, OnOk};
 ghost use Rattle.wot_edge.specs.Sums.{use_in};
 ghost use Rattle.wot_search.specs.Asked.{IsWithin, question_of};
@@ -28,7 +30,7 @@ pub enum Next {
     Path(Path),
 }
 
-/// By a search, which leaves its offers unless it finds enough.
+/// Finds what comes next by a search, which leaves its offers unless it finds enough.
 fn search_below<R: Roads>(
     alloc: Global,
     roads: &R,
@@ -83,8 +85,8 @@ fn search_below<R: Roads>(
     }
 }
 
-/// What comes next, of the offers that an earlier search left where the next path is one of them, else by a search.
-/// Only the next path's amount is told where a search finds one of at least `enough`.
+/// Finds what comes next: from the offers of an earlier search if the next path is one of them, otherwise by a search.
+/// Returns only the next path's amount if a search finds one of at least `enough`.
 pub fn next_below<R: Roads>(
     alloc: Global,
     roads: &R,

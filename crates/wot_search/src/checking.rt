@@ -1,3 +1,8 @@
+//! The last steps of making a table of reach: its numbers are put into the table, and checked one fingerprint after
+//! another.
+//!
+//! It stands on `reach` and `numbers`. A table that fails the check is replaced by one that leaves nothing out, so a
+//! fault in how the numbers were found can cost time and never an answer.
 // A table of reach whose numbers are there: it is filled, and checked fingerprint after fingerprint.
 ghost use Rattle.std.specs.Prelude.{ℕ, List, IfOk};
 ghost use Rattle.wot_types.specs.declared.fpr.Fpr.{Fpr as Print};
@@ -21,7 +26,7 @@ pub struct Numbering {
     pub(crate) next: usize,
 }
 
-/// A table of the numbers of these fingerprints. Of so many there are slots, and those before the next one have enough.
+/// A table of the numbers of these fingerprints. `slotted` of them have slots, and those before `next` have enough.
 #[derive(Drop)]
 pub struct Checking {
     pub(crate) fprs: Vec<Fpr, Global>,
@@ -31,7 +36,7 @@ pub struct Checking {
 }
 
 impl Numbering {
-    /// An empty table. Where there are fewer numbers than fingerprints, the last get 255.
+    /// An empty table. If there are fewer numbers than fingerprints, the last ones get 255.
     pub(crate) fn new(alloc: Global, fprs: Vec<Fpr>, numbers: Vec<u8>) -> Numbering
         ensures keys { AreKeysOf result.fprs.items result.table }
     {
@@ -60,7 +65,7 @@ impl Numbering {
 }
 
 impl Checking {
-    /// A table of these numbers, of which none is checked.
+    /// A table of these numbers, none checked yet.
     pub(crate) fn new(alloc: Global, fprs: Vec<Fpr>, table: BTreeMap<Fpr, u8>) -> Checking
         requires keys { AreKeysOf fprs.items table.entries }
         ensures checking { (told : List ℕ → Record) (roots : List (Print × ℕ)) → IsChecking told roots result }
@@ -73,7 +78,7 @@ impl Checking {
         }
     }
 
-    /// Whether all slots are there, so that the check may begin.
+    /// Whether all slots are there, so that the check can begin.
     pub(crate) fn is_slotted(&self) -> bool {
         self.slotted >= self.fprs.len()
     }
@@ -91,7 +96,8 @@ impl Checking {
         Ok(self)
     }
 
-    /// Checks the next fingerprint. Where it hasn't enough, a table that leaves nothing out is made instead.
+    /// Checks the next fingerprint. If it doesn't have enough, a table that leaves nothing out takes the place of this
+    /// one.
     pub(crate) fn check<R: Roads>(
         mut self,
         alloc: Global,

@@ -1,3 +1,6 @@
+//! Which root of the last layer a path is taken from.
+//!
+//! It stands on `reached` and on `specs/Choice.antt`. `turn` makes the path from the chosen root.
 ghost use Rattle.std.specs.Prelude.{◌≡◌, ℕ, List, None, Option};
 ghost use Rattle.wot_edge.specs.Record.{Record};
 ghost use Rattle.wot_search.specs.Quest.{quest_of};
@@ -8,7 +11,6 @@ use crate::left::left_of_root;
 use crate::node::{Choice, Goal, Node};
 use crate::quest::Quest;
 use crate::reached::{Reached, node_at, width_of};
-use std::alloc::Global;
 use std::collections::BTreeMap;
 use wot_types::{Fpr, compare_fprs};
 
@@ -49,7 +51,7 @@ fn take(
     Some(first_of(quest.goal, choice, best))
 }
 
-/// The root of the last layer that is taken; `None` where there is none of which so much is left.
+/// The root of the last layer to take; `None` if none has the wanted residual amount.
 pub fn choose(quest: &Quest, reached: &Reached) -> Option<Choice>
     ensures { (told : List ℕ → Record)
         → result ≡ chosen (quest_of told quest.now) (look reached.now.nodes) None reached.now.layer.items }

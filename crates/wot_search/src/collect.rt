@@ -1,3 +1,6 @@
+//! The steps of a suffix, collected from one node to the next.
+//!
+//! It stands on `reached`. `turn` and `offers` turn what a search found into paths with it.
 ghost use Rattle.std.specs.Prelude.{IfOk};
 ghost use Rattle.wot_search.specs.Growth.{IsFoundFrom};
 ghost use Rattle.wot_search.specs.Reached.{look};
@@ -9,7 +12,7 @@ use std::collections::BTreeMap;
 use wot_edge::Step;
 use wot_types::{Fpr, Memory};
 
-/// The suffix of so many edges that was found from here.
+/// The suffix of `size` edges that was found from here.
 pub fn collect(
     alloc: Global,
     nodes: &BTreeMap<Fpr, Node>,

@@ -1,3 +1,7 @@
+//! One edge in the search: whether it may come before a suffix, and whether it is kept for its issuer.
+//!
+//! It stands on `demand` and `reached`, and on `specs/Growth.antt`. `extend` calls it for each edge, so most of a
+//! search's time is spent here.
 ghost use Rattle.std.specs.Prelude.{◌≡◌, ◌<◌, ℕ, List, true, IfOk, OnOk};
 ghost use Rattle.wot_edge.specs.Record.{Record, Has, IsRecord, edges_into};
 ghost use Rattle.wot_search.specs.Demand.{demand_of};
@@ -16,7 +20,7 @@ use crate::reached::{Reached, node_at, put};
 use wot_edge::{Edge, EdgeFacts, Roads};
 use wot_types::Memory;
 
-/// What is to be kept of an edge, if it may stand there.
+/// The node to keep for an edge, if the edge may come there.
 fn wanted(
     quest: &Quest,
     demand: Demand,
@@ -46,7 +50,7 @@ fn wanted(
     }
 }
 
-/// Whether an edge is usable, which isn't asked where it is known to be.
+/// Whether an edge is usable. The network isn't asked if that is known.
 fn is_usable<R: Roads>(roads: &R, known: bool, edge: &Edge) -> bool
     requires row { (id : List ℕ) → Has (edges_into (R.told roads.now id) edge.now.target) edge.now }
     requires known { known ≡ true → IsUsable (R.told roads.now) edge.now }
@@ -58,7 +62,7 @@ fn is_usable<R: Roads>(roads: &R, known: bool, edge: &Edge) -> bool
     roads.usable(edge)
 }
 
-/// Whether an edge is usable and, but for the last of a path, its scope holds.
+/// Whether an edge is usable, and its scope holds unless it is a path's last edge.
 fn may_stand<R: Roads>(
     roads: &R,
     quest: &Quest,
@@ -80,7 +84,7 @@ fn may_stand<R: Roads>(
     roads.scope(edge, quest.uid)
 }
 
-/// Keeps a node for its issuer if its edge may stand there.
+/// Keeps a node for its issuer if its edge may come there.
 fn keep<R: Roads, N: Notes>(
     roads: &R,
     quest: &Quest,
@@ -106,8 +110,8 @@ fn keep<R: Roads, N: Notes>(
     Ok(())
 }
 
-/// Considers an edge before a suffix of so many edges and of so much. How far its issuer reaches, and whether it is
-/// usable, are looked up only where the hint doesn't tell.
+/// Considers an edge in front of a suffix with this number of edges and this width. The issuer's reach, and whether the
+/// edge is usable, are looked up only if the hint doesn't say.
 pub fn consider<R: Roads, N: Notes>(
     roads: &R,
     quest: &Quest,

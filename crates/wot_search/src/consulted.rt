@@ -1,3 +1,7 @@
+//! The set of fingerprints that a search looked at.
+//!
+//! It stands on std's map. An answer depends on nothing else, so `wot_cache` keeps an answer for as long as none of
+//! these changed.
 ghost use Rattle.std.specs.Prelude.{◌≡◌, ◌⊎◌, ◌↔◌, [], IsTrue, OnOk, OnErr};
 ghost use Rattle.std.specs.Iterator.{YieldsFirst, item_count};
 ghost use Rattle.std.specs.List.Sorted.{IsStrictlySortedBy};
@@ -12,7 +16,7 @@ use std::collections::btree_set::Iter;
 use std::marker::Model;
 use wot_types::{Fpr, Memory};
 
-/// The fingerprints whose rows, standing or root amount a search looked at, in order.
+/// The fingerprints whose rows, validity or root amount a search looked at, in order.
 #[derive(Drop)]
 pub struct Consulted {
     fprs: BTreeSet<Fpr, Global>,
@@ -28,7 +32,7 @@ impl Model for Consulted {
 }
 
 impl Consulted {
-    /// Nothing was looked at.
+    /// An empty set.
     pub fn new(alloc: Global) -> Consulted
         ensures none { result ≡ [] }
     {
@@ -44,7 +48,7 @@ impl Consulted {
         self.fprs.contains(fpr)
     }
 
-    /// Notes that a fingerprint is looked at. After `Memory` the set is as before.
+    /// Adds a fingerprint. After `Memory` the set is unchanged.
     pub(crate) fn add(&mut self, fpr: &Fpr) -> Result<(), Memory>
         ensures has { OnOk result (Has self.new fpr.now) }
         ensures grows { Grows self.old self.new }
@@ -66,7 +70,7 @@ impl Consulted {
     }
 }
 
-/// Goes over consulted fingerprints, in order.
+/// Iterates over consulted fingerprints, in order.
 #[derive(Drop)]
 pub struct ConsultedIter<'a> {
     fprs: Iter<'a, Fpr>,

@@ -1,3 +1,7 @@
+//! What the search demands of an edge, and which of two suffixes it keeps.
+//!
+//! It stands on `left` and `reach`, and on `specs/Demand.antt`. The rules of depth and user ID are here; usability and
+//! scopes are in `consider`.
 ghost use Rattle.std.specs.Prelude.{◌≡◌, ◌<◌, ℕ, List, nat_le, nat_lt};
 ghost use Rattle.wot_types.specs.Fpr.{same_fpr};
 ghost use Rattle.wot_search.specs.Demand.{is_place, is_met, demand_of, candidate_of};
@@ -18,7 +22,7 @@ fn is_same(a: &Fpr, b: &Fpr) -> bool
     compare_fprs(a, b).is_eq()
 }
 
-/// What the search demands of edges that stand before so many others.
+/// What the search demands of edges with `size` edges after them.
 pub fn demand<R: Roads>(roads: &R, quest: &Quest, size: u8) -> Demand
     ensures { result ≡ demand_of (quest_of (R.told roads.now) quest.now).question size }
 {
@@ -47,23 +51,23 @@ fn meets(demand: Demand, target: &Fpr, edge: &EdgeFacts) -> bool
     }
 }
 
-/// Whether the issuer of an edge reaches so far.
+/// Whether the issuer of an edge may come this far before the target.
 fn reaches(quest: &Quest, size: u8, place: usize, edge: &EdgeFacts) -> bool
     ensures { (told : List ℕ → Record) → result ≡ nat_lt size ((quest_of told quest.now).reach edge.now.issuer) }
 {
     size < quest.reach.get_near(place, &edge.issuer)
 }
 
-/// Whether so much is left of an edge before so many others, where its issuer reaches so far.
+/// Whether a residual amount is enough for the quest.
 fn suffices(quest: &Quest, left: u8) -> bool
     ensures { result ≡ nat_le quest.now.least left }
 {
     quest.least <= left
 }
 
-/// What would be kept of an edge before a suffix of so many edges, and of so much; `None` where its issuer doesn't
-/// reach so far, it doesn't meet the demand, or too little is left of it. How far the issuer reaches is found at once
-/// where it is at this place of the table.
+/// The node for an edge in front of a suffix with this number of edges and this width. `None` if its issuer may not
+/// come this far, if it doesn't meet the demand, or if too little is left of it. The issuer's reach is found at once if
+/// it is at this place of the table.
 pub fn candidate(
     quest: &Quest,
     demand: Demand,
@@ -75,7 +79,7 @@ pub fn candidate(
     requires { size < 255 }
     ensures { (told : List ℕ → Record) → result ≡ candidate_of (quest_of told quest.now) demand size width edge.now }
 {
-    // Few edges meet the demand, and its test looks at the edge alone.
+    // Few edges meet the demand, and the test looks at the edge only.
     if !meets(demand, quest.target, edge) {
         return None;
     }
@@ -113,7 +117,7 @@ fn better(goal: Goal, a: &Node, b: &Node) -> bool
     }
 }
 
-/// Whether a node is kept, where an older one may have been found for its issuer.
+/// Whether a node is kept, given the one that was found for its issuer before, if any.
 pub fn keeps(goal: Goal, node: &Node, old: Option<Node>) -> bool
     ensures { result ≡ is_kept goal node.now old }
 {

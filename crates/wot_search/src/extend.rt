@@ -1,3 +1,6 @@
+//! The edges into one fingerprint of a layer, considered one after another.
+//!
+//! It stands on `consider`, and on `reach` for the edges that lead on. `grow` calls it for each fingerprint.
 ghost use Rattle.std.specs.Prelude.{◌≡◌, ◌<◌, ℕ, List, OnOk};
 ghost use Rattle.wot_edge.specs.Record.{IsRecord};
 ghost use Rattle.wot_search.specs.Onward.{AreAllUsableIf, AreUsableIf, LeadsOnInto, MatterBefore};
@@ -16,18 +19,18 @@ use crate::reached::{Reached, width_at};
 use wot_edge::{Edge, Roads};
 use wot_types::{Fpr, Memory};
 
-/// What a table of reach tells of edges into a fingerprint.
+/// What a table of reach says about edges into a fingerprint.
 #[derive(Clone, Copy)]
 struct Hints<'a> {
     /// Where the numbers of the issuers of all edges into the fingerprint begin.
     start: usize,
-    /// The places of these edges among all; where there are none, they are all.
+    /// The places of these edges among all; if there are none, these are all edges.
     places: &'a [usize],
     /// Whether they are known to be usable.
     usable: bool,
 }
 
-/// What it tells of one of them.
+/// What it says about one of them.
 fn hint_of(hints: Hints<'_>, index: usize) -> Hint
     ensures usable { result.usable ≡ hints.entry.usable }
 {
@@ -38,8 +41,8 @@ fn hint_of(hints: Hints<'_>, index: usize) -> Hint
     }
 }
 
-/// Considers each edge into a fingerprint of the layer before that may stand there. Its place in the table of reach may
-/// be known.
+/// Considers the edges into a fingerprint of the last layer that may come there. Its place in the table of reach may be
+/// known.
 pub fn extend<R: Roads, N: Notes>(
     roads: &R,
     quest: &Quest,
@@ -112,7 +115,7 @@ fn extend_onward<R: Roads, N: Notes>(
     extend_by(roads, quest, size, at, edges, hints, reached, notes)
 }
 
-/// Considers each edge into a fingerprint, all of which may be known to be usable. Their numbers begin here in the
+/// Considers each edge into a fingerprint. All of them may be known to be usable. Their numbers begin at `start` in the
 /// table.
 fn extend_all<R: Roads, N: Notes>(
     roads: &R,

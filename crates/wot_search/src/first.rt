@@ -1,3 +1,7 @@
+//! The first path: layer after layer from the target, up to the first layer with a root.
+//!
+//! It stands on `grow` and `turn`, and on `specs/Growth.antt`. `next` runs it twice, first for the greatest amount and
+//! then for the least list.
 ghost use Rattle.std.specs.Prelude.{◌≡◌, ℕ, List, [], ◌∷◌, IfOk};
 ghost use Rattle.wot_edge.specs.Leads.{Leads};
 ghost use Rattle.wot_edge.specs.Record.{IsRecord};
@@ -15,7 +19,7 @@ use std::collections::BTreeMap;
 use wot_edge::{Path, Roads};
 use wot_types::{Fpr, Memory};
 
-/// Before the first layer: the target alone.
+/// Before the first layer: only the target.
 pub(crate) fn begin(alloc: Global, target: &Fpr) -> Result<Reached, Memory>
     ensures nodes { IfOk result (λ reached. reached.nodes.entries ≡ []) }
     ensures layer { IfOk result (λ reached. reached.layer.items ≡ target.now ∷ []) }
@@ -29,7 +33,8 @@ pub(crate) fn begin(alloc: Global, target: &Fpr) -> Result<Reached, Memory>
     })
 }
 
-/// The first path of which so much is left: of fewest edges, and then as the goal says.
+/// Finds the first path with the wanted residual amount: one with the fewest edges, and among these the best by the
+/// goal.
 pub fn first<R: Roads, N: Notes>(
     alloc: Global,
     roads: &R,
@@ -49,8 +54,8 @@ pub fn first<R: Roads, N: Notes>(
     first_from(alloc, roads, quest, &mut reached, notes)
 }
 
-/// The same from the target alone. It looks at one layer after the other, up to the first one that holds a root, and
-/// leaves what it found.
+/// Finds the first path, starting from the target. Goes on layer by layer up to the first one with a root, and leaves
+/// what it found in `reached`.
 pub(crate) fn first_from<R: Roads, N: Notes>(
     alloc: Global,
     roads: &R,

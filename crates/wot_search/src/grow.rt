@@ -1,3 +1,6 @@
+//! One layer more: the edges into every fingerprint of the last layer.
+//!
+//! It stands on `extend` and on `specs/Growth.antt`. `first` and `offers` call it until they find a root.
 ghost use Rattle.std.specs.Prelude.{◌<◌, ℕ, List, OnOk};
 ghost use Rattle.wot_edge.specs.Record.{IsRecord};
 ghost use Rattle.wot_search.specs.Quest.{LeadsOn, quest_of};
@@ -14,7 +17,7 @@ use std::mem;
 use wot_edge::Roads;
 use wot_types::{Fpr, Memory};
 
-/// Considers each edge into each fingerprint of a layer. Their places in the table of reach may be known.
+/// Considers the edges into each fingerprint of a layer. Their places in the table of reach may be known.
 fn grow<R: Roads, N: Notes>(
     roads: &R,
     quest: &Quest,
@@ -47,7 +50,7 @@ fn grow<R: Roads, N: Notes>(
     Ok(())
 }
 
-/// One layer more.
+/// Adds one layer.
 pub fn advance<R: Roads, N: Notes>(
     alloc: Global,
     roads: &R,

@@ -1,4 +1,7 @@
 //! The search for the next path: backwards from the target, in layers of shortest suffixes.
+//!
+//! It stands on `wot_edge`, whose definition of the next path it meets. `wot_auth` takes paths from it, and `wot_cache`
+//! keeps tables of reach and what was consulted. `docs/SEARCH.md` explains how it works.
 #![tactic(auto)]
 
 mod asked;

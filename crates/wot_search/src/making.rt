@@ -1,5 +1,8 @@
-//! A table of reach that is made in steps, so that many questions share what it takes.
-ghost use Rattle.std.specs.Prelude.{ℕ, List, IfOk, IfSome};
+//! A table of reach, made in steps, so that many questions share its cost.
+//!
+//! It stands on `reaching`, which finds the numbers, and on `checking`, which checks them. `wot_cache` takes some steps
+//! with each question to a view.
+ghost use Rattle.std.specs.Prelude.{ℕ, List, IfOk};
 ghost use Rattle.wot_types.specs.declared.fpr.Fpr.{Fpr as Print};
 ghost use Rattle.wot_edge.specs.Record.{Record};
 ghost use Rattle.wot_search.specs.Making.{GivesReach, IsChecking, IsMaking};
@@ -12,22 +15,23 @@ use std::alloc::Global;
 use wot_edge::{Roads, Roots};
 use wot_types::{Fpr, Memory};
 
-/// How far the making of a table of reach has come.
+/// How far a table of reach has been made.
 #[derive(Drop)]
 pub enum Making {
-    /// There are the fingerprints, those that have edges; where some are missing, the table may leave nothing out.
+    /// The fingerprints are there: those with edges into them. If some are missing, the table may end up leaving
+    /// nothing out.
     Begun(Vec<Fpr, Global>),
-    /// Their places are noted.
+    /// Their places are being noted.
     Placing(Placing),
-    /// The links between them are looked for.
+    /// The links between them are being collected.
     Linking(Linking),
-    /// Numbers are passed on along the links.
+    /// Numbers are being passed on along the links.
     Passing(Passing),
-    /// The numbers are there, and are put into a table.
+    /// The numbers are being put into a table.
     Numbering(Numbering),
-    /// The table is filled and checked.
+    /// The table is being filled and checked.
     Checking(Checking),
-    /// It is done.
+    /// The table is made.
     Made(Reach),
 }
 
@@ -47,7 +51,7 @@ impl Making {
         }
     }
 
-    /// How long the next step takes, where a look at an edge is one.
+    /// How long the next step takes, in units of one look at an edge.
     fn weight(&self) -> u64 {
         match self {
             Making::Linking(_) => 4,
@@ -60,7 +64,7 @@ impl Making {
         }
     }
 
-    /// One step further: one fingerprint, or some links, in what is done now.
+    /// Takes one step: one fingerprint, or some links, of the current phase.
     fn step<R: Roads>(self, alloc: Global, roads: &R, roots: &Roots) -> Result<Making, Memory>
         requires making { IsMaking (R.told roads.now) roots.now self }
         ensures making { IfOk result (IsMaking (R.told roads.now) roots.now) }
@@ -76,7 +80,7 @@ impl Making {
         }
     }
 
-    /// Taken further, by the roads and the roots that it was begun with, for about as long as so many looks at edges
+    /// Goes on, with the network and the roots that it was begun with, for about as long as this many looks at edges
     /// take.
     pub fn advanced<R: Roads>(
         self,
@@ -101,7 +105,7 @@ impl Making {
     }
 }
 
-/// One place more; after the last one links are looked for.
+/// Notes one more place; after the last one, links are collected.
 fn placed(alloc: Global, placing: Placing) -> Result<Making, Memory>
     ensures making { (told : List ℕ → Record) (amounts : List (Print × ℕ)) → IfOk result (IsMaking told amounts) }
 {
@@ -113,7 +117,7 @@ fn placed(alloc: Global, placing: Placing) -> Result<Making, Memory>
     Ok(Making::Placing(placing))
 }
 
-/// One fingerprint's links more; after the last one numbers are passed on.
+/// Collects the links of one more fingerprint; after the last one, numbers are passed on.
 fn linked<R: Roads>(
     alloc: Global,
     roads: &R,
@@ -130,7 +134,7 @@ fn linked<R: Roads>(
     Ok(Making::Linking(linking))
 }
 
-/// Some links passed over; after the last pass the numbers are put into a table.
+/// Passes numbers along some links; after the last pass, the numbers are put into a table.
 fn passed<R: Roads>(alloc: Global, roads: &R, passing: Passing) -> Result<Making, Memory>
     ensures making { (told : List ℕ → Record) (amounts : List (Print × ℕ)) → IfOk result (IsMaking told amounts) }
 {
@@ -142,7 +146,7 @@ fn passed<R: Roads>(alloc: Global, roads: &R, passing: Passing) -> Result<Making
     Ok(Making::Passing(passing))
 }
 
-/// One slot more; after the last one, one fingerprint checked.
+/// Adds one slot; after the last one, checks one fingerprint.
 fn checked<R: Roads>(
     alloc: Global,
     roads: &R,
@@ -158,8 +162,9 @@ fn checked<R: Roads>(
     Ok(Making::Checking(checking.slot()?))
 }
 
-/// How far before any target each fingerprint may stand on a path from these roots, whatever user ID is asked for. The
-/// fingerprints are those that have edges; where some are missing, the table may leave nothing out.
+/// Makes a whole table: how far before any target each fingerprint may come on a path from these roots, whatever user
+/// ID is asked for. The fingerprints are those with edges into them. If some are missing, the table may leave nothing
+/// out.
 pub fn make_reach<R: Roads>(
     alloc: Global,
     roads: &R,

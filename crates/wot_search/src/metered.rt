@@ -1,5 +1,7 @@
-//! A search that may look so often and no oftener: what it looks at is noted, and one look too many has an error of its
-//! own. Searches are generic over `Notes`; a caller reads from `left` why one ended.
+//! A search with a limit on how often it looks. Every look is noted, and one look too many has an error of its own.
+//!
+//! Searches are generic over `Notes`; a caller reads from `left` why one ended. `wot_auth` bounds the cost of a
+//! question by it.
 ghost use Rattle.std.specs.Prelude.{◌≡◌, ◌⊎◌, Some, OnOk};
 ghost use Rattle.wot_types.specs.declared.fpr.Fpr.{Fpr as Print};
 ghost use Rattle.wot_edge.specs.Record.{Has};
@@ -11,25 +13,25 @@ use crate::notes::Notes;
 use std::alloc::Global;
 use wot_types::{Fpr, Memory};
 
-/// Why a metered search has no answer.
+/// Why a metered search ended without an answer.
 #[derive(Clone, Copy, PartialEq, Eq)]
 pub enum LookFault {
-    /// It would look once more than it may.
+    /// The limit on looks was reached.
     Spent,
-    /// No memory was found.
+    /// Out of memory.
     Memory,
 }
 
-/// Notes what a search looks at, up to so many looks, a fingerprint that is looked at twice counted twice.
+/// Notes what a search looks at, up to a limit. A fingerprint that is looked at twice counts twice.
 #[derive(Drop)]
 pub struct Metered {
     pub consulted: Consulted,
-    /// How many looks are left; `None` once one more was asked for.
+    /// How many looks are left; `None` after one too many was asked for.
     pub left: Option<u64>,
 }
 
 impl Metered {
-    /// Nothing was looked at yet.
+    /// No look yet.
     pub fn new(alloc: Global, left: u64) -> Metered
         ensures left { result.left ≡ Some left }
     {
@@ -43,7 +45,7 @@ impl Metered {
 impl Notes for Metered {
     ghost noted = { λ metered fpr. Has metered.consulted fpr };
 
-    /// Where no look is left, or none was left before, it is refused.
+    /// Refused if no look is left, or one was refused before.
     fn note(&mut self, fpr: &Fpr) -> Result<(), Memory>
         ensures has { OnOk result (Has self.new.consulted fpr.now) }
         ensures grows { Widens (Has self.old.consulted) (Has self.new.consulted) }

@@ -1,3 +1,7 @@
+//! `next_path`: the next path after what earlier paths use.
+//!
+//! It stands on `first`, and its contract is the definition in `wot_edge/specs/Path.antt`. `wot_auth` makes answers of
+//! it; a faster search has to keep these clauses.
 ghost use Rattle.std.specs.Prelude.{◌≤◌, IfOk};
 ghost use Rattle.wot_types.specs.declared.fpr.Fpr.{Fpr as Print};
 ghost use Rattle.wot_edge.specs.Answer.{IsNextOrSpent};
@@ -21,15 +25,15 @@ use std::alloc::Global;
 use wot_edge::{Path, Roads, Roots, Used};
 use wot_types::{Fpr, Memory};
 
-/// No root has more than 255: what each value of `Roots` keeps, as a fact.
+/// A law: no root has more than 255.
 pub(crate) fn bound_amounts(roots: &Roots)
     ensures { (fpr : Print) → root_amount roots.now fpr ≤ 255 }
 {
     let _count = roots.len();
 }
 
-/// The next path after what earlier ones use; `None` exactly where no valid path of positive amount
-/// is left. `consulted` gains each fingerprint whose rows, standing or root amount was looked at.
+/// Finds the next path after what earlier ones use. Returns `None` if and only if no valid path of positive amount is
+/// left. Every fingerprint whose rows, validity or root amount was looked at is added to `consulted`.
 pub fn next_path<R: Roads>(
     alloc: Global,
     roads: &R,
@@ -39,15 +43,15 @@ pub fn next_path<R: Roads>(
     uid: &[u8],
     consulted: &mut Consulted,
 ) -> Result<Option<Path>, Memory>
-    // The next path, or none where there is none.
+    // The next path, or none if there is none.
     ensures next { IfOk result (IsNextOrSpent (asks (R.told roads.now uid.now) roots.now target.now)
         (use_in used.now)) }
 
-    // What was looked at only grows, and gains only what leads to the target by rows.
+    // `consulted` only grows, and only by what leads to the target by rows.
     ensures grows { Grows consulted.old consulted.new }
     ensures leads { GainsLeads (R.told roads.now uid.now) target.now consulted.old consulted.new }
 
-    // It is also the next path of each question that agrees on what was looked at.
+    // It is also the next path of every question that agrees on what was looked at.
     ensures local { IfOk result (IsNextOfAgreeing (asks (R.told roads.now uid.now) roots.now target.now)
         (use_in used.now) consulted.new) }
     ensures lawful { IfOk result (λ found. IsRecord (R.told roads.now uid.now)) }
@@ -63,8 +67,8 @@ pub fn next_path<R: Roads>(
     Ok(found)
 }
 
-/// The same next path, by a search that passes over each issuer where it would stand further before the target than its
-/// reach. Each fingerprint that was looked at is noted.
+/// Finds the next path by a search that skips issuers beyond their reach. Every fingerprint that was looked at is
+/// noted.
 pub fn next_path_within<R: Roads, N: Notes>(
     alloc: Global,
     roads: &R,
@@ -77,7 +81,8 @@ pub fn next_path_within<R: Roads, N: Notes>(
     ensures grows { Widens (N.noted notes.old) (N.noted notes.new) }
     ensures leads { Gains (LeadsToAsked (R.told roads.now) asked.now) (N.noted notes.old) (N.noted notes.new) }
 
-    // Where nothing is left out, it is also the next path of each question that agrees on a set that has what is noted.
+    // If the table leaves nothing out, it is also the next path of every question that agrees on a set that contains
+    // what was noted.
     ensures local { IfOk result (IsNextLocally (R.told roads.now) asked.now used.now (N.noted notes.new)) }
     ensures lawful { IfOk result (λ found. IsRecord (R.told roads.now asked.now.uid.now)) }
 {

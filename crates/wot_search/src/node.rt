@@ -1,7 +1,9 @@
+//! The values of a search: its goal, nodes, choices, hints and demands. They have no invariants; `specs/Layer.antt`
+//! says what a search knows by its nodes.
 use wot_edge::Step;
 use wot_types::Fpr;
 
-/// What a search looks for among the suffixes of fewest edges.
+/// What a search looks for among the suffixes with the fewest edges.
 #[derive(Clone, Copy, PartialEq, Eq)]
 pub enum Goal {
     /// The greatest amount.
@@ -10,8 +12,8 @@ pub enum Goal {
     Least,
 }
 
-/// What a search keeps of the suffix of an issuer: its first edge, how many edges it has, and the
-/// least of what is left of them. The rest of it is kept at the first edge's target.
+/// What a search keeps of an issuer's suffix: its first edge, how many edges it has, and their least residual amount.
+/// The rest of the suffix is kept at the first edge's target.
 #[derive(Clone, Copy, PartialEq, Eq)]
 pub struct Node {
     pub step: Step,
@@ -26,7 +28,7 @@ pub struct Choice {
     pub width: u8,
 }
 
-/// What a table of reach tells of an edge: the place where its issuer's number is found at once, and whether the edge
+/// What a table of reach says about an edge: the place where its issuer's number is found at once, and whether the edge
 /// is known to be usable.
 #[derive(Clone, Copy)]
 pub struct Hint {
@@ -34,8 +36,8 @@ pub struct Hint {
     pub usable: bool,
 }
 
-/// What is demanded of an edge: to be on the wanted user ID, by its place among the target's; or
-/// to have a depth of at least so many edges, and an issuer other than the target.
+/// What is demanded of an edge: to be on the wanted user ID, by its place among the target's; or to have at least this
+/// depth, and an issuer other than the target.
 #[derive(Clone, Copy, PartialEq, Eq)]
 pub enum Demand {
     On(Option<u32>),

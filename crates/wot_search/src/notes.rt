@@ -1,3 +1,6 @@
+//! The trait `Notes`: what a search does with each fingerprint that it looks at.
+//!
+//! `Consulted` keeps them, `Metered` counts them too, and `Unnoted` forgets them. Searches are generic over it.
 ghost use Rattle.std.specs.Prelude.{◌≡◌, ◌⊎◌, OnOk};
 ghost use Rattle.wot_types.specs.declared.fpr.Fpr.{Fpr as Print};
 ghost use Rattle.wot_edge.specs.Record.{Has};
@@ -6,12 +9,12 @@ ghost use Rattle.wot_search.specs.Looked.{Widens};
 use crate::consulted::Consulted;
 use wot_types::{Fpr, Memory};
 
-/// What a search does with each fingerprint whose rows, standing or root amount it looks at.
+/// What a search does with each fingerprint whose rows, validity or root amount it looks at.
 pub trait Notes {
     // which fingerprints are noted
     ghost noted: { Self → Print → Type 0 };
 
-    /// Notes that a fingerprint is looked at.
+    /// Notes a look at a fingerprint.
     fn note(&mut self, fpr: &Fpr) -> Result<(), Memory>
         ensures has { OnOk result (noted self.new fpr.now) }
         ensures grows { Widens (noted self.old) (noted self.new) }
@@ -26,7 +29,7 @@ impl Notes for Consulted {
     }
 }
 
-/// Keeps nothing of what is looked at, and takes no memory: nobody asks for it later.
+/// Keeps nothing and takes no memory.
 #[derive(Clone, Copy)]
 pub struct Unnoted;
 

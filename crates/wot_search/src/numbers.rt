@@ -1,3 +1,6 @@
+//! The numbers of a table of reach while they are put in.
+//!
+//! It stands on std's map. `checking` fills it, and takes the map once all numbers are there.
 // The numbers of a table of reach while they are put in.
 ghost use Rattle.std.specs.Prelude.{◌≡◌, [], OnOk};
 ghost use Rattle.std.specs.BTreeMap.{insert_entry};
@@ -24,7 +27,7 @@ impl Model for Numbers {
 }
 
 impl Numbers {
-    /// None.
+    /// No numbers.
     pub(crate) fn new(alloc: Global) -> Numbers
         ensures none { result ≡ [] }
     {
@@ -41,7 +44,7 @@ impl Numbers {
         Ok(())
     }
 
-    /// All of them.
+    /// The map of all numbers.
     pub(crate) fn into_table(self) -> BTreeMap<Fpr, u8, Global>
         ensures same { result.entries ≡ self }
     {

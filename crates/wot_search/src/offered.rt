@@ -1,4 +1,8 @@
-ghost use Rattle.std.specs.Prelude.{◌≡◌, nat_le, true, IfOk, OnOk};
+//! Next paths from offers: which offer of an earlier search is the next path now.
+//!
+//! It stands on `offers` and on `specs/Offers.antt`. `wot_auth` asks it for each path after the first, which saves a
+//! search most of the time.
+ghost use Rattle.std.specs.Prelude.{◌≡◌, nat_le, IfOk, OnOk};
 ghost use Rattle.wot_edge.specs.Answer.{IsNextOrSpent};
 ghost use Rattle.wot_edge.specs.Path.{step_left};
 ghost use Rattle.wot_edge.specs.Sums.{use_in};
@@ -15,7 +19,7 @@ use std::alloc::Global;
 use wot_edge::{Path, Roads, Roots, Step, Used};
 use wot_types::{Fpr, Memory};
 
-/// What is left of a root.
+/// The residual amount of a root.
 fn left_of(roots: &Roots, used: &Used, fpr: &Fpr) -> u8
     ensures { result ≡ left_at roots.now (use_in used.now) fpr.now }
 {
@@ -28,14 +32,14 @@ fn has_left(used: &Used, amount: u8, step: &Step) -> bool
     amount <= left_of_step(used, step)
 }
 
-/// Whether so much is left of each of these edges.
+/// Whether each of these edges has at least this residual amount.
 fn have_left(used: &Used, amount: u8, steps: &[Step]) -> bool
     ensures { result ≡ is_left (use_in used.now) amount steps.now }
 {
     steps.iter().all(|step| has_left(used, amount, step))
 }
 
-/// Whether less is left of the first offer's root than its amount.
+/// Whether the first offer's root has less left than the offer's amount.
 fn is_spent(roots: &Roots, used: &Used, offers: &[Path]) -> bool
     ensures { result ≡ is_first_spent roots.now (use_in used.now) offers.now }
 {
@@ -45,7 +49,7 @@ fn is_spent(roots: &Roots, used: &Used, offers: &[Path]) -> bool
     }
 }
 
-/// Lets go of the first offers while less is left of their roots.
+/// Drops the first offers whose roots have too little left.
 pub(crate) fn drop_spent(roots: &Roots, used: &Used, offers: &mut Vec<Path>)
     ensures { KeepsOffers roots.now (use_in used.now) offers.old.items offers.new.items }
 {
@@ -67,7 +71,7 @@ pub(crate) fn first_of(offers: &[Path]) -> Result<Option<Path>, Memory>
     }
 }
 
-/// The first offer, where its amount is left of its root and of its edges.
+/// The first offer, if its amount is left of its root and of its edges.
 pub(crate) fn open_offer(
     roots: &Roots,
     used: &Used,
@@ -87,8 +91,8 @@ pub(crate) fn open_offer(
     Ok(Some(path))
 }
 
-/// The next path, of the offers that an earlier search left where it is one of them, else by a search that leaves its
-/// own; `None` where no valid path of positive amount is left.
+/// Finds the next path: from the offers of an earlier search if it is one of them, otherwise by a search that leaves
+/// its own. `None` if no valid path of positive amount is left.
 pub fn next_offered<R: Roads, N: Notes>(
     alloc: Global,
     roads: &R,
@@ -105,8 +109,8 @@ pub fn next_offered<R: Roads, N: Notes>(
     ensures grows { Widens (N.noted notes.old) (N.noted notes.new) }
     ensures leads { Gains (LeadsToAsked (R.told roads.now) asked.now) (N.noted notes.old) (N.noted notes.new) }
 
-    // Where nothing is left out, it is so of each question that agrees on a set that has what is noted, and of which
-    // the earlier offers were some.
+    // If the table leaves nothing out, this holds for every question that agrees on a set that contains what was noted
+    // and that had the earlier offers.
     ensures local { IfOk result (TakesLocally (R.told roads.now) asked.now used.now (N.noted notes.new)
         offers.old.items offers.new.items) }
 {

@@ -1,3 +1,7 @@
+//! Offers: the next paths of several roots, found by one search.
+//!
+//! It stands on `grow` and `collect`, and on `specs/Offers.antt`. `offered` takes paths from them while their amounts
+//! last.
 ghost use Rattle.std.specs.Prelude.{◌≡◌, ℕ, List, nat_le, true, IfOk, OnOk};
 ghost use Rattle.std.specs.List.{list_all};
 ghost use Rattle.std.specs.Map.{values_of};
@@ -26,7 +30,7 @@ use std::collections::BTreeMap;
 use wot_edge::{Path, Roads, Roots, Used};
 use wot_types::{Fpr, Memory};
 
-/// What a search finds in so many layers. Nothing is noted of what it looks at.
+/// What a search finds in this many layers. What it looks at isn't noted.
 fn layers_of<R: Roads>(
     alloc: Global,
     roads: &R,
@@ -45,7 +49,7 @@ fn layers_of<R: Roads>(
     Ok(reached)
 }
 
-/// The path of so many edges that was found from a root; `None` where there is none, or too little is left of the root.
+/// The path of `size` edges that was found from a root. `None` if there is none, or too little is left of the root.
 fn offer_of(
     alloc: Global,
     quest: &Quest,
@@ -110,7 +114,7 @@ fn offers_of(
     Ok(paths)
 }
 
-/// The offers of all roots, by a search in so many layers.
+/// The offers of all roots, by a search in this many layers.
 pub(crate) fn offers_by<R: Roads>(
     alloc: Global,
     roads: &R,
@@ -127,7 +131,7 @@ pub(crate) fn offers_by<R: Roads>(
     Ok(paths)
 }
 
-/// The same by two searches: one finds the greatest amount, and one the least lists of this amount.
+/// Next paths by two searches: one finds the greatest amount, and one the least lists of this amount.
 fn next_paths_by_two<R: Roads, N: Notes>(
     alloc: Global,
     roads: &R,
@@ -141,7 +145,7 @@ fn next_paths_by_two<R: Roads, N: Notes>(
     ensures grows { Widens (N.noted notes.old) (N.noted notes.new) }
     ensures leads { Gains (LeadsToAsked (R.told roads.now) asked.now) (N.noted notes.old) (N.noted notes.new) }
 
-    // Where nothing is left out, they are also those of each question that agrees on a set that has what is noted.
+    // If the table leaves nothing out, every question that agrees on a set with all that was noted has them too.
     ensures local { IfOk result (λ paths. AreNextLocally (R.told roads.now) asked.now used.now (N.noted notes.new)
         paths.items) }
     ensures lawful { IfOk result (λ paths. IsRecord (R.told roads.now asked.now.uid.now)) }
@@ -193,14 +197,14 @@ fn is_most(roots: &Roots, amount: u8) -> bool
     true
 }
 
-/// Whether each node has at least so much.
+/// Whether each node has at least this width.
 fn are_wide(nodes: &BTreeMap<Fpr, Node>, amount: u8) -> bool
     ensures wide { result ≡ list_all (λ node. nat_le amount node.width) (values_of nodes.now.entries) }
 {
     nodes.values().all(|node| amount <= node.width)
 }
 
-/// Whether a path of so much is of the greatest amount, and as much is left of all that was found.
+/// Whether this amount is the greatest, and everything that was found has it.
 fn serves(roots: &Roots, nodes: &BTreeMap<Fpr, Node>, amount: u8) -> bool
     ensures most { result ≡ true → NoneOver amount roots.now }
     ensures wide { result ≡ true → AreWide amount (look nodes.now) }
@@ -211,12 +215,11 @@ fn serves(roots: &Roots, nodes: &BTreeMap<Fpr, Node>, amount: u8) -> bool
     are_wide(nodes, amount)
 }
 
-/// Next paths that one search finds: the next one, and after it, of each later root, the one that is next once less is
-/// left of the roots before it, while as much is left of its own root and of its edges. None where no valid path of
-/// positive amount is left. The search passes over each issuer where it would stand further before the target than its
-/// reach. Each fingerprint that was looked at is noted.
+/// Finds several next paths by one search: the next one, and for each later root the one that is next once the roots
+/// before it have less left, as long as its own root and edges still have its amount. None if no valid path of positive
+/// amount is left. The search skips issuers beyond their reach. Every fingerprint that was looked at is noted.
 ///
-/// Where all amounts are the same, as most are, the first search finds both the greatest amount and the least lists.
+/// If all amounts are equal, as most are, the first search finds both the greatest amount and the least lists.
 pub fn next_paths_within<R: Roads, N: Notes>(
     alloc: Global,
     roads: &R,
@@ -230,7 +233,7 @@ pub fn next_paths_within<R: Roads, N: Notes>(
     ensures grows { Widens (N.noted notes.old) (N.noted notes.new) }
     ensures leads { Gains (LeadsToAsked (R.told roads.now) asked.now) (N.noted notes.old) (N.noted notes.new) }
 
-    // Where nothing is left out, they are also those of each question that agrees on a set that has what is noted.
+    // If the table leaves nothing out, every question that agrees on a set with all that was noted has them too.
     ensures local { IfOk result (λ paths. AreNextLocally (R.told roads.now) asked.now used.now (N.noted notes.new)
         paths.items) }
     ensures lawful { IfOk result (λ paths. IsRecord (R.told roads.now asked.now.uid.now)) }

@@ -1,7 +1,8 @@
-// Which edges lead on, so that a search needn't look at the others: most certifications make no introducer.
+//! The edges that lead on: those that can have another edge after them. A search looks only at these, and most
+//! certifications make no introducer. They are part of a table of reach (`reach`), by `specs/Onward.antt`.
 ghost use Rattle.std.specs.Prelude.{◌≡◌, ◌++◌, ◌∷◌, [], ℕ, List, true, IfOk, IfSome, OnOk};
 ghost use Rattle.wot_types.specs.declared.fpr.Fpr.{Fpr as Print};
-ghost use Rattle.wot_edge.specs.Record.{Record, Has, edges_into};
+ghost use Rattle.wot_edge.specs.Record.{Has, edges_into};
 ghost use Rattle.wot_search.specs.Onward.{AddsLead, AreOnward, GivesOnward, IsUsableIf, LeadsOnInto, leads_on};
 ghost use Rattle.wot_search.specs.Reach.{number_of};
 ghost use Rattle.wot_search.specs.Slots.{AreSlots};
@@ -12,22 +13,22 @@ use std::collections::BTreeMap;
 use wot_edge::{Edge, Roads};
 use wot_types::{Fpr, Memory, Steps};
 
-/// Those edges into a fingerprint that may stand before another edge, by their depths and how far their issuers reach.
-/// They are kept beside the network, so that a search finds them at once.
+/// The edges into a fingerprint that can have another edge after them, by their depths and their issuers' reach.
+/// They are kept with the table, so that a search finds them at once.
 #[derive(Drop)]
 pub struct Onward {
     pub fpr: Fpr,
     pub edges: Vec<Edge, Global>,
     /// The place of each among all edges into the fingerprint.
     pub places: Vec<usize, Global>,
-    /// Whether these edges are known to be usable, so that a search needn't ask.
+    /// Whether these edges are known to be usable, so that a search doesn't have to ask.
     pub usable: bool,
     /// Whether all edges into the fingerprint are.
     pub all_usable: bool,
 }
 
 impl Onward {
-    /// None yet.
+    /// No edges yet.
     fn new(alloc: Global, fpr: &Fpr) -> Onward
         ensures fpr { result.fpr ≡ fpr.now }
         ensures edges { result.edges.items ≡ [] }
@@ -41,7 +42,7 @@ impl Onward {
         }
     }
 
-    /// These, if they are of this fingerprint.
+    /// These edges, if they are those of this fingerprint.
     pub(crate) fn of_fpr(&self, fpr: &Fpr) -> Option<&Onward>
         ensures same { IfSome result (λ one. (one.now ≡ self.now) × (self.now.fpr ≡ fpr.now)) }
     {
@@ -49,7 +50,7 @@ impl Onward {
     }
 }
 
-/// Those at a place, if they are of this fingerprint.
+/// The edges at a place, if they are those of this fingerprint.
 pub(crate) fn onward_at<'a>(onward: &'a [Onward], place: usize, fpr: &Fpr) -> Option<&'a Onward>
     ensures leads { (number : Print → ℕ) → GivesOnward number onward.now fpr.now result }
 {
@@ -68,7 +69,7 @@ fn is_onward(slots: &Slots, numbers: &BTreeMap<Fpr, u8>, edge: &Edge) -> bool
     1 <= facts.depth && 2 <= number_by(slots, numbers, &facts.issuer)
 }
 
-/// Whether an edge is usable, and those before it are.
+/// Whether an edge and those before it are usable.
 fn is_usable_too<R: Roads>(roads: &R, usable: bool, edge: &Edge) -> bool
     requires row { (id : List ℕ) → Has (edges_into (R.told roads.now id) edge.now.target) edge.now }
     ensures usable { IsUsableIf (R.told roads.now) usable result edge.now }
@@ -141,7 +142,7 @@ fn onward_of<R: Roads>(
     Ok(onward)
 }
 
-/// Appends those of one fingerprint.
+/// Appends the edges of one fingerprint.
 pub(crate) fn put_onward<R: Roads>(
     alloc: Global,
     roads: &R,

@@ -1,10 +1,13 @@
+//! What one search looks for: the question, what earlier paths use, and the amount that every edge must have left.
+//!
+//! `specs/Quest.antt` gives it its meaning. `next` and `offers` make quests; everything below reads them.
 use crate::node::Goal;
 use crate::reach::Reach;
 use wot_edge::{Roots, Used};
 use wot_types::Fpr;
 
-/// What a search is for: the paths from a root to a user ID of the target, of each of whose edges,
-/// and of whose root, at least so much is left. No issuer is looked for further than its reach.
+/// What a search looks for: paths from a root to a user ID of the target whose root and edges all have at least this
+/// residual amount. Issuers are looked for within their reach only.
 #[derive(Clone, Copy)]
 pub struct Quest<'a> {
     pub roots: &'a Roots,

@@ -1,9 +1,13 @@
-ghost use Rattle.std.specs.Prelude.{◌≡◌, ◌<◌, ℕ, List, [], true, false, IfOk, IfSome, OnOk};
+//! A table of reach: how far before a target each key may come on a path from the current roots.
+//!
+//! It stands on `slots`, `rows` and `onward`, and on `specs/Reach.antt`. It serves every question of a view and changes
+//! no answer, only the time; `docs/SEARCH.md` explains it.
+ghost use Rattle.std.specs.Prelude.{◌≡◌, ◌<◌, ℕ, List, [], true, false, IfOk, OnOk};
 ghost use Rattle.wot_types.specs.declared.fpr.Fpr.{Fpr as Print};
 ghost use Rattle.wot_edge.specs.Record.{Record, Has, edges_into};
 ghost use Rattle.wot_edge.specs.Roots.{root_amount};
 ghost use Rattle.wot_search.specs.Onward.{AreOnward, GivesOnward};
-ghost use Rattle.wot_search.specs.Reach.{Allows, HasEnough, IsReach, number_at, number_of};
+ghost use Rattle.wot_search.specs.Reach.{Allows, HasEnough, IsReach, number_at};
 
 use crate::onward::{Onward, onward_at, put_onward};
 use crate::rows::{Rows, add_row};
@@ -14,9 +18,9 @@ use std::marker::Model;
 use wot_edge::{Edge, Roads, Roots};
 use wot_types::{Fpr, Memory};
 
-/// How far before a target an issuer may stand: a number of edges for each fingerprint. A search passes over an issuer
-/// that would stand further. One that has no number may stand anywhere. Of the fingerprints with a number it has the
-/// places of the edges that lead on, so that a search needs to look at those alone.
+/// How far before a target an issuer may come: a number of edges for each fingerprint. A search skips an issuer that
+/// would come further. One without a number may come anywhere. For the fingerprints with a number it has the places of
+/// the edges that lead on, so that a search looks only at those.
 #[derive(Drop)]
 pub struct Reach {
     numbers: BTreeMap<Fpr, u8, Global>,
@@ -38,7 +42,7 @@ impl Model for Reach {
 }
 
 impl Reach {
-    /// Leaves nothing out.
+    /// A table that leaves nothing out.
     pub fn everywhere(alloc: Global) -> Reach
         ensures all { (fpr : Print) → number_at result fpr ≡ 255 }
         ensures reach { (told : List ℕ → Record) (roots : List (Print × ℕ)) → IsReach told roots result }
@@ -56,7 +60,7 @@ impl Reach {
         self.rows.is_empty()
     }
 
-    /// How many edges before a target a fingerprint may stand at most.
+    /// How many edges before a target a fingerprint may come at most.
     pub fn get(&self, fpr: &Fpr) -> u8
         ensures number { result ≡ number_at self.now fpr.now }
     {
@@ -66,12 +70,12 @@ impl Reach {
         }
     }
 
-    /// At which place of the table a fingerprint is, if it is found.
+    /// The place of a fingerprint in the table, if it is found.
     pub(crate) fn place(&self, fpr: &Fpr) -> Option<usize> {
         self.slots.place(fpr)
     }
 
-    /// The same where it may be known already.
+    /// The place of a fingerprint, which may be known already.
     pub(crate) fn place_known(&self, known: Option<u32>, fpr: &Fpr) -> Option<usize> {
         match known {
             Some(place) => Some(place as usize),
@@ -79,7 +83,7 @@ impl Reach {
         }
     }
 
-    /// At which place of the table the issuer is whose number is at this place, if that is known.
+    /// The place of the issuer whose number is at this place, if that is known.
     pub(crate) fn issuer_place(&self, place: usize) -> Option<u32> {
         self.rows.issuer(place)
     }
@@ -93,7 +97,7 @@ impl Reach {
         }
     }
 
-    /// The same number, which is found at once where it is at this place.
+    /// The number of a fingerprint, found at once if it is at this place.
     pub(crate) fn get_near(&self, place: usize, fpr: &Fpr) -> u8
         ensures number { result ≡ number_at self.now fpr.now }
     {
@@ -113,12 +117,12 @@ impl Reach {
         }
     }
 
-    /// How many edges were looked at when it was made: what it costs to make it again.
+    /// How many edges were looked at to make it, which is what making it again costs.
     pub fn edges(&self) -> usize {
         self.rows.slots.len()
     }
 
-    /// A table of these numbers, with the slots and the places of none yet.
+    /// A table of these numbers, without slots and places yet.
     pub(crate) fn of(alloc: Global, numbers: BTreeMap<Fpr, u8>) -> Reach
         ensures numbers { result.numbers ≡ numbers.entries }
         ensures onward { result.onward ≡ [] }
@@ -131,14 +135,14 @@ impl Reach {
         }
     }
 
-    /// Adds the slot of one more of so many fingerprints.
+    /// Adds the slot of one more of `count` fingerprints.
     pub(crate) fn add_slot(&mut self, count: usize, fpr: &Fpr) -> Result<(), Memory>
         ensures same { self.new ≡ self.old }
     {
         self.slots.add(count, &self.numbers, fpr)
     }
 
-    /// Appends the places of the edges into one more fingerprint. Whether it has enough.
+    /// Appends the places of the edges into one more fingerprint. Returns whether it has enough.
     pub(crate) fn add<R: Roads>(
         &mut self,
         alloc: Global,
@@ -172,7 +176,7 @@ fn is_low_root(roots: &Roots, number: u8, fpr: &Fpr) -> bool
     number < 255 && roots.get(fpr) > 0
 }
 
-/// Whether a fingerprint has 255 if it is a root, and as much as each edge into it asks for.
+/// Whether a fingerprint has 255 if it is a root, and at least what each edge into it asks for.
 fn has_enough<R: Roads>(roads: &R, roots: &Roots, reach: &Reach, fpr: &Fpr) -> bool
     ensures enough { result ≡ true → HasEnough (R.told roads.now) roots.now (number_at reach.now) fpr.now }
 {

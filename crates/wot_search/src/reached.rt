@@ -1,3 +1,6 @@
+//! What a search has found: a node for each issuer, and the issuers of the last layer.
+//!
+//! `specs/Layer.antt` says what is known by it. `consider` adds nodes, `collect` and `choose` read them.
 ghost use Rattle.std.specs.Prelude.{◌≡◌, OnOk};
 ghost use Rattle.wot_search.specs.Choice.{node_width};
 ghost use Rattle.wot_search.specs.Reached.{look};
@@ -13,11 +16,11 @@ use wot_types::{Fpr, Memory};
 pub struct Reached {
     pub nodes: BTreeMap<Fpr, Node, Global>,
     pub layer: Vec<Fpr, Global>,
-    /// At which place of the table of reach each of the last layer is, where that is known: no more than a hint.
+    /// The place of each of the last layer in the table of reach, if it is known; only a hint.
     pub places: Vec<Option<u32>, Global>,
 }
 
-/// What was found for an issuer.
+/// The node that was found for an issuer.
 pub fn node_at(nodes: &BTreeMap<Fpr, Node>, fpr: &Fpr) -> Option<Node>
     ensures { result ≡ look nodes.now fpr.now }
 {
@@ -36,7 +39,7 @@ pub fn width_of(node: Option<Node>) -> u8
     }
 }
 
-/// The width of the suffix of so many edges that was found from here.
+/// The width of the suffix of `size` edges that was found from here.
 pub fn width_at(reached: &Reached, size: u8, at: &Fpr) -> u8
     ensures { result ≡ wide_of size (look reached.now.nodes at.now) }
 {
@@ -47,8 +50,8 @@ pub fn width_at(reached: &Reached, size: u8, at: &Fpr) -> u8
     }
 }
 
-/// Keeps a node for its issuer, which may be known to be at this place; where it is the first one there, the issuer is
-/// of the last layer.
+/// Keeps a node for its issuer, whose place may be known. If it is the first node there, the issuer joins the last
+/// layer.
 pub fn put(reached: &mut Reached, node: Node, place: Option<u32>) -> Result<(), Memory>
     ensures nodes { OnOk result (PutsNode reached.old reached.new node) }
     ensures layer { OnOk result (PutsIssuer reached.old reached.new node.step.issuer) }

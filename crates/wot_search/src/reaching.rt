@@ -1,3 +1,7 @@
+//! The numbers of a table of reach, found in steps by passing them along edges until none rises.
+//!
+//! No contract promises anything about them: `checking` checks them afterwards. So this file can be changed for speed
+//! without a proof.
 // The numbers of a table of reach, found in steps. Nothing is claimed of them here: they are checked once they are
 // there.
 ghost use Rattle.wot_search.specs.Making.{AreKeysOf};
@@ -33,7 +37,7 @@ enum Passed {
     Raised,
 }
 
-/// Where fingerprints are found.
+/// The places of fingerprints.
 #[derive(Drop)]
 struct Places {
     slots: Slots,
@@ -50,7 +54,7 @@ impl Model for Places {
 }
 
 impl Places {
-    /// None.
+    /// No places.
     fn new(alloc: Global) -> Places {
         Places {
             slots: Slots::none(alloc),
@@ -58,7 +62,7 @@ impl Places {
         }
     }
 
-    /// Notes the place of one more of so many fingerprints.
+    /// Notes the place of one more of `count` fingerprints.
     fn add(&mut self, alloc: Global, count: usize, fpr: &Fpr, place: u32) -> Result<(), Memory> {
         self.all.insert(*fpr, place)?;
         self.slots.add(count, &BTreeMap::new(alloc), fpr)
@@ -120,7 +124,7 @@ impl Placing {
     }
 }
 
-/// Appends the link of an edge, if it may pass something on. Most edges make no introducer.
+/// Appends the link of an edge, if it may pass something on. Most edges don't make their target an introducer.
 fn put_link(
     places: &Places,
     edge: &Edge,
@@ -169,7 +173,7 @@ pub struct Linking {
     next: usize,
 }
 
-/// The numbers after some passes over the links, and after the first links of one more.
+/// The numbers after some passes over the links and a part of the next pass.
 #[derive(Drop)]
 pub struct Passing {
     fprs: Vec<Fpr, Global>,
@@ -218,14 +222,14 @@ impl Passing {
         self.next >= self.links.len() && (!self.rose || self.passes == 0)
     }
 
-    /// A table of them, empty yet.
+    /// A table for them, still empty.
     pub(crate) fn numbering(self, alloc: Global) -> Numbering
         ensures keys { AreKeysOf result.fprs.items result.table }
     {
         Numbering::new(alloc, self.fprs, self.numbers)
     }
 
-    /// Lets some more links pass on what they can.
+    /// Passes numbers along some more links.
     pub(crate) fn pass<R: Roads>(&mut self, roads: &R) {
         if self.next >= self.links.len() {
             self.next = 0;
@@ -289,8 +293,8 @@ fn passed_on(link: &Link, numbers: &[u8]) -> Option<u8> {
     }
 }
 
-/// Raises the target's number to what a link passes on. Only here its edge is looked up, since few links pass on more
-/// than there is.
+/// Raises the target's number to what a link passes on. The edge is looked up only here, since few links raise a
+/// number.
 fn pass_on<R: Roads>(roads: &R, fprs: &[Fpr], link: &Link, numbers: &mut [u8]) -> Passed {
     let Some(passed_on) = passed_on(link, numbers) else {
         return Passed::Nothing;
@@ -304,7 +308,7 @@ fn pass_on<R: Roads>(roads: &R, fprs: &[Fpr], link: &Link, numbers: &mut [u8]) -
     Passed::Raised
 }
 
-/// Lets the links from one place to another pass on what they can. Whether a number rose.
+/// Passes numbers along the links from one place to another. Returns whether a number rose.
 fn raise_some<R: Roads>(
     roads: &R,
     fprs: &[Fpr],

@@ -1,3 +1,7 @@
+//! The numbers of a table in the order of edges: a search that walks over the edges into a fingerprint finds the
+//! numbers of their issuers next to each other.
+//!
+//! It stands on `slots`, and `reach` reads it through checks that compare fingerprints.
 // The numbers of a table a third time, in the order of edges: a search that goes over the edges into a fingerprint
 // finds those of their issuers side by side.
 ghost use Rattle.std.specs.Prelude.{ℕ, List};
@@ -27,12 +31,12 @@ impl Rows {
         }
     }
 
-    /// Whether there are none.
+    /// Whether there are no slots.
     pub(crate) fn is_empty(&self) -> bool {
         self.slots.is_empty()
     }
 
-    /// Where the slots of the edges into the fingerprint at a place begin, if it has some.
+    /// Where the slots of the edges into the fingerprint at a place begin, if it has any.
     pub(crate) fn start(&self, place: usize) -> usize {
         match self.starts.get(place) {
             Some(start) => *start as usize,
@@ -40,7 +44,7 @@ impl Rows {
         }
     }
 
-    /// At which place of the table the issuer of the slot at a place is, if that is known.
+    /// The place of the issuer of the slot at a place, if that is known.
     pub(crate) fn issuer(&self, place: usize) -> Option<u32> {
         match self.slots.get(place) {
             Some(slot) => slot.place,

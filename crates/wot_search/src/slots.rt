@@ -1,3 +1,7 @@
+//! The numbers of a table in a vector, split by the first octets of fingerprints: most are found by one look instead of
+//! a walk down a tree.
+//!
+//! It is a cache of the map in `reach`: a slot counts only if its fingerprint is the wanted one.
 // The numbers of a table once more, in a row: most are found by one look, and not by a walk through a tree.
 ghost use Rattle.std.specs.Prelude.{◌≡◌, ℕ, List};
 ghost use Rattle.wot_types.specs.declared.fpr.Fpr.{Fpr as Print};
@@ -13,7 +17,7 @@ use wot_types::{Fpr, Memory};
 pub(crate) struct Slot {
     pub(crate) fpr: Fpr,
     pub(crate) number: u8,
-    /// At which place of the table it is, where that is known.
+    /// Its place in the table, if that is known.
     pub(crate) place: Option<u32>,
 }
 
@@ -38,7 +42,7 @@ impl Slots {
         }
     }
 
-    /// Adds the slot of one more of so many fingerprints.
+    /// Adds the slot of one more of `count` fingerprints.
     pub(crate) fn add(
         &mut self,
         count: usize,
@@ -52,7 +56,7 @@ impl Slots {
         put_slot(&mut self.slots, numbers, fpr)
     }
 
-    /// The number of a fingerprint; `None` also where it isn't found.
+    /// The number of a fingerprint; `None` if it isn't found.
     pub(crate) fn find(&self, fpr: &Fpr) -> Option<u8>
         ensures tells { (numbers : List (Print × ℕ)) → AreSlots numbers self.now.slots.items
             → TellsIfSome numbers fpr.now result }
@@ -63,7 +67,7 @@ impl Slots {
         }
     }
 
-    /// At which place a fingerprint is; `None` also where it isn't found.
+    /// The place of a fingerprint; `None` if it isn't found.
     pub(crate) fn place(&self, fpr: &Fpr) -> Option<usize> {
         match self.starts.get(part_of(fpr, self.slots.len())) {
             None => None,
@@ -71,7 +75,7 @@ impl Slots {
         }
     }
 
-    /// The same in four octets.
+    /// The place of a fingerprint in four octets.
     pub(crate) fn short_place(&self, fpr: &Fpr) -> Option<u32> {
         match self.place(fpr) {
             Some(place) => u32::try_from(place).ok(),
@@ -80,7 +84,7 @@ impl Slots {
     }
 }
 
-/// In which of so many parts a fingerprint is, by its first two octets.
+/// The part of a fingerprint among `count` parts, by its first two octets.
 fn part_of(fpr: &Fpr, count: usize) -> usize {
     let (first, second) = match fpr {
         Fpr::V4(octets) => (octets[0], octets[1]),
@@ -110,7 +114,7 @@ pub(crate) fn number_in(numbers: &BTreeMap<Fpr, u8>, fpr: &Fpr) -> u8
     }
 }
 
-/// The same, by the slots where it is found there.
+/// The number of a fingerprint, from the slots if it is found there.
 pub(crate) fn number_by(slots: &Slots, numbers: &BTreeMap<Fpr, u8>, fpr: &Fpr) -> u8
     requires slots { AreSlots numbers.now.entries slots.now.slots.items }
     ensures number { result ≡ number_of numbers.now.entries fpr.now }

@@ -1,5 +1,7 @@
-ghost use Rattle.std.specs.Prelude.{◌≡◌, ◌≤◌, ℕ, List, IfOk};
-ghost use Rattle.wot_edge.specs.Record.{Record};
+//! The end of a search: the path from the chosen root of a layer.
+//!
+//! It stands on `choose` and `collect`. `first` calls it after each layer.
+ghost use Rattle.std.specs.Prelude.{◌≡◌, ◌≤◌, IfOk};
 ghost use Rattle.wot_search.specs.Growth.{IsFoundFrom, TurnsTo};
 ghost use Rattle.wot_search.specs.Quest.{WhateverTold};
 ghost use Rattle.wot_search.specs.Reached.{look};
@@ -14,7 +16,7 @@ use std::collections::BTreeMap;
 use wot_edge::{Path, StepList};
 use wot_types::{Fpr, Memory};
 
-/// The path of so many edges that was found from a root.
+/// The path of `size` edges that was found from a root.
 pub(crate) fn path_from(
     alloc: Global,
     nodes: &BTreeMap<Fpr, Node>,
@@ -33,7 +35,7 @@ pub(crate) fn path_from(
     })
 }
 
-/// The first path from a root of the last layer, which is of suffixes of so many edges.
+/// The first path from a root of the last layer, whose suffixes have `size` edges.
 pub fn turn(
     alloc: Global,
     quest: &Quest,

@@ -23,8 +23,10 @@ invariant-paths g l =
       offers : AreOffers l.roots q (use_in l.used) l.offers.items;
       grows : Widens (g.N.Notes.noted l.fn.notes) (g.N.Notes.noted l.notes);
       leads : Gains (Leads told l.target) (g.N.Notes.noted l.fn.notes) (g.N.Notes.noted l.notes);
-      local : ((fpr : Fpr) → number_at l.reach fpr ≡ 255) → (set : List Fpr) → Widens (g.N.Notes.noted l.notes) (Has set)
-          → (other : Question) → Agree q other set → EachNext other [] l.paths.items × AreOffers l.roots other (use_in l.used) l.offers.items;
+      local : ((fpr : Fpr) → number_at l.reach fpr ≡ 255) → (set : List Fpr)
+          → Widens (g.N.Notes.noted l.notes) (Has set)
+          → (other : Question) → Agree q other set
+          → EachNext other [] l.paths.items × AreOffers l.roots other (use_in l.used) l.offers.items;
     }
 
 abbrev pub decreases-paths : goal.decreases-paths

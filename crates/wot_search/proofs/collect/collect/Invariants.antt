@@ -9,5 +9,7 @@ use Rattle.wot_search.proofs.Collecting.{IsLeft}
 use Rattle.wot_search.proofs.collect.collect.Given as goal
 
 abbrev pub invariant-edges : goal.invariant-edges
-invariant-edges l = (quest : Quest) → IsRecord quest.question.told → (steps : List Step) → Kept quest (look l.nodes) steps → length steps ≡ l.size → start quest.question.target steps ≡ l.fn.from
+invariant-edges l =
+    (quest : Quest) → IsRecord quest.question.told → (steps : List Step) → Kept quest (look l.nodes) steps
+    → length steps ≡ l.size → start quest.question.target steps ≡ l.fn.from
     → IsLeft quest (look l.nodes) l.steps.items l.at l._i steps

@@ -14,5 +14,6 @@ invariant-layers g l =
       after : IsAfter quest l.size l.reached (g.N.Notes.noted l.notes);
       unrooted : IsUnrooted quest (look l.reached.nodes) (suc l.size);
       grows : Widens (g.N.Notes.noted l.fn.notes) (g.N.Notes.noted l.notes);
-      leads : Gains (Leads (told l.quest.uid.now) l.quest.target.now) (g.N.Notes.noted l.fn.notes) (g.N.Notes.noted l.notes);
+      leads : Gains (Leads (told l.quest.uid.now) l.quest.target.now) (g.N.Notes.noted l.fn.notes)
+          (g.N.Notes.noted l.notes);
     }

@@ -17,7 +17,9 @@ returns-in_err-grow-clause-leads g c a fpr h =
     let layer = c.deref.ensures.value ∙ ap (λ (v : Vec Fpr Global). v.items) c.replace-layer.ensures.value in
     elim (c.in_err-grow.ensures.gains fpr h) [
       | inl k ↦ inl k
-      | inr n ↦ inr (near_leads quest (look c.args.reached.now.nodes) c.args.size c.args.reached.now.layer.items fpr a.layer (subst (λ (xs : List Fpr). IsNearOne quest.question.told xs fpr) layer n))
+      | inr n ↦ inr
+          (near_leads quest (look c.args.reached.now.nodes) c.args.size c.args.reached.now.layer.items fpr a.layer
+          (subst (λ (xs : List Fpr). IsNearOne quest.question.told xs fpr) layer n))
     ]
 
 pub returns-clause-leads : goal.returns-clause-leads
@@ -26,7 +28,9 @@ returns-clause-leads g c a fpr h =
     let layer = c.deref.ensures.value ∙ ap (λ (v : Vec Fpr Global). v.items) c.replace-layer.ensures.value in
     elim (c.in_ok-grow.ensures.gains fpr h) [
       | inl k ↦ inl k
-      | inr n ↦ inr (near_leads quest (look c.args.reached.now.nodes) c.args.size c.args.reached.now.layer.items fpr a.layer (subst (λ (xs : List Fpr). IsNearOne quest.question.told xs fpr) layer n))
+      | inr n ↦ inr
+          (near_leads quest (look c.args.reached.now.nodes) c.args.size c.args.reached.now.layer.items fpr a.layer
+          (subst (λ (xs : List Fpr). IsNearOne quest.question.told xs fpr) layer n))
     ]
 
 pub returns-clause-after : goal.returns-clause-after
@@ -36,10 +40,15 @@ returns-clause-after g c a =
     let layer = c.deref.ensures.value ∙ ap (λ (v : Vec Fpr Global). v.items) c.replace-layer.ensures.value in
     let empty = ap (λ (v : Vec Fpr Global). v.items) c.replace-layer.ensures.after ∙ c.new.ensures.items in
     let is = subst (λ (xs : List Fpr). IsLayer quest found c.args.size xs) (sym layer) a.layer in
-    let growing = subst (λ (xs : List Fpr). IsGrowing quest c.args.size found xs) (sym empty) (growing_start quest c.args.size c.args.reached.now (g.N.Notes.noted c.args.notes.now) a) in
+    let growing =
+    subst (λ (xs : List Fpr). IsGrowing quest c.args.size found xs) (sym empty)
+    (growing_start quest c.args.size c.args.reached.now (g.N.Notes.noted c.args.notes.now) a) in
     let adv = c.in_ok-grow.ensures.grown is growing in
-    after_more quest c.args.size c.args.reached.now c.grow.new.reached (g.N.Notes.noted c.args.notes.now) (g.N.Notes.noted c.grow.new.notes) a adv.growing adv.onward (c.in_ok-grow.ensures.taken is growing) (c.in_ok-grow.ensures.noted a.noted)
-    (λ rest l h. c.in_ok-grow.ensures.seen a.noted rest l (subst (λ (xs : List Fpr). Has xs (start quest.question.target rest)) (sym layer) h)) c.in_ok-grow.ensures.grows
+    after_more quest c.args.size c.args.reached.now c.grow.new.reached (g.N.Notes.noted c.args.notes.now)
+    (g.N.Notes.noted c.grow.new.notes) a adv.growing adv.onward (c.in_ok-grow.ensures.taken is growing)
+    (c.in_ok-grow.ensures.noted a.noted)
+    (λ rest l h. c.in_ok-grow.ensures.seen a.noted rest l
+    (subst (λ (xs : List Fpr). Has xs (start quest.question.target rest)) (sym layer) h)) c.in_ok-grow.ensures.grows
 
 pub returns-clause-unrooted : goal.returns-clause-unrooted
 returns-clause-unrooted g c a u =
@@ -48,6 +57,8 @@ returns-clause-unrooted g c a u =
     let layer = c.deref.ensures.value ∙ ap (λ (v : Vec Fpr Global). v.items) c.replace-layer.ensures.value in
     let empty = ap (λ (v : Vec Fpr Global). v.items) c.replace-layer.ensures.after ∙ c.new.ensures.items in
     let is = subst (λ (xs : List Fpr). IsLayer quest found c.args.size xs) (sym layer) a.layer in
-    let growing = subst (λ (xs : List Fpr). IsGrowing quest c.args.size found xs) (sym empty) (growing_start quest c.args.size c.args.reached.now (g.N.Notes.noted c.args.notes.now) a) in
+    let growing =
+    subst (λ (xs : List Fpr). IsGrowing quest c.args.size found xs) (sym empty)
+    (growing_start quest c.args.size c.args.reached.now (g.N.Notes.noted c.args.notes.now) a) in
     let adv = c.in_ok-grow.ensures.grown is growing in
     unrooted_more quest c.args.size found (look c.grow.new.reached.nodes) adv.onward u

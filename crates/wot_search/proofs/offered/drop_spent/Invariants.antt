@@ -5,7 +5,9 @@ use Rattle.wot_search.specs.Offers.{AreOffers}
 use Rattle.wot_search.proofs.offered.drop_spent.Given as goal
 
 abbrev pub invariant-spent : goal.invariant-spent
-invariant-spent l = (q : Question) → AreOffers l.roots q (use_in l.used) l.fn.offers.items → AreOffers l.roots q (use_in l.used) l.offers.items
+invariant-spent l =
+    (q : Question) → AreOffers l.roots q (use_in l.used) l.fn.offers.items
+    → AreOffers l.roots q (use_in l.used) l.offers.items
 
 abbrev pub decreases-spent : goal.decreases-spent
 decreases-spent l = length l.offers.items

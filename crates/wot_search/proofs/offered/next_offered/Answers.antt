@@ -8,19 +8,26 @@ use Rattle.wot_search.proofs.offered.next_offered.Goals as goal
 pub returns-clause-local : goal.returns-clause-local
 returns-clause-local g c all set has other a o =
     let there = c.in_ok-offers.ensures.local all set has other a in
-    let first = c.in_ok-found.ensures ∙ ap first_path c.as_slice-2.ensures.value in
-    (next_first c.args.asked.now.roots.now other (use_in c.args.used.now) c.in_ok-offers.field-0.items c.in_ok-found.found first there, next_offers c.args.asked.now.roots.now other (use_in c.args.used.now) c.in_ok-offers.field-0.items there)
+    let first = c.in_ok-found.ensures ∙ ap first_path c.as_slice-2.ensures.value in (
+      next_first c.args.asked.now.roots.now other (use_in c.args.used.now) c.in_ok-offers.field-0.items
+          c.in_ok-found.found first there,
+      next_offers c.args.asked.now.roots.now other (use_in c.args.used.now)
+          c.in_ok-offers.field-0.items there,
+    )
 
 pub returns-in-Some-clause-next : goal.returns-in-Some-clause-next
 returns-in-Some-clause-next g c =
-    let q = asks (g.R.Roads.told c.args.roads.now c.args.asked.now.uid.now) c.args.asked.now.roots.now c.args.asked.now.target.now in
+    let q = asks (g.R.Roads.told c.args.roads.now c.args.asked.now.uid.now) c.args.asked.now.roots.now
+    c.args.asked.now.target.now in
     let used = use_in c.args.used.now in
-    let offers = subst (AreOffers c.args.asked.now.roots.now q used) (sym c.as_slice.ensures.value) (c.drop_spent.ensures q c.requires.offers) in
+    let offers = subst (AreOffers c.args.asked.now.roots.now q used) (sym c.as_slice.ensures.value)
+    (c.drop_spent.ensures q c.requires.offers) in
     subst (IsNextIfSome q used) c.in-Some.is (c.in_ok-path.ensures q offers)
 
 pub returns-in-Some-clause-offers : goal.returns-in-Some-clause-offers
 returns-in-Some-clause-offers g c =
-    let q = asks (g.R.Roads.told c.args.roads.now c.args.asked.now.uid.now) c.args.asked.now.roots.now c.args.asked.now.target.now in
+    let q = asks (g.R.Roads.told c.args.roads.now c.args.asked.now.uid.now) c.args.asked.now.roots.now
+    c.args.asked.now.target.now in
     let used = use_in c.args.used.now in
     c.drop_spent.ensures q c.requires.offers
 
@@ -39,14 +46,17 @@ returns-in-Some-clause-leads g c fpr h = inl h
 
 pub returns-clause-next : goal.returns-clause-next
 returns-clause-next g c =
-    let q = asks (g.R.Roads.told c.args.roads.now c.args.asked.now.uid.now) c.args.asked.now.roots.now c.args.asked.now.target.now in
+    let q = asks (g.R.Roads.told c.args.roads.now c.args.asked.now.uid.now) c.args.asked.now.roots.now
+    c.args.asked.now.target.now in
     let used = use_in c.args.used.now in
     let first = c.in_ok-found.ensures ∙ ap first_path c.as_slice-2.ensures.value in
-    next_first c.args.asked.now.roots.now q used c.in_ok-offers.field-0.items c.in_ok-found.found first c.in_ok-offers.ensures.next
+    next_first c.args.asked.now.roots.now q used c.in_ok-offers.field-0.items c.in_ok-found.found first
+    c.in_ok-offers.ensures.next
 
 pub returns-clause-offers : goal.returns-clause-offers
 returns-clause-offers g c =
-    let q = asks (g.R.Roads.told c.args.roads.now c.args.asked.now.uid.now) c.args.asked.now.roots.now c.args.asked.now.target.now in
+    let q = asks (g.R.Roads.told c.args.roads.now c.args.asked.now.uid.now) c.args.asked.now.roots.now
+    c.args.asked.now.target.now in
     let used = use_in c.args.used.now in
     next_offers c.args.asked.now.roots.now q used c.in_ok-offers.field-0.items c.in_ok-offers.ensures.next
 

@@ -12,4 +12,5 @@ returns c q o =
     let items = c.as_slice.ensures.items in
     let left : is_left (use_in c.args.used.now) path.amount path.steps ≡ true =
     (let h = c.have_left.ensures in let f = c.if-not-have_left.false in cc) in
-    opened c.args.roots.now q (use_in c.args.used.now) c.args.offers.now path (sym c.in-Some.is ∙ c.in_ok-path.ensures) o (omega (arith, enough, at)) left
+    opened c.args.roots.now q (use_in c.args.used.now) c.args.offers.now path (sym c.in-Some.is ∙ c.in_ok-path.ensures)
+    o (omega (arith, enough, at)) left

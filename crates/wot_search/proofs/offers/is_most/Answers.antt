@@ -15,5 +15,6 @@ roots-preserved c =
 
 pub returns : goal.returns
 returns c = record {
-  most = λ yes. c.roots.invariant.2 (subst (λ (rs : List (Fpr × ℕ)). NoneOver c.args.amount rs) (sym c.in-None.ensures.steps.0) (λ fpr. omega arith));
+  most = λ yes. c.roots.invariant.2
+      (subst (λ (rs : List (Fpr × ℕ)). NoneOver c.args.amount rs) (sym c.in-None.ensures.steps.0) (λ fpr. omega arith));
 }

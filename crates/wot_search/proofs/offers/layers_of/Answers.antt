@@ -8,11 +8,13 @@ pub layers-preserved : goal.layers-preserved
 layers-preserved g c =
     let quest = quest_of (g.R.Roads.told c.args.roads.now) c.args.quest.now in
     let n : suc c.layers.size ≡ c.layers.size + 1 = omega arith in
-    subst (λ (m : ℕ). IsAfter quest m c.advance.new.reached (λ fpr. Unit {0})) n (c.in_ok-advance.ensures.after c.layers.invariant)
+    subst (λ (m : ℕ). IsAfter quest m c.advance.new.reached (λ fpr. Unit {0})) n
+    (c.in_ok-advance.ensures.after c.layers.invariant)
 
 pub layers-init : goal.layers-init
 layers-init g c =
-    after_begin (quest_of (g.R.Roads.told c.args.roads.now) c.args.quest.now) c.in_ok-reached.reached (λ fpr. Unit {0}) c.in_ok-reached.ensures.nodes c.in_ok-reached.ensures.layer
+    after_begin (quest_of (g.R.Roads.told c.args.roads.now) c.args.quest.now) c.in_ok-reached.reached (λ fpr. Unit {0})
+    c.in_ok-reached.ensures.nodes c.in_ok-reached.ensures.layer
 
 pub returns : goal.returns
 returns g c =

@@ -21,9 +21,13 @@ returns-in-None-clause-next g c =
     let q = asks (told c.args.asked.now.uid.now) c.args.asked.now.roots.now c.args.asked.now.target.now in
     let used = use_in c.args.used.now in
     let reach = number_at c.args.asked.now.reach.now in
-    let holds = reach_holds told c.args.asked.now.roots.now reach c.requires.reach.enough c.args.asked.now.uid.now c.args.asked.now.target.now used in
+    let holds = reach_holds told c.args.asked.now.roots.now reach c.requires.reach.enough c.args.asked.now.uid.now
+    c.args.asked.now.target.now used in
     subst (AreNext c.args.asked.now.roots.now q used) (sym c.new-in-None.ensures.items)
-    (spent_next reach q used holds (none_wide reach q used (subst (λ (o : Option Path). IsResult (least_quest reach q used 1) o) c.in-None.is c.in_ok-first_from.ensures.first)))
+    (spent_next reach q used holds
+    (none_wide reach q used
+    (subst (λ (o : Option Path). IsResult (least_quest reach q used 1) o) c.in-None.is
+    c.in_ok-first_from.ensures.first)))
 
 pub returns-in-None-clause-local : goal.returns-in-None-clause-local
 returns-in-None-clause-local g c all set has other a =
@@ -31,10 +35,16 @@ returns-in-None-clause-local g c all set has other a =
     let q = asks (told c.args.asked.now.uid.now) c.args.asked.now.roots.now c.args.asked.now.target.now in
     let used = use_in c.args.used.now in
     let reach = number_at c.args.asked.now.reach.now in
-    let holds = reach_holds told c.args.asked.now.roots.now reach c.requires.reach.enough c.args.asked.now.uid.now c.args.asked.now.target.now used in
-    let l = subst (λ (o : Option Path). IsLookedBy (least_quest reach q used 1) (g.N.Notes.noted c.first_from.new.notes) o) c.in-None.is c.in_ok-first_from.ensures.looked in
+    let holds = reach_holds told c.args.asked.now.roots.now reach c.requires.reach.enough c.args.asked.now.uid.now
+    c.args.asked.now.target.now used in
+    let l = subst
+    (λ (o : Option Path). IsLookedBy (least_quest reach q used 1) (g.N.Notes.noted c.first_from.new.notes) o)
+    c.in-None.is c.in_ok-first_from.ensures.looked in
     subst (AreNext c.args.asked.now.roots.now other used) (sym c.new-in-None.ensures.items)
-    (spent_local reach all q used holds set (none_wide reach q used (subst (λ (o : Option Path). IsResult (least_quest reach q used 1) o) c.in-None.is c.in_ok-first_from.ensures.first))
+    (spent_local reach all q used holds set
+    (none_wide reach q used
+    (subst (λ (o : Option Path). IsResult (least_quest reach q used 1) o) c.in-None.is
+    c.in_ok-first_from.ensures.first))
     (looked_grows (widest_quest reach q used) 255 (g.N.Notes.noted c.first_from.new.notes) (Has set) has
     (looked_wide reach q used 255 (g.N.Notes.noted c.first_from.new.notes) l)) other a)
 
@@ -44,14 +54,25 @@ returns-clause-next g c =
     let q = asks (told c.args.asked.now.uid.now) c.args.asked.now.roots.now c.args.asked.now.target.now in
     let used = use_in c.args.used.now in
     let reach = number_at c.args.asked.now.reach.now in
-    let holds = reach_holds told c.args.asked.now.roots.now reach c.requires.reach.enough c.args.asked.now.uid.now c.args.asked.now.target.now used in
+    let holds = reach_holds told c.args.asked.now.roots.now reach c.requires.reach.enough c.args.asked.now.uid.now
+    c.args.asked.now.target.now used in
     let path = c.in-Some.path in
     let most = roots_left q used path.amount (c.serves.ensures.most c.if-not-serves.false) in
-    let least = subst (λ (o : Option Path). IsResult (least_quest reach q used 1) o) c.in-Some.is c.in_ok-first_from.ensures.first in
-    let after = subst (λ (o : Option Path). IsAfterPath (least_quest reach q used 1) c.first_from.new.reached (g.N.Notes.noted c.first_from.new.notes) o) c.in-Some.is c.in_ok-first_from.ensures.after in
-    let more = after_more reach q used path.amount (length path.steps) c.first_from.new.reached (g.N.Notes.noted c.first_from.new.notes) (path_some reach q used path least) (c.serves.ensures.wide c.if-not-serves.false) after in
-    let offered = subst (λ (n : ℕ). AreOfferedBy (least_quest reach q used path.amount) (look c.first_from.new.reached.nodes) n c.args.asked.now.roots.now c.in_ok-paths-in-Some.paths.items) (ap length c.as_slice.ensures.items) (c.in_ok-paths-in-Some.ensures told) in
-    found_next reach q (c.in_order.ensures.lawful c.args.asked.now.uid.now) used holds (sym c.in_order.ensures.in_order ∙ c.if-not-in_order.false) path (some_wide reach q used path most least) (look c.first_from.new.reached.nodes) more.entries more.complete
+    let least = subst (λ (o : Option Path). IsResult (least_quest reach q used 1) o) c.in-Some.is
+    c.in_ok-first_from.ensures.first in
+    let after = subst
+    (λ (o : Option Path). IsAfterPath (least_quest reach q used 1) c.first_from.new.reached
+    (g.N.Notes.noted c.first_from.new.notes) o) c.in-Some.is c.in_ok-first_from.ensures.after in
+    let more = after_more reach q used path.amount (length path.steps) c.first_from.new.reached
+    (g.N.Notes.noted c.first_from.new.notes) (path_some reach q used path least)
+    (c.serves.ensures.wide c.if-not-serves.false) after in
+    let offered =
+    subst (λ (n : ℕ). AreOfferedBy (least_quest reach q used path.amount) (look c.first_from.new.reached.nodes) n
+    c.args.asked.now.roots.now c.in_ok-paths-in-Some.paths.items) (ap length c.as_slice.ensures.items)
+    (c.in_ok-paths-in-Some.ensures told) in
+    found_next reach q (c.in_order.ensures.lawful c.args.asked.now.uid.now) used holds
+    (sym c.in_order.ensures.in_order ∙ c.if-not-in_order.false) path (some_wide reach q used path most least)
+    (look c.first_from.new.reached.nodes) more.entries more.complete
     c.in_ok-paths-in-Some.paths.items c.len-count.ensures.roots.order offered
 
 pub returns-clause-local : goal.returns-clause-local
@@ -60,14 +81,29 @@ returns-clause-local g c all set has other a =
     let q = asks (told c.args.asked.now.uid.now) c.args.asked.now.roots.now c.args.asked.now.target.now in
     let used = use_in c.args.used.now in
     let reach = number_at c.args.asked.now.reach.now in
-    let holds = reach_holds told c.args.asked.now.roots.now reach c.requires.reach.enough c.args.asked.now.uid.now c.args.asked.now.target.now used in
+    let holds = reach_holds told c.args.asked.now.roots.now reach c.requires.reach.enough c.args.asked.now.uid.now
+    c.args.asked.now.target.now used in
     let path = c.in-Some.path in
     let most = roots_left q used path.amount (c.serves.ensures.most c.if-not-serves.false) in
-    let least = subst (λ (o : Option Path). IsResult (least_quest reach q used 1) o) c.in-Some.is c.in_ok-first_from.ensures.first in
-    let after = subst (λ (o : Option Path). IsAfterPath (least_quest reach q used 1) c.first_from.new.reached (g.N.Notes.noted c.first_from.new.notes) o) c.in-Some.is c.in_ok-first_from.ensures.after in
-    let looked = subst (λ (o : Option Path). IsLookedBy (least_quest reach q used 1) (g.N.Notes.noted c.first_from.new.notes) o) c.in-Some.is c.in_ok-first_from.ensures.looked in
-    let more = after_more reach q used path.amount (length path.steps) c.first_from.new.reached (g.N.Notes.noted c.first_from.new.notes) (path_some reach q used path least) (c.serves.ensures.wide c.if-not-serves.false) after in
-    let offered = subst (λ (n : ℕ). AreOfferedBy (least_quest reach q used path.amount) (look c.first_from.new.reached.nodes) n c.args.asked.now.roots.now c.in_ok-paths-in-Some.paths.items) (ap length c.as_slice.ensures.items) (c.in_ok-paths-in-Some.ensures told) in
-    found_there reach q (c.in_order.ensures.lawful c.args.asked.now.uid.now) used holds (sym c.in_order.ensures.in_order ∙ c.if-not-in_order.false) path (some_wide reach q used path most least) (look c.first_from.new.reached.nodes) more.entries more.complete
+    let least = subst (λ (o : Option Path). IsResult (least_quest reach q used 1) o) c.in-Some.is
+    c.in_ok-first_from.ensures.first in
+    let after = subst
+    (λ (o : Option Path). IsAfterPath (least_quest reach q used 1) c.first_from.new.reached
+    (g.N.Notes.noted c.first_from.new.notes) o) c.in-Some.is c.in_ok-first_from.ensures.after in
+    let looked = subst
+    (λ (o : Option Path). IsLookedBy (least_quest reach q used 1) (g.N.Notes.noted c.first_from.new.notes) o)
+    c.in-Some.is c.in_ok-first_from.ensures.looked in
+    let more = after_more reach q used path.amount (length path.steps) c.first_from.new.reached
+    (g.N.Notes.noted c.first_from.new.notes) (path_some reach q used path least)
+    (c.serves.ensures.wide c.if-not-serves.false) after in
+    let offered =
+    subst (λ (n : ℕ). AreOfferedBy (least_quest reach q used path.amount) (look c.first_from.new.reached.nodes) n
+    c.args.asked.now.roots.now c.in_ok-paths-in-Some.paths.items) (ap length c.as_slice.ensures.items)
+    (c.in_ok-paths-in-Some.ensures told) in
+    found_there reach q (c.in_order.ensures.lawful c.args.asked.now.uid.now) used holds
+    (sym c.in_order.ensures.in_order ∙ c.if-not-in_order.false) path (some_wide reach q used path most least)
+    (look c.first_from.new.reached.nodes) more.entries more.complete
     c.in_ok-paths-in-Some.paths.items c.len-count.ensures.roots.order offered
-    all other set a (looked_grows (widest_quest reach q used) (length path.steps) (g.N.Notes.noted c.first_from.new.notes) (Has set) has (looked_wide reach q used (length path.steps) (g.N.Notes.noted c.first_from.new.notes) looked))
+    all other set a
+    (looked_grows (widest_quest reach q used) (length path.steps) (g.N.Notes.noted c.first_from.new.notes) (Has set) has
+    (looked_wide reach q used (length path.steps) (g.N.Notes.noted c.first_from.new.notes) looked))

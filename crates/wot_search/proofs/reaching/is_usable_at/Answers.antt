@@ -8,5 +8,10 @@ pub usable-requires : goal.usable-requires
 usable-requires g c =
     let edges = c.rows-edges.result.now in
     let x = c.index-edges-row.result in
-    let has = subst (λ (e : EdgeFacts). Has edges e) (sym c.index-edges-row.is) (has_at edges _ x c.if-row-edges.false) in
-    record { row = λ id. (edge_known (g.R.Roads.told c.args.roads.now) c.rows-edges.ensures.lawful c.args.fpr.now edges c.rows-edges.ensures.rows x has id).0 }
+    let has = subst (λ (e : EdgeFacts). Has edges e) (sym c.index-edges-row.is)
+    (has_at edges _ x c.if-row-edges.false) in
+    record {
+      row = λ id.
+          (edge_known (g.R.Roads.told c.args.roads.now) c.rows-edges.ensures.lawful c.args.fpr.now edges
+          c.rows-edges.ensures.rows x has id).0;
+    }

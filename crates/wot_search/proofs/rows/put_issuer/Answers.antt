@@ -4,7 +4,8 @@ use Rattle.wot_search.proofs.rows.put_issuer.Goals as goal
 
 pub returns : goal.returns
 returns c =
-    let slot : Slot = record { fpr = c.args.fpr.now; number = c.number_by-number.result; place = c.short_place-place.result } in
+    let slot : Slot =
+    record { fpr = c.args.fpr.now; number = c.number_by-number.result; place = c.short_place-place.result } in
     record {
       rows =
           slot_added c.args.numbers.now.entries c.args.rows.now.items c.push.new.self.items slot c.requires.rows

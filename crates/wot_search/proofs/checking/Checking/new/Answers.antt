@@ -13,6 +13,7 @@ returns c =
     record {
       checking = λ told roots. record {
         onward = none_onward told (number_at c.of.result) c.of.result.onward c.of.ensures.onward;
-        enough = subst (λ (ns : List (Fpr × ℕ)). HaveEnoughBut told roots (number_of ns) fprs) (sym c.of.ensures.numbers) (none_checked told roots numbers fprs c.requires.keys);
+        enough = subst (λ (ns : List (Fpr × ℕ)). HaveEnoughBut told roots (number_of ns) fprs)
+            (sym c.of.ensures.numbers) (none_checked told roots numbers fprs c.requires.keys);
       };
     }

@@ -6,6 +6,7 @@ use Rattle.wot_search.proofs.checking.Checking.slot.Goals as goal
 pub returns : goal.returns
 returns c = record {
   checking = λ told roots is.
-      subst (λ (table : Table). IsChecking told roots (record c.args.self { reach = table; slotted = c.saturating_add.result })) (sym c.add_slot.ensures.same)
+      subst (λ (table : Table). IsChecking told roots
+      (record c.args.self { reach = table; slotted = c.saturating_add.result })) (sym c.add_slot.ensures.same)
       (record { onward = is.onward; enough = is.enough });
 }

@@ -14,5 +14,6 @@ returns c =
     record {
       making = λ told roots.
           rw c.in_ok-put.ensures.entries
-          (keys_inserted fpr_cmp fprs c.args.self.table c.index.result.now c.unwrap_or-number.result c.requires.keys has);
+          (keys_inserted fpr_cmp fprs c.args.self.table c.index.result.now c.unwrap_or-number.result c.requires.keys
+          has);
     }

@@ -8,15 +8,23 @@ use Rattle.wot_search.proofs.consulted.Consulted.add.Goals as goal
 
 pub returns-clause-has : goal.returns-clause-has
 returns-clause-has c =
-    let P : (Fpr → Fpr → Ordering) → Type 0 = λ cmp. c.insert.new.self.keys ≡ insert_key cmp c.self.inside.fprs.keys c.args.fpr.now in
-    subst (λ (xs : List Fpr). Has xs c.args.fpr.now) (sym (subst P same_cmp c.in_ok-insert.ensures.keys)) (insert_has c.self.inside.fprs.keys c.args.fpr.now)
+    let P : (Fpr → Fpr → Ordering) → Type 0 =
+    λ cmp. c.insert.new.self.keys ≡ insert_key cmp c.self.inside.fprs.keys c.args.fpr.now in
+    subst (λ (xs : List Fpr). Has xs c.args.fpr.now) (sym (subst P same_cmp c.in_ok-insert.ensures.keys))
+    (insert_has c.self.inside.fprs.keys c.args.fpr.now)
 
 pub returns-clause-grows : goal.returns-clause-grows
 returns-clause-grows c fpr h =
-    let P : (Fpr → Fpr → Ordering) → Type 0 = λ cmp. c.insert.new.self.keys ≡ insert_key cmp c.self.inside.fprs.keys c.args.fpr.now in
-    subst (λ (xs : List Fpr). Has xs fpr) (sym (subst P same_cmp c.in_ok-insert.ensures.keys)) (insert_grows c.self.inside.fprs.keys c.args.fpr.now fpr (subst (λ (xs : List Fpr). Has xs fpr) (sym c.self.view_is) h))
+    let P : (Fpr → Fpr → Ordering) → Type 0 =
+    λ cmp. c.insert.new.self.keys ≡ insert_key cmp c.self.inside.fprs.keys c.args.fpr.now in
+    subst (λ (xs : List Fpr). Has xs fpr) (sym (subst P same_cmp c.in_ok-insert.ensures.keys))
+    (insert_grows c.self.inside.fprs.keys c.args.fpr.now fpr
+    (subst (λ (xs : List Fpr). Has xs fpr) (sym c.self.view_is) h))
 
 pub returns-clause-only : goal.returns-clause-only
 returns-clause-only c other h =
-    let P : (Fpr → Fpr → Ordering) → Type 0 = λ cmp. c.insert.new.self.keys ≡ insert_key cmp c.self.inside.fprs.keys c.args.fpr.now in
-    subst (λ (xs : List Fpr). Has xs other ⊎ (other ≡ c.args.fpr.now)) c.self.view_is (insert_only c.self.inside.fprs.keys c.args.fpr.now other (subst (λ (xs : List Fpr). Has xs other) (subst P same_cmp c.in_ok-insert.ensures.keys) h))
+    let P : (Fpr → Fpr → Ordering) → Type 0 =
+    λ cmp. c.insert.new.self.keys ≡ insert_key cmp c.self.inside.fprs.keys c.args.fpr.now in
+    subst (λ (xs : List Fpr). Has xs other ⊎ (other ≡ c.args.fpr.now)) c.self.view_is
+    (insert_only c.self.inside.fprs.keys c.args.fpr.now other
+    (subst (λ (xs : List Fpr). Has xs other) (subst P same_cmp c.in_ok-insert.ensures.keys) h))

@@ -9,11 +9,14 @@ use Rattle.wot_search.proofs.consulted.Consulted.has.Goals as goal
 
 pub returns : goal.returns
 returns c =
-    let P : (Fpr → Fpr → Ordering) → Type 0 = λ cmp. c.contains.result ≡ list_any (is_at (cmp c.args.fpr.now)) c.self.inside.fprs.keys in
+    let P : (Fpr → Fpr → Ordering) → Type 0 =
+    λ cmp. c.contains.result ≡ list_any (is_at (cmp c.args.fpr.now)) c.self.inside.fprs.keys in
     let any = subst P same_cmp c.contains.ensures in
     record {
       has = (
-        λ e. subst (λ (xs : List Fpr). Has xs c.args.fpr.now) c.self.view_is (any_has c.self.inside.fprs.keys c.args.fpr.now (sym any ∙ e)),
-        λ h. any ∙ has_any c.self.inside.fprs.keys c.args.fpr.now (subst (λ (xs : List Fpr). Has xs c.args.fpr.now) (sym c.self.view_is) h),
+        λ e. subst (λ (xs : List Fpr). Has xs c.args.fpr.now) c.self.view_is
+            (any_has c.self.inside.fprs.keys c.args.fpr.now (sym any ∙ e)),
+        λ h. any ∙ has_any c.self.inside.fprs.keys c.args.fpr.now
+            (subst (λ (xs : List Fpr). Has xs c.args.fpr.now) (sym c.self.view_is) h),
       );
     }

@@ -10,4 +10,5 @@ pub returns-in-Passing : goal.returns-in-Passing
 returns-in-Passing g c = record { making = c.passed.ensures.making (g.R.Roads.told c.args.roads.now) c.args.roots.now }
 
 pub returns-in-Numbering : goal.returns-in-Numbering
-returns-in-Numbering g c = record { making = c.number.ensures.making (g.R.Roads.told c.args.roads.now) c.args.roots.now }
+returns-in-Numbering g c =
+    record { making = c.number.ensures.making (g.R.Roads.told c.args.roads.now) c.args.roots.now }
