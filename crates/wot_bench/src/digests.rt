@@ -1,9 +1,11 @@
+//! The work of each bench: the calls of `hex`, `sha1`, `sha2` and `memchr` over random octets. Each returns a number
+//! that it found, which `main` prints.
 use memchr::memchr_iter;
 use sha1::Sha1;
 use sha2::{Digest, Sha256};
 use std::alloc::{AllocError, Global};
 
-/// As random as those of keys and signatures: each 32 are the digest of those before.
+/// Octets as random as those of keys and signatures: each 32 are the digest of those before.
 pub fn octets_of(alloc: Global, size: usize) -> Result<Vec<u8>, AllocError> {
     let mut octets = Vec::new(alloc);
     let mut digest = Sha256::digest([0x5au8].as_slice());
@@ -15,7 +17,7 @@ pub fn octets_of(alloc: Global, size: usize) -> Result<Vec<u8>, AllocError> {
     Ok(octets)
 }
 
-/// How many octets their digits gave.
+/// How many octets were decoded from their digits.
 fn decode(alloc: Global, digits: &[u8], count: usize) -> u64 {
     let mut read = 0u64;
     for _ in 0..count {
@@ -44,7 +46,7 @@ pub fn sha1(octets: &[u8], count: usize) -> u64 {
     sum
 }
 
-/// The same by SHA-256.
+/// The sum of the SHA-256 digests' first octets.
 pub fn sha2(octets: &[u8], count: usize) -> u64 {
     let mut sum = 0u64;
     for _ in 0..count {

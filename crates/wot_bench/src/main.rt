@@ -1,6 +1,6 @@
-//! What the toolchain's own crates take alone, for the scripts in `bench/`, which set it beside the program:
-//! `wot_bench WHAT SIZE COUNT` does WHAT to SIZE octets, COUNT times, and prints a number that it found. WHAT is `hex`,
-//! which reads their digits, `sha1`, `sha2`, or `memchr`, which searches for line feeds.
+//! What the kit's own crates take alone, for the scripts in `bench/`, which compare the program with it. No part of the
+//! product. `wot_bench WHAT SIZE COUNT` does WHAT to SIZE octets, COUNT times, and prints a number that it found. WHAT
+//! is `hex`, which reads their digits, `sha1`, `sha2`, or `memchr`, which searches for line feeds.
 #![tactic(auto)]
 
 mod digests;
@@ -20,7 +20,7 @@ fn number(words: &[String], place: usize) -> usize {
     word(words, place).parse::<usize>().unwrap_or(0)
 }
 
-/// What was found; 0 where no bench has that name.
+/// What was found. 0 if no bench has that name.
 fn bench(alloc: Global, name: &str, octets: &[u8], count: usize) -> u64 {
     match name {
         "hex" => digests::hex(alloc, octets, count),

@@ -1,5 +1,6 @@
-//! The program: it hands its words, its standard input and output, the certificate directory and the standard policy to
-//! the engine.
+//! The program: it passes its arguments, its standard input and output, the certificate directory and the standard
+//! policy to wot_engine. All rules are in the layers below; only the default directory and the status for unreadable
+//! arguments are decided here.
 #![tactic(auto)]
 
 use std::env;
@@ -11,7 +12,7 @@ use wot_engine::run_words;
 use wot_io::{StdSink, StdSource};
 use wot_policy::{Policy, admits, standard_rows};
 
-/// The words after the program's name.
+/// The arguments after the program's name.
 fn words_of<R: Env + AllocGlobal>(rt: &R) -> io::Result<Vec<String>> {
     let mut words = Vec::new(rt.alloc());
     for word in env::args(rt)?.skip(1) {
@@ -20,7 +21,7 @@ fn words_of<R: Env + AllocGlobal>(rt: &R) -> io::Result<Vec<String>> {
     Ok(words)
 }
 
-/// The folder of the certificate directory: the second word, or `pgp.cert.d` in the folder that the program is run in.
+/// The path of the certificate directory: the second argument, or `pgp.cert.d` in the current directory.
 fn folder_of(words: &[String]) -> &str {
     match words {
         [_, folder, ..] => folder,
@@ -28,7 +29,7 @@ fn folder_of(words: &[String]) -> &str {
     }
 }
 
-/// The status without words: 5 if there is no memory for them, and 2 if one isn't UTF-8.
+/// The status if there are no arguments to run on: 5 if out of memory for them, and 2 if one isn't UTF-8.
 fn status_without_words(error: &io::Error) -> u8 {
     if error.kind() == ErrorKind::OutOfMemory {
         5
@@ -37,8 +38,8 @@ fn status_without_words(error: &io::Error) -> u8 {
     }
 }
 
-/// Ends with the status that the engine answers. Without its words it has one of its own, and 5 if there is no memory
-/// for the shelf.
+/// Exits with the engine's status. Without arguments it has a status of its own, and 5 if out of memory for the
+/// certificate directory.
 fn main(rt: HostRuntime) -> ExitCode {
     let words = match words_of(&rt) {
         Ok(words) => words,

@@ -1,5 +1,6 @@
--- The same, as it stands after the union in place: whatever the stamp, the limit and the list are called.
-use Rattle.std.proofs.Common.{◌≡◌, ◌≤◌, ◌+◌, inl, ℕ, Bool, true, false, if◌then◌else◌, nat_lt, List, length, Ok, sym, ap, ◌∙◌, subst}
+-- The facts about an accepted import in the shape that the code has them, for any stamp, limit and list.
+use Rattle.std.proofs.Common.{◌≡◌, ◌≤◌, ◌+◌, inl, ℕ, Bool, true, false, if◌then◌else◌, nat_lt, List, length, Ok, sym}
+use Rattle.std.proofs.Common.{ap, ◌∙◌, subst}
 use Rattle.std.specs.List.{AllByRecursion}
 use Rattle.wot_policy.specs.declared.rows.PolicyRows.{PolicyRows}
 use Rattle.wot_cert.specs.Certificate.{Certificate, unite}
@@ -15,13 +16,15 @@ use Rattle.wot_keyring.specs.Later.{IsLater}
 use Rattle.wot_keyring.specs.Keyring.{Entries, Keyring, certificates_in}
 use Rattle.wot_keyring.specs.Kept.{AreSortedByFpr, IsKeyring, AreTotals}
 use Rattle.wot_keyring.specs.Staging.{kept_all, clash_in, weigh_kept, IsTally, AskedUpTo, IsClashTold}
-use Rattle.wot_keyring.proofs.Accepting.{answered, held, changed_once, keyring_after, totals_after, asked_all, asked_some}
+use Rattle.wot_keyring.proofs.Accepting.{answered, held, changed_once, keyring_after, totals_after, asked_all}
+use Rattle.wot_keyring.proofs.Accepting.{asked_some}
 use Rattle.wot_keyring.proofs.Clashes.{clashes_told}
 
 true_false : (b : Bool) → b ≡ true → b ≡ false → ⊥
 true_false b h k = let e : true ≡ false = sym h ∙ k in cc
 
-module _ (rows : PolicyRows) (k now : Keyring) (v : k ≡ now) (stamp : ℕ) (st : stamp ≡ now.changes + 1) (list cs : List Certificate) (ls : list ≡ cs) (h : IsKeyring k) where
+module _ (rows : PolicyRows) (k now : Keyring) (v : k ≡ now) (stamp : ℕ) (st : stamp ≡ now.changes + 1)
+    (list cs : List Certificate) (ls : list ≡ cs) (h : IsKeyring k) where
   steps : kept_all rows stamp k.certs list ≡ kept_all rows (k.changes + 1) k.certs cs
   steps = λ i. kept_all rows ((st ∙ ap (λ (z : Keyring). z.changes + 1) (sym v)) i) k.certs (ls i)
 
@@ -31,49 +34,71 @@ module _ (rows : PolicyRows) (k now : Keyring) (v : k ≡ now) (stamp : ℕ) (st
   may_before : MayUnite now.limits (certificates_in now) cs → MayUnite k.limits (certificates_in k) cs
   may_before may = subst (λ (z : Keyring). MayUnite z.limits (certificates_in z) cs) (sym v) may
 
-  pub asked_now : (n : ℕ) → weigh_kept sound_of k.certs + n ≡ weigh_kept sound_of (kept_all rows stamp k.certs list) → n ≡ asked_for rows now cs
-  asked_now n e = asked_all rows (k.changes + 1) k.certs cs n (e ∙ ap (weigh_kept sound_of) steps) ∙ ap (λ (z : Keyring). asked_for rows z cs) v
+  pub asked_now : (n : ℕ) → weigh_kept sound_of k.certs + n ≡ weigh_kept sound_of (kept_all rows stamp k.certs list) →
+      n ≡ asked_for rows now cs
+  asked_now n e = asked_all rows (k.changes + 1) k.certs cs n (e ∙ ap (weigh_kept sound_of) steps)
+      ∙ ap (λ (z : Keyring). asked_for rows z cs) v
 
-  pub asked_by_now : (n : ℕ) (fault : Fault) → fault ≡ Memory → AskedUpTo fault (weigh_kept sound_of k.certs) (weigh_kept sound_of (kept_all rows stamp k.certs list)) n → n ≤ asked_for rows now cs
+  pub asked_by_now : (n : ℕ) (fault : Fault) → fault ≡ Memory → AskedUpTo fault (weigh_kept sound_of k.certs)
+      (weigh_kept sound_of (kept_all rows stamp k.certs list)) n → n ≤ asked_for rows now cs
   asked_by_now n fault is told =
-      let e = subst (λ (f : Fault). AskedUpTo f (weigh_kept sound_of k.certs) (weigh_kept sound_of (kept_all rows stamp k.certs list)) n) is told in
+      let e = subst (λ (f : Fault). AskedUpTo f (weigh_kept sound_of k.certs)
+      (weigh_kept sound_of (kept_all rows stamp k.certs list)) n) is told in
       subst (λ (z : Keyring). n ≤ asked_for rows z cs) v
-      (asked_some rows (k.changes + 1) k.certs cs n (subst (λ (es : Entries). weigh_kept sound_of k.certs + n ≤ weigh_kept sound_of es) steps e))
+      (asked_some rows (k.changes + 1) k.certs cs n
+      (subst (λ (es : Entries). weigh_kept sound_of k.certs + n ≤ weigh_kept sound_of es) steps e))
 
-  pub no_clash : MayUnite now.limits (certificates_in now) cs → (fault : Fault) → fault ≡ Clash → IsClashTold fault (clash_in rows stamp k.certs list) → ⊥
-  no_clash may fault is told = true_false _ (subst (λ (f : Fault). IsClashTold f (clash_in rows stamp k.certs list)) is told) (clashes ∙ sym (clashes_told rows (k.changes + 1) k.certs cs h.named h.sorted) ∙ (may_before may).clash)
+  pub no_clash : MayUnite now.limits (certificates_in now) cs → (fault : Fault) → fault ≡ Clash →
+      IsClashTold fault (clash_in rows stamp k.certs list) → ⊥
+  no_clash may fault is told = true_false _ (subst (λ (f : Fault). IsClashTold f (clash_in rows stamp k.certs list)) is
+      told) (clashes ∙ sym (clashes_told rows (k.changes + 1) k.certs cs h.named h.sorted) ∙ (may_before may).clash)
 
-  module _ (new : Entries) (fresh changes : ℕ) (put : new ≡ kept_all rows stamp k.certs list) (more : fresh + weigh_kept items_of k.certs ≡ weigh_kept items_of new) (grows : (a b : Certificate) → items_of a ≤ items_of (unite a b)) (raised : changes ≡ (if nat_lt 0 fresh then k.changes + 1 else k.changes)) where
+  module _ (new : Entries) (fresh changes : ℕ) (put : new ≡ kept_all rows stamp k.certs list)
+      (more : fresh + weigh_kept items_of k.certs ≡ weigh_kept items_of new) (grows : (a b : Certificate) →
+      items_of a ≤ items_of (unite a b))
+      (raised : changes ≡ (if nat_lt 0 fresh then k.changes + 1 else k.changes)) where
     put_now : new ≡ kept_all rows (k.changes + 1) k.certs cs
     put_now = put ∙ steps
 
     abbrev with_changes : ℕ → Keyring
     with_changes n = record { limits = k.limits; certs = new; verdicts = k.verdicts; changes = n }
 
-    pub answered_now : (skipped : ℕ) → MayUnite now.limits (certificates_in now) cs → AnswersUnited (Ok (record { taken = length list; skipped = skipped; fresh = fresh })) rows now cs skipped
+    pub answered_now : (skipped : ℕ) → MayUnite now.limits (certificates_in now) cs →
+        AnswersUnited (Ok (record { taken = length list; skipped = skipped; fresh = fresh })) rows now cs skipped
     answered_now skipped may =
-        subst (λ (z : Keyring). AnswersUnited (Ok (record { taken = length list; skipped = skipped; fresh = fresh })) rows z cs skipped) v
-        (inl (ap (λ (xs : List Certificate). Ok (record { taken = length xs; skipped = skipped; fresh = fresh })) ls ∙ answered rows k cs new fresh h put_now more grows skipped (may_before may)))
+        subst (λ (z : Keyring). AnswersUnited (Ok (record { taken = length list; skipped = skipped; fresh = fresh }))
+        rows z cs skipped) v
+        (inl (ap (λ (xs : List Certificate). Ok (record { taken = length xs; skipped = skipped; fresh = fresh })) ls
+        ∙ answered rows k cs new fresh h put_now more grows skipped (may_before may)))
 
     pub held_now : with_changes changes ≡ holding now (with_certs rows (certificates_in now) cs)
-    held_now = ap with_changes raised ∙ held rows k cs new fresh h put_now more grows ∙ ap (λ (z : Keyring). holding z (with_certs rows (certificates_in z) cs)) v
+    held_now = ap with_changes raised ∙ held rows k cs new fresh h put_now more grows
+        ∙ ap (λ (z : Keyring). holding z (with_certs rows (certificates_in z) cs)) v
 
     module _ (still : (a b : Certificate) → items_of (unite a b) ≡ items_of a → unite a b ≡ a) where
       pub counted_now : IsLater now (with_changes changes) → IsOneChange now (with_changes changes)
       counted_now later =
           let before : IsLater k (with_changes (if nat_lt 0 fresh then k.changes + 1 else k.changes)) =
-          subst (λ n. IsLater k (with_changes n)) raised (subst (λ (z : Keyring). IsLater z (with_changes changes)) (sym v) later) in
+          subst (λ n. IsLater k (with_changes n)) raised (subst (λ (z : Keyring). IsLater z (with_changes changes))
+          (sym v) later) in
           subst (λ (z : Keyring). IsOneChange z (with_changes changes)) v
-          (subst (λ n. IsOneChange k (with_changes n)) (sym raised) (changed_once rows k cs new fresh h put_now more grows still before))
+          (subst (λ n. IsOneChange k (with_changes n)) (sym raised) (changed_once rows k cs new fresh h put_now more
+          grows still before))
 
-      pub keyring_now : ((a b : Certificate) → IsCertificate a → IsCertificate b → a.key ≡ b.key → IsCertificate (unite a b)) → ((rows : PolicyRows) (c : Certificate) → IsCertificate c → IsCertificate (judged rows c))
-          → (total : Weight) (limit : ℕ) → limit ≡ now.limits.certificate → AreSortedByFpr new → IsTally limit new total → clash_in rows stamp k.certs list ≡ false → AllByRecursion IsCertificate cs → MayUnite now.limits (certificates_in now) cs
+      pub keyring_now : ((a b : Certificate) → IsCertificate a → IsCertificate b → a.key ≡ b.key →
+          IsCertificate (unite a b)) → ((rows : PolicyRows) (c : Certificate) → IsCertificate c →
+          IsCertificate (judged rows c))
+          → (total : Weight) (limit : ℕ) → limit ≡ now.limits.certificate → AreSortedByFpr new →
+          IsTally limit new total → clash_in rows stamp k.certs list ≡ false → AllByRecursion IsCertificate cs →
+          MayUnite now.limits (certificates_in now) cs
           → IsKeyring (with_changes changes) × AreTotals (with_changes changes) total.octets total.signatures
       keyring_now united marked total limit lim sorted t none whole may =
           let tally = subst (λ l. IsTally l new total) (lim ∙ ap (λ (z : Keyring). z.limits.certificate) (sym v)) t in
           let clear = sym clashes ∙ none in
           let before = may_before may in
-          let totals = totals_after rows k cs new fresh h put_now more grows still united marked total sorted tally clear whole before in (
-            subst (λ n. IsKeyring (with_changes n)) (sym raised) (keyring_after rows k cs new fresh h put_now more grows still united marked total sorted tally clear whole before),
+          let totals = totals_after rows k cs new fresh h put_now more grows still united marked total sorted tally
+          clear whole before in (
+            subst (λ n. IsKeyring (with_changes n)) (sym raised) (keyring_after rows k cs new fresh h put_now more grows
+                still united marked total sorted tally clear whole before),
             record { octets = totals.octets; signatures = totals.signatures },
           )

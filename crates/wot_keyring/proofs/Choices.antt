@@ -1,4 +1,4 @@
--- What tests of tests come to.
+-- Equations for conditions of conditions.
 use Rattle.std.proofs.Common.{◌≡◌, Bool, true, false, ◌&&◌, ◌||◌, sym, refl}
 
 pub or_false : (a : Bool) → a || false ≡ a

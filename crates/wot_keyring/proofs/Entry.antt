@@ -1,18 +1,11 @@
--- The one certificate of an entry.
-use Rattle.std.proofs.Common.{◌≡◌, ℕ, Bool, true, false, List, [], ◌∷◌, ◌++◌, Option, Some, None, Result, Ok, Err, refl, sym, ap, ◌∙◌}
+-- The one certificate of a directory entry.
+use Rattle.std.proofs.Common.{◌≡◌, ℕ, Bool, true, List, [], ◌∷◌, ◌++◌, Result, Ok, Err, ap, ◌∙◌}
 use Rattle.std.specs.Prelude.{if◌then◌else◌}
 use Rattle.wot_types.specs.declared.name.Name.{Name}
-use Rattle.wot_cert.specs.declared.assembling.Assembled.{Assembled}
-use Rattle.wot_cert.specs.Assembly.{certificates_of, skipped_in}
 use Rattle.wot_cert.specs.Certificate.{Certificate}
-use Rattle.wot_cert.specs.Fault.{first_fault}
-use Rattle.wot_cert.specs.declared.fault.CertFault.{CertFault}
-use Rattle.wot_packet.specs.Reading.{packets_of}
-use Rattle.wot_packet.specs.Spelling.{Spelled}
-use Rattle.wot_packet.specs.declared.packet.PacketFault.{PacketFault}
 use Rattle.wot_keyring.specs.declared.refusal.Refusal.{Refusal}
-use Rattle.wot_keyring.specs.declared.refusal.Refusal.TheVariants.{Packet, Cert, Misfiled, Clash, Full, Memory}
-use Rattle.wot_keyring.specs.Entry.{Parts, TellsEntry, TellsParts, entry_among, entry_in, parts_in, parts_read, parts_unless, the_one}
+use Rattle.wot_keyring.specs.declared.refusal.Refusal.TheVariants.{Misfiled}
+use Rattle.wot_keyring.specs.Entry.{entry_among, entry_in, parts_in, the_one}
 use Rattle.wot_keyring.specs.Import.{is_entry}
 
 last_of_one : (x c : Certificate) (rest : List Certificate) → x ∷ [] ≡ rest ++ c ∷ [] → x ≡ c
@@ -20,7 +13,8 @@ last_of_one x c [] e = cc
 last_of_one x c (y ∷ []) e = absurd cc
 last_of_one x c (y ∷ z ∷ rest) e = absurd cc
 
-one_taken : (name : Name) (certs rest : List Certificate) (skipped : ℕ) (c : Certificate) → is_entry name certs skipped ≡ true → certs ≡ rest ++ c ∷ []
+one_taken : (name : Name) (certs rest : List Certificate) (skipped : ℕ) (c : Certificate) →
+    is_entry name certs skipped ≡ true → certs ≡ rest ++ c ∷ []
     → the_one name certs skipped ≡ Ok c
 one_taken name [] rest skipped c t e = absurd cc
 one_taken name (x ∷ []) rest skipped c t e =
@@ -29,8 +23,10 @@ one_taken name (x ∷ []) rest skipped c t e =
     ap Chosen t ∙ ap Kept (last_of_one x c rest e)
 one_taken name (x ∷ y ∷ xs) rest skipped c t e = absurd cc
 
-pub entry_taken : (name : Name) (octets : List ℕ) (certs rest : List Certificate) (skipped : ℕ) (c : Certificate) → parts_in octets ≡ Ok (certs, skipped)
+pub entry_taken : (name : Name) (octets : List ℕ) (certs rest : List Certificate) (skipped : ℕ) (c : Certificate) →
+    parts_in octets ≡ Ok (certs, skipped)
     → is_entry name certs skipped ≡ true → certs ≡ rest ++ c ∷ [] → entry_in name octets ≡ Ok c
-entry_taken name octets certs rest skipped c parts t e = ap (entry_among name) parts ∙ one_taken name certs rest skipped c t e
+entry_taken name octets certs rest skipped c parts t e = ap (entry_among name) parts
+    ∙ one_taken name certs rest skipped c t e
 
 -- ---- the parts

@@ -1,4 +1,4 @@
--- What is judged stays judged where a certificate is taken out, and where a verdict is altered.
+-- A keyring that is marked by policy rows stays so when a certificate is removed or a verdict changes.
 use Rattle.std.proofs.Common.{ℕ, Bool, true, false, cond, [], ◌∷◌}
 use Rattle.std.specs.Map.{remove_entry}
 use Rattle.wot_types.specs.declared.fpr.Fpr.{Fpr}
@@ -8,7 +8,8 @@ use Rattle.wot_keyring.specs.Keyring.{Entries}
 use Rattle.wot_keyring.specs.Kept.{AreJudged}
 use Rattle.wot_keyring.specs.Verdict.{restamped_all}
 
-pub removed_judged : (rows : PolicyRows) (test : Fpr → Bool) (es : Entries) → AreJudged rows es → AreJudged rows (remove_entry test es)
+pub removed_judged : (rows : PolicyRows) (test : Fpr → Bool) (es : Entries) → AreJudged rows es →
+    AreJudged rows (remove_entry test es)
 removed_judged rows test [] all = tt
 removed_judged rows test (e ∷ es) all =
     elim (test e.0) as (λ b. AreJudged rows (cond b es (e ∷ remove_entry test es))) [
@@ -16,6 +17,7 @@ removed_judged rows test (e ∷ es) all =
       | false ↦ (all.0, removed_judged rows test es all.1)
     ]
 
-pub restamped_judged : (rows : PolicyRows) (number : SigNumber) (stamp : ℕ) (es : Entries) → AreJudged rows es → AreJudged rows (restamped_all number stamp es)
+pub restamped_judged : (rows : PolicyRows) (number : SigNumber) (stamp : ℕ) (es : Entries) → AreJudged rows es →
+    AreJudged rows (restamped_all number stamp es)
 restamped_judged rows number stamp [] all = tt
 restamped_judged rows number stamp (e ∷ es) all = (all.0, restamped_judged rows number stamp es all.1)

@@ -1,8 +1,7 @@
--- Lines that are put one by one.
-use Rattle.std.proofs.Common.{◌≡◌, ℕ, ◌≤◌, List, [], ◌∷◌, ◌++◌, length, map, take, refl, sym, ap, subst, ◌∙◌, append_assoc, append-nil}
+-- Lines that are appended one by one.
+use Rattle.std.proofs.Common.{◌≡◌, ℕ, ◌≤◌, List, [], ◌∷◌, ◌++◌, map, refl, sym, ap, subst, ◌∙◌, append_assoc}
 use Rattle.std.specs.List.{AllByRecursion}
 use Rattle.std.proofs.lemmas.Grind.{flat_map-append}
-use Rattle.std.proofs.Math.Seq.{take-append_seam}
 use Rattle.wot_script.specs.declared.command.Command.{Command}
 use Rattle.wot_types.specs.declared.fpr.Fpr.{Fpr}
 use Rattle.wot_verdict.specs.Verdicts as verdicts
@@ -12,20 +11,23 @@ use Rattle.wot_keyring.specs.declared.kept.Kept.{Kept}
 use Rattle.wot_keyring.specs.Keyring.{Entries, Keyring, stripped}
 use Rattle.wot_keyring.specs.Held.{held_of}
 use Rattle.wot_keyring.specs.Kept.{AreSized}
-use Rattle.wot_keyring.specs.Dump.{AreLines, IsLine, commands_of, import_of, command_line_of, lines_of, setting_of, text_import}
+use Rattle.wot_keyring.specs.Dump.{AreLines, IsLine, commands_of, import_of, command_line_of, lines_of, setting_of}
+use Rattle.wot_keyring.specs.Dump.{text_import}
 
--- The lines of all these commands but the rest were put.
+-- The lines of all these commands except the rest were appended.
 pub record PutSoFar (before now : List ℕ) (all rest : List Command) : Type 0 where
   pub made : List ℕ
   pub text : now ≡ before ++ made
   pub left : made ++ lines_of rest ≡ lines_of all
   pub lined : AreLines rest → AreLines all
 
-pub one_put : (before now next : List ℕ) (all : List Command) (c : Command) (rest : List Command) → PutSoFar before now all (c ∷ rest)
+pub one_put : (before now next : List ℕ) (all : List Command) (c : Command) (rest : List Command) →
+    PutSoFar before now all (c ∷ rest)
     → next ≡ now ++ command_line_of c → IsLine c → PutSoFar before next all rest
 one_put before now next all c rest so_far added line = record {
   made = so_far.made ++ command_line_of c;
-  text = added ∙ ap (λ text. text ++ command_line_of c) so_far.text ∙ append_assoc before so_far.made (command_line_of c);
+  text = added ∙ ap (λ text. text ++ command_line_of c) so_far.text ∙ append_assoc before so_far.made
+      (command_line_of c);
   left = append_assoc so_far.made (command_line_of c) (lines_of rest) ∙ so_far.left;
   lined = λ h. so_far.lined (line, h);
 }
@@ -35,7 +37,8 @@ one_put before now next all c rest so_far added line = record {
 abbrev pub cert_list : Entries → List Certificate
 cert_list es = map (λ (e : Fpr × Kept). e.1.cert) es
 
-pub sizes_of : (limit : ℕ) (es : Entries) → AreSized limit es → AllByRecursion (λ (c : Certificate). size_of c ≤ limit) (cert_list es)
+pub sizes_of : (limit : ℕ) (es : Entries) → AreSized limit es → AllByRecursion (λ (c : Certificate). size_of c ≤ limit)
+    (cert_list es)
 sizes_of limit [] sized = tt
 sizes_of limit (e ∷ es) sized = (sized.0, sizes_of limit es sized.1)
 
@@ -50,14 +53,16 @@ both_lines : (cs ds : List Command) → AreLines cs → AreLines ds → AreLines
 both_lines [] ds h k = k
 both_lines (c ∷ cs) ds h k = (h.0, both_lines cs ds h.1 k)
 
-module _ (k : Keyring) (certs : List Certificate) (said : verdicts.Entries) (listed : certs ≡ cert_list k.certs) (same : said ≡ k.verdicts) where
+module _ (k : Keyring) (certs : List Certificate) (said : verdicts.Entries) (listed : certs ≡ cert_list k.certs)
+    (same : said ≡ k.verdicts) where
   imports_are : map text_import certs ≡ map import_of (stripped k.certs)
   imports_are = ap (map text_import) listed ∙ imports_of k.certs
 
   settings_are : map setting_of said ≡ map setting_of k.verdicts
   settings_are = ap (map setting_of) same
 
-  pub dumped : (before mid now : List ℕ) → mid ≡ before ++ lines_of (map text_import certs) → now ≡ mid ++ lines_of (map setting_of said)
+  pub dumped : (before mid now : List ℕ) → mid ≡ before ++ lines_of (map text_import certs) →
+      now ≡ mid ++ lines_of (map setting_of said)
       → now ≡ before ++ lines_of (commands_of (held_of k))
   dumped before mid now first last =
       let Both : List Command → List Command → List ℕ = λ cs ds. before ++ (lines_of cs ++ lines_of ds) in
@@ -68,6 +73,8 @@ module _ (k : Keyring) (certs : List Certificate) (said : verdicts.Entries) (lis
       ∙ ap (Both (map import_of (stripped k.certs))) settings_are
       ∙ ap (λ text. before ++ text) (sym (lines-append (map import_of (stripped k.certs)) (map setting_of k.verdicts)))
 
-  pub dumped_lines : AreLines (map text_import certs) → AreLines (map setting_of said) → AreLines (commands_of (held_of k))
+  pub dumped_lines : AreLines (map text_import certs) → AreLines (map setting_of said) →
+      AreLines (commands_of (held_of k))
   dumped_lines first last =
-      both_lines (map import_of (stripped k.certs)) (map setting_of k.verdicts) (subst AreLines imports_are first) (subst AreLines settings_are last)
+      both_lines (map import_of (stripped k.certs)) (map setting_of k.verdicts) (subst AreLines imports_are first)
+      (subst AreLines settings_are last)

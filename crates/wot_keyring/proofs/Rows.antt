@@ -1,4 +1,4 @@
--- The definitions on octets, whatever is kept: faults of packets and of assembly come in their order.
+-- The definitions on octets, whatever is kept: errors of packets and of assembly in their order.
 use Rattle.std.proofs.Common.{◌≡◌, ◌∷◌, [], refl, List, ℕ, Err}
 use Rattle.wot_packet.specs.declared.packet.Why.TheVariants.{NotAPacket, CutLength, CutBody, Partial, Indeterminate}
 use Rattle.wot_policy.specs.declared.rows.PolicyRows.{PolicyRows}
@@ -9,7 +9,8 @@ use Rattle.wot_keyring.specs.Keyring.{Certificates}
 use Rattle.wot_keyring.specs.Import.{answer_to}
 
 module _ (rows : PolicyRows) (limits : Limits) (certs : Certificates) where
-  cut_body : answer_to rows limits certs (198 ∷ 7 ∷ 4 ∷ 0 ∷ 0 ∷ 3 ∷ 232 ∷ 27 ∷ []) ≡ Err (Packet (record { at = 0; why = CutBody }))
+  cut_body : answer_to rows limits certs (198 ∷ 7 ∷ 4 ∷ 0 ∷ 0 ∷ 3 ∷ 232 ∷ 27 ∷ []) ≡ Err
+      (Packet (record { at = 0; why = CutBody }))
   cut_body = refl
 
   not_a_packet : answer_to rows limits certs (64 ∷ []) ≡ Err (Packet (record { at = 0; why = NotAPacket }))

@@ -1,5 +1,6 @@
--- What follows for an import where two lists do the same.
-use Rattle.std.proofs.Common.{◌≡◌, ◌-◌, ◌||◌, inl, inr, ℕ, Bool, true, false, cond, if◌then◌else◌, List, [], ◌∷◌, length, Option, Some, None, Result, Ok, Err, sym, ap, ◌∙◌, subst, refl}
+-- What follows for an import if two lists have the same effect.
+use Rattle.std.proofs.Common.{◌≡◌, ◌-◌, ◌||◌, inl, inr, ℕ, Bool, true, false, cond, if◌then◌else◌, List, [], ◌∷◌}
+use Rattle.std.proofs.Common.{length, Option, Some, None, Result, Ok, Err, sym, ap, ◌∙◌, subst, refl}
 use Rattle.std.specs.Option.{option_map}
 use Rattle.std.specs.Map.{lookup}
 use Rattle.std.proofs.lemmas.Map.Made.{lookup-map_values}
@@ -13,7 +14,8 @@ use Rattle.wot_keyring.specs.declared.refusal.Refusal.{Refusal}
 use Rattle.wot_keyring.specs.declared.refusal.Refusal.TheVariants.{Packet, Cert, Clash, Full, Misfiled, Memory}
 use Rattle.wot_keyring.specs.Gather.{clashes_with, taken_all, AreAllWhole, DoTheSame, ComeToNothing}
 use Rattle.wot_cert.specs.Judged.{sound_of}
-use Rattle.wot_keyring.specs.Import.{any_clash, weigh, with_cert, with_certs, first_full, fresh_in, holding, unless_full, answer_united}
+use Rattle.wot_keyring.specs.Import.{any_clash, weigh, with_cert, with_certs, first_full, fresh_in, holding}
+use Rattle.wot_keyring.specs.Import.{unless_full, answer_united}
 use Rattle.wot_keyring.specs.Importing.{alone, TellsUnion, AnswersUnited, asked_for}
 use Rattle.wot_keyring.specs.Keyring.{Entries, Certificates, Keyring, is_fpr, stripped, certificates_in}
 use Rattle.wot_keyring.specs.Kept.{AreWhole, IsKeyring}
@@ -22,24 +24,32 @@ use Rattle.wot_keyring.proofs.Clashes.{clashes_told}
 use Rattle.wot_keyring.proofs.Taking.{none_stays}
 use Rattle.wot_keyring.proofs.Transport.{certs_all}
 
--- ---- taking, and the union
+-- ---- the effect and the merge
 
 same_test : (o : Option Kept) (c : Certificate) → clashes_with (option_map (λ (x : Kept). x.cert) o) c ≡ clash_at o c
 same_test None c = refl
 same_test (Some x) c = refl
 
-one_test : (es : Entries) (c : Certificate) → clashes_with (lookup (is_fpr (fpr_of c.key)) (stripped es)) c ≡ clash_at (found_for es c) c
-one_test es c = ap (λ (o : Option Certificate). clashes_with o c) (lookup-map_values (λ (x : Kept). x.cert) (is_fpr (fpr_of c.key)) es) ∙ same_test (found_for es c) c
+one_test : (es : Entries) (c : Certificate) → clashes_with (lookup (is_fpr (fpr_of c.key)) (stripped es)) c ≡ clash_at
+    (found_for es c) c
+one_test es c = ap (λ (o : Option Certificate). clashes_with o c) (lookup-map_values (λ (x : Kept). x.cert)
+    (is_fpr (fpr_of c.key)) es) ∙ same_test (found_for es c) c
 
-taken_by : (rows : PolicyRows) (stamp : ℕ) (es : Entries) (cs : List Certificate) → taken_all rows (Some (stripped es)) cs ≡ cond (clash_in rows stamp es cs) None (Some (with_certs rows (stripped es) cs))
+taken_by : (rows : PolicyRows) (stamp : ℕ) (es : Entries) (cs : List Certificate) →
+    taken_all rows (Some (stripped es)) cs ≡ cond (clash_in rows stamp es cs) None
+    (Some (with_certs rows (stripped es) cs))
 taken_by rows stamp es [] = refl
 taken_by rows stamp es (c ∷ cs) =
-    let next : stripped (kept_with rows stamp es c) ≡ with_cert rows (stripped es) c = certs_all rows stamp es (c ∷ []) in
+    let next : stripped (kept_with rows stamp es c) ≡ with_cert rows (stripped es) c =
+    certs_all rows stamp es (c ∷ []) in
     ap (λ b. taken_all rows (cond b None (Some (with_cert rows (stripped es) c))) cs) (one_test es c)
-    ∙ (elim (clash_at (found_for es c) c) as (λ b. taken_all rows (cond b None (Some (with_cert rows (stripped es) c))) cs ≡ cond (b || clash_in rows stamp (kept_with rows stamp es c) cs) None (Some (with_certs rows (with_cert rows (stripped es) c) cs))) [
+    ∙ (elim (clash_at (found_for es c) c) as (λ b. taken_all rows (cond b None (Some (with_cert rows (stripped es) c)))
+    cs ≡ cond (b || clash_in rows stamp (kept_with rows stamp es c) cs) None
+    (Some (with_certs rows (with_cert rows (stripped es) c) cs))) [
       | true ↦ none_stays rows cs
       | false ↦
-          subst (λ (certs : Certificates). taken_all rows (Some certs) cs ≡ cond (clash_in rows stamp (kept_with rows stamp es c) cs) None (Some (with_certs rows certs cs))) next
+          subst (λ (certs : Certificates). taken_all rows (Some certs) cs ≡ cond
+          (clash_in rows stamp (kept_with rows stamp es c) cs) None (Some (with_certs rows certs cs))) next
           (taken_by rows stamp (kept_with rows stamp es c) cs)
     ])
 
@@ -55,7 +65,8 @@ test_of true false x y e = absurd cc
 test_of false true x y e = absurd cc
 test_of false false x y e = refl
 
-held_of : (a b : Bool) (x y : Certificates) → a ≡ false → b ≡ false → cond a None (Some x) ≡ cond b None (Some y) → x ≡ y
+held_of : (a b : Bool) (x y : Certificates) → a ≡ false → b ≡ false → cond a None (Some x) ≡ cond b None (Some y) →
+    x ≡ y
 held_of a b x y f g e =
     let h : Some x ≡ Some y = sym (ap (λ t. cond t None (Some x)) f) ∙ e ∙ ap (λ t. cond t None (Some y)) g in
     cc
@@ -64,55 +75,87 @@ none_of : (a : Bool) (x : Certificates) → cond a None (Some x) ≡ None → a 
 none_of true x e = refl
 none_of false x e = absurd cc
 
--- with that many certificates read
+-- with this number of certificates read
 abbrev pub counted_as : ℕ → Result Imported Refusal → Result Imported Refusal
 counted_as taken (Ok done) = Ok (record { taken = taken; skipped = done.skipped; fresh = done.fresh })
 counted_as taken (Err refusal) = Err refusal
 
-full_counted : (o : Option Limit) (taken others skipped fresh : ℕ) → unless_full o (record { taken = taken; skipped = skipped; fresh = fresh }) ≡ counted_as taken (unless_full o (record { taken = others; skipped = skipped; fresh = fresh }))
+full_counted : (o : Option Limit) (taken others skipped fresh : ℕ) →
+    unless_full o (record { taken = taken; skipped = skipped; fresh = fresh }) ≡ counted_as taken
+    (unless_full o (record { taken = others; skipped = skipped; fresh = fresh }))
 full_counted None taken others skipped fresh = refl
 full_counted (Some limit) taken others skipped fresh = refl
 
 module _ (rows : PolicyRows) (k : Keyring) (h : IsKeyring k) where
-  taken_so : (cs : List Certificate) → taken_all rows (Some (certificates_in k)) cs ≡ cond (any_clash (alone (certificates_in k)) cs) None (Some (with_certs rows (certificates_in k) cs))
+  taken_so : (cs : List Certificate) → taken_all rows (Some (certificates_in k)) cs ≡ cond
+      (any_clash (alone (certificates_in k)) cs) None (Some (with_certs rows (certificates_in k) cs))
   taken_so cs =
       taken_by rows 0 k.certs cs
-      ∙ ap (λ b. cond b None (Some (with_certs rows (certificates_in k) cs))) (sym (clashes_told rows 0 k.certs cs h.named h.sorted))
+      ∙ ap (λ b. cond b None (Some (with_certs rows (certificates_in k) cs)))
+      (sym (clashes_told rows 0 k.certs cs h.named h.sorted))
 
-  -- A list that comes to nothing clashes.
-  pub nothing_answered : (list : List Certificate) (skipped : ℕ) → ComeToNothing list → AnswersUnited (Err Clash) rows k list skipped
+  -- A list without a result clashes.
+  pub nothing_answered : (list : List Certificate) (skipped : ℕ) → ComeToNothing list →
+      AnswersUnited (Err Clash) rows k list skipped
   nothing_answered list skipped none =
-      let clash : any_clash (alone (certificates_in k)) list ≡ true = none_of _ _ (sym (taken_so list) ∙ none rows (Some (certificates_in k)) (whole_stripped k.certs h.whole)) in
-      inl (sym (ap (λ b. if b then Err Clash else unless_full (first_full k.limits (with_certs rows (certificates_in k) list)) (record { taken = length list; skipped = skipped; fresh = fresh_in (certificates_in k) (with_certs rows (certificates_in k) list) })) clash))
+      let clash : any_clash (alone (certificates_in k)) list ≡ true =
+      none_of _ _ (sym (taken_so list) ∙ none rows (Some (certificates_in k)) (whole_stripped k.certs h.whole)) in
+      inl (sym (ap (λ b. if b then Err Clash else unless_full
+      (first_full k.limits (with_certs rows (certificates_in k) list)) (record {
+        taken = length list;
+        skipped =
+            skipped;
+        fresh = fresh_in (certificates_in k) (with_certs rows (certificates_in k) list);
+      })) clash))
 
   module _ (list other : List Certificate) (same : DoTheSame list other) where
-    both : cond (any_clash (alone (certificates_in k)) list) None (Some (with_certs rows (certificates_in k) list)) ≡ cond (any_clash (alone (certificates_in k)) other) None (Some (with_certs rows (certificates_in k) other))
+    both : cond (any_clash (alone (certificates_in k)) list) None
+        (Some (with_certs rows (certificates_in k) list)) ≡ cond (any_clash (alone (certificates_in k)) other) None
+        (Some (with_certs rows (certificates_in k) other))
     both = sym (taken_so list) ∙ same rows (Some (certificates_in k)) (whole_stripped k.certs h.whole) ∙ taken_so other
 
     same_clash : any_clash (alone (certificates_in k)) list ≡ any_clash (alone (certificates_in k)) other
     same_clash = test_of _ _ _ _ both
 
-    same_held : any_clash (alone (certificates_in k)) other ≡ false → with_certs rows (certificates_in k) list ≡ with_certs rows (certificates_in k) other
+    same_held : any_clash (alone (certificates_in k)) other ≡ false →
+        with_certs rows (certificates_in k) list ≡ with_certs rows (certificates_in k) other
     same_held none = held_of _ _ _ _ (same_clash ∙ none) none both
 
     abbrev answer_on : ℕ → Certificates → Result Imported Refusal
-    answer_on n certs = unless_full (first_full k.limits certs) (record { taken = length list; skipped = n; fresh = fresh_in (certificates_in k) certs })
+    answer_on n certs = unless_full (first_full k.limits certs) (record {
+      taken = length list;
+      skipped = n;
+      fresh =
+          fresh_in (certificates_in k) certs;
+    })
 
-    same_answer : (skipped : ℕ) → answer_united rows k.limits (certificates_in k) list skipped ≡ counted_as (length list) (answer_united rows k.limits (certificates_in k) other skipped)
+    same_answer : (skipped : ℕ) → answer_united rows k.limits (certificates_in k) list skipped ≡ counted_as
+        (length list) (answer_united rows k.limits (certificates_in k) other skipped)
     same_answer skipped =
         ap (λ b. if b then Err Clash else answer_on skipped (with_certs rows (certificates_in k) list)) same_clash
-        ∙ (elim (any_clash (alone (certificates_in k)) other) as (λ b. any_clash (alone (certificates_in k)) other ≡ b → (if b then Err Clash else answer_on skipped (with_certs rows (certificates_in k) list)) ≡ counted_as (length list) (if b then Err Clash else unless_full (first_full k.limits (with_certs rows (certificates_in k) other)) (record { taken = length other; skipped = skipped; fresh = fresh_in (certificates_in k) (with_certs rows (certificates_in k) other) }))) [
+        ∙ (elim (any_clash (alone (certificates_in k)) other) as (λ b. any_clash (alone (certificates_in k)) other ≡ b →
+        (if b then Err Clash else answer_on skipped (with_certs rows (certificates_in k) list)) ≡ counted_as
+        (length list) (if b then Err Clash else unless_full
+        (first_full k.limits (with_certs rows (certificates_in k) other)) (record {
+          taken = length other;
+          skipped =
+              skipped;
+          fresh = fresh_in (certificates_in k) (with_certs rows (certificates_in k) other);
+        }))) [
           | true ↦ λ t. refl
           | false ↦ λ f.
               ap (answer_on skipped) (same_held f)
-              ∙ full_counted (first_full k.limits (with_certs rows (certificates_in k) other)) (length list) (length other) skipped (fresh_in (certificates_in k) (with_certs rows (certificates_in k) other))
+              ∙ full_counted (first_full k.limits (with_certs rows (certificates_in k) other)) (length list)
+              (length other) skipped (fresh_in (certificates_in k) (with_certs rows (certificates_in k) other))
         ]) refl
 
-    refused : (skipped : ℕ) (r : Refusal) → answer_united rows k.limits (certificates_in k) other skipped ≡ Err r → Err r ≡ answer_united rows k.limits (certificates_in k) list skipped
+    refused : (skipped : ℕ) (r : Refusal) → answer_united rows k.limits (certificates_in k) other skipped ≡ Err r →
+        Err r ≡ answer_united rows k.limits (certificates_in k) list skipped
     refused skipped r told = sym (same_answer skipped ∙ ap (counted_as (length list)) told)
 
-    -- a refusal of the one list is one of the other
-    pub same_refusal : (r : Refusal) (skipped : ℕ) → TellsUnion (Some r) k.limits (certificates_in k) other → AnswersUnited (Err r) rows k list skipped
+    -- a refusal of the first list is one of the second
+    pub same_refusal : (r : Refusal) (skipped : ℕ) → TellsUnion (Some r) k.limits (certificates_in k) other →
+        AnswersUnited (Err r) rows k list skipped
     same_refusal (Packet f) skipped told = inl (refused skipped (Packet f) (told rows skipped))
     same_refusal (Cert f) skipped told = inl (refused skipped (Cert f) (told rows skipped))
     same_refusal Clash skipped told = inl (refused skipped Clash (told rows skipped))
@@ -120,13 +163,18 @@ module _ (rows : PolicyRows) (k : Keyring) (h : IsKeyring k) where
     same_refusal Misfiled skipped told = inl (refused skipped Misfiled (told rows skipped))
     same_refusal Memory skipped told = inr refl
 
-    -- the counts, but for how many were read
-    pub same_counts : (done : Result Imported Refusal) (taken skipped : ℕ) → taken ≡ length list → AnswersUnited done rows k other skipped → AnswersUnited (counted_as taken done) rows k list skipped
-    same_counts done taken skipped n (inl e) = inl (ap (λ m. counted_as m done) n ∙ ap (counted_as (length list)) e ∙ sym (same_answer skipped))
+    -- the counts, except how many were read
+    pub same_counts : (done : Result Imported Refusal) (taken skipped : ℕ) → taken ≡ length list →
+        AnswersUnited done rows k other skipped → AnswersUnited (counted_as taken done) rows k list skipped
+    same_counts done taken skipped n (inl e) = inl (ap (λ m. counted_as m done) n ∙ ap (counted_as (length list)) e
+        ∙ sym (same_answer skipped))
     same_counts done taken skipped n (inr e) = inr (ap (counted_as taken) e)
 
-    pub same_holding : any_clash (alone (certificates_in k)) other ≡ false → holding k (with_certs rows (certificates_in k) other) ≡ holding k (with_certs rows (certificates_in k) list)
+    pub same_holding : any_clash (alone (certificates_in k)) other ≡ false →
+        holding k (with_certs rows (certificates_in k) other) ≡ holding k (with_certs rows (certificates_in k) list)
     same_holding none = ap (holding k) (sym (same_held none))
 
-    pub same_asked : any_clash (alone (certificates_in k)) other ≡ false → asked_for rows k other ≡ asked_for rows k list
-    same_asked none = ap (λ (certs : Certificates). weigh sound_of certs - weigh sound_of (certificates_in k)) (sym (same_held none))
+    pub same_asked : any_clash (alone (certificates_in k)) other ≡ false →
+        asked_for rows k other ≡ asked_for rows k list
+    same_asked none = ap (λ (certs : Certificates). weigh sound_of certs - weigh sound_of (certificates_in k))
+        (sym (same_held none))

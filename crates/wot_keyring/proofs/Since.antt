@@ -1,6 +1,7 @@
--- The entries of a log above a count are those from a place on.
-use Rattle.std.proofs.Common.{◌≡◌, ◌≤◌, ◌<◌, ◌+◌, ℕ, zero, suc, Bool, true, false, ◌&&◌, ◌||◌, nat_eq, nat_le, List, [], ◌∷◌, length, drop, Option, Some, None, refl, sym, ap, subst, ◌∙◌, arith}
-use Rattle.std.specs.List.{AllByRecursion, list_any, slice_index_or}
+-- The entries of a log above a count are its end, from some place on.
+use Rattle.std.proofs.Common.{◌≡◌, ◌≤◌, ◌<◌, ℕ, zero, suc, Bool, true, false, ◌&&◌, ◌||◌, nat_eq, nat_le, [], ◌∷◌}
+use Rattle.std.proofs.Common.{length, drop, Option, Some, None, refl, sym, ap, subst, ◌∙◌, arith}
+use Rattle.std.specs.List.{AllByRecursion, slice_index_or}
 use Rattle.std.specs.List.Sorted.{IsPartitionedBy}
 use Rattle.std.proofs.lemmas.Bool.Decides.{nat_tests}
 use Rattle.wot_types.specs.declared.fpr.Fpr.{Fpr}
@@ -16,7 +17,8 @@ is_up_to count e = nat_le e.0 count
 head_up : (n a b : ℕ) → a ≤ b → nat_le b n ≡ true → nat_le a n ≡ true
 head_up n a b h k = grind (arith, nat_tests)
 
-at : (P : ℕ × Fpr → Type 0) (es : Logged) (d : ℕ × Fpr) (j : ℕ) → AllByRecursion P es → j < length es → P (slice_index_or es j d)
+at : (P : ℕ × Fpr → Type 0) (es : Logged) (d : ℕ × Fpr) (j : ℕ) → AllByRecursion P es → j < length es →
+    P (slice_index_or es j d)
 at P [] d j all l = absurd (none j l)
   where
     none : (j : ℕ) → j < 0 → ⊥
@@ -33,7 +35,8 @@ partitioned count [] rising i j d le l up = absurd (none j l)
     none : (j : ℕ) → j < 0 → ⊥
     none j l = omega arith
 partitioned count (e ∷ es) rising zero zero d le l up = up
-partitioned count (e ∷ es) rising zero (suc j) d le l up = head_up count e.0 _ (at (λ later. e.0 ≤ later.0) es d j rising.0 (back j (length es) l)) up
+partitioned count (e ∷ es) rising zero (suc j) d le l up =
+    head_up count e.0 _ (at (λ later. e.0 ≤ later.0) es d j rising.0 (back j (length es) l)) up
   where
     back : (j n : ℕ) → suc j < suc n → j < n
     back j n l = omega arith
@@ -41,7 +44,8 @@ partitioned count (e ∷ es) rising (suc i) zero d le l up = absurd (none i le)
   where
     none : (i : ℕ) → suc i ≤ 0 → ⊥
     none i l = omega arith
-partitioned count (e ∷ es) rising (suc i) (suc j) d le l up = partitioned count es rising.1 i j d (less i j le) (back j (length es) l) up
+partitioned count (e ∷ es) rising (suc i) (suc j) d le l up = partitioned count es rising.1 i j d (less i j le)
+    (back j (length es) l) up
   where
     back : (j n : ℕ) → suc j < suc n → j < n
     back j n l = omega arith
@@ -52,7 +56,8 @@ partitioned count (e ∷ es) rising (suc i) (suc j) d le l up = partitioned coun
 -- what is logged with a stamp is listed
 listed : (s : ℕ) (fpr : Fpr) (es : Logged) → is_logged_at s fpr es ≡ true → is_listed fpr es ≡ true
 listed s fpr [] h = h
-listed s fpr (e ∷ es) h = by (nat_eq s e.0) (is_fpr fpr e.1) (is_logged_at s fpr es) (is_listed fpr es) (listed s fpr es) h
+listed s fpr (e ∷ es) h = by (nat_eq s e.0) (is_fpr fpr e.1) (is_logged_at s fpr es) (is_listed fpr es)
+    (listed s fpr es) h
   where
     by : (a b c d : Bool) → (c ≡ true → d ≡ true) → (a && b) || c ≡ true → b || d ≡ true
     by a true c d f h = refl
@@ -62,17 +67,22 @@ listed s fpr (e ∷ es) h = by (nat_eq s e.0) (is_fpr fpr e.1) (is_logged_at s f
 apart : (s n : ℕ) (count : ℕ) → count < s → nat_le n count ≡ true → nat_eq s n ≡ false
 apart s n count l h = grind (arith, nat_tests)
 
--- What is logged with a stamp above the count stands from a place on, before which no entry is above it.
-pub since : (s count : ℕ) (fpr : Fpr) (es : Logged) (i : ℕ) → ((k : ℕ) (d : ℕ × Fpr) → 0 ≤ k → k < i → is_up_to count (slice_index_or es k d) ≡ true) → count < s → is_logged_at s fpr es ≡ true → is_listed fpr (drop i es) ≡ true
+-- What is logged with a stamp above the count is from some place on, and no entry before it is above the count.
+pub since : (s count : ℕ) (fpr : Fpr) (es : Logged) (i : ℕ) →
+    ((k : ℕ) (d : ℕ × Fpr) → 0 ≤ k → k < i → is_up_to count (slice_index_or es k d) ≡ true) → count < s →
+    is_logged_at s fpr es ≡ true → is_listed fpr (drop i es) ≡ true
 since s count fpr [] i up l h = cc
 since s count fpr (e ∷ es) zero up l h = listed s fpr (e ∷ es) h
 since s count fpr (e ∷ es) (suc i) up l h =
     since s count fpr es i (λ k d a b. up (suc k) d (omega arith) (omega arith)) l
-    (ap (λ b. (b && is_fpr fpr e.1) || is_logged_at s fpr es) (sym (apart s e.0 count l (up 0 e (omega arith) (omega arith)))) ∙ h)
+    (ap (λ b. (b && is_fpr fpr e.1) || is_logged_at s fpr es)
+    (sym (apart s e.0 count l (up 0 e (omega arith) (omega arith)))) ∙ h)
 
--- What is logged above a count has each kept certificate with such a stamp, where the log goes back so far.
-pub has_changed : (k : Keyring) (log : Log) (count : ℕ) (found : Logged) → IsLogOf log k.certs k.changes → log.from ≤ count
-    → ((s : ℕ) (fpr : Fpr) → count < s → is_logged_at s fpr log.entries.items ≡ true → is_listed fpr found ≡ true) → HasChangedSince k count found
+-- The entries above a count include each certificate with such a stamp, if the log goes back far enough.
+pub has_changed : (k : Keyring) (log : Log) (count : ℕ) (found : Logged) → IsLogOf log k.certs k.changes →
+    log.from ≤ count
+    → ((s : ℕ) (fpr : Fpr) → count < s → is_logged_at s fpr log.entries.items ≡ true → is_listed fpr found ≡ true) →
+    HasChangedSince k count found
 has_changed k log count found is back above q past = by (kept_at k q) refl
   where
     none : count < 0 → ⊥

@@ -1,5 +1,6 @@
--- What the values of entries weigh in all, where one is put in.
-use Rattle.std.proofs.Common.{◌≡◌, ℕ, ◌+◌, ◌≤◌, Bool, true, false, cond, List, [], ◌∷◌, length, Option, Some, None, refl, sym, ap, ◌∙◌, arith}
+-- The total weight of the values of entries after an insertion.
+use Rattle.std.proofs.Common.{◌≡◌, ℕ, ◌+◌, ◌≤◌, Bool, true, false, cond, List, [], ◌∷◌, length, Option, Some, None}
+use Rattle.std.proofs.Common.{refl, sym, ap, ◌∙◌, arith}
 use Rattle.std.specs.declared.cmp.Ordering.{Ordering}
 use Rattle.std.specs.declared.cmp.Ordering.TheVariants.{Less, Equal, Greater}
 use Rattle.std.specs.Ordering.{is_eq, match_ordering}
@@ -30,18 +31,25 @@ module _ {K X : Type 0} (R : K → K → Ordering) (o : IsTotalOrder R) where
   abbrev pub all_weigh : (X → ℕ) → List (K × X) → ℕ
   all_weigh weight es = sum_of (λ (e : K × X). weight e.1) es
 
-  -- The new one weighs in the place of what was found.
+  -- The weight of the new one replaces that of what was found.
   pub insert_weighs : (weight : X → ℕ) (k : K) (v : X) (es : List (K × X)) → IsStrictlySortedBy R (keys_of es)
-      → all_weigh weight (insert_entry R es k v) + found_weight weight (lookup (is_at (R k)) es) ≡ all_weigh weight es + weight v
+      → all_weigh weight (insert_entry R es k v) + found_weight weight (lookup (is_at (R k)) es) ≡ all_weigh weight
+      es + weight v
   insert_weighs weight k v [] sorted = omega arith
   insert_weighs weight k v (e ∷ es) sorted =
-      elim (R k e.0) as (λ r. R k e.0 ≡ r → all_weigh weight (match_ordering r ((k, v) ∷ e ∷ es) ((e.0, v) ∷ es) (e ∷ insert_entry R es k v)) + found_weight weight (cond (is_eq r) (Some e.1) (lookup (is_at (R k)) es)) ≡ (weight e.1 + all_weigh weight es) + weight v) [
+      elim (R k e.0) as (λ r. R k e.0 ≡ r →
+      all_weigh weight (match_ordering r ((k, v) ∷ e ∷ es) ((e.0, v) ∷ es)
+      (e ∷ insert_entry R es k v)) + found_weight weight
+      (cond (is_eq r) (Some e.1) (lookup (is_at (R k)) es)) ≡ (weight e.1 + all_weigh weight es) + weight v) [
         | Less ↦ λ less.
-            let absent : lookup (is_at (R k)) (e ∷ es) ≡ None = lookup-none (is_at (R k)) (e ∷ es) (none_below_head o k e es sorted less) in
+            let absent : lookup (is_at (R k)) (e ∷ es) ≡ None =
+            lookup-none (is_at (R k)) (e ∷ es) (none_below_head o k e es sorted less) in
             let behind_head : lookup (is_at (R k)) es ≡ None = tail_absent less absent in
-            ap (λ f. (weight v + (weight e.1 + all_weigh weight es)) + found_weight weight f) behind_head ∙ in_front (weight v) (weight e.1) (all_weigh weight es)
+            ap (λ f. (weight v + (weight e.1 + all_weigh weight es)) + found_weight weight f) behind_head
+            ∙ in_front (weight v) (weight e.1) (all_weigh weight es)
         | Equal ↦ λ equal. in_place (weight v) (weight e.1) (all_weigh weight es)
-        | Greater ↦ λ greater. behind (weight v) (weight e.1) (all_weigh weight es) _ _ (insert_weighs weight k v es (sorted_tail R e.0 (keys_of es) sorted))
+        | Greater ↦ λ greater. behind (weight v) (weight e.1) (all_weigh weight es) _ _
+            (insert_weighs weight k v es (sorted_tail R e.0 (keys_of es) sorted))
       ] refl
     where
       tail_absent : R k e.0 ≡ Less → lookup (is_at (R k)) (e ∷ es) ≡ None → lookup (is_at (R k)) es ≡ None

@@ -1,4 +1,4 @@
--- The commands that make anew what is held, and their text.
+-- The commands that rebuild what is held, and their text.
 use Rattle.std.specs.Prelude.{◌≡◌, ◌≢◌, ◌≤◌, ◌+◌, ◌*◌, ℕ, if◌then◌else◌, List, [], ◌∷◌, ◌++◌, map, length}
 use Rattle.std.specs.Prelude.{Option, Some, None, Result, Ok, Err}
 use Rattle.std.specs.List.{AllByRecursion, flat_map}
@@ -40,15 +40,15 @@ setting_of e = setting e.0 e.1
 abbrev pub commands_of : Held → List Command
 commands_of held = map import_of held.certs ++ map setting_of held.verdicts
 
--- a command on its line
+-- the line of a command
 abbrev pub command_line_of : Command → List ℕ
 command_line_of c = spelling c ++ 10 ∷ []
 
 abbrev pub lines_of : List Command → List ℕ
 lines_of commands = flat_map command_line_of commands
 
--- The line of a command is one line, isn't passed over, isn't too long, is no longer than such a command's line can be,
--- and is read as this command.
+-- The line of a command is one line, isn't skipped, isn't too long, is no longer than the command's line can be, and is
+-- read as this command.
 pub record IsLine (c : Command) : Type 0 where
   pub no_feed : AllByRecursion (λ octet. octet ≢ 10) (spelling c)
   pub heard : IsHeard (spelling c)
@@ -70,12 +70,12 @@ abbrev pub unless_refused : {A : Type 0} → Result Imported Refusal → A → O
 unless_refused (Ok counts) new = Some new
 unless_refused (Err refusal) new = None
 
--- with this verdict, unless it would be one more than the limit allows
+-- with this verdict, unless the limit on verdicts would be exceeded
 abbrev pub unless_over : Limits → SigNumber → Verdict → Held → Option Held
 unless_over l number verdict held =
     if is_over l held.verdicts number then None else Some (verdict_set number verdict held)
 
--- what is held after a command that isn't refused; a command that changes nothing that is held gives nothing
+-- what is held after a command; nothing if the command is refused or changes nothing that is held
 abbrev pub after : PolicyRows → Limits → Command → Held → Option Held
 after rows l (commands.Import octets) held =
     unless_refused (answer_to rows l held.certs octets) (importing rows octets held)
@@ -83,22 +83,22 @@ after rows l (commands.Good number fpr) held = unless_over l number (Good fpr) h
 after rows l (commands.Bad number) held = unless_over l number Bad held
 after rows l _ held = None
 
--- what these commands lead to, one after the other; nothing once one gives nothing
+-- what is held after these commands, one after the other; nothing once one of them has no result
 abbrev pub after_all : {S : Type 0} → (Command → S → Option S) → List Command → Option S → Option S
 after_all after [] o = o
 after_all after (command ∷ commands) None = None
 after_all after (command ∷ commands) (Some s) = after_all after commands (after command s)
 
--- a certificate, each signature marked as the rows judge it
+-- a certificate, each signature marked by these policy rows
 abbrev pub judged_anew : PolicyRows → Fpr × Certificate → Fpr × Certificate
 judged_anew rows e = (e.0, judged rows e.1)
 
--- what is held, each signature marked as the rows judge it
+-- what is held, each signature marked by these policy rows
 abbrev pub judged_by : PolicyRows → Held → Held
 judged_by rows held = record held { certs = map (judged_anew rows) held.certs }
 
--- The commands, run in a fresh keyring with the same limits, give what this one holds, judged by the rows, and none is
--- refused.
+-- Run in a fresh keyring with the same limits, the commands restore what this one holds, marked by the rows, and none
+-- is refused.
 abbrev pub IsRestored : PolicyRows → Keyring → Type 0
 IsRestored rows k =
     after_all (after rows k.limits) (commands_of (held_of k)) (Some nothing) ≡ Some (judged_by rows (held_of k))

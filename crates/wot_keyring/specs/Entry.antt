@@ -1,4 +1,4 @@
--- The one certificate of a directory's entry.
+-- The one certificate of a directory entry.
 use Rattle.std.specs.Prelude.{◌≡◌, ℕ, if◌then◌else◌, List, [], ◌∷◌, Option, Some, None, Result, Ok, Err}
 use Rattle.wot_types.specs.declared.name.Name.{Name}
 use Rattle.wot_packet.specs.declared.packet.PacketFault.{PacketFault}
@@ -13,7 +13,7 @@ use Rattle.wot_keyring.specs.declared.refusal.Refusal.{Refusal}
 use Rattle.wot_keyring.specs.declared.refusal.Refusal.TheVariants.{Packet, Cert, Misfiled, Memory}
 use Rattle.wot_keyring.specs.Import.{is_entry}
 
--- certificates, and how many keys were skipped beside them
+-- certificates, and how many keys next to them were skipped
 abbrev pub Parts : Type 0
 Parts = List Certificate × ℕ
 
@@ -25,11 +25,11 @@ abbrev pub parts_read : Result (List Spelled) PacketFault → Result Parts Refus
 parts_read (Err fault) = Err (Packet fault)
 parts_read (Ok packets) = parts_unless (first_fault packets) packets
 
--- the parts that octets spell, or the first fault
+-- what octets spell, or their first error
 abbrev pub parts_in : List ℕ → Result Parts Refusal
 parts_in octets = parts_read (packets_of octets)
 
--- the one of these certificates, where they are what the entry of this name may have
+-- the only one of these certificates, if it is what the entry of this name may hold
 abbrev pub the_one : Name → List Certificate → ℕ → Result Certificate Refusal
 the_one name [] skipped = Err Misfiled
 the_one name (c ∷ cs) skipped = if is_entry name (c ∷ cs) skipped then Ok c else Err Misfiled
@@ -42,13 +42,13 @@ entry_among name (Ok parts) = the_one name parts.0 parts.1
 abbrev pub entry_in : Name → List ℕ → Result Certificate Refusal
 entry_in name octets = entry_among name (parts_in octets)
 
--- That is the certificate, or the refusal, unless no memory was found.
+-- The result is this certificate or this refusal, or "out of memory".
 abbrev pub TellsEntry : Result Certificate Refusal → Name → List ℕ → Type 0
 TellsEntry (Ok c) name octets = entry_in name octets ≡ Ok c
 TellsEntry (Err Memory) name octets = Unit {0}
 TellsEntry (Err refusal) name octets = entry_in name octets ≡ Err refusal
 
--- These are the parts, or the refusal, unless no memory was found.
+-- The result is what the octets spell or this refusal, or "out of memory".
 abbrev pub TellsParts : Result Assembled Refusal → List ℕ → Type 0
 TellsParts (Ok read) octets = parts_in octets ≡ Ok (read.certs, read.skipped)
 TellsParts (Err Memory) octets = Unit {0}

@@ -1,5 +1,5 @@
 -- What is held: certificates by fingerprint, and verdicts by the numbers of signatures; and what changes it.
-use Rattle.std.specs.Prelude.{Bool, true, false, if◌then◌else◌, List, [], Option}
+use Rattle.std.specs.Prelude.{Bool, true, false, if◌then◌else◌, [], Option}
 use Rattle.std.specs.Option.{option_map_or}
 use Rattle.std.specs.Map.{lookup, remove_entry}
 use Rattle.wot_types.specs.declared.fpr.Fpr.{Fpr}
@@ -23,11 +23,11 @@ nothing = record { certs = []; verdicts = [] }
 abbrev pub held_of : Keyring → Held
 held_of k = record { certs = certificates_in k; verdicts = k.verdicts }
 
--- the certificate that is held under a fingerprint
+-- the certificate of a fingerprint
 abbrev pub cert_in : Held → Fpr → Option Certificate
 cert_in held fpr = lookup (is_fpr fpr) held.certs
 
--- ---- changes; that of an import stands beside imports
+-- ---- changes; the change by an import is with imports
 
 -- without a certificate; the verdicts on its signatures stay
 abbrev pub removing : Fpr → Held → Held
@@ -42,7 +42,7 @@ is_verdict _ _ = false
 abbrev pub is_said : verdicts.Entries → SigNumber → Verdict → Bool
 is_said entries number verdict = option_map_or (is_verdict verdict) (verdicts.verdict_at entries number) false
 
--- with this verdict on a number; one that was there already changes nothing
+-- with this verdict on a number; setting the current verdict again changes nothing
 abbrev pub verdict_set : SigNumber → Verdict → Held → Held
 verdict_set number verdict held =
     if is_said held.verdicts number verdict then held

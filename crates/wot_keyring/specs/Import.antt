@@ -1,5 +1,5 @@
--- What an import of octets answers, and what it does: each certificate of them united with the kept one, all or none.
--- To load the entry of a directory is the same, where something is demanded of the certificates.
+-- What an import of octets replies and does: each certificate in them is merged with the kept one, all or none. Loading
+-- a directory entry is an import with a demand on the certificates.
 use Rattle.std.specs.Prelude.{◌≡◌, ◌≢◌, ◌<◌, ◌≤◌, ◌⊎◌, ℕ, ◌+◌, ◌-◌, Bool, true, false, not, ◌&&◌, ◌||◌, nat_eq, nat_lt}
 use Rattle.std.specs.Prelude.{if◌then◌else◌, List, [], ◌∷◌, map, length, Option, Some, None, Result, Ok, Err}
 use Rattle.std.specs.List.{list_any}
@@ -33,44 +33,44 @@ use Rattle.wot_keyring.specs.Keyring.{Keyring, Certificates, is_fpr, kept_at, ce
 use Rattle.wot_keyring.specs.Held.{Held, held_of}
 use Rattle.wot_keyring.specs.Later.{IsLater}
 
--- ---- the union
+-- ---- the merge
 
 abbrev pub united_with : Option Certificate → Certificate → Certificate
 united_with (Some kept) c = unite kept c
 united_with None c = c
 
--- the certificates with this one, judged, united with the one of its fingerprint
+-- the certificates with this one, marked by the rows and merged with the one of its fingerprint
 abbrev pub with_cert : PolicyRows → Certificates → Certificate → Certificates
 with_cert rows certs c =
     insert_entry fpr_cmp certs (fpr_of c.key) (united_with (lookup (is_fpr (fpr_of c.key)) certs) (judged rows c))
 
--- the same with each of these, from the beginning
+-- the certificates with each of these merged in, the first one first
 abbrev pub with_certs : PolicyRows → Certificates → List Certificate → Certificates
 with_certs rows certs [] = certs
 with_certs rows certs (c ∷ cs) = with_certs rows (with_cert rows certs c) cs
 
 -- ---- clashes
 
--- One fingerprint, and two keys.
+-- One fingerprint, two keys.
 abbrev pub clash : Certificate → Certificate → Bool
 clash c other = is_fpr (fpr_of c.key) (fpr_of other.key) && not (pointwise nat_eq c.key other.key)
 
--- whether one of these clashes with one of the earlier ones, or with one before it
+-- whether one of these clashes with a certificate that is there or with one before it
 abbrev pub any_clash : List Certificate → List Certificate → Bool
 any_clash earlier [] = false
 any_clash earlier (c ∷ cs) = list_any (clash c) earlier || any_clash (c ∷ earlier) cs
 
 -- ---- limits
 
--- what all the certificates weigh
+-- the sum of a measure over all certificates
 abbrev pub weigh : (Certificate → ℕ) → Certificates → ℕ
 weigh weight certs = sum_of (λ (e : Fpr × Certificate). weight e.1) certs
 
--- whether one of the certificates is greater than the limit
+-- whether one of the certificates exceeds the limit
 abbrev pub has_greater : ℕ → Certificates → Bool
 has_greater limit certs = list_any (λ (e : Fpr × Certificate). nat_lt limit (size_of e.1)) certs
 
--- the first limit that these certificates pass
+-- the first limit that these certificates exceed
 abbrev pub first_full : Limits → Certificates → Option Limit
 first_full l certs =
     if has_greater l.certificate certs then Some limits.Certificate
@@ -81,7 +81,7 @@ first_full l certs =
 
 -- ---- stamps
 
--- the stamp of a certificate, by what was kept of it: the new one where it wasn't kept or has something new
+-- the stamp of a certificate: the new one if it wasn't kept or has something new, else the one it had
 abbrev pub stamp_for : ℕ → Option Kept → Certificate → ℕ
 stamp_for stamp None c = stamp
 stamp_for stamp (Some old) c = if nat_lt (items_of old.cert) (items_of c) then stamp else old.stamp
@@ -89,11 +89,11 @@ stamp_for stamp (Some old) c = if nat_lt (items_of old.cert) (items_of c) then s
 abbrev pub stamped : Keyring → Fpr × Certificate → Fpr × Kept
 stamped old e = (e.0, record { cert = e.1; stamp = stamp_for (old.changes + 1) (kept_at old e.0) e.1 })
 
--- how many keys, components and signatures the first certificates don't have
+-- how many keys, components and signatures the first list of certificates lacks
 abbrev pub fresh_in : Certificates → Certificates → ℕ
 fresh_in old certs = weigh items_of certs - weigh items_of old
 
--- the keyring with these certificates, to which something was added or nothing
+-- the keyring with these certificates, given whether anything was added
 abbrev pub holding : Keyring → Certificates → Keyring
 holding old certs = record {
   limits = old.limits;
@@ -102,7 +102,7 @@ holding old certs = record {
   changes = if nat_lt 0 (fresh_in (certificates_in old) certs) then old.changes + 1 else old.changes;
 }
 
--- the keyring with these certificates united with the kept ones
+-- the keyring with these certificates merged in
 abbrev pub with_united : PolicyRows → Keyring → List Certificate → Keyring
 with_united rows old cs = holding old (with_certs rows (certificates_in old) cs)
 
@@ -116,11 +116,11 @@ of_packets (Err fault) = []
 abbrev pub spelled_in : List ℕ → List Certificate
 spelled_in octets = of_packets (packets_of octets)
 
--- these certificates with those that the octets spell
+-- these certificates with those that the octets spell merged in
 abbrev pub united_in : PolicyRows → Certificates → List ℕ → Certificates
 united_in rows certs octets = with_certs rows certs (spelled_in octets)
 
--- with the certificates that the octets spell, all united with the held ones
+-- what is held, with all certificates that the octets spell merged in
 abbrev pub importing : PolicyRows → List ℕ → Held → Held
 importing rows octets held = record held { certs = united_in rows held.certs octets }
 
@@ -128,13 +128,13 @@ importing rows octets held = record held { certs = united_in rows held.certs oct
 abbrev pub imported : PolicyRows → Keyring → List ℕ → Keyring
 imported rows old octets = holding old (united_in rows (certificates_in old) octets)
 
--- how often the policy is asked: once for each sound signature that is new
+-- how often the policy is asked: once for each valid signature that is new
 abbrev pub asked_in : PolicyRows → Certificates → List ℕ → ℕ
 asked_in rows certs octets = weigh sound_of (united_in rows certs octets) - weigh sound_of certs
 
 -- ---- what is demanded of the certificates that were read
 
--- whether these certificates are taken, beside which that many keys were skipped
+-- whether these certificates are accepted, given how many keys were skipped
 abbrev pub Demand : Type 0
 Demand = List Certificate → ℕ → Bool
 
@@ -142,12 +142,12 @@ Demand = List Certificate → ℕ → Bool
 abbrev pub any : Demand
 any cs skipped = true
 
--- whether a certificate may stand in a directory under this name
+-- whether a directory entry of this name may hold the certificate
 abbrev pub stands_under : Name → Certificate → Bool
 stands_under (names.Cert fpr) c = is_fpr fpr (fpr_of c.key)
 stands_under names.TrustRoot c = true
 
--- An entry of a directory is one certificate, that of its name, and beside it no key was skipped.
+-- A directory entry is one certificate, the one of its name, and no key was skipped.
 abbrev pub is_entry : Name → Demand
 is_entry name (c ∷ []) skipped = nat_eq skipped 0 && stands_under name c
 is_entry name cs skipped = false
@@ -158,15 +158,15 @@ abbrev pub unless_full : Option Limit → Imported → Result Imported Refusal
 unless_full (Some limit) counts = Err (Full limit)
 unless_full None counts = Ok counts
 
--- These certificates, of which that many keys were skipped, are united with the kept ones, unless two clash or a limit
--- is passed.
+-- These certificates are merged with the kept ones, with this many keys skipped, unless two clash or a limit is
+-- exceeded.
 abbrev pub answer_united : PolicyRows → Limits → Certificates → List Certificate → ℕ → Result Imported Refusal
 answer_united rows limits certs cs skipped =
     if any_clash (map (λ (e : Fpr × Certificate). e.1) certs) cs then Err Clash
     else unless_full (first_full limits (with_certs rows certs cs))
     (record { taken = length cs; skipped = skipped; fresh = fresh_in certs (with_certs rows certs cs) })
 
--- the same with a demand on the certificates; what doesn't meet it isn't the entry that its name says
+-- the answer with a demand on the certificates: if they don't meet it, the entry is misfiled
 abbrev pub answer_meeting : Demand → PolicyRows → Limits → Certificates → List Certificate → ℕ → Result Imported Refusal
 answer_meeting demand rows limits certs cs skipped =
     if demand cs skipped then answer_united rows limits certs cs skipped else Err Misfiled
@@ -182,7 +182,7 @@ answer_read demand rows limits certs (Ok packets) =
     unless_fault (first_fault packets)
     (answer_meeting demand rows limits certs (certificates_of packets) (skipped_in packets))
 
--- the answer to octets with a demand, where memory is found: the first refusal in this order, or the counts
+-- the answer to octets with a demand, if there is enough memory: the first refusal in this order, or the counts
 abbrev pub answer_under : Demand → PolicyRows → Limits → Certificates → List ℕ → Result Imported Refusal
 answer_under demand rows limits certs octets = answer_read demand rows limits certs (packets_of octets)
 
@@ -190,7 +190,7 @@ answer_under demand rows limits certs octets = answer_read demand rows limits ce
 abbrev pub answer_to : PolicyRows → Limits → Certificates → List ℕ → Result Imported Refusal
 answer_to rows limits certs octets = answer_under any rows limits certs octets
 
--- That is the answer, unless no memory was found.
+-- That is the answer, or "out of memory".
 abbrev pub AnswersUnder : Demand → Result Imported Refusal → PolicyRows → Keyring → List ℕ → Type 0
 AnswersUnder demand result rows old octets =
     (result ≡ answer_under demand rows old.limits (certificates_in old) octets) ⊎ (result ≡ Err Memory)
@@ -198,8 +198,8 @@ AnswersUnder demand result rows old octets =
 abbrev pub Answers : Result Imported Refusal → PolicyRows → Keyring → List ℕ → Type 0
 Answers result rows old octets = AnswersUnder any result rows old octets
 
--- How often the policy was asked, as far as the answer tells: on Ok for all that is new, on a refusal never, and where
--- no memory was found at most for all that is new.
+-- How often the policy was asked: on Ok for all that is new, on a refusal never, and if out of memory at most for all
+-- that is new.
 abbrev pub IsAsked : Result Imported Refusal → PolicyRows → Keyring → List ℕ → ℕ → Type 0
 IsAsked (Ok counts) rows old octets k = k ≡ asked_in rows (certificates_in old) octets
 IsAsked (Err Memory) rows old octets k = k ≤ asked_in rows (certificates_in old) octets
@@ -208,22 +208,21 @@ IsAsked (Err _) rows old octets k = k ≡ 0
 abbrev pub AsksFor : Result Imported Refusal → PolicyRows → Keyring → List ℕ → (ℕ → Type 0) → Type 0
 AsksFor result rows old octets IsRisenBy = (k : ℕ) × IsRisenBy k × IsAsked result rows old octets k
 
--- Another certificate, mark or verdict is held than was.
+-- Some certificate, mark or verdict that is held has changed.
 abbrev pub IsAltered : Keyring → Keyring → Type 0
 IsAltered old new = held_of new ≢ held_of old
 
--- No certificate that was kept is gone.
+-- No certificate was removed.
 abbrev pub KeepsAll : Keyring → Keyring → Type 0
 KeepsAll old new = (fpr : Fpr) → kept_at new fpr ≡ None → kept_at old fpr ≡ None
 
--- What is held was altered, and that was counted as one change. Where a certificate is gone it was taken out, and then
--- fewer are kept.
+-- What is held was altered, which counts as one change. If a certificate is gone it was removed, and fewer are kept.
 pub record IsAlteration (old new : Keyring) : Type 0 where
   pub counted : new.changes ≡ old.changes + 1
   pub altered : IsAltered old new
   pub later : IsLater old new
   pub kept : KeepsAll old new ⊎ (length new.certs < length old.certs)
 
--- Nothing was altered, no stamp and no count; or what is held was, and that was counted as one change.
+-- Either nothing was altered, not even a stamp or the count, or what is held was altered, which counts as one change.
 abbrev pub IsOneChange : Keyring → Keyring → Type 0
 IsOneChange old new = (new ≡ old) ⊎ IsAlteration old new

@@ -27,13 +27,13 @@ pub record IsRead (octets : List ℕ) (read : Assembled) : Type 0 where
   pub answer : (demand : Demand) (rows : PolicyRows) (limits : Limits) (certs : Certificates)
       → answer_under demand rows limits certs octets ≡ answer_meeting demand rows limits certs read.certs read.skipped
 
--- The octets are refused so, whatever is kept and demanded.
+-- The octets are refused with this, whatever is kept and demanded.
 abbrev pub IsRefused : Refusal → List ℕ → Type 0
 IsRefused refusal octets =
     (demand : Demand) (rows : PolicyRows) (limits : Limits) (certs : Certificates)
     → answer_under demand rows limits certs octets ≡ Err refusal
 
--- What was read, or why nothing was; "out of memory" says nothing.
+-- What was read, or why it was refused; nothing is claimed on "out of memory".
 abbrev pub TellsRead : Result Assembled Refusal → List ℕ → Type 0
 TellsRead (Ok read) octets = IsRead octets read
 TellsRead (Err Memory) octets = Unit {0}
@@ -45,25 +45,25 @@ TellsRead (Err refusal) octets = IsRefused refusal octets
 abbrev pub alone : Certificates → List Certificate
 alone certs = map (λ (e : Fpr × Certificate). e.1) certs
 
--- No two clash, and no limit is passed by whatever rows.
+-- No two clash and no limit is exceeded, whatever the policy rows.
 pub record MayUnite (limits : Limits) (certs : Certificates) (cs : List Certificate) : Type 0 where
   pub clash : any_clash (alone certs) cs ≡ false
   pub full : (rows : PolicyRows) → first_full limits (with_certs rows certs cs) ≡ None
 
--- Whether these certificates may be united with the kept ones, or why not; "out of memory" says nothing.
+-- Whether these certificates may be merged with the kept ones, or why not; nothing is claimed on "out of memory".
 abbrev pub TellsUnion : Option Refusal → Limits → Certificates → List Certificate → Type 0
 TellsUnion None limits certs cs = MayUnite limits certs cs
 TellsUnion (Some Memory) limits certs cs = Unit {0}
 TellsUnion (Some refusal) limits certs cs =
     (rows : PolicyRows) (skipped : ℕ) → answer_united rows limits certs cs skipped ≡ Err refusal
 
--- This is the first limit that the kept certificates pass with these, by whatever rows.
+-- This is the first limit that the kept certificates exceed with these merged in, whatever the policy rows.
 abbrev pub IsFirstFull : Limits → Certificates → List Certificate → Option Limit → Type 0
 IsFirstFull limits certs cs full = (rows : PolicyRows) → full ≡ first_full limits (with_certs rows certs cs)
 
 -- ---- doing
 
--- That is the answer, unless no memory was found.
+-- That is the answer, or "out of memory".
 abbrev pub AnswersUnited : Result Imported Refusal → PolicyRows → Keyring → List Certificate → ℕ → Type 0
 AnswersUnited result rows old cs skipped =
     (result ≡ answer_united rows old.limits (certificates_in old) cs skipped) ⊎ (result ≡ Err Memory)
@@ -72,13 +72,13 @@ AnswersUnited result rows old cs skipped =
 abbrev pub asked_for : PolicyRows → Keyring → List Certificate → ℕ
 asked_for rows old cs = weigh sound_of (with_certs rows (certificates_in old) cs) - weigh sound_of (certificates_in old)
 
--- How often it was asked, as far as the answer tells.
+-- How often the policy was asked, for each kind of answer.
 abbrev pub IsAskedOf : Result Imported Refusal → ℕ → ℕ → Type 0
 IsAskedOf (Ok counts) all n = n ≡ all
 IsAskedOf (Err Memory) all n = n ≤ all
 IsAskedOf (Err _) all n = n ≡ 0
 
--- The policy was asked so often.
+-- The policy was asked exactly this often.
 abbrev pub AsksUniting : {F : Type 0} → Result Imported Refusal → Policy F → Policy F → Keyring
     → List Certificate → Type 0
 AsksUniting result before after old cs =

@@ -1,4 +1,4 @@
--- What is true of every keyring, and what callers bring.
+-- What holds for every keyring, and what callers have to know.
 use Rattle.std.specs.Prelude.{◌≡◌, ◌≤◌, ◌<◌, ℕ, length}
 use Rattle.std.specs.List.{AllByRecursion}
 use Rattle.std.specs.List.Sorted.{IsStrictlySortedBy}
@@ -17,7 +17,7 @@ use Rattle.wot_keyring.specs.declared.kept.Kept.{Kept}
 use Rattle.wot_keyring.specs.Keyring.{Entries, Keyring, certificates_in}
 use Rattle.wot_keyring.specs.Import.{weigh}
 
--- No limit is above the program's own.
+-- No limit exceeds the program's own.
 pub record AreSmall (l : Limits) : Type 0 where
   pub certificate : l.certificate ≤ standard_limits.certificate
   pub certificates : l.certificates ≤ standard_limits.certificates
@@ -27,7 +27,7 @@ pub record AreSmall (l : Limits) : Type 0 where
   pub views : l.views ≤ standard_limits.views
   pub roots : l.roots ≤ standard_limits.roots
 
--- A stamp is the count of some change up to now.
+-- Each stamp is the count of a change that was made.
 abbrev pub IsStamped : ℕ → Fpr × Kept → Type 0
 IsStamped changes e = (0 < e.1.stamp) × (e.1.stamp ≤ changes)
 
@@ -44,7 +44,7 @@ AreNamed entries = AllByRecursion IsNamed entries
 abbrev pub AreWhole : Entries → Type 0
 AreWhole entries = AllByRecursion (λ (e : Fpr × Kept). IsCertificate e.1.cert) entries
 
--- The fingerprints rise, so that none stands twice.
+-- The fingerprints rise, so none occurs twice.
 abbrev pub AreSortedByFpr : Entries → Type 0
 AreSortedByFpr entries = IsStrictlySortedBy fpr_cmp (keys_of entries)
 
@@ -52,7 +52,7 @@ AreSortedByFpr entries = IsStrictlySortedBy fpr_cmp (keys_of entries)
 abbrev pub AreSized : ℕ → Entries → Type 0
 AreSized limit entries = AllByRecursion (λ (e : Fpr × Kept). size_of e.1.cert ≤ limit) entries
 
--- What is held passes no limit.
+-- What is held exceeds no limit.
 pub record IsWithin (k : Keyring) : Type 0 where
   pub certificate : AreSized k.limits.certificate k.certs
   pub certificates : length k.certs ≤ k.limits.certificates
@@ -60,7 +60,7 @@ pub record IsWithin (k : Keyring) : Type 0 where
   pub signatures : weigh signatures_of (certificates_in k) ≤ k.limits.signatures
   pub verdicts : length k.verdicts ≤ k.limits.verdicts
 
--- What is true of every keyring.
+-- What holds for every keyring.
 pub record IsKeyring (k : Keyring) : Type 0 where
   pub small : AreSmall k.limits
   pub named : AreNamed k.certs
@@ -74,14 +74,14 @@ pub record AreTotals (k : Keyring) (octets_in signatures_in : ℕ) : Type 0 wher
   pub octets : octets_in ≡ weigh size_of (certificates_in k)
   pub signatures : signatures_in ≡ weigh signatures_of (certificates_in k)
 
--- Each of the certificates is judged by these rows.
+-- Each of the certificates is marked by these policy rows.
 abbrev pub AreJudged : PolicyRows → Entries → Type 0
 AreJudged rows entries = AllByRecursion (λ (e : Fpr × Kept). IsJudged rows e.1.cert) entries
 
--- The keyring is judged by these rows.
+-- The keyring is marked by these policy rows.
 abbrev pub IsJudgedBy : PolicyRows → Keyring → Type 0
 IsJudgedBy rows k = AreJudged rows k.certs
 
--- By whatever rows the one was judged, the other is.
+-- If the one is marked by some policy rows, so is the other.
 abbrev pub StaysJudged : Keyring → Keyring → Type 0
 StaysJudged old new = (rows : PolicyRows) → IsJudgedBy rows old → IsJudgedBy rows new

@@ -14,7 +14,7 @@ use Rattle.wot_keyring.specs.declared.refusal.ExportFault.{ExportFault}
 use Rattle.wot_keyring.specs.declared.refusal.ExportFault.TheVariants.{Absent, Memory}
 use Rattle.wot_keyring.specs.declared.kept.Kept.{Kept}
 
--- The kept certificates with their stamps, in the order of the fingerprints.
+-- The certificates with their stamps, in the order of their fingerprints.
 abbrev pub Entries : Type 0
 Entries = List (Fpr × Kept)
 
@@ -45,7 +45,7 @@ kept_at k fpr = lookup (is_fpr fpr) k.certs
 abbrev pub cert_at : Keyring → Fpr → Option Certificate
 cert_at k fpr = option_map (λ (x : Kept). x.cert) (kept_at k fpr)
 
--- the count of changes that altered it last; 0 where none is kept
+-- the count of changes at which it was last altered; 0 if it isn't kept
 abbrev pub stamp_at : Keyring → Fpr → ℕ
 stamp_at k fpr = option_map_or (λ (x : Kept). x.stamp) (kept_at k fpr) 0
 
@@ -65,7 +65,7 @@ stripped entries = map (λ (e : Fpr × Kept). (e.0, e.1.cert)) entries
 abbrev pub certificates_in : Keyring → Certificates
 certificates_in k = stripped k.certs
 
--- `Absent` is told exactly where nothing is kept; the only other fault is "out of memory".
+-- `Absent` is returned if and only if nothing is kept; the only other error is "out of memory".
 abbrev pub TellsAbsent : {T : Type 0} → Result T ExportFault → Option Certificate → Type 0
 TellsAbsent (Ok done) (Some c) = Unit {0}
 TellsAbsent (Ok done) None = ⊥

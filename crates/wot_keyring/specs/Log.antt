@@ -1,5 +1,5 @@
--- A log of changes: the fingerprints of altered certificates, with the stamps that they were given, so that what
--- changed since a count is found without a walk over what is kept.
+-- A log of changes: the fingerprints of altered certificates with the stamps that they were given, so that finding what
+-- changed since a count needs no walk over the keyring.
 use Rattle.std.specs.Prelude.{◌≡◌, ◌≤◌, ◌<◌, ◌⊎◌, ℕ, Bool, true, ◌&&◌, nat_eq, List, [], ◌∷◌, Some}
 use Rattle.std.specs.List.{AllByRecursion, list_any}
 use Rattle.std.specs.Map.{lookup}
@@ -30,12 +30,12 @@ abbrev pub AreRising : Logged → Type 0
 AreRising [] = Unit {0}
 AreRising (e ∷ es) = AllByRecursion (λ (later : ℕ × Fpr). e.0 ≤ later.0) es × AreRising es
 
--- They rise up to this one at most.
+-- The stamps rise, up to this one at most.
 pub record IsRisingTo (stamp : ℕ) (log : Log) : Type 0 where
   pub rising : AreRising log.entries.items
   pub past : AllByRecursion (λ (e : ℕ × Fpr). e.0 ≤ stamp) log.entries.items
 
--- Each kept certificate is logged with its stamp, where that is above the one from which on the log was led.
+-- Each certificate is logged with its stamp, if that is above the one at which the log starts.
 pub record IsLogOf (log : Log) (es : Entries) (changes : ℕ) : Type 0 where
   pub from : log.from ≤ changes
   pub rising : IsRisingTo changes log
@@ -43,8 +43,8 @@ pub record IsLogOf (log : Log) (es : Entries) (changes : ℕ) : Type 0 where
       (fpr : Fpr) (x : Kept) → lookup (is_fpr fpr) es ≡ Some x → log.from < x.stamp
       → is_logged_at x.stamp fpr log.entries.items ≡ true
 
--- These fingerprints were logged with a stamp, and what was logged still is; nothing is said of stamps up to the new
--- `from`.
+-- These fingerprints were logged with a stamp, and earlier entries are still there. Nothing is claimed for stamps up to
+-- the new `from`.
 pub record LogsAt (stamp : ℕ) (these : Fpr → Bool) (old new : Log) : Type 0 where
   pub from : old.from ≤ new.from
   pub past : new.from ≤ stamp
@@ -58,7 +58,7 @@ pub record LogsAt (stamp : ℕ) (these : Fpr → Bool) (old new : Log) : Type 0 
 abbrev pub is_named_in : List Certificate → Fpr → Bool
 is_named_in cs fpr = list_any (λ (c : Certificate). is_fpr (fpr_of c.key) fpr) cs
 
--- What has another stamp than before has this one, and is one of these.
+-- Each certificate whose stamp changed has this stamp, and is one of these.
 abbrev pub RestampsThese : ℕ → (Fpr → Bool) → Entries → Entries → Type 0
 RestampsThese stamp these old new =
     (fpr : Fpr) (x : Kept) → lookup (is_fpr fpr) new ≡ Some x

@@ -7,7 +7,7 @@ use Rattle.wot_keyring.specs.Keyring.{Keyring}
 use Rattle.wot_keyring.specs.Kept.{AreTotals, IsKeyring}
 use Rattle.wot_keyring.specs.Log.{IsLogOf}
 
--- The sums are those of what is held, and so are the index and the log.
+-- The totals, the index and the log are those of what is held.
 abbrev pub HoldTogether : Keyring → ℕ → ℕ → Index → Log → Type 0
 HoldTogether k octets signatures index log =
     IsKeyring k × AreTotals k octets signatures × IsIndexOf index k.certs × IsLogOf log k.certs k.changes

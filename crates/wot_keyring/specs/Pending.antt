@@ -1,4 +1,4 @@
--- The signatures that wait for a verdict.
+-- The valid signatures that have no verdict.
 use Rattle.std.specs.Prelude.{◌&&◌, Bool, List, map, is_none}
 use Rattle.std.specs.List.{filter, flat_map}
 use Rattle.std.specs.Option.{option_and_then}
@@ -11,11 +11,11 @@ use Rattle.wot_cert.specs.Judged.{is_sound}
 use Rattle.wot_keyring.specs.declared.pending.Pending.{Pending}
 use Rattle.wot_keyring.specs.Held.{Held}
 
--- whether a signature is sound and has no verdict
+-- whether a signature is valid and has no verdict
 abbrev pub is_pending : verdicts.Entries → Signature → Bool
 is_pending said s = is_sound s && is_none (verdicts.verdict_at said s.number)
 
--- what a verifier is told of a signature on the certificate of this fingerprint
+-- what a verifier gets to know of a signature on the certificate of this fingerprint
 abbrev pub told_of : Fpr → Signature → Pending
 told_of fpr s = record {
   number = s.number;
@@ -24,14 +24,14 @@ told_of fpr s = record {
   hint = hint_of s.body;
 }
 
--- what is told of those among these that are pending
+-- the entries of those signatures that have no verdict
 abbrev pub pending_among : verdicts.Entries → Fpr → List Signature → List Pending
 pending_among said fpr sigs = map (told_of fpr) (filter (is_pending said) sigs)
 
--- the same of all signatures of a certificate, in the order of its text
+-- the entries of a certificate's signatures, in the order of its text
 abbrev pub pending_on : verdicts.Entries → Fpr × Certificate → List Pending
 pending_on said e = pending_among said e.0 (all_sigs e.1)
 
--- the same of all that is held, by the fingerprints of the certificates
+-- the entries of all certificates, in the order of their fingerprints
 abbrev pub pending_in : Held → List Pending
 pending_in held = flat_map (pending_on held.verdicts) held.certs

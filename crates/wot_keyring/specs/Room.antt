@@ -9,12 +9,12 @@ use Rattle.wot_keyring.specs.declared.tally.Weight.{Weight}
 use Rattle.wot_keyring.specs.Keyring.{Entries}
 use Rattle.wot_keyring.specs.Staging.{found_for}
 
--- What is kept under a certificate's fingerprint is of its key, and both are no longer than the limit.
+-- What is kept under a certificate's fingerprint has its key, and both together stay within the limit on size.
 abbrev pub FitsBeside : Option Kept → Certificate → ℕ → Type 0
 FitsBeside None c limit = size_of c ≤ limit
 FitsBeside (Some kept) c limit = (kept.cert.key ≡ c.key) × (size_of kept.cert + size_of c ≤ limit)
 
--- The totals pass no limit with it.
+-- The totals exceed no limit with it.
 pub record BringsFew (total : Weight) (c : Certificate) (l : Limits) : Type 0 where
   pub octets : total.octets + size_of c ≤ l.octets
   pub signatures : total.signatures + signatures_of c ≤ l.signatures

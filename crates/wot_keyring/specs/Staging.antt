@@ -1,4 +1,4 @@
--- How an import puts certificates among the kept ones, one after the other, and how that is taken back.
+-- How an import merges certificates one after the other, and how that is undone.
 use Rattle.std.specs.Prelude.{◌≡◌, ◌≤◌, ◌⊎◌, ℕ, ◌+◌, Bool, true, false, not, ◌||◌, nat_eq, nat_lt, if◌then◌else◌}
 use Rattle.std.specs.Prelude.{List, [], ◌∷◌, Option, Some, None, is_some, Result, Ok, Err, MatchResult}
 use Rattle.std.specs.Option.{option_map}
@@ -43,7 +43,7 @@ use Rattle.wot_keyring.specs.Import.{united_with, stamp_for}
 abbrev pub found_for : Entries → Certificate → Option Kept
 found_for es c = lookup (is_fpr (fpr_of c.key)) es
 
--- the certificate that is united with it: the kept one, or the key alone
+-- the certificate that it is merged with: the kept one, or the bare key
 abbrev pub begun : Option Kept → Certificate → Certificate
 begun None c = bare c.key
 begun (Some kept) c = kept.cert
@@ -54,11 +54,11 @@ joined rows found c = united_with (option_map (λ (x : Kept). x.cert) found) (ju
 abbrev pub kept_as : PolicyRows → ℕ → Option Kept → Certificate → Kept
 kept_as rows stamp found c = record { cert = joined rows found c; stamp = stamp_for stamp found (joined rows found c) }
 
--- the entries with this certificate, judged, united with the one of its fingerprint
+-- the entries with this certificate, marked by the rows and merged with the one of its fingerprint
 abbrev pub kept_with : PolicyRows → ℕ → Entries → Certificate → Entries
 kept_with rows stamp es c = insert_entry fpr_cmp es (fpr_of c.key) (kept_as rows stamp (found_for es c) c)
 
--- the same with each of these, from the beginning
+-- the entries with each of these merged in, the first one first
 abbrev pub kept_all : PolicyRows → ℕ → Entries → List Certificate → Entries
 kept_all rows stamp es [] = es
 kept_all rows stamp es (c ∷ cs) = kept_all rows stamp (kept_with rows stamp es c) cs
@@ -69,12 +69,12 @@ abbrev pub clash_at : Option Kept → Certificate → Bool
 clash_at None c = false
 clash_at (Some kept) c = not (pointwise nat_eq c.key kept.cert.key)
 
--- whether one of these clashes with what is kept under its fingerprint when its turn comes
+-- whether one of these clashes with what is kept under its fingerprint at that point
 abbrev pub clash_in : PolicyRows → ℕ → Entries → List Certificate → Bool
 clash_in rows stamp es [] = false
 clash_in rows stamp es (c ∷ cs) = clash_at (found_for es c) c || clash_in rows stamp (kept_with rows stamp es c) cs
 
--- A clash is told exactly where there is one; "out of memory" may come in either case.
+-- A clash is reported if and only if there is one; "out of memory" may come in either case.
 abbrev pub IsClashTold : Fault → Bool → Type 0
 IsClashTold Clash clashes = clashes ≡ true
 IsClashTold Memory clashes = Unit {0}
@@ -85,7 +85,7 @@ TellsClash (Err fault) clashes = IsClashTold fault clashes
 
 -- ---- weights
 
--- one where a certificate is longer than the limit
+-- 1 if a certificate exceeds the limit, else 0
 abbrev pub long_of : ℕ → Certificate → ℕ
 long_of limit c = if nat_lt limit (size_of c) then 1 else 0
 
@@ -94,12 +94,12 @@ pub record Weighs (limit : ℕ) (w : Weight) (c : Certificate) : Type 0 where
   pub signatures : w.signatures ≡ signatures_of c
   pub long : w.long ≡ long_of limit c
 
--- what a certificate weighs that is kept, and nothing where none is
+-- the weight of a kept certificate; 0 if there is none
 abbrev pub WeighsFound : ℕ → Weight → Option Kept → Type 0
 WeighsFound limit w None = (w.octets ≡ 0) × (w.signatures ≡ 0) × (w.long ≡ 0)
 WeighsFound limit w (Some kept) = Weighs limit w kept.cert
 
--- what the kept certificates weigh
+-- the weight of all certificates
 abbrev pub weigh_kept : (Certificate → ℕ) → Entries → ℕ
 weigh_kept measure es = sum_of (λ (e : Fpr × Kept). measure e.1.cert) es
 
@@ -109,7 +109,7 @@ pub record IsTally (limit : ℕ) (es : Entries) (total : Weight) : Type 0 where
   pub signatures : total.signatures ≡ weigh_kept signatures_of es
   pub long : total.long ≡ weigh_kept (long_of limit) es
 
--- the first limit that so many certificates with these totals pass
+-- the first limit that this number of certificates with these totals exceeds
 abbrev pub full_by : Limits → Weight → ℕ → Option Limit
 full_by l total count =
     if nat_lt 0 total.long then Some limits.Certificate
@@ -118,13 +118,13 @@ full_by l total count =
     else if nat_lt l.signatures total.signatures then Some limits.Signatures
     else None
 
--- One weight can be put in the place of another.
+-- One weight can replace another.
 pub record CanMove (before after total : Weight) : Type 0 where
   pub octets : before.octets ≤ total.octets + after.octets
   pub signatures : before.signatures ≤ total.signatures + after.signatures
   pub long : before.long ≤ total.long + after.long
 
--- One weight is put in the place of another.
+-- One weight replaces another.
 pub record Moves (before after : Weight) (old new : Weight) : Type 0 where
   pub octets : new.octets + before.octets ≡ old.octets + after.octets
   pub signatures : new.signatures + before.signatures ≡ old.signatures + after.signatures
@@ -132,12 +132,12 @@ pub record Moves (before after : Weight) (old new : Weight) : Type 0 where
 
 -- ---- what is new of a certificate
 
--- what of it was kept, by a measure
+-- how much of it was kept, by a measure
 abbrev pub found_by : (Certificate → ℕ) → Option Kept → ℕ
 found_by measure None = 0
 found_by measure (Some kept) = measure kept.cert
 
--- How often the policy was asked: never, or at most once for each signature that is sound and new.
+-- How often the policy was asked: never, or at most once for each valid signature that is new.
 abbrev pub AskedOnFault : Fault → ℕ → ℕ → ℕ → Type 0
 AskedOnFault fault old new k = (k ≡ 0) ⊎ (old + k ≤ new)
 
@@ -145,7 +145,7 @@ abbrev pub AskedFor : {T : Type 0} → Result T Fault → ℕ → ℕ → ℕ �
 AskedFor (Ok done) old new k = old + k ≡ new
 AskedFor (Err fault) old new k = AskedOnFault fault old new k
 
--- the same of several certificates, as far as the answer tells
+-- how often it was asked for several certificates, for each kind of answer
 abbrev pub AskedUpTo : Fault → ℕ → ℕ → ℕ → Type 0
 AskedUpTo Clash old new k = Unit {0}
 AskedUpTo Memory old new k = old + k ≤ new
@@ -154,21 +154,21 @@ abbrev pub AskedInAll : {T : Type 0} → Result T Fault → ℕ → ℕ → ℕ 
 AskedInAll (Ok done) old new k = old + k ≡ new
 AskedInAll (Err fault) old new k = AskedUpTo fault old new k
 
--- how many sound signatures are kept
+-- how many valid signatures are kept
 abbrev pub sound_in : Entries → ℕ
 sound_in es = weigh_kept sound_of es
 
--- how many sound signatures are kept of this certificate
+-- how many valid signatures of this certificate are kept
 abbrev pub sound_found : Entries → Certificate → ℕ
 sound_found es c = found_by sound_of (found_for es c)
 
--- The policy was asked for what is new of a certificate that what was found is united with; where no memory was found,
--- for some of it.
+-- The policy was asked for what is new in a certificate that is merged with the one found; if out of memory, for some
+-- of it.
 abbrev pub AsksToJoin : {F T : Type 0} → Result T Fault → Policy F → Policy F → Option Kept → Certificate → Type 0
 AsksToJoin result before after found c =
     AsksUpTo result before after (found_by sound_of found) (sound_of (joined (rows_of before) found c))
 
--- The policy was asked for what is new of a certificate that is put among the kept ones, and of several.
+-- The policy was asked for what is new in a certificate that is merged, and in several.
 abbrev pub AsksForOne : {F T : Type 0} → Result T Fault → Policy F → Policy F → ℕ → Entries → Certificate → Type 0
 AsksForOne result before after stamp es c =
     Asks before after (AskedFor result (sound_in es) (sound_in (kept_with (rows_of before) stamp es c)))
@@ -178,7 +178,7 @@ AsksForAll result before after stamp es cs =
     (k : ℕ) × (after ≡ asked_more k before)
     × AskedInAll result (sound_in es) (sound_in (kept_all (rows_of before) stamp es cs)) k
 
--- The policy was asked for what a certificate has that the first one hadn't; where there is none, it was asked nothing.
+-- The policy was asked for what a certificate has and the first one lacks; if that is nothing, it wasn't asked.
 abbrev pub AsksToBecome : {F T : Type 0} → Result T Fault → Policy F → Policy F → ℕ → (T → Certificate) → Type 0
 AsksToBecome result before after sound became =
     Asks before after (λ k. MatchResult result (λ done. k + sound ≡ sound_of (became done)) (λ _. k ≡ 0))
@@ -191,17 +191,17 @@ Counts es es' t t' = t'.fresh + weigh_kept items_of es ≡ t.fresh + weigh_kept 
 abbrev pub IsThere : Entries → Fpr → Type 0
 IsThere es fpr = is_some (lookup (is_fpr fpr) es) ≡ true
 
--- It is judged by these rows where it is kept.
+-- It is marked by these policy rows if it is kept.
 abbrev pub IsFoundJudged : PolicyRows → Option Kept → Type 0
 IsFoundJudged rows None = Unit {0}
 IsFoundJudged rows (Some kept) = IsJudged rows kept.cert
 
--- the stamp of a certificate to which so many items are added, by its stamp where it is kept
+-- the stamp of a certificate to which this many items are added, from its earlier stamp if it was kept
 abbrev pub stamp_over : ℕ → Option ℕ → ℕ → ℕ
 stamp_over stamp None items = stamp
 stamp_over stamp (Some old) items = if nat_eq items 0 then old else stamp
 
--- What becomes of the kept certificates by one that is united with what was found.
+-- The result of merging one certificate with what was found.
 pub record IsStaged (rows : PolicyRows) (stamp limit : ℕ) (found : Option Kept) (c : Certificate) (s : Staged)
     : Type 0 where
   pub kept : s.kept ≡ kept_as rows stamp found c
@@ -210,13 +210,13 @@ pub record IsStaged (rows : PolicyRows) (stamp limit : ℕ) (found : Option Kept
   pub items : s.items + s.keys + found_by items_of found ≡ items_of s.kept.cert
   pub judged : IsFoundJudged rows found → IsJudged rows s.kept.cert
 
--- What becomes of these entries by one.
+-- The result of merging one certificate with these entries.
 abbrev pub IsStepOf : PolicyRows → ℕ → ℕ → Entries → Certificate → Staged → Type 0
 IsStepOf rows stamp limit es c s = IsStaged rows stamp limit (found_for es c) c s
 
--- ---- taking back
+-- ---- undoing
 
--- what is kept, without what its certificate grew by
+-- what is kept, without this growth of its certificate
 abbrev pub smaller : Growth → ℕ → Kept → Kept
 smaller growth stamp x = record { cert = shrunk growth x.cert; stamp = stamp }
 
@@ -224,11 +224,11 @@ abbrev pub shrunk_found : Option Kept → Entries → Fpr → Growth → ℕ →
 shrunk_found None es fpr growth stamp = es
 shrunk_found (Some x) es fpr growth stamp = set_value (is_fpr fpr) es (smaller growth stamp x)
 
--- the entries with a certificate without what it grew by
+-- the entries, one certificate of them without its growth
 abbrev pub shrunk_at : Entries → Fpr → Growth → ℕ → Entries
 shrunk_at es fpr growth stamp = shrunk_found (lookup (is_fpr fpr) es) es fpr growth stamp
 
--- What was found can be made smaller so.
+-- What was found can be reduced by this growth.
 abbrev pub MayShrink : Growth → Option Kept → Type 0
 MayShrink growth None = Unit {0}
 MayShrink growth (Some x) = (old : Certificate) × CertLeadsBack growth old x.cert
@@ -243,24 +243,24 @@ abbrev pub MayLead : Before → Option Kept → Type 0
 MayLead (Was o) found = Unit {0}
 MayLead (Smaller growth stamp) found = MayShrink growth found
 
--- What this says was there leads back to the first entries, and takes no memory.
+-- Restoring what this entry of the log says leads back to the first entries, and doesn't allocate.
 pub record LeadsBack (first : Entries) (w : TheWas) (es : Entries) : Type 0 where
   pub entries : back es w.fpr w.before ≡ first
   pub present : is_some (lookup (is_fpr w.fpr) es) ≡ true
   pub may : MayLead w.before (lookup (is_fpr w.fpr) es)
 
--- The log leads back to the first entries, from its end on.
+-- Undoing the log, the last step first, leads back to the first entries.
 abbrev pub IsLog : Entries → List TheWas → Entries → Type 0
 IsLog first [] es = es ≡ first
 IsLog first (w ∷ ws) es = (mid : Entries) × LeadsBack first w mid × IsLog mid ws es
 
--- what the one log leads back to, the other does
+-- both logs lead back to the same entries
 abbrev pub StillLeadsBack : List TheWas → Entries → List TheWas → Entries → Type 0
 StillLeadsBack log es log' es' = (first : Entries) → IsLog first log es → IsLog first log' es'
 
 -- ---- growing in place
 
--- What a kept certificate became by another that it was united with.
+-- The result of merging another certificate into a kept one.
 pub record GrowsTo (rows : PolicyRows) (stamp limit : ℕ) (c : Certificate) (old new : Kept) (leap : Leap) : Type 0 where
   pub staged : IsStaged rows stamp limit (Some old) c (record {
     kept = new;
@@ -272,7 +272,7 @@ pub record GrowsTo (rows : PolicyRows) (stamp limit : ℕ) (c : Certificate) (ol
   pub back : CertLeadsBack leap.growth old.cert new.cert
   pub was : leap.stamp ≡ old.stamp
 
--- The same among the kept ones.
+-- The result of merging it into one of the kept certificates.
 pub record IsGrownAt (rows : PolicyRows) (stamp limit : ℕ) (c : Certificate) (es es' : Entries) (s : Grown)
     : Type 0 where
   pub kept : Kept
@@ -285,6 +285,6 @@ pub record IsGrownAt (rows : PolicyRows) (stamp limit : ℕ) (c : Certificate) (
     keys = 0;
   })
 
--- The same by these terms.
+-- The result of merging it under these terms.
 abbrev pub IsGrownOn : PolicyRows → Terms → Certificate → Entries → Entries → Grown → Type 0
 IsGrownOn rows terms c es es' s = IsGrownAt rows terms.stamp terms.limit c es es' s

@@ -1,3 +1,5 @@
+//! The iterator of `Keyring::certs`: all certificates, in the order of their fingerprints. It wraps the map's own
+//! iterator. The dump walks over it here; wot_network and the replies to `list` and `keys` do above.
 ghost use Rattle.std.specs.Iterator.{YieldsFirstRef, item_count};
 
 use crate::kept::Kept;
@@ -6,7 +8,7 @@ use std::marker::Model;
 use wot_cert::Cert;
 use wot_types::Fpr;
 
-/// The kept certificates that are still to come, in the order of their fingerprints.
+/// The certificates that are still to come, in the order of their fingerprints.
 #[derive(Drop)]
 pub struct CertsIter<'a> {
     pub(crate) entries: Iter<'a, Fpr, Kept>,

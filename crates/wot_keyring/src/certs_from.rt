@@ -1,3 +1,5 @@
+//! The iterator of `Keyring::certs_from`: the certificates from a fingerprint on. It starts from a range of the map, so
+//! that a listing in pieces costs its piece and not the keyring. Replies that are paced by cursors depend on it.
 ghost use Rattle.std.specs.Prelude.{◌≡◌, map};
 ghost use Rattle.std.specs.Iterator.{YieldsFirstRef, item_count};
 ghost use Rattle.wot_types.specs.declared.fpr.Fpr.{Fpr as TheFpr};
@@ -12,7 +14,7 @@ use std::marker::Model;
 use wot_cert::Cert;
 use wot_types::Fpr;
 
-/// The kept certificates from a fingerprint on that are still to come, in the order of their fingerprints.
+/// The certificates from a fingerprint on that are still to come, in the order of their fingerprints.
 #[derive(Drop)]
 pub struct CertsFrom<'a> {
     entries: Range<'a, Fpr, Kept>,
@@ -44,7 +46,7 @@ impl<'a> Iterator for CertsFrom<'a> {
     }
 }
 
-/// Those of a map, without a walk over the ones before.
+/// The certificates of a map from a fingerprint on. Doesn't walk over those before it.
 pub(crate) fn certs_from(certs: &BTreeMap<Fpr, Kept, Global>, from: Option<Fpr>) -> CertsFrom<'_>
     ensures certs { result ≡ map (λ (e : TheFpr × TheKept). e.1.cert) (entries_from from certs.now.entries) }
 {

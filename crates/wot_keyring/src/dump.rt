@@ -1,11 +1,14 @@
-ghost use Rattle.std.specs.Prelude.{◌≡◌, ◌≤◌, ◌++◌, length, map, OnOk, OnErr};
+//! The dump: the commands that rebuild a keyring, an import for each certificate and a line for each verdict. Each is
+//! written as a line that wot_script reads as that command. `replayed` is the law that these commands restore the
+//! keyring; wot_cache adds the lines of the views. A change of what is held has to be added here.
+ghost use Rattle.std.specs.Prelude.{◌≡◌, ◌≤◌, ◌++◌, map, OnOk, OnErr};
 ghost use Rattle.std.specs.List.{AllByRecursion};
 ghost use Rattle.wot_types.specs.Limits.{standard_limits};
 ghost use Rattle.wot_policy.specs.declared.rows.PolicyRows.{PolicyRows as Rows};
 ghost use Rattle.wot_script.specs.Spelling.{HasSpelling, most_octets};
 ghost use Rattle.wot_verdict.specs.Verdicts.{AreSortedByNumber};
 ghost use Rattle.wot_cert.specs.Certificate.{Certificate};
-ghost use Rattle.wot_cert.specs.Text.{size_of, text_of};
+ghost use Rattle.wot_cert.specs.Text.{size_of};
 ghost use Rattle.wot_keyring.specs.Dump.{AreLines, IsLine, IsRestored, command_line_of, lines_of, setting, setting_of};
 ghost use Rattle.wot_keyring.specs.Dump.{text_import};
 ghost use Rattle.wot_keyring.specs.Keyring.{Keyring as Seen};
@@ -19,7 +22,7 @@ use wot_script::{Command, Octets, print_command};
 use wot_types::{Memory, SigNumber};
 use wot_verdict::{Verdict, Verdicts};
 
-/// A law: the commands of a dump, run in a fresh keyring, give what was dumped.
+/// A law: the commands of a dump restore what was dumped when a fresh keyring runs them.
 pub fn replayed()
     ensures { (rows : Rows) (k : Seen) → IsKeyring k → AreSortedByNumber k.verdicts → IsRestored rows k }
 {
@@ -28,7 +31,7 @@ pub fn replayed()
     judging();
 }
 
-/// Appends the line of a command, with its line feed. Like each call of this file it leaves `out` as before after
+/// Appends the line of a command, with its line feed. Like all functions in this file it leaves `out` unchanged on
 /// `Memory`.
 pub fn put_line(command: &Command, out: &mut Vec<u8>) -> Result<(), Memory>
     requires spelled { HasSpelling command.now }
@@ -48,7 +51,7 @@ pub fn put_line(command: &Command, out: &mut Vec<u8>) -> Result<(), Memory>
     }
 }
 
-/// Appends the import of a certificate.
+/// Appends the command that imports a certificate.
 fn put_cert(alloc: Global, cert: &Cert, out: &mut Vec<u8>) -> Result<(), Memory>
     requires { size_of cert.now ≤ standard_limits.certificate }
     ensures appended { OnOk result (out.new.items ≡ out.old.items ++ command_line_of (text_import cert.now)) }
@@ -60,7 +63,7 @@ fn put_cert(alloc: Global, cert: &Cert, out: &mut Vec<u8>) -> Result<(), Memory>
     put_line(&Command::Import(Octets::from_vec(text)), out)
 }
 
-/// Appends the import of each certificate.
+/// Appends a command for each certificate that imports it.
 pub fn put_certs(alloc: Global, certs: CertsIter<'_>, out: &mut Vec<u8>) -> Result<(), Memory>
     requires { AllByRecursion (λ (c : Certificate). size_of c ≤ standard_limits.certificate) certs }
     ensures appended { OnOk result (out.new.items ≡ out.old.items ++ lines_of (map text_import certs.entry)) }
@@ -89,7 +92,7 @@ fn put_verdict(number: SigNumber, verdict: Verdict, out: &mut Vec<u8>) -> Result
     }
 }
 
-/// Appends the command that sets it for each verdict.
+/// Appends a command for each verdict that sets it.
 pub fn put_verdicts(verdicts: &Verdicts, out: &mut Vec<u8>) -> Result<(), Memory>
     ensures appended { OnOk result (out.new.items ≡ out.old.items ++ lines_of (map setting_of verdicts.now)) }
     ensures lines { OnOk result (AreLines (map setting_of verdicts.now)) }

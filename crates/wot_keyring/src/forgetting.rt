@@ -1,4 +1,5 @@
-//! Taking out of the index where the signatures of a certificate stood. Nothing here takes memory.
+//! Removes the signatures of a certificate from the index, before the certificate itself is removed. It stands on
+//! `index`, and visits the places that `noting` visits: change both together. Nothing here allocates.
 ghost use Rattle.wot_keyring.specs.Index.{Forgets};
 ghost use Rattle.wot_keyring.specs.Verdict.{is_among, is_on, has_number};
 
@@ -28,7 +29,7 @@ fn forget_parts(holders: &mut BTreeMap<SigNumber, Fpr, Global>, parts: &[Part])
     }
 }
 
-/// Takes out what is noted for the signatures of a certificate.
+/// Removes the signatures of a certificate from the index.
 pub(crate) fn forget_cert(holders: &mut BTreeMap<SigNumber, Fpr, Global>, cert: &Cert)
     ensures forgotten { Forgets holders.old.entries holders.new.entries (λ n. has_number n cert.now) }
 {

@@ -1,5 +1,7 @@
-//! The certificates of one list, those of one key united first: halves first, so that each is walked a logarithm of
-//! times.
+//! Merges the certificates of one import that have the same key, before they reach the keyring. A kept certificate is
+//! then merged once, however often its key occurs in the input. The list is split in halves, so that each certificate
+//! is visited a logarithmic number of times. `Keyring::take` stands on this, and on the law that the order doesn't
+//! matter.
 ghost use Rattle.std.specs.Prelude.{◌≡◌, ◌++◌, ◌∷◌, [], None, IfOk, IfNone, OnOk};
 ghost use Rattle.std.specs.BTreeMap.{insert_entry};
 ghost use Rattle.std.specs.List.{AllByRecursion};
@@ -17,7 +19,7 @@ use wot_cert::laws::{judging, united_in_any_order, united_whole};
 use wot_cert::{Cert, MergeFault};
 use wot_types::{Fpr, Memory};
 
-/// Takes out what was gathered under a fingerprint.
+/// Removes what was gathered under a fingerprint.
 fn taken_out(certs: &mut BTreeMap<Fpr, Cert, Global>, fpr: &Fpr) -> Option<Cert>
     ensures was { result ≡ lookup (is_fpr fpr.now) certs.old.entries }
     ensures out { certs.new.entries ≡ remove_entry (is_fpr fpr.now) certs.old.entries }
@@ -27,7 +29,7 @@ fn taken_out(certs: &mut BTreeMap<Fpr, Cert, Global>, fpr: &Fpr) -> Option<Cert>
     certs.remove(fpr)
 }
 
-/// Puts a certificate under its fingerprint.
+/// Adds a certificate under its fingerprint.
 fn put(certs: &mut BTreeMap<Fpr, Cert, Global>, cert: Cert) -> Result<(), Memory>
     ensures put { OnOk result (certs.new.entries ≡ insert_entry fpr_cmp certs.old.entries (fpr_of cert.key) cert) }
     ensures whole { IsCertificate cert }
@@ -39,7 +41,7 @@ fn put(certs: &mut BTreeMap<Fpr, Cert, Global>, cert: Cert) -> Result<(), Memory
     }
 }
 
-/// Unites a certificate with the gathered one of its key, or puts it beside the gathered ones.
+/// Merges a certificate with the gathered one of its key, or adds it if there is none.
 fn add(alloc: Global, certs: &mut BTreeMap<Fpr, Cert, Global>, cert: Cert) -> Result<(), Fault>
     requires own { AreOwn certs.old.entries }
     ensures own { OnOk result (AreOwn certs.new.entries) }
@@ -66,7 +68,7 @@ fn add(alloc: Global, certs: &mut BTreeMap<Fpr, Cert, Global>, cert: Cert) -> Re
     }
 }
 
-/// Unites each of these with the gathered ones.
+/// Merges each of these certificates with the gathered ones.
 fn pour(
     alloc: Global,
     certs: &mut BTreeMap<Fpr, Cert, Global>,
@@ -87,7 +89,7 @@ fn pour(
     Ok(())
 }
 
-/// The one certificate, under its fingerprint.
+/// A map of one certificate, under its fingerprint.
 fn alone(alloc: Global, cert: &Cert) -> Result<BTreeMap<Fpr, Cert, Global>, Fault>
     ensures entry { IfOk result (λ certs. certs.entries ≡ (fpr_of cert.now.key, cert.now) ∷ []) }
     ensures whole { IsCertificate cert.now }
@@ -104,7 +106,7 @@ fn alone(alloc: Global, cert: &Cert) -> Result<BTreeMap<Fpr, Cert, Global>, Faul
     }
 }
 
-/// The certificates of a list by fingerprint, those of one key united.
+/// The certificates of a list by fingerprint, merged by key.
 fn gather(alloc: Global, list: &[Cert]) -> Result<BTreeMap<Fpr, Cert, Global>, Fault>
     ensures own { IfOk result (λ certs. AreOwn certs.entries) }
     ensures same { IfOk result (λ certs. DoTheSame list.now (values_of certs.entries)) }
@@ -132,7 +134,7 @@ fn gather(alloc: Global, list: &[Cert]) -> Result<BTreeMap<Fpr, Cert, Global>, F
     }
 }
 
-/// The values, in the order of the fingerprints.
+/// The certificates of a map, in the order of their fingerprints.
 fn listed(alloc: Global, mut certs: BTreeMap<Fpr, Cert, Global>) -> Result<Vec<Cert>, Memory>
     ensures listed { IfOk result (λ list. list.items ≡ values_of certs.entries) }
 {
@@ -145,7 +147,7 @@ fn listed(alloc: Global, mut certs: BTreeMap<Fpr, Cert, Global>) -> Result<Vec<C
     Ok(list)
 }
 
-/// One certificate for each key of a list: the union of those that the list has of it.
+/// One certificate for each key of a list: all that the list has of this key, merged.
 pub(crate) fn gathered(alloc: Global, list: &[Cert]) -> Result<Vec<Cert>, Fault>
     ensures whole { IfOk result (λ gathered. AllByRecursion IsCertificate gathered.items) }
     ensures same { IfOk result (λ gathered. DoTheSame list.now gathered.items) }

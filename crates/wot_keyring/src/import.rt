@@ -1,3 +1,6 @@
+//! The two ways in: `import` takes the octets of any certificates, `load` those of one directory entry. Both read with
+//! `importing`, and merge all or nothing through `Keyring::take`. What an import accepts, replies and asks of the
+//! policy is on their contracts, so a change here reaches wot_cache and wot_machine.
 ghost use Rattle.std.specs.Prelude.{◌≡◌, ◌<◌, ◌^◌, ◌-◌, length, OnOk, OnErr};
 ghost use Rattle.wot_policy.specs.Kept.{IsFaithful, rows_of, asked_more};
 ghost use Rattle.wot_keyring.specs.Held.{held_of};
@@ -11,20 +14,20 @@ use std::alloc::Global;
 use wot_policy::{Ask, Policy};
 use wot_types::Name;
 
-/// What an import did.
+/// What an import took in, as the reply reports it.
 #[derive(Clone, Copy)]
 pub struct Imported {
-    /// The readable keys among the packets.
+    /// The parseable keys among the packets.
     pub taken: u64,
-    /// The keys that aren't readable.
+    /// The keys that can't be parsed.
     pub skipped: u64,
-    /// The keys, components and signatures that were not kept before.
+    /// The keys, components and signatures that are new.
     pub fresh: u64,
 }
 
 impl Keyring {
-    /// Unites the certificates of these octets (RFC 9580, sections 4 and 10.1) with the kept ones: all of them or,
-    /// where anything is refused, none. The policy is asked once for each sound signature that is new.
+    /// Merges the certificates in these octets (RFC 9580, sections 4 and 10.1) with the kept ones: all of them, or none
+    /// if anything is refused. The policy is asked once for each valid signature that is new.
     pub fn import<F: Fn(Ask) -> bool>(
         &mut self,
         alloc: Global,
@@ -54,9 +57,9 @@ impl Keyring {
         self.take(alloc, &read, policy)
     }
 
-    /// Unites the one certificate of a directory entry with the kept ones. The octets are read as `import` reads
-    /// them. `Misfiled` is told where they spell more or less than one certificate, or another key beside it, or where
-    /// the entry's name is the fingerprint of another.
+    /// Merges the one certificate of a directory entry with the kept ones. The octets are read as by `import`. Returns
+    /// `Misfiled` if they hold more or less than one certificate, another key next to it, or if the entry's name is the
+    /// fingerprint of another certificate.
     pub fn load<F: Fn(Ask) -> bool>(
         &mut self,
         alloc: Global,

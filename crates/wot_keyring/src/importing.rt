@@ -1,3 +1,6 @@
+//! The steps of an import: octets to certificates, the trial merge that finds a limit that would be exceeded, and the
+//! merge itself. It stands on wot_cert for reading and on `staging` for merging. The order of refusals is decided here
+//! and in `Keyring::take`.
 ghost use Rattle.std.specs.Prelude.{◌≡◌, ◌<◌, ◌^◌, ◌+◌, length, IfOk, OnOk, OnErr};
 ghost use Rattle.wot_policy.specs.Kept.{IsFaithful, rows_of};
 ghost use Rattle.wot_cert.specs.Counts.{items_of};
@@ -24,7 +27,7 @@ use wot_packet::{ReadFault, read_packets};
 use wot_policy::{Ask, Policy, admits, standard_rows};
 use wot_types::{Fpr, Limit, Limits, Memory, Name, compare_fprs};
 
-/// The certificates that these octets spell, none of them judged, or why they spell none.
+/// The certificates in these octets, not yet marked by a policy, or the reason why there are none.
 pub(crate) fn read_certs(alloc: Global, bytes: &[u8]) -> Result<Assembled, Refusal>
     requires short { length bytes.now < 2 ^ 29 }
     ensures read { TellsRead result bytes.now }
@@ -43,7 +46,7 @@ pub(crate) fn read_certs(alloc: Global, bytes: &[u8]) -> Result<Assembled, Refus
     }
 }
 
-/// Whether a certificate may stand under this name.
+/// Whether a directory entry of this name may hold the certificate.
 fn stands_under(name: &Name, cert: &Cert) -> bool
     ensures { result ≡ stands_under name.now cert.now }
 {
@@ -53,7 +56,7 @@ fn stands_under(name: &Name, cert: &Cert) -> bool
     }
 }
 
-/// Whether what was read is one certificate, that of this name.
+/// Whether the octets held exactly one certificate, the one that the name demands.
 pub(crate) fn is_entry(name: &Name, read: &Assembled) -> bool
     ensures { result ≡ is_entry name.now read.now.certs read.now.skipped }
 {
@@ -63,8 +66,8 @@ pub(crate) fn is_entry(name: &Name, read: &Assembled) -> bool
     }
 }
 
-/// The one certificate of the entry of a directory that has this name, not judged. `Misfiled` is told where the octets
-/// spell more or less than one certificate, or another key beside it, or where the name is the fingerprint of another.
+/// The one certificate of a directory entry, not yet marked by a policy. Returns `Misfiled` if the octets hold more or
+/// less than one certificate, another key next to it, or if the name is the fingerprint of another certificate.
 pub fn read_entry(alloc: Global, name: &Name, octets: &[u8]) -> Result<Cert, Refusal>
     requires short { length octets.now < 2 ^ 29 }
     ensures entry { TellsEntry result name.now octets.now }
@@ -83,7 +86,7 @@ pub fn read_entry(alloc: Global, name: &Name, octets: &[u8]) -> Result<Cert, Ref
     }
 }
 
-/// The first limit that so many certificates with these totals pass.
+/// The first limit that this number of certificates with these totals exceeds.
 fn first_full_of(limits: &Limits, total: &Weight, count: u64) -> Option<Limit>
     ensures { result ≡ full_by limits.now total.now count }
 {
@@ -102,8 +105,8 @@ fn first_full_of(limits: &Limits, total: &Weight, count: u64) -> Option<Limit>
     None
 }
 
-/// Tries the union, takes it back, and tells the first limit that it would pass. What is held doesn't depend on what a
-/// policy admits, so the trial asks one of its own.
+/// Merges on trial, undoes it, and returns the first limit that was exceeded. What is held doesn't depend on the
+/// policy, so the trial uses a policy of its own.
 pub(crate) fn try_all(
     alloc: Global,
     certs: &mut BTreeMap<Fpr, Kept, Global>,
@@ -143,7 +146,8 @@ pub(crate) fn try_all(
     }
 }
 
-/// Unites all with the kept ones, by a policy, and notes where their signatures stand, or leaves all as it is.
+/// Merges all certificates with the kept ones under a policy and notes where their signatures are. Leaves everything
+/// unchanged on an error.
 pub(crate) fn unite_all<F: Fn(Ask) -> bool>(
     alloc: Global,
     certs: &mut BTreeMap<Fpr, Kept, Global>,

@@ -1,4 +1,6 @@
-//! Uniting a certificate with the kept one in place, so that it costs what it brings, however much is kept.
+//! Merges a small certificate into a kept one in place, so that an import costs what it brings, however large the kept
+//! certificate is. `staging` calls it and undoes it through the log. It stands on wot_cert's `grow` and `shrink`; its
+//! contracts are those of the merge by a copy, so callers see no difference.
 ghost use Rattle.std.specs.Prelude.{◌≡◌, ◌<◌, vec_len, vec_capacity, IfOk, OnOk, OnErr, Some};
 ghost use Rattle.wot_policy.specs.Kept.{IsFaithful, rows_of};
 ghost use Rattle.wot_keyring.specs.Kept.{AreSortedByFpr, AreJudged};
@@ -16,11 +18,11 @@ use wot_cert::{Cert, Growth, MergeFault};
 use wot_policy::{Ask, Policy};
 use wot_types::Fpr;
 
-/// By how much a kept certificate has to be larger than what it is united with, to grow in place: what is put in place
-/// moves what stands behind it.
+/// By which factor a kept certificate has to be larger than the one merged into it, to grow in place. Each insertion
+/// moves what comes after it, so below this factor a copy is cheaper.
 const LARGER: u64 = 16;
 
-/// Whether a certificate is small beside the kept one of its fingerprint.
+/// Whether a certificate is small compared with the kept one of its fingerprint.
 pub(crate) fn is_small_beside(certs: &BTreeMap<Fpr, Kept, Global>, cert: &Cert) -> bool {
     match find(certs, &cert.fpr()) {
         Some(kept) => cert.size() < kept.cert.size() / LARGER,
@@ -28,7 +30,7 @@ pub(crate) fn is_small_beside(certs: &BTreeMap<Fpr, Kept, Global>, cert: &Cert) 
     }
 }
 
-/// What a kept certificate grew by.
+/// How a kept certificate grew.
 #[derive(Drop)]
 pub(crate) struct Leap {
     before: Weight,
@@ -36,11 +38,11 @@ pub(crate) struct Leap {
     growth: Growth,
     /// The components and signatures that are new.
     items: u64,
-    /// The stamp that it had.
+    /// The stamp before the merge.
     stamp: u64,
 }
 
-/// Unites a kept certificate with another, by a policy, and gives it the stamp where something was added.
+/// Merges another certificate into a kept one under a policy, and sets the stamp if anything was added.
 fn grow_kept<F: Fn(Ask) -> bool>(
     alloc: Global,
     kept: &mut Kept,
@@ -80,7 +82,7 @@ fn grow_kept<F: Fn(Ask) -> bool>(
     }
 }
 
-/// Unites the kept certificate of a fingerprint with another, and notes what it grew by, where there is room.
+/// Merges a certificate into the kept one of its fingerprint, and logs how that grew. The log has room.
 fn grow_at<F: Fn(Ask) -> bool>(
     alloc: Global,
     certs: &mut BTreeMap<Fpr, Kept, Global>,
@@ -129,8 +131,8 @@ fn grow_at<F: Fn(Ask) -> bool>(
     }
 }
 
-/// Unites a certificate with the kept one of its fingerprint in place, by a policy, notes what it grew by, and counts.
-/// After a fault the log still leads back.
+/// Merges a certificate in place into the kept one of its fingerprint under a policy, logs how that grew, and updates
+/// the tally. On an error the log still undoes everything.
 pub(crate) fn put_in_place<F: Fn(Ask) -> bool>(
     alloc: Global,
     certs: &mut BTreeMap<Fpr, Kept, Global>,

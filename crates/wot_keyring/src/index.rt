@@ -1,4 +1,6 @@
-//! The index by the numbers of signatures, one number at a time.
+//! The index from signature numbers to certificates, so that a verdict finds its certificate without a walk over the
+//! keyring. `noting` and `forgetting` keep it in step with the certificates, and `restamp` reads it. It is exact unless
+//! two certificates hold signatures of one number.
 ghost use Rattle.std.specs.Prelude.{◌≡◌, ◌≢◌, ◌<◌, ◌&&◌, ◌++◌, ◌∷◌, [], true, vec_len, vec_capacity, MatchBool, OnOk};
 ghost use Rattle.wot_types.specs.declared.fpr.Fpr.{Fpr as TheFpr};
 ghost use Rattle.wot_types.specs.declared.number.SigNumber.{SigNumber as TheNumber};
@@ -10,17 +12,17 @@ use std::alloc::Global;
 use std::collections::BTreeMap;
 use wot_types::{Fpr, Memory, SigNumber};
 
-/// Where each signature stands: by its number the fingerprint of the certificate.
+/// On which certificate each signature is: fingerprints by signature number.
 #[derive(Drop)]
 pub(crate) struct Index {
     pub holders: BTreeMap<SigNumber, Fpr, Global>,
-    /// False once one number was seen on two certificates, which takes a collision of SHA-256. From then on the
-    /// places say nothing.
+    /// False once a number was seen on two certificates, which takes a collision of SHA-256. The entries mean nothing
+    /// from then on.
     pub exact: bool,
 }
 
 impl Index {
-    /// The index of no certificates. Takes no memory.
+    /// The index of no certificates. Doesn't allocate.
     pub(crate) fn new(alloc: Global) -> Index
         ensures empty { result.holders.entries ≡ [] }
         ensures exact { result.exact ≡ true }
@@ -32,7 +34,7 @@ impl Index {
     }
 }
 
-/// Logs a number, where there is room.
+/// Logs a number. The log has room.
 fn put_in_log(log: &mut Vec<SigNumber>, number: SigNumber)
     requires room { vec_len log.old < vec_capacity log.old }
     ensures logged { log.new.items ≡ log.old.items ++ number ∷ [] }
@@ -40,15 +42,15 @@ fn put_in_log(log: &mut Vec<SigNumber>, number: SigNumber)
     let _ = log.push(number);
 }
 
-/// Whether an index in which a number is noted again stays exact: where it is noted at the same certificate.
+/// Whether the index stays exact when a number is noted again: it does for the same certificate.
 fn stays_exact(exact: bool, before: Fpr, now: Fpr) -> bool
     ensures stays { MatchBool result ((exact ≡ true) × (before ≡ now)) (exact ≡ true → before ≢ now) }
 {
     exact && before == now
 }
 
-/// Notes that a signature of this number stands on the certificate of this fingerprint, and logs the number where it is
-/// new. After `Memory` the log still tells what was new.
+/// Notes that a signature of this number is on the certificate of this fingerprint, and logs the number if it is new.
+/// On `Memory` the log still says what was new.
 pub(crate) fn note(
     index: &mut Index,
     log: &mut Vec<SigNumber>,
@@ -73,14 +75,14 @@ pub(crate) fn note(
     }
 }
 
-/// Takes out what is noted for a number. Takes no memory.
+/// Removes a number. Doesn't allocate.
 pub(crate) fn forget(holders: &mut BTreeMap<SigNumber, Fpr, Global>, number: &SigNumber)
     ensures forgotten { Forgets holders.old.entries holders.new.entries (λ n. is_number n number.now) }
 {
     let _ = holders.remove(number);
 }
 
-/// Takes out all numbers of a log. Takes no memory.
+/// Removes all numbers of a log. Doesn't allocate.
 pub(crate) fn forget_logged(holders: &mut BTreeMap<SigNumber, Fpr, Global>, mut log: Vec<SigNumber>)
     ensures forgotten { Forgets holders.old.entries holders.new.entries (λ n. is_logged n log.items) }
 {

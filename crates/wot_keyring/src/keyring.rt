@@ -1,4 +1,8 @@
-ghost use Rattle.std.specs.Prelude.{◌≡◌, ◌≢◌, ◌<◌, ◌≤◌, ◌^◌, ◌+◌, ◌-◌, ◌++◌, ℕ, nat_lt, if◌then◌else◌, map, Some};
+//! The keyring itself: its fields, its model, and its public calls except `import` and `load`, which are in `import`.
+//! Each change raises the count of changes by one, stamps what it altered and logs that, so that the network above
+//! makes only these edges again. The calls here are the contract of the crate: wot_network, wot_cache and wot_machine
+//! use them.
+ghost use Rattle.std.specs.Prelude.{◌≡◌, ◌≢◌, ◌<◌, ◌≤◌, ◌^◌, ◌+◌, ◌-◌, ◌++◌, nat_lt, if◌then◌else◌, map, Some};
 ghost use Rattle.std.specs.Prelude.{true, Ok, is_ok, is_some, IsSomeAnd, length, IfOk, MatchBool, OnOk, OnErr};
 ghost use Rattle.std.specs.Option.{option_copied, IfSome, MatchOption};
 ghost use Rattle.std.specs.Map.{lookup, remove_entry};
@@ -14,7 +18,7 @@ ghost use Rattle.wot_keyring.specs.Keyring.{empty, certificates_in, cert_at, sta
 ghost use Rattle.wot_keyring.specs.Kept.{AreSortedByFpr, AreNamed, AreSized, AreSmall, AreStamped, IsJudgedBy};
 ghost use Rattle.wot_keyring.specs.Kept.{IsKeyring, StaysJudged};
 ghost use Rattle.wot_policy.specs.declared.rows.PolicyRows.{PolicyRows as Rows};
-ghost use Rattle.wot_policy.specs.Kept.{IsFaithful, rows_of, asked_more};
+ghost use Rattle.wot_policy.specs.Kept.{IsFaithful, rows_of};
 ghost use Rattle.wot_keyring.specs.Dump.{commands_of, lines_of, most_dumped, AreLines, IsRestored};
 ghost use Rattle.wot_keyring.specs.Import.{IsOneChange, with_united};
 ghost use Rattle.wot_keyring.specs.Held.{held_of, removing, verdict_set, verdict_cleared};
@@ -51,21 +55,21 @@ use wot_policy::{Ask, Policy};
 use wot_types::{Fpr, Limit, Limits, Memory, SigNumber};
 use wot_verdict::{Verdict, Verdicts};
 
-/// Certificates by fingerprint and verdicts by signature number, within limits. Each certificate has a stamp: the
-/// count of changes that altered it, or a verdict on one of its signatures, last.
+/// Certificates by fingerprint and verdicts by signature number, within limits. Each certificate has a stamp: the count
+/// of changes at which it, or a verdict on one of its signatures, was last altered.
 #[derive(Drop)]
 pub struct Keyring {
     limits: Limits,
     certs: BTreeMap<Fpr, Kept, Global>,
     verdicts: Verdicts,
     changes: u64,
-    /// The sum of the sizes of the certificates.
+    /// The total size of the certificates.
     octets: u64,
-    /// How many signatures stand on the certificates.
+    /// How many signatures the certificates have.
     signatures: u64,
-    /// On which certificate each signature stands.
+    /// On which certificate each signature is.
     index: Index,
-    /// What was altered lately.
+    /// What was altered recently.
     log: Log,
 }
 
@@ -82,7 +86,7 @@ impl Model for Keyring {
 }
 
 impl Keyring {
-    /// A keyring that holds nothing. Takes no memory.
+    /// An empty keyring. Doesn't allocate.
     pub fn new(alloc: Global, limits: Limits) -> Keyring
         requires small { AreSmall limits }
         ensures empty { result ≡ empty limits }
@@ -99,7 +103,7 @@ impl Keyring {
         }
     }
 
-    /// What it may hold at most.
+    /// The limits on what it holds.
     pub fn limits(&self) -> Limits
         ensures limits { result ≡ self.now.limits }
         ensures small { AreSmall result }
@@ -107,7 +111,7 @@ impl Keyring {
         self.limits
     }
 
-    /// The certificate that is kept under a fingerprint.
+    /// The certificate of a fingerprint.
     pub fn get(&self, fpr: &Fpr) -> Option<&Cert>
         ensures found { option_copied result ≡ cert_at self.now fpr.now }
         ensures named { IfSome result (λ c. fpr_of c.now.key ≡ fpr.now) }
@@ -119,7 +123,7 @@ impl Keyring {
         }
     }
 
-    /// The kept certificates, in the order of their fingerprints.
+    /// All certificates, in the order of their fingerprints.
     pub fn certs(&self) -> CertsIter<'_>
         ensures certs { result ≡ map (λ (e : TheFpr × TheKept). e.1.cert) self.now.certs }
         ensures named { AreNamed self.now.certs }
@@ -131,7 +135,7 @@ impl Keyring {
         }
     }
 
-    /// How many certificates are kept.
+    /// The number of certificates.
     pub fn len(&self) -> usize
         ensures len { result ≡ length self.now.certs }
         ensures named { AreNamed self.now.certs }
@@ -141,8 +145,7 @@ impl Keyring {
         self.certs.len()
     }
 
-    /// The kept certificates from a fingerprint on, in the order of their fingerprints; all of them where none is
-    /// given.
+    /// The certificates from a fingerprint on, in the order of their fingerprints. All of them if none is given.
     pub fn certs_from(&self, from: Option<Fpr>) -> CertsFrom<'_>
         ensures certs { result ≡ map (λ (e : TheFpr × TheKept). e.1.cert) (entries_from from self.now.certs) }
         ensures named { AreNamed self.now.certs }
@@ -150,15 +153,15 @@ impl Keyring {
         certs_from(&self.certs, from)
     }
 
-    /// The verdicts.
+    /// All verdicts, by signature number.
     pub fn verdicts(&self) -> &Verdicts
         ensures verdicts { result.now ≡ self.now.verdicts }
     {
         &self.verdicts
     }
 
-    /// The count of changes at which a certificate, or a verdict on one of its signatures, was altered last; 0 exactly
-    /// where it isn't kept.
+    /// The count of changes at which a certificate, or a verdict on one of its signatures, was last altered. It is 0 if
+    /// and only if the certificate isn't kept.
     pub fn stamp(&self, fpr: &Fpr) -> u64
         ensures stamp { result ≡ stamp_at self.now fpr.now }
         ensures absent { MatchOption (cert_at self.now fpr.now) (result ≡ 0) (λ _. 0 < result) }
@@ -170,16 +173,17 @@ impl Keyring {
         }
     }
 
-    /// How many calls altered something.
+    /// The number of calls that altered something.
     pub fn changes(&self) -> u64
         ensures changes { result ≡ self.now.changes }
     {
         self.changes
     }
 
-    /// The stamps and fingerprints of the certificates that were altered since so many changes, in the order of stamps,
-    /// and maybe others; of one that was altered twice the earlier stamp too. None where that isn't known any more:
-    /// then each kept certificate may have been. Nothing kept is walked over.
+    /// The stamps and fingerprints of the certificates altered since this count of changes, in the order of stamps. The
+    /// slice may list more, and lists a certificate that was altered twice with its earlier stamp too. Returns `None`
+    /// if the log doesn't go back that far: then any certificate may have been altered. Doesn't walk over the
+    /// certificates.
     pub fn changed_since(&self, count: u64) -> Option<&[(u64, Fpr)]>
         ensures since { IfSome result (λ logged. HasChangedSince self.now count logged.now) }
     {
@@ -189,7 +193,7 @@ impl Keyring {
         Some(log::since(self.log.entries.as_slice(), count))
     }
 
-    /// Takes a certificate out; the verdicts on its signatures stay. Takes no memory.
+    /// Removes a certificate. The verdicts on its signatures stay. Doesn't allocate.
     #[tactic(auto, using(crate::proofs::Judged::removed_judged))]
     pub fn remove(&mut self, fpr: &Fpr) -> Result<(), Absent>
         requires countable { self.old.changes < 2 ^ 64 - 1 }
@@ -216,8 +220,8 @@ impl Keyring {
         Ok(())
     }
 
-    /// Sets the verdict on a number, in place of an earlier one. Where it was this one already nothing changes, and no
-    /// memory is needed. A verdict may precede its signature, and outlives it.
+    /// Sets or replaces the verdict on a signature number. If it already is this one, nothing changes and nothing is
+    /// allocated. A verdict may come before its signature, and outlives it.
     pub fn set_verdict(&mut self, number: SigNumber, verdict: Verdict) -> Result<(), Refusal>
         requires countable { self.old.changes < 2 ^ 64 - 1 }
         ensures same { verdict_on self.old number ≡ Some verdict → (result ≡ Ok tt) × (self.new ≡ self.old) }
@@ -246,7 +250,7 @@ impl Keyring {
         }
     }
 
-    /// Takes the verdict on a number away. Takes no memory.
+    /// Removes the verdict on a signature number. Doesn't allocate.
     pub fn clear_verdict(&mut self, number: &SigNumber) -> Result<(), Absent>
         requires countable { self.old.changes < 2 ^ 64 - 1 }
         ensures cleared { OnOk result (self.new ≡ without_verdict_on number.now self.old) }
@@ -266,7 +270,7 @@ impl Keyring {
         Ok(())
     }
 
-    /// Appends the text of a kept certificate (RFC 9580, section 10.1). After a fault `out` is as before.
+    /// Appends the packets of a certificate (RFC 9580, section 10.1). On an error `out` is unchanged.
     pub fn export(&self, fpr: &Fpr, out: &mut Vec<u8>) -> Result<(), ExportFault>
         ensures text { OnOk result
             (IsSomeAnd (cert_at self.now fpr.now) (λ c. out.new.items ≡ out.old.items ++ text_of c)) }
@@ -282,8 +286,8 @@ impl Keyring {
         }
     }
 
-    /// Unites certificates that were read with the kept ones: those of one key among themselves first, so that what
-    /// is kept of a key is copied once, however often the key was read.
+    /// Merges certificates that were read with the kept ones. Those of one key are first merged with each other, so
+    /// that a kept certificate is copied once, however often its key was read.
     pub(crate) fn take<F: Fn(Ask) -> bool>(
         &mut self,
         alloc: Global,
@@ -322,7 +326,7 @@ impl Keyring {
         }
     }
 
-    /// Whether these may be united with the kept ones even if all that they have is new: so it is told of one alone.
+    /// Whether these certificates fit even if everything in them is new. Only answered for a single certificate.
     fn has_room_for(&self, list: &[Cert]) -> bool
         ensures { result ≡ true → MayUnite self.now.limits (certificates_in self.now) list.now }
     {
@@ -334,7 +338,7 @@ impl Keyring {
         }
     }
 
-    /// Why these certificates may not be united with the kept ones. All stays as it is, and no policy of others is
+    /// Why these certificates can't be merged with the kept ones. Nothing changes, and no policy of the caller is
     /// asked.
     fn refusal(&mut self, alloc: Global, list: &[Cert]) -> Option<Refusal>
         requires countable { self.old.changes < 2 ^ 64 - 1 }
@@ -354,7 +358,7 @@ impl Keyring {
         }
     }
 
-    /// Unites certificates with the kept ones that may be.
+    /// Merges certificates that clash with nothing and exceed no limit.
     fn accept<F: Fn(Ask) -> bool>(
         &mut self,
         alloc: Global,
@@ -407,7 +411,7 @@ impl Keyring {
         }
     }
 
-    /// The stamp of what is altered next, and the size that a certificate may have.
+    /// The stamp of the next change, and the limit on a certificate's size.
     fn terms(&self) -> Terms
         requires countable { self.now.changes < 2 ^ 64 - 1 }
         ensures stamp { result.stamp ≡ self.now.changes + 1 }
@@ -419,14 +423,14 @@ impl Keyring {
         }
     }
 
-    /// A law: what is true of every keyring.
+    /// A law: what holds for every keyring.
     fn lawful(&self)
         ensures keyring { IsKeyring self.now }
     {
         let _ = &self.limits;
     }
 
-    /// What is held weighs so much.
+    /// The totals of what is held.
     fn total(&self) -> Weight
         ensures total { IsTally self.now.limits.certificate self.now.certs result }
         ensures keyring { IsKeyring self.now }
@@ -439,8 +443,8 @@ impl Keyring {
         }
     }
 
-    /// Appends a line for each certificate and each verdict: the commands that make this keyring anew. Tells their
-    /// number. After `Memory` `out` is as before.
+    /// Appends a line for each certificate and each verdict: the commands that rebuild this keyring. Returns the number
+    /// of lines. On `Memory` `out` is unchanged.
     pub fn dump(&self, alloc: Global, out: &mut Vec<u8>) -> Result<u64, Memory>
         ensures lines { OnOk result (out.new.items ≡ out.old.items ++ lines_of (commands_of (held_of self.now))) }
         ensures count { IfOk result (λ count. count ≡ length (commands_of (held_of self.now))) }
@@ -449,7 +453,7 @@ impl Keyring {
         // Each command is printed as one line, which is read as that command.
         ensures read_back { OnOk result (AreLines (commands_of (held_of self.now))) }
         ensures size { OnOk result (length (lines_of (commands_of (held_of self.now))) ≤ most_dumped self.now.limits) }
-        // By whatever rows the fresh keyring judges.
+        // Whatever policy the fresh keyring has.
         ensures restored { OnOk result ((rows : Rows) → IsRestored rows self.now) }
     {
         replayed();
@@ -464,8 +468,8 @@ impl Keyring {
         }
     }
 
-    /// The sound signatures that have no verdict, of all kinds and at all places: by certificate, and then in the order
-    /// in which `export` writes them.
+    /// The valid signatures without a verdict, of all types and in all places, by certificate and then in the order in
+    /// which `export` writes them.
     pub fn pending(&self, alloc: Global) -> Result<Vec<Pending>, Memory>
         ensures pending { IfOk result (λ list. list.items ≡ pending_in (held_of self.now)) }
     {
@@ -500,7 +504,7 @@ impl Keyring {
     }
 }
 
-/// The count of changes after one that added so many items.
+/// The count of changes after a change that added this many items.
 fn raised(changes: u64, fresh: u64) -> u64
     requires countable { changes < 2 ^ 64 - 1 }
     ensures raised { result ≡ (if nat_lt 0 fresh then changes + 1 else changes) }
@@ -508,14 +512,14 @@ fn raised(changes: u64, fresh: u64) -> u64
     if fresh > 0 { changes + 1 } else { changes }
 }
 
-/// What is kept under a fingerprint.
+/// The certificate of a fingerprint, with its stamp.
 pub(crate) fn find<'a>(certs: &'a BTreeMap<Fpr, Kept, Global>, fpr: &Fpr) -> Option<&'a Kept>
     ensures found { option_copied result ≡ lookup (is_fpr fpr.now) certs.now.entries }
 {
     certs.get(fpr)
 }
 
-/// Takes out what is kept under a fingerprint.
+/// Removes the certificate of a fingerprint.
 pub(crate) fn take_out(certs: &mut BTreeMap<Fpr, Kept, Global>, fpr: &Fpr)
     ensures out { certs.new.entries ≡ remove_entry (is_fpr fpr.now) certs.old.entries }
     ensures sorted { AreSortedByFpr certs.new.entries }

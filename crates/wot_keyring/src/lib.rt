@@ -1,4 +1,7 @@
-//! The keyring: certificates by fingerprint, verdicts by signature number, limits, stamps, and the dump.
+//! The keyring: certificates by fingerprint, verdicts by signature number, limits, stamps, and the dump. It stands on
+//! wot_cert, which assembles and merges certificates, on wot_verdict, and on the commands of wot_script for the dump.
+//! wot_network reads certificates and stamps, and wot_cache owns the keyring, so a changed contract of `Keyring`
+//! reaches both.
 #![tactic(auto)]
 
 mod certs;

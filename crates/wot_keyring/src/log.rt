@@ -1,5 +1,7 @@
-//! The log of changes: which certificates were altered since a count of changes.
-ghost use Rattle.std.specs.Prelude.{◌≡◌, ◌≤◌, ◌<◌, [], false, true, nat_lt, length, drop, IfSome, MatchBool, ℕ};
+//! The log of changes: which certificates were altered since a count of changes. `Keyring::changed_since` reads it, so
+//! that a refresh of a network costs what changed. If memory is short, the log restarts, and the network is refreshed
+//! by a walk over the keyring instead.
+ghost use Rattle.std.specs.Prelude.{◌≡◌, ◌≤◌, ◌<◌, [], true, nat_lt, MatchBool, ℕ};
 ghost use Rattle.std.specs.Prelude.{vec_len, vec_capacity, ◌++◌, ◌∷◌};
 ghost use Rattle.wot_types.specs.declared.fpr.Fpr.{Fpr as TheFpr};
 ghost use Rattle.wot_keyring.specs.Keyring.{is_fpr};
@@ -9,20 +11,20 @@ use std::alloc::Global;
 use wot_cert::Cert;
 use wot_types::Fpr;
 
-/// For how many entries room is taken at least.
+/// The least number of entries to reserve room for.
 const LEAST: usize = 64;
 
-/// Fingerprints of altered certificates, with the stamps that they were given. Where no room is left the log begins
-/// anew, so that what is logged takes no memory but what was reserved.
+/// Fingerprints of altered certificates, with the stamps that they were given. When the reserved room is used up, the
+/// log restarts: logging never allocates.
 #[derive(Drop)]
 pub(crate) struct Log {
-    /// Stamps up to this one aren't in it.
+    /// The log covers only stamps above this one.
     pub from: u64,
     pub entries: Vec<(u64, Fpr)>,
 }
 
 impl Log {
-    /// The log of no changes. Takes no memory.
+    /// The log of no changes. Doesn't allocate.
     pub(crate) fn new(alloc: Global) -> Log
         ensures from { result.from ≡ 0 }
         ensures empty { result.entries.items ≡ [] }
@@ -34,8 +36,8 @@ impl Log {
     }
 }
 
-/// Takes room for so many entries more and for as many as certificates are kept, unless the log has twice that already.
-/// Where no memory is found the log begins anew sooner.
+/// Reserves room for this many more entries and one for each certificate, unless the log already has room for twice as
+/// many. If out of memory, the log just restarts sooner.
 pub(crate) fn make_room(log: &mut Log, more: usize, kept: usize)
     ensures from { log.new.from ≡ log.old.from }
     ensures entries { log.new.entries.items ≡ log.old.entries.items }
@@ -46,7 +48,7 @@ pub(crate) fn make_room(log: &mut Log, more: usize, kept: usize)
     }
 }
 
-/// Forgets what was logged; from this stamp on the log is led anew.
+/// Drops all entries. The log covers only stamps above this one from now on.
 pub(crate) fn begin_anew(log: &mut Log, stamp: u64)
     ensures from { log.new.from ≡ stamp }
     ensures empty { log.new.entries.items ≡ [] }
@@ -55,7 +57,7 @@ pub(crate) fn begin_anew(log: &mut Log, stamp: u64)
     log.from = stamp;
 }
 
-/// Puts an entry behind the others, where there is room.
+/// Appends an entry. The log has room.
 fn put(log: &mut Log, stamp: u64, fpr: Fpr)
     requires room { vec_len log.old.entries < vec_capacity log.old.entries }
     ensures from { log.new.from ≡ log.old.from }
@@ -64,7 +66,7 @@ fn put(log: &mut Log, stamp: u64, fpr: Fpr)
     let _ = log.entries.push((stamp, fpr));
 }
 
-/// Logs that a certificate was given a stamp, which is no lower than any before. Takes no memory.
+/// Logs that a certificate was given a stamp, which is at least as high as any before. Doesn't allocate.
 pub(crate) fn log_at(log: &mut Log, stamp: u64, fpr: Fpr)
     requires from { log.old.from ≤ stamp }
     ensures logged { LogsAt stamp (is_fpr fpr) log.old log.new }
@@ -88,7 +90,7 @@ pub(crate) fn log_all(log: &mut Log, stamp: u64, certs: &[Cert])
     }
 }
 
-/// Logs that these certificates were given a stamp, where something was added to them.
+/// Logs that these certificates were given a stamp, if anything was added to them.
 pub(crate) fn log_union(log: &mut Log, fresh: u64, stamp: u64, certs: &[Cert])
     requires from { log.old.from ≤ stamp }
     ensures logged { MatchBool (nat_lt 0 fresh)

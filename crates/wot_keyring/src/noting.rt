@@ -1,5 +1,6 @@
-//! Noting in the index where the signatures of certificates stand.
-ghost use Rattle.std.specs.Prelude.{◌≡◌, ◌&&◌, OnOk, OnErr};
+//! Notes in the index on which certificates signatures are, and undoes it if memory runs out halfway. An import calls
+//! it before it merges. It stands on `index`, and visits the places that `forgetting` visits: change both together.
+ghost use Rattle.std.specs.Prelude.{◌&&◌, OnOk, OnErr};
 ghost use Rattle.wot_types.specs.declared.fpr.Fpr.{Fpr as TheFpr};
 ghost use Rattle.wot_types.specs.declared.number.SigNumber.{SigNumber as TheNumber};
 ghost use Rattle.wot_keyring.specs.Index.{stands_among, stands_on, Notes, NotesNothing, StillLogged};
@@ -70,7 +71,7 @@ fn note_certs(index: &mut Index, log: &mut Vec<SigNumber>, certs: &[Cert]) -> Re
     Ok(())
 }
 
-/// Notes where the signatures of these certificates stand; after `Memory` nothing more is noted than before.
+/// Notes on which certificates these signatures are. On `Memory` the index is unchanged.
 pub(crate) fn note_all(alloc: Global, index: &mut Index, certs: &[Cert]) -> Result<(), Memory>
     ensures noted { OnOk result (Notes index.old index.new (stands_among certs.now)) }
     ensures same { OnErr result (NotesNothing index.old index.new) }

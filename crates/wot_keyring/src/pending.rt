@@ -1,4 +1,6 @@
-//! The signatures that wait for a verdict.
+//! The valid signatures without a verdict: what an outside verifier has to check. It walks over all certificates, and
+//! stands on what wot_signature reads from a signature. A change of `Pending` reaches the reply to `pending` in
+//! wot_machine, and the verifier.
 ghost use Rattle.std.specs.Prelude.{◌≡◌, ◌++◌, ◌∷◌, [], IfOk, OnOk};
 ghost use Rattle.std.specs.List.{flat_map};
 ghost use Rattle.wot_cert.specs.Counts.{sigs_on};
@@ -13,20 +15,20 @@ use wot_signature::hint;
 use wot_types::{Fpr, Memory, SigNumber};
 use wot_verdict::Verdicts;
 
-/// A sound signature that has no verdict, and what a verifier needs to find the key that made it.
+/// A valid signature without a verdict, with what a verifier needs to find the key that made it.
 #[derive(Clone, Copy, PartialEq, Eq)]
 pub struct Pending {
-    /// The number on which a verdict is waited for.
+    /// The signature number that waits for a verdict.
     pub number: SigNumber,
-    /// The certificate on which it stands.
+    /// The certificate that it is on.
     pub fpr: Fpr,
-    /// The key that made it, where its hashed area says so.
+    /// The fingerprint of the key that made it, if the hashed area has it.
     pub issuer: Option<Fpr>,
-    /// The ID of the key that made it, where either area hints at one.
+    /// The ID of the key that made it, if either area hints at one.
     pub hint: Option<[u8; 8]>,
 }
 
-/// Whether a signature is sound and has no verdict.
+/// Whether a signature is valid and has no verdict.
 fn waits(sig: &Sig, verdicts: &Verdicts) -> bool
     ensures { result ≡ is_pending verdicts.now sig.now }
 {
@@ -36,7 +38,7 @@ fn waits(sig: &Sig, verdicts: &Verdicts) -> bool
     facts.sound && verdicts.get(&sig.number()).is_none()
 }
 
-/// What is told of a signature on the certificate of this fingerprint.
+/// The entry of a signature on the certificate of this fingerprint.
 fn told(sig: &Sig, fpr: Fpr) -> Pending
     ensures { result ≡ told_of fpr sig.now }
 {
@@ -52,7 +54,7 @@ fn told(sig: &Sig, fpr: Fpr) -> Pending
     }
 }
 
-/// Appends what is told of a signature on the certificate of this fingerprint, where it waits for a verdict.
+/// Appends the entry of a signature on the certificate of this fingerprint, if it has no verdict.
 fn push_sig(out: &mut Vec<Pending>, sig: &Sig, fpr: Fpr, verdicts: &Verdicts) -> Result<(), Memory>
     ensures { OnOk result (out.new.items ≡ out.old.items ++ pending_among verdicts.now fpr (sig.now ∷ [])) }
 {
@@ -108,7 +110,7 @@ fn push_cert(
     push_parts(out, cert.subkeys(), fpr, verdicts)
 }
 
-/// The signatures of these certificates that wait for a verdict.
+/// The signatures of these certificates that have no verdict.
 pub(crate) fn waiting(
     alloc: Global,
     certs: &BTreeMap<Fpr, Kept, Global>,

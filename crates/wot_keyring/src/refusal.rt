@@ -1,33 +1,35 @@
+//! The errors of the keyring's calls, in the order in which they are checked. wot_script has a word for each: a further
+//! error is a further reply.
 use wot_cert::CertFault;
 use wot_packet::PacketFault;
 use wot_types::Limit;
 
-/// Why a change was refused. Of several reasons the first in this order is told.
+/// Why a change was refused. If there are several reasons, the first in this order is returned.
 #[derive(Clone, Copy, Debug, PartialEq, Eq)]
 pub enum Refusal {
-    /// The octets are no list of packets; this is their first fault.
+    /// The octets aren't a sequence of packets. This is their first error.
     Packet(PacketFault),
-    /// The packets are no certificates; this is their first fault, and never "out of memory".
+    /// The packets aren't certificates. This is their first error, and never "out of memory".
     Cert(CertFault),
-    /// An entry of a directory isn't the one certificate that its name says.
+    /// A directory entry isn't the one certificate that its name demands.
     Misfiled,
-    /// Two keys have one fingerprint.
+    /// Two keys have the same fingerprint.
     Clash,
-    /// What would be held is more than this limit allows.
+    /// This limit would be exceeded.
     Full(Limit),
-    /// No memory was found.
+    /// Out of memory.
     Memory,
 }
 
-/// What was named isn't kept.
+/// What was named isn't in the keyring.
 #[derive(Clone, Copy, PartialEq, Eq)]
 pub struct Absent;
 
 /// Why a certificate was not exported.
 #[derive(Clone, Copy, PartialEq, Eq)]
 pub enum ExportFault {
-    /// It isn't kept.
+    /// It isn't in the keyring.
     Absent,
-    /// No memory was found.
+    /// Out of memory.
     Memory,
 }

@@ -1,3 +1,6 @@
+//! Stamps the certificate that a changed verdict belongs to. The index says which one it is; if the index isn't exact,
+//! all certificates are searched and the log of changes restarts. `Keyring::set_verdict` and `clear_verdict` stand on
+//! it.
 ghost use Rattle.std.specs.Prelude.{◌≡◌, ◌≤◌};
 ghost use Rattle.wot_keyring.specs.Index.{IsIndexOf, RestampsAt, stands_at};
 ghost use Rattle.wot_keyring.specs.Kept.{AreSortedByFpr};
@@ -39,7 +42,7 @@ fn has_sig_on(parts: &[Part], number: &SigNumber) -> bool
     false
 }
 
-/// Whether a signature of this number stands on the certificate.
+/// Whether the certificate has a signature of this number.
 fn stands_on(cert: &Cert, number: &SigNumber) -> bool
     ensures has { result ≡ has_number number.now cert.now }
 {
@@ -63,7 +66,7 @@ fn restamp_one(kept: &mut Kept, number: &SigNumber, stamp: u64)
     }
 }
 
-/// Gives each certificate on which a signature of this number stands a new stamp.
+/// Stamps each certificate that has a signature of this number.
 pub fn restamp(certs: &mut BTreeMap<Fpr, Kept, Global>, number: &SigNumber, stamp: u64)
     ensures restamped { certs.new.entries ≡ restamped_all number.now stamp certs.old.entries }
 {
@@ -73,7 +76,7 @@ pub fn restamp(certs: &mut BTreeMap<Fpr, Kept, Global>, number: &SigNumber, stam
     });
 }
 
-/// Gives what is kept under a fingerprint a new stamp.
+/// Stamps the certificate of a fingerprint.
 fn restamp_at(certs: &mut BTreeMap<Fpr, Kept, Global>, fpr: &Fpr, stamp: u64)
     ensures restamped { RestampsAt fpr.now stamp certs.old.entries certs.new.entries }
 {
@@ -82,7 +85,7 @@ fn restamp_at(certs: &mut BTreeMap<Fpr, Kept, Global>, fpr: &Fpr, stamp: u64)
     }
 }
 
-/// Does what `restamp` does, by the index: no other certificate is looked at. Logs what it gave the stamp.
+/// Does what `restamp` does, but looks only at the certificate that the index names. Logs what it stamped.
 pub(crate) fn restamp_noted(
     certs: &mut BTreeMap<Fpr, Kept, Global>,
     index: &Index,

@@ -1,4 +1,5 @@
-//! Whether there is room for a certificate even if all of it is new: then no union has to be tried.
+//! A quick check for room: whether a certificate fits even if everything in it is new. If so, an import needs no trial
+//! merge. The answer may be "no" when there is room, and then `importing` tries.
 ghost use Rattle.std.specs.Prelude.{◌≡◌, ◌≤◌, ◌+◌, [], ◌∷◌, true};
 ghost use Rattle.std.specs.Option.{option_copied, IfSome};
 ghost use Rattle.wot_cert.specs.Text.{size_of};
@@ -12,7 +13,7 @@ use std::collections::BTreeMap;
 use wot_cert::Cert;
 use wot_types::{Fpr, Limits};
 
-/// The certificate of a list that has one.
+/// The only certificate of a list, if there is exactly one.
 pub(crate) fn only(list: &[Cert]) -> Option<&Cert>
     ensures { IfSome (option_copied result) (λ cert. list.now ≡ cert ∷ []) }
 {
@@ -22,14 +23,14 @@ pub(crate) fn only(list: &[Cert]) -> Option<&Cert>
     }
 }
 
-/// Whether both are no more than so many.
+/// Whether both together are at most `most`.
 fn within(a: u64, b: u64, most: u64) -> bool
     ensures { result ≡ true → a + b ≤ most }
 {
     a <= most && b <= most - a
 }
 
-/// Whether both are of one key, and no longer than a limit.
+/// Whether both have the same key, and together stay within the limit.
 fn fit(kept: &Cert, cert: &Cert, limit: u64) -> bool
     ensures key { result ≡ true → kept.now.key ≡ cert.now.key }
     ensures sizes { result ≡ true → size_of kept.now + size_of cert.now ≤ limit }
@@ -37,7 +38,7 @@ fn fit(kept: &Cert, cert: &Cert, limit: u64) -> bool
     kept.has_key_of(cert) && are_held(kept, cert) && within(kept.size(), cert.size(), limit)
 }
 
-/// Whether what is kept, if anything, and a certificate are of one key, and no longer than a limit.
+/// Whether the kept certificate, if there is one, has the same key, and both together stay within the limit.
 fn fits_beside(kept: Option<&Kept>, cert: &Cert, limit: u64) -> bool
     ensures { result ≡ true → FitsBeside (option_copied kept.entry) cert.now limit }
 {
@@ -47,7 +48,7 @@ fn fits_beside(kept: Option<&Kept>, cert: &Cert, limit: u64) -> bool
     }
 }
 
-/// Whether no total passes its limit with a certificate.
+/// Whether all totals stay within their limits with this certificate added.
 fn brings_few(total: &Weight, cert: &Cert, limits: &Limits) -> bool
     ensures { result ≡ true → BringsFew total.now cert.now limits.now }
 {
@@ -56,7 +57,7 @@ fn brings_few(total: &Weight, cert: &Cert, limits: &Limits) -> bool
         && within(total.signatures, cert.signatures(), limits.signatures)
 }
 
-/// Whether no limit is passed with a certificate, even if all of it is new.
+/// Whether all limits hold with this certificate added, even if everything in it is new.
 pub(crate) fn has_room(
     certs: &BTreeMap<Fpr, Kept, Global>,
     total: &Weight,

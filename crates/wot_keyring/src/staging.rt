@@ -1,3 +1,6 @@
+//! Merges certificates into the keyring one after the other, and logs how to undo each step. A trial always undoes its
+//! steps; an import does so on an error. Undoing never allocates. `importing` calls `put_all` and `take_back`, and
+//! `in_place` is the cheaper step for a small certificate.
 ghost use Rattle.std.specs.Prelude.{◌≡◌, ◌<◌, ◌+◌, ◌++◌, ◌∷◌, [], vec_len, vec_capacity, IfOk, OnOk, OnErr, None, not};
 ghost use Rattle.std.specs.Prelude.{nat_eq};
 ghost use Rattle.std.specs.Option.{option_map};
@@ -30,32 +33,32 @@ use wot_cert::{Cert, Growth, MergeFault};
 use wot_policy::{Ask, Policy};
 use wot_types::{Fpr, Memory};
 
-/// What was kept under a fingerprint before it was altered.
+/// What was kept under a fingerprint before a step.
 #[derive(Drop)]
 pub(crate) enum Before {
-    /// This, or nothing.
+    /// This certificate, or none.
     Was(Option<Kept>),
-    /// What is there now, without what it grew by, and its stamp.
+    /// The current certificate without this growth, with its earlier stamp.
     Smaller(Growth, u64),
 }
 
-/// A fingerprint, and what was kept under it.
+/// A fingerprint, and what was kept under it before.
 #[derive(Drop)]
 pub(crate) struct Was {
     pub fpr: Fpr,
     pub before: Before,
 }
 
-/// Why certificates were not put among the kept ones.
+/// Why certificates were not merged.
 #[derive(Clone, Copy)]
 pub(crate) enum Fault {
-    /// Two keys have one fingerprint.
+    /// Two keys have the same fingerprint.
     Clash,
-    /// No memory was found.
+    /// Out of memory.
     Memory,
 }
 
-/// Keeps something under a fingerprint, and gives what was there. After `Memory` all is as before.
+/// Sets the certificate of a fingerprint and returns the earlier one. On `Memory` nothing changes.
 fn keep(
     certs: &mut BTreeMap<Fpr, Kept, Global>,
     fpr: Fpr,
@@ -74,7 +77,7 @@ fn keep(
     }
 }
 
-/// Keeps under a fingerprint that is there what was kept before. Takes no memory.
+/// Sets an earlier certificate again under a fingerprint that is there. Doesn't allocate.
 fn keep_again(certs: &mut BTreeMap<Fpr, Kept, Global>, fpr: Fpr, kept: Kept)
     ensures again { IsThere certs.old.entries fpr → certs.new.entries
         ≡ insert_entry fpr_cmp certs.old.entries fpr kept }
@@ -84,7 +87,7 @@ fn keep_again(certs: &mut BTreeMap<Fpr, Kept, Global>, fpr: Fpr, kept: Kept)
     };
 }
 
-/// Takes out what a certificate grew by, and gives it its stamp again. Takes no memory.
+/// Removes what a certificate grew by, and restores its stamp. Doesn't allocate.
 fn shrink_at(certs: &mut BTreeMap<Fpr, Kept, Global>, fpr: &Fpr, growth: Growth, stamp: u64)
     requires may { MayShrink growth (lookup (is_fpr fpr.now) certs.old.entries) }
     ensures shrunk { certs.new.entries ≡ shrunk_at certs.old.entries fpr.now growth stamp }
@@ -95,7 +98,7 @@ fn shrink_at(certs: &mut BTreeMap<Fpr, Kept, Global>, fpr: &Fpr, growth: Growth,
     }
 }
 
-/// Puts back what was kept under a fingerprint. Takes no memory.
+/// Undoes one step. Doesn't allocate.
 fn put_back(certs: &mut BTreeMap<Fpr, Kept, Global>, was: Was)
     requires leads { (first : Entries) × LeadsBack first was certs.old.entries }
     ensures back { (first : Entries) → LeadsBack first was certs.old.entries → certs.new.entries ≡ first }
@@ -108,7 +111,7 @@ fn put_back(certs: &mut BTreeMap<Fpr, Kept, Global>, was: Was)
     }
 }
 
-/// Takes back all that a log tells of, from its end on.
+/// Undoes all steps of a log, the last one first.
 pub(crate) fn take_back(certs: &mut BTreeMap<Fpr, Kept, Global>, mut log: Vec<Was>)
     requires leads { (first : Entries) × IsLog first log.items certs.old.entries }
     ensures back { (first : Entries) → IsLog first log.items certs.old.entries → certs.new.entries ≡ first }
@@ -118,7 +121,7 @@ pub(crate) fn take_back(certs: &mut BTreeMap<Fpr, Kept, Global>, mut log: Vec<Wa
     }
 }
 
-/// Notes what was kept, where there is room.
+/// Logs what was kept before a step. The log has room.
 pub(crate) fn note(log: &mut Vec<Was>, was: Was)
     requires room { vec_len log.old < vec_capacity log.old }
     ensures noted { log.new.items ≡ log.old.items ++ was ∷ [] }
@@ -126,7 +129,7 @@ pub(crate) fn note(log: &mut Vec<Was>, was: Was)
     let _ = log.push(was);
 }
 
-/// Keeps something under a fingerprint, and notes in the log what was there.
+/// Sets the certificate of a fingerprint, and logs what was there.
 pub(crate) fn put(
     certs: &mut BTreeMap<Fpr, Kept, Global>,
     log: &mut Vec<Was>,
@@ -149,14 +152,14 @@ pub(crate) fn put(
     Ok(())
 }
 
-/// A certificate that another is to be united with, and its stamp where it is kept.
+/// A certificate to merge into, with its stamp if it is kept.
 #[derive(Drop)]
 struct Start {
     cert: Cert,
     stamp: Option<u64>,
 }
 
-/// The kept certificate of the same fingerprint, or the key alone.
+/// A copy of the kept certificate of the same fingerprint, or the bare key.
 fn begin(alloc: Global, certs: &BTreeMap<Fpr, Kept, Global>, cert: &Cert) -> Result<Start, Memory>
     ensures cert { IfOk result (λ start. start.cert ≡ begun (found_for certs.now.entries cert.now) cert.now) }
     ensures whole { IsCertificate cert.now }
@@ -172,7 +175,7 @@ fn begin(alloc: Global, certs: &BTreeMap<Fpr, Kept, Global>, cert: &Cert) -> Res
                 Err(Memory) => Err(Memory),
             }
         }
-        // The key of a certificate is readable.
+        // The key of a certificate can always be parsed.
         None => match Cert::bare(alloc, cert.body()) {
             Ok(Some(cert)) => Ok(Start { cert, stamp: None }),
             _ => Err(Memory),
@@ -180,7 +183,7 @@ fn begin(alloc: Global, certs: &BTreeMap<Fpr, Kept, Global>, cert: &Cert) -> Res
     }
 }
 
-/// What a union did.
+/// What a merge did.
 #[derive(Clone, Copy)]
 pub(crate) struct Grown {
     pub before: Weight,
@@ -189,7 +192,7 @@ pub(crate) struct Grown {
     pub items: u64,
 }
 
-/// Unites a certificate with another, by a policy.
+/// Merges a certificate into another under a policy.
 fn grow<F: Fn(Ask) -> bool>(
     alloc: Global,
     start: &mut Cert,
@@ -224,25 +227,25 @@ fn grow<F: Fn(Ask) -> bool>(
     }
 }
 
-/// The stamp and the limit by which certificates are put among the kept ones.
+/// The stamp and the size limit for the certificates that are merged.
 #[derive(Clone, Copy)]
 pub(crate) struct Terms {
-    /// The stamp of what is altered.
+    /// The stamp for what is altered.
     pub stamp: u64,
-    /// The size that a certificate may have.
+    /// The limit on a certificate's size.
     pub limit: u64,
 }
 
-/// What becomes of the kept certificates by one that is united with them.
+/// The result of merging one certificate with what is kept.
 #[derive(Drop)]
 pub(crate) struct Staged {
-    /// What is kept from now on.
+    /// What is kept afterwards.
     pub kept: Kept,
     pub before: Weight,
     pub after: Weight,
     /// The components and signatures that are new.
     pub items: u64,
-    /// One where the key is new.
+    /// 1 if the key is new, else 0.
     pub keys: u64,
 }
 
@@ -255,7 +258,7 @@ pub(crate) fn stamp_of(old: Option<u64>, items: u64, stamp: u64) -> u64
     }
 }
 
-/// Unites a certificate with what is kept under its fingerprint, by a policy.
+/// Merges a certificate with what is kept under its fingerprint, under a policy.
 fn take_step<F: Fn(Ask) -> bool>(
     alloc: Global,
     certs: &BTreeMap<Fpr, Kept, Global>,
@@ -313,8 +316,8 @@ fn take_step<F: Fn(Ask) -> bool>(
     }
 }
 
-/// Unites a certificate with a copy of what is kept, by a policy, notes what was kept, and counts. After a fault the
-/// log still leads back.
+/// Merges a certificate with a copy of what is kept under a policy, logs what was kept, and updates the tally. On an
+/// error the log still undoes everything.
 fn put_one<F: Fn(Ask) -> bool>(
     alloc: Global,
     certs: &mut BTreeMap<Fpr, Kept, Global>,
@@ -352,8 +355,8 @@ fn put_one<F: Fn(Ask) -> bool>(
     }
 }
 
-/// Unites a certificate with the kept ones, by a policy, notes what was kept, and counts: in place where it is small
-/// beside the kept one, by a copy else. After a fault the log still leads back.
+/// Merges one certificate under a policy, logs what was kept, and updates the tally: in place if it is small compared
+/// with the kept one, else with a copy. On an error the log still undoes everything.
 fn put_next<F: Fn(Ask) -> bool>(
     alloc: Global,
     certs: &mut BTreeMap<Fpr, Kept, Global>,
@@ -385,8 +388,8 @@ fn put_next<F: Fn(Ask) -> bool>(
     }
 }
 
-/// Unites certificates with the kept ones, one after the other, by a policy, notes what was kept, and counts. After a
-/// fault the log still leads back.
+/// Merges certificates one after the other under a policy, logs what was kept, and updates the tally. On an error the
+/// log still undoes everything.
 pub(crate) fn put_all<F: Fn(Ask) -> bool>(
     alloc: Global,
     certs: &mut BTreeMap<Fpr, Kept, Global>,

@@ -1,3 +1,5 @@
+//! The totals that limits are compared with: sizes, signatures and certificates that are too long, and how much of an
+//! import was new. `staging` updates them at each step, so that no limit needs a walk over the keyring.
 ghost use Rattle.std.specs.Prelude.{◌≡◌, ◌+◌, ◌≤◌, ◌<◌, ◌^◌, IfOk, OnOk, true};
 ghost use Rattle.wot_cert.specs.Text.{size_of};
 ghost use Rattle.wot_keyring.specs.Staging.{CanMove, Moves, Weighs};
@@ -5,26 +7,26 @@ ghost use Rattle.wot_keyring.specs.Staging.{CanMove, Moves, Weighs};
 use wot_cert::Cert;
 use wot_types::Memory;
 
-/// No memory holds a certificate whose text has so many octets.
+/// A certificate with this many octets doesn't fit in memory.
 const MOST: u64 = 1 << 62;
 
-/// What a certificate weighs, or all of them.
+/// The size and the signatures of a certificate, or of all of them.
 #[derive(Clone, Copy)]
 pub(crate) struct Weight {
     pub octets: u64,
     pub signatures: u64,
-    /// How many certificates are longer than the limit.
+    /// How many certificates exceed the limit on their size.
     pub long: u64,
 }
 
-/// Nothing.
+/// The totals of no certificates.
 pub(crate) const NOTHING: Weight = Weight {
     octets: 0,
     signatures: 0,
     long: 0,
 };
 
-/// What all certificates weigh, and how many keys, components and signatures are new.
+/// The totals of all certificates, and how many keys, components and signatures are new.
 #[derive(Clone, Copy)]
 pub(crate) struct Tally {
     pub total: Weight,
@@ -38,14 +40,14 @@ pub(crate) fn is_held(cert: &Cert) -> bool
     cert.size() < MOST
 }
 
-/// Whether memory can hold the union of both.
+/// Whether memory can hold both certificates merged.
 pub(crate) fn are_held(a: &Cert, b: &Cert) -> bool
     ensures { result ≡ true → size_of a.now + size_of b.now < 2 ^ 63 }
 {
     a.size() < MOST && b.size() < MOST
 }
 
-/// What a certificate weighs, beside a limit of its size.
+/// The size and the signatures of a certificate, and whether it exceeds a limit on its size.
 pub(crate) fn weigh_cert(cert: &Cert, limit: u64) -> Weight
     requires { size_of cert.now < 2 ^ 63 }
     ensures weighs { Weighs limit result cert.now }
@@ -58,7 +60,7 @@ pub(crate) fn weigh_cert(cert: &Cert, limit: u64) -> Weight
     }
 }
 
-/// A total in which one part takes the place of another.
+/// A total after one part replaces another.
 fn moved(total: u64, before: u64, after: u64) -> Result<u64, Memory>
     requires { before ≤ total + after }
     ensures { IfOk result (λ new. new + before ≡ total + after) }
@@ -69,7 +71,7 @@ fn moved(total: u64, before: u64, after: u64) -> Result<u64, Memory>
     }
 }
 
-/// The total in which one weight takes the place of another.
+/// The totals after one weight replaces another.
 fn moved_weight(total: &Weight, before: &Weight, after: &Weight) -> Result<Weight, Memory>
     requires can { CanMove before.now after.now total.now }
     ensures moved { IfOk result (λ new. Moves before.now after.now total.now new) }
@@ -84,7 +86,7 @@ fn moved_weight(total: &Weight, before: &Weight, after: &Weight) -> Result<Weigh
     })
 }
 
-/// Both together.
+/// Their sum, unless it overflows.
 fn plus(count: u64, more: u64) -> Result<u64, Memory>
     ensures { IfOk result (λ sum. sum ≡ count + more) }
 {
@@ -94,7 +96,7 @@ fn plus(count: u64, more: u64) -> Result<u64, Memory>
     }
 }
 
-/// Counts what became of one certificate: what it weighed and weighs, and how many items and keys are new.
+/// Updates the tally for one certificate: its weight before and after, and how many items and keys are new.
 pub(crate) fn count(
     tally: &mut Tally,
     before: &Weight,

@@ -1,11 +1,11 @@
-//! Certificates of the key T that tests of several crates look at.
+//! Certificates of the key T that tests of several crates share. A change of one changes what these tests expect.
 use crate::Packet::{self, Signature, UserId};
 use crate::Says::{By, Lasts, Made, Scope, Trust};
 use crate::{
     A, CASUAL, CERTIFICATION, CERTIFICATION_REVOCATION, DIRECT, KEY_T, PERSONA, POSITIVE, R,
 };
 
-/// Two certifications by R, of which the later one lasts 100 seconds.
+/// Two certifications by R. The later one expires after 100 seconds.
 pub const SPANS: &[Packet] = &[
     KEY_T,
     DIRECT,

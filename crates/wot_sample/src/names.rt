@@ -1,7 +1,9 @@
+//! Names for signature types, packet types, keys and their fingerprints, so that a test reads like a description.
+//! `packet` writes keys of which these are the fingerprints: change both together.
 use crate::{Packet, Says};
 use wot_types::Fpr;
 
-/// The kinds of signatures (RFC 9580, section 5.2.1).
+/// Signature types (RFC 9580, section 5.2.1).
 pub const CERTIFICATION: u8 = 0x10;
 
 pub const PERSONA: u8 = 0x11;
@@ -16,7 +18,7 @@ pub const KEY_REVOCATION: u8 = 0x20;
 
 pub const CERTIFICATION_REVOCATION: u8 = 0x30;
 
-/// The types of packets (RFC 9580, section 5).
+/// Packet types (RFC 9580, section 5).
 pub const SIGNATURE: u8 = 2;
 
 pub const KEY: u8 = 6;
@@ -31,14 +33,14 @@ pub const ATTRIBUTE: u8 = 17;
 
 pub const PADDING: u8 = 21;
 
-/// Keys, which differ in their material. Each was made at 1000.
+/// Keys with different key material. Each was created at 1000.
 pub const KEY_R: Packet = Packet::Key(1);
 
 pub const KEY_A: Packet = Packet::Key(2);
 
 pub const KEY_T: Packet = Packet::Key(4);
 
-/// A direct key signature of the moment at which the keys were made.
+/// A direct key signature created together with the keys.
 pub const DIRECT: Packet = Packet::Signature(DIRECT_KEY, &[Says::Made(1000)]);
 
 /// The fingerprint of `KEY_R`.

@@ -1,3 +1,5 @@
+//! The packets of a test certificate, and their octets in the new packet format. `signature` writes the bodies of
+//! signatures. It doesn't use the encoder of the product, so that a test of that one means something.
 use crate::Says;
 use crate::signature::signature;
 use std::alloc::Global;
@@ -5,20 +7,19 @@ use std::alloc::Global;
 /// One packet of a certificate.
 #[derive(Clone, Copy)]
 pub enum Packet {
-    /// A public key of version 4, made at 1000, of public key algorithm 27 and with this one octet of material.
+    /// A version 4 public key, created at 1000, with public key algorithm 27 and this one octet of key material.
     Key(u8),
     /// A user ID.
     UserId(&'static [u8]),
-    /// A signature of this kind by SHA2-256, and what its hashed subpackets say, in order.
+    /// A signature of this type over SHA2-256, and what its hashed subpackets say, in order.
     Signature(u8, &'static [Says]),
-    /// The same by the hash algorithm of this number, which stands first.
+    /// A signature over the hash algorithm of this number, then its type and its hashed subpackets.
     SignatureByHash(u8, u8, &'static [Says]),
     /// Any other packet: its type and its body.
     Other(u8, &'static [u8]),
 }
 
-/// The octets of these packets, in the OpenPGP format. `None` where no memory is found, or a body has 8,384 octets or
-/// more.
+/// The octets of these packets, in the OpenPGP format. `None` if out of memory, or if a body has 8,384 octets or more.
 pub fn text(alloc: Global, packets: &[Packet]) -> Option<Vec<u8>> {
     let mut out = Vec::new(alloc);
     for packet in packets {

@@ -1,18 +1,20 @@
+//! The bodies of test signatures, from a list of what their subpackets say. They hold no cryptography: tests give the
+//! verdicts.
 use std::alloc::Global;
 use wot_types::Fpr;
 
 /// What a hashed subpacket of a signature says (RFC 9580, section 5.2.3.7). Times are in seconds.
 #[derive(Clone, Copy)]
 pub enum Says {
-    /// When the signature was made.
+    /// When the signature was created.
     Made(u32),
-    /// How long it lasts.
+    /// How long it is valid.
     Lasts(u32),
-    /// How long it lets its key last, from the key's making on.
+    /// How long its key is valid, from the key's creation.
     KeyLasts(u32),
     /// Trust of this depth and amount.
     Trust(u8, u8),
-    /// The scope of trust: a pattern.
+    /// The scope of trust: a regular expression.
     Scope(&'static [u8]),
     /// It can't be revoked.
     Final,
@@ -26,8 +28,8 @@ pub enum Says {
     Subpacket(u8, &'static [u8]),
 }
 
-/// The body of a version 4 signature: its kind, the number of its hash algorithm, and what it says. Its public key
-/// algorithm is 27; it has no unhashed area, no octets of the hash and no cryptography.
+/// The body of a version 4 signature: its type, the number of its hash algorithm, and what it says. Its public key
+/// algorithm is 27. The unhashed area, the left 16 bits of the hash and the cryptographic material are empty or zero.
 pub(crate) fn signature(
     alloc: Global,
     kind: u8,
@@ -75,7 +77,7 @@ fn put_number(area: &mut Vec<u8>, kind: u8, number: u32) -> Option<()> {
     put(area, kind, &number.to_be_bytes(), &[])
 }
 
-/// Appends a subpacket of a type, whose body is both parts together, with a length of one octet.
+/// Appends a subpacket of this type with a length of one octet. Its body is both parts together.
 fn put(area: &mut Vec<u8>, kind: u8, body: &[u8], rest: &[u8]) -> Option<()> {
     if body.len() > 100 || rest.len() > 50 {
         return None;

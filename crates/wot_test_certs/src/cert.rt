@@ -1,3 +1,5 @@
+//! Tests of wot_cert: assembling, first errors, order and doubles, numbers in each place, merges and what they ask of a
+//! policy, what a merge would add, and spans of time.
 ghost use Rattle.wot_policy.specs.Kept.{IsFaithful};
 
 use crate::assertion::expect_that;
@@ -16,7 +18,7 @@ use wot_sample::{
 use wot_types::{Fpr, SigNumber};
 use wot_verdict::{Verdict, Verdicts};
 
-/// Packets, and how many certificates and skipped keys they give, or the first fault in the order of the packets.
+/// Packets, and how many certificates and skipped keys they have, or the first error in the order of the packets.
 static OUTCOMES: [(&[Packet], Result<(usize, u64), CertFault>); 8] = [
     (&[KEY_R, KEY_A], Ok((2, 0))),
     (
@@ -63,7 +65,7 @@ fn first_faults_and_skipped_keys(rt: HostRuntime) {
     expect_that(&rt, outcome(rt.alloc(), LEGACY) == Ok((2, 1)));
 }
 
-/// Packets, and those of the first certificate of each: in order, without doubles.
+/// Packets, and those of the first certificate of each: sorted, without doubles.
 static TEXTS: [(&[Packet], &[Packet]); 1] = [
     // Signatures in every place, among markers, padding and what is dropped, with doubles and a user ID that comes
     // twice.
@@ -109,13 +111,13 @@ static TEXTS: [(&[Packet], &[Packet]); 1] = [
     ),
 ];
 
-/// Texts, and the text of the first certificate of each, in the shortest spelling.
+/// Texts, and the text of the first certificate of each, in its shortest form.
 static SPELLED: [(&[u8], &[u8]); 1] = [
     // Lengths in the legacy format.
     (LEGACY, b"\xc6\x07\x04\x00\x00\x03\xe8\x1b\x01"),
 ];
 
-/// Whether the first certificate of a text, and a copy of it, is written so.
+/// Whether the first certificate of a text, and a copy of it, is written like this.
 fn is_written_so(rt: &impl Abort, alloc: Global, text: &[u8], expected: &[u8]) -> bool {
     let found = assembled(alloc, text).ok().expect(rt, "certificates");
     let cert = first(rt, &found);
@@ -124,7 +126,7 @@ fn is_written_so(rt: &impl Abort, alloc: Global, text: &[u8], expected: &[u8]) -
     written.as_slice() == expected && cert.size() == expected.len() as u64
 }
 
-/// The same of packets.
+/// Whether the first certificate of these packets is written as those packets.
 fn are_written_so(rt: &impl Abort, alloc: Global, packets: &[Packet], expected: &[Packet]) -> bool {
     let text = wot_sample::text(alloc, packets).expect(rt, "memory");
     let expected = wot_sample::text(alloc, expected).expect(rt, "memory");
@@ -173,7 +175,7 @@ static NUMBERS: [SigNumber; 4] = [
     ]),
 ];
 
-/// The signatures of the one part.
+/// The signatures of the only part.
 fn sigs_of(parts: &[Part]) -> &[Sig] {
     match parts {
         [part] => part.sigs(),
@@ -181,7 +183,7 @@ fn sigs_of(parts: &[Part]) -> &[Sig] {
     }
 }
 
-/// Whether the one signature has this number.
+/// Whether the only signature has this number.
 fn is_numbered(sigs: &[Sig], number: &SigNumber) -> bool {
     match sigs {
         [sig] => sig.number() == *number,
@@ -203,7 +205,7 @@ fn a_number_for_each_place(rt: HostRuntime) {
     expect_that(&rt, are_numbered(first(&rt, &found)));
 }
 
-/// Kind, hash number, time made, depth, amount, and whether it is sound.
+/// Type, hash number, creation time, depth, amount, and whether it is valid.
 type Facts = Option<(u8, u8, u32, u8, u8, bool)>;
 
 /// Keys with one signature, and what that says.
@@ -235,7 +237,7 @@ fn facts_of_signatures(rt: HostRuntime) {
     }
 }
 
-/// The key R with a direct key signature; T with one and an unsound signature on `t`; T with one of hash number 1
+/// The key R with a direct key signature; T with one and an invalid signature on `t`; T with one of hash number 1
 /// there; T with that and one of hash number 8; and another key.
 const R_WITH_DIRECT: &[Packet] = &[KEY_R, DIRECT];
 
@@ -261,7 +263,7 @@ const T_WITH_BOTH_HASHES: &[Packet] = &[
 
 const OTHER_KEY: &[Packet] = &[KEY_A];
 
-/// Merges the first certificate of a text, where both are small.
+/// Merges the first certificate of a text. Both are small.
 fn merge_text<F: Fn(Ask) -> bool>(
     rt: &impl Abort,
     alloc: Global,
@@ -281,7 +283,7 @@ fn merge_text<F: Fn(Ask) -> bool>(
 /// Packets to merge, the answer, and how often the policy was asked by then.
 type Merge = (&'static [Packet], Result<u64, MergeFault>, u64);
 
-/// The same with the octets of the packets.
+/// A merge with the octets of its packets.
 type Written = (Vec<u8>, Result<u64, MergeFault>, u64);
 
 fn written(rt: &impl Abort, alloc: Global, rows: &[Merge]) -> Vec<Written> {
@@ -307,7 +309,7 @@ static INTO_T: [Merge; 5] = [
     (R_WITH_DIRECT, Err(MergeFault::Clash), 4),
 ];
 
-/// Whether these merges answer so.
+/// Whether these merges return what they should.
 fn merges<F: Fn(Ask) -> bool>(
     rt: &impl Abort,
     alloc: Global,
@@ -331,7 +333,7 @@ const R_BODY: &[u8] = b"\x04\x00\x00\x03\xe8\x1b\x01";
 
 const T_BODY: &[u8] = b"\x04\x00\x00\x03\xe8\x1b\x04";
 
-/// Whether these marks are those of an old hash, a new one, and an unsound signature.
+/// Whether these marks are those of an old hash, a new one, and an invalid signature.
 fn are_marked(marks: &[Sig]) -> bool {
     match marks {
         [old, new, unsound] => !old.admitted() && new.admitted() && !unsound.admitted(),
@@ -378,7 +380,7 @@ fn other_keys_clash(rt: HostRuntime) {
     expect_that(&rt, text_of(&rt, rt.alloc(), &r).as_slice() == KEY_ALONE);
 }
 
-/// What the union of the first certificates of two lists of packets would add to the first.
+/// What merging the first certificate of the second list would add to that of the first.
 fn adds_of(rt: &impl Abort, alloc: Global, packets: &[Packet], more: &[Packet]) -> Adds {
     let found = of_packets(rt, alloc, packets);
     let others = of_packets(rt, alloc, more);
@@ -400,8 +402,8 @@ fn what_a_union_adds(rt: HostRuntime) {
     );
 }
 
-/// A key made at 1000 with a direct key signature, and on `t` a signature made at 2000 and one made at 3000 that
-/// lasts 100.
+/// A key created at 1000 with a direct key signature, and on `t` a signature created at 2000 and one created at 3000
+/// that expires after 100.
 const WITH_TIMES: &[Packet] = &[
     KEY_T,
     DIRECT,

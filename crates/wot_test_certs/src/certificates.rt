@@ -1,4 +1,4 @@
-//! Certificates made of named packets.
+//! Certificates made of wot_sample's packets, for all tests of this crate.
 use crate::assertion::expect_that;
 use std::alloc::Global;
 use std::process::Abort;
@@ -9,7 +9,7 @@ use wot_sample::Packet;
 use wot_types::Fpr;
 use wot_verdict::{Verdict, Verdicts};
 
-/// The certificates of a text whose packets are read.
+/// The certificates of a text whose packets can be read.
 pub(crate) fn assembled(alloc: Global, text: &[u8]) -> Result<Assembled, CertFault> {
     match read_packets(alloc, text) {
         Ok(packets) => {
@@ -34,12 +34,12 @@ pub(crate) fn first<'a>(rt: &impl Abort, found: &'a Assembled) -> &'a Cert {
     found.certs.as_slice().first().expect(rt, "a certificate")
 }
 
-/// The certificate of this key alone.
+/// The certificate of this key and nothing else.
 pub(crate) fn bare(rt: &impl Abort, alloc: Global, key: &[u8]) -> Cert {
     Cert::bare(alloc, key).ok().flatten().expect(rt, "a key")
 }
 
-/// The first certificate of a few packets, judged by the standard rows.
+/// The first certificate of a few packets, marked by the standard policy.
 pub(crate) fn judged(rt: &impl Abort, alloc: Global, packets: &[Packet]) -> Cert {
     let found = of_packets(rt, alloc, packets);
     let first = first(rt, &found);
@@ -51,7 +51,7 @@ pub(crate) fn judged(rt: &impl Abort, alloc: Global, packets: &[Packet]) -> Cert
     cert
 }
 
-/// Says that each of these is good by the issuer that it names, or else by this one.
+/// Sets the verdict good on each of these, by the issuer that it names, or else by this one.
 fn say_good(rt: &impl Abort, verdicts: &mut Verdicts, sigs: &[Sig], own: Fpr) {
     for sig in sigs {
         let facts = sig.facts().expect(rt, "facts");
@@ -60,7 +60,7 @@ fn say_good(rt: &impl Abort, verdicts: &mut Verdicts, sigs: &[Sig], own: Fpr) {
     }
 }
 
-/// The verdicts that say so of all signatures of a key and its user IDs.
+/// The good verdicts on all signatures of a key and its user IDs.
 pub(crate) fn good(rt: &impl Abort, alloc: Global, cert: &Cert) -> Verdicts {
     let mut verdicts = Verdicts::new(alloc);
     say_good(rt, &mut verdicts, cert.direct(), cert.fpr());

@@ -1,8 +1,9 @@
+//! Tests of wot_key: the keys of the standard, their fingerprints and key IDs.
 use crate::assertion::expect_that;
 use wot_key::{fingerprint, key_id, read_key};
 use wot_types::Fpr;
 
-/// A key's body, its version, when it was made, its public key algorithm, its fingerprint in digits, and its key ID.
+/// A key's body, its version, when it was created, its public key algorithm, its fingerprint in digits, and its key ID.
 type Sample = (&'static [u8], u8, u32, u8, &'static str, [u8; 8]);
 
 /// The keys of RFC 9580, appendix A.1 and A.3.

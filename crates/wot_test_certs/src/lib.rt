@@ -1,4 +1,6 @@
-//! Tests of certificates: packets, keys, what signatures say, verdicts, and the edges into a certificate.
+//! Tests of certificates: packets, keys, what signatures say, verdicts, and the edges into a certificate. No part of
+//! the product. Certificates are written down with wot_sample's names; expected values come from the standard, from
+//! other programs, or are worked out by hand.
 #![tactic(auto)]
 
 #[cfg(test)]

@@ -1,3 +1,4 @@
+//! Tests of wot_live: certificates at a time, with the edges into them, the user IDs that they revoked, and spans.
 use crate::assertion::expect_that;
 use crate::certificates::{good, judged};
 use std::alloc::Global;
@@ -13,7 +14,7 @@ use wot_sample::{
 };
 use wot_types::Steps;
 
-/// Whether these edges say so, in order.
+/// Whether these are the terms of the edges, in order.
 fn say(edges: &[Edge], expected: &[EdgeFacts]) -> bool {
     let mut rest = edges;
     for facts in expected {
@@ -28,7 +29,7 @@ fn say(edges: &[Edge], expected: &[EdgeFacts]) -> bool {
     rest.is_empty()
 }
 
-/// An edge from R to the first user ID of T, as its first signature there says without trust.
+/// An edge from R to the first user ID of T, as its first signature there says without a trust subpacket.
 const PLAIN: EdgeFacts = EdgeFacts {
     issuer: R,
     target: T,
@@ -59,7 +60,7 @@ const REVOKED_AT_ONCE: &[Packet] = &[
     Signature(CERTIFICATION_REVOCATION, &[Made(2000), By(R)]),
 ];
 
-/// Revoked before it was made.
+/// Revoked before it was created.
 const REVOKED_BEFORE: &[Packet] = &[
     KEY_T,
     DIRECT,
@@ -68,7 +69,7 @@ const REVOKED_BEFORE: &[Packet] = &[
     Signature(CERTIFICATION_REVOCATION, &[Made(1999), By(R)]),
 ];
 
-/// By a hash that isn't admitted.
+/// Over a hash algorithm that isn't admitted.
 const HASH_NOT_ADMITTED: &[Packet] = &[
     KEY_T,
     DIRECT,
@@ -180,7 +181,7 @@ static CASES: [Case; 12] = [
     ),
 ];
 
-/// Whether that is what is told of a certificate at a time.
+/// Whether that is what a certificate has at a time.
 fn is_told(rt: &impl Abort, alloc: Global, case: &Case) -> bool {
     let (packets, t, edges, revoked, (from, to)) = *case;
     let cert = judged(rt, alloc, packets);

@@ -1,9 +1,10 @@
+//! Tests of wot_packet: lengths in every form at their boundaries, lists of packets, first errors, and what is written.
 use crate::assertion::expect_that;
 use std::alloc::Global;
 use std::process::Abort;
 use wot_packet::{Packet, ReadFault, read_packets, write_packet};
 
-/// Each boundary of the lengths, in each form that can spell it: the header, the type, the length of the body.
+/// Each boundary of the lengths, in each form that can express it: the header, the type, the length of the body.
 static FORMS: [(&[u8], u8, usize); 8] = [
     (b"\xcd\xbf", 13, 191),
     (b"\xcd\xff\x00\x00\x00\xbf", 13, 191),
@@ -23,7 +24,7 @@ static SHORTEST: [(usize, &[u8]); 4] = [
     (8384, b"\xcd\xff\x00\x00\x20\xc0"),
 ];
 
-/// Texts, and the number and the offset of their first faults.
+/// Texts, and the number and the offset of their first errors.
 static FAULTS: [(&[u8], u8, usize); 8] = [
     (b"\xc6\x07\x04\x00\x00\x03\xe8\x1b", 3, 0),
     (b"\x40", 1, 0),
@@ -47,7 +48,7 @@ fn reads_as(alloc: Global, text: &[u8], wanted: &[Packet<'_>]) -> bool {
     }
 }
 
-/// Whether a packet with this header is read, and the one behind it.
+/// Whether a packet with this header is read, and the one after it.
 fn is_read(rt: &impl Abort, alloc: Global, header: &[u8], kind: u8, length: usize) -> bool {
     let body = vec![in alloc; 0x98u8; length].expect(rt, "memory");
     let mut text = header.to_vec(alloc).expect(rt, "memory");
@@ -106,7 +107,7 @@ fn lists_are_read(rt: HostRuntime) {
     }
 }
 
-/// The number and the offset of a text's first fault.
+/// The number and the offset of a text's first error.
 fn fault_of(alloc: Global, text: &[u8]) -> Option<(u8, usize)> {
     match read_packets(alloc, text) {
         Err(ReadFault::Packet(fault)) => Some((fault.why.number(), fault.at)),
@@ -121,7 +122,7 @@ fn first_faults_are_told(rt: HostRuntime) {
     }
 }
 
-/// Whether a user ID packet of this length is written with this header, behind what stood there.
+/// Whether a user ID packet of this length is written with this header, after what was there.
 fn is_written(rt: &impl Abort, alloc: Global, length: usize, header: &[u8]) -> bool {
     let body = vec![in alloc; 0x74u8; length].expect(rt, "memory");
     let mut out = b"before".to_vec(alloc).expect(rt, "memory");

@@ -1,8 +1,9 @@
+//! Tests of wot_policy: the standard policy by hash algorithm, signature type and time, and how often it is asked.
 use crate::assertion::expect_that;
 use std::cell::Cell;
 use wot_policy::{Ask, Policy, PolicyRows, Row, admits, standard_rows};
 
-/// The moment at which SHA-1 and RIPEMD-160 end.
+/// The time from which SHA-1 and RIPEMD-160 aren't admitted.
 const END: u32 = 1_359_676_800;
 
 /// Each hash number that is ever admitted, and whether it still is from `END` on, for signatures that revoke nothing.
@@ -17,7 +18,7 @@ static COUNTED: [(u8, bool); 8] = [
     (14, true),
 ];
 
-/// Each kind of signature of RFC 9580, and some numbers beside those that revoke; and whether it revokes.
+/// Each signature type of RFC 9580, and some numbers next to those that revoke; and whether it revokes.
 static KINDS: [(u8, bool); 18] = [
     (0x00, false),
     (0x01, false),
@@ -48,7 +49,7 @@ fn expected(revokes: bool, hash: u8, made: u32) -> bool {
     false
 }
 
-/// Whether the standard rows admit this hash number exactly where they should, at each moment and for each kind.
+/// Whether the standard policy admits this hash number exactly when it should, at each time and for each type.
 fn is_admitted_so(rows: &PolicyRows, hash: u8) -> bool {
     for made in [0, END - 1, END, END + 1, u32::MAX] {
         for (kind, revokes) in &KINDS {

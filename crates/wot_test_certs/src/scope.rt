@@ -1,10 +1,11 @@
+//! Tests of wot_scope: which user IDs a certification's regular expressions cover.
 use crate::assertion::expect_that;
 use crate::signature::bodies::{MADE_2000, certification};
 use std::alloc::Global;
 use std::process::Abort;
 use wot_scope::in_scope;
 
-/// Appends the subpacket of a pattern, its length by five octets, with a zero octet behind the pattern (RFC 9580,
+/// Appends the subpacket of a regular expression, with a five-octet length and a zero octet at the end (RFC 9580,
 /// sections 5.2.3.7 and 5.2.3.22).
 fn push_pattern(rt: &impl Abort, area: &mut Vec<u8>, pattern: &[u8]) {
     let size = u32::try_from(pattern.len()).unwrap_or(0).saturating_add(2);
@@ -15,7 +16,7 @@ fn push_pattern(rt: &impl Abort, area: &mut Vec<u8>, pattern: &[u8]) {
     area.push(0).expect(rt, "memory");
 }
 
-/// Patterns, a user ID, and whether it is in scope.
+/// Regular expressions, a user ID, and whether it is in scope.
 static ROWS: [(&[&[u8]], &[u8], bool); 7] = [
     (
         &[b"<[^>]+[@.]example\\.org>$"],
@@ -34,7 +35,7 @@ static ROWS: [(&[&[u8]], &[u8], bool); 7] = [
     (&[b"a**", b"Ann"], b"Ann", true),
 ];
 
-/// Whether a user ID is in the scope of a certification with these patterns.
+/// Whether a user ID is in the scope of a certification with these regular expressions.
 fn is_held(rt: &impl Abort, alloc: Global, patterns: &[&[u8]], uid: &[u8]) -> bool {
     let mut area = MADE_2000.to_vec(alloc).expect(rt, "memory");
     for pattern in patterns {

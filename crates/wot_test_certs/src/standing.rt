@@ -1,3 +1,5 @@
+//! Tests of wot_standing: standing and its span, whether an edge is usable, whether a key is in order, and each
+//! issuer's certification on a user ID.
 use crate::assertion::expect_that;
 use crate::certificates::{good, judged};
 use std::alloc::Global;
@@ -14,8 +16,8 @@ use wot_standing::{
 };
 use wot_verdict::Verdicts;
 
-/// Packets, a time, and the standing that they have then: whether there is one, its end, whether it is hard revoked,
-/// its soft moment; and the span of that time.
+/// Packets, a time, and their standing then: whether there is one, its end, whether it is hard revoked, when it is soft
+/// revoked; and the span of that time.
 type Case = (
     &'static [Packet],
     u32,
@@ -38,14 +40,14 @@ const RETIRED_THEN_SUPERSEDED: &[Packet] = &[
     Signature(KEY_REVOCATION, &[Made(2001), Reason(1)]),
 ];
 
-/// Compromised, as is said at 9000: whatever the time is.
+/// Compromised, as said at 9000. It holds at every time.
 const COMPROMISED: &[Packet] = &[
     KEY_A,
     DIRECT,
     Signature(KEY_REVOCATION, &[Made(9000), Reason(2)]),
 ];
 
-/// The key ends by its direct key signature.
+/// The key expires by its direct key signature.
 const ENDED_BY_DIRECT_KEY: &[Packet] = &[
     KEY_T,
     Signature(DIRECT_KEY, &[Made(1000), KeyLasts(500)]),
@@ -53,14 +55,14 @@ const ENDED_BY_DIRECT_KEY: &[Packet] = &[
     Signature(POSITIVE, &[Made(2000), KeyLasts(900)]),
 ];
 
-/// The key ends by a user ID.
+/// The key expires by a self-signature on a user ID.
 const ENDED_BY_USER_ID: &[Packet] = &[
     KEY_T,
     UserId(b"t"),
     Signature(POSITIVE, &[Made(1000), KeyLasts(700)]),
 ];
 
-/// A primary mark is lost with a newer self-certification of its user ID.
+/// A user ID is no longer primary after a newer self-certification.
 const PRIMARY_IS_LOST: &[Packet] = &[
     KEY_T,
     UserId(b"a"),
@@ -70,7 +72,7 @@ const PRIMARY_IS_LOST: &[Packet] = &[
     Signature(POSITIVE, &[Made(3000), KeyLasts(200)]),
 ];
 
-/// One that expired revokes no more.
+/// An expired revocation doesn't revoke any more.
 const REVOCATION_EXPIRED: &[Packet] = &[
     KEY_T,
     DIRECT,
@@ -121,7 +123,7 @@ static CASES: [Case; 11] = [
     ),
 ];
 
-/// Whether a certificate has that standing at a time, over that span.
+/// Whether a certificate has that standing at a time, and that span.
 fn stands_so(rt: &impl Abort, alloc: Global, case: &Case) -> bool {
     let (packets, t, (has, end, hard, soft), (from, to)) = *case;
     let cert = judged(rt, alloc, packets);
@@ -144,7 +146,7 @@ fn standings_and_spans(rt: HostRuntime) {
     }
 }
 
-/// Packets, a time, whether an edge that their key made at 2000 is usable then, and whether the key is in order.
+/// Packets, a time, whether an edge that their key created at 2000 is usable then, and whether the key is in order.
 type Use = (&'static [Packet], u32, bool, bool);
 
 static USES: [Use; 5] = [
@@ -172,7 +174,7 @@ fn usable_and_in_order(rt: HostRuntime) {
     }
 }
 
-/// Whether the certifications of R, A and T stand so on a user ID at a time, and its own key revoked it or not.
+/// Whether the certifications by R, A and T on a user ID are these at a time, and whether its own key revoked it.
 fn stand_at(
     rt: &impl Abort,
     alloc: Global,

@@ -1,3 +1,4 @@
+//! Tests of wot_subpacket: areas with their first errors, every form of a length, and the longest area.
 use crate::assertion::expect_that;
 use std::alloc::Global;
 use std::process::Abort;
@@ -16,7 +17,7 @@ const ZERO: Result<usize, AreaFault> = Err(AreaFault::Zero);
 
 const CUT_BODY: Result<usize, AreaFault> = Err(AreaFault::CutBody);
 
-/// How many subpackets each area has, or its first fault.
+/// How many subpackets each area has, or its first error.
 static AREAS: [(&[u8], Result<usize, AreaFault>); 7] = [
     (&[0x00], ZERO),
     (&[0x05, 0x02, 0x00, 0x00], CUT_BODY),
@@ -37,14 +38,14 @@ fn areas_are_lists_or_have_a_first_fault(rt: HostRuntime) {
     }
 }
 
-/// Each spelled length with the number of octets that it leaves for the body, all of which are read.
+/// Each encoded length with the number of octets that it leaves for the body, all of which are read.
 static LENGTHS: [(&[u8], usize); 3] = [
     (&[0xc0, 0x00], 191),
     (&[0xdf, 0xff], 8382),
     (&[0xff, 0x00, 0x00, 0xff, 0x00], 65279),
 ];
 
-/// Whether a subpacket of this spelled length is read with all its octets, and the one behind it.
+/// Whether a subpacket of this encoded length is read with all its octets, and the one after it.
 fn is_read(rt: &impl Abort, alloc: Global, spelled: &[u8], size: usize) -> bool {
     let body = vec![in alloc; 0x61u8; size].expect(rt, "memory");
     let mut octets = spelled.to_vec(alloc).expect(rt, "memory");

@@ -1,3 +1,4 @@
+//! Tests of wot_verdict: signature numbers as another program computes them, and verdicts as a sorted map.
 use crate::assertion::expect_that;
 use wot_types::{Fpr, SigNumber};
 use wot_verdict::{Verdict, Verdicts, number_of};
@@ -9,7 +10,7 @@ const DIRECT: &[u8] = b"\x04\x1f\x1b\x08\x00\x06\x05\x02\x00\x00\x03\xe8\x00\x00
 
 const CERTIFICATION: &[u8] = b"\x04\x10\x1b\x08\x00\x06\x05\x02\x00\x00\x07\xd0\x00\x00\x00\x00";
 
-/// A place and a signature body there, and its number as Python's hashlib gives it.
+/// A place and a signature body there, and its number as Python's hashlib computes it.
 static NUMBERED: [(u8, &[u8], &[u8], &str); 3] = [
     (
         0,

@@ -1,6 +1,7 @@
+//! The one assertion of this crate's tests, so that each use costs one call.
 use std::process::Abort;
 
-/// Ends the test where this isn't so. An `assert!` in each test would cost each its text and its place.
+/// Fails the test unless this holds. An `assert!` in each test would cost each its text and its place.
 pub(crate) fn expect_that(rt: &impl Abort, so: bool) {
     assert!(rt; so);
 }

@@ -1,3 +1,5 @@
+//! Tests of wot_cache: dumps, answers at different times and after changes, the roads of a view, and the limits on
+//! views.
 ghost use Rattle.std.specs.Prelude.{◌≡◌};
 ghost use Rattle.wot_keyring.specs.Kept.{IsJudgedBy};
 ghost use Rattle.wot_policy.specs.Kept.{IsFaithful, rows_of};
@@ -34,8 +36,7 @@ static SCRIPT: [Line; 13] = [
     Other("view p root 352e5f12059b4605a5b8f88f66d655c9133e1ca2 1"),
 ];
 
-/// What it comes to: certificates by fingerprint, verdicts by number, and views by name with their roots by
-/// fingerprint.
+/// The dump: certificates by fingerprint, verdicts by number, and views by name with their roots by fingerprint.
 static DUMPED: [Line; 12] = [
     Import(T_CERT),
     Import(R_CERT),
@@ -51,7 +52,7 @@ static DUMPED: [Line; 12] = [
     Other("view q root 7f35c8dbd6b3eb2ffd59cbdd2e41ea291212ac38 255"),
 ];
 
-/// Does what a command says to an engine that changed seldom; whether it was done.
+/// Runs a command on an engine that changed little. Returns whether it succeeded.
 pub(crate) fn run<F: Fn(Ask) -> bool>(
     engine: &mut Engine,
     command: &Command,
@@ -80,7 +81,7 @@ pub(crate) fn run<F: Fn(Ask) -> bool>(
     }
 }
 
-/// A fresh engine in which these lines were done. Who is done with it hands it to `drop`: so its drop is proved once.
+/// A fresh engine in which these lines were run. Callers pass it to `drop`, so that its drop is proved once.
 fn engine_of(rt: &impl Abort, alloc: Global, lines: &[Line]) -> Engine {
     let text = text_of(rt, alloc, lines);
     played(rt, alloc, &mut none_asked(), &text)
@@ -109,7 +110,7 @@ fn amount_of(
     Ok((answer.sum, answer.paths.as_slice().len(), steps.made))
 }
 
-/// Whether an engine in which these lines were done dumps this text.
+/// Whether an engine in which these lines were run dumps this text.
 fn is_dumped(rt: &impl Abort, alloc: Global, lines: &[Line], expected: &[u8]) -> bool {
     let engine = engine_of(rt, alloc, lines);
     let mut text = Vec::new(alloc);
@@ -140,7 +141,7 @@ fn a_certificate_is_exported(rt: HostRuntime) {
     drop(engine);
 }
 
-/// Sets the time of a view, in an engine to which little was done.
+/// Sets the time of a view, in an engine that changed little.
 fn set_time(engine: &mut Engine, view: &ViewName, t: u32) -> Result<(), ViewFault> {
     if engine.turns() >= 10_000 {
         return Err(ViewFault::Memory);
@@ -156,7 +157,7 @@ fn set_root(engine: &mut Engine, view: &ViewName, fpr: &Fpr, amount: u8) -> Resu
     engine.view_root(view, fpr, amount)
 }
 
-/// At 5000, R's certification of 2000 is there: 120 by R. At 1500 and at 1999 it isn't. No edge is made twice.
+/// At 5000, R's certification of 2000 counts: 120 by R. At 1500 and at 1999 it doesn't. No edge is made twice.
 fn times_are_told(engine: &mut Engine, p: &ViewName, q: &ViewName) -> bool {
     amount_of(engine, p, 120) == Ok((120, 1, 1))
         && amount_of(engine, p, 120) == Ok((120, 1, 0))
@@ -167,7 +168,7 @@ fn times_are_told(engine: &mut Engine, p: &ViewName, q: &ViewName) -> bool {
         && amount_of(engine, q, 120) == Ok((0, 0, 0))
 }
 
-/// The amount of a root, and then a root's certificate dropped, after which no other edge is made anew.
+/// A root's amount changes, then a root's certificate is dropped. No other edge is made again.
 fn changes_are_told(engine: &mut Engine, p: &ViewName) -> bool {
     if set_root(engine, p, &R, 50).is_err()
         || amount_of(engine, p, 120) != Ok((50, 1, 0))
@@ -188,7 +189,7 @@ fn answers_are_those_of_the_present(rt: HostRuntime) {
     drop(engine);
 }
 
-/// Whether the roads are those of the certification of t.
+/// Whether the roads have the certification of t.
 fn are_its_roads<N: Roads>(roads: &N) -> bool {
     roads.rows(&T).len() == 1
         && roads.rows(&R).is_empty()
@@ -259,7 +260,7 @@ fn closes(engine: &mut Engine, p: &ViewName, q: &ViewName) -> bool {
         && amount_of(engine, p, 1) == Err(AskFault::View)
 }
 
-/// What was closed is opened with no roots.
+/// A view that was closed is opened without roots.
 #[test]
 fn views_within_their_limits(rt: HostRuntime) {
     let limits = Limits {

@@ -1,4 +1,4 @@
-//! Runs over memory.
+//! Sources, sinks and certificate directories in memory for tests of whole runs.
 use std::alloc::Global;
 use std::process::Abort;
 use wot_certd::{MemoryShelf, Shelf};
@@ -17,7 +17,7 @@ pub(crate) fn owned(rt: &impl Abort, alloc: Global, words: &[&str]) -> Vec<Strin
     all
 }
 
-/// A source that gives five octets a read, and fails in the reads with these numbers.
+/// A source that returns five octets a read, and fails in the reads with these numbers.
 pub(crate) fn source_of(
     rt: &impl Abort,
     alloc: Global,
@@ -48,7 +48,7 @@ pub(crate) fn status_of<S: Source, K: Sink, D: Shelf>(
     run_words(alloc, words, input, output, shelf, &mut policy)
 }
 
-/// A shelf without entries.
+/// An empty certificate directory.
 pub(crate) fn empty_shelf(alloc: Global) -> MemoryShelf {
     MemoryShelf::new(alloc, Vec::new(alloc), Vec::new(alloc))
 }
@@ -56,7 +56,7 @@ pub(crate) fn empty_shelf(alloc: Global) -> MemoryShelf {
 /// An entry: its name, and its packets.
 pub(crate) type Row = (Name, &'static [Packet]);
 
-/// A shelf with these entries, whose calls with these numbers fail, some of them late.
+/// A certificate directory with these entries. Its calls with these numbers fail, some of them late.
 pub(crate) fn shelf_of(
     rt: &impl Abort,
     alloc: Global,

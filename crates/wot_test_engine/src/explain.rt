@@ -1,3 +1,5 @@
+//! Tests of wot_explain: the reasons of two certifications, bindings with their list and its pieces, and what is
+//! absent.
 use crate::assertion::expect_that;
 use std::alloc::Global;
 use std::process::Abort;
@@ -10,7 +12,7 @@ use wot_sample::{A, DIRECT, KEY_R, R, SPANS, T};
 use wot_types::{Fpr, Limits, Place, SigNumber, Steps, UserId};
 use wot_verdict::Verdict;
 
-/// By whom the signatures are good: the direct key signatures of R and T, and R's two certifications.
+/// The good verdicts: on the direct key signatures of R and T, and on R's two certifications.
 static VERDICTS: [(SigNumber, Fpr); 4] = [
     (
         SigNumber(
@@ -51,7 +53,7 @@ fn imported(rt: &impl Abort, alloc: Global, text: &[u8]) -> Keyring {
     keyring
 }
 
-/// A keyring with R, T and its user ID, on which two certifications by R stand, and the verdicts.
+/// A keyring with R, with T and its user ID with two certifications by R, and with the verdicts.
 fn judged(rt: &impl Abort, alloc: Global) -> Keyring {
     let mut text = wot_sample::text(alloc, &[KEY_R, DIRECT]).expect(rt, "memory");
     let more = wot_sample::text(alloc, SPANS).expect(rt, "memory");
@@ -85,7 +87,7 @@ fn explained(
     }
 }
 
-/// Whether this is R's binding of T's user ID t alone.
+/// Whether this is exactly R's binding of T's user ID t.
 fn are_bound(binds: &[Bind]) -> bool {
     match binds {
         [bind] => bind.sum == 60 && bind.fpr == T && bind.uid.octets() == b"t".as_slice(),
@@ -93,8 +95,8 @@ fn are_bound(binds: &[Bind]) -> bool {
     }
 }
 
-/// Whether that binding reaches its amount, and no more; and pieces of the list have their sizes: from the front on, of
-/// no binding, and behind the one that there is.
+/// Whether that binding reaches its amount and no more, and pieces of the list have the right sizes: from the start, of
+/// no binding, and after the only one.
 fn is_listed<N: Roads>(
     rt: &impl Abort,
     alloc: Global,
@@ -112,7 +114,7 @@ fn is_listed<N: Roads>(
     are_bound(&binds) && none.is_empty() && all.len() == 1 && empty.is_empty() && rest.is_empty()
 }
 
-/// The edge of the certification that lasts.
+/// The edge of the certification that doesn't expire.
 const EDGE: Step = Step {
     issuer: R,
     target: T,
@@ -135,7 +137,7 @@ fn is_absent(alloc: Global, keyring: &Keyring, fpr: &Fpr, uid: &[u8]) -> bool {
     }
 }
 
-/// Of two certifications by R the one that lasts is the edge.
+/// Of two certifications by R the one that doesn't expire is the edge.
 #[test]
 fn an_edge_and_what_is_absent(rt: HostRuntime) {
     let keyring = judged(&rt, rt.alloc());
@@ -148,7 +150,7 @@ fn an_edge_and_what_is_absent(rt: HostRuntime) {
     drop(keyring);
 }
 
-/// The same of the network at 5000.
+/// Whether it is listed in the network at 5000.
 fn is_listed_then(
     rt: &impl Abort,
     alloc: Global,

@@ -1,4 +1,4 @@
-//! Runs over devices that fail, and over inputs without an end.
+//! Tests of runs over devices that fail, and over inputs without an end: the exit status, and what was written.
 ghost use Rattle.std.specs.Prelude.{None};
 
 use crate::assertion::expect_that;
@@ -10,8 +10,8 @@ use wot_io::{Failed, Sink, Source};
 use wot_sample::{KEY_R, T};
 use wot_types::Name;
 
-/// A script with the numbers of the reads, of the writes and of the shelf's calls that fail, and what comes of it: the
-/// status, and what is written. The source gives five octets a read, the sink takes three a write.
+/// A script with the numbers of the reads, writes and directory calls that fail, and the result: the status, and what
+/// is written. The source returns five octets a read, the sink takes three a write.
 #[derive(Clone, Copy)]
 struct Case {
     script: &'static str,
@@ -50,7 +50,7 @@ key c959bdbafa32a2f89a153b678cfde12197965a9a 0 0
     ..KEYS
 };
 
-/// Each stop leaves a prefix of what the same script writes where nothing fails. A shelf that fails stops nothing.
+/// Each stop leaves a prefix of what the same script writes if nothing fails. A directory that fails stops nothing.
 static CASES: [Case; 19] = [
     KEYS,
     TWICE,
@@ -171,10 +171,10 @@ load c959bdbafa32a2f89a153b678cfde12197965a9a
     },
 ];
 
-/// The shelf of all cases: a certificate, and another's key under a name.
+/// The certificate directory of all cases: a certificate, and another's key under a name.
 static ENTRIES: [Row; 2] = [(Name::Cert(FIELD_FPR), &[FIELD]), (Name::Cert(T), &[KEY_R])];
 
-/// Whether a case ends so.
+/// Whether a case ends as it should.
 fn ends_so(rt: &impl Abort, alloc: Global, case: &Case) -> bool {
     let words = owned(rt, alloc, &["run", "folder"]);
     let mut input = source_of(rt, alloc, case.script.as_bytes(), case.reads);
@@ -194,7 +194,7 @@ fn devices_that_fail(rt: HostRuntime) {
 /// The octets from one line feed to the next.
 const LINE: u64 = 65536;
 
-/// Gives `#` for ever, with a line feed at each 65,536th octet.
+/// Returns `#` forever, with a line feed at every 65,536th octet.
 #[derive(Drop)]
 struct Endless {
     given: u64,
@@ -219,7 +219,7 @@ impl Source for Endless {
     }
 }
 
-/// Takes nothing, and counts that as a fault.
+/// Takes nothing, and counts that as an error.
 #[derive(Drop)]
 struct Refusing {
     faults: u64,
@@ -236,7 +236,7 @@ impl Sink for Refusing {
     }
 }
 
-/// An input without an end is left after 2^30 octets, with the status 6, and nothing is written.
+/// An input without an end is abandoned after 2^30 octets, with the status 6, and nothing is written.
 #[test]
 fn endless_comments(rt: HostRuntime) {
     let words = owned(&rt, rt.alloc(), &["run"]);
@@ -253,7 +253,7 @@ fn endless_comments(rt: HostRuntime) {
     );
 }
 
-/// A fault is counted once.
+/// An error is counted once.
 #[test]
 fn a_sink_that_takes_nothing(rt: HostRuntime) {
     let words = owned(&rt, rt.alloc(), &["run"]);

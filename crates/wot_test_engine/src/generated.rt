@@ -1,3 +1,4 @@
+//! Tests of a generated run: its three lines, as the plain model prints them, and writes that fail.
 use crate::assertion::expect_that;
 use crate::engine::{owned, sink_of, source_of, status_of};
 use std::alloc::Global;
@@ -6,30 +7,30 @@ use wot_certd::{MemoryShelf, Shelf};
 use wot_io::{MemorySink, MemorySource, Source};
 use wot_types::Name;
 
-/// What is told of the script of the start 7 and of 12 keys, as the plain model tells it.
+/// What is printed about the script of the start 7 and of 12 keys, as the plain model prints it.
 static TOLD: &[u8] = b"gen 7 12 lines 90\namounts 2161\n\
     transcript c40141de642fca20d9a8ee5e5d7242b3d0b591689054d331a7388d12dd6c448c\n";
 
-/// Writes that fail, the status, and how much of what is told is written.
+/// Writes that fail, the status, and how much of the text is written.
 static ENDS: [(&[u64], u8, usize); 3] = [(&[], 0, 107), (&[1], 4, 0), (&[3], 4, 6)];
 
-/// A shelf whose first call fails.
+/// A certificate directory whose first call fails.
 fn failing_shelf(rt: &impl Abort, alloc: Global) -> MemoryShelf {
     let fails = [1].to_vec(alloc).expect(rt, "memory");
     MemoryShelf::new(alloc, fails, Vec::new(alloc))
 }
 
-/// Whether as many octets are written of what is told.
+/// Whether this many octets of the text are written.
 fn is_told(output: &MemorySink, size: usize) -> bool {
     output.written().len() == size && TOLD.starts_with(output.written())
 }
 
-/// Whether neither source nor shelf was called.
+/// Whether neither the source nor the directory was called.
 fn are_untouched(input: &mut MemorySource, shelf: &mut MemoryShelf) -> bool {
     input.read(&mut [0; 5]) == Ok(5) && shelf.read(&Name::TrustRoot).is_err()
 }
 
-/// Whether the run ends so, with writes that fail.
+/// Whether the run ends as it should, with writes that fail.
 fn ends_so(rt: &impl Abort, alloc: Global, fails: &[u64], wanted: u8, size: usize) -> bool {
     let words = owned(rt, alloc, &["gen", "7", "12"]);
     let mut input = source_of(rt, alloc, b"keys\n", &[]);

@@ -1,3 +1,5 @@
+//! Tests of wot_keyring: imports one after the other with their counts, refusals and stamps, and how a verdict finds
+//! its certificate.
 ghost use Rattle.wot_keyring.specs.Kept.{AreSmall, IsJudgedBy};
 ghost use Rattle.wot_policy.specs.Kept.{IsFaithful, rows_of};
 
@@ -19,7 +21,7 @@ use wot_verdict::Verdict;
 /// The counts of an import, or why it was refused.
 type Answer = Result<(u64, u64, u64), Refusal>;
 
-/// Imports octets, which are few, into a keyring that changed seldom.
+/// Imports a few octets into a keyring that changed little.
 fn import<F: Fn(Ask) -> bool>(
     alloc: Global,
     keyring: &mut Keyring,
@@ -40,7 +42,7 @@ fn import<F: Fn(Ask) -> bool>(
     }
 }
 
-/// The same of packets.
+/// Imports packets.
 pub(crate) fn import_packets<F: Fn(Ask) -> bool>(
     alloc: Global,
     keyring: &mut Keyring,
@@ -58,7 +60,7 @@ pub(crate) fn import_packets<F: Fn(Ask) -> bool>(
     }
 }
 
-/// Imports lists of packets, one after the other, and gives what the last one answers.
+/// Imports lists of packets one after the other, and returns the last result.
 fn import_all<F: Fn(Ask) -> bool>(
     alloc: Global,
     keyring: &mut Keyring,
@@ -78,7 +80,7 @@ fn import_all<F: Fn(Ask) -> bool>(
 /// The last answer, how often the policy was asked, how many changes are counted, and the stamps of two keys.
 type Outcome = (Answer, u64, u64, u64, u64);
 
-/// Imports lists of packets into a fresh keyring, by the standard rows.
+/// Imports lists of packets into a fresh keyring, under the standard policy.
 fn outcome(alloc: Global, limits: Limits, lists: &[&[Packet]]) -> Outcome
     requires { AreSmall limits }
 {
@@ -95,16 +97,16 @@ fn outcome(alloc: Global, limits: Limits, lists: &[&[Packet]]) -> Outcome
     )
 }
 
-/// Two keys, and behind them what has no place.
+/// Two keys, and then a packet that has no place there.
 const REFUSED: &[Packet] = &[KEY_R, KEY_A, Other(8, b"\x00")];
 
-/// Two keys, and between them one that isn't readable.
+/// Two keys, and between them one that can't be parsed.
 const WITH_SKIPPED: &[Packet] = &[KEY_R, Other(TRUST, b"\x00\x00"), UNREADABLE, KEY_A];
 
 /// The first key with a direct key signature.
 const WITH_DIRECT: &[Packet] = R_CERT;
 
-/// Another key with a direct key signature, and on its user ID an unsound certification.
+/// Another key with a direct key signature, and on its user ID an invalid certification.
 const WITH_UNSOUND: &[Packet] = &[
     KEY_T,
     DIRECT,
@@ -168,7 +170,7 @@ static OUTCOMES: [(&[&[Packet]], Outcome); 7] = [
 
 const FULL: Answer = Err(Refusal::Full(Limit::Certificates));
 
-/// The same where one certificate is the most.
+/// Imports with a limit of one certificate.
 static OF_ONE: [(&[&[Packet]], Outcome); 3] = [
     (&[FIRST_KEY, SECOND_KEY], (FULL, 0, 1, 1, 0)),
     (&[BOTH_KEYS], (FULL, 0, 0, 0, 0)),
@@ -202,7 +204,7 @@ const NUMBER: SigNumber = SigNumber([
     131, 77, 162, 132, 240, 26, 112, 114, 8, 5, 18, 9,
 ]);
 
-/// What a keyring is told of the first key and its direct key signature.
+/// What is set in a keyring about the first key and its direct key signature.
 #[derive(Clone, Copy)]
 enum Told {
     Import(&'static [Packet]),
@@ -211,7 +213,7 @@ enum Told {
     Remove,
 }
 
-/// Tells it a keyring that changed seldom. Whether it was done.
+/// Sets it in a keyring that changed little. Returns whether it succeeded.
 fn tell<F: Fn(Ask) -> bool>(
     alloc: Global,
     keyring: &mut Keyring,
@@ -234,8 +236,8 @@ fn tell<F: Fn(Ask) -> bool>(
     }
 }
 
-/// Whether it was done, how many changes are counted, the stamps of two keys, and how many certificates the last change
-/// altered.
+/// Whether it succeeded, how many changes are counted, the stamps of two keys, and how many certificates the last
+/// change altered.
 type State = (bool, u64, u64, u64, usize);
 
 /// How many certificates the last change altered.
@@ -272,8 +274,8 @@ fn first_other<F: Fn(Ask) -> bool>(
     None
 }
 
-/// A verdict raises the stamp of the certificate on which its signature stands at that time, and of no other, but for
-/// one that says what was said before; each change is logged for what it altered alone.
+/// A verdict raises the stamp of the certificate that has its signature then, and of no other. Setting the current
+/// verdict again raises none. Each change is logged only for what it altered.
 static VERDICTS: [(Told, State); 9] = [
     (Told::Set(Verdict::Good(R)), (true, 1, 0, 0, 0)),
     (Told::Import(WITH_DIRECT), (true, 2, 2, 0, 1)),

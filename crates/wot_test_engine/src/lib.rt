@@ -1,4 +1,5 @@
-//! Tests of the keyring, the views over it, lists and explanations, and the machine.
+//! Tests of the keyring, the views over it, lists and explanations, and the machine. No part of the product. They run
+//! whole scripts in memory; the suites in tests/ run the built program.
 #![tactic(auto)]
 
 #[cfg(test)]

@@ -1,5 +1,5 @@
-//! The edges that the questions of a generated script make, by one count: at least those that are in use, and at most
-//! the signatures of what was altered since the last question of the same view.
+//! Tests of how many edges the questions of a generated script make: at least those in use, and at most the signatures
+//! of what was altered since the last question of the same view.
 ghost use Rattle.std.specs.Prelude.{◌≡◌};
 ghost use Rattle.wot_keyring.specs.Kept.{IsJudgedBy};
 ghost use Rattle.wot_policy.specs.Kept.{IsFaithful, rows_of};
@@ -14,7 +14,7 @@ use wot_policy::{Ask, Policy, admits, standard_rows};
 use wot_script::{Command, read_line};
 use wot_types::{Fpr, Limits, Steps, UserId, ViewName};
 
-/// From so many questions of the script of the start 7 and of 50 keys on, the least and the most edges that are made,
+/// From this many questions of the script of the start 7 and of 50 keys on, the least and the most edges that are made,
 /// as the plain model counts edges and signatures. The first question of each of two views makes those into all
 /// certificates, and each of the last eight questions those into the one that was altered before it.
 static MADE: [(u64, u64, u64); 10] = [
@@ -77,7 +77,7 @@ fn is_answered(
     answered && may_be_made(count)
 }
 
-/// Does what a command says; whether it was done so.
+/// Runs a command. Returns whether it succeeded.
 fn obey<F: Fn(Ask) -> bool>(
     engine: &mut Engine,
     count: &mut Count,
@@ -97,7 +97,7 @@ fn obey<F: Fn(Ask) -> bool>(
     }
 }
 
-/// Does what a line says; whether it was done so.
+/// Runs a line. Returns whether it succeeded.
 fn play<F: Fn(Ask) -> bool>(
     alloc: Global,
     engine: &mut Engine,
@@ -116,7 +116,7 @@ fn play<F: Fn(Ask) -> bool>(
     }
 }
 
-/// Does what the lines of a text say; whether each was done so.
+/// Runs the lines of a text. Returns whether each succeeded.
 fn play_all<F: Fn(Ask) -> bool>(
     alloc: Global,
     engine: &mut Engine,
@@ -143,7 +143,7 @@ fn play_all<F: Fn(Ask) -> bool>(
     true
 }
 
-/// A fresh engine that did what the lines of a text say, by the standard rows.
+/// A fresh engine that ran the lines of a text, under the standard policy.
 pub(crate) fn played(rt: &impl Abort, alloc: Global, count: &mut Count, text: &[u8]) -> Engine {
     let rows = standard_rows();
     let mut policy = Policy::new(rows, |ask| admits(&rows, ask));

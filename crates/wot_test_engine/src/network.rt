@@ -1,3 +1,4 @@
+//! Tests of wot_network on a keyring without certificates.
 use crate::assertion::expect_that;
 use std::alloc::Global;
 use wot_edge::Roads;
@@ -14,7 +15,7 @@ fn tells_nothing<R: Roads>(roads: &R) -> bool {
         && roads.place(&NOBODY, b"t").is_none()
 }
 
-/// A keyring that holds a verdict alone tells of nobody, at each time and after each change.
+/// A keyring with only a verdict has no edges, at each time and after each change.
 fn is_empty_network(alloc: Global) -> Option<bool> {
     let mut keyring = Keyring::new(alloc, Limits::standard());
     let mut network = Network::new(alloc, 5000);

@@ -1,4 +1,4 @@
-//! Kept rows: a change that touches no certificate, and a new question after it, make no edge anew.
+//! Tests that edges are kept: a change that touches no certificate, and a new question after it, make no edge again.
 ghost use Rattle.std.specs.Prelude.{◌≡◌};
 ghost use Rattle.wot_keyring.specs.Kept.{IsJudgedBy};
 ghost use Rattle.wot_policy.specs.Kept.{IsFaithful, rows_of};
@@ -13,8 +13,7 @@ const FOUND: &str = "amount 120 paths 1\n\
     path 120 steps 1 root 7f35c8dbd6b3eb2ffd59cbdd2e41ea291212ac38\n\
     step 7f35c8dbd6b3eb2ffd59cbdd2e41ea291212ac38 3c98b8180e0fcaca1032499082a5de8fa5d98232 0 120 t\n";
 
-/// Lines, and their replies: R certifies the user ID t of T, and nobody has the signature on which the last verdicts
-/// are.
+/// Lines, and their replies: R certifies the user ID t of T. No certificate has the signature of the last verdicts.
 static EXCHANGES: [(&str, &str); 12] = [
     (
         "import c60704000003e81b01c210041f1b0800060502000003e800000000",
@@ -74,7 +73,7 @@ fn exchange(number: u32) -> (&'static str, &'static str) {
     }
 }
 
-/// Puts the line with this number.
+/// Appends the line with this number.
 fn put_line(number: u32, line: &mut Vec<u8>) -> Option<()> {
     let (text, _) = exchange(number);
     line.extend_from_slice(text.as_bytes()).ok()

@@ -1,4 +1,4 @@
-//! Lines whose certificates and verdicts are written down by name.
+//! Scripts for tests, with certificates and verdicts that are written down by name.
 use std::alloc::Global;
 use std::process::Abort;
 use wot_sample::Packet::{self, Other as Bare, Signature, UserId};
@@ -37,11 +37,11 @@ pub(crate) const FIELD_FPR: Fpr = Fpr::V4(
     *b"\xc9\x59\xbd\xba\xfa\x32\xa2\xf8\x9a\x15\x3b\x67\x8c\xfd\xe1\x21\x97\x96\x5a\x9a",
 );
 
-/// A key that isn't readable: its version is 3.
+/// A key that can't be parsed: its version is 3.
 pub(crate) const UNREADABLE: Packet = Bare(KEY, b"\x03\x00\x00\x03\xe8\x01");
 
-/// Verdicts: in each the signature on the first key's certificate is good by the second key. Where both are one, it is
-/// the direct key signature, else the certification of the certificate's user ID.
+/// Verdicts: in each the signature on the first key's certificate is good by the second key. If both are the same, it
+/// is the direct key signature, else the certification of the certificate's user ID.
 pub(crate) const R_BY_R: Line = Line::Other(
     "verdict 68d0eb5f8ca13914fcddf1b23e5f608bf9847603834da284f01a707208051209 \
       good 7f35c8dbd6b3eb2ffd59cbdd2e41ea291212ac38",

@@ -1,4 +1,4 @@
-//! Certificates that are stored in a shelf that fails.
+//! Tests of `store` over a certificate directory that fails: the replies, and what is left of the entry.
 use crate::assertion::expect_that;
 use crate::engine::{Row, owned, shelf_of, sink_of, source_of, status_of};
 use std::alloc::Global;
@@ -9,8 +9,8 @@ use wot_types::Name;
 
 const T_NAME: Name = Name::Cert(T);
 
-/// Entries, the calls that fail and those of them that are late, a script and its replies, and what is left under T's
-/// name: packets, or nothing where there is no entry.
+/// Entries, the calls that fail and those of them that fail late, a script and its replies, and what is left under T's
+/// name: packets, or nothing if there is no entry.
 struct Case {
     entries: &'static [Row],
     fails: &'static [u64],
@@ -52,7 +52,7 @@ load 3c98b8180e0fcaca1032499082a5de8fa5d98232
     },
 ];
 
-/// Whether a run writes these replies to a script, over this shelf.
+/// Whether a run over this directory writes these replies to a script.
 fn is_replied_to(rt: &impl Abort, alloc: Global, case: &Case, shelf: &mut MemoryShelf) -> bool {
     let words = owned(rt, alloc, &["run", "folder"]);
     let mut input = source_of(rt, alloc, case.script.as_bytes(), &[]);
@@ -61,7 +61,7 @@ fn is_replied_to(rt: &impl Abort, alloc: Global, case: &Case, shelf: &mut Memory
     status == 0 && output.written() == case.replies.as_bytes()
 }
 
-/// Whether T's entry has these octets; none where there is no entry.
+/// Whether T's entry has these octets, or is missing if none are given.
 fn is_left(shelf: &mut MemoryShelf, wanted: &[u8]) -> bool {
     match shelf.read(&T_NAME) {
         Ok(Given::Bytes(octets)) => octets.as_slice() == wanted && !wanted.is_empty(),
@@ -70,7 +70,7 @@ fn is_left(shelf: &mut MemoryShelf, wanted: &[u8]) -> bool {
     }
 }
 
-/// Whether the script is so replied to, and leaves these packets.
+/// Whether the script has these replies and leaves these packets.
 fn is_stored(rt: &impl Abort, alloc: Global, case: &Case) -> bool {
     let mut shelf = shelf_of(rt, alloc, case.entries, case.fails, case.late);
     let wanted = wot_sample::text(alloc, case.left).expect(rt, "memory");

@@ -1,4 +1,4 @@
-//! The replies to the lines that one read brought are written together, and before the next read.
+//! Tests that the replies to the lines of one read are written together, and before the next read.
 ghost use Rattle.std.specs.Prelude.{None};
 
 use crate::assertion::expect_that;
@@ -30,7 +30,7 @@ impl Sink for Counting {
     }
 }
 
-/// A source of so many lines `keys`, that gives so many octets a read.
+/// A source of this many lines `keys` that returns this many octets a read.
 fn lines_of(rt: &impl Abort, alloc: Global, count: usize, piece: usize) -> MemorySource {
     assert!(rt; piece > 0);
     let mut script = Vec::new(alloc);
@@ -40,8 +40,8 @@ fn lines_of(rt: &impl Abort, alloc: Global, count: usize, piece: usize) -> Memor
     MemorySource::new(script, piece, Vec::new(alloc))
 }
 
-/// How many lines there are, how many octets a read gives, and the writes in turn: so many of so many octets. The reply
-/// to each line has seven.
+/// How many lines there are, how many octets a read returns, and the writes in turn: how many, and of how many octets.
+/// The reply to each line has seven.
 type Case = (usize, usize, &'static [(usize, usize)]);
 
 static CASES: [Case; 3] = [

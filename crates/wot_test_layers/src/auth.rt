@@ -1,3 +1,5 @@
+//! Tests of wot_auth: answers to questions over small networks, with their sums, their paths and what was looked at. It
+//! stands on `roads`.
 use crate::assertion::expect_that;
 use crate::roads::{Row, T as ON_T, U as ON_U, key, network, roots_of};
 use std::alloc::Global;
@@ -19,8 +21,8 @@ const T: u8 = 5;
 /// A path: its amount and its issuers.
 struct Taken(u8, &'static [u8]);
 
-/// What a question is asked over, and what its answer is: its sum and its paths. The edges of `scoped` have a scope in
-/// which the user ID `t` is alone.
+/// What a question is asked over, and its answer: its sum and its paths. The edges of `scoped` have a scope that covers
+/// only the user ID `t`.
 #[derive(Clone, Copy)]
 struct Case {
     roots: &'static [(u8, u8)],
@@ -33,7 +35,7 @@ struct Case {
     paths: &'static [Taken],
 }
 
-/// A question about T's user ID t, with R as the one root, of complete trust, to which there is no path.
+/// A question about T's user ID t. The only root is R, fully trusted, and there is no path.
 const ASKED: Case = Case {
     roots: &[(R, 120)],
     rows: &[],
@@ -50,7 +52,7 @@ const DIRECT: Case = Case {
     ..ASKED
 };
 
-/// Two ways of one amount.
+/// Two paths of the same amount.
 const EVEN: Case = Case {
     rows: &[
         Row(R, B, ON_T, 1, 50),
@@ -174,7 +176,7 @@ fn is_answer(answer: &Answer, sum: u32, paths: &[Taken]) -> bool {
     answer.sum == sum && rest.is_empty()
 }
 
-/// The answer to a question, and what was looked at.
+/// The answer to a question, and what was looked at for it.
 fn answer_of(rt: &impl Abort, alloc: Global, case: &Case, consulted: &mut Consulted) -> Answer {
     let roads = network(rt, alloc, case.rows, case.scoped, 0);
     let roots = roots_of(rt, alloc, case.roots);
@@ -191,7 +193,7 @@ fn answer_of(rt: &impl Abort, alloc: Global, case: &Case, consulted: &mut Consul
     .expect(rt, "memory")
 }
 
-/// Whether the question is answered so, and its target is looked at.
+/// Whether the question has this answer, and its target is looked at.
 fn is_answered(rt: &impl Abort, alloc: Global, case: &Case) -> bool {
     let mut consulted = Consulted::new(alloc);
     let answer = answer_of(rt, alloc, case, &mut consulted);

@@ -1,3 +1,5 @@
+//! Tests of wot_certd: the file names of entries, and the directory in memory and on disk, with calls that fail early
+//! and late. It writes only below a new temporary directory.
 use crate::assertion::expect_that;
 use std::alloc::Global;
 use std::process::Abort;
@@ -27,7 +29,7 @@ static PLACES: [(Name, &str); 3] = [
     (Name::TrustRoot, "trust-root"),
 ];
 
-/// Whether an entry's place is spelled so, both ways.
+/// Whether an entry has this path, in both directions.
 fn is_its_place(rt: &impl Abort, alloc: Global, name: &Name, place: &str) -> bool {
     let text = name_of(alloc, name).expect(rt, "memory");
     text.as_str() == place && fpr_of(place) == Some(*name)
@@ -44,7 +46,7 @@ fn names_are_their_places(rt: HostRuntime) {
     );
 }
 
-/// What a read comes to. Only here what it gives is dropped, whose drop is proved wherever there is one.
+/// What a read should return. The result is dropped here only, so that the drop is proved once.
 #[derive(Clone, Copy)]
 enum Wanted<'a> {
     Octets(&'a [u8]),
@@ -52,7 +54,7 @@ enum Wanted<'a> {
     Failed,
 }
 
-/// Whether a read comes to this.
+/// Whether a read returns this.
 fn reads<S: Shelf>(shelf: &mut S, name: &Name, wanted: Wanted<'_>) -> bool {
     match (shelf.read(name), wanted) {
         (Ok(Given::Bytes(given)), Wanted::Octets(octets)) => given.as_slice() == octets,
@@ -106,7 +108,7 @@ fn calls_of_a_shelf_in_memory(rt: HostRuntime) {
     expect_that(&rt, calls_answer(&mut shelf));
 }
 
-/// Makes a folder of its own for a test.
+/// Creates a directory of its own for a test.
 fn new_folder<R: Files + Env + Abort + AllocGlobal>(rt: &R) -> Option<String> {
     let base = env::temp_dir(rt).expect(rt, "a folder");
     for number in 0..1000u32 {
@@ -120,7 +122,7 @@ fn new_folder<R: Files + Env + Abort + AllocGlobal>(rt: &R) -> Option<String> {
     None
 }
 
-/// A file that is missing, and one that is written and replaced.
+/// A missing file, and one that is written and replaced.
 fn is_written<R: Files + AllocGlobal>(shelf: &mut FolderShelf<'_, R>) -> bool {
     is_absent(shelf, &CERT)
         && shelf.replace(&CERT, b"\x01\x02").is_ok()
@@ -129,7 +131,7 @@ fn is_written<R: Files + AllocGlobal>(shelf: &mut FolderShelf<'_, R>) -> bool {
         && gives(shelf, &CERT, b"\x03")
 }
 
-/// The same, and a folder in a file's place.
+/// That, and a directory in the place of a file.
 fn is_a_shelf<R: Files + Abort + AllocGlobal>(rt: &R, base: &str) -> bool {
     let mut shelf = FolderShelf::new(rt.alloc(), rt, base).expect(rt, "memory");
     let written = is_written(&mut shelf);
@@ -140,7 +142,7 @@ fn is_a_shelf<R: Files + Abort + AllocGlobal>(rt: &R, base: &str) -> bool {
         && shelf.replace(&Name::TrustRoot, b"\x04") == FAILED
 }
 
-/// The entry is a file at its place, and what couldn't be put in its place is gone.
+/// The entry is a file at its path, and what couldn't replace it is gone.
 fn has_its_file<R: Files + Abort + AllocGlobal>(rt: &R, base: &str) -> bool {
     let file = format!(in rt.alloc(); "{base}/{PLACE}").expect(rt, "memory");
     let octets = fs::read(rt, file.as_str()).expect(rt, "a file");
@@ -149,7 +151,7 @@ fn has_its_file<R: Files + Abort + AllocGlobal>(rt: &R, base: &str) -> bool {
     octets.as_slice() == b"\x03".as_slice() && !is_left
 }
 
-/// A file that may not be read, and files of the most octets and of one more, are for a test of the program, over a
+/// Files without permission to read, and files at the size limit and above it, are tested with the program over a
 /// prepared directory.
 #[test]
 fn a_folder(rt: HostRuntime) {

@@ -1,3 +1,5 @@
+//! Tests of wot_check: claimed paths with a table, what their check returns, and the least table that is made. It
+//! stands on `roads`; the rows were worked out by hand.
 use crate::assertion::expect_that;
 use crate::roads::{A, B, C, Row, T, key, network, roots_of};
 use std::alloc::Global;
@@ -9,9 +11,8 @@ use wot_edge::{Path, Step, StepList};
 #[derive(Clone, Copy)]
 struct Taken(u8, &'static [(u8, u8, u8)]);
 
-/// Earlier paths to a user ID of a key, and a table: what their check comes to, and which table is
-/// made after these paths. The edges of 6 have a scope in which the user ID `t` is alone, and those
-/// of 7 aren't usable.
+/// Earlier paths to a user ID of a key, and a table: what their check returns, and which table is made after these
+/// paths. The edges of 6 have a scope that covers only the user ID `t`, and those of 7 aren't usable.
 #[derive(Clone, Copy)]
 struct Case {
     rows: &'static [Row],
@@ -161,7 +162,7 @@ fn made(rt: &impl Abort, alloc: Global, case: &Case) -> Option<Table> {
     absence(alloc, &roads, &roots, &paths, &key(case.target), case.uid).expect(rt, "memory")
 }
 
-/// Whether a table has these labels alone.
+/// Whether a table has exactly these labels.
 fn has_labels(table: &Table, labels: &[(u8, u8)]) -> bool {
     let mut all = table.iter();
     for (octet, label) in labels {
@@ -180,7 +181,7 @@ fn is_made(table: &Option<Table>, labels: Option<&[(u8, u8)]>) -> bool {
     }
 }
 
-/// Whether the check of a case comes to what it should, and its table is made.
+/// Whether the check of a case returns what it should, and its table is made.
 fn is_so(rt: &impl Abort, alloc: Global, case: &Case) -> bool {
     checked(rt, alloc, case) == case.checked && is_made(&made(rt, alloc, case), case.made)
 }

@@ -1,4 +1,5 @@
-//! The lines `absence` and `check`, and the replies to them.
+//! Tests of wot_script: the lines `absence` and `check`, and the replies to them. `script` has the other commands and
+//! the table that these rows are read with.
 use crate::assertion::expect_that;
 use crate::script::{prints, rows_that_hold};
 use std::alloc::Global;
@@ -8,7 +9,7 @@ use wot_script::{
 };
 use wot_types::Fpr;
 
-/// Lines as in the table of the other commands.
+/// Rows as in the table of the other commands.
 const LINES: &str = "\
     absence a $ 120 é Ann\tabsence a $ 120 \\xc3\\xa9 Ann\n\
     absence a $ 0 t\n\
@@ -68,7 +69,7 @@ fn are_labels(labels: &[LabelLine]) -> bool {
     }
 }
 
-/// Whether the claims and the labels of that line are so.
+/// Whether these are the claims and the labels of that line.
 pub(crate) fn is_claimed(claims: &ClaimLines, labels: &LabelLines) -> bool {
     are_claims(claims.items()) && are_labels(labels.items())
 }
@@ -77,7 +78,7 @@ const MISSED: &str = "absence missed 60\nclaim \
     60/1212121212121212121212121212121212121212.7/efefefefefefefefefefefefefefefefefefefef.0 \
     1212121212121212121212121212121212121212=2,efefefefefefefefefefefefefefefefefefefef=1\n";
 
-/// Whether the replies with those paths and that table, and with none, are printed so.
+/// Whether the replies with those paths and that table, and with none, are printed like this.
 fn are_printed(rt: &impl Abort, alloc: Global) -> bool {
     let missed = Reply::Missed(60, claims(rt, alloc), labels(rt, alloc));
     let some = prints(alloc, missed, MISSED);

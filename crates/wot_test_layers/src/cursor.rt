@@ -1,3 +1,4 @@
+//! Tests of wot_cursor: when a cursor is stale, and that it keeps its place.
 use crate::assertion::expect_that;
 use crate::types::named;
 use std::alloc::Global;
@@ -10,7 +11,7 @@ const BEGUN: Stamps = Stamps {
     view: 3,
 };
 
-/// Stamps, and what they tell of a cursor that was begun at `BEGUN`.
+/// Stamps, and what they say about a cursor that was started at `BEGUN`.
 static AGES: [(u64, u64, Age); 3] = [
     (7, 3, Age::Same),
     (8, 4, Age::Keyring(7, 8)),

@@ -1,3 +1,4 @@
+//! Tests of wot_edge: edges and their count, roots, what paths use, lists, and networks in memory.
 use crate::assertion::expect_that;
 use crate::roads::{key, roots_of};
 use std::alloc::Global;
@@ -51,7 +52,7 @@ fn edges_are_counted(rt: HostRuntime) {
     expect_that(&rt, steps.made == u64::MAX);
 }
 
-/// Amounts that are set one after the other, and what comes of them.
+/// Amounts that are set one after the other, and the results.
 static SET: [(u8, u8); 6] = [(7, 60), (1, 120), (9, 1), (7, 90), (9, 0), (3, 0)];
 
 static AMOUNTS: [(u8, u8); 4] = [(1, 120), (7, 90), (9, 0), (3, 0)];
@@ -75,7 +76,7 @@ fn roots_are_a_map_in_order(rt: HostRuntime) {
 
 static SUMS: [(u8, u8, u32); 4] = [(1, 2, 30), (2, 1, 30), (2, 3, 0), (1, 1, 0)];
 
-/// What a path uses that has a pair twice. No valid path has, but what is added is any path.
+/// What a path uses that has a pair twice. No valid path has, but any path may be added.
 fn used_twice(rt: &impl Abort, alloc: Global) -> Used {
     let steps = [step(1, 2, 120), step(2, 1, 50), step(1, 2, 120)];
     let twice = path(rt, alloc, 30, &steps);
@@ -104,7 +105,7 @@ fn two_paths(rt: &impl Abort, alloc: Global) -> PathList {
     PathList::new(paths).duplicate().expect(rt, "memory")
 }
 
-/// Whether a path has this amount and so many steps, and its list of steps is duplicated.
+/// Whether a path has this amount and this many steps, and its list of steps is duplicated.
 fn is_like(rt: &impl Abort, path: &Path, amount: u8, length: usize) -> bool {
     let steps = path.steps.duplicate().expect(rt, "memory");
     path.amount == amount && path.root == key(1) && steps.into_vec().len() == length
@@ -133,7 +134,7 @@ fn line(rt: &impl Abort, alloc: Global, edges: &[EdgeFacts]) -> Vec<Edge> {
     made
 }
 
-/// Roads into 4 and 5. Edges out of order, and edges into another certificate, are not put.
+/// Roads into 4 and 5. Edges out of order, and edges into another certificate, aren't added.
 fn roads_of_two(rt: &impl Abort, alloc: Global) -> PlainRoads {
     let rows = [facts(1, 4, 2000, true), facts(2, 4, 0, false)];
     let turned = [facts(2, 6, 2000, false), facts(1, 6, 2000, false)];

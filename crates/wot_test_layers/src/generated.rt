@@ -1,10 +1,11 @@
+//! Tests of wot_gen: scripts, compared with the text and the digests that a Python program gave.
 use crate::assertion::expect_that;
 use sha2::{Digest, Sha256};
 use std::alloc::Global;
 use std::process::Abort;
 use wot_gen::script;
 
-/// The script of the start 7 and of one key, in pieces, as a Python program with hashlib gives it.
+/// The script of the start 7 and one key, in pieces, as a Python program with hashlib computes it.
 static SINGLE: [&str; 12] = [
     "import c626043b9aca001b63cbe1e459320dd7044c3cd7f43c661ce6984080bab12a02953aeb70673e29cbc227041f1b0800",
     "1d05023b9aca001621043563ca707db33566cec6b808619003ac27efbb3400000000",
@@ -36,7 +37,7 @@ static SCRIPTS: [(u64, u32, u64, &str); 2] = [
     ),
 ];
 
-/// The script of one key stands behind what stood there.
+/// The script of one key is appended to what was there.
 fn is_appended(rt: &impl Abort, alloc: Global) -> bool {
     let mut out = Vec::from_slice(alloc, b"# before\n").expect(rt, "memory");
     let mut wanted = out.clone().expect(rt, "memory");

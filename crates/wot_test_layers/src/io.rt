@@ -1,3 +1,4 @@
+//! Tests of wot_io: the lines of an input in all sizes, reads and writes that fail, and what each call was offered.
 ghost use Rattle.std.specs.Prelude.{◌≡◌, ◌<◌, ◌∷◌, [], length, IsErr, None};
 ghost use Rattle.std.specs.Prelude.{codes, ◌++◌};
 ghost use Rattle.wot_io.specs.Input.{lines_of, whole_lines_of};
@@ -11,9 +12,9 @@ use wot_io::{
     write_all,
 };
 
-/// What `next` answers up to the end, or up to the fourth fault, as text: a line is `t..|`, or `T|` where it is as long
-/// as a line may be; `l` is `Long`, `.` the end, `r` and `m` are the faults. A `!` follows where `text` gives something
-/// after another answer than `Text`.
+/// What `next` returns up to the end, or up to the fourth error, as text: a line is `t..|`, or `T|` if it is as long as
+/// a line may be; `l` is `Long`, `.` the end, `r` and `m` are the errors. A `!` follows if `text` has something after
+/// another result than `Text`.
 fn answers<S: Source>(rt: &impl Abort, alloc: Global, source: &mut S) -> Vec<u8> {
     let mut lines = Lines::new(alloc).expect(rt, "memory");
     let mut seen = Vec::new(alloc);
@@ -58,7 +59,7 @@ fn tell_text(rt: &impl Abort, text: &[u8], seen: &mut Vec<u8>) {
     seen.push(b'|').expect(rt, "memory");
 }
 
-/// The definitions of lines, worked out on "a", a carriage return alone, nothing, and "b".
+/// The definition of lines, worked out on "a", a lone carriage return, nothing, and "b".
 fn rows()
     ensures lines { lines_of (97 ∷ 10 ∷ 13 ∷ 10 ∷ 10 ∷ 98 ∷ [])
         ≡ (97 ∷ []) ∷ (13 ∷ []) ∷ [] ∷ (98 ∷ []) ∷ [] }
@@ -82,7 +83,7 @@ static PARTS: [(&[u8], &[u8]); 9] = [
     (b"\0\xff\n\x0b\n", b"t\0\xff|t\x0b|."),
 ];
 
-/// What is answered of these octets, in pieces of so many, where the read of this number fails.
+/// What is returned for these octets, in pieces of this size, if the read of this number fails.
 fn told(rt: &impl Abort, alloc: Global, input: &[u8], piece: usize, failing: u64) -> Vec<u8> {
     let input = input.to_vec(alloc).expect(rt, "memory");
     let fails = [failing].to_vec(alloc).expect(rt, "memory");
@@ -103,7 +104,7 @@ fn lines_are_the_parts_between_line_feeds(rt: HostRuntime) {
     }
 }
 
-/// Octets, the read that fails, and what is answered.
+/// Octets, the read that fails, and what is returned.
 static FAULTS: [(&[u8], u64, &[u8]); 5] = [
     (b"ab\ncd\nef\n", 1, b"rrrr"),
     (b"ab\ncd\nef\n", 2, b"tab|rrrr"),
@@ -122,8 +123,8 @@ fn a_read_fault_is_answered_again(rt: HostRuntime) {
     }
 }
 
-/// So many octets, with line feeds at these places, in pieces of so many. It keeps how much room
-/// was offered last, and whether it was ever other than a whole piece.
+/// This many octets, with line feeds at these places, in pieces of this size. It records how much room was offered
+/// last, and whether it ever was other than a whole piece.
 #[derive(Drop)]
 struct Long<'a> {
     size: u64,
@@ -162,7 +163,7 @@ impl Source for Long<'_> {
 
 const MOST: u64 = 1_073_741_824;
 
-/// A size, the places of line feeds, the size of pieces, and what is answered.
+/// A size, the places of line feeds, the size of pieces, and what is returned.
 static LONG_INPUTS: [(u64, &[u64], usize, &[u8]); 8] = [
     (16_777_220, &[16_777_216, 16_777_218], 65536, b"T|tx|tx|."),
     (16_777_220, &[16_777_217, 16_777_219], 65536, b"ltx|."),
@@ -210,7 +211,7 @@ fn each_read_offers_a_whole_piece_or_what_remains(rt: HostRuntime) {
     );
 }
 
-/// Takes so many octets of each piece, and keeps how many it was offered.
+/// Takes this many octets of each piece, and records how many it was offered.
 #[derive(Drop)]
 struct Recorder {
     piece: usize,
@@ -286,7 +287,7 @@ fn a_write_fault_leaves_a_prefix(rt: HostRuntime) {
     }
 }
 
-/// The second read fails where its number alone stands among the failing ones.
+/// The second read fails if its number is the only one that should.
 fn second_read(source: &mut MemorySource, to: &mut [u8]) -> Result<usize, Failed>
     requires calls { source.old.calls ≡ 1 }
     requires fails { source.old.fails ≡ 2 ∷ [] }

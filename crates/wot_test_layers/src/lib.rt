@@ -1,4 +1,6 @@
-//! Tests of what is read and printed, names and lists, the certificate directory, paths and answers.
+//! Tests of what is read and printed, names and lists, the certificate directory, paths and answers. No part of the
+//! product. One file for each crate that is tested; `roads` has the networks they share. Expected values come from
+//! other programs or are worked out by hand.
 #![tactic(auto)]
 
 #[cfg(test)]

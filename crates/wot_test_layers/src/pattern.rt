@@ -1,3 +1,5 @@
+//! Tests of wot_pattern: regular expressions and texts, with the answers of another program, and expressions at the
+//! limits.
 use crate::assertion::expect_that;
 use std::alloc::Global;
 use std::process::Abort;
@@ -14,7 +16,7 @@ enum Answer {
 
 use Answer::{Differs, Matches, Unreadable};
 
-/// The answer that a row's first character tells.
+/// The answer that a row's first character stands for.
 fn answer_of(sign: char) -> Answer {
     match sign {
         '=' => Matches,
@@ -40,8 +42,8 @@ fn answer_to(alloc: Global, pattern: &str, text: &str) -> Answer {
     }
 }
 
-/// Patterns, each behind its answer (`=` matches, `!` differs, `?` unreadable), and behind a tab the texts. The answers
-/// were computed by another program, with sets of positions and no passes.
+/// Regular expressions, each after its answer (`=` matches, `!` differs, `?` can't be parsed), and after a tab the
+/// texts. The answers were computed by another program, with sets of positions and no passes.
 const ROWS: &str = "\
     =\t\n\
     =\tabc\n\
@@ -216,7 +218,7 @@ fn answers_as_another_program(rt: HostRuntime) {
     expect_that(&rt, rows_that_hold(&rt, rt.alloc(), ROWS) == 140);
 }
 
-/// The text of so many times the one part and then so many times the other.
+/// The first part this many times, then the second part this many times.
 fn repeated(rt: &impl Abort, alloc: Global, count: u32, first: &str, second: &str) -> String {
     let mut text = String::new(alloc);
     for _ in 0..count {
@@ -228,7 +230,7 @@ fn repeated(rt: &impl Abort, alloc: Global, count: u32, first: &str, second: &st
     text
 }
 
-/// Patterns at their bounds, in so many times two parts, and what they answer of `x`.
+/// Expressions at their limits, as this many times two parts, and their answer to `x`.
 static BOUNDS: [(u32, &str, &str, Answer); 4] = [
     (64, "(", ")", Matches),
     (65, "(", ")", Unreadable),
@@ -244,7 +246,7 @@ fn bounds_are_exact(rt: HostRuntime) {
     }
 }
 
-/// Texts that one matcher is asked of in turn, and whether `^(a|bc)+$` matches.
+/// Texts that one matcher is asked about in turn, and whether `^(a|bc)+$` matches.
 static AGAIN: [(&str, bool); 6] = [
     ("abc", true),
     ("abb", false),
@@ -259,11 +261,11 @@ fn matcher_of(rt: &impl Abort, alloc: Global, pattern: &str) -> Matcher {
     Matcher::new(alloc, pattern).expect(rt, "memory")
 }
 
-/// Texts of so many `a`, and what `^(a*)*$` answers: a repetition of a repetition has as many readings there as there
-/// are subsets of the places.
+/// Texts of this many `a`, and the answer of `^(a*)*$`: a nested repetition has as many readings there as there are
+/// subsets of the places.
 static NESTED: [(u32, &str, Answer); 2] = [(2000, "", Matches), (2000, "b", Differs)];
 
-/// What that pattern answers to so many `a` and an end.
+/// The answer of that expression to this many `a` and an end.
 fn answer_to_many(rt: &impl Abort, alloc: Global, count: u32, end: &str) -> Answer {
     let mut text = repeated(rt, alloc, count, "a", "");
     text.push_str(end).expect(rt, "memory");

@@ -1,4 +1,4 @@
-//! Networks and roots of keys that are repeated octets.
+//! Networks and roots of keys that are repeated octets, shared by the tests of searches, answers and checks.
 use std::alloc::Global;
 use std::process::Abort;
 use wot_edge::plain::PlainRoads;
@@ -23,7 +23,7 @@ pub(crate) fn key(octet: u8) -> Fpr {
     Fpr::V4([octet; 20])
 }
 
-/// An edge. Those of `scoped` have a scope in which the user ID `t` is alone, and those of `gone` aren't usable.
+/// An edge. Those of `scoped` have a scope that covers only the user ID `t`, and those of `gone` aren't usable.
 fn edge(row: &Row, scoped: u8, gone: u8) -> Edge {
     let facts = EdgeFacts {
         issuer: key(row.0),
@@ -38,7 +38,7 @@ fn edge(row: &Row, scoped: u8, gone: u8) -> Edge {
     Edge::make(facts, &mut Steps::new())
 }
 
-/// The network of these edges, which are in the order of their issuers.
+/// The network of these edges, which are sorted by issuer.
 pub(crate) fn network(
     rt: &impl Abort,
     alloc: Global,

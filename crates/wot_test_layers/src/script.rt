@@ -1,3 +1,5 @@
+//! Tests of wot_script: lines and the commands that they are read as, and replies and the text that they are printed
+//! as.
 ghost use Rattle.std.specs.Prelude.{◌<◌};
 ghost use Rattle.wot_script.specs.Replies.{HasWords};
 ghost use Rattle.wot_script.specs.Spelling.{HasSpelling};
@@ -13,8 +15,8 @@ use wot_script::{
 };
 use wot_types::{Fpr, Limit, SigNumber, UserId, ViewName};
 
-/// Lines. A tab stands behind a line that is a command, and then how that is printed, where it isn't printed as it was
-/// read. `$` and `&` stand for two fingerprints, the lesser one first, `%` for a signature number.
+/// Lines. A line that is a command has a tab after it, and then its printed form if that differs from the line. `$` and
+/// `&` stand for two fingerprints, the lesser one first, `%` for a signature number.
 const LINES: &str = "\
     watch w on v $ 1 \t\n\
     watch -_9 on a % 4294967295 \\x41\twatch -_9 on a % 4294967295 A\n\
@@ -71,7 +73,7 @@ fn put(rt: &impl Abort, octet: u8, line: &mut Vec<u8>) {
     expect_that(rt, put.is_ok());
 }
 
-/// What a line is wanted to be: no command, one that is printed so, or the one of `word_of` with this word.
+/// What a line should be: no command, one that is printed like this, or the one for which `word_of` returns this word.
 #[derive(Clone, Copy)]
 enum Wanted<'a> {
     Nothing,
@@ -79,7 +81,7 @@ enum Wanted<'a> {
     Fields(&'a str),
 }
 
-/// Whether a command is what is wanted.
+/// Whether a command is the expected one.
 fn is_wanted(alloc: Global, command: &Command, wanted: Wanted<'_>) -> bool
     requires { HasSpelling command.now }
 {
@@ -93,7 +95,7 @@ fn is_wanted(alloc: Global, command: &Command, wanted: Wanted<'_>) -> bool
     }
 }
 
-/// Whether a line is read as what is wanted. Only here a command is dropped, whose drop is proved wherever there is one.
+/// Whether a line is read as the expected command. Commands are dropped here only, so that the drop is proved once.
 fn is_read_as(alloc: Global, line: &[u8], wanted: Wanted<'_>) -> bool {
     match read_line(alloc, line) {
         Ok(command) => is_wanted(alloc, &command, wanted),
@@ -102,7 +104,7 @@ fn is_read_as(alloc: Global, line: &[u8], wanted: Wanted<'_>) -> bool {
     }
 }
 
-/// Whether a row holds, by what stands before its tab, whether it has one, and what stands behind.
+/// Whether a row holds: what is before its tab, whether it has one, and what is after it.
 fn row_holds(alloc: Global, line: &[u8], is_command: bool, printed: &[u8]) -> bool {
     let wanted = if !is_command {
         Wanted::Nothing
@@ -148,7 +150,7 @@ const ISSUER: Fpr = Fpr::V4([0x12; 20]);
 
 const TARGET: Fpr = Fpr::V4([0xef; 20]);
 
-/// Lines whose fields `word_of` knows, behind its word for them.
+/// Lines whose fields `word_of` knows, each after its word.
 static FIELDS: [(&str, &str); 6] = [
     (
         "ask",
@@ -231,7 +233,7 @@ fn fields_stand_in_their_order(rt: HostRuntime) {
     expect_that(&rt, have_their_fields(rt.alloc()));
 }
 
-/// Whether a reply is printed as this text, behind what stood there.
+/// Whether a reply is printed as this text, after what was there.
 fn is_printed(alloc: Global, reply: &Reply, text: &[u8]) -> bool
     requires { HasWords reply.now }
 {
@@ -242,7 +244,7 @@ fn is_printed(alloc: Global, reply: &Reply, text: &[u8]) -> bool
         && out.iter().skip(1).eq(text)
 }
 
-/// The same of a reply that is dropped here, and only here: its drop is proved wherever there is one.
+/// Whether a reply is printed as this text. Replies are dropped here only, so that the drop is proved once.
 pub(crate) fn prints(alloc: Global, reply: Reply, text: &str) -> bool
     requires { HasWords reply }
 {

@@ -1,3 +1,5 @@
+//! Tests of wot_search: first and second paths with and without a table of reach, what a search looks at, and the
+//! table. The paths come from a program that lists all simple paths.
 ghost use Rattle.wot_edge.specs.Plain.{told_of};
 ghost use Rattle.wot_search.specs.Reach.{IsReach};
 
@@ -12,9 +14,9 @@ use wot_search::{
     next_paths_within,
 };
 
-/// A question about a user ID of the key 4, and its first two paths: the amount, 0 for none, and the
-/// issuers and user IDs of the steps. The edges of `scoped` have a scope in which the user ID `t` is
-/// alone, and those of `gone` aren't usable.
+/// A question about a user ID of the key 4, and its first two paths: the amount, 0 for none, and the issuers and user
+/// IDs of the steps. The edges of `scoped` have a scope that covers only the user ID `t`, and those of `gone` aren't
+/// usable.
 #[derive(Clone, Copy)]
 struct Case {
     rows: &'static [Row],
@@ -26,7 +28,7 @@ struct Case {
     second: (u8, &'static [(u8, u8)]),
 }
 
-/// A question about the user ID `t` whose one root is the key 1, and to which there's no path.
+/// A question about the user ID `t` whose only root is the key 1, and to which there's no path.
 const ASKED: Case = Case {
     rows: &[],
     roots: &[(1, 120)],
@@ -37,7 +39,7 @@ const ASKED: Case = Case {
     second: (0, &[]),
 };
 
-// What a listing of all simple paths by another program gives.
+// As computed by another program that lists all simple paths.
 static CASES: [Case; 8] = [
     // a root that is the target
     Case {
@@ -138,7 +140,7 @@ fn reach_of(rt: &impl Abort, alloc: Global, roads: &PlainRoads, roots: &Roots) -
     make_reach(alloc, roads, roots, &fprs).expect(rt, "memory")
 }
 
-/// The same by a search within reach.
+/// The next path by a search within a table of reach.
 fn next_within<R: Roads>(
     rt: &impl Abort,
     alloc: Global,
@@ -186,7 +188,7 @@ fn are_steps(found: &[Step], steps: &[(u8, u8)]) -> bool {
     rest.is_empty()
 }
 
-/// Whether this path was found; one of amount 0 is none.
+/// Whether this path was found. One of amount 0 stands for none.
 fn is_found(found: &Option<Path>, amount: u8, steps: &[(u8, u8)]) -> bool {
     match found {
         None => amount == 0,
@@ -194,7 +196,7 @@ fn is_found(found: &Option<Path>, amount: u8, steps: &[(u8, u8)]) -> bool {
     }
 }
 
-/// Whether a search and one within reach find this path.
+/// Whether a search without and one with a table of reach find this path.
 fn both_find(
     rt: &impl Abort,
     alloc: Global,
@@ -236,12 +238,12 @@ static HUB: [Row; 4] = [
     Row(5, 2, A, 1, 1),
 ];
 
-/// Whether the one path of this root was found.
+/// Whether the only path of this root was found.
 fn is_way(path: &Path, root: u8) -> bool {
     path.amount == 1 && are_steps(path.steps.as_slice(), &[(root, A), (2, T)])
 }
 
-/// Whether the next paths of three roots are so, and the first of no earlier offers.
+/// Whether the next paths of three roots are as expected, and the first of no earlier offers.
 fn are_offered<R: Roads>(
     rt: &impl Abort,
     alloc: Global,

@@ -1,3 +1,4 @@
+//! Tests of wot_types: fingerprints, signature numbers, view names, user IDs and limits, read, printed and ordered.
 use crate::assertion::expect_that;
 use std::alloc::Global;
 use std::cmp::Ordering;
@@ -18,7 +19,7 @@ fn is_spelled_so() -> bool {
     Fpr::read(UPPER).is_some() && Fpr::read(UPPER) == Fpr::read(LOWER)
 }
 
-/// Whether a fingerprint is printed so.
+/// Whether a fingerprint is printed like this.
 fn is_fpr(alloc: Global, fpr: Fpr, digits: &[u8]) -> bool {
     let mut out = Vec::new(alloc);
     fpr.printed_is_read();
@@ -71,12 +72,12 @@ fn orders_are_those_of_octets(rt: HostRuntime) {
     expect_that(&rt, Steps::new() == Steps { made: 0 });
 }
 
-/// The name of a view that is spelled so.
+/// The view name with this spelling.
 fn name(alloc: Global, text: &[u8]) -> Option<ViewName> {
     ViewName::read(alloc, text).ok()?
 }
 
-/// The same of one that is a name.
+/// The view name with this spelling, which has to be valid.
 pub(crate) fn named(rt: &impl Abort, alloc: Global, text: &[u8]) -> ViewName {
     name(alloc, text).expect(rt, "a name")
 }

@@ -1,3 +1,4 @@
+//! Tests of wot_watch: that watches are kept by name, with the amounts last reported.
 use crate::assertion::expect_that;
 use crate::types::named;
 use std::alloc::Global;
@@ -10,7 +11,7 @@ fn watch(rt: &impl Abort, alloc: Global, told: u32) -> Watch {
     Watch::new(named(rt, alloc, b"p"), Fpr::V4([1; 20]), 120, uid, told)
 }
 
-/// Puts a watch under a name. There are not too many.
+/// Sets a watch under a name. The limit isn't reached.
 fn put(rt: &impl Abort, alloc: Global, watches: &mut Watches, text: &[u8], told: u32) {
     let put = watches.put(named(rt, alloc, text), watch(rt, alloc, told));
     expect_that(rt, put.is_ok());
@@ -37,7 +38,7 @@ fn begin_with(watches: &Watches, text: &[u8]) -> bool {
     }
 }
 
-/// Watches are kept by name; the first is told of, and taken.
+/// Watches are kept by name. The first is reported, and removed.
 fn are_kept(watches: &mut Watches, v: &ViewName, w: &ViewName) -> bool {
     watches.tell(w, 0)
         && is_whole(watches.get(w), 0)

@@ -6,7 +6,7 @@ use Rattle.std.specs.Option.{option_map_or}
 use Rattle.wot_types.specs.ViewName.{view_name_cmp}
 use Rattle.wot_types.specs.declared.fpr.Fpr.{Fpr}
 
--- A watch: which view is asked, for which binding, up to which wanted amount, and the amount last told.
+-- A watch: the view that is asked, the binding, the wanted amount, and the amount last reported.
 pub record Watch : Type 0 where
   pub view : List ℕ
   pub target : Fpr
@@ -14,11 +14,11 @@ pub record Watch : Type 0 where
   pub uid : List ℕ
   pub told : ℕ
 
--- The watches in the order of their names, which are seen as their octets.
+-- The watches in the order of their names, which are seen as octets.
 abbrev pub Watches : Type 0
 Watches = List (List ℕ × Watch)
 
--- how many watches there may be
+-- the limit on the number of watches
 abbrev pub most : ℕ
 most = 64
 
@@ -26,11 +26,11 @@ most = 64
 abbrev pub is_name : List ℕ → List ℕ → Bool
 is_name name = is_at (view_name_cmp name)
 
--- the watch of a name; none where it isn't there
+-- the watch of a name; none if it isn't there
 abbrev pub watch_at : Watches → List ℕ → Option Watch
 watch_at watches name = lookup (is_name name) watches
 
--- whether a watch of this name would be one too many: the name is new, and as many as may be are there
+-- whether a watch of this name would exceed the limit: the name is new, and the limit is reached
 abbrev pub is_full : Watches → List ℕ → Bool
 is_full watches name = is_none (watch_at watches name) && nat_le most (length watches)
 
@@ -38,7 +38,7 @@ is_full watches name = is_none (watch_at watches name) && nat_le most (length wa
 abbrev pub with_watch : Watches → List ℕ → Watch → Watches
 with_watch watches name watch = insert_entry view_name_cmp watches name watch
 
--- the watches, with this amount told for that one, which is there
+-- the watches after this amount was reported for that one, which is there
 abbrev pub with_told : Watches → List ℕ → ℕ → Watches
 with_told watches name amount =
     option_map_or (λ watch. set_value (is_name name) watches (record watch { told = amount }))

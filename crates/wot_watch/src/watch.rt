@@ -1,9 +1,10 @@
+//! One watch: a question to a view, and the amount last reported. It only changes when an amount is reported.
 ghost use Rattle.std.specs.Prelude.{◌≡◌};
 
 use std::marker::Model;
 use wot_types::{Fpr, UserId, ViewName};
 
-/// A question of a view whose amount a client wants to be told when it becomes another.
+/// A question to a view whose amount is reported to a client whenever it changes.
 #[derive(Drop)]
 pub struct Watch {
     view: ViewName,
@@ -22,8 +23,8 @@ impl Model for Watch {
 }
 
 impl Watch {
-    /// A watch over the answer of a view to a wanted amount, for this user ID of this key; `told` is its opening
-    /// amount.
+    /// A watch on the answer of a view to a wanted amount, for this user ID of this key. `told` is the amount that
+    /// opens it.
     pub fn new(view: ViewName, target: Fpr, wanted: u32, uid: UserId, told: u32) -> Watch
         ensures whole { result ≡ record { view = view; target = target; wanted = wanted; uid = uid; told = told } }
     {
@@ -43,7 +44,7 @@ impl Watch {
         &self.view
     }
 
-    /// The key that is asked for.
+    /// The key that is asked about.
     pub fn target(&self) -> Fpr
         ensures target { result ≡ self.now.target }
     {
@@ -57,21 +58,21 @@ impl Watch {
         self.wanted
     }
 
-    /// The octets of the user ID that is asked for.
+    /// The octets of the user ID that is asked about.
     pub fn uid(&self) -> &[u8]
         ensures uid { result.now ≡ self.now.uid }
     {
         self.uid.octets()
     }
 
-    /// The amount last told.
+    /// The amount last reported.
     pub fn told(&self) -> u32
         ensures told { result ≡ self.now.told }
     {
         self.told
     }
 
-    /// This amount is told.
+    /// Records that this amount was reported.
     pub(crate) fn tell(&mut self, amount: u32)
         ensures told { self.new ≡ record self.old { told = amount } }
     {

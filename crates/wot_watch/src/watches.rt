@@ -1,3 +1,5 @@
+//! All watches by name, and the limit on their number. wot_cursor has a table of the same shape: what changes here
+//! probably changes there.
 ghost use Rattle.std.specs.Prelude.{◌≡◌, [], is_some, OnOk, OnErr};
 ghost use Rattle.std.specs.Option.{option_copied};
 ghost use Rattle.std.specs.Iterator.{YieldsFirstBy, item_count};
@@ -12,15 +14,15 @@ use std::collections::btree_map::Iter;
 use std::marker::Model;
 use wot_types::{Memory, ViewName};
 
-/// How many watches there may be.
+/// The limit on the number of watches.
 const MOST: usize = 64;
 
-/// Why a watch doesn't begin.
+/// Why a watch wasn't started.
 #[derive(Clone, Copy)]
 pub enum PutFault {
-    /// As many watches as may be are there, and none has this name.
+    /// The limit is reached, and no watch has this name.
     Full,
-    /// No memory was found.
+    /// Out of memory.
     Memory,
 }
 
@@ -56,7 +58,7 @@ impl Watches {
         }
     }
 
-    /// Begins a watch, or begins it anew. After a refusal all watches are as before.
+    /// Starts or restarts a watch. On an error all watches are unchanged.
     pub fn put(&mut self, name: ViewName, watch: Watch) -> Result<(), PutFault>
         ensures full { TellsFull result (is_full self.old name) }
         ensures put { OnOk result (self.new ≡ with_watch self.old name watch) }
@@ -69,14 +71,14 @@ impl Watches {
         Ok(())
     }
 
-    /// The watch of a name; `None` exactly where it isn't there.
+    /// The watch of a name. `None` if and only if there is none.
     pub fn get(&self, name: &ViewName) -> Option<&Watch>
         ensures found { option_copied result ≡ watch_at self.now name.now }
     {
         self.watches.get(name)
     }
 
-    /// This amount was told for the watch; whether it is there.
+    /// Records that this amount was reported for the watch. Returns whether the watch is there.
     pub fn tell(&mut self, name: &ViewName, amount: u32) -> bool
         ensures there { result ≡ is_some (watch_at self.old name.now) }
         ensures told { self.new ≡ with_told self.old name.now amount }
@@ -90,7 +92,7 @@ impl Watches {
         }
     }
 
-    /// Takes a watch away; whether it was there.
+    /// Removes a watch. Returns whether it was there.
     pub fn take(&mut self, name: &ViewName) -> bool
         ensures there { result ≡ is_some (watch_at self.old name.now) }
         ensures taken { self.new ≡ without_watch self.old name.now }
@@ -108,7 +110,7 @@ impl Watches {
     }
 }
 
-/// Keeps a watch under a name, in place of an earlier one.
+/// Sets or replaces the watch of a name.
 fn put(
     watches: &mut BTreeMap<ViewName, Watch, Global>,
     name: ViewName,
@@ -121,7 +123,7 @@ fn put(
     Ok(())
 }
 
-/// Goes over watches and their names, in the order of the names.
+/// An iterator over watches and their names, in the order of the names.
 #[derive(Drop)]
 pub struct WatchesIter<'a> {
     entries: Iter<'a, ViewName, Watch>,

@@ -1,3 +1,4 @@
+//! Certifications with chosen subpacket areas, for the tests of what signatures say.
 use std::alloc::Global;
 use std::process::Abort;
 use wot_signature::{SigFacts, read_signature};
@@ -5,7 +6,7 @@ use wot_signature::{SigFacts, read_signature};
 /// The hashed subpacket of a creation time, 2000.
 pub(crate) const MADE_2000: [u8; 6] = [0x05, 0x02, 0x00, 0x00, 0x07, 0xd0];
 
-/// What a certification with that subpacket alone says.
+/// What a certification with only that subpacket says.
 pub(crate) const PLAIN: SigFacts = SigFacts {
     kind: 0x10,
     hash: 8,
@@ -22,7 +23,7 @@ pub(crate) const PLAIN: SigFacts = SigFacts {
     sound: true,
 };
 
-/// A certification with these areas and no material.
+/// A certification with these areas and no cryptographic material.
 pub(crate) fn certification(
     rt: &impl Abort,
     alloc: Global,
@@ -44,7 +45,7 @@ fn extend_with_field(rt: &impl Abort, body: &mut Vec<u8>, octets: &[u8]) {
     body.extend_from_slice(octets).expect(rt, "memory");
 }
 
-/// Whether a certification with these areas says this; `None` where it isn't readable.
+/// Whether a certification with these areas says this; `None` if it can't be parsed.
 pub(crate) fn says(
     rt: &impl Abort,
     alloc: Global,

@@ -1,3 +1,4 @@
+//! Tests that only the hashed area of a signature says anything about it.
 use crate::assertion::expect_that;
 use crate::signature::bodies::{MADE_2000, PLAIN, says};
 use wot_signature::SigFacts;

@@ -1,3 +1,4 @@
+//! Tests of hints: the key IDs in either area that may lead a verifier to the issuer.
 use crate::assertion::expect_that;
 use crate::signature::bodies::certification;
 use wot_signature::hint;
@@ -8,7 +9,7 @@ const TWO: &[u8] = &[
     0x09, 0x10, 1, 1, 1, 1, 1, 1, 1, 1, 0x09, 0x90, 1, 2, 3, 4, 5, 6, 7, 9,
 ];
 
-/// Behind the key ID the octets are no list of subpackets.
+/// After the key ID the octets aren't a list of subpackets.
 const BROKEN: &[u8] = &[0x09, 0x10, 1, 2, 3, 4, 5, 6, 7, 8, 0x00];
 
 const ID: Option<[u8; 8]> = Some([1, 2, 3, 4, 5, 6, 7, 8]);

@@ -1,10 +1,11 @@
+//! Tests of the regular expressions of a certification, in their order.
 use crate::assertion::expect_that;
 use crate::signature::bodies::certification;
 use std::alloc::Global;
 use std::process::Abort;
 use wot_signature::scopes;
 
-/// A hashed area, and the texts of its patterns, each with a comma behind it.
+/// A hashed area, and the texts of its regular expressions, each followed by a comma.
 static ROWS: [(&[u8], &[u8]); 3] = [
     (&[0x03, 0x06, 0x61, 0x00], b"a,"),
     (&[0x01, 0x06], b","),
@@ -17,7 +18,7 @@ static ROWS: [(&[u8], &[u8]); 3] = [
     ),
 ];
 
-/// The patterns of a certification with this hashed area, as the table has them.
+/// The regular expressions of a certification with this hashed area, as in the table.
 fn joined(rt: &impl Abort, alloc: Global, hashed: &[u8]) -> Vec<u8> {
     let body = certification(rt, alloc, hashed, &[0x02, 0x06, 0x75]);
     let mut joined = Vec::new(alloc);

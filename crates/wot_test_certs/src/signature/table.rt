@@ -1,3 +1,4 @@
+//! Tests of each subpacket type with its number of octets: what it says, and that one octet less or more is unknown.
 use crate::assertion::expect_that;
 use crate::signature::bodies::{MADE_2000, PLAIN, says};
 use std::alloc::Global;
@@ -5,7 +6,7 @@ use std::process::Abort;
 use wot_signature::SigFacts;
 use wot_types::Fpr;
 
-/// The octets behind the type, of which a row takes the first ones.
+/// The octets after the type. A row takes the first ones.
 static BODY: [u8; 34] = [
     4, 1, 2, 3, 4, 5, 6, 7, 8, 9, 10, 11, 12, 13, 14, 15, 16, 17, 18, 19, 20, 21, 22, 23, 24, 25,
     26, 27, 28, 29, 30, 31, 32, 33,
@@ -15,7 +16,7 @@ const ISSUER: Fpr = Fpr::V4([
     1, 2, 3, 4, 5, 6, 7, 8, 9, 10, 11, 12, 13, 14, 15, 16, 17, 18, 19, 20,
 ]);
 
-/// Whether a certification made at 2000 with one hashed subpacket more says this.
+/// Whether a certification created at 2000 with one more hashed subpacket says this.
 fn says_more(rt: &impl Abort, alloc: Global, kind: u8, size: u8, expected: SigFacts) -> bool {
     let mut hashed = MADE_2000.to_vec(alloc).expect(rt, "memory");
     hashed
@@ -26,7 +27,7 @@ fn says_more(rt: &impl Abort, alloc: Global, kind: u8, size: u8, expected: SigFa
     says(rt, alloc, &hashed, &[], Some(expected))
 }
 
-/// The same of one that isn't critical and of one that is; `None` where it is unknown.
+/// Whether a subpacket says this, critical or not; `None` if it is unknown.
 fn is_type(rt: &impl Abort, alloc: Global, kind: u8, size: u8, known: Option<SigFacts>) -> bool {
     let unsound = SigFacts {
         sound: false,
@@ -65,7 +66,7 @@ static TYPES: [(u8, u8, SigFacts); 3] = [
     ),
 ];
 
-/// A reason has one octet at least.
+/// A reason has at least one octet.
 const REASON: Option<SigFacts> = Some(SigFacts {
     reason: Some(4),
     ..PLAIN
@@ -77,7 +78,7 @@ static LONG_TYPES: [(u8, u8, Option<SigFacts>); 3] = [
     (33, 33, None),
 ];
 
-/// The same, and that the type is unknown with one octet less, and with one more.
+/// Whether it says this, and is unknown with one octet less and with one more.
 fn is_type_alone(rt: &impl Abort, alloc: Global, kind: u8, size: u8, known: SigFacts) -> bool {
     is_type(rt, alloc, kind, size, Some(known))
         && is_type(rt, alloc, kind, size.saturating_sub(1), None)

@@ -1,3 +1,4 @@
+//! Tests of version 6 signatures: all parts of a body, issuers of either version, and the sample of the standard.
 use crate::assertion::expect_that;
 use crate::signature::bodies::{PLAIN, says};
 use std::alloc::Global;
@@ -8,7 +9,7 @@ use wot_types::Fpr;
 /// The subpacket of a creation time, 1000.
 const MADE_1000: &[u8; 6] = b"\x05\x02\x00\x00\x03\xe8";
 
-/// A direct key signature made at 1000, without issuer, salt and material.
+/// A direct key signature created at 1000, without issuer, salt and cryptographic material.
 const DIRECT: &[u8; 23] =
     b"\x06\x1f\x1b\x08\x00\x00\x00\x06\x05\x02\x00\x00\x03\xe8\x00\x00\x00\x00\x00\x00\x02\xaa\xbb";
 
@@ -19,7 +20,7 @@ const SAID: SigFacts = SigFacts {
     ..PLAIN
 };
 
-/// A signature with these areas, and these octets behind the two of the hash.
+/// A signature with these areas, and these octets after the two of the hash.
 fn body_of(rt: &impl Abort, alloc: Global, hashed: &[u8], unhashed: &[u8], rest: &[u8]) -> Vec<u8> {
     let mut body = b"\x06\x1f\x1b\x08".to_vec(alloc).expect(rt, "memory");
     extend_with_field(rt, &mut body, hashed);
@@ -37,7 +38,7 @@ fn extend_with_field(rt: &impl Abort, body: &mut Vec<u8>, octets: &[u8]) {
     body.extend_from_slice(octets).expect(rt, "memory");
 }
 
-/// These octets, and so many others behind them.
+/// These octets, and this many others after them.
 fn padded(rt: &impl Abort, alloc: Global, octets: &[u8], count: usize) -> Vec<u8> {
     let mut all = octets.to_vec(alloc).expect(rt, "memory");
     let rest = vec![in alloc; 7u8; count].expect(rt, "memory");
@@ -45,7 +46,7 @@ fn padded(rt: &impl Abort, alloc: Global, octets: &[u8], count: usize) -> Vec<u8
     all
 }
 
-/// Whether these octets say this; `None` where they aren't readable.
+/// Whether these octets say this; `None` if they can't be parsed.
 fn is_read(body: &[u8], expected: Option<SigFacts>) -> bool {
     read_signature(body) == expected
 }
@@ -56,13 +57,13 @@ fn a_body_has_all_its_parts(rt: HostRuntime) {
     expect_that(&rt, is_read(&DIRECT[..22], None));
 }
 
-/// The front of an issuer fingerprint, how many octets it has behind that, and the issuer that it tells.
+/// The start of an issuer fingerprint, how many octets it has after that, and the issuer that it names.
 static ISSUERS: [(&[u8], usize, Option<Fpr>); 2] = [
     (&[34, 33, 6], 32, Some(Fpr::V6([7; 32]))),
     (&[35, 33, 6], 33, None),
 ];
 
-/// Whether such a subpacket tells this issuer, in a signature of either version.
+/// Whether such a subpacket names this issuer, in a signature of either version.
 fn tells_issuer(
     rt: &impl Abort,
     alloc: Global,

@@ -1,3 +1,4 @@
+//! Tests of `Keyring::load`: entries of a certificate directory, and those that aren't what their name says.
 ghost use Rattle.wot_keyring.specs.Kept.{AreSmall};
 
 use crate::assertion::expect_that;
@@ -10,7 +11,7 @@ use wot_policy::{Policy, admits, standard_rows};
 use wot_sample::{A, KEY_R, Packet, R};
 use wot_types::{Limits, Name};
 
-/// What a fresh keyring answers where it loads octets under a name, how often the policy was asked, and the count of
+/// The result of loading octets under a name into a fresh keyring, how often the policy was asked, and the count of
 /// changes.
 fn outcome(alloc: Global, limits: Limits, name: &Name, octets: &[u8]) -> (Answer, u64, u64)
     requires { AreSmall limits }
@@ -28,12 +29,12 @@ fn outcome(alloc: Global, limits: Limits, name: &Name, octets: &[u8]) -> (Answer
     (told, policy.asked(), keyring.changes())
 }
 
-/// The first key, and one that isn't readable.
+/// The first key, and one that can't be parsed.
 const BESIDE_SKIPPED: &[Packet] = &[KEY_R, UNREADABLE];
 
 const MISFILED: (Answer, u64, u64) = (Err(Refusal::Misfiled), 0, 0);
 
-/// A name, packets that stand under it, and the outcome where they are loaded.
+/// A name, the packets under it, and the result of loading them.
 static LOADED: [(Name, &[Packet], (Answer, u64, u64)); 5] = [
     (Name::Cert(FIELD_FPR), &[FIELD], (Ok((1, 0, 1)), 0, 1)),
     (Name::TrustRoot, WITH_DIRECT, (Ok((1, 0, 2)), 1, 1)),

@@ -1,3 +1,4 @@
+//! Tests of `Keyring::pending`: which signatures have no verdict, with their issuers and hints.
 use crate::assertion::expect_that;
 use crate::keyring::{NUMBER, WITH_DIRECT, import_packets};
 use std::alloc::Global;
@@ -31,7 +32,7 @@ const BY_R: &[u8] = b"d00dbf0ce88f0fa186eb308b971d7288c45b71572a04597fea6db33329
 
 const BY_ITSELF: &[u8] = b"2aa3e95976d1ce6c264d48ca102f71612e54f4d50195cce8b91d2ce13f0075c8";
 
-/// A keyring with these signatures, of which the self-certification is judged.
+/// A keyring with these signatures, of which the self-signature has a verdict.
 fn keyring_of(rt: &impl Abort, alloc: Global) -> Keyring {
     let number = SigNumber::read(BY_ITSELF).expect(rt, "a number");
     let rows = standard_rows();

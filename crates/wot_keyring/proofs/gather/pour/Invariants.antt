@@ -7,7 +7,8 @@ use Rattle.wot_keyring.proofs.gather.pour.Given as goal
 abbrev pub invariant-from : goal.invariant-from
 invariant-from l = record {
   own : AreOwn l.certs.entries;
-  poured : IsPoured (values_of l.initial.certs.entries ++ values_of l.initial.from.entries) l.certs.entries l.from.entries;
+  poured : IsPoured (values_of l.initial.certs.entries ++ values_of l.initial.from.entries) l.certs.entries
+      l.from.entries;
 }
 
 abbrev pub decreases-from : goal.decreases-from

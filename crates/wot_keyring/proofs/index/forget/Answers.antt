@@ -4,4 +4,7 @@ use Rattle.wot_keyring.proofs.Indexed.{turned}
 use Rattle.wot_keyring.proofs.index.forget.Goals as goal
 
 pub returns : goal.returns
-returns c = record { forgotten = λ n. c.remove.ensures.updates.0 n ∙ ap (λ b. unless b (holder_of c.args.holders.now.entries n)) (turned c.args.number.now n) }
+returns c = record {
+  forgotten = λ n. c.remove.ensures.updates.0 n
+      ∙ ap (λ b. unless b (holder_of c.args.holders.now.entries n)) (turned c.args.number.now n);
+}

@@ -11,6 +11,8 @@ left-init c = record { logged = none_logged c.args.stamp c.args.certs.now c.args
 pub left-preserved : goal.left-preserved
 left-preserved c = record {
   logged =
-      one_logged c.args.stamp c.left.left.now c.in-Some.rest.now c.args.certs.now c.in-Some.cert.now c.args.log.now c.left.log c.log_at.new.log c.in-Some.ensures.cases.0 c.left.invariant.logged
-      (subst (λ (f : Fpr). LogsAt c.args.stamp (is_fpr f) c.left.log c.log_at.new.log) c.fpr.ensures.fpr c.log_at.ensures.logged);
+      one_logged c.args.stamp c.left.left.now c.in-Some.rest.now c.args.certs.now c.in-Some.cert.now c.args.log.now
+      c.left.log c.log_at.new.log c.in-Some.ensures.cases.0 c.left.invariant.logged
+      (subst (λ (f : Fpr). LogsAt c.args.stamp (is_fpr f) c.left.log c.log_at.new.log) c.fpr.ensures.fpr
+      c.log_at.ensures.logged);
 }

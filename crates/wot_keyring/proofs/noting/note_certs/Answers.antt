@@ -7,8 +7,11 @@ use Rattle.wot_keyring.proofs.noting.note_certs.Goals as goal
 pub certs-preserved : goal.certs-preserved
 certs-preserved c = record {
   noted =
-      notes_on c.args.index.now c.certs.index c.note_cert.new.index (stands_on c.in-Some.cert.now) (stands_among c.certs.left.now) (stands_among c.in-Some.rest.now)
-      (stands_among c.args.certs.now) c.certs.invariant.noted (λ n q. ap (λ (left : List Certificate). stands_among left n q) c.in-Some.ensures.cases.0)
+      notes_on c.args.index.now c.certs.index c.note_cert.new.index (stands_on c.in-Some.cert.now)
+      (stands_among c.certs.left.now) (stands_among c.in-Some.rest.now)
+      (stands_among c.args.certs.now) c.certs.invariant.noted
+      (λ n q. ap (λ (left : List Certificate). stands_among left n q) c.in-Some.ensures.cases.0)
       c.in_ok-note_cert.ensures.noted;
-  log = still_logged c.args.index.now c.certs.index c.note_cert.new.index c.args.log.now.items c.certs.log.items c.note_cert.new.log.items c.certs.invariant.log c.note_cert.ensures.log;
+  log = still_logged c.args.index.now c.certs.index c.note_cert.new.index c.args.log.now.items c.certs.log.items
+      c.note_cert.new.log.items c.certs.invariant.log c.note_cert.ensures.log;
 }

@@ -9,7 +9,8 @@ use Rattle.wot_keyring.proofs.noting.note_parts.Given as goal
 
 abbrev pub invariant-parts : goal.invariant-parts
 invariant-parts l = record {
-  noted : NotesOn l.initial.index l.index (λ (n : SigNumber) (q : Fpr). is_among n (sigs_on l.left) && is_fpr l.fpr q) (λ (n : SigNumber) (q : Fpr). is_among n (sigs_on l.parts) && is_fpr l.fpr q);
+  noted : NotesOn l.initial.index l.index (λ (n : SigNumber) (q : Fpr). is_among n (sigs_on l.left) && is_fpr l.fpr q)
+      (λ (n : SigNumber) (q : Fpr). is_among n (sigs_on l.parts) && is_fpr l.fpr q);
   log : StillLogged l.initial.index l.initial.log.items l.index l.log.items;
 }
 

@@ -8,7 +8,8 @@ use Rattle.wot_keyring.proofs.noting.note_sigs.Given as goal
 
 abbrev pub invariant-sigs : goal.invariant-sigs
 invariant-sigs l = record {
-  noted : NotesOn l.initial.index l.index (λ (n : SigNumber) (q : Fpr). is_among n l.left && is_fpr l.fpr q) (λ (n : SigNumber) (q : Fpr). is_among n l.sigs && is_fpr l.fpr q);
+  noted : NotesOn l.initial.index l.index (λ (n : SigNumber) (q : Fpr). is_among n l.left && is_fpr l.fpr q)
+      (λ (n : SigNumber) (q : Fpr). is_among n l.sigs && is_fpr l.fpr q);
   log : StillLogged l.initial.index l.initial.log.items l.index l.log.items;
 }
 

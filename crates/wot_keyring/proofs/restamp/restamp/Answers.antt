@@ -4,4 +4,7 @@ use Rattle.wot_keyring.specs.Verdict.{restamped}
 use Rattle.wot_keyring.proofs.restamp.restamp.Goals as goal
 
 pub returns : goal.returns
-returns c = record { restamped = map_same_pairs _ (restamped c.args.number.now c.args.stamp) _ (λ k v b w f' t. search rules) _ _ c.retain.ensures.filtered }
+returns c = record {
+  restamped = map_same_pairs _ (restamped c.args.number.now c.args.stamp) _
+      (λ k v b w f' t. search rules) _ _ c.retain.ensures.filtered;
+}

@@ -7,4 +7,5 @@ use Rattle.wot_types.specs.FprLaws.{same_cmp}
 use Rattle.wot_keyring.proofs.staging.keep.Goals as goal
 
 pub returns-in-Ok-clause-was : goal.returns-in-Ok-clause-was
-returns-in-Ok-clause-was c = subst (λ (cmp : Fpr → Fpr → Ordering). c.in-Ok.was ≡ lookup (is_at (cmp c.args.fpr)) c.args.certs.now.entries) same_cmp c.in-Ok.ensures.old
+returns-in-Ok-clause-was c = subst (λ (cmp : Fpr → Fpr → Ordering). c.in-Ok.was ≡ lookup (is_at (cmp c.args.fpr))
+    c.args.certs.now.entries) same_cmp c.in-Ok.ensures.old

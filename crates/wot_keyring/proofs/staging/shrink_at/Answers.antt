@@ -9,5 +9,6 @@ use Rattle.wot_keyring.proofs.staging.shrink_at.Goals as goal
 
 pub shrink-requires : goal.shrink-requires
 shrink-requires c =
-    let found = subst (λ (cmp : Fpr → Fpr → Ordering). Some c.in-Some.kept.now ≡ lookup (is_at (cmp c.args.fpr.now)) c.args.certs.now.entries) same_cmp c.in-Some.ensures.value in
+    let found = subst (λ (cmp : Fpr → Fpr → Ordering). Some c.in-Some.kept.now ≡ lookup (is_at (cmp c.args.fpr.now))
+    c.args.certs.now.entries) same_cmp c.in-Some.ensures.value in
     record { leads = subst (MayShrink c.args.growth) (sym found) c.requires.may }

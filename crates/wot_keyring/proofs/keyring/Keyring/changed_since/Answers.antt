@@ -1,4 +1,4 @@
-use Rattle.std.proofs.Common.{◌≡◌, ◌<◌, ℕ, true, List, sym, subst, ap, ◌∙◌}
+use Rattle.std.proofs.Common.{◌≡◌, ◌<◌, ℕ, true, subst}
 use Rattle.wot_types.specs.declared.fpr.Fpr.{Fpr}
 use Rattle.wot_keyring.specs.Keyring.{Keyring}
 use Rattle.wot_keyring.specs.Log.{Logged, HasChangedSince, is_listed, is_logged_at}
@@ -9,6 +9,14 @@ pub returns : goal.returns
 returns c = record {
   since =
       subst (λ (k : Keyring). HasChangedSince k c.args.count c.since.result.now) c.self.view_is
-      (has_changed (record { limits = c.self.inside.limits; certs = c.self.inside.certs.entries; verdicts = c.self.inside.verdicts; changes = c.self.inside.changes }) c.self.inside.log c.args.count c.since.result.now c.self.invariant.3 c.if-count-self.false
-      (subst (λ (es : Logged). (s : ℕ) (fpr : Fpr) → c.args.count < s → is_logged_at s fpr es ≡ true → is_listed fpr c.since.result.now ≡ true) c.as_slice.ensures.value c.since.ensures.since));
+      (has_changed (record {
+        limits = c.self.inside.limits;
+        certs = c.self.inside.certs.entries;
+        verdicts =
+            c.self.inside.verdicts;
+        changes = c.self.inside.changes;
+      }) c.self.inside.log c.args.count c.since.result.now
+      c.self.invariant.3 c.if-count-self.false
+      (subst (λ (es : Logged). (s : ℕ) (fpr : Fpr) → c.args.count < s → is_logged_at s fpr es ≡ true →
+      is_listed fpr c.since.result.now ≡ true) c.as_slice.ensures.value c.since.ensures.since));
 }

@@ -10,11 +10,19 @@ use Rattle.wot_keyring.proofs.Later.{cleared_later_now}
 use Rattle.wot_keyring.proofs.keyring.Keyring.clear_verdict.Goals as goal
 
 pub returns-clause-judged : goal.returns-clause-judged
-returns-clause-judged c = λ rows all. c.altered_at.ensures.judged rows (subst (λ (k : Keyring). IsJudgedBy rows k) (sym c.self.view_is) all)
+returns-clause-judged c = λ rows all. c.altered_at.ensures.judged rows (subst (λ (k : Keyring). IsJudgedBy rows k)
+    (sym c.self.view_is) all)
 
 pub invariant_of-self : goal.invariant_of-self
 invariant_of-self c = rw c.clear.ensures.cleared (
-  judged_keyring (record { limits = c.self.inside.limits; certs = c.self.inside.certs.entries; verdicts = c.self.inside.verdicts; changes = c.self.inside.changes }) _ c.self.invariant.0 (cleared_few c.self.inside.limits c.self.inside.verdicts c.args.number.now c.self.invariant.0.within.verdicts),
+  judged_keyring (record {
+    limits = c.self.inside.limits;
+    certs = c.self.inside.certs.entries;
+    verdicts =
+        c.self.inside.verdicts;
+    changes = c.self.inside.changes;
+  }) _ c.self.invariant.0
+      (cleared_few c.self.inside.limits c.self.inside.verdicts c.args.number.now c.self.invariant.0.within.verdicts),
   record { octets = c.self.invariant.1.octets; signatures = c.self.invariant.1.signatures },
   c.self.invariant.2,
   c.self.invariant.3,
@@ -22,16 +30,35 @@ invariant_of-self c = rw c.clear.ensures.cleared (
 
 pub returns-clause-later : goal.returns-clause-later
 returns-clause-later c =
-    cleared_later_now (record { limits = c.self.inside.limits; certs = c.self.inside.certs.entries; verdicts = c.self.inside.verdicts; changes = c.self.inside.changes }) c.args.self.now c.altered_at.new.self
+    cleared_later_now (record {
+      limits = c.self.inside.limits;
+      certs = c.self.inside.certs.entries;
+      verdicts =
+          c.self.inside.verdicts;
+      changes = c.self.inside.changes;
+    }) c.args.self.now c.altered_at.new.self
     c.args.number.now _ c.self.view_is c.clear.ensures.cleared c.altered_at.ensures.counted
 
 pub returns-clause-held : goal.returns-clause-held
 returns-clause-held c =
-    cleared_in_place (record { limits = c.self.inside.limits; certs = c.self.inside.certs.entries; verdicts = c.self.inside.verdicts; changes = c.self.inside.changes }) c.args.self.now c.altered_at.new.self
+    cleared_in_place (record {
+      limits = c.self.inside.limits;
+      certs = c.self.inside.certs.entries;
+      verdicts =
+          c.self.inside.verdicts;
+      changes = c.self.inside.changes;
+    }) c.args.self.now c.altered_at.new.self
     c.args.number.now _ c.self.view_is c.clear.ensures.cleared c.altered_at.ensures.counted
 
 pub returns-clause-counted : goal.returns-clause-counted
 returns-clause-counted c =
-    let there : is_some (verdict_at c.self.inside.verdicts c.args.number.now) ≡ true = ap is_some (sym c.get.ensures.found) ∙ c.if-is_none.ensures in
-    cleared_once (record { limits = c.self.inside.limits; certs = c.self.inside.certs.entries; verdicts = c.self.inside.verdicts; changes = c.self.inside.changes }) c.args.self.now c.altered_at.new.self
+    let there : is_some (verdict_at c.self.inside.verdicts c.args.number.now) ≡ true =
+    ap is_some (sym c.get.ensures.found) ∙ c.if-is_none.ensures in
+    cleared_once (record {
+      limits = c.self.inside.limits;
+      certs = c.self.inside.certs.entries;
+      verdicts =
+          c.self.inside.verdicts;
+      changes = c.self.inside.changes;
+    }) c.args.self.now c.altered_at.new.self
     c.args.number.now _ c.self.view_is there c.clear.ensures.cleared c.altered_at.ensures.counted

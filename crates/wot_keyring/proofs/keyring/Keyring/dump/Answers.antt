@@ -12,17 +12,22 @@ use Rattle.wot_keyring.proofs.keyring.Keyring.dump.Goals as goal
 
 pub put_certs-requires : goal.put_certs-requires
 put_certs-requires c =
-    let Sized : List Certificate → Type 0 = λ certs. AllByRecursion (λ (c : Certificate). size_of c ≤ standard_limits.certificate) certs in
-    subst Sized (sym c.certs.ensures.certs) (sizes_of standard_limits.certificate c.args.self.now.certs c.certs.ensures.sizes)
+    let Sized : List Certificate → Type 0 =
+    λ certs. AllByRecursion (λ (c : Certificate). size_of c ≤ standard_limits.certificate) certs in
+    subst Sized (sym c.certs.ensures.certs) (sizes_of standard_limits.certificate c.args.self.now.certs
+    c.certs.ensures.sizes)
 
 pub returns-in-Ok-clause-lines : goal.returns-in-Ok-clause-lines
 returns-in-Ok-clause-lines c =
-    dumped c.args.self.now c.certs.result c.self.inside.verdicts c.certs.ensures.certs (ap (λ (k : Keyring). k.verdicts) c.self.view_is)
-    c.args.out.now.items c.put_certs.new.out.items c.put_verdicts.new.out.items c.in_ok-put_certs.ensures.appended c.in-Ok.ensures.appended
+    dumped c.args.self.now c.certs.result c.self.inside.verdicts c.certs.ensures.certs
+    (ap (λ (k : Keyring). k.verdicts) c.self.view_is)
+    c.args.out.now.items c.put_certs.new.out.items c.put_verdicts.new.out.items c.in_ok-put_certs.ensures.appended
+    c.in-Ok.ensures.appended
 
 pub returns-in-Ok-clause-read_back : goal.returns-in-Ok-clause-read_back
 returns-in-Ok-clause-read_back c =
-    dumped_lines c.args.self.now c.certs.result c.self.inside.verdicts c.certs.ensures.certs (ap (λ (k : Keyring). k.verdicts) c.self.view_is)
+    dumped_lines c.args.self.now c.certs.result c.self.inside.verdicts c.certs.ensures.certs
+    (ap (λ (k : Keyring). k.verdicts) c.self.view_is)
     c.in_ok-put_certs.ensures.lines c.in-Ok.ensures.lines
 
 pub returns-in-Ok-clause-size : goal.returns-in-Ok-clause-size

@@ -4,5 +4,6 @@ use Rattle.wot_keyring.proofs.keyring.Keyring.load.Goals as goal
 
 pub returns-clause-held : goal.returns-clause-held
 returns-clause-held g c =
-    imported_in_place c.take.result (rows_of c.args.policy.now) c.args.self.now c.take.new.self c.args.bytes.now c.in-Ok.found.certs
+    imported_in_place c.take.result (rows_of c.args.policy.now) c.args.self.now c.take.new.self c.args.bytes.now
+    c.in-Ok.found.certs
     c.take.ensures.united c.in-Ok.ensures.read.spelled

@@ -11,22 +11,41 @@ use Rattle.wot_keyring.proofs.Logged.{logged_again}
 use Rattle.wot_keyring.proofs.keyring.Keyring.set_verdict.Goals as goal
 
 pub returns-in-Ok-clause-judged : goal.returns-in-Ok-clause-judged
-returns-in-Ok-clause-judged c = λ rows all. c.altered_at.ensures.judged rows (subst (λ (k : Keyring). IsJudgedBy rows k) (sym c.self.view_is) all)
+returns-in-Ok-clause-judged c = λ rows all. c.altered_at.ensures.judged rows (subst (λ (k : Keyring). IsJudgedBy rows k)
+    (sym c.self.view_is) all)
 
 pub invariant_of-self : goal.invariant_of-self
 invariant_of-self c =
-    let passes : is_over c.self.inside.limits c.self.inside.verdicts c.args.number ≡ false = subst (λ (k : Keyring). is_over k.limits k.verdicts c.args.number ≡ false) (sym c.self.view_is) (sym c.if-would_pass.ensures.passes) in
-    let sorted : AreSortedByNumber c.self.inside.verdicts = subst (λ (k : Keyring). AreSortedByNumber k.verdicts) (sym c.self.view_is) c.would_pass.ensures.sorted in
+    let passes : is_over c.self.inside.limits c.self.inside.verdicts c.args.number ≡ false =
+    subst (λ (k : Keyring). is_over k.limits k.verdicts c.args.number ≡ false) (sym c.self.view_is)
+    (sym c.if-would_pass.ensures.passes) in
+    let sorted : AreSortedByNumber c.self.inside.verdicts = subst (λ (k : Keyring). AreSortedByNumber k.verdicts)
+    (sym c.self.view_is) c.would_pass.ensures.sorted in
     rw c.in-Ok.ensures.set (
-      judged_keyring (record { limits = c.self.inside.limits; certs = c.self.inside.certs.entries; verdicts = c.self.inside.verdicts; changes = c.self.inside.changes }) _ c.self.invariant.0 (set_few c.self.inside.limits c.self.inside.verdicts c.args.number c.args.verdict sorted passes c.self.invariant.0.within.verdicts),
+      judged_keyring (record {
+        limits = c.self.inside.limits;
+        certs = c.self.inside.certs.entries;
+        verdicts =
+            c.self.inside.verdicts;
+        changes = c.self.inside.changes;
+      }) _ c.self.invariant.0
+          (set_few c.self.inside.limits c.self.inside.verdicts c.args.number c.args.verdict sorted passes
+          c.self.invariant.0.within.verdicts),
       record { octets = c.self.invariant.1.octets; signatures = c.self.invariant.1.signatures },
       c.self.invariant.2,
-      logged_again c.self.inside.log c.make_room.new.log c.self.inside.certs.entries c.self.inside.changes c.make_room.ensures.from c.make_room.ensures.entries c.self.invariant.3,
+      logged_again c.self.inside.log c.make_room.new.log c.self.inside.certs.entries c.self.inside.changes
+          c.make_room.ensures.from c.make_room.ensures.entries c.self.invariant.3,
     )
 
 pub returns-in-Ok-clause-later : goal.returns-in-Ok-clause-later
 returns-in-Ok-clause-later c =
-    set_later_now (record { limits = c.self.inside.limits; certs = c.self.inside.certs.entries; verdicts = c.self.inside.verdicts; changes = c.self.inside.changes }) c.args.self.now c.altered_at.new.self
+    set_later_now (record {
+      limits = c.self.inside.limits;
+      certs = c.self.inside.certs.entries;
+      verdicts =
+          c.self.inside.verdicts;
+      changes = c.self.inside.changes;
+    }) c.args.self.now c.altered_at.new.self
     c.args.number c.args.verdict _ c.self.view_is c.in-Ok.ensures.set c.altered_at.ensures.counted
 
 pub returns-then-says-clause-later : goal.returns-then-says-clause-later
@@ -41,10 +60,24 @@ returns-then-says-clause-held c =
 
 pub returns-in-Ok-clause-counted : goal.returns-in-Ok-clause-counted
 returns-in-Ok-clause-counted c =
-    set_once (record { limits = c.self.inside.limits; certs = c.self.inside.certs.entries; verdicts = c.self.inside.verdicts; changes = c.self.inside.changes }) c.args.self.now c.altered_at.new.self
-    c.args.number c.args.verdict _ c.self.view_is c.if-says.ensures.says c.in-Ok.ensures.set c.altered_at.ensures.counted
+    set_once (record {
+      limits = c.self.inside.limits;
+      certs = c.self.inside.certs.entries;
+      verdicts =
+          c.self.inside.verdicts;
+      changes = c.self.inside.changes;
+    }) c.args.self.now c.altered_at.new.self
+    c.args.number c.args.verdict _ c.self.view_is c.if-says.ensures.says c.in-Ok.ensures.set
+    c.altered_at.ensures.counted
 
 pub returns-in-Ok-clause-held : goal.returns-in-Ok-clause-held
 returns-in-Ok-clause-held c =
-    set_in_place (record { limits = c.self.inside.limits; certs = c.self.inside.certs.entries; verdicts = c.self.inside.verdicts; changes = c.self.inside.changes }) c.args.self.now c.altered_at.new.self
-    c.args.number c.args.verdict _ c.self.view_is c.if-says.ensures.says c.in-Ok.ensures.set c.altered_at.ensures.counted
+    set_in_place (record {
+      limits = c.self.inside.limits;
+      certs = c.self.inside.certs.entries;
+      verdicts =
+          c.self.inside.verdicts;
+      changes = c.self.inside.changes;
+    }) c.args.self.now c.altered_at.new.self
+    c.args.number c.args.verdict _ c.self.view_is c.if-says.ensures.says c.in-Ok.ensures.set
+    c.altered_at.ensures.counted
