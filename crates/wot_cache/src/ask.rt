@@ -107,7 +107,9 @@ fn search_far(
 
 /// The answer over these parts, by a search that looks at what leads to the target alone; where that would look at more
 /// than a table of reach takes, within such a table. It is kept for the view. What was looked at since the last change
-/// is counted, and once a table pays, each search makes a part of one.
+/// is counted, with the edges that were made, and once a table pays, each search makes a part of one. The edges don't
+/// count against this search: so a view's first question, before which all edges are made, doesn't make a table that no
+/// further question may use.
 fn search(
     alloc: Global,
     of_view: &mut Answers,
@@ -127,7 +129,7 @@ fn search(
     ensures memory { OnErr result (result ≡ Err AskFault.Memory) }
     ensures right { AreRightIn parts.now.keyring.now of_view.new }
 {
-    let most = of_view.most_looks(parts).saturating_sub(made);
+    let most = of_view.most_looks(parts);
     let mut metered = Metered::new(alloc, most);
     match authenticate_metered(
         alloc,
