@@ -1,4 +1,4 @@
--- What an answer rests on.
+-- What an answer depends on.
 use Rattle.std.specs.Prelude.{◌≡◌, ℕ, List}
 use Rattle.wot_types.specs.declared.fpr.Fpr.{Fpr}
 use Rattle.wot_edge.specs.declared.path.Path.{Path}
@@ -15,17 +15,17 @@ use Rattle.wot_auth.specs.declared.answer.Answer.{Answer}
 abbrev pub IsOnlyAnswer : Question → ℕ → Answer → Type 0
 IsOnlyAnswer q wanted answer = (paths : List Path) → IsAnswer q wanted paths → paths ≡ answer.paths
 
--- the answer of each question that agrees with this one on a set
+-- the answer to every question that agrees with this one on a set
 abbrev pub IsAnswerOfAgreeing : Question → ℕ → List Fpr → Answer → Type 0
 IsAnswerOfAgreeing q wanted set answer = (other : Question) → Agree q other set → IsAnswer other wanted answer.paths
 
--- the only one of each such question of a lawful record
+-- the only one for each such question of a lawful record
 abbrev pub IsOnlyOfAgreeing : Question → ℕ → List Fpr → Answer → Type 0
 IsOnlyOfAgreeing q wanted set answer =
     (other : Question) → Agree q other set → IsRecord other.told → IsOnlyAnswer other wanted answer
 
--- where the reach leaves nothing out, the answer of each question that agrees with this one on a set that has all that
--- is noted
+-- if the reach leaves nothing out, the answer to every question that agrees with this one on a set that contains what
+-- was noted
 abbrev pub IsAnswerLocally : Table → Question → ℕ → (Fpr → Type 0) → Answer → Type 0
 IsAnswerLocally reach q wanted noted answer =
     HasAll reach → (set : List Fpr) → Widens noted (Has set) → IsAnswerOfAgreeing q wanted set answer

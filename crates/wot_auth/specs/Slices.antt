@@ -1,5 +1,5 @@
--- Slices: the part of a network on which the answers from some roots to a target rest.
--- A database that holds millions of certificates loads a slice, and asks an engine that knows nothing else.
+-- Slices: the part of a network that is enough for the answers from some roots to a target. A database with millions of
+-- certificates can load a slice and ask an engine that knows nothing else.
 use Rattle.std.specs.Prelude.{ℕ, ◌<◌, ◌≤◌, ◌↔◌, List, ◌∷◌}
 use Rattle.wot_types.specs.declared.fpr.Fpr.{Fpr}
 use Rattle.wot_edge.specs.declared.path.Path.{Path}
@@ -10,8 +10,8 @@ use Rattle.wot_edge.specs.Path.{IsNextPath, IsValid, Question, Use}
 use Rattle.wot_edge.specs.Record.{Has, Row, rows_into}
 use Rattle.wot_edge.specs.Roots.{root_amount}
 
--- The set has each root, and with each member whatever it certified with a depth of at least 1. The target needn't be
--- a member: it may be certified with depth 0 alone.
+-- The set contains each root, and with each member everything that it certified with a depth of at least 1. The target
+-- needn't be a member: it may be certified with depth 0 only.
 pub record IsSliceOf (q : Question) (set : List Fpr) : Type 0 where
   pub roots : (fpr : Fpr) → 0 < root_amount q.roots fpr → Has set fpr
   pub onward : (fpr : Fpr) (row : Row) → Has (rows_into q.told fpr) row → Has set row.edge.issuer → 1 ≤ row.edge.depth
@@ -24,7 +24,7 @@ pub record ShareSlice (q other : Question) (set : List Fpr) : Type 0 where
   pub agree : Agree q other (q.target ∷ set)
 
 -- Questions that share a slice have the same valid paths, the same next paths after the same earlier use, and the same
--- answers, whatever else their records tell.
+-- answers, whatever else their records say.
 pub record AnswerAlike (q other : Question) : Type 0 where
   pub valid : (steps : List Step) → IsValid q steps ↔ IsValid other steps
   pub next : (used : Use) (path : Path) → IsNextPath q used path ↔ IsNextPath other used path

@@ -59,15 +59,18 @@ module _ {A : Type 0} (R : A → A → Ordering) (o : IsTotalOrder R) where
 
   -- ---- equal lists
 
-  rests-alike : (k x : A) (xs ys : List A) → IsBelow R x xs → IsBelow R x ys → find R k (x ∷ xs) ≡ find R k (x ∷ ys) → find R k xs ≡ find R k ys
+  rests-alike : (k x : A) (xs ys : List A) → IsBelow R x xs → IsBelow R x ys → find R k (x ∷ xs) ≡ find R k (x ∷ ys)
+      → find R k xs ≡ find R k ys
   rests-alike k x xs ys a b e = by_case (R k x) refl e
     where
-      by_case : (r : Ordering) → R k x ≡ r → found r x (find R k xs) ≡ found r x (find R k ys) → find R k xs ≡ find R k ys
+      by_case : (r : Ordering) → R k x ≡ r → found r x (find R k xs) ≡ found r x (find R k ys)
+          → find R k xs ≡ find R k ys
       by_case Less h e = e
       by_case Equal h e = none-tied k x xs h a ∙ sym (none-tied k x ys h b)
       by_case Greater h e = e
 
-  same-first : (x y : A) (xs ys : List A) → find R x (x ∷ xs) ≡ find R x (y ∷ ys) → find R y (x ∷ xs) ≡ find R y (y ∷ ys) → IsBelow R x xs → IsBelow R y ys → x ≡ y
+  same-first : (x y : A) (xs ys : List A) → find R x (x ∷ xs) ≡ find R x (y ∷ ys)
+      → find R y (x ∷ xs) ≡ find R y (y ∷ ys) → IsBelow R x xs → IsBelow R y ys → x ≡ y
   same-first x y xs ys e f a b = by_case (R x y) refl
     where
       by_case : (r : Ordering) → R x y ≡ r → x ≡ y
@@ -87,13 +90,16 @@ module _ {A : Type 0} (R : A → A → Ordering) (o : IsTotalOrder R) where
 
   pub alike : (xs ys : List A) → IsRising R xs → IsRising R ys → ((k : A) → find R k xs ≡ find R k ys) → xs ≡ ys
   alike [] [] a b e = refl
-  alike [] (y ∷ ys) a b e = let here : find R y (y ∷ ys) ≡ Some y = at-first y y ys (itself y) in let h = e y in absurd (cc)
-  alike (x ∷ xs) [] a b e = let here : find R x (x ∷ xs) ≡ Some x = at-first x x xs (itself x) in let h = e x in absurd (cc)
+  alike [] (y ∷ ys) a b e =
+      let here : find R y (y ∷ ys) ≡ Some y = at-first y y ys (itself y) in let h = e y in absurd (cc)
+  alike (x ∷ xs) [] a b e =
+      let here : find R x (x ∷ xs) ≡ Some x = at-first x x xs (itself x) in let h = e x in absurd (cc)
   alike (x ∷ xs) (y ∷ ys) a b e =
       let first : x ≡ y = same-first x y xs ys (e x) (e y) a.0 b.0 in
       let Below : A → Type 0 = λ z. IsBelow R z ys in
       let below : IsBelow R x ys = subst Below (sym first) b.0 in
-      let rests : (k : A) → find R k xs ≡ find R k ys = λ k. rests-alike k x xs ys a.0 below (e k ∙ ap (λ (z : A). find R k (z ∷ ys)) (sym first)) in
+      let rests : (k : A) → find R k xs ≡ find R k ys =
+      λ k. rests-alike k x xs ys a.0 below (e k ∙ ap (λ (z : A). find R k (z ∷ ys)) (sym first)) in
       let others : xs ≡ ys = alike xs ys a.1 b.1 rests in
       λ i. first i ∷ others i
 
@@ -112,7 +118,8 @@ module _ {A : Type 0} (R : A → A → Ordering) (o : IsTotalOrder R) where
   found-rank k x [] e = absurd cc
   found-rank k x (y ∷ ys) e = by_case (R k y) refl (found-rank k x ys) e
     where
-      by_case : (r : Ordering) → R k y ≡ r → (find R k ys ≡ Some x → R k x ≡ Equal) → found r y (find R k ys) ≡ Some x → R k x ≡ Equal
+      by_case : (r : Ordering) → R k y ≡ r → (find R k ys ≡ Some x → R k x ≡ Equal) → found r y (find R k ys) ≡ Some x
+          → R k x ≡ Equal
       by_case Less h f e = f e
       by_case Equal h f e = let same : y ≡ x = cc in ap (R k) (sym same) ∙ h
       by_case Greater h f e = f e
@@ -125,17 +132,20 @@ module _ {A : Type 0} (R : A → A → Ordering) (o : IsTotalOrder R) where
     one-found Equal x = refl
     one-found Greater x = refl
 
-    found-less : (r : Ordering) (x : A) (rest : Option A) → (r ≡ Equal → rest ≡ None) → found r x rest ≡ with_found join r x rest
+    found-less : (r : Ordering) (x : A) (rest : Option A) → (r ≡ Equal → rest ≡ None)
+        → found r x rest ≡ with_found join r x rest
     found-less Less x rest h = refl
     found-less Equal x rest h = rw (h refl) refl
     found-less Greater x rest h = refl
 
-    found-equal : (r : Ordering) (x y : A) (rest : Option A) → found r (join y x) rest ≡ with_found join r x (found r y rest)
+    found-equal : (r : Ordering) (x y : A) (rest : Option A)
+        → found r (join y x) rest ≡ with_found join r x (found r y rest)
     found-equal Less x y rest = refl
     found-equal Equal x y rest = refl
     found-equal Greater x y rest = refl
 
-    found-greater : (r s : Ordering) (x y : A) (rest : Option A) → (r ≡ Equal → s ≡ Less) → found r y (with_found join s x rest) ≡ with_found join s x (found r y rest)
+    found-greater : (r s : Ordering) (x y : A) (rest : Option A) → (r ≡ Equal → s ≡ Less)
+        → found r y (with_found join s x rest) ≡ with_found join s x (found r y rest)
     found-greater Less s x y rest h = refl
     found-greater Equal s x y rest h = rw (h refl) refl
     found-greater Greater s x y rest h = refl
@@ -143,11 +153,13 @@ module _ {A : Type 0} (R : A → A → Ordering) (o : IsTotalOrder R) where
     tied-right : (k x y : A) → R x y ≡ Equal → R k x ≡ R k y
     tied-right k x y e = o.antisymm k x ∙ ap ordering_reverse (o.congr x y k e) ∙ sym (o.antisymm k y)
 
-    find-put : (k x : A) (ys : List A) → IsRising R ys → find R k (put R join x ys) ≡ with_found join (R k x) x (find R k ys)
+    find-put : (k x : A) (ys : List A) → IsRising R ys
+        → find R k (put R join x ys) ≡ with_found join (R k x) x (find R k ys)
     find-put k x [] b = one-found (R k x) x
     find-put k x (y ∷ ys) b = by_case (R x y) refl (find-put k x ys b.1)
       where
-        by_case : (r : Ordering) → R x y ≡ r → find R k (put R join x ys) ≡ with_found join (R k x) x (find R k ys) → find R k (placed r join x y ys (put R join x ys)) ≡ with_found join (R k x) x (find R k (y ∷ ys))
+        by_case : (r : Ordering) → R x y ≡ r → find R k (put R join x ys) ≡ with_found join (R k x) x (find R k ys)
+            → find R k (placed r join x y ys (put R join x ys)) ≡ with_found join (R k x) x (find R k (y ∷ ys))
         by_case Less h f =
             found-less (R k x) x (find R k (y ∷ ys)) (λ e. none-tied k x (y ∷ ys) e (h, below-all x y ys h b.0))
         by_case Equal h f =
@@ -160,13 +172,15 @@ module _ {A : Type 0} (R : A → A → Ordering) (o : IsTotalOrder R) where
             ap (found (R k y) y) f
             ∙ found-greater (R k y) (R k x) x y (find R k ys) (λ e. o.congr k y x e ∙ less)
 
-    with-merged : (r : Ordering) (y : A) (a b : Option A) → (r ≡ Equal → b ≡ None) → with_found join r y (merged join a b) ≡ merged join a (found r y b)
+    with-merged : (r : Ordering) (y : A) (a b : Option A) → (r ≡ Equal → b ≡ None)
+        → with_found join r y (merged join a b) ≡ merged join a (found r y b)
     with-merged Less y a b h = refl
     with-merged Equal y None b h = rw (h refl) refl
     with-merged Equal y (Some x) b h = rw (h refl) refl
     with-merged Greater y a b h = refl
 
-    pub find-united : (k : A) (xs ys : List A) → IsRising R xs → IsRising R ys → find R k (united R join xs ys) ≡ merged join (find R k xs) (find R k ys)
+    pub find-united : (k : A) (xs ys : List A) → IsRising R xs → IsRising R ys
+        → find R k (united R join xs ys) ≡ merged join (find R k xs) (find R k ys)
     find-united k xs [] a b = alone (find R k xs)
       where
         alone : (x : Option A) → x ≡ merged join x None
@@ -180,33 +194,42 @@ module _ {A : Type 0} (R : A → A → Ordering) (o : IsTotalOrder R) where
     -- ---- laws of unions
 
     module _ (P : A → Type 0) where
-      pub united-associates : ((x y z : A) → P x → P y → P z → join (join x y) z ≡ join x (join y z)) → (xs ys zs : List A) → IsRising R xs → IsRising R ys → IsRising R zs → AllByRecursion P xs → AllByRecursion P ys → AllByRecursion P zs
+      pub united-associates : ((x y z : A) → P x → P y → P z → join (join x y) z ≡ join x (join y z))
+          → (xs ys zs : List A) → IsRising R xs → IsRising R ys → IsRising R zs → AllByRecursion P xs
+          → AllByRecursion P ys → AllByRecursion P zs
           → united R join (united R join xs ys) zs ≡ united R join xs (united R join ys zs)
       united-associates assoc xs ys zs a b c p q s =
           let ab = united_rises R join o same xs ys a in
           let bc = united_rises R join o same ys zs b in
-          alike _ _ (united_rises R join o same (united R join xs ys) zs ab) (united_rises R join o same xs (united R join ys zs) a) (λ k.
+          alike _ _ (united_rises R join o same (united R join xs ys) zs ab)
+          (united_rises R join o same xs (united R join ys zs) a) (λ k.
           find-united k (united R join xs ys) zs ab c
           ∙ ap (λ (u : Option A). merged join u (find R k zs)) (find-united k xs ys a b)
-          ∙ three (find R k xs) (find R k ys) (find R k zs) (λ x e. found-all P k x xs p e) (λ x e. found-all P k x ys q e) (λ x e. found-all P k x zs s e)
+          ∙ three (find R k xs) (find R k ys) (find R k zs) (λ x e. found-all P k x xs p e)
+          (λ x e. found-all P k x ys q e) (λ x e. found-all P k x zs s e)
           ∙ ap (merged join (find R k xs)) (sym (find-united k ys zs b c))
           ∙ sym (find-united k xs (united R join ys zs) a bc))
         where
-          three : (x y z : Option A) → ((v : A) → x ≡ Some v → P v) → ((v : A) → y ≡ Some v → P v) → ((v : A) → z ≡ Some v → P v) → merged join (merged join x y) z ≡ merged join x (merged join y z)
+          three : (x y z : Option A) → ((v : A) → x ≡ Some v → P v) → ((v : A) → y ≡ Some v → P v)
+              → ((v : A) → z ≡ Some v → P v) → merged join (merged join x y) z ≡ merged join x (merged join y z)
           three None y z p q s = refl
           three (Some x) None None p q s = refl
           three (Some x) None (Some z) p q s = refl
           three (Some x) (Some y) None p q s = refl
           three (Some x) (Some y) (Some z) p q s = ap (λ (v : A). Some v) (assoc x y z (p x refl) (q y refl) (s z refl))
 
-      pub united-commutes : ((x y : A) → R x y ≡ Equal → P x → P y → join x y ≡ join y x) → (xs ys : List A) → IsRising R xs → IsRising R ys → AllByRecursion P xs → AllByRecursion P ys → united R join xs ys ≡ united R join ys xs
+      pub united-commutes : ((x y : A) → R x y ≡ Equal → P x → P y → join x y ≡ join y x) → (xs ys : List A)
+          → IsRising R xs → IsRising R ys → AllByRecursion P xs → AllByRecursion P ys
+          → united R join xs ys ≡ united R join ys xs
       united-commutes comm xs ys a b p q =
           alike _ _ (united_rises R join o same xs ys a) (united_rises R join o same ys xs b) (λ k.
           find-united k xs ys a b
-          ∙ two k (find R k xs) (find R k ys) (λ x e. (found-all P k x xs p e, found-rank k x xs e)) (λ x e. (found-all P k x ys q e, found-rank k x ys e))
+          ∙ two k (find R k xs) (find R k ys) (λ x e. (found-all P k x xs p e, found-rank k x xs e))
+          (λ x e. (found-all P k x ys q e, found-rank k x ys e))
           ∙ sym (find-united k ys xs b a))
         where
-          two : (k : A) (x y : Option A) → ((v : A) → x ≡ Some v → P v × (R k v ≡ Equal)) → ((v : A) → y ≡ Some v → P v × (R k v ≡ Equal)) → merged join x y ≡ merged join y x
+          two : (k : A) (x y : Option A) → ((v : A) → x ≡ Some v → P v × (R k v ≡ Equal))
+              → ((v : A) → y ≡ Some v → P v × (R k v ≡ Equal)) → merged join x y ≡ merged join y x
           two k None None p q = refl
           two k None (Some y) p q = refl
           two k (Some x) None p q = refl
@@ -216,7 +239,8 @@ module _ {A : Type 0} (R : A → A → Ordering) (o : IsTotalOrder R) where
               let back : R x k ≡ Equal = o.antisymm x k ∙ ap ordering_reverse px.1 in
               ap (λ (v : A). Some v) (comm x y (o.congr x k y back ∙ qy.1) px.0 qy.0)
 
-      pub united-itself : ((x : A) → P x → join x x ≡ x) → (xs : List A) → IsRising R xs → AllByRecursion P xs → united R join xs xs ≡ xs
+      pub united-itself : ((x : A) → P x → join x x ≡ x) → (xs : List A) → IsRising R xs → AllByRecursion P xs
+          → united R join xs xs ≡ xs
       united-itself idem xs a p =
           alike _ _ (united_rises R join o same xs xs a) a (λ k.
           find-united k xs xs a a ∙ twice (find R k xs) (λ x e. found-all P k x xs p e))

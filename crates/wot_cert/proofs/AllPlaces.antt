@@ -1,5 +1,5 @@
 -- All places of a certificate, one after the other.
-use Rattle.std.proofs.Common.{◌≡◌, ℕ, ◌+◌, ◌-◌, ◌≤◌, ◌^◌, min, List, map, refl, sym, ap, ◌∙◌, arith}
+use Rattle.std.proofs.Common.{◌≡◌, ℕ, ◌+◌, ◌≤◌, List, map, ap, ◌∙◌, arith}
 use Rattle.wot_policy.specs.declared.rows.PolicyRows.{PolicyRows}
 use Rattle.wot_cert.specs.Certificate.{Component, Signature, part_with, unite_parts, unite_sigs}
 use Rattle.wot_cert.specs.Counts.{sum_of}
@@ -7,25 +7,33 @@ use Rattle.wot_cert.specs.Growing.{sound_weight}
 use Rattle.wot_cert.specs.Judged.{if_sound, judged_sig}
 use Rattle.wot_cert.specs.Totals.{cap, Counts}
 
-pub all_four : (i j k l d u t s D U T S : ℕ) → i + d ≡ D → j + u ≡ U → k + t ≡ T → l + s ≡ S → (((i + j) + k) + l) + (d + u + t + s) ≡ D + U + T + S
+pub all_four : (i j k l d u t s D U T S : ℕ) → i + d ≡ D → j + u ≡ U → k + t ≡ T → l + s ≡ S
+    → (((i + j) + k) + l) + (d + u + t + s) ≡ D + U + T + S
 all_four i j k l d u t s D U T S e f g h = omega arith
 
 pub up_to_one : (i d u t s D U T S : ℕ) → i + d ≤ D → u ≤ U → t ≤ T → s ≤ S → i + (d + u + t + s) ≤ D + U + T + S
 up_to_one i d u t s D U T S e f g h = omega arith
 
-pub up_to_two : (i j d u t s D U T S : ℕ) → i + d ≡ D → j + u ≤ U → t ≤ T → s ≤ S → (i + j) + (d + u + t + s) ≤ D + U + T + S
+pub up_to_two : (i j d u t s D U T S : ℕ) → i + d ≡ D → j + u ≤ U → t ≤ T → s ≤ S
+    → (i + j) + (d + u + t + s) ≤ D + U + T + S
 up_to_two i j d u t s D U T S e f g h = omega arith
 
-pub up_to_three : (i j k d u t s D U T S : ℕ) → i + d ≡ D → j + u ≡ U → k + t ≤ T → s ≤ S → ((i + j) + k) + (d + u + t + s) ≤ D + U + T + S
+pub up_to_three : (i j k d u t s D U T S : ℕ) → i + d ≡ D → j + u ≡ U → k + t ≤ T → s ≤ S
+    → ((i + j) + k) + (d + u + t + s) ≤ D + U + T + S
 up_to_three i j k d u t s D U T S e f g h = omega arith
 
-pub up_to_four : (i j k l d u t s D U T S : ℕ) → i + d ≡ D → j + u ≡ U → k + t ≡ T → l + s ≤ S → (((i + j) + k) + l) + (d + u + t + s) ≤ D + U + T + S
+pub up_to_four : (i j k l d u t s D U T S : ℕ) → i + d ≡ D → j + u ≡ U → k + t ≡ T → l + s ≤ S
+    → (((i + j) + k) + l) + (d + u + t + s) ≤ D + U + T + S
 up_to_four i j k l d u t s D U T S e f g h = omega arith
 
-pub same_sigs : (rows r : PolicyRows) (xs os os' : List Signature) → r ≡ rows → os ≡ os' → sum_of if_sound (unite_sigs xs (map (judged_sig r) os)) ≡ sum_of if_sound (unite_sigs xs (map (judged_sig rows) os'))
+pub same_sigs : (rows r : PolicyRows) (xs os os' : List Signature) → r ≡ rows → os ≡ os'
+    → sum_of if_sound (unite_sigs xs (map (judged_sig r) os)) ≡ sum_of if_sound
+    (unite_sigs xs (map (judged_sig rows) os'))
 same_sigs rows r xs os os' e f = λ i. sum_of if_sound (unite_sigs xs (map (judged_sig (e i)) (f i)))
 
-pub same_parts : (rows r : PolicyRows) (xs os os' : List Component) → r ≡ rows → os ≡ os' → sum_of sound_weight (unite_parts xs (map (part_with (judged_sig r)) os)) ≡ sum_of sound_weight (unite_parts xs (map (part_with (judged_sig rows)) os'))
+pub same_parts : (rows r : PolicyRows) (xs os os' : List Component) → r ≡ rows → os ≡ os'
+    → sum_of sound_weight (unite_parts xs (map (part_with (judged_sig r)) os)) ≡ sum_of sound_weight
+    (unite_parts xs (map (part_with (judged_sig rows)) os'))
 same_parts rows r xs os os' e f = λ i. sum_of sound_weight (unite_parts xs (map (part_with (judged_sig (e i))) (f i)))
 
 pub less_by : (k n a b : ℕ) → k + n ≤ a → a ≡ b → k + n ≤ b
@@ -46,7 +54,8 @@ to_fourth n x y z w = omega arith
 back_again : (n x y z w : ℕ) → (n + (x + y + z)) + w ≡ n + (x + y + z + w)
 back_again n x y z w = omega arith
 
-pub counts_four : (a b c d e x x' y y' z z' w w' : ℕ) → Counts a x b x' → Counts b y c y' → Counts c z d z' → Counts d w e w' → Counts a (x + y + z + w) e (x' + y' + z' + w')
+pub counts_four : (a b c d e x x' y y' z z' w w' : ℕ) → Counts a x b x' → Counts b y c y' → Counts c z d z'
+    → Counts d w e w' → Counts a (x + y + z + w) e (x' + y' + z' + w')
 counts_four a b c d e x x' y y' z z' w w' f g h i n start =
     let one : b ≡ cap ((n + (y + z + w)) + x') = f (n + (y + z + w)) (start ∙ ap cap (to_first n x y z w)) in
     let two : c ≡ cap ((n + (x' + z + w)) + y') = g (n + (x' + z + w)) (one ∙ ap cap (to_second n x' y z w)) in

@@ -18,15 +18,18 @@ parts_kept (p ∷ ps) = ap (λ q. q ∷ map (part_with (copied Kept)) ps) (part_
 pub cert_kept : (c : Certificate) → with_each (copied Kept) c ≡ c
 cert_kept c =
     ap (λ (d : List Signature). record (with_each (copied Kept) c) { direct = d }) (sigs_kept c.direct)
-    ∙ ap (λ (u : List Component). record (with_each (copied Kept) c) { direct = c.direct; user_ids = u }) (parts_kept c.user_ids)
-    ∙ ap (λ (u : List Component). record (with_each (copied Kept) c) { direct = c.direct; user_ids = c.user_ids; attributes = u }) (parts_kept c.attributes)
+    ∙ ap (λ (u : List Component). record (with_each (copied Kept) c) { direct = c.direct; user_ids = u })
+    (parts_kept c.user_ids)
+    ∙ ap (λ (u : List Component). record (with_each (copied Kept) c)
+    { direct = c.direct; user_ids = c.user_ids; attributes = u }) (parts_kept c.attributes)
     ∙ ap (λ (u : List Component). record c { subkeys = u }) (parts_kept c.subkeys)
 
 -- what was pushed, with its marks
 pub sigs_pushed : (out' out xs : List Signature) → out' ≡ out ++ map (copied Kept) xs → out' ≡ out ++ xs
 sigs_pushed out' out xs e = e ∙ ap (λ ys. out ++ ys) (sigs_kept xs)
 
-pub part_pushed : (out' out : List Component) (x : Component) → out' ≡ out ++ part_with (copied Kept) x ∷ [] → out' ≡ out ++ x ∷ []
+pub part_pushed : (out' out : List Component) (x : Component) → out' ≡ out ++ part_with (copied Kept) x ∷ []
+    → out' ≡ out ++ x ∷ []
 part_pushed out' out x e = e ∙ ap (λ y. out ++ y ∷ []) (part_kept x)
 
 pub parts_pushed : (out' out xs : List Component) → out' ≡ out ++ map (part_with (copied Kept)) xs → out' ≡ out ++ xs

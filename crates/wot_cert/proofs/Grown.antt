@@ -10,7 +10,6 @@ use Rattle.wot_cert.specs.Growing.{AreUnited, PlacesFollow}
 use Rattle.wot_cert.specs.Judged.{judged, is_admitted_by}
 use Rattle.wot_cert.specs.New.{judged_beside}
 use Rattle.wot_cert.specs.Parts.{of_places}
-use Rattle.wot_cert.specs.Sizes.{sig_size, own_size}
 use Rattle.wot_cert.specs.Text.{size_of}
 use Rattle.wot_cert.specs.Totals.{AreTotals, cap}
 use Rattle.wot_cert.specs.Whole.{IsCertificate}
@@ -30,7 +29,8 @@ no_fewer w a u h = zero_more (w a) (w u) h
 more : (a b n m : ℕ) → a ≡ min (1 + n) (2 ^ 64 - 1) → b ≡ min (1 + m) (2 ^ 64 - 1) → n ≤ m → a ≤ b
 more a b n m e f h = omega arith
 
-exact : (a b i j k : ℕ) → a ≡ min i (2 ^ 64 - 1) → b ≡ min j (2 ^ 64 - 1) → j ≡ k → i < 2 ^ 63 → k < 2 ^ 63 → i ≤ j → b - a + i ≡ j
+exact : (a b i j k : ℕ) → a ≡ min i (2 ^ 64 - 1) → b ≡ min j (2 ^ 64 - 1) → j ≡ k → i < 2 ^ 63 → k < 2 ^ 63 → i ≤ j
+    → b - a + i ≡ j
 exact a b i j k e f g h l m = omega arith
 
 none : (a n : ℕ) → a ≡ min n (2 ^ 64 - 1) → a ≡ min (0 + n) (2 ^ 64 - 1)
@@ -49,20 +49,26 @@ module _ (rows : PolicyRows) (places new : Places) (o : Certificate) (key : List
   pub is_union : AreUnited rows places new o → new_cert ≡ unite old_cert (judged rows o)
   is_union u = same_cert _ _ refl u.direct u.user_ids u.attributes u.subkeys
 
-  pub is_whole : AreUnited rows places new o → IsCertificate old_cert → IsCertificate o → key ≡ o.key → IsCertificate new_cert
-  is_whole u h k e = subst IsCertificate (sym (is_union u)) (unite_whole old_cert (judged rows o) h (marked_whole (is_admitted_by rows) o k) e)
+  pub is_whole : AreUnited rows places new o → IsCertificate old_cert → IsCertificate o → key ≡ o.key
+      → IsCertificate new_cert
+  is_whole u h k e =
+      subst IsCertificate (sym (is_union u))
+      (unite_whole old_cert (judged rows o) h (marked_whole (is_admitted_by rows) o k) e)
 
-  weighs_more : AreUnited rows places new o → weight_of (λ _. 1) (λ _. 1) old_cert ≤ weight_of (λ _. 1) (λ _. 1) new_cert
+  weighs_more : AreUnited rows places new o
+      → weight_of (λ _. 1) (λ _. 1) old_cert ≤ weight_of (λ _. 1) (λ _. 1) new_cert
   weighs_more u =
       let h = unite_more (λ _. 1) (λ _. 1) (λ x y. refl) old_cert (judged rows o) in
-      subst (λ (c : Certificate). weight_of (λ _. 1) (λ _. 1) old_cert ≤ weight_of (λ _. 1) (λ _. 1) c) (sym (is_union u)) h
+      subst (λ (c : Certificate). weight_of (λ _. 1) (λ _. 1) old_cert ≤ weight_of (λ _. 1) (λ _. 1) c)
+      (sym (is_union u)) h
 
   module _ (a b : Adds) (t : AreTotals a old_cert) (f : PlacesFollow a b places new) where
     octets : b.octets ≡ cap (size_of new_cert)
     octets = f.octets (length (written 6 key)) (t.octets ∙ ap cap (size_is old_cert)) ∙ ap cap (sym (size_is new_cert))
 
     pub new_totals : AreTotals b new_cert
-    new_totals = record { items = f.items 1 t.items; signatures = all_of _ _ (f.signatures 0 (none _ _ t.signatures)); octets = octets }
+    new_totals = record
+        { items = f.items 1 t.items; signatures = all_of _ _ (f.signatures 0 (none _ _ t.signatures)); octets = octets }
 
     pub items_more : AreUnited rows places new o → a.items ≤ b.items
     items_more u = more a.items b.items _ _ t.items (f.items 1 t.items) (weighs_more u)
@@ -70,7 +76,10 @@ module _ (rows : PolicyRows) (places new : Places) (o : Certificate) (key : List
     one_more : (n m : ℕ) → n ≤ m → 1 + n ≤ 1 + m
     one_more n m h = omega arith
 
-    pub items_new : AreUnited rows places new o → IsCertificate old_cert → IsCertificate o → size_of old_cert + size_of o < 2 ^ 63 → b.items - a.items + items_of old_cert ≡ items_of new_cert
+    pub items_new : AreUnited rows places new o → IsCertificate old_cert → IsCertificate o
+        → size_of old_cert + size_of o < 2 ^ 63 → b.items - a.items + items_of old_cert ≡ items_of new_cert
     items_new u h k few =
-        let same : new_cert ≡ judged_beside rows old_cert (unite old_cert o) = is_union u ∙ sym (merged rows old_cert o h k) in
-        exact a.items b.items (items_of old_cert) (items_of new_cert) _ t.items (f.items 1 t.items) (ap items_of same) (first_items old_cert o few) (union_items rows old_cert o few) (one_more _ _ (weighs_more u))
+        let same : new_cert ≡ judged_beside rows old_cert (unite old_cert o) =
+        is_union u ∙ sym (merged rows old_cert o h k) in
+        exact a.items b.items (items_of old_cert) (items_of new_cert) _ t.items (f.items 1 t.items) (ap items_of same)
+        (first_items old_cert o few) (union_items rows old_cert o few) (one_more _ _ (weighs_more u))

@@ -29,7 +29,8 @@ itself R o x = by (R x x) (o.antisymm x x)
 
 -- ---- marks
 
-pub all_new : {A : Type 0} (R : A → A → Ordering) (both : A → A → A) (only : A → A) (ys : List A) → marked_new R both only ys [] ≡ map only ys
+pub all_new : {A : Type 0} (R : A → A → Ordering) (both : A → A → A) (only : A → A) (ys : List A)
+    → marked_new R both only ys [] ≡ map only ys
 all_new R both only [] = refl
 all_new R both only (y ∷ ys) = ap (λ zs. only y ∷ zs) (all_new R both only ys)
 
@@ -52,13 +53,17 @@ module _ {A : Type 0} (R : A → A → Ordering) (join : A → A → A) (o : IsT
   abbrev marked : List A → List A → List A
   marked = marked_new R both only
 
-  old_first : (x : A) (xs rest : List A) (y : A) → R x y ≡ Equal → marked (y ∷ rest) (x ∷ xs) ≡ both x y ∷ marked rest xs
+  old_first : (x : A) (xs rest : List A) (y : A) → R x y ≡ Equal
+      → marked (y ∷ rest) (x ∷ xs) ≡ both x y ∷ marked rest xs
   old_first x xs rest y e = ap (λ found. marked_on both only found y (x ∷ xs) (marked rest)) (at_equal R x y xs e)
 
-  new_first : (x : A) (xs rest : List A) (y : A) → R x y ≡ Greater → marked (y ∷ rest) (x ∷ xs) ≡ only y ∷ marked rest (x ∷ xs)
+  new_first : (x : A) (xs rest : List A) (y : A) → R x y ≡ Greater
+      → marked (y ∷ rest) (x ∷ xs) ≡ only y ∷ marked rest (x ∷ xs)
   new_first x xs rest y e = ap (λ found. marked_on both only found y (x ∷ xs) (marked rest)) (at_greater R x y xs e)
 
-  inner : (x : A) (xs : List A) → IsRising R (x ∷ xs) → P x → ((b : List A) → IsRising R b → AllByRecursion P b → Marks xs b) → (b : List A) → IsRising R b → AllByRecursion P b → Marks (x ∷ xs) b
+  inner : (x : A) (xs : List A) → IsRising R (x ∷ xs) → P x
+      → ((b : List A) → IsRising R b → AllByRecursion P b → Marks xs b) → (b : List A) → IsRising R b
+      → AllByRecursion P b → Marks (x ∷ xs) b
   inner x xs a p ih [] h q =
       old_first x xs xs x (itself R o x) ∙ ap (λ y. y ∷ marked xs xs) (stays x p) ∙ ap (λ zs. x ∷ zs) (ih [] tt tt)
   inner x xs a p ih (y ∷ ys) h q =
@@ -84,9 +89,11 @@ module _ {A : Type 0} (R : A → A → Ordering) (join : A → A → A) (o : IsT
       ] refl
 
   -- Marking what is new in a union is uniting with what was marked.
-  pub marked_union : (a b : List A) → IsRising R a → IsRising R b → AllByRecursion P a → AllByRecursion P b → marked_new R both only (united R join a b) a ≡ united R join a (map only b)
+  pub marked_union : (a b : List A) → IsRising R a → IsRising R b → AllByRecursion P a → AllByRecursion P b
+      → marked_new R both only (united R join a b) a ≡ united R join a (map only b)
   marked_union [] b a h p q =
-      ap (λ u. marked u []) (only_right R join o same b h) ∙ all_new R both only b ∙ sym (only_right R join o same (map only b) (only_rises b h))
+      ap (λ u. marked u []) (only_right R join o same b h) ∙ all_new R both only b
+      ∙ sym (only_right R join o same (map only b) (only_rises b h))
   marked_union (x ∷ xs) b a h p q = inner x xs a p.0 (λ c i r. marked_union xs c a.1 i p.1 r) b h q
 
 -- ---- weights
@@ -102,10 +109,12 @@ module _ {A : Type 0} (R : A → A → Ordering) (join : A → A → A) (o : IsT
   abbrev Weighs : List A → List A → Type 0
   Weighs a b = weighed (united R join a b) a + sum_of m a ≡ sum_of m (united R join a b)
 
-  old_weight : (x : A) (xs rest : List A) (y : A) → R x y ≡ Equal → weighed (y ∷ rest) (x ∷ xs) ≡ both x y + weighed rest xs
+  old_weight : (x : A) (xs rest : List A) (y : A) → R x y ≡ Equal
+      → weighed (y ∷ rest) (x ∷ xs) ≡ both x y + weighed rest xs
   old_weight x xs rest y e = ap (λ found. weighed_on both only found y (x ∷ xs) (weighed rest)) (at_equal R x y xs e)
 
-  new_weight : (x : A) (xs rest : List A) (y : A) → R x y ≡ Greater → weighed (y ∷ rest) (x ∷ xs) ≡ only y + weighed rest (x ∷ xs)
+  new_weight : (x : A) (xs rest : List A) (y : A) → R x y ≡ Greater
+      → weighed (y ∷ rest) (x ∷ xs) ≡ only y + weighed rest (x ∷ xs)
   new_weight x xs rest y e = ap (λ found. weighed_on both only found y (x ∷ xs) (weighed rest)) (at_greater R x y xs e)
 
   all_weight : (ys : List A) → AllByRecursion P ys → weighed ys [] ≡ sum_of m ys
@@ -118,9 +127,12 @@ module _ {A : Type 0} (R : A → A → Ordering) (join : A → A → A) (o : IsT
   step_new : (w n my sx s : ℕ) → n ≡ my → w + sx ≡ s → (n + w) + sx ≡ my + s
   step_new w n my sx s h k = omega arith
 
-  weigh_inner : (x : A) (xs : List A) → IsRising R (x ∷ xs) → P x → ((b : List A) → IsRising R b → AllByRecursion P b → Weighs xs b) → (b : List A) → IsRising R b → AllByRecursion P b → Weighs (x ∷ xs) b
+  weigh_inner : (x : A) (xs : List A) → IsRising R (x ∷ xs) → P x
+      → ((b : List A) → IsRising R b → AllByRecursion P b → Weighs xs b) → (b : List A) → IsRising R b
+      → AllByRecursion P b → Weighs (x ∷ xs) b
   weigh_inner x xs a p ih [] h q =
-      ap (λ n. n + (m x + sum_of m xs)) (old_weight x xs xs x (itself R o x)) ∙ step_old _ _ _ _ _ _ (stays x p) (ih [] tt tt)
+      ap (λ n. n + (m x + sum_of m xs)) (old_weight x xs xs x (itself R o x))
+      ∙ step_old _ _ _ _ _ _ (stays x p) (ih [] tt tt)
   weigh_inner x xs a p ih (y ∷ ys) h q =
       elim (R x y) as (λ r. R x y ≡ r → Weighs (x ∷ xs) (y ∷ ys)) [
         | Less ↦ λ e.
@@ -132,7 +144,8 @@ module _ {A : Type 0} (R : A → A → Ordering) (join : A → A → A) (o : IsT
         | Equal ↦ λ e.
             let u = equal R join o same x xs y ys h e in
             ap (λ v. weighed v (x ∷ xs) + (m x + sum_of m xs)) u
-            ∙ ap (λ n. n + (m x + sum_of m xs)) (old_weight x xs (united R join xs ys) (join x y) (same x y e x ∙ itself R o x))
+            ∙ ap (λ n. n + (m x + sum_of m xs))
+            (old_weight x xs (united R join xs ys) (join x y) (same x y e x ∙ itself R o x))
             ∙ step_old _ _ _ _ _ _ (joined x y e p q.0) (ih ys h.1 q.1)
             ∙ ap (sum_of m) (sym u)
         | Greater ↦ λ e.
@@ -144,9 +157,11 @@ module _ {A : Type 0} (R : A → A → Ordering) (join : A → A → A) (o : IsT
       ] refl
 
   -- What is new in a union weighs what the union weighs more.
-  pub weighed_union : (a b : List A) → IsRising R a → IsRising R b → AllByRecursion P a → AllByRecursion P b → weighed_new R both only (united R join a b) a + sum_of m a ≡ sum_of m (united R join a b)
+  pub weighed_union : (a b : List A) → IsRising R a → IsRising R b → AllByRecursion P a → AllByRecursion P b
+      → weighed_new R both only (united R join a b) a + sum_of m a ≡ sum_of m (united R join a b)
   weighed_union [] b a h p q =
       let u = only_right R join o same b h in
-      let w : weighed (united R join [] b) [] ≡ sum_of m (united R join [] b) = ap (λ v. weighed v []) u ∙ all_weight b q ∙ ap (sum_of m) (sym u) in
+      let w : weighed (united R join [] b) [] ≡ sum_of m (united R join [] b) =
+      ap (λ v. weighed v []) u ∙ all_weight b q ∙ ap (sum_of m) (sym u) in
       omega (arith, w)
   weighed_union (x ∷ xs) b a h p q = weigh_inner x xs a p.0 (λ c i r. weighed_union xs c a.1 i p.1 r) b h q

@@ -14,16 +14,24 @@ use Rattle.wot_cert.proofs.TextSize.{size_is}
 use Rattle.wot_cert.proofs.Weights.{sigs_weight, parts_weight}
 
 module _ (r1 r2 r3 r4 : PolicyRows) (o1 : List Signature) (o2 o3 o4 : List Component) (c : Certificate) (d : List Signature) (u t s : List Component)
-    (ed : d ≡ judged_sigs r1 c.direct o1) (eu : u ≡ judged_parts r2 c.user_ids o2) (et : t ≡ judged_parts r3 c.attributes o3) (es : s ≡ judged_parts r4 c.subkeys o4) where
+    (ed : d ≡ judged_sigs r1 c.direct o1) (eu : u ≡ judged_parts r2 c.user_ids o2)
+    (et : t ≡ judged_parts r3 c.attributes o3) (es : s ≡ judged_parts r4 c.subkeys o4) where
   abbrev new : Certificate
   new = record { key = c.key; direct = d; user_ids = u; attributes = t; subkeys = s }
 
-  weight : (sig : Signature → ℕ) (own : Component → ℕ) → ((rows : PolicyRows) (x : Signature) → sig (judged_sig rows x) ≡ sig x) → ((rows : PolicyRows) (old : List Signature) (p : Component) → own (judged_part rows old p) ≡ own p) → weight_of sig own new ≡ weight_of sig own c
+  weight : (sig : Signature → ℕ) (own : Component → ℕ)
+      → ((rows : PolicyRows) (x : Signature) → sig (judged_sig rows x) ≡ sig x)
+      → ((rows : PolicyRows) (old : List Signature) (p : Component) → own (judged_part rows old p) ≡ own p)
+      → weight_of sig own new ≡ weight_of sig own c
   weight sig own sig_as own_as =
-      let direct : sum_of sig d ≡ sum_of sig c.direct = ap (sum_of sig) ed ∙ sigs_weight sig own r1 (sig_as r1) (own_as r1) c.direct o1 in
-      let ids : sum_of (part_weight sig own) u ≡ sum_of (part_weight sig own) c.user_ids = ap (sum_of (part_weight sig own)) eu ∙ parts_weight sig own r2 (sig_as r2) (own_as r2) c.user_ids o2 in
-      let attributes : sum_of (part_weight sig own) t ≡ sum_of (part_weight sig own) c.attributes = ap (sum_of (part_weight sig own)) et ∙ parts_weight sig own r3 (sig_as r3) (own_as r3) c.attributes o3 in
-      let subkeys : sum_of (part_weight sig own) s ≡ sum_of (part_weight sig own) c.subkeys = ap (sum_of (part_weight sig own)) es ∙ parts_weight sig own r4 (sig_as r4) (own_as r4) c.subkeys o4 in
+      let direct : sum_of sig d ≡ sum_of sig c.direct =
+      ap (sum_of sig) ed ∙ sigs_weight sig own r1 (sig_as r1) (own_as r1) c.direct o1 in
+      let ids : sum_of (part_weight sig own) u ≡ sum_of (part_weight sig own) c.user_ids =
+      ap (sum_of (part_weight sig own)) eu ∙ parts_weight sig own r2 (sig_as r2) (own_as r2) c.user_ids o2 in
+      let attributes : sum_of (part_weight sig own) t ≡ sum_of (part_weight sig own) c.attributes =
+      ap (sum_of (part_weight sig own)) et ∙ parts_weight sig own r3 (sig_as r3) (own_as r3) c.attributes o3 in
+      let subkeys : sum_of (part_weight sig own) s ≡ sum_of (part_weight sig own) c.subkeys =
+      ap (sum_of (part_weight sig own)) es ∙ parts_weight sig own r4 (sig_as r4) (own_as r4) c.subkeys o4 in
       λ i. direct i + ids i + attributes i + subkeys i
 
   pub lists_totals : (totals : Adds) → AreTotals totals c → AreTotals totals new
@@ -31,4 +39,5 @@ module _ (r1 r2 r3 r4 : PolicyRows) (o1 : List Signature) (o2 o3 o4 : List Compo
       totals_same totals c new
       (ap (λ n. 1 + n) (weight (λ _. 1) (λ _. 1) (λ rows x. refl) (λ rows old p. refl)))
       (weight (λ _. 1) (λ _. 0) (λ rows x. refl) (λ rows old p. refl))
-      (size_is new ∙ ap (λ n. length (written 6 c.key) + n) (weight sig_size own_size (λ rows x. refl) (λ rows old p. refl)) ∙ sym (size_is c)) h
+      (size_is new ∙ ap (λ n. length (written 6 c.key) + n)
+      (weight sig_size own_size (λ rows x. refl) (λ rows old p. refl)) ∙ sym (size_is c)) h

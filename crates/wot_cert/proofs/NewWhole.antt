@@ -4,7 +4,8 @@ use Rattle.std.specs.declared.cmp.Ordering.{Ordering}
 use Rattle.std.specs.List.{AllByRecursion}
 use Rattle.wot_policy.specs.declared.rows.PolicyRows.{PolicyRows}
 use Rattle.wot_cert.specs.Ranked.{IsBelow, IsRising}
-use Rattle.wot_cert.specs.Certificate.{Signature, Component, Certificate, sig_cmp, part_cmp, on_key, on_user_id, on_attribute, on_subkey}
+use Rattle.wot_cert.specs.Certificate.{Signature, Component, Certificate, sig_cmp, part_cmp, on_key, on_user_id}
+use Rattle.wot_cert.specs.Certificate.{on_attribute, on_subkey}
 use Rattle.wot_cert.specs.Judged.{judged_sig}
 use Rattle.wot_cert.specs.New.{met, marked_on, marked_new, stays, judged_sigs, judged_part, judged_parts}
 use Rattle.wot_cert.specs.Whole.{IsSigAt, AreSigsAt, IsPartOf, ArePartsOf, IsCertificate}
@@ -42,27 +43,37 @@ module _ {A : Type 0} (R : A → A → Ordering) (both : A → A → A) (only : 
         | None ↦ (only_keeps y h.0, marked_all ys old h.1)
       ]
 
-pub judged_rising : (rows : PolicyRows) (ys old : List Signature) → IsRising sig_cmp ys → IsRising sig_cmp (judged_sigs rows ys old)
-judged_rising rows ys old h = marked_rising sig_cmp stays (judged_sig rows) (λ w x y. refl) (λ x y w. refl) (λ w y. refl) (λ y w. refl) ys old h
+pub judged_rising : (rows : PolicyRows) (ys old : List Signature) → IsRising sig_cmp ys
+    → IsRising sig_cmp (judged_sigs rows ys old)
+judged_rising rows ys old h =
+    marked_rising sig_cmp stays (judged_sig rows) (λ w x y. refl) (λ x y w. refl) (λ w y. refl) (λ y w. refl) ys old h
 
-judged_at : (rows : PolicyRows) (key : List ℕ) (kind : ℕ) (component : List ℕ) (ys old : List Signature) → AreSigsAt key kind component ys → AreSigsAt key kind component (judged_sigs rows ys old)
-judged_at rows key kind component ys old h =
-    (judged_rising rows ys old h.0, marked_all sig_cmp stays (judged_sig rows) (IsSigAt key kind component) (λ x y p. p) (λ y p. p) ys old h.1)
+judged_at : (rows : PolicyRows) (key : List ℕ) (kind : ℕ) (component : List ℕ) (ys old : List Signature)
+    → AreSigsAt key kind component ys → AreSigsAt key kind component (judged_sigs rows ys old)
+judged_at rows key kind component ys old h = (
+  judged_rising rows ys old h.0,
+  marked_all sig_cmp stays (judged_sig rows) (IsSigAt key kind component) (λ x y p. p) (λ y p. p) ys old h.1,
+)
 
-part_keeps : (rows : PolicyRows) (key : List ℕ) (kind : ℕ) (old : List Signature) (y : Component) → IsPartOf key kind y → IsPartOf key kind (judged_part rows old y)
+part_keeps : (rows : PolicyRows) (key : List ℕ) (kind : ℕ) (old : List Signature) (y : Component) → IsPartOf key kind y
+    → IsPartOf key kind (judged_part rows old y)
 part_keeps rows key kind old y p = (p.0, judged_at rows key kind y.body y.sigs old p.1)
 
-judged_of : (rows : PolicyRows) (key : List ℕ) (kind : ℕ) (ys old : List Component) → ArePartsOf key kind ys → ArePartsOf key kind (judged_parts rows ys old)
+judged_of : (rows : PolicyRows) (key : List ℕ) (kind : ℕ) (ys old : List Component) → ArePartsOf key kind ys
+    → ArePartsOf key kind (judged_parts rows ys old)
 judged_of rows key kind ys old h =
     let both : Component → Component → Component = λ x y. judged_part rows x.sigs y in
     let only : Component → Component = judged_part rows [] in (
       marked_rising part_cmp both only (λ w x y. refl) (λ x y w. refl) (λ w y. refl) (λ y w. refl) ys old h.0,
-      marked_all part_cmp both only (IsPartOf key kind) (λ x y p. part_keeps rows key kind x.sigs y p) (λ y p. part_keeps rows key kind [] y p) ys old h.1,
+      marked_all part_cmp both only (IsPartOf key kind) (λ x y p. part_keeps rows key kind x.sigs y p)
+          (λ y p. part_keeps rows key kind [] y p) ys old h.1,
     )
 
 -- lists of which each was judged by rows, beside old ones
-pub lists_whole : (r1 r2 r3 r4 : PolicyRows) (o1 : List Signature) (o2 o3 o4 : List Component) (c : Certificate) (d : List Signature) (u t s : List Component)
-    → d ≡ judged_sigs r1 c.direct o1 → u ≡ judged_parts r2 c.user_ids o2 → t ≡ judged_parts r3 c.attributes o3 → s ≡ judged_parts r4 c.subkeys o4
+pub lists_whole : (r1 r2 r3 r4 : PolicyRows) (o1 : List Signature) (o2 o3 o4 : List Component) (c : Certificate)
+    (d : List Signature) (u t s : List Component)
+    → d ≡ judged_sigs r1 c.direct o1 → u ≡ judged_parts r2 c.user_ids o2 → t ≡ judged_parts r3 c.attributes o3
+    → s ≡ judged_parts r4 c.subkeys o4
     → IsCertificate c → IsCertificate (record { key = c.key; direct = d; user_ids = u; attributes = t; subkeys = s })
 lists_whole r1 r2 r3 r4 o1 o2 o3 o4 c d u t s ed eu et es h =
     let Sigs : List Signature → Type 0 = AreSigsAt c.key on_key [] in

@@ -1,10 +1,7 @@
 -- A union made in place: from the last item to the first.
-use Rattle.std.proofs.Common.{◌≡◌, ℕ, ◌+◌, ◌≤◌, List, [], ◌∷◌, ◌++◌, map, length, refl, sym, ap, ◌∙◌, subst, arith, le_refl}
-use Rattle.std.proofs.lemmas.List.{nil_from_length}
+use Rattle.std.proofs.Common.{◌≡◌, ℕ, ◌+◌, ◌≤◌, List, [], ◌∷◌, ◌++◌, map, refl, sym, ap, ◌∙◌, subst, arith}
 use Rattle.std.specs.List.{AllByRecursion}
 use Rattle.std.specs.declared.cmp.Ordering.{Ordering}
-use Rattle.wot_policy.specs.declared.policy.Policy.{Policy}
-use Rattle.wot_policy.specs.Kept.{asked_more}
 use Rattle.wot_cert.specs.Counts.{sum_of}
 use Rattle.wot_cert.specs.Ranked.{put, united}
 use Rattle.wot_cert.proofs.Weights.{put_more, united_more}
@@ -22,15 +19,19 @@ module _ {A : Type 0} (R : A → A → Ordering) (join : A → A → A) (change 
   united_last xs [] y = refl
   united_last xs (z ∷ ys) y = ap (put R join (change z)) (united_last xs ys y)
 
-  pub union_on : (now next first left rest all : List A) (y : A) → U now left ≡ U first all → left ≡ rest ++ y ∷ [] → next ≡ put R join (change y) now → U next rest ≡ U first all
+  pub union_on : (now next first left rest all : List A) (y : A) → U now left ≡ U first all → left ≡ rest ++ y ∷ []
+      → next ≡ put R join (change y) now → U next rest ≡ U first all
   union_on now next first left rest all y h e f =
       ap (λ (xs : List A). U xs rest) f ∙ sym (united_last now rest y) ∙ ap (U now) (sym e) ∙ h
 
   -- What is put in once more weighs no more than the whole union.
-  pub put_within : (m : A → ℕ) → ((x y : A) → m x ≤ m (join x y)) → (now first left rest all : List A) (y : A) → U now left ≡ U first all → left ≡ rest ++ y ∷ [] → sum_of m (put R join (change y) now) ≤ sum_of m (U first all)
+  pub put_within : (m : A → ℕ) → ((x y : A) → m x ≤ m (join x y)) → (now first left rest all : List A) (y : A)
+      → U now left ≡ U first all → left ≡ rest ++ y ∷ [] → sum_of m (put R join (change y) now) ≤ sum_of m (U first all)
   put_within m least now first left rest all y h e =
-      let w : U (put R join (change y) now) rest ≡ U first all = union_on now (put R join (change y) now) first left rest all y h e refl in
-      subst (λ (xs : List A). sum_of m (put R join (change y) now) ≤ sum_of m xs) w (united_more R join m least (put R join (change y) now) (map change rest))
+      let w : U (put R join (change y) now) rest ≡ U first all =
+      union_on now (put R join (change y) now) first left rest all y h e refl in
+      subst (λ (xs : List A). sum_of m (put R join (change y) now) ≤ sum_of m xs) w
+      (united_more R join m least (put R join (change y) now) (map change rest))
 
 pub counted_on : (i j a b c : ℕ) → i + a ≡ b → j + b ≡ c → (i + j) + a ≡ c
 counted_on i j a b c h k = omega arith

@@ -1,9 +1,11 @@
 -- One step of a loop that changes a list in place, beside another list of which a part is left.
-use Rattle.std.proofs.Common.{◌≡◌, ℕ, ◌+◌, ◌<◌, List, [], ◌∷◌, ◌++◌, take, drop, get_or, set, length, sym, ap, ◌∙◌, add-one, append_assoc, arith}
+use Rattle.std.proofs.Common.{◌≡◌, ℕ, ◌+◌, ◌<◌, List, [], ◌∷◌, ◌++◌, take, drop, get_or, set, length, sym, ap, ◌∙◌}
+use Rattle.std.proofs.Common.{add-one, append_assoc, arith}
 use Rattle.std.proofs.Math.Seq.{drop-cons}
 use Rattle.std.proofs.lemmas.List.{take_more_set, drop-set-lt}
 
-drop_at : {A : Type 0} (xs : List A) (i : ℕ) (y : A) → i < length xs → y ≡ get_or xs i y → drop i xs ≡ y ∷ drop (i + 1) xs
+drop_at : {A : Type 0} (xs : List A) (i : ℕ) (y : A) → i < length xs → y ≡ get_or xs i y
+    → drop i xs ≡ y ∷ drop (i + 1) xs
 drop_at xs i y h e = drop-cons xs i y h ∙ (λ j. sym e j ∷ drop (sym (add-one i) j) xs)
 
 one_more : (i : ℕ) → i < i + 1

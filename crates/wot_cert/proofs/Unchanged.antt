@@ -1,9 +1,11 @@
 -- A union that weighs no more than its first part is that part, and marks weigh nothing.
-use Rattle.std.proofs.Common.{◌≡◌, ℕ, ◌+◌, ◌≤◌, Bool, false, List, [], ◌∷◌, ◌++◌, map, length, refl, sym, ap, ◌∙◌, subst, arith}
+use Rattle.std.proofs.Common.{◌≡◌, ℕ, ◌+◌, ◌≤◌, Bool, false, List, [], ◌∷◌, ◌++◌, map, length, refl, sym, ap, ◌∙◌}
+use Rattle.std.proofs.Common.{subst, arith}
 use Rattle.std.specs.declared.cmp.Ordering.{Ordering}
 use Rattle.std.specs.declared.cmp.Ordering.TheVariants.{Less, Equal, Greater}
 use Rattle.wot_packet.specs.Writing.{written}
-use Rattle.wot_cert.specs.Certificate.{Signature, Component, Certificate, kept, sig_cmp, part_cmp, unite, unite_sigs, unite_part, unite_parts, part_with, with_each, unmarked}
+use Rattle.wot_cert.specs.Certificate.{Signature, Component, Certificate, kept, sig_cmp, part_cmp, unite, unite_sigs}
+use Rattle.wot_cert.specs.Certificate.{unite_part, unite_parts, part_with, with_each, unmarked}
 use Rattle.wot_cert.specs.Counts.{sum_of, part_weight, weight_of, items_of, signatures_of}
 use Rattle.wot_cert.specs.Judged.{if_sound, sound_of}
 use Rattle.wot_cert.specs.Ranked.{put, placed, united}
@@ -17,7 +19,9 @@ use Rattle.wot_cert.proofs.Weights.{put_more, united_more, unite_less, unite_mor
 use Rattle.wot_cert.proofs.Wholes.{marked_as}
 
 module _ {A : Type 0} (R : A → A → Ordering) (join : A → A → A) (m : A → ℕ) (some : (x : A) → 1 ≤ m x) (least : (x y : A) → m x ≤ m (join x y)) (stays : (x y : A) → m (join x y) ≡ m x → join x y ≡ x) where
-  placed-same : (r : Ordering) (x y : A) (ys rest : List A) → sum_of m ys ≤ sum_of m rest → sum_of m (placed r join x y ys rest) ≡ m y + sum_of m ys → (sum_of m rest ≡ sum_of m ys → rest ≡ ys) → placed r join x y ys rest ≡ y ∷ ys
+  placed-same : (r : Ordering) (x y : A) (ys rest : List A) → sum_of m ys ≤ sum_of m rest
+      → sum_of m (placed r join x y ys rest) ≡ m y + sum_of m ys → (sum_of m rest ≡ sum_of m ys → rest ≡ ys)
+      → placed r join x y ys rest ≡ y ∷ ys
   placed-same Less x y ys rest h e f = let one = some x in absurd (omega arith)
   placed-same Equal x y ys rest h e f =
       let same : m (join y x) ≡ m y = omega arith in
@@ -34,7 +38,8 @@ module _ {A : Type 0} (R : A → A → Ordering) (join : A → A → A) (m : A �
   united-same xs [] e = refl
   united-same xs (y ∷ ys) e =
       let first : sum_of m xs ≤ sum_of m (united R join xs ys) = united_more R join m least xs ys in
-      let then : sum_of m (united R join xs ys) ≤ sum_of m (put R join y (united R join xs ys)) = put_more R join m least y (united R join xs ys) in
+      let then : sum_of m (united R join xs ys) ≤ sum_of m (put R join y (united R join xs ys)) =
+      put_more R join m least y (united R join xs ys) in
       let same : sum_of m (united R join xs ys) ≡ sum_of m xs = omega arith in
       let stands : united R join xs ys ≡ xs = united-same xs ys same in
       ap (put R join y) stands ∙ put-same y xs (ap (λ (zs : List A). sum_of m (put R join y zs)) (sym stands) ∙ e)
@@ -60,25 +65,30 @@ module _ (sig : Signature → ℕ) (own : Component → ℕ) (sig-some : (s : Si
       let same : sum_of sig (unite_sigs x.sigs y.sigs) ≡ sum_of sig x.sigs = omega (arith, own-same x y) in
       ap (λ (sigs : List Signature). record x { sigs = sigs }) (sigs-same x.sigs y.sigs same)
 
-  parts-same : (a b : List Component) → sum_of (part_weight sig own) (unite_parts a b) ≡ sum_of (part_weight sig own) a → unite_parts a b ≡ a
+  parts-same : (a b : List Component) → sum_of (part_weight sig own) (unite_parts a b) ≡ sum_of (part_weight sig own) a
+      → unite_parts a b ≡ a
   parts-same a b e = united-same part_cmp unite_part (part_weight sig own) part-some part-least part-same a b e
 
   parts-more : (a b : List Component) → sum_of (part_weight sig own) a ≤ sum_of (part_weight sig own) (unite_parts a b)
   parts-more a b = united_more part_cmp unite_part (part_weight sig own) part-least a b
 
-  each-same : (a b c d w x y z : ℕ) → a ≤ w → b ≤ x → c ≤ y → d ≤ z → w + x + y + z ≡ a + b + c + d → (w ≡ a) × (x ≡ b) × (y ≡ c) × (z ≡ d)
+  each-same : (a b c d w x y z : ℕ) → a ≤ w → b ≤ x → c ≤ y → d ≤ z → w + x + y + z ≡ a + b + c + d
+      → (w ≡ a) × (x ≡ b) × (y ≡ c) × (z ≡ d)
   each-same a b c d w x y z e f g h k = (omega arith, omega arith, omega arith, omega arith)
 
   -- What weighs no more than before is as before.
   pub cert-same : (a b : Certificate) → weight_of sig own (unite a b) ≡ weight_of sig own a → unite a b ≡ a
   cert-same a b e =
-      let s = each-same _ _ _ _ _ _ _ _ (sigs-more a.direct b.direct) (parts-more a.user_ids b.user_ids) (parts-more a.attributes b.attributes) (parts-more a.subkeys b.subkeys) e in
-      same_cert _ _ refl (sigs-same a.direct b.direct s.0) (parts-same a.user_ids b.user_ids s.1) (parts-same a.attributes b.attributes s.2) (parts-same a.subkeys b.subkeys s.3)
+      let s = each-same _ _ _ _ _ _ _ _ (sigs-more a.direct b.direct) (parts-more a.user_ids b.user_ids)
+      (parts-more a.attributes b.attributes) (parts-more a.subkeys b.subkeys) e in
+      same_cert _ _ refl (sigs-same a.direct b.direct s.0) (parts-same a.user_ids b.user_ids s.1)
+      (parts-same a.attributes b.attributes s.2) (parts-same a.subkeys b.subkeys s.3)
 
 -- ---- marks
 
 module _ (mark : Signature → Bool) (sig : Signature → ℕ) (own : Component → ℕ) (sig-as : (s : Signature) → sig (marked_as mark s) ≡ sig s) (own-as : (p : Component) → own (part_with (marked_as mark) p) ≡ own p) where
-  mapped-sum : {A : Type 0} (m : A → ℕ) (f : A → A) → ((x : A) → m (f x) ≡ m x) → (xs : List A) → sum_of m (map f xs) ≡ sum_of m xs
+  mapped-sum : {A : Type 0} (m : A → ℕ) (f : A → A) → ((x : A) → m (f x) ≡ m x) → (xs : List A)
+      → sum_of m (map f xs) ≡ sum_of m xs
   mapped-sum m f e [] = refl
   mapped-sum m f e (x ∷ xs) = λ i. e x i + mapped-sum m f e xs i
 
@@ -130,7 +140,9 @@ moved : (k a b n m : ℕ) → n ≡ k + a → m ≡ k + b → a ≤ b → n ≤ 
 moved k a b n m e f h = omega arith
 
 pub size-more : (a b : Certificate) → size_of a ≤ size_of (unite a b)
-size-more a b = moved (length (written 6 a.key)) _ _ _ _ (size_is a) (size_is (unite a b)) (unite_more sig_size own_size (λ x y. refl) a b)
+size-more a b =
+    moved (length (written 6 a.key)) _ _ _ _ (size_is a) (size_is (unite a b))
+    (unite_more sig_size own_size (λ x y. refl) a b)
 
 -- ---- marks change none of it
 
@@ -148,24 +160,31 @@ module _ (mark : Signature → Bool) where
   sigs-text [] = refl
   sigs-text (s ∷ sigs) = ap (λ (t : List ℕ). written 2 s.body ++ t) (sigs-text sigs)
 
-  parts-text : (type : ℕ) (ps : List Component) → parts_text type (map (part_with (marked_as mark)) ps) ≡ parts_text type ps
+  parts-text : (type : ℕ) (ps : List Component)
+      → parts_text type (map (part_with (marked_as mark)) ps) ≡ parts_text type ps
   parts-text type [] = refl
   parts-text type (p ∷ ps) = λ i. (written type p.body ++ sigs-text p.sigs i) ++ parts-text type ps i
 
   pub text-marked : (c : Certificate) → text_of (with_each (marked_as mark) c) ≡ text_of c
-  text-marked c = λ i. written 6 c.key ++ sigs-text c.direct i ++ parts-text 13 c.user_ids i ++ parts-text 17 c.attributes i ++ parts-text 14 c.subkeys i
+  text-marked c =
+      λ i. written 6 c.key ++ sigs-text c.direct i ++ parts-text 13 c.user_ids i ++ parts-text 17 c.attributes
+      i ++ parts-text 14 c.subkeys i
 
 -- ---- the second part
 
 alike : (w : Certificate → ℕ) → ((c : Certificate) → w (unmarked c) ≡ w c) → ((a b : Certificate) → w a ≤ w (unite a b))
     → (a b : Certificate) → IsCertificate a → IsCertificate b → a.key ≡ b.key → w b ≤ w (unite a b)
-alike w same grows a b h k e = subst (λ (n : ℕ). w b ≤ n) (sym (same (unite b a)) ∙ ap w (sym (commutes a b h k e)) ∙ same (unite a b)) (grows b a)
+alike w same grows a b h k e =
+    subst (λ (n : ℕ). w b ≤ n) (sym (same (unite b a)) ∙ ap w (sym (commutes a b h k e)) ∙ same (unite a b)) (grows b a)
 
-pub items-both : (a b : Certificate) → IsCertificate a → IsCertificate b → a.key ≡ b.key → items_of b ≤ items_of (unite a b)
+pub items-both : (a b : Certificate) → IsCertificate a → IsCertificate b → a.key ≡ b.key
+    → items_of b ≤ items_of (unite a b)
 items-both = alike items_of (items-marked (λ _. false)) items-more
 
-pub signatures-both : (a b : Certificate) → IsCertificate a → IsCertificate b → a.key ≡ b.key → signatures_of b ≤ signatures_of (unite a b)
+pub signatures-both : (a b : Certificate) → IsCertificate a → IsCertificate b → a.key ≡ b.key
+    → signatures_of b ≤ signatures_of (unite a b)
 signatures-both = alike signatures_of (signatures-marked (λ _. false)) signatures-more
 
-pub size-both : (a b : Certificate) → IsCertificate a → IsCertificate b → a.key ≡ b.key → size_of b ≤ size_of (unite a b)
+pub size-both : (a b : Certificate) → IsCertificate a → IsCertificate b → a.key ≡ b.key
+    → size_of b ≤ size_of (unite a b)
 size-both = alike size_of (λ c. ap (λ (t : List ℕ). length t) (text-marked (λ _. false) c)) size-more

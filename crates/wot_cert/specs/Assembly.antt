@@ -27,13 +27,13 @@ keys_of packets = (cut_at is_key packets).1
 
 -- ---- a certificate
 
--- the set of the signatures among these packets, which stand at this place
+-- the set of the signatures among these packets, which are on this component
 abbrev pub sigs_in : List ℕ → ℕ → List ℕ → List Spelled → List Signature
 sigs_in key kind component packets =
     unite_sigs []
     (map (λ (p : Spelled). fresh key kind component p.body) (filter (λ (p : Spelled). is_signature p.kind) packets))
 
--- a component with the signatures behind it
+-- a component with the signatures after it
 abbrev pub part_of : List ℕ → ℕ → Section → Component
 part_of key kind section = record { body = section.0.body; sigs = sigs_in key kind section.0.body section.1 }
 
@@ -51,7 +51,7 @@ certificate_with key cut = record {
   subkeys = parts_of key 14 on_subkey cut.1;
 }
 
--- the certificate of a key and the packets behind it
+-- the certificate of a key and the packets after it
 abbrev pub certificate_behind : List ℕ → List Spelled → Certificate
 certificate_behind key packets = certificate_with key (cut_at begins_component packets)
 
@@ -63,11 +63,11 @@ certificate_of section = certificate_behind section.0.body section.1
 abbrev pub has_readable_key : Section → Bool
 has_readable_key section = is_readable section.0.body
 
--- one certificate for each readable key, in the order of the packets
+-- one certificate for each key that can be parsed, in the order of the packets
 abbrev pub certificates_of : List Spelled → List Certificate
 certificates_of packets = map certificate_of (filter has_readable_key (keys_of packets))
 
--- how many keys are not readable
+-- how many keys can't be parsed
 abbrev pub skipped_in : List Spelled → ℕ
 skipped_in packets = count_by (λ s. not (has_readable_key s)) (keys_of packets)
 

@@ -1,4 +1,4 @@
--- What a certificate is (RFC 9580, section 10.1), and the union of two.
+-- What a certificate is (RFC 9580, section 10.1), and how two are merged.
 use Rattle.std.specs.Prelude.{ℕ, Bool, false, List, map, Option}
 use Rattle.std.specs.declared.cmp.Ordering.{Ordering}
 use Rattle.std.specs.Ordering.{nat_cmp}
@@ -20,7 +20,7 @@ pub record Component : Type 0 where
   pub body : List ℕ
   pub sigs : List Signature
 
--- All lists are in the order of the bodies, without doubles.
+-- All lists are in the order of the bodies, without duplicates.
 pub record Certificate : Type 0 where
   pub key : List ℕ
   pub direct : List Signature
@@ -28,13 +28,13 @@ pub record Certificate : Type 0 where
   pub attributes : List Component
   pub subkeys : List Component
 
--- what a signature says; nothing where it isn't readable
+-- what a signature says; nothing if it can't be parsed
 abbrev pub said_by : Signature → Option SigFacts
 said_by s = facts_of s.body
 
 -- ---- places
 
--- the kind of place of a signature, as its number has it: on the key, on a user ID, on a user attribute, on a subkey
+-- the kind of component that a signature is on, as in its number: the key, a user ID, a user attribute, a subkey
 abbrev pub on_key : ℕ
 on_key = 0
 
@@ -47,11 +47,11 @@ on_attribute = 2
 abbrev pub on_subkey : ℕ
 on_subkey = 3
 
--- the signature of this body at its place, not judged
+-- the signature with this body at its place, without a mark
 abbrev pub fresh : List ℕ → ℕ → List ℕ → List ℕ → Signature
 fresh key kind component body = record { body = body; number = number_of key kind component body; admitted = false }
 
--- ---- union
+-- ---- merging
 
 abbrev pub sig_cmp : Signature → Signature → Ordering
 sig_cmp a b = slice_cmp nat_cmp a.body b.body
@@ -72,7 +72,7 @@ unite_part old new = record { body = old.body; sigs = unite_sigs old.sigs new.si
 abbrev pub unite_parts : List Component → List Component → List Component
 unite_parts = united part_cmp unite_part
 
--- The union of two certificates of one key, at each place. What the first one has stays, its marks too.
+-- Two certificates of one key, merged list by list. What the first one has stays, its marks included.
 abbrev pub unite : Certificate → Certificate → Certificate
 unite a b = record {
   key = a.key;

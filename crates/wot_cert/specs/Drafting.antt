@@ -85,7 +85,7 @@ with_signature body s = record {
 abbrev pub groups_with : Bool → Group → List Group → List Group
 groups_with here group groups = if here then put_group group groups else groups
 
--- What was drafted so far stands on this component, or is dropped where it is none.
+-- What was drafted so far belongs to this component, or is dropped if it is none.
 abbrev pub with_component : ℕ → List ℕ → Sketch → Sketch
 with_component type body s = record {
   sigs = [];
@@ -145,11 +145,11 @@ without body groups = remove_entry (is_at (body_cmp body)) groups
 abbrev pub sigs_at : List ℕ → List Group → List (List ℕ)
 sigs_at body groups = unwrap_or (lookup (is_at (body_cmp body)) groups) []
 
--- whose length four octets tell
+-- whose length fits in four octets
 abbrev pub IsShort : List ℕ → Type 0
 IsShort body = length body < 2 ^ 32
 
--- a component and signatures whose lengths four octets tell
+-- a component and signatures whose lengths fit in four octets
 abbrev pub IsShortGroup : Group → Type 0
 IsShortGroup group = IsShort group.0 × AllByRecursion IsShort group.1
 
@@ -177,7 +177,7 @@ abbrev pub BeginsWithKey : List Spelled → Type 0
 BeginsWithKey [] = Unit {0}
 BeginsWithKey (p ∷ packets) = is_key p.kind ≡ true
 
--- the certificate of a key, where it is readable
+-- the certificate of a key, if it can be parsed
 abbrev pub certs_in : Section → List Certificate
 certs_in section = if has_readable_key section then certificate_of section ∷ [] else []
 

@@ -1,11 +1,11 @@
--- Why a list of packets is no list of certificates: the first fault in the order of the packets.
+-- Why a list of packets isn't a list of certificates: the first fault in the order of the packets.
 use Rattle.std.specs.Prelude.{Bool, false, ◌||◌, ◌==◌, if◌then◌else◌, List, [], ◌∷◌, Option, Some, None}
 use Rattle.wot_packet.specs.Spelling.{Spelled}
 use Rattle.wot_cert.specs.declared.fault.CertFault.{CertFault}
 use Rattle.wot_cert.specs.declared.fault.CertFault.TheVariants.{Compressed, Secret, Kind, Order, Empty}
 use Rattle.wot_cert.specs.Packets.{is_key, is_component, is_signature, is_unknown, is_passed_over}
 
--- the fault of a packet that stands behind a key, or not
+-- the fault of a packet, after a key or before the first one
 abbrev pub fault_at : Bool → Spelled → Option CertFault
 fault_at behind_key p =
     if p.kind == 8 then Some Compressed
@@ -18,7 +18,7 @@ abbrev pub or_else : {A : Type 0} → Option A → Option A → Option A
 or_else (Some x) y = Some x
 or_else None y = y
 
--- the first fault of these packets, behind a key or not
+-- the first fault of these packets, after a key or before the first one
 abbrev pub fault_from : Bool → List Spelled → Option CertFault
 fault_from behind_key [] = if behind_key then None else Some Empty
 fault_from behind_key (p ∷ ps) = or_else (fault_at behind_key p) (fault_from (behind_key || is_key p.kind) ps)

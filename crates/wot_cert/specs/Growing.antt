@@ -1,7 +1,7 @@
 -- How a certificate grows in place, and how that is taken back.
 use Rattle.std.specs.Prelude.{◌≡◌, ◌≤◌, ◌<◌, ℕ, zero, suc, List, [], ◌∷◌, length, slice_index_or, slice_set, map}
 use Rattle.std.specs.Prelude.{Result, Ok, Err}
-use Rattle.std.specs.List.{AllByRecursion, insert, remove}
+use Rattle.std.specs.List.{insert, remove}
 use Rattle.std.specs.declared.cmp.Ordering.{Ordering}
 use Rattle.wot_policy.specs.declared.policy.Policy.{Policy}
 use Rattle.wot_policy.specs.declared.rows.PolicyRows.{PolicyRows}
@@ -24,7 +24,7 @@ use Rattle.wot_cert.specs.Whole.{IsCertificate}
 
 -- ---- finding
 
--- Where x belongs in a list that rises: at what has its rank, or where it is put in.
+-- The place of x in a sorted list: that of the item with its rank, or where it is inserted.
 abbrev pub TellsPlace : {A : Type 0} → (A → A → Ordering) → (A → A → A) → A → List A → Result ℕ ℕ → Type 0
 TellsPlace {A} R join x xs (Ok at) =
     (at < length xs) × ((d : A) → put R join x xs ≡ slice_set xs at (join (slice_index_or xs at d) x))
@@ -32,7 +32,7 @@ TellsPlace {A} R join x xs (Err at) = (at ≤ length xs) × (put R join x xs ≡
 
 -- ---- taking back
 
--- the list without what was put in at these places, from the last one on
+-- the list without what was inserted at these places, removed from the last one on
 abbrev pub without_all : {A : Type 0} → List ℕ → List A → List A
 without_all [] xs = xs
 without_all (at ∷ log) xs = remove (without_all log xs) at
@@ -64,23 +64,23 @@ shrunk g c = record {
   subkeys = parts_back g.subkeys.items c.subkeys;
 }
 
--- What a certificate grew by leads back to the old one.
+-- Without what it grew by, a certificate is the old one.
 pub record LeadsBack (g : Growth) (old new : Certificate) : Type 0 where
   pub shrunk : shrunk g new ≡ old
   pub whole : IsCertificate old
   pub totals : AreTotals g.before old
 
--- ---- uniting with what the rows judge
+-- ---- merging with what the rows mark
 
--- the signatures united with others, judged
+-- the signatures merged with others, marked
 abbrev pub sigs_grown : PolicyRows → List Signature → List Signature → List Signature
 sigs_grown rows old more = unite_sigs old (map (judged_sig rows) more)
 
--- the parts with one more in its place, judged
+-- the parts with one more at its place, marked
 abbrev pub parts_with : PolicyRows → List Component → Component → List Component
 parts_with rows old part = put part_cmp unite_part (part_with (judged_sig rows) part) old
 
--- the parts united with others, judged
+-- the parts merged with others, marked
 abbrev pub parts_grown : PolicyRows → List Component → List Component → List Component
 parts_grown rows old more = unite_parts old (map (part_with (judged_sig rows)) more)
 
@@ -114,14 +114,14 @@ AsksForCert result before after old other =
 
 -- ---- all places
 
--- Each place is the union with another certificate's, judged.
+-- Each list is merged with another certificate's, marked.
 pub record AreUnited (rows : PolicyRows) (old new : Places) (other : Certificate) : Type 0 where
   pub direct : new.direct.items ≡ sigs_grown rows old.direct.items other.direct
   pub user_ids : new.user_ids.items ≡ parts_grown rows old.user_ids.items other.user_ids
   pub attributes : new.attributes.items ≡ parts_grown rows old.attributes.items other.attributes
   pub subkeys : new.subkeys.items ≡ parts_grown rows old.subkeys.items other.subkeys
 
--- What was logged more leads back to the old places.
+-- Without what was logged since, the lists are the old ones.
 pub record StillLeadsBack (g g' : Growth) (old new : Places) : Type 0 where
   pub direct : without_all g'.direct.items new.direct.items ≡ without_all g.direct.items old.direct.items
   pub user_ids : parts_back g'.user_ids.items new.user_ids.items ≡ parts_back g.user_ids.items old.user_ids.items
@@ -130,7 +130,7 @@ pub record StillLeadsBack (g g' : Growth) (old new : Places) : Type 0 where
   pub subkeys : parts_back g'.subkeys.items new.subkeys.items ≡ parts_back g.subkeys.items old.subkeys.items
   pub before : g'.before ≡ g.before
 
--- All lists rise.
+-- All lists are sorted.
 pub record PlacesRise (p : Places) : Type 0 where
   pub direct : IsRising sig_cmp p.direct.items
   pub user_ids : IsRising part_cmp p.user_ids.items
@@ -147,7 +147,7 @@ pub record PlacesFollow (a b : Adds) (old new : Places) : Type 0 where
   pub signatures : Counts a.signatures (weight_in (λ _. 1) (λ _. 0) old) b.signatures (weight_in (λ _. 1) (λ _. 0) new)
   pub octets : Counts a.octets (weight_in sig_size own_size old) b.octets (weight_in sig_size own_size new)
 
--- Each place is what it was without what was logged.
+-- Without what was logged, each list is what it was.
 pub record TakesBack (g : Growth) (old new : Places) : Type 0 where
   pub direct : new.direct.items ≡ without_all g.direct.items old.direct.items
   pub user_ids : new.user_ids.items ≡ parts_back g.user_ids.items old.user_ids.items

@@ -1,4 +1,4 @@
--- Signatures that the rows of a policy judge.
+-- Signatures, marked by the rows of a policy.
 use Rattle.std.specs.Prelude.{◌≡◌, ℕ, Bool, true, false, ◌&&◌, if◌then◌else◌}
 use Rattle.std.specs.Option.{option_map_or}
 use Rattle.std.specs.List.{AllByRecursion}
@@ -9,7 +9,7 @@ use Rattle.wot_signature.specs.declared.facts.SigFacts.{SigFacts}
 use Rattle.wot_cert.specs.Certificate.{Signature, Component, Certificate, said_by, with_each}
 use Rattle.wot_cert.specs.Counts.{weight_of}
 
--- whether a signature is readable and this is true of it
+-- whether a signature can be parsed and this is true of it
 abbrev pub is_true_of : (SigFacts → Bool) → Signature → Bool
 is_true_of test s = option_map_or test (said_by s) false
 
@@ -31,7 +31,7 @@ judged_sig rows s = record { body = s.body; number = s.number; admitted = is_adm
 abbrev pub judged : PolicyRows → Certificate → Certificate
 judged rows c = with_each (judged_sig rows) c
 
--- A sound signature is admitted exactly where the rows say so.
+-- A sound signature is admitted if and only if the rows say so.
 abbrev pub IsJudgedSig : PolicyRows → Signature → Type 0
 IsJudgedSig rows s = is_sound s ≡ true → s.admitted ≡ is_admitted_by rows s
 

@@ -1,4 +1,4 @@
--- What a union has that the list before it had not.
+-- What a merged list has that the old list didn't have.
 use Rattle.std.specs.Prelude.{◌≡◌, ℕ, ◌+◌, if◌then◌else◌, List, [], ◌∷◌, Option, Some, None}
 use Rattle.std.specs.declared.cmp.Ordering.{Ordering}
 use Rattle.std.specs.Ordering.{is_eq}
@@ -30,7 +30,7 @@ abbrev pub weighed_new : {A : Type 0} → (A → A → Ordering) → (A → A �
 weighed_new R both only [] old = 0
 weighed_new R both only (y ∷ ys) old = weighed_on both only (met R y old) y old (weighed_new R both only ys)
 
--- ---- judging what is new
+-- ---- marking what is new
 
 abbrev pub stays : Signature → Signature → Signature
 stays old new = new
@@ -65,7 +65,7 @@ MarksFirst {A} marked first made old left = (rest : List A) → marked (first �
 abbrev pub WeighsFirst : {A : Type 0} → (List A → List A → ℕ) → A → List A → List A → ℕ → Type 0
 WeighsFirst {A} weighed first old left k = (rest : List A) → weighed (first ∷ rest) old ≡ k + weighed rest left
 
--- the certificate with those of its signatures judged that the old one doesn't have
+-- the certificate with the signatures marked that the old one doesn't have
 abbrev pub judged_beside : PolicyRows → Certificate → Certificate → Certificate
 judged_beside rows old c = record {
   key = c.key;

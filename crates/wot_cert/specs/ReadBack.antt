@@ -7,8 +7,8 @@ use Rattle.wot_cert.specs.Certificate.{Certificate, unmarked}
 use Rattle.wot_cert.specs.Fault.{first_fault}
 use Rattle.wot_cert.specs.Text.{text_of}
 
--- The text spells packets, and the plain reader gives them. They have no fault, none is skipped, and this one
--- certificate is assembled from them, with no mark.
+-- The text spells packets, and the plain reader returns them. They have no fault, no key is skipped, and exactly this
+-- certificate is assembled from them, without marks.
 pub record ReadBack (c : Certificate) : Type 0 where
   pub packets : List Spelled
   pub spelled : Spells (text_of c) packets

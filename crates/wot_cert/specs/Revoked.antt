@@ -14,11 +14,11 @@ has_kind kind s = is_true_of (λ f. f.kind == kind) s
 abbrev pub is_revocable : Signature → Bool
 is_revocable s = is_true_of (λ f. f.revocable) s
 
--- a live revocation (kind 0x30) that counts by this one
+-- a live revocation (type 0x30) that counts as this key's
 abbrev pub revokes_by : Entries → Fpr → ℕ → Signature → Bool
 revokes_by verdicts fpr t r = has_kind 48 r && (counts_by verdicts fpr r && is_live t r)
 
--- Each live revocation by this one at the same place was made before the signature was, or the signature isn't
+-- Each live revocation by this key on the same component was created before the signature, or the signature isn't
 -- revocable.
 abbrev pub is_unrevoked : Entries → Fpr → ℕ → List Signature → Signature → Bool
 is_unrevoked verdicts fpr t sigs s =

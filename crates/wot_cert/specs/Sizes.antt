@@ -1,4 +1,4 @@
--- How many octets packets take, and what a union adds.
+-- How many octets packets take, and what a merge adds.
 use Rattle.std.specs.Prelude.{◌≡◌, ℕ, ◌+◌, ◌<◌, List, length}
 use Rattle.wot_packet.specs.Writing.{written}
 use Rattle.wot_cert.specs.declared.adds.Adds.{Adds}
@@ -21,7 +21,7 @@ part_items p = part_weight (λ _. 1) (λ _. 1) p
 abbrev pub part_signatures : Component → ℕ
 part_signatures p = part_weight (λ _. 1) (λ _. 0) p
 
--- These are what the second list has more than the first, by three weights.
+-- What the second list has that the first one doesn't, by three weights.
 pub record Brings {A : Type 0} (wi ws wo : A → ℕ) (adds : Adds) (first union : List A) : Type 0 where
   pub items : adds.items + sum_of wi first ≡ sum_of wi union
   pub signatures : adds.signatures + sum_of ws first ≡ sum_of ws union

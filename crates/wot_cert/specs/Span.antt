@@ -13,11 +13,11 @@ use Rattle.wot_cert.specs.Time.{is_live}
 abbrev pub created_of : Certificate → ℕ
 created_of c = created_in c.key
 
--- a moment, where the time that leads to it isn't 0
+-- a moment, if the period that leads to it isn't 0
 abbrev pub unless_zero : ℕ → ℕ → List ℕ
 unless_zero said moment = if said == 0 then [] else moment ∷ []
 
--- when it was made, when it ends, and when it lets the key end
+-- when it was created, when it expires, and when it makes the key expire
 abbrev pub facts_moments : ℕ → SigFacts → List ℕ
 facts_moments created f =
     f.made ∷ unless_zero f.lasts (f.made + f.lasts) ++ unless_zero f.key_lasts (created + f.key_lasts)
@@ -28,7 +28,7 @@ sig_moments created s = option_map_or (facts_moments created) (said_by s) []
 abbrev pub moments_of : Certificate → List ℕ
 moments_of c = created_of c ∷ flat_map (sig_moments (created_of c)) (all_sigs c)
 
--- the greatest of the numbers, 0 where there is none
+-- the greatest of the numbers, or 0 if there is none
 abbrev pub most : List ℕ → ℕ
 most [] = 0
 most (m ∷ ms) = max m (most ms)

@@ -1,4 +1,4 @@
--- The text of a certificate: the key and its signatures, then user IDs, attributes and subkeys, each before its
+-- The text of a certificate: the key and its signatures, then user IDs, attributes and subkeys, each followed by its
 -- signatures (RFC 9580, section 10.1).
 use Rattle.std.specs.Prelude.{ℕ, List, ◌++◌, length}
 use Rattle.std.specs.List.{flat_map}

@@ -8,13 +8,13 @@ use Rattle.wot_signature.specs.declared.facts.SigFacts.{SigFacts}
 use Rattle.wot_cert.specs.Certificate.{Signature, Component, Certificate, said_by, sig_cmp}
 use Rattle.wot_cert.specs.Judged.{is_true_of}
 
--- when a signature was made; 0 where it doesn't say
+-- when a signature was created; 0 if it doesn't say
 abbrev pub made_of : Signature → ℕ
 made_of s = option_map_or (λ f. f.made) (said_by s) 0
 
 -- ---- live
 
--- made at t or before, and lasting for ever or beyond t
+-- created at t or before, and not expired at t
 abbrev pub facts_live : ℕ → SigFacts → Bool
 facts_live t f = nat_le f.made t && (f.lasts == 0 || nat_lt t (f.made + f.lasts))
 
@@ -37,7 +37,7 @@ live_at t c = record {
 
 -- ---- newer
 
--- by the time made, then the number, then the body
+-- by creation time, then number, then body
 abbrev pub newness : Signature → Signature → Ordering
 newness a b =
     ordering_then (nat_cmp (made_of a) (made_of b)) (ordering_then (number_cmp a.number b.number) (sig_cmp a b))

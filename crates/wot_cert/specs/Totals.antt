@@ -6,7 +6,7 @@ use Rattle.wot_cert.specs.Counts.{sum_of, items_of, signatures_of}
 use Rattle.wot_cert.specs.Sizes.{sig_size, part_items, part_signatures, part_size}
 use Rattle.wot_cert.specs.Text.{size_of}
 
--- a count that stands still at its type's end
+-- a count that stays at its type's end
 abbrev pub cap : ℕ → ℕ
 cap n = min n (2 ^ 64 - 1)
 

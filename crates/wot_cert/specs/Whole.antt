@@ -1,4 +1,5 @@
--- What is true of every certificate: the key is readable, all lists rise, each signature has the number of its place.
+-- The invariant of every certificate: the key can be parsed, all lists are sorted, each signature has the number of its
+-- place.
 use Rattle.std.specs.Prelude.{◌≡◌, ℕ, ◌<◌, ◌^◌, true, List, [], length}
 use Rattle.std.specs.List.{AllByRecursion}
 use Rattle.wot_key.specs.Key.{is_readable}

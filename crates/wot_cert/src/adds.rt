@@ -1,6 +1,10 @@
-ghost use Rattle.std.specs.Prelude.{◌≡◌, ◌<◌, ◌≤◌, ◌^◌, ◌+◌};
+//! What a merge would add, without merging: how many keys, components, signatures and octets.
+//!
+//! It stands on the sorted lists of both certificates and on `specs/Sizes.antt`. `wot_keyring` checks its limits with
+//! it before a merge.
+ghost use Rattle.std.specs.Prelude.{◌≡◌, ◌<◌, ◌^◌, ◌+◌};
 ghost use Rattle.std.specs.List.{AllByRecursion};
-ghost use Rattle.wot_cert.specs.Certificate.{unite, sig_cmp, part_cmp, unite_sigs, unite_parts, unite_part};
+ghost use Rattle.wot_cert.specs.Certificate.{unite, sig_cmp, part_cmp, unite_sigs, unite_parts};
 ghost use Rattle.wot_cert.specs.Counts.{sum_of, items_of, signatures_of};
 ghost use Rattle.wot_cert.specs.Fitting.{SigFits, PartFits};
 ghost use Rattle.wot_cert.specs.Ranked.{IsRising};
@@ -14,7 +18,7 @@ use crate::sizes::{packet_octets, part_octets};
 use crate::{Cert, Part, Sig};
 use std::cmp::Ordering;
 
-/// What a union adds.
+/// What a merge adds.
 #[derive(Clone, Copy, PartialEq, Eq)]
 pub struct Adds {
     /// How many keys, components and signatures.
@@ -25,14 +29,14 @@ pub struct Adds {
     pub octets: u64,
 }
 
-/// Nothing.
+/// Adds nothing.
 pub(crate) const NOTHING: Adds = Adds {
     items: 0,
     signatures: 0,
     octets: 0,
 };
 
-/// Both together.
+/// The sum of both.
 pub(crate) fn plus(a: Adds, b: Adds) -> Adds
     requires { IsFew (2 ^ 64) a b }
     ensures { IsSum result a b }

@@ -1,3 +1,7 @@
+//! `certificates`: the packets of a text to certificates.
+//!
+//! It stands on `draft` for the packets after each key, on `first_fault` for errors, and on `specs/Assembly.antt` (RFC
+//! 9580, section 10.1). Imports, loads and dumps are assembled here.
 ghost use Rattle.std.specs.Prelude.{◌≡◌, ◌<◌, ◌≤◌, ◌^◌, ◌+◌, ◌++◌, OnOk, IfOk, length, take, drop};
 ghost use Rattle.std.specs.List.{AllByRecursion};
 ghost use Rattle.wot_packet.specs.Spelling.{AreShort, spelled_all, spelled_of};
@@ -15,7 +19,7 @@ use std::alloc::Global;
 use wot_packet::Packet;
 use wot_types::Memory;
 
-/// What the packets behind a key draft.
+/// The draft from the packets after a key.
 fn draft_of<'a>(alloc: Global, packets: &[Packet<'a>]) -> Result<Draft<'a>, Memory>
     ensures draft { IfOk result (λ draft. seen draft ≡ sketched (spelled_all packets.now)) }
 {
@@ -28,7 +32,7 @@ fn draft_of<'a>(alloc: Global, packets: &[Packet<'a>]) -> Result<Draft<'a>, Memo
     Ok(draft)
 }
 
-/// How many packets stand before the next key.
+/// How many packets come before the next key.
 fn before_key(packets: &[Packet]) -> usize
     ensures within { result ≤ length packets.now }
     ensures before { (cut_at is_key (spelled_all packets.now)).0 ≡ take result (spelled_all packets.now) }
@@ -46,7 +50,7 @@ fn before_key(packets: &[Packet]) -> usize
     count
 }
 
-/// The certificate of a key and the packets behind it; `None` exactly where the key isn't readable.
+/// The certificate of a key and the packets after it; `None` if and only if the key can't be parsed.
 fn certificate(alloc: Global, key: &[u8], behind: &[Packet]) -> Result<Option<Cert>, Memory>
     requires short { AreShort (spelled_all behind.now) }
     ensures certificate { IfOk result (IsWhereReadable key.now (certificate_behind key.now (spelled_all behind.now))) }
@@ -55,16 +59,16 @@ fn certificate(alloc: Global, key: &[u8], behind: &[Packet]) -> Result<Option<Ce
     Cert::drafted(alloc, key, &draft)
 }
 
-/// The certificates of a list of packets, and how many were skipped since their keys aren't readable.
+/// The certificates of a list of packets, and how many were skipped because their keys can't be parsed.
 #[derive(Drop)]
 pub struct Assembled {
-    /// One for each packet of a readable key, in the order of the packets, none of them judged.
+    /// One for each key packet that can be parsed, in the order of the packets, without marks.
     pub certs: CertList,
-    /// How many keys aren't readable.
+    /// How many keys can't be parsed.
     pub skipped: u64,
 }
 
-/// Takes a key, and what is behind it up to the next one.
+/// Adds the certificate of a key and the packets up to the next key.
 fn take_key(
     alloc: Global,
     certs: &mut Vec<Cert>,
@@ -112,9 +116,10 @@ fn certificates(alloc: Global, packets: &[Packet]) -> Result<Assembled, Memory>
     })
 }
 
-/// Assembles certificates from the packets of a text: one for each packet of a readable key, from that packet and those
-/// behind it up to the next key. Keys that aren't readable are skipped, with what is behind them, and counted. The
-/// first fault in the order of the packets is told, also of a skipped part. No policy is asked, and no mark is set.
+/// Assembles certificates from the packets of a text: one for each key packet that can be parsed, from that packet and
+/// those up to the next key. Keys that can't be parsed are skipped, with the packets after them, and counted. The first
+/// fault in the order of the packets is returned, even if it is in a skipped part. No policy is asked, and no mark is
+/// set.
 pub fn assemble(alloc: Global, packets: &[Packet<'_>]) -> Result<Assembled, CertFault>
     requires few { length packets.now < 2 ^ 28 }
     requires short { AreShort (spelled_all packets.now) }

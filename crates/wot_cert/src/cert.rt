@@ -1,3 +1,7 @@
+//! The type `Cert` and its calls: build, read, merge, grow and shrink, export.
+//!
+//! It stands on `places`, `measure`, `adds`, `judge`, `growing`, `shrinking` and `export`, and on
+//! `specs/Certificate.antt`. Its public clauses are what all crates above know of a certificate.
 ghost use Rattle.std.specs.Prelude.{◌≡◌, ◌≢◌, ◌+◌, ◌++◌, ◌-◌, ◌<◌, ◌^◌, min, MatchBool, Some, true, false, []};
 ghost use Rattle.std.specs.Prelude.{OnOk, OnErr, IfOk, IfSome};
 ghost use Rattle.std.specs.Option.{MatchOption};
@@ -33,8 +37,8 @@ use wot_key::{Key, fingerprint, read_key};
 use wot_policy::{Ask, Policy};
 use wot_types::{Fpr, Memory};
 
-/// A certificate: a key, and what signatures stand on it, on its user IDs, attributes and subkeys. All lists are in the
-/// order of the bodies, without doubles.
+/// A certificate: a key, its user IDs, attributes and subkeys, and the signatures on each. All lists are in the order
+/// of the bodies, without duplicates.
 #[derive(Drop)]
 pub struct Cert {
     body: Vec<u8>,
@@ -58,7 +62,7 @@ impl Model for Cert {
 }
 
 impl Cert {
-    /// The certificate with this key and nothing else; `None` exactly where the key isn't readable.
+    /// The certificate with this key and nothing else; `None` if and only if the key can't be parsed.
     pub fn bare(alloc: Global, body: &[u8]) -> Result<Option<Cert>, Memory>
         ensures bare { IfOk result
             (λ found. MatchOption found (is_readable body.now ≡ false) (λ c. c ≡ bare body.now)) }
@@ -75,8 +79,8 @@ impl Cert {
         Ok(Some(Cert::whole(body, key, fpr, places)))
     }
 
-    /// The certificate with this key and what the packets behind it drafted; `None` exactly where the key isn't
-    /// readable.
+    /// The certificate with this key and the draft from the packets after it; `None` if and only if the key can't be
+    /// parsed.
     pub(crate) fn drafted(alloc: Global, body: &[u8], draft: &Draft) -> Result<Option<Cert>, Memory>
         requires whole { IsWholeSketch (seen draft.now) }
         ensures completed { IfOk result (IsWhereReadable body.now (completed body.now (seen draft.now))) }
@@ -122,7 +126,7 @@ impl Cert {
         self.fpr
     }
 
-    /// What its key says.
+    /// What the key's body says.
     pub fn key(&self) -> Key
         ensures key { Some result ≡ key_of self.now.key }
     {
@@ -137,14 +141,14 @@ impl Cert {
         &self.body
     }
 
-    /// The length of its text in octets, or `u64::MAX` where it is longer.
+    /// The length of its text in octets, at most `u64::MAX`.
     pub fn size(&self) -> u64
         ensures size { result ≡ min (size_of self.now) (2 ^ 64 - 1) }
     {
         self.totals.octets
     }
 
-    /// How many keys, components and signatures it has, or `u64::MAX` where it has more.
+    /// How many keys, components and signatures it has, at most `u64::MAX`.
     pub(crate) fn items(&self) -> u64
         ensures items { result ≡ min (items_of self.now) (2 ^ 64 - 1) }
     {
@@ -191,7 +195,7 @@ impl Cert {
         &self.places.subkeys
     }
 
-    /// An equal certificate, its marks included.
+    /// A copy, marks included.
     pub fn duplicate(&self, alloc: Global) -> Result<Cert, Memory>
         ensures equal { IfOk result (λ c. c ≡ self.now) }
     {
@@ -207,7 +211,7 @@ impl Cert {
         Ok(Cert::whole(body, self.key, self.fpr, places))
     }
 
-    /// The union with a certificate of the same key, as a new one.
+    /// Merges with a certificate of the same key into a new one.
     fn union(&self, alloc: Global, other: &Cert) -> Result<Cert, Memory>
         requires { self.now.key ≡ other.now.key }
         ensures { IfOk result (λ c. c ≡ unite self.now other.now) }
@@ -218,7 +222,7 @@ impl Cert {
         Ok(Cert::whole(body, self.key, self.fpr, places))
     }
 
-    /// Judges those of its signatures that the old certificate doesn't have.
+    /// Marks the signatures that the old certificate doesn't have.
     fn judge_new<F: Fn(Ask) -> bool>(&mut self, old: &Cert, policy: &mut Policy<F>)
         requires { IsFaithful F.Fn policy.old }
         ensures judged { self.new ≡ judged_beside (rows_of policy.old) old.now self.old }
@@ -231,7 +235,7 @@ impl Cert {
         judge_new_parts(&mut self.places.subkeys, &old.places.subkeys, policy);
     }
 
-    /// The union with a certificate of the same key, judged, as a new one.
+    /// Merges with a certificate of the same key into a new one, with new signatures marked.
     fn merged<F: Fn(Ask) -> bool>(
         &self,
         alloc: Global,
@@ -251,7 +255,7 @@ impl Cert {
         Ok(union)
     }
 
-    /// Whether both are of one key, which `adds` asks for.
+    /// Whether both have one key, which `adds` requires.
     pub fn has_key_of(&self, other: &Cert) -> bool
         ensures same { MatchBool result (self.now.key ≡ other.now.key) (self.now.key ≢ other.now.key) }
         ensures whole { IsCertificate self.now × IsCertificate other.now }
@@ -259,7 +263,7 @@ impl Cert {
         self.body.as_slice() == other.body.as_slice()
     }
 
-    /// The union, with no mark of admission.
+    /// Merges into a new certificate without marks.
     fn unmarked_union(&self, alloc: Global, other: &Cert) -> Result<Cert, Memory>
         requires { self.now.key ≡ other.now.key }
         ensures { IfOk result (λ c. c ≡ unmarked (unite self.now other.now)) }
@@ -268,8 +272,8 @@ impl Cert {
         union.copied(alloc, Marks::Dropped)
     }
 
-    /// Becomes the union with a certificate of the same key, at each place, with no mark of admission. No policy is
-    /// asked. After a refusal it is as before.
+    /// Merges a certificate of the same key into this one, and removes all marks. No policy is asked. After an error
+    /// nothing changed.
     pub fn unite(&mut self, alloc: Global, other: &Cert) -> Result<(), MergeFault>
         ensures union { OnOk result (self.new ≡ unmarked (unite self.old other.now)) }
         ensures clash { ClashesExactly self.old other.now result }
@@ -287,10 +291,9 @@ impl Cert {
         }
     }
 
-    /// Becomes the union with a certificate of the same key, at each place, and asks the policy about each sound
-    /// signature that is new. The answer is how many components and signatures were added. After a refusal the
-    /// certificate is as before, and the policy wasn't asked. The clause `asked` says how many questions there were,
-    /// not which.
+    /// Merges a certificate of the same key into this one, and asks the policy about each new signature that is sound.
+    /// Returns how many components and signatures were added. After an error the certificate is unchanged, and the
+    /// policy wasn't asked. The clause `asked` says how many questions there were, not which.
     pub fn merge<F: Fn(Ask) -> bool>(
         &mut self,
         alloc: Global,
@@ -320,9 +323,9 @@ impl Cert {
         }
     }
 
-    /// Becomes what `merge` makes of it, in place: what is there already is neither copied nor walked over. The answer
-    /// tells how many components and signatures were added, and leads back by `shrink`. After a refusal the certificate
-    /// is as before; where no memory was found the policy may have been asked for some of what is new.
+    /// Merges as `merge` does, but in place: what is already there is neither copied nor walked over. Returns how many
+    /// components and signatures were added, and what `shrink` needs to undo the merge. After an error the certificate
+    /// is unchanged; if memory ran out, the policy may have been asked about some of what is new.
     pub fn grow<F: Fn(Ask) -> bool>(
         &mut self,
         alloc: Global,
@@ -362,7 +365,7 @@ impl Cert {
         }
     }
 
-    /// Takes out what it grew by: it is as it was before `grow`. Takes no memory.
+    /// Undoes `grow`: the certificate is as it was before. Takes no memory.
     pub fn shrink(&mut self, growth: Growth)
         requires leads { (old : Certificate) × LeadsBack growth old self.old }
         ensures shrunk { self.new ≡ shrunk growth self.old }
@@ -372,12 +375,13 @@ impl Cert {
         self.totals = before;
     }
 
-    /// Appends its text: the key and its signatures, then the user IDs, the attributes and the subkeys, each before its
-    /// signatures, every packet in its shortest spelling (RFC 9580, section 10.1). After `Memory`, `out` is as before.
+    /// Appends its text: the key and its signatures, then the user IDs, the attributes and the subkeys, each followed
+    /// by its signatures, every packet in its shortest spelling (RFC 9580, section 10.1). After `Memory`, `out` is
+    /// unchanged.
     pub fn export(&self, out: &mut Vec<u8>) -> Result<(), Memory>
         ensures text { OnOk result (out.new.items ≡ out.old.items ++ text_of self.now) }
         ensures kept { OnErr result (out.new.items ≡ out.old.items) }
-        // The text is read back as this one certificate.
+        // The text is read back as exactly this certificate.
         ensures read_back { ReadBack self.now }
     {
         reads_back(self);
@@ -391,7 +395,7 @@ impl Cert {
         }
     }
 
-    /// What the union with a certificate of the same key would add.
+    /// What merging a certificate of the same key would add.
     pub fn adds(&self, other: &Cert) -> Adds
         requires same { self.now.key ≡ other.now.key }
         requires sizes { size_of self.now + size_of other.now < 2 ^ 63 }

@@ -1,3 +1,4 @@
+//! A list of certificates that contracts see as a list. `certificates` returns one, and `wot_keyring` imports it.
 use crate::Cert;
 use std::alloc::Global;
 use std::marker::Model;
@@ -20,7 +21,7 @@ impl Model for CertList {
 impl CertList {
     ghost use Rattle.std.specs.Prelude.{◌≡◌};
 
-    /// The list of these.
+    /// The list of these certificates, without a copy.
     pub fn new(items: Vec<Cert>) -> CertList
         ensures items { result ≡ items.items }
     {

@@ -1,7 +1,10 @@
+//! From a draft to the lists of a certificate: every signature gets its number, since the key is known now.
+//!
+//! It stands on `draft` and on `specs/Drafting.antt`. `places` calls it for each kind of component.
 ghost use Rattle.std.specs.Prelude.{◌≡◌, ◌<◌, ◌^◌, ◌++◌, ◌∷◌, [], OnOk, map, length};
 ghost use Rattle.std.specs.List.{AllByRecursion};
 ghost use Rattle.wot_cert.specs.Certificate.{fresh};
-ghost use Rattle.wot_cert.specs.Drafting.{IsShort, IsShortGroup, body_cmp, group_cmp, part_drafted};
+ghost use Rattle.wot_cert.specs.Drafting.{IsShort, IsShortGroup, body_cmp, part_drafted};
 ghost use Rattle.wot_cert.specs.Drafting.{bodies_in, groups_in};
 ghost use Rattle.wot_cert.specs.Ranked.{IsRising};
 
@@ -10,7 +13,7 @@ use crate::{Part, Sig};
 use std::alloc::Global;
 use wot_types::Memory;
 
-/// The kinds of place that a signature's number has: on the key, on a user ID, on a user attribute, on a subkey.
+/// The kinds of component in a signature's number: the key, a user ID, a user attribute, a subkey.
 pub(crate) const ON_KEY: u8 = 0;
 
 pub(crate) const ON_USER_ID: u8 = 1;
@@ -37,7 +40,7 @@ fn push_fresh(
     Ok(())
 }
 
-/// Puts the signatures with these bodies at one place, in order, into an empty list.
+/// Puts the signatures with these bodies on one component, in order, into an empty list.
 pub(crate) fn put_fresh_sigs(
     alloc: Global,
     sigs: &mut Vec<Sig>,

@@ -1,10 +1,11 @@
-ghost use Rattle.std.specs.Prelude.{◌≡◌, ◌++◌, ◌∷◌, [], OnOk, IfOk, map};
-ghost use Rattle.std.specs.BTreeMap.{is_at};
-ghost use Rattle.std.specs.Map.{lookup, remove_entry};
+//! A certificate before its key is known: sorted sets of signature bodies. Packets are read from the last to the first,
+//! so that the signatures after a component are there when it comes.
+//!
+//! It stands on std's maps and on `specs/Drafting.antt`. `assembling` fills it.
+ghost use Rattle.std.specs.Prelude.{◌≡◌, [], OnOk};
 ghost use Rattle.wot_packet.specs.Spelling.{spelled_of};
-ghost use Rattle.wot_cert.specs.Packets.{begins_component};
 ghost use Rattle.wot_cert.specs.Ranked.{put, IsRising};
-ghost use Rattle.wot_cert.specs.Drafting.{body_cmp, first_stays, unite_bodies, group_cmp, put_group, groups_with};
+ghost use Rattle.wot_cert.specs.Drafting.{body_cmp, first_stays, unite_bodies, group_cmp, put_group};
 ghost use Rattle.wot_cert.specs.Drafting.{with_component, with_packet, bodies_in, groups_in, seen, IsSketch};
 ghost use Rattle.wot_cert.specs.Drafting.{without, sigs_at};
 
@@ -59,7 +60,7 @@ fn take_out<'a>(alloc: Global, groups: &mut Groups<'a>, body: &'a [u8]) -> Bodie
     }
 }
 
-/// Puts signatures onto a component, which may be there already.
+/// Adds signatures to a component, which may already be there.
 fn put_group<'a>(
     alloc: Global,
     groups: &mut Groups<'a>,
@@ -89,7 +90,7 @@ impl<'a> Draft<'a> {
         }
     }
 
-    /// Puts a component in front. The signatures drafted so far stand on it.
+    /// Puts a component in front. The signatures drafted so far belong to it.
     fn put_component(&mut self, alloc: Global, kind: u8, body: &'a [u8]) -> Result<(), Memory>
         requires sketch { IsSketch (seen self.old) }
         ensures put { OnOk result (seen self.new ≡ with_component kind body.now (seen self.old)) }

@@ -1,3 +1,7 @@
+//! The text of a certificate, appended packet by packet.
+//!
+//! It stands on `write_packet` and on `specs/Text.antt`. `export` replies, dumps and directory entries are written
+//! here.
 ghost use Rattle.std.specs.Prelude.{◌≡◌, ◌≤◌, ◌++◌, ℕ, List, OnOk};
 ghost use Rattle.std.specs.List.{AllByRecursion};
 ghost use Rattle.wot_cert.specs.Fitting.{SigFits, PartFits};
@@ -9,7 +13,7 @@ use crate::{Cert, Part, Sig};
 use wot_packet::write_packet;
 use wot_types::Memory;
 
-/// Appends the signatures; some of them where no memory was found.
+/// Appends the signatures, or only some of them if memory runs out.
 fn append_sigs(sigs: &[Sig], out: &mut Vec<u8>) -> Result<(), Memory>
     requires { AllByRecursion SigFits sigs.now }
     ensures { (more : List ℕ) × (out.new.items ≡ out.old.items ++ more) × OnOk result (more ≡ sigs_text sigs.now) }
@@ -22,7 +26,7 @@ fn append_sigs(sigs: &[Sig], out: &mut Vec<u8>) -> Result<(), Memory>
     Ok(())
 }
 
-/// Appends a component and its signatures; some of it where no memory was found.
+/// Appends a component and its signatures, or only some of it if memory runs out.
 fn append_part(kind: u8, part: &Part, out: &mut Vec<u8>) -> Result<(), Memory>
     requires kind { kind ≤ 63 }
     requires fits { PartFits part.now }
@@ -32,7 +36,7 @@ fn append_part(kind: u8, part: &Part, out: &mut Vec<u8>) -> Result<(), Memory>
     append_sigs(part.sigs(), out)
 }
 
-/// Appends components of one kind; some of them where no memory was found.
+/// Appends components of one kind, or only some of them if memory runs out.
 fn append_parts(kind: u8, parts: &[Part], out: &mut Vec<u8>) -> Result<(), Memory>
     requires kind { kind ≤ 63 }
     requires fit { AllByRecursion PartFits parts.now }
@@ -47,7 +51,7 @@ fn append_parts(kind: u8, parts: &[Part], out: &mut Vec<u8>) -> Result<(), Memor
     Ok(())
 }
 
-/// Appends the text of a certificate; some of it where no memory was found.
+/// Appends the text of a certificate, or only some of it if memory runs out.
 pub(crate) fn append_cert(cert: &Cert, out: &mut Vec<u8>) -> Result<(), Memory>
     ensures { (more : List ℕ) × (out.new.items ≡ out.old.items ++ more) × OnOk result (more ≡ text_of cert.now) }
 {
@@ -58,7 +62,7 @@ pub(crate) fn append_cert(cert: &Cert, out: &mut Vec<u8>) -> Result<(), Memory>
     append_parts(14, cert.subkeys(), out)
 }
 
-/// The text of this certificate is read back as it.
+/// A law: the text of this certificate is read back as it.
 pub(crate) fn reads_back(cert: &Cert)
     ensures { ReadBack cert.now }
 {

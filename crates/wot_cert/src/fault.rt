@@ -1,4 +1,7 @@
-/// Why a list of packets is no list of certificates.
+//! The errors of this crate: why packets aren't certificates, and why two certificates weren't merged.
+//!
+//! `first_fault` and `Cert` return them; `docs/PROTOCOL.md` has the refusals that `wot_machine` makes of them.
+/// Why a list of packets isn't a list of certificates.
 #[derive(Clone, Copy, Debug, PartialEq, Eq)]
 pub enum CertFault {
     /// A compressed packet.
@@ -15,7 +18,7 @@ pub enum CertFault {
     Memory,
 }
 
-/// Why two certificates were not united.
+/// Why two certificates weren't merged.
 #[derive(Clone, Copy, PartialEq, Eq)]
 pub enum MergeFault {
     /// Their key bodies differ.

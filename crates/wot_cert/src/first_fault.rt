@@ -1,4 +1,8 @@
-ghost use Rattle.std.specs.Prelude.{◌≡◌, map};
+//! The first fault in a list of packets that isn't a list of certificates.
+//!
+//! It stands on `specs/Fault.antt`. `certificates` asks it before it assembles anything, so nothing is imported from a
+//! faulty text.
+ghost use Rattle.std.specs.Prelude.{◌≡◌};
 ghost use Rattle.wot_packet.specs.Spelling.{spelled_of, spelled_all};
 ghost use Rattle.wot_cert.specs.Fault.{first_fault, fault_at};
 ghost use Rattle.wot_cert.specs.Packets.{is_component, is_unknown, is_passed_over};

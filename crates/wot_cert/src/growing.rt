@@ -1,4 +1,7 @@
-//! Uniting in place: what is new is put in its place, and logged. The first that is put in is the last in order.
+//! Merging in place: what is new is inserted at its place, and logged, so that it can be taken out again.
+//!
+//! It stands on `specs/Growing.antt`. `places` calls it for each list; `shrinking` undoes the log. A merge costs what
+//! it adds, however large the certificate is.
 ghost use Rattle.std.specs.Prelude.{◌≡◌, ◌≤◌, ◌<◌, ◌+◌, ◌++◌, ◌∷◌, [], vec_len, vec_capacity};
 ghost use Rattle.std.specs.Prelude.{IfOk, Ok, Err, OnOk, OnErr};
 ghost use Rattle.std.specs.List.{AllByRecursion, insert};
@@ -15,7 +18,7 @@ ghost use Rattle.wot_cert.specs.Judged.{if_sound, judged_sig};
 ghost use Rattle.wot_cert.specs.New.{judged_part, sound_new};
 ghost use Rattle.wot_cert.specs.declared.growth.PartStep.TheVariants.{New};
 ghost use Rattle.wot_cert.specs.Ranked.{put, IsRising};
-ghost use Rattle.wot_cert.specs.Totals.{FollowParts, FollowSigs, IsCappedSum};
+ghost use Rattle.wot_cert.specs.Totals.{FollowParts, FollowSigs};
 ghost use Rattle.wot_policy.specs.Kept.{IsFaithful, rows_of, asked_more};
 
 use crate::growth::PartStep;
@@ -27,7 +30,7 @@ use std::alloc::Global;
 use wot_policy::{Ask, Policy};
 use wot_types::Memory;
 
-/// Where a signature of this body is, or would be put in.
+/// The place at which a signature with this body is or would be inserted.
 fn find_sig(sigs: &[Sig], sig: &Sig) -> Result<usize, usize>
     requires { IsRising sig_cmp sigs.now }
     ensures { (like : TheSig) → like.body ≡ sig.now.body → TellsPlace sig_cmp kept like sigs.now result }
@@ -35,7 +38,7 @@ fn find_sig(sigs: &[Sig], sig: &Sig) -> Result<usize, usize>
     sigs.binary_search_by(|there| order(there, sig))
 }
 
-/// Puts an item in at a place, where there is room.
+/// Inserts an item at a place. There has to be room.
 fn put_in<T: Drop>(items: &mut Vec<T>, at: usize, item: T)
     requires within { at ≤ vec_len items.old }
     requires room { vec_len items.old < vec_capacity items.old }
@@ -44,7 +47,7 @@ fn put_in<T: Drop>(items: &mut Vec<T>, at: usize, item: T)
     let _ = items.insert(at, item);
 }
 
-/// Logs a step, where there is room.
+/// Logs a step. There has to be room.
 fn note<T: Drop>(log: &mut Vec<T>, step: T)
     requires room { vec_len log.old < vec_capacity log.old }
     ensures logged { log.new.items ≡ log.old.items ++ step ∷ [] }
@@ -52,7 +55,7 @@ fn note<T: Drop>(log: &mut Vec<T>, step: T)
     let _ = log.push(step);
 }
 
-/// Judges a signature and puts it in at a place, where there is room for it and for its log.
+/// Marks a signature and inserts it at a place. There has to be room for it and for its log.
 fn settle<F: Fn(Ask) -> bool>(
     sigs: &mut Vec<Sig>,
     log: &mut Vec<usize>,
@@ -75,7 +78,7 @@ fn settle<F: Fn(Ask) -> bool>(
     note(log, at);
 }
 
-/// Puts a signature in its place, judged, unless one of its body is there. After `Memory` nothing was put in.
+/// Inserts a marked signature at its place, unless one with its body is there. After `Memory` nothing was inserted.
 fn put_sig<F: Fn(Ask) -> bool>(
     alloc: Global,
     sigs: &mut Vec<Sig>,
@@ -108,7 +111,7 @@ fn put_sig<F: Fn(Ask) -> bool>(
     }
 }
 
-/// Puts each of the second list in its place, judged. After `Memory` the log leads back.
+/// Inserts each of the second list, marked, at its place. After `Memory` the log undoes what was inserted.
 pub(crate) fn put_sigs<F: Fn(Ask) -> bool>(
     alloc: Global,
     sigs: &mut Vec<Sig>,
@@ -137,7 +140,7 @@ pub(crate) fn put_sigs<F: Fn(Ask) -> bool>(
     Ok(())
 }
 
-/// Where a component of this body is, or would be put in.
+/// The place at which a component with this body is or would be inserted.
 fn find_part(parts: &[Part], part: &Part) -> Result<usize, usize>
     requires { IsRising part_cmp parts.now }
     ensures { (like : Component) → like.body ≡ part.now.body → TellsPlace part_cmp unite_part like parts.now result }
@@ -145,7 +148,7 @@ fn find_part(parts: &[Part], part: &Part) -> Result<usize, usize>
     parts.binary_search_by(|there| order_parts(there, part))
 }
 
-/// Judges a component and puts it in at a place, where there is room for it and for its log.
+/// Marks a component's signatures and inserts it at a place. There has to be room for it and for its log.
 fn settle_part<F: Fn(Ask) -> bool>(
     parts: &mut Vec<Part>,
     log: &mut Vec<PartStep>,
@@ -168,7 +171,7 @@ fn settle_part<F: Fn(Ask) -> bool>(
     note(log, PartStep::New(at));
 }
 
-/// Puts what a component has on the one of its body. After `Memory` that is as before.
+/// Merges a component into the one with its body. After `Memory` that is unchanged.
 fn grow_part<F: Fn(Ask) -> bool>(
     alloc: Global,
     parts: &mut Vec<Part>,
@@ -201,7 +204,7 @@ fn grow_part<F: Fn(Ask) -> bool>(
     }
 }
 
-/// A copy with no marks, and room for it.
+/// A copy without marks, and room for it.
 fn copy_ready(alloc: Global, parts: &mut Vec<Part>, part: &Part) -> Result<Part, Memory>
     ensures copy { IfOk result (λ c. c ≡ part_with (copied Dropped) part.now) }
     ensures items { parts.new.items ≡ parts.old.items }
@@ -213,7 +216,7 @@ fn copy_ready(alloc: Global, parts: &mut Vec<Part>, part: &Part) -> Result<Part,
     Ok(copy)
 }
 
-/// Puts a component in, judged, where none of its body is. After `Memory` nothing was put in.
+/// Inserts a component, marked, if none with its body is there. After `Memory` nothing was inserted.
 fn put_new_part<F: Fn(Ask) -> bool>(
     alloc: Global,
     parts: &mut Vec<Part>,
@@ -246,7 +249,7 @@ fn put_new_part<F: Fn(Ask) -> bool>(
     }
 }
 
-/// Puts a component in its place, its signatures judged where they are new. After `Memory` nothing was put in.
+/// Merges a component into its place, with new signatures marked. After `Memory` nothing was inserted.
 fn put_part<F: Fn(Ask) -> bool>(
     alloc: Global,
     parts: &mut Vec<Part>,
@@ -275,7 +278,7 @@ fn put_part<F: Fn(Ask) -> bool>(
     }
 }
 
-/// Puts each of the second list in its place, judged where it is new. After `Memory` the log leads back.
+/// Merges each of the second list into its place, marked if it is new. After `Memory` the log undoes what was inserted.
 pub(crate) fn put_parts<F: Fn(Ask) -> bool>(
     alloc: Global,
     parts: &mut Vec<Part>,

@@ -1,16 +1,18 @@
+//! The log of a merge in place: what was inserted, and where. `growing` writes it, `shrinking` reads it, and
+//! `wot_keyring` keeps it until the whole import has succeeded.
 ghost use Rattle.std.specs.Prelude.{◌≡◌, []};
 
 use crate::Adds;
 use std::alloc::Global;
 
-/// What became of the components of a place: one was put in, or signatures were put on one, at these places.
+/// One step on a list of components: a component was inserted, or signatures were added to one, at these places.
 #[derive(Drop)]
 pub(crate) enum PartStep {
     New(usize),
     Grown(usize, Vec<usize>),
 }
 
-/// What a certificate grew by, in the order in which it was put in: enough to take it back without memory.
+/// What a certificate grew by, in the order of insertion: enough to undo it without memory.
 #[derive(Drop)]
 pub struct Growth {
     /// How many components and signatures are new.
@@ -23,7 +25,7 @@ pub struct Growth {
 }
 
 impl Growth {
-    /// No growth yet of a certificate with these totals. Takes no memory.
+    /// An empty log for a certificate with these totals. Takes no memory.
     pub(crate) fn new(alloc: Global, before: Adds) -> Growth
         ensures direct { result.direct.items ≡ [] }
         ensures user_ids { result.user_ids.items ≡ [] }

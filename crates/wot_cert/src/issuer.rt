@@ -1,3 +1,7 @@
+//! Whose a signature is, and whether it counts.
+//!
+//! It stands on `sig` and the verdicts, and on `specs/Issuer.antt`. Every rule about certifications, revocations and
+//! self-signatures above starts with it.
 ghost use Rattle.std.specs.Prelude.{◌≡◌};
 ghost use Rattle.wot_cert.specs.Issuer.{issuer_of as issuer_in, allows, good_by, issuer_with};
 
@@ -41,8 +45,8 @@ fn counted(facts: Option<SigFacts>, admitted: bool, by: Option<Fpr>) -> Option<F
     }
 }
 
-/// The fingerprint by which a signature counts: it is readable, sound and admitted, the verdict on its number is good
-/// by that fingerprint, and its hashed issuer fingerprint is absent or that one.
+/// The key whose signature this counts as: the signature can be parsed, is sound and admitted by the policy, its
+/// verdict is good with that key, and its hashed issuer fingerprint is absent or that key's.
 pub fn issuer_of(sig: &Sig, verdicts: &Verdicts) -> Option<Fpr>
     ensures issuer { result ≡ issuer_in verdicts.now sig.now }
 {

@@ -1,3 +1,6 @@
+//! Asking the policy about new signatures: one question for each signature that the old certificate doesn't have.
+//!
+//! It stands on `sig` and on `specs/New.antt` and `specs/Judged.antt`. `Cert::merge` calls it after both are merged.
 ghost use Rattle.std.specs.Prelude.{◌≡◌};
 ghost use Rattle.wot_policy.specs.Kept.{IsFaithful, rows_of};
 ghost use Rattle.wot_cert.specs.Asking.{Asks};
@@ -11,7 +14,7 @@ use crate::{Part, Sig};
 use std::cmp::Ordering;
 use wot_policy::{Ask, Policy};
 
-/// The first of the signatures and the others, where the first has this one's body.
+/// The first of the signatures and the others, if the first has this one's body.
 fn meet<'a>(sig: &Sig, old: &'a [Sig]) -> Option<(&'a Sig, &'a [Sig])>
     ensures { met_seen result ≡ met sig_cmp sig.now old.now }
 {
@@ -23,7 +26,7 @@ fn meet<'a>(sig: &Sig, old: &'a [Sig]) -> Option<(&'a Sig, &'a [Sig])>
     }
 }
 
-/// Judges a signature, unless it is the first of the old ones. The answer is the old ones that are left.
+/// Marks a signature, unless it is the first of the old ones. Returns the old ones that are left.
 fn judge_one<'a, F: Fn(Ask) -> bool>(
     sig: &mut Sig,
     old: &'a [Sig],
@@ -43,7 +46,7 @@ fn judge_one<'a, F: Fn(Ask) -> bool>(
     }
 }
 
-/// Judges those of the signatures that are not among the old ones.
+/// Marks the signatures that aren't among the old ones.
 pub(crate) fn judge_new<F: Fn(Ask) -> bool>(
     sigs: &mut Vec<Sig>,
     old: &[Sig],
@@ -61,7 +64,7 @@ pub(crate) fn judge_new<F: Fn(Ask) -> bool>(
     }
 }
 
-/// The first of the parts and the others, where the first has this one's body.
+/// The first of the parts and the others, if the first has this one's body.
 fn meet_part<'a>(part: &Part, old: &'a [Part]) -> Option<(&'a Part, &'a [Part])>
     ensures { met_part_seen result ≡ met part_cmp part.now old.now }
 {
@@ -73,8 +76,8 @@ fn meet_part<'a>(part: &Part, old: &'a [Part]) -> Option<(&'a Part, &'a [Part])>
     }
 }
 
-/// Judges those signatures on a part that are not on the first of the old ones, where that has the same body. The
-/// answer is the old ones that are left.
+/// Marks the signatures on a part, except those on the first of the old parts if that has its body. Returns the old
+/// parts that are left.
 fn judge_one_part<'a, F: Fn(Ask) -> bool>(
     part: &mut Part,
     old: &'a [Part],
@@ -97,7 +100,7 @@ fn judge_one_part<'a, F: Fn(Ask) -> bool>(
     }
 }
 
-/// Judges those of the signatures on the parts that are not among the old ones.
+/// Marks the signatures on the parts that aren't among the old ones.
 pub(crate) fn judge_new_parts<F: Fn(Ask) -> bool>(
     parts: &mut Vec<Part>,
     old: &[Part],

@@ -1,4 +1,5 @@
-//! Laws of certificates. Each function does nothing; its contract is the law, for whoever builds on the definitions.
+//! Laws of certificates. Each function does nothing: its contract is the law, and the crates above cite it by a call.
+//! They stand on `specs/Certificate.antt` and the definitions that it names.
 ghost use Rattle.std.specs.Prelude.{◌≡◌, ◌≤◌, ◌+◌, List};
 ghost use Rattle.std.specs.List.{AllByRecursion};
 ghost use Rattle.wot_packet.specs.Spelling.{AreShort, Spelled};
@@ -13,15 +14,15 @@ ghost use Rattle.wot_cert.specs.Whole.{IsCertificate, OfAnyThree, OfTwoOfOneKey}
 
 use wot_packet::laws::written_back;
 
-/// The text of a certificate is read back as this one certificate, no signature of it judged.
+/// The text of a certificate is read back as exactly this certificate, without marks.
 pub fn read_back()
     ensures { (c : Certificate) → IsCertificate c → ReadBack c }
 {
     written_back();
 }
 
-/// What is assembled from packets with short bodies: certificates whose keys are readable, whose lists rise and whose
-/// signatures have the numbers of their places, none of them judged.
+/// From packets with short bodies come certificates whose keys can be parsed, whose lists are sorted, and whose
+/// signatures have the numbers of their places and no marks.
 pub fn assembled()
     ensures whole { (packets : List Spelled) → AreShort packets
         → AllByRecursion IsCertificate (certificates_of packets) }
@@ -29,26 +30,26 @@ pub fn assembled()
         → AllByRecursion (λ (c : Certificate). unmarked c ≡ c) (certificates_of packets) }
 {}
 
-/// The union of two certificates of one key is a certificate of that key, and so is each with other marks.
+/// Two merged certificates of one key are a certificate of that key, and so is each with other marks.
 pub fn united_whole()
     ensures united { OfTwoOfOneKey (λ a b. IsCertificate (unite a b)) }
     ensures unmarked { (c : Certificate) → IsCertificate c → IsCertificate (unmarked c) }
     ensures judged { (rows : PolicyRows) (c : Certificate) → IsCertificate c → IsCertificate (judged rows c) }
 {}
 
-/// United with nothing, a certificate is itself.
+/// A certificate merged with nothing is itself.
 pub fn united_with_nothing()
     ensures first { (c : Certificate) → IsCertificate c → unite (bare c.key) c ≡ c }
     ensures last { (c : Certificate) → unite c (bare c.key) ≡ c }
 {}
 
-/// Where a union has nothing more than its first part it is that part, with its marks.
+/// If a merge adds nothing to the first certificate, the result is that certificate, marks included.
 pub fn nothing_added()
     ensures items { (a b : Certificate) → items_of (unite a b) ≡ items_of a → unite a b ≡ a }
     ensures sizes { (a b : Certificate) → size_of (unite a b) ≡ size_of a → unite a b ≡ a }
 {}
 
-/// A union has no less than its first part, and its text and its signatures are no more than those of both.
+/// A merge loses nothing of the first certificate, and its text and its signatures are no more than those of both.
 pub fn united_grows()
     ensures items { (a b : Certificate) → items_of a ≤ items_of (unite a b) }
     ensures signatures { (a b : Certificate) → signatures_of a ≤ signatures_of (unite a b) }
@@ -58,22 +59,23 @@ pub fn united_grows()
     ensures signed { (a b : Certificate) → signatures_of (unite a b) ≤ signatures_of a + signatures_of b }
 {}
 
-/// A union has no less than its second part, where both are certificates of one key.
+/// A merge loses nothing of the second certificate, if both are certificates of one key.
 pub fn united_holds_both()
     ensures items { OfTwoOfOneKey (λ a b. items_of b ≤ items_of (unite a b)) }
     ensures signatures { OfTwoOfOneKey (λ a b. signatures_of b ≤ signatures_of (unite a b)) }
     ensures sizes { OfTwoOfOneKey (λ a b. size_of b ≤ size_of (unite a b)) }
 {}
 
-/// Certificates of one key may be united in any order and in any groups, and more than once: the result has the same
-/// signatures with the same numbers, but that a signature of both keeps the mark of the first.
+/// Certificates of one key can be merged in any order, in any groups, and more than once: the result has the same
+/// signatures with the same numbers. Only the marks depend on the order: a signature in both keeps the mark of the
+/// first.
 pub fn united_in_any_order()
     ensures groups { OfAnyThree (λ a b c. unite (unite a b) c ≡ unite a (unite b c)) }
     ensures order { OfTwoOfOneKey (λ a b. unmarked (unite a b) ≡ unmarked (unite b a)) }
     ensures twice { (a : Certificate) → IsCertificate a → unite a a ≡ a }
 {}
 
-/// Marks are no part of what is counted, sized or written.
+/// Marks don't change what is counted, sized or written.
 pub fn marks_weigh_nothing()
     ensures items { (c : Certificate) → items_of (unmarked c) ≡ items_of c }
     ensures judged_items { (rows : PolicyRows) (c : Certificate) → items_of (judged rows c) ≡ items_of c }
@@ -86,8 +88,8 @@ pub fn marks_weigh_nothing()
     ensures judged_text { (rows : PolicyRows) (c : Certificate) → text_of (judged rows c) ≡ text_of c }
 {}
 
-/// Judging looks at no earlier mark, and judging a union, or taking its marks away, is uniting what is judged or has no
-/// marks. So what is judged after a union doesn't depend on the order of the two.
+/// Marking doesn't look at earlier marks. Marking a merge, or removing its marks, is merging what was marked or has
+/// none. So what is marked after a merge doesn't depend on the order of the two.
 pub fn judging()
     ensures unmarked { (rows : PolicyRows) (c : Certificate) → judged rows (unmarked c) ≡ judged rows c }
     ensures united { (rows : PolicyRows) (a b : Certificate)

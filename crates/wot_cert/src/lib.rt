@@ -1,4 +1,7 @@
-//! Certificates: assembled from packets, united, judged, written, and their spans.
+//! Certificates: assembled from packets, merged, marked by the policy, written, and their spans in time.
+//!
+//! It stands on `wot_packet`, `wot_key`, `wot_signature`, `wot_verdict` and `wot_policy`. `wot_keyring` keeps
+//! certificates, and `wot_standing` and `wot_live` read them.
 #![tactic(auto)]
 
 mod adds;

@@ -1,7 +1,8 @@
-//! What a certificate holds, counted as far as a `u64` counts.
-ghost use Rattle.std.specs.Prelude.{◌≡◌, ◌<◌, ◌^◌, ℕ, List, [], length};
+//! The totals of a certificate: octets, components and signatures, counted up to `u64::MAX`.
+//!
+//! It stands on `sizes` and on `specs/Totals.antt`. Limits of `wot_keyring` are compared with them.
+ghost use Rattle.std.specs.Prelude.{◌<◌, ◌^◌, [], length};
 ghost use Rattle.std.specs.List.{AllByRecursion};
-ghost use Rattle.wot_cert.specs.Certificate.{Signature, Component};
 ghost use Rattle.wot_cert.specs.Fitting.{SigFits, PartFits};
 ghost use Rattle.wot_cert.specs.Parts.{of_parts};
 ghost use Rattle.wot_cert.specs.Sizes.{sig_size, part_items, part_signatures, part_size};
@@ -10,7 +11,7 @@ ghost use Rattle.wot_cert.specs.Totals.{AreTotals, FollowSigs, FollowParts, IsCa
 use crate::sizes::packet_octets;
 use crate::{Adds, Part, Sig};
 
-/// Totals with so much more.
+/// Totals with this much more.
 pub(crate) fn with(totals: Adds, more: Adds) -> Adds
     ensures { IsCappedSum result totals more }
 {
@@ -21,7 +22,7 @@ pub(crate) fn with(totals: Adds, more: Adds) -> Adds
     }
 }
 
-/// What a signature weighs.
+/// The totals of one signature.
 pub(crate) fn of_sig(sig: &Sig) -> Adds
     requires { SigFits sig.now }
     ensures { WeighsCapped (λ _. 1) (λ _. 1) sig_size result sig.now }
@@ -33,7 +34,7 @@ pub(crate) fn of_sig(sig: &Sig) -> Adds
     }
 }
 
-/// Totals with those of the signatures.
+/// Totals with those of the signatures added.
 fn with_sigs(totals: Adds, sigs: &[Sig]) -> Adds
     requires { AllByRecursion SigFits sigs.now }
     ensures { FollowSigs totals result [] sigs.now }
@@ -47,7 +48,7 @@ fn with_sigs(totals: Adds, sigs: &[Sig]) -> Adds
     sum
 }
 
-/// What a component with its signatures weighs.
+/// The totals of a component with its signatures.
 pub(crate) fn of_part(part: &Part) -> Adds
     requires { PartFits part.now }
     ensures { WeighsCapped part_items part_signatures part_size result part.now }
@@ -60,7 +61,7 @@ pub(crate) fn of_part(part: &Part) -> Adds
     with_sigs(own, part.sigs())
 }
 
-/// Totals with those of the components.
+/// Totals with those of the components added.
 fn with_parts(totals: Adds, parts: &[Part]) -> Adds
     requires { AllByRecursion PartFits parts.now }
     ensures { FollowParts totals result [] parts.now }

@@ -1,3 +1,6 @@
+//! A component of a certificate: a user ID, a user attribute or a subkey, with the signatures on it.
+//!
+//! It stands on `sig`, and on `specs/Certificate.antt`. `places` keeps three sorted lists of them.
 ghost use Rattle.std.specs.Prelude.{◌≡◌, ◌<◌, ◌^◌, OnOk, OnErr, IfOk, [], ◌∷◌, ◌++◌, length, map};
 ghost use Rattle.std.specs.List.{AllByRecursion};
 ghost use Rattle.wot_cert.specs.Asking.{Asks};
@@ -25,7 +28,7 @@ use std::marker::Model;
 use wot_policy::{Ask, Policy};
 use wot_types::Memory;
 
-/// A user ID, a user attribute or a subkey, and the signatures on it in the order of their bodies, without doubles.
+/// A user ID, a user attribute or a subkey, and the signatures on it in the order of their bodies, without duplicates.
 #[derive(Drop)]
 pub struct Part {
     body: Vec<u8>,
@@ -59,7 +62,7 @@ impl Part {
         &self.sigs
     }
 
-    /// The part with this body and the signatures with these bodies on it, none of them judged.
+    /// The part with this body and the signatures with these bodies on it, without marks.
     pub(crate) fn drafted(
         alloc: Global,
         key: &[u8],
@@ -87,7 +90,7 @@ impl Part {
         Ok(Part { body, sigs })
     }
 
-    /// Judges those of its signatures that are not among the old ones.
+    /// Marks those of its signatures that aren't among the old ones.
     pub(crate) fn judge_new<F: Fn(Ask) -> bool>(&mut self, old: &[Sig], policy: &mut Policy<F>)
         requires { IsFaithful F.Fn policy.old }
         ensures judged { self.new ≡ judged_part (rows_of policy.old) old.now self.old }
@@ -97,8 +100,8 @@ impl Part {
         judge_new(&mut self.sigs, old, policy);
     }
 
-    /// Puts what another part of the same body has on it, judged where it is new, and tells at which places. After
-    /// `Memory` it is as before.
+    /// Merges another part with the same body into this one, marks what is new, and returns the places of what was
+    /// inserted. After `Memory` nothing changed.
     pub(crate) fn grow<F: Fn(Ask) -> bool>(
         &mut self,
         alloc: Global,
@@ -133,14 +136,14 @@ impl Part {
         }
     }
 
-    /// Takes out the signatures that were put on it at these places.
+    /// Removes the signatures that were inserted at these places.
     pub(crate) fn take_back(&mut self, log: Vec<usize>)
         ensures { self.new ≡ shrunk_part log.items self.old }
     {
         take_sigs_back(&mut self.sigs, log);
     }
 
-    /// The union with a part of the same body.
+    /// Merges with a part of the same body into a new one.
     pub(crate) fn union(&self, alloc: Global, other: &Part) -> Result<Part, Memory>
         ensures { IfOk result (λ p. p ≡ unite_part self.now other.now) }
     {
@@ -151,7 +154,7 @@ impl Part {
     }
 }
 
-/// How two parts are ordered: by their bodies.
+/// Compares two parts by their bodies.
 pub(crate) fn order(a: &Part, b: &Part) -> Ordering
     ensures { result ≡ part_cmp a.now b.now }
 {
@@ -195,7 +198,7 @@ pub(crate) fn push_copies(
     Ok(())
 }
 
-/// Puts the union of two lists in order into an empty one.
+/// Puts two sorted lists, merged, into an empty one.
 pub(crate) fn put_union(
     alloc: Global,
     out: &mut Vec<Part>,

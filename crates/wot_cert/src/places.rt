@@ -1,5 +1,8 @@
-ghost use Rattle.std.specs.Prelude.{◌≡◌, ◌<◌, ◌^◌, [], OnOk, length};
-ghost use Rattle.wot_cert.specs.Drafting.{IsWholeSketch, completed, seen};
+//! Everything in a certificate but its key: the signatures on the key, and the three lists of components.
+//!
+//! It stands on `sig`, `part`, `complete` and `growing`, and on `specs/Parts.antt`. `Cert` forwards its calls to it.
+ghost use Rattle.std.specs.Prelude.{◌<◌, ◌^◌, [], OnOk, length};
+ghost use Rattle.wot_cert.specs.Drafting.{IsWholeSketch, seen};
 ghost use Rattle.wot_cert.specs.Growing.{AreUnited, AsksForCert, PlacesFollow, PlacesRise, StillLeadsBack, TakesBack};
 ghost use Rattle.wot_cert.specs.Parts.{AreBare, AreCopies, AreDrafted, AreUnions};
 ghost use Rattle.wot_cert.specs.Parts.{of_places};
@@ -19,7 +22,7 @@ use std::alloc::Global;
 use wot_policy::{Ask, Policy};
 use wot_types::Memory;
 
-/// What stands on a key, place by place, each list in the order of the bodies, without doubles.
+/// The signatures and components of a key. Each list is in the order of the bodies, without duplicates.
 #[derive(Drop)]
 pub(crate) struct Places {
     pub direct: Vec<Sig>,
@@ -29,7 +32,7 @@ pub(crate) struct Places {
 }
 
 impl Places {
-    /// Places at which nothing stands.
+    /// Empty lists.
     pub(crate) fn new(alloc: Global) -> Places
         ensures bare { AreBare result }
     {
@@ -41,7 +44,7 @@ impl Places {
         }
     }
 
-    /// Puts what the packets behind a key drafted where nothing stands.
+    /// Fills empty lists from the draft of the packets after a key.
     pub(crate) fn put_drafted(
         &mut self,
         alloc: Global,
@@ -66,7 +69,7 @@ impl Places {
         Ok(())
     }
 
-    /// Puts copies of what stands elsewhere where nothing stands.
+    /// Fills empty lists with copies of other ones.
     pub(crate) fn put_copies(
         &mut self,
         alloc: Global,
@@ -83,7 +86,7 @@ impl Places {
         Ok(())
     }
 
-    /// Puts the unions of what stands elsewhere where nothing stands.
+    /// Fills empty lists with two others, merged.
     pub(crate) fn put_unions(&mut self, alloc: Global, a: &Places, b: &Places) -> Result<(), Memory>
         requires bare { AreBare self.old }
         requires a { PlacesRise a.now }
@@ -97,7 +100,7 @@ impl Places {
         Ok(())
     }
 
-    /// Puts what a certificate has in its places, judged where it is new. After `Memory` the growth leads back.
+    /// Merges a certificate's lists into these, and marks what is new. After `Memory` the log undoes what was inserted.
     pub(crate) fn grow<F: Fn(Ask) -> bool>(
         &mut self,
         alloc: Global,
@@ -160,7 +163,7 @@ impl Places {
         }
     }
 
-    /// Takes out what a certificate grew by. Takes no memory.
+    /// Removes what was inserted by this log. Takes no memory.
     pub(crate) fn take_back(&mut self, growth: Growth)
         ensures { TakesBack growth self.old self.new }
     {

@@ -1,4 +1,7 @@
-//! Taking back what a certificate grew by. Nothing here takes memory.
+//! Undoing a merge in place. Nothing here takes memory, so it can't fail.
+//!
+//! It stands on `growth` and on `specs/Growing.antt`. `wot_keyring` calls it, through `Cert::shrink`, if a later part
+//! of an import fails.
 ghost use Rattle.std.specs.Prelude.{◌≡◌};
 ghost use Rattle.std.specs.List.{remove};
 ghost use Rattle.wot_cert.specs.Growing.{without_all, step_back, parts_back};
@@ -6,7 +9,7 @@ ghost use Rattle.wot_cert.specs.Growing.{without_all, step_back, parts_back};
 use crate::growth::PartStep;
 use crate::{Part, Sig};
 
-/// Takes out what is at a place, if anything is.
+/// Removes the item at a place, if there is one.
 fn take_out<T: Drop>(items: &mut Vec<T>, at: usize)
     ensures { items.new.items ≡ remove items.old.items at }
 {
@@ -15,7 +18,7 @@ fn take_out<T: Drop>(items: &mut Vec<T>, at: usize)
     }
 }
 
-/// Takes out what was put in at these places, from the last one on.
+/// Removes what was inserted at these places, the last one first.
 pub(crate) fn take_sigs_back(sigs: &mut Vec<Sig>, mut log: Vec<usize>)
     ensures { sigs.new.items ≡ without_all log.items sigs.old.items }
 {
@@ -38,7 +41,7 @@ fn take_step_back(parts: &mut Vec<Part>, step: PartStep)
     }
 }
 
-/// Takes back what became of components, from the last step on.
+/// Undoes steps on components, the last one first.
 pub(crate) fn take_parts_back(parts: &mut Vec<Part>, mut log: Vec<PartStep>)
     ensures { parts.new.items ≡ parts_back log.items parts.old.items }
 {

@@ -1,3 +1,7 @@
+//! A signature in a certificate: its body, its number, its facts, and the policy's mark.
+//!
+//! It stands on `wot_signature`, `wot_verdict` and `wot_policy`, and on `specs/Certificate.antt` and
+//! `specs/Judged.antt`. Lists of signatures are sorted by body and merged here.
 ghost use Rattle.std.specs.Prelude.{◌≡◌, ◌<◌, ◌^◌, OnOk, IfOk, [], ◌∷◌, ◌++◌, length, map, if◌then◌else◌};
 ghost use Rattle.wot_cert.specs.Certificate.{sig_cmp, unite_sigs, said_by, fresh};
 ghost use Rattle.wot_cert.specs.Copied.{mark_under, copied};
@@ -23,8 +27,7 @@ struct Held {
     admitted: bool,
 }
 
-/// A signature of a certificate. It is small itself, since a list that is kept in order moves all that stand behind a
-/// new one.
+/// A signature of a certificate. The value itself is small, since an insertion moves all signatures behind it.
 #[derive(Drop)]
 pub struct Sig {
     held: Box<Held>,
@@ -46,7 +49,7 @@ impl Model for Sig {
     ghost invariant = { λ a. a.held.value.facts ≡ facts_of a.held.value.body.items };
 }
 
-/// Whether copies keep their marks of admission.
+/// Whether copies keep their marks.
 #[derive(Clone, Copy)]
 pub(crate) enum Marks {
     Kept,
@@ -61,14 +64,14 @@ impl Sig {
         &self.held.body
     }
 
-    /// Its number, by which a verdict on it is known.
+    /// Its number, by which verdicts are kept.
     pub fn number(&self) -> SigNumber
         ensures number { result ≡ self.now.number }
     {
         self.held.number
     }
 
-    /// What it says; `None` where it isn't readable.
+    /// What it says; `None` if it can't be parsed.
     pub fn facts(&self) -> Option<SigFacts>
         ensures said { result ≡ said_by self.now }
     {
@@ -82,7 +85,7 @@ impl Sig {
         self.held.admitted
     }
 
-    /// The signature of this body at its place, not judged.
+    /// The signature with this body at its place, without a mark.
     pub(crate) fn fresh(
         alloc: Global,
         key: &[u8],
@@ -124,7 +127,7 @@ impl Sig {
         Ok(Sig { held })
     }
 
-    /// Takes the mark that the policy gives. It is asked of a sound signature alone.
+    /// Sets the mark by the policy, which is asked only about a sound signature.
     pub(crate) fn judge<F: Fn(Ask) -> bool>(&mut self, policy: &mut Policy<F>)
         requires { IsFaithful F.Fn policy.old }
         ensures judged { self.new ≡ judged_sig (rows_of policy.old) self.old }
@@ -174,7 +177,7 @@ fn mark_of(sig: &Sig, marks: Marks) -> bool
     }
 }
 
-/// How two signatures are ordered: by their bodies.
+/// Compares two signatures by their bodies.
 pub(crate) fn order(a: &Sig, b: &Sig) -> Ordering
     ensures { result ≡ sig_cmp a.now b.now }
 {
@@ -218,7 +221,7 @@ pub(crate) fn copy_sigs(alloc: Global, sigs: &[Sig], marks: Marks) -> Result<Vec
     Ok(out)
 }
 
-/// Puts the union of two lists in order into an empty one.
+/// Puts two sorted lists, merged, into an empty one.
 pub(crate) fn put_union(
     alloc: Global,
     out: &mut Vec<Sig>,

@@ -1,3 +1,5 @@
+//! How many octets a packet takes in its shortest spelling. It stands on `specs/Sizes.antt`. `measure` and `adds` add
+//! these up.
 ghost use Rattle.std.specs.Prelude.{◌≡◌, ◌<◌, ◌^◌, length};
 ghost use Rattle.std.specs.List.{AllByRecursion};
 ghost use Rattle.wot_packet.specs.Writing.{written};

@@ -1,4 +1,8 @@
-ghost use Rattle.std.specs.Prelude.{◌≡◌, ℕ, ◌≤◌, ◌^◌, List, [], ◌∷◌};
+//! The span of a time: between which moments no signature of a certificate begins or ends.
+//!
+//! It stands on `specs/Span.antt`. Edges are kept for as long as a view's time stays in the span, so a moment that is
+//! missed here would keep stale edges; the contract rules that out.
+ghost use Rattle.std.specs.Prelude.{◌≡◌, ℕ, [], ◌∷◌};
 ghost use Rattle.std.specs.List.{flat_map};
 ghost use Rattle.wot_cert.specs.Counts.{sigs_on};
 ghost use Rattle.wot_cert.specs.Narrowed.{Narrowed};
@@ -9,7 +13,7 @@ ghost use Rattle.wot_cert.specs.Time.{live_at};
 use crate::{Cert, Part, Sig, Span};
 use wot_signature::SigFacts;
 
-/// The last moment so far that is not after a time, and the first one after it.
+/// The last moment so far that isn't after a time, and the first one after it.
 #[derive(Drop)]
 pub(crate) struct Bounds {
     pub(crate) from: u32,
@@ -26,7 +30,7 @@ fn narrow(bounds: &mut Bounds, moment: u64, t: u32)
     }
 }
 
-/// A moment that is there where its length is not 0.
+/// A moment, if the period that leads to it isn't 0.
 fn narrow_unless_zero(bounds: &mut Bounds, said: u32, moment: u64, t: u32)
     ensures { Narrowed bounds.old bounds.new (unless_zero said moment) t }
 {
@@ -86,9 +90,9 @@ fn created(cert: &Cert) -> u32
     cert.key().created
 }
 
-/// The span of a time: from the last moment of the certificate that isn't after it, or 0, up to the moment before the
-/// next one, or the last time that there is. The moments are the key's creation and, of each readable signature, when
-/// it was made, when it ends, and when it lets the key end.
+/// The span of a time: from the certificate's last moment that isn't after it, or 0, up to the second before the next
+/// moment, or the last time that there is. The moments are the key's creation and, for each signature that can be
+/// parsed, when it was created, when it expires, and when it makes the key expire.
 pub fn span(cert: &Cert, t: u32) -> Span
     ensures span { result ≡ span_of cert.now t }
     ensures live { (u : ℕ) → InSpan result u → live_at t cert.now ≡ live_at u cert.now }

@@ -1,5 +1,6 @@
 -- Whether claims are good, and whether a table is one of absence, can be decided: each check comes to something.
-use Rattle.std.proofs.Common.{◌≡◌, ◌⊎◌, inl, inr, ℕ, ◌+◌, ◌<◌, ◌≤◌, Bool, true, false, List, [], ◌∷◌, ◌++◌, length, refl, sym, ap, subst, ◌∙◌, arith}
+use Rattle.std.proofs.Common.{◌≡◌, ◌⊎◌, inl, inr, ℕ, ◌+◌, ◌<◌, ◌≤◌, Bool, true, false, List, [], ◌∷◌, ◌++◌, length}
+use Rattle.std.proofs.Common.{refl, sym, ap, subst, ◌∙◌, arith}
 use Rattle.std.proofs.lemmas.Bool.{cases_eq, cases_lt}
 use Rattle.wot_types.specs.declared.fpr.Fpr.{Fpr}
 use Rattle.wot_types.specs.Fpr.{same_fpr}
@@ -26,7 +27,9 @@ use Rattle.wot_check.proofs.Trails.{least_most, trail_chain}
 -- ---- fingerprints
 
 is_other : (a b : Fpr) → Dec (a ≡ b)
-is_other a b = decided (same_fpr-true a b) (λ e. subst (λ (x : Fpr). same_fpr a x ≡ true) e (same_fpr-refl a)) (is_so (same_fpr a b))
+is_other a b =
+    decided (same_fpr-true a b) (λ e. subst (λ (x : Fpr). same_fpr a x ≡ true) e (same_fpr-refl a))
+    (is_so (same_fpr a b))
 
 has_fpr : (xs : List Fpr) (x : Fpr) → Dec (Has xs x)
 has_fpr [] x = inr (λ h. h)
@@ -61,17 +64,22 @@ module _ (q : Question) (used : Use) where
     stands : may_stand q.target used (demand_of q (length later)) row ≡ true
     so : L (step_of row.edge)
 
-  here : (item : ClaimedStep) (later : List ClaimedStep) (L : Step → Type 0) → ((step : Step) → Dec (L step)) → (row : Row) → Dec (Here item later L row)
-  here item later L dec row = by (is_so (has_name item row.edge)) (is_so (may_stand q.target used (demand_of q (length later)) row)) (dec (step_of row.edge))
+  here : (item : ClaimedStep) (later : List ClaimedStep) (L : Step → Type 0) → ((step : Step) → Dec (L step))
+      → (row : Row) → Dec (Here item later L row)
+  here item later L dec row =
+      by (is_so (has_name item row.edge)) (is_so (may_stand q.target used (demand_of q (length later)) row))
+      (dec (step_of row.edge))
     where
-      by : Dec (has_name item row.edge ≡ true) → Dec (may_stand q.target used (demand_of q (length later)) row ≡ true) → Dec (L (step_of row.edge))
+      by : Dec (has_name item row.edge ≡ true) → Dec (may_stand q.target used (demand_of q (length later)) row ≡ true)
+          → Dec (L (step_of row.edge))
           → Dec (Here item later L row)
       by (inl a) (inl b) (inl c) = inl (record { named = a; stands = b; so = c })
       by (inr n) b c = inr (λ h. n h.named)
       by (inl a) (inr n) c = inr (λ h. n h.stands)
       by (inl a) (inl b) (inr n) = inr (λ h. n h.so)
 
-  stepped_by : (item : ClaimedStep) (later : List ClaimedStep) (L : Step → Type 0) → Found (Here item later L) (rows_into q.told (begin_of q.target later))
+  stepped_by : (item : ClaimedStep) (later : List ClaimedStep) (L : Step → Type 0)
+      → Found (Here item later L) (rows_into q.told (begin_of q.target later))
       → Stepped item later L
   stepped_by item later L f = record {
     step = step_of f.it.edge;
@@ -99,9 +107,11 @@ module _ (q : Question) (used : Use) where
         };
       }
 
-  step_there : (item : ClaimedStep) (later : List ClaimedStep) (L : Step → Type 0) → ((step : Step) → Dec (L step)) → Dec (Stepped item later L)
+  step_there : (item : ClaimedStep) (later : List ClaimedStep) (L : Step → Type 0) → ((step : Step) → Dec (L step))
+      → Dec (Stepped item later L)
   step_there item later L dec =
-      decided (stepped_by item later L) (by_stepped item later L) (find (Here item later L) (here item later L dec) (rows_into q.told (begin_of q.target later)))
+      decided (stepped_by item later L) (by_stepped item later L)
+      (find (Here item later L) (here item later L dec) (rows_into q.told (begin_of q.target later)))
 
   -- steps that are claimed, of which more is so
   record Traced (items : List ClaimedStep) (K : List Step → Type 0) : Type 0 where
@@ -117,17 +127,22 @@ module _ (q : Question) (used : Use) where
   untraced K [] t k = k
   untraced K (x ∷ steps) t k = absurd t
 
-  cut_first : (item : ClaimedStep) (later : List ClaimedStep) (K : List Step → Type 0) (steps : List Step) → Traces q used (item ∷ later) steps → K steps
+  cut_first : (item : ClaimedStep) (later : List ClaimedStep) (K : List Step → Type 0) (steps : List Step)
+      → Traces q used (item ∷ later) steps → K steps
       → Traced later (First item later K)
   cut_first item later K [] t k = absurd t
-  cut_first item later K (x ∷ rest) t k = record { steps = rest; traces = t.1; so = record { step = x; follows = t.0; so = k } }
+  cut_first item later K (x ∷ rest) t k =
+      record { steps = rest; traces = t.1; so = record { step = x; follows = t.0; so = k } }
 
-  steps_there : (items : List ClaimedStep) (K : List Step → Type 0) → ((steps : List Step) → Dec (K steps)) → Dec (Traced items K)
-  steps_there [] K dec = decided (λ k. record { steps = []; traces = tt; so = k }) (λ t. untraced K t.steps t.traces t.so) (dec [])
+  steps_there : (items : List ClaimedStep) (K : List Step → Type 0) → ((steps : List Step) → Dec (K steps))
+      → Dec (Traced items K)
+  steps_there [] K dec =
+      decided (λ k. record { steps = []; traces = tt; so = k }) (λ t. untraced K t.steps t.traces t.so) (dec [])
   steps_there (item ∷ later) K dec =
       decided (λ t. record { steps = t.so.step ∷ t.steps; traces = (t.so.follows, t.traces); so = t.so.so })
       (λ t. cut_first item later K t.steps t.traces t.so)
-      (steps_there later (First item later K) (λ rest. step_there item later (λ step. K (step ∷ rest)) (λ step. dec (step ∷ rest))))
+      (steps_there later (First item later K)
+      (λ rest. step_there item later (λ step. K (step ∷ rest)) (λ step. dec (step ∷ rest))))
 
   -- ---- paths
 
@@ -148,12 +163,19 @@ module _ (q : Question) (used : Use) where
     amount : Both (path_amount q used steps ≡ claim.amount) (1 ≤ claim.amount)
     so : K (path_by claim steps)
 
-  shown_or_not : (claim : Claim) (K : Path → Type 0) → ((path : Path) → Dec (K path)) → (steps : List Step) → Dec (AreShown claim K steps)
+  shown_or_not : (claim : Claim) (K : Path → Type 0) → ((path : Path) → Dec (K path)) → (steps : List Step)
+      → Dec (AreShown claim K steps)
   shown_or_not claim K dec steps =
-      decided (λ b. record { sizes = b.one.one; distinct = b.one.two; in_order = b.two.one; amount = b.two.two.one; so = b.two.two.two })
-      (λ s. record { one = record { one = s.sizes; two = s.distinct }; two = record { one = s.in_order; two = record { one = s.amount; two = s.so } } })
+      decided (λ b. record
+      { sizes = b.one.one; distinct = b.one.two; in_order = b.two.one; amount = b.two.two.one; so = b.two.two.two })
+      (λ s. record {
+        one = record { one = s.sizes; two = s.distinct };
+        two = record { one = s.in_order; two = record { one = s.amount; two = s.so } };
+      })
       (both (both (both (at_most 1 (length steps)) (at_most (length steps) 255)) (are_distinct (issuers steps)))
-      (both (is_so (is_in_order q)) (both (both (cases_eq (path_amount q used steps) claim.amount) (at_most 1 claim.amount)) (dec (path_by claim steps)))))
+      (both (is_so (is_in_order q))
+      (both (both (cases_eq (path_amount q used steps) claim.amount) (at_most 1 claim.amount))
+      (dec (path_by claim steps)))))
 
   found_by : (claim : Claim) (K : Path → Type 0) → Traced claim.steps (AreShown claim K) → PathFound claim K
   found_by claim K t =
@@ -184,7 +206,8 @@ module _ (q : Question) (used : Use) where
   by_found claim K f =
       let s = f.shows in
       let amount : f.path.amount ≡ claim.amount = ap (λ (c : Claim). c.amount) (sym s.same) in
-      let same : f.path ≡ path_by claim f.path.steps = λ i. record { amount = amount i; root = s.root i; steps = f.path.steps } in
+      let same : f.path ≡ path_by claim f.path.steps =
+      λ i. record { amount = amount i; root = s.root i; steps = f.path.steps } in
       let pos = s.positive in
       record {
         steps = f.path.steps;
@@ -200,7 +223,8 @@ module _ (q : Question) (used : Use) where
 
   path_there : (claim : Claim) (K : Path → Type 0) → ((path : Path) → Dec (K path)) → Dec (PathFound claim K)
   path_there claim K dec =
-      decided (found_by claim K) (by_found claim K) (steps_there claim.steps (AreShown claim K) (shown_or_not claim K dec))
+      decided (found_by claim K) (by_found claim K)
+      (steps_there claim.steps (AreShown claim K) (shown_or_not claim K dec))
 
 -- ---- claims
 
@@ -215,18 +239,23 @@ module _ (q : Question) where
   abbrev Others : List Path → List Claim → (List Path → Type 0) → Path → Type 0
   Others earlier claims K path = PathsFound q (earlier ++ path ∷ []) claims (λ paths. K (path ∷ paths))
 
-  unshown : (earlier : List Path) (K : List Path → Type 0) (paths : List Path) → EachShows q earlier [] paths → K paths → K []
+  unshown : (earlier : List Path) (K : List Path → Type 0) (paths : List Path) → EachShows q earlier [] paths → K paths
+      → K []
   unshown earlier K [] s k = k
   unshown earlier K (path ∷ paths) s k = absurd s
 
   cut_path : (earlier : List Path) (claim : Claim) (claims : List Claim) (K : List Path → Type 0) (paths : List Path)
-      → EachShows q earlier (claim ∷ claims) paths → K paths → PathFound q (use_of earlier) claim (Others earlier claims K)
+      → EachShows q earlier (claim ∷ claims) paths → K paths
+      → PathFound q (use_of earlier) claim (Others earlier claims K)
   cut_path earlier claim claims K [] s k = absurd s
-  cut_path earlier claim claims K (path ∷ paths) s k = record { path = path; shows = s.0; so = record { paths = paths; each = s.1; so = k } }
+  cut_path earlier claim claims K (path ∷ paths) s k =
+      record { path = path; shows = s.0; so = record { paths = paths; each = s.1; so = k } }
 
-  paths_there : (earlier : List Path) (claims : List Claim) (K : List Path → Type 0) → ((paths : List Path) → Dec (K paths))
+  paths_there : (earlier : List Path) (claims : List Claim) (K : List Path → Type 0)
+      → ((paths : List Path) → Dec (K paths))
       → Dec (PathsFound q earlier claims K)
-  paths_there earlier [] K dec = decided (λ k. record { paths = []; each = tt; so = k }) (λ f. unshown earlier K f.paths f.each f.so) (dec [])
+  paths_there earlier [] K dec =
+      decided (λ k. record { paths = []; each = tt; so = k }) (λ f. unshown earlier K f.paths f.each f.so) (dec [])
   paths_there earlier (claim ∷ claims) K dec =
       decided (λ f. record { paths = f.path ∷ f.so.paths; each = (f.shows, f.so.each); so = f.so.so })
       (λ f. cut_path earlier claim claims K f.paths f.each f.so)
@@ -254,15 +283,18 @@ module _ (q : Question) (used : Use) (table : Labels) (good : IsTable table) whe
 
   spent_so : Dec (RootsSpent q used table)
   spent_so =
-      decided (λ f fpr label e. f (fpr, label) (lookup_has table fpr label e)) (λ s entry h. s entry.0 entry.1 (has_lookup table good.order entry.0 entry.1 h))
+      decided (λ f fpr label e. f (fpr, label) (lookup_has table fpr label e))
+      (λ s entry h. s entry.0 entry.1 (has_lookup table good.order entry.0 entry.1 h))
       (all (λ (entry : Fpr × ℕ). root_left q used entry.0 ≡ 0) (λ entry. cases_eq (root_left q used entry.0) 0) table)
 
   excludes_so : Dec (Excludes q used table)
   excludes_so = by spent_so (are_covered 0 q.target) (all IsCovered entry_covered table)
     where
-      by : Dec (RootsSpent q used table) → Dec (Covers q used 0 table q.target) → Dec ((entry : Fpr × ℕ) → Has table entry → IsCovered entry)
+      by : Dec (RootsSpent q used table) → Dec (Covers q used 0 table q.target)
+          → Dec ((entry : Fpr × ℕ) → Has table entry → IsCovered entry)
           → Dec (Excludes q used table)
-      by (inl r) (inl c) (inl f) = inl (three_points q used table good r c (labels_all q used table good (λ at label h. inl (f (at, label) h))))
+      by (inl r) (inl c) (inl f) =
+          inl (three_points q used table good r c (labels_all q used table good (λ at label h. inl (f (at, label) h))))
       by (inr n) c f = inr (λ x. n x.roots)
       by (inl r) (inr n) f = inr (λ x. n (last_covered q used table x))
       by (inl r) (inl c) (inr n) = inr (λ x. n (λ entry h. each x entry h (entry_covered entry)))
@@ -282,9 +314,11 @@ module _ (q : Question) (used : Use) (table : Labels) (good : IsTable table) whe
 -- ---- checks
 
 -- each check comes to something
-pub check_some : (q : Question) (claims : List Claim) (table : Labels) → IsTable table → (checked : Checked) × IsChecked q claims table checked
+pub check_some : (q : Question) (claims : List Claim) (table : Labels) → IsTable table
+    → (checked : Checked) × IsChecked q claims table checked
 check_some q claims table good =
-    by (paths_there q [] claims (λ paths. IsAbsence q (use_of paths) table) (λ paths. absence_so q (use_of paths) table good))
+    by (paths_there q [] claims (λ paths. IsAbsence q (use_of paths) table)
+    (λ paths. absence_so q (use_of paths) table good))
     (paths_there q [] claims (λ paths. Unit {0}) (λ paths. inl tt))
   where
     yes : Accepts q claims table → (checked : Checked) × IsChecked q claims table checked
@@ -296,7 +330,8 @@ check_some q claims table good =
     bad_paths : (AreGood q claims → ⊥) → (checked : Checked) × IsChecked q claims table checked
     bad_paths n = (BadPaths, n)
 
-    by : Dec (PathsFound q [] claims (λ paths. IsAbsence q (use_of paths) table)) → Dec (PathsFound q [] claims (λ paths. Unit {0}))
+    by : Dec (PathsFound q [] claims (λ paths. IsAbsence q (use_of paths) table))
+        → Dec (PathsFound q [] claims (λ paths. Unit {0}))
         → (checked : Checked) × IsChecked q claims table checked
     by (inl f) d = yes (f.paths, f.each, f.so)
     by (inr n) (inl f) = bad_table (f.paths, f.each, λ a. n (record { paths = f.paths; each = f.each; so = a }))

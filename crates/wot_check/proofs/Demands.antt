@@ -1,5 +1,6 @@
 -- What is demanded of an edge, as its parts.
-use Rattle.std.proofs.Common.{◌≡◌, ◌≢◌, ◌⊎◌, inl, inr, ℕ, suc, zero, ◌+◌, ◌<◌, ◌≤◌, Bool, true, false, cond, List, [], ◌∷◌, length, Option, Some, None, refl, sym, ap, subst, ◌∙◌, arith, leb-true, le-leb, not}
+use Rattle.std.proofs.Common.{◌≡◌, ◌≢◌, ◌⊎◌, inl, inr, ℕ, suc, zero, ◌+◌, ◌<◌, ◌≤◌, Bool, true, false, cond, List, []}
+use Rattle.std.proofs.Common.{◌∷◌, length, Option, Some, None, refl, sym, ap, subst, ◌∙◌, arith, leb-true, le-leb, not}
 use Rattle.std.specs.Prelude.{◌&&◌, ◌||◌, nat_le, nat_lt, nat_eq}
 use Rattle.std.proofs.lemmas.Bool.{eqb-true, eq-eqb, not-true, ltb-true, lt-ltb, and_parts, and_from, or_cases}
 use Rattle.wot_types.specs.declared.fpr.Fpr.{Fpr}
@@ -10,7 +11,8 @@ use Rattle.wot_edge.specs.Record.{Row, entry_at}
 use Rattle.wot_edge.specs.Path.{Question, Use, Reaches, step_of, step_left}
 use Rattle.wot_check.specs.declared.demand.Demand.{Demand}
 use Rattle.wot_check.specs.declared.demand.Demand.TheVariants.{On, Before}
-use Rattle.wot_check.specs.Demand.{is_place, is_met, demand_of, is_in_scope, promises, may_stand, is_within, is_covered, Covers}
+use Rattle.wot_check.specs.Demand.{is_place, is_met, demand_of, is_in_scope, promises, may_stand, is_within, is_covered}
+use Rattle.wot_check.specs.Demand.{Covers}
 use Rattle.wot_check.specs.Table.{Labels, label_at, IsWithin}
 use Rattle.wot_check.specs.Absence.{MayPrecede, LastLabelled}
 
@@ -51,44 +53,60 @@ pub record IsOpenRow (used : Use) (row : Row) : Type 0 where
   pub left : 0 < step_left used (step_of row.edge)
 
 module _ (target : Fpr) (used : Use) (row : Row) where
-  parts : (demand : Demand) → may_stand target used demand row ≡ true → (is_met target demand row.edge ≡ true) × IsOpenRow used row × (is_in_scope demand row ≡ true)
+  parts : (demand : Demand) → may_stand target used demand row ≡ true
+      → (is_met target demand row.edge ≡ true) × IsOpenRow used row × (is_in_scope demand row ≡ true)
   parts demand s =
       let a = and_parts (promises target used demand row.edge) (row.usable && is_in_scope demand row) s in
       let b = and_parts (is_met target demand row.edge) (nat_lt 0 (step_left used (step_of row.edge))) a.0 in
       let c = and_parts row.usable (is_in_scope demand row) a.1 in
       (b.0, record { usable = c.0; left = ltb-true 0 (step_left used (step_of row.edge)) b.1 }, c.1)
 
-  whole : (demand : Demand) → is_met target demand row.edge ≡ true → IsOpenRow used row → is_in_scope demand row ≡ true → may_stand target used demand row ≡ true
+  whole : (demand : Demand) → is_met target demand row.edge ≡ true → IsOpenRow used row → is_in_scope demand row ≡ true
+      → may_stand target used demand row ≡ true
   whole demand m o s =
       and_from (promises target used demand row.edge) (row.usable && is_in_scope demand row)
-      (and_from (is_met target demand row.edge) (nat_lt 0 (step_left used (step_of row.edge))) m (lt-ltb 0 (step_left used (step_of row.edge)) o.left))
+      (and_from (is_met target demand row.edge) (nat_lt 0 (step_left used (step_of row.edge))) m
+      (lt-ltb 0 (step_left used (step_of row.edge)) o.left))
       (and_from row.usable (is_in_scope demand row) o.usable s)
 
-  pub on_parts : (place : Option ℕ) → may_stand target used (On place) row ≡ true → (place ≡ Some row.edge.uid) × IsOpenRow used row
+  pub on_parts : (place : Option ℕ) → may_stand target used (On place) row ≡ true
+      → (place ≡ Some row.edge.uid) × IsOpenRow used row
   on_parts place s = let p = parts (On place) s in (place-true place row.edge.uid p.0, p.1)
 
-  pub on_whole : (place : Option ℕ) → place ≡ Some row.edge.uid → IsOpenRow used row → may_stand target used (On place) row ≡ true
+  pub on_whole : (place : Option ℕ) → place ≡ Some row.edge.uid → IsOpenRow used row
+      → may_stand target used (On place) row ≡ true
   on_whole place e o = whole (On place) (true-place place row.edge.uid e) o refl
 
-  pub before_parts : (size : ℕ) → may_stand target used (Before size) row ≡ true → (size ≤ row.edge.depth) × (row.scope ≡ true) × (row.edge.issuer ≢ target) × IsOpenRow used row
+  pub before_parts : (size : ℕ) → may_stand target used (Before size) row ≡ true
+      → (size ≤ row.edge.depth) × (row.scope ≡ true) × (row.edge.issuer ≢ target) × IsOpenRow used row
   before_parts size s =
       let p = parts (Before size) s in
-      let a = and_parts (nat_le size row.edge.depth) (not (same_fpr row.edge.issuer target)) p.0 in
-      (leb-true size row.edge.depth a.0, p.2, false-apart row.edge.issuer target (not-true (same_fpr row.edge.issuer target) a.1), p.1)
+      let a = and_parts (nat_le size row.edge.depth) (not (same_fpr row.edge.issuer target)) p.0 in (
+        leb-true size row.edge.depth a.0,
+        p.2,
+        false-apart row.edge.issuer target (not-true (same_fpr row.edge.issuer target) a.1),
+        p.1,
+      )
 
-  pub before_whole : (size : ℕ) → size ≤ row.edge.depth → row.scope ≡ true → row.edge.issuer ≢ target → IsOpenRow used row → may_stand target used (Before size) row ≡ true
+  pub before_whole : (size : ℕ) → size ≤ row.edge.depth → row.scope ≡ true → row.edge.issuer ≢ target
+      → IsOpenRow used row → may_stand target used (Before size) row ≡ true
   before_whole size d s n o =
-      whole (Before size) (and_from (nat_le size row.edge.depth) (not (same_fpr row.edge.issuer target)) (le-leb size row.edge.depth d) (ap not (apart-false row.edge.issuer target n))) o s
+      whole (Before size)
+      (and_from (nat_le size row.edge.depth) (not (same_fpr row.edge.issuer target)) (le-leb size row.edge.depth d)
+      (ap not (apart-false row.edge.issuer target n))) o s
 
 -- ---- before steps
 
-pub stands_reaches : (q : Question) (used : Use) (row : Row) (rest : List Step) → may_stand q.target used (demand_of q (length rest)) row ≡ true → Reaches q row rest × IsOpenRow used row
+pub stands_reaches : (q : Question) (used : Use) (row : Row) (rest : List Step)
+    → may_stand q.target used (demand_of q (length rest)) row ≡ true → Reaches q row rest × IsOpenRow used row
 stands_reaches q used row [] s = on_parts q.target used row (entry_at q.told q.target).place s
 stands_reaches q used row (next ∷ rest) s =
-    let p = before_parts q.target used row (length (next ∷ rest)) (subst (λ (d : Demand). may_stand q.target used d row ≡ true) (demand_some q (length rest)) s) in
+    let p = before_parts q.target used row (length (next ∷ rest))
+    (subst (λ (d : Demand). may_stand q.target used d row ≡ true) (demand_some q (length rest)) s) in
     ((p.0, p.1, p.2), p.3)
 
-pub reaches_stands : (q : Question) (used : Use) (row : Row) (rest : List Step) → Reaches q row rest → IsOpenRow used row → may_stand q.target used (demand_of q (length rest)) row ≡ true
+pub reaches_stands : (q : Question) (used : Use) (row : Row) (rest : List Step) → Reaches q row rest
+    → IsOpenRow used row → may_stand q.target used (demand_of q (length rest)) row ≡ true
 reaches_stands q used row [] r o = on_whole q.target used row (entry_at q.told q.target).place r o
 reaches_stands q used row (next ∷ rest) r o =
     subst (λ (d : Demand). may_stand q.target used d row ≡ true) (sym (demand_some q (length rest)))
@@ -112,23 +130,30 @@ pub some_within : (most label : ℕ) (o : Option ℕ) → o ≡ Some label → l
 some_within most label o e le = subst (IsWithin most) (sym e) le
 
 -- a covered edge that may stand there
-pub covered_within : (target : Fpr) (used : Use) (demand : Demand) (most : ℕ) (table : Labels) (row : Row) → is_covered target used demand most table row ≡ true → may_stand target used demand row ≡ true → IsWithin most (label_at table row.edge.issuer)
-covered_within target used demand most table row c s = elim (or_cases (is_within most (label_at table row.edge.issuer)) (not (may_stand target used demand row)) c) [
-  | inl w ↦ within-true most (label_at table row.edge.issuer) w
-  | inr n ↦ let f = not-true (may_stand target used demand row) n in absurd cc
-]
+pub covered_within : (target : Fpr) (used : Use) (demand : Demand) (most : ℕ) (table : Labels) (row : Row)
+    → is_covered target used demand most table row ≡ true → may_stand target used demand row ≡ true
+    → IsWithin most (label_at table row.edge.issuer)
+covered_within target used demand most table row c s =
+    elim (or_cases (is_within most (label_at table row.edge.issuer)) (not (may_stand target used demand row)) c) [
+      | inl w ↦ within-true most (label_at table row.edge.issuer) w
+      | inr n ↦ let f = not-true (may_stand target used demand row) n in absurd cc
+    ]
 
 true-or : (a b : Bool) → (a ≡ true) ⊎ (b ≡ true) → (a || b) ≡ true
 true-or true b e = refl
 true-or false b (inl e) = absurd cc
 true-or false b (inr e) = e
 
-pub within_covered : (target : Fpr) (used : Use) (demand : Demand) (most : ℕ) (table : Labels) (row : Row) → (may_stand target used demand row ≡ true → IsWithin most (label_at table row.edge.issuer)) → is_covered target used demand most table row ≡ true
+pub within_covered : (target : Fpr) (used : Use) (demand : Demand) (most : ℕ) (table : Labels) (row : Row)
+    → (may_stand target used demand row ≡ true → IsWithin most (label_at table row.edge.issuer))
+    → is_covered target used demand most table row ≡ true
 within_covered target used demand most table row f = by (may_stand target used demand row) refl
   where
     by : (b : Bool) → may_stand target used demand row ≡ b → is_covered target used demand most table row ≡ true
-    by true e = true-or (is_within most (label_at table row.edge.issuer)) (not (may_stand target used demand row)) (inl (true-within most (label_at table row.edge.issuer) (f e)))
-    by false e = true-or (is_within most (label_at table row.edge.issuer)) (not (may_stand target used demand row)) (inr (ap not e))
+    by true e = true-or (is_within most (label_at table row.edge.issuer)) (not (may_stand target used demand row))
+        (inl (true-within most (label_at table row.edge.issuer) (f e)))
+    by false e = true-or (is_within most (label_at table row.edge.issuer)) (not (may_stand target used demand row))
+        (inr (ap not e))
 
 -- ---- the first two points, edge by edge
 
@@ -136,10 +161,12 @@ one_is : (o : Option ℕ) → ((label : ℕ) → o ≡ Some label → 1 ≤ labe
 one_is o some w = let s = within_some 1 o w in let le = some s.0 s.1 in s.1 ∙ ap Some (omega (arith, le, s.2))
 
 module _ (q : Question) (used : Use) (table : Labels) where
-  pub covers_last : ((fpr : Fpr) (label : ℕ) → label_at table fpr ≡ Some label → 1 ≤ label) → Covers q used 0 table q.target → LastLabelled q used table
+  pub covers_last : ((fpr : Fpr) (label : ℕ) → label_at table fpr ≡ Some label → 1 ≤ label)
+      → Covers q used 0 table q.target → LastLabelled q used table
   covers_last some c row r e =
       one_is (label_at table row.edge.issuer) (some row.edge.issuer)
-      (covered_within q.target used (demand_of q 0) 1 table row (c row r.into) (on_whole q.target used row (entry_at q.told q.target).place e (record { usable = r.usable; left = r.left })))
+      (covered_within q.target used (demand_of q 0) 1 table row (c row r.into)
+      (on_whole q.target used row (entry_at q.told q.target).place e (record { usable = r.usable; left = r.left })))
 
   pub last_covers : LastLabelled q used table → Covers q used 0 table q.target
   last_covers l row h = within_covered q.target used (demand_of q 0) 1 table row (λ s.
@@ -149,17 +176,25 @@ module _ (q : Question) (used : Use) (table : Labels) where
 
   -- the edges into one fingerprint of a label
   abbrev pub LabelledAt : Fpr → ℕ → Type 0
-  LabelledAt at label = (row : Row) → MayPrecede q used at label row → IsWithin (label + 1) (label_at table row.edge.issuer)
+  LabelledAt at label =
+      (row : Row) → MayPrecede q used at label row → IsWithin (label + 1) (label_at table row.edge.issuer)
 
   pub covers_at : (at : Fpr) (label : ℕ) → 1 ≤ label → Covers q used label table at → LabelledAt at label
   covers_at at zero some c row m = absurd (omega (arith, some))
   covers_at at (suc n) some c row m =
-      let s = before_whole q.target used row (suc n) m.depth m.scope m.issuer (record { usable = m.carries.usable; left = m.carries.left }) in
+      let s = before_whole q.target used row (suc n) m.depth m.scope m.issuer
+      (record { usable = m.carries.usable; left = m.carries.left }) in
       covered_within q.target used (demand_of q (suc n)) (suc n + 1) table row (c row m.carries.into)
       (subst (λ (d : Demand). may_stand q.target used d row ≡ true) (sym (demand_some q n)) s)
 
   pub at_covers : (at : Fpr) (label : ℕ) → 1 ≤ label → LabelledAt at label → Covers q used label table at
   at_covers at zero some l row h = absurd (omega (arith, some))
   at_covers at (suc n) some l row h = within_covered q.target used (demand_of q (suc n)) (suc n + 1) table row (λ s.
-      let p = before_parts q.target used row (suc n) (subst (λ (d : Demand). may_stand q.target used d row ≡ true) (demand_some q n) s) in
-      l row (record { carries = record { into = h; usable = p.3.usable; left = p.3.left }; depth = p.0; scope = p.1; issuer = p.2 }))
+      let p = before_parts q.target used row (suc n)
+      (subst (λ (d : Demand). may_stand q.target used d row ≡ true) (demand_some q n) s) in
+      l row (record {
+        carries = record { into = h; usable = p.3.usable; left = p.3.left };
+        depth = p.0;
+        scope = p.1;
+        issuer = p.2;
+      }))

@@ -15,7 +15,8 @@ root_small : (roots : List (Fpr × ℕ)) (fpr : Fpr) → AreAmounts roots → ro
 root_small [] fpr all = omega arith
 root_small (root ∷ roots) fpr all = by (root_small roots fpr all.1) (same_fpr fpr root.0)
   where
-    by : root_amount roots fpr ≤ 255 → (b : Bool) → unwrap_or (cond b (Some root.1) (lookup (is_at (fpr_cmp fpr)) roots)) 0 ≤ 255
+    by : root_amount roots fpr ≤ 255 → (b : Bool)
+        → unwrap_or (cond b (Some root.1) (lookup (is_at (fpr_cmp fpr)) roots)) 0 ≤ 255
     by ih true = all.0.1
     by ih false = ih
 

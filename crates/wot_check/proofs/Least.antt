@@ -1,5 +1,6 @@
 -- After whatever is used there is a least table, and only one.
-use Rattle.std.proofs.Common.{◌≡◌, ◌⊎◌, inl, inr, ℕ, suc, zero, ◌+◌, ◌<◌, ◌≤◌, Bool, true, false, cond, List, [], ◌∷◌, ◌++◌, length, map, Ordering, Option, Some, None, refl, sym, ap, subst, ◌∙◌, arith}
+use Rattle.std.proofs.Common.{◌≡◌, ◌⊎◌, inl, inr, ℕ, suc, zero, ◌+◌, ◌<◌, ◌≤◌, Bool, true, false, cond, List, [], ◌∷◌}
+use Rattle.std.proofs.Common.{◌++◌, length, map, Ordering, Option, Some, None, refl, sym, ap, subst, ◌∙◌, arith}
 use Rattle.std.proofs.lemmas.Bool.{cases_lt}
 use Rattle.std.specs.declared.cmp.Ordering.TheVariants.{Less, Equal, Greater}
 use Rattle.std.specs.Ordering.{is_eq, match_ordering, ordering_reverse}
@@ -24,7 +25,8 @@ use Rattle.wot_check.specs.Growth.{IsLabel, IsSettled, Labelled}
 use Rattle.wot_check.proofs.Layering.{each_next_shows, rooted_left}
 use Rattle.wot_check.specs.Demand.{Covers, demand_of, may_stand}
 use Rattle.wot_check.specs.Table.{IsTable, IsWithin, Labels, label_at}
-use Rattle.wot_check.proofs.Demands.{before_whole, covers_at, covers_last, demand_some, reaches_stands, stands_reaches, within_covered, within_some}
+use Rattle.wot_check.proofs.Demands.{before_whole, covers_at, covers_last, demand_some, reaches_stands, stands_reaches}
+use Rattle.wot_check.proofs.Demands.{within_covered, within_some}
 use Rattle.wot_check.proofs.Entries.{all_has, has_lookup, labels_insert, label_small, lookup_has}
 use Rattle.wot_check.proofs.Finite.{Both, Dec, Found, both, decided, find, is_so}
 use Rattle.wot_check.proofs.Trails.{Trail, trail_within}
@@ -55,7 +57,10 @@ above_insert : (low : Fpr) (table : Labels) (fpr : Fpr) (label : ℕ) → fpr_cm
     → Above low (keys_of (insert_entry fpr_cmp table fpr label))
 above_insert low [] fpr label less above = (less, tt)
 above_insert low (e ∷ table) fpr label less above =
-    elim (fpr_cmp fpr e.0) as (λ (o : Ordering). Above low (keys_of (match_ordering o ((fpr, label) ∷ e ∷ table) ((e.0, label) ∷ table) (e ∷ insert_entry fpr_cmp table fpr label)))) [
+    elim (fpr_cmp fpr e.0) as
+    (λ (o : Ordering). Above low
+    (keys_of (match_ordering o ((fpr, label) ∷ e ∷ table) ((e.0, label) ∷ table)
+    (e ∷ insert_entry fpr_cmp table fpr label)))) [
       | Less ↦ (less, above)
       | Equal ↦ above
       | Greater ↦ (above.0, above_insert low table fpr label less above.1)
@@ -66,10 +71,15 @@ order_insert : (table : Labels) (fpr : Fpr) (label : ℕ) → IsStrictlySortedBy
 unfolding IsStrictlySortedBy
 order_insert [] fpr label s = (tt, tt)
 order_insert (e ∷ table) fpr label s =
-    (elim (fpr_cmp fpr e.0) as (λ (o : Ordering). fpr_cmp fpr e.0 ≡ o → IsStrictlySortedBy fpr_cmp (keys_of (match_ordering o ((fpr, label) ∷ e ∷ table) ((e.0, label) ∷ table) (e ∷ insert_entry fpr_cmp table fpr label)))) [
+    (elim (fpr_cmp fpr e.0) as
+    (λ (o : Ordering). fpr_cmp fpr e.0 ≡ o
+    → IsStrictlySortedBy fpr_cmp
+    (keys_of (match_ordering o ((fpr, label) ∷ e ∷ table) ((e.0, label) ∷ table)
+    (e ∷ insert_entry fpr_cmp table fpr label)))) [
       | Less ↦ λ less. ((less, all_above fpr e.0 (keys_of table) less s.0), s)
       | Equal ↦ λ same. s
-      | Greater ↦ λ greater. (above_insert e.0 table fpr label (turn_back fpr e.0 greater) s.0, order_insert table fpr label s.1)
+      | Greater ↦ λ greater.
+          (above_insert e.0 table fpr label (turn_back fpr e.0 greater) s.0, order_insert table fpr label s.1)
     ]) refl
 
 empty_sorted : IsStrictlySortedBy fpr_cmp []
@@ -79,7 +89,8 @@ empty_sorted = tt
 empty_table : IsTable []
 empty_table = record { order = empty_sorted; labels = tt }
 
-pub table_insert : (table : Labels) (fpr : Fpr) (label : ℕ) → IsTable table → 1 ≤ label → label ≤ 255 → IsTable (insert_entry fpr_cmp table fpr label)
+pub table_insert : (table : Labels) (fpr : Fpr) (label : ℕ) → IsTable table → 1 ≤ label → label ≤ 255
+    → IsTable (insert_entry fpr_cmp table fpr label)
 table_insert table fpr label good some few = record {
   order = order_insert table fpr label good.order;
   labels = labels_insert table fpr label good.labels (omega (arith, some), few);
@@ -87,28 +98,42 @@ table_insert table fpr label good some few = record {
 
 -- what a table says where one label was put in
 label_insert : (table : Labels) (fpr : Fpr) (label : ℕ) (other : Fpr)
-    → label_at (insert_entry fpr_cmp table fpr label) other ≡ cond (same_fpr other fpr) (Some label) (label_at table other)
+    → label_at (insert_entry fpr_cmp table fpr label) other ≡ cond (same_fpr other fpr) (Some label)
+    (label_at table other)
 label_insert [] fpr label other = refl
 label_insert (e ∷ table) fpr label other =
-    (elim (fpr_cmp fpr e.0) as (λ (o : Ordering). fpr_cmp fpr e.0 ≡ o → label_at (match_ordering o ((fpr, label) ∷ e ∷ table) ((e.0, label) ∷ table) (e ∷ insert_entry fpr_cmp table fpr label)) other ≡ cond (same_fpr other fpr) (Some label) (label_at (e ∷ table) other)) [
+    (elim (fpr_cmp fpr e.0) as
+    (λ (o : Ordering). fpr_cmp fpr e.0 ≡ o
+    → label_at (match_ordering o ((fpr, label) ∷ e ∷ table) ((e.0, label) ∷ table)
+    (e ∷ insert_entry fpr_cmp table fpr label)) other ≡ cond (same_fpr other fpr) (Some label)
+    (label_at (e ∷ table) other)) [
       | Less ↦ λ less. refl
       | Equal ↦ λ same. at_same (fpr_exact fpr e.0 same)
       | Greater ↦ λ greater. at_later greater (label_insert table fpr label other)
     ]) refl
   where
-    at_same : fpr ≡ e.0 → label_at ((e.0, label) ∷ table) other ≡ cond (same_fpr other fpr) (Some label) (label_at (e ∷ table) other)
-    at_same same = subst (λ (k : Fpr). label_at ((e.0, label) ∷ table) other ≡ cond (same_fpr other k) (Some label) (label_at (e ∷ table) other)) (sym same) (by (same_fpr other e.0))
+    at_same : fpr ≡ e.0
+        → label_at ((e.0, label) ∷ table) other ≡ cond (same_fpr other fpr) (Some label) (label_at (e ∷ table) other)
+    at_same same =
+        subst (λ (k : Fpr). label_at ((e.0, label) ∷ table) other ≡ cond (same_fpr other k) (Some label)
+        (label_at (e ∷ table) other)) (sym same) (by (same_fpr other e.0))
       where
-        by : (b : Bool) → cond b (Some label) (label_at table other) ≡ cond b (Some label) (cond b (Some e.1) (label_at table other))
+        by : (b : Bool)
+            → cond b (Some label) (label_at table other) ≡ cond b (Some label)
+            (cond b (Some e.1) (label_at table other))
         by true = refl
         by false = refl
 
-    at_later : fpr_cmp fpr e.0 ≡ Greater → label_at (insert_entry fpr_cmp table fpr label) other ≡ cond (same_fpr other fpr) (Some label) (label_at table other)
-        → label_at (e ∷ insert_entry fpr_cmp table fpr label) other ≡ cond (same_fpr other fpr) (Some label) (label_at (e ∷ table) other)
+    at_later : fpr_cmp fpr e.0 ≡ Greater
+        → label_at (insert_entry fpr_cmp table fpr label) other ≡ cond (same_fpr other fpr) (Some label)
+        (label_at table other)
+        → label_at (e ∷ insert_entry fpr_cmp table fpr label) other ≡ cond (same_fpr other fpr) (Some label)
+        (label_at (e ∷ table) other)
     at_later greater later = by (same_fpr other e.0) refl (same_fpr other fpr) refl
       where
         by : (b : Bool) → same_fpr other e.0 ≡ b → (c : Bool) → same_fpr other fpr ≡ c
-            → cond b (Some e.1) (label_at (insert_entry fpr_cmp table fpr label) other) ≡ cond c (Some label) (cond b (Some e.1) (label_at table other))
+            → cond b (Some e.1) (label_at (insert_entry fpr_cmp table fpr label) other) ≡ cond c (Some label)
+            (cond b (Some e.1) (label_at table other))
         by true x true y =
             let same : fpr ≡ e.0 = sym (same_fpr-true other fpr y) ∙ same_fpr-true other e.0 x in
             absurd (self_not_less e.0 (subst (λ (k : Fpr). fpr_cmp e.0 k ≡ Less) same (turn_back fpr e.0 greater)))
@@ -125,10 +150,13 @@ key_has [] e h = absurd h
 key_has (x ∷ table) e (inl same) = inl (ap (λ (z : Fpr × ℕ). z.0) same)
 key_has (x ∷ table) e (inr h) = inr (key_has table e h)
 
-later_less : (fpr : Fpr) (table : Labels) (e : Fpr × ℕ) → Above fpr (keys_of table) → Has table e → fpr_cmp fpr e.0 ≡ Less
-later_less fpr table e above h = all_has (λ (k : Fpr). fpr_cmp fpr k ≡ Less) (keys_of table) e.0 above (key_has table e h)
+later_less : (fpr : Fpr) (table : Labels) (e : Fpr × ℕ) → Above fpr (keys_of table) → Has table e
+    → fpr_cmp fpr e.0 ≡ Less
+later_less fpr table e above h =
+    all_has (λ (k : Fpr). fpr_cmp fpr k ≡ Less) (keys_of table) e.0 above (key_has table e h)
 
-same_tables : (a b : Labels) → IsStrictlySortedBy fpr_cmp (keys_of a) → IsStrictlySortedBy fpr_cmp (keys_of b) → Includes a b → Includes b a → a ≡ b
+same_tables : (a b : Labels) → IsStrictlySortedBy fpr_cmp (keys_of a) → IsStrictlySortedBy fpr_cmp (keys_of b)
+    → Includes a b → Includes b a → a ≡ b
 unfolding IsStrictlySortedBy
 same_tables [] [] s t f g = refl
 same_tables [] (y ∷ b) s t f g = absurd (g y (inl refl))
@@ -146,7 +174,8 @@ same_tables (x ∷ a) (y ∷ b) s t f g =
     ]
 
     apart : (table : Labels) (z e : Fpr × ℕ) → Above z.0 (keys_of table) → Has table e → e ≡ z → ⊥
-    apart table z e above h same = self_not_less z.0 (subst (λ (d : Fpr × ℕ). fpr_cmp z.0 d.0 ≡ Less) same (later_less z.0 table e above h))
+    apart table z e above h same =
+        self_not_less z.0 (subst (λ (d : Fpr × ℕ). fpr_cmp z.0 d.0 ≡ Less) same (later_less z.0 table e above h))
 
     onward : Includes a b
     onward e h = elim (f e (inr h)) [ inl same ↦ absurd (apart a x e s.0 h (same ∙ sym first)) | inr k ↦ k ]
@@ -161,18 +190,22 @@ tables_same a b s t same =
 
 -- ---- the least table is one
 
-same_labels : (a b : Option ℕ) → ((label : ℕ) → a ≡ Some label → IsWithin label b) → ((label : ℕ) → b ≡ Some label → IsWithin label a) → a ≡ b
+same_labels : (a b : Option ℕ) → ((label : ℕ) → a ≡ Some label → IsWithin label b)
+    → ((label : ℕ) → b ≡ Some label → IsWithin label a) → a ≡ b
 same_labels None None f g = refl
 same_labels None (Some y) f g = absurd (g y refl)
 same_labels (Some x) None f g = absurd (f x refl)
 same_labels (Some x) (Some y) f g = let le = f x refl in let ge = g y refl in ap Some (omega (arith, le, ge))
 
-pub least_one : (q : Question) (used : Use) (a b : Labels) → IsTable a → IsTable b → IsLeastTable q used a → IsLeastTable q used b → a ≡ b
+pub least_one : (q : Question) (used : Use) (a b : Labels) → IsTable a → IsTable b → IsLeastTable q used a
+    → IsLeastTable q used b → a ≡ b
 least_one q used a b s t = by (is_in_order q)
   where
     by : (o : Bool) → LeastBy o q used a → LeastBy o q used b → a ≡ b
     by false x y = x ∙ sym y
-    by true x y = tables_same a b s t (λ fpr. same_labels (label_at a fpr) (label_at b fpr) (x.least b t y.closes fpr) (y.least a s x.closes fpr))
+    by true x y =
+        tables_same a b s t
+        (λ fpr. same_labels (label_at a fpr) (label_at b fpr) (x.least b t y.closes fpr) (y.least a s x.closes fpr))
 
 -- ---- trails of a length
 
@@ -180,7 +213,8 @@ row_key : (told : Record) (at : Fpr) (row : Row) → Has (rows_into told at) row
 row_key [] at row h = absurd h
 row_key (e ∷ told) at row h = by (same_fpr at e.0) refl h (row_key told at row)
   where
-    by : (b : Bool) → same_fpr at e.0 ≡ b → Has (unwrap_or (cond b (Some e.1) (lookup (is_at (fpr_cmp at)) told)) blank).rows row
+    by : (b : Bool) → same_fpr at e.0 ≡ b
+        → Has (unwrap_or (cond b (Some e.1) (lookup (is_at (fpr_cmp at)) told)) blank).rows row
         → (Has (rows_into told at) row → Has (keys_of told) at) → Has (keys_of (e ∷ told)) at
     by true same h later = inl (same_fpr-true at e.0 same)
     by false apart h later = inr (later h)
@@ -194,10 +228,12 @@ module _ (q : Question) (used : Use) where
     there : start q.target steps ≡ fpr
 
   -- one step more
-  led_on : (size : ℕ) (at : Fpr) (row : Row) → Has (rows_into q.told at) row → Led size at → may_stand q.target used (demand_of q size) row ≡ true
+  led_on : (size : ℕ) (at : Fpr) (row : Row) → Has (rows_into q.told at) row → Led size at
+      → may_stand q.target used (demand_of q size) row ≡ true
       → Led (suc size) row.edge.issuer
   led_on size at row h l s =
-      let r = stands_reaches q used row l.steps (subst (λ (n : ℕ). may_stand q.target used (demand_of q n) row ≡ true) (sym l.long) s) in
+      let r = stands_reaches q used row l.steps
+      (subst (λ (n : ℕ). may_stand q.target used (demand_of q n) row ≡ true) (sym l.long) s) in
       let stands : Stands q (step_of row.edge) l.steps = record {
         row = row;
         into = subst (λ (f : Fpr). Has (rows_into q.told f) row) (sym l.there) h;
@@ -205,11 +241,17 @@ module _ (q : Question) (used : Use) where
         shown = refl;
         reaches = r.0;
       } in
-      record { steps = step_of row.edge ∷ l.steps; trail = (stands, r.1.left, l.trail); long = ap suc l.long; there = refl }
+      record {
+        steps = step_of row.edge ∷ l.steps;
+        trail = (stands, r.1.left, l.trail);
+        long = ap suc l.long;
+        there = refl;
+      }
 
   -- a row by which one step more is made
   abbrev Leads : ℕ → Fpr → Fpr → Row → Type 0
-  Leads size fpr at row = Both (may_stand q.target used (demand_of q size) row ≡ true) (same_fpr row.edge.issuer fpr ≡ true)
+  Leads size fpr at row =
+      Both (may_stand q.target used (demand_of q size) row ≡ true) (same_fpr row.edge.issuer fpr ≡ true)
 
   abbrev LeadsFrom : ℕ → Fpr → Fpr → Type 0
   LeadsFrom size fpr at = Both (Led size at) (Found (Leads size fpr at) (rows_into q.told at))
@@ -217,12 +259,14 @@ module _ (q : Question) (used : Use) where
   led_by : (size : ℕ) (fpr : Fpr) → Found (LeadsFrom size fpr) (keys_of q.told) → Led (suc size) fpr
   led_by size fpr f =
       let r = f.so.two in
-      subst (Led (suc size)) (same_fpr-true r.it.edge.issuer fpr r.so.two) (led_on size f.it r.it r.there f.so.one r.so.one)
+      subst (Led (suc size)) (same_fpr-true r.it.edge.issuer fpr r.so.two)
+      (led_on size f.it r.it r.there f.so.one r.so.one)
 
   by_led : (size : ℕ) (fpr : Fpr) → Led (suc size) fpr → Found (LeadsFrom size fpr) (keys_of q.told)
   by_led size fpr l = by l.steps l.trail l.long l.there
     where
-      by : (steps : List Step) → Trail q used steps → length steps ≡ suc size → start q.target steps ≡ fpr → Found (LeadsFrom size fpr) (keys_of q.told)
+      by : (steps : List Step) → Trail q used steps → length steps ≡ suc size → start q.target steps ≡ fpr
+          → Found (LeadsFrom size fpr) (keys_of q.told)
       by [] t long there = absurd (omega (arith, long))
       by (x ∷ rest) t long there =
           let s = t.0 in
@@ -240,7 +284,8 @@ module _ (q : Question) (used : Use) where
                 there = s.into;
                 so = record {
                   one = subst (λ (n : ℕ). may_stand q.target used (demand_of q n) s.row ≡ true) size_is stands;
-                  two = subst (λ (f : Fpr). same_fpr s.row.edge.issuer f ≡ true) issuer (same_fpr-refl s.row.edge.issuer);
+                  two = subst (λ (f : Fpr). same_fpr s.row.edge.issuer f ≡ true) issuer
+                      (same_fpr-refl s.row.edge.issuer);
                 };
               };
             };
@@ -255,10 +300,14 @@ module _ (q : Question) (used : Use) where
 
   led_so : (size : ℕ) (fpr : Fpr) → Dec (Led size fpr)
   led_so zero fpr =
-      decided (λ e. record { steps = []; trail = tt; long = refl; there = same_fpr-true q.target fpr e }) (led_none fpr) (is_so (same_fpr q.target fpr))
+      decided (λ e. record { steps = []; trail = tt; long = refl; there = same_fpr-true q.target fpr e }) (led_none fpr)
+      (is_so (same_fpr q.target fpr))
   led_so (suc size) fpr =
       decided (led_by size fpr) (by_led size fpr) (find (LeadsFrom size fpr)
-      (λ at. both (led_so size at) (find (Leads size fpr at) (λ row. both (is_so (may_stand q.target used (demand_of q size) row)) (is_so (same_fpr row.edge.issuer fpr))) (rows_into q.told at)))
+      (λ at. both (led_so size at)
+      (find (Leads size fpr at)
+      (λ row. both (is_so (may_stand q.target used (demand_of q size) row))
+      (is_so (same_fpr row.edge.issuer fpr))) (rows_into q.told at)))
       (keys_of q.told))
 
   -- a shortest trail from there has so many steps
@@ -280,15 +329,18 @@ module _ (q : Question) (used : Use) where
   nearest zero fpr = inr (λ other some few l. omega (arith, some, few))
   nearest (suc most) fpr = by (nearest most fpr) (led_so (suc most) fpr)
     where
-      by : Nearest most fpr ⊎ NoneNear most fpr → Dec (Led (suc most) fpr) → Nearest (suc most) fpr ⊎ NoneNear (suc most) fpr
-      by (inl n) d = let few = n.few in inl (record { size = n.size; some = n.some; few = omega (arith, few); short = n.short })
+      by : Nearest most fpr ⊎ NoneNear most fpr → Dec (Led (suc most) fpr)
+          → Nearest (suc most) fpr ⊎ NoneNear (suc most) fpr
+      by (inl n) d =
+          let few = n.few in inl (record { size = n.size; some = n.some; few = omega (arith, few); short = n.short })
       by (inr never) (inl l) = inl (record {
         size = suc most;
         some = omega arith;
         few = omega arith;
         short = record {
           led = l;
-          least = λ other some o. elim (cases_lt other (suc most)) [ inl lt ↦ absurd (never other some (omega (arith, lt)) o) | inr le ↦ le ];
+          least = λ other some o. elim (cases_lt other (suc most))
+              [ inl lt ↦ absurd (never other some (omega (arith, lt)) o) | inr le ↦ le ];
         };
       })
       by (inr never) (inr m) = inr (λ other some few o. elim (cases_lt other (suc most)) [
@@ -303,40 +355,48 @@ module _ (q : Question) (used : Use) where
     table : Labels
     good : IsTable table
     only : (fpr : Fpr) (label : ℕ) → label_at table fpr ≡ Some label → Shortest label fpr
-    each : (fpr : Fpr) (size : ℕ) → Has of fpr → 1 ≤ size → size ≤ 255 → Led size fpr → IsWithin size (label_at table fpr)
+    each : (fpr : Fpr) (size : ℕ) → Has of fpr → 1 ≤ size → size ≤ 255 → Led size fpr
+        → IsWithin size (label_at table fpr)
 
   built_more : (fpr : Fpr) (of : List Fpr) → Nearest 255 fpr → Built of → Built (fpr ∷ of)
   built_more fpr of n b = record {
     table = insert_entry fpr_cmp b.table fpr n.size;
     good = table_insert b.table fpr n.size b.good n.some n.few;
-    only = λ other label e. only other label (same_fpr other fpr) refl (sym (label_insert b.table fpr n.size other) ∙ e);
+    only = λ other label e. only other label (same_fpr other fpr) refl
+        (sym (label_insert b.table fpr n.size other) ∙ e);
     each = λ other size h some few l.
-        subst (IsWithin size) (sym (label_insert b.table fpr n.size other)) (each other size (same_fpr other fpr) refl h some few l);
+        subst (IsWithin size) (sym (label_insert b.table fpr n.size other))
+        (each other size (same_fpr other fpr) refl h some few l);
   }
     where
-      only : (other : Fpr) (label : ℕ) (s : Bool) → same_fpr other fpr ≡ s → cond s (Some n.size) (label_at b.table other) ≡ Some label → Shortest label other
+      only : (other : Fpr) (label : ℕ) (s : Bool) → same_fpr other fpr ≡ s
+          → cond s (Some n.size) (label_at b.table other) ≡ Some label → Shortest label other
       only other label true same e =
           let size : n.size ≡ label = cc in
           subst (Shortest label) (sym (same_fpr-true other fpr same)) (subst (λ (m : ℕ). Shortest m fpr) size n.short)
       only other label false apart e = b.only other label e
 
-      each : (other : Fpr) (size : ℕ) (s : Bool) → same_fpr other fpr ≡ s → Has (fpr ∷ of) other → 1 ≤ size → size ≤ 255 → Led size other
+      each : (other : Fpr) (size : ℕ) (s : Bool) → same_fpr other fpr ≡ s → Has (fpr ∷ of) other → 1 ≤ size → size ≤ 255
+          → Led size other
           → IsWithin size (cond s (Some n.size) (label_at b.table other))
-      each other size true same h some few l = n.short.least size some (subst (Led size) (same_fpr-true other fpr same) l)
+      each other size true same h some few l =
+          n.short.least size some (subst (Led size) (same_fpr-true other fpr same) l)
       each other size false apart (inl e) some few l =
           let same : same_fpr other fpr ≡ true = subst (λ (f : Fpr). same_fpr other f ≡ true) e (same_fpr-refl other) in
           absurd cc
       each other size false apart (inr h) some few l = b.each other size h some few l
 
   built : (of : List Fpr) → Built of
-  built [] = record { table = []; good = empty_table; only = λ fpr label e. absurd cc; each = λ fpr size h some few l. absurd h }
+  built [] = record
+      { table = []; good = empty_table; only = λ fpr label e. absurd cc; each = λ fpr size h some few l. absurd h }
   built (fpr ∷ of) = by (nearest 255 fpr) (built of)
     where
       by : Nearest 255 fpr ⊎ NoneNear 255 fpr → Built of → Built (fpr ∷ of)
       by (inl n) b = built_more fpr of n b
       by (inr never) b = record { table = b.table; good = b.good; only = b.only; each = each }
         where
-          each : (other : Fpr) (size : ℕ) → Has (fpr ∷ of) other → 1 ≤ size → size ≤ 255 → Led size other → IsWithin size (label_at b.table other)
+          each : (other : Fpr) (size : ℕ) → Has (fpr ∷ of) other → 1 ≤ size → size ≤ 255 → Led size other
+              → IsWithin size (label_at b.table other)
           each other size (inl e) some few l = absurd (never size some few (subst (Led size) e l))
           each other size (inr h) some few l = b.each other size h some few l
 
@@ -347,7 +407,8 @@ module _ (q : Question) (used : Use) where
   abbrev all_issuers : List Fpr
   all_issuers = flat_map issuers_into (keys_of q.told)
 
-  issuer_there : (rows : List Row) (row : Row) → Has rows row → Has (map (λ (r : Row). r.edge.issuer) rows) row.edge.issuer
+  issuer_there : (rows : List Row) (row : Row) → Has rows row
+      → Has (map (λ (r : Row). r.edge.issuer) rows) row.edge.issuer
   issuer_there [] row h = absurd h
   issuer_there (x ∷ rows) row (inl e) = inl (ap (λ (r : Row). r.edge.issuer) e)
   issuer_there (x ∷ rows) row (inr h) = inr (issuer_there rows row h)
@@ -361,7 +422,8 @@ module _ (q : Question) (used : Use) where
   has_right [] b x h = h
   has_right (y ∷ a) b x h = inr (has_right a b x h)
 
-  issuer_among : (keys : List Fpr) (at : Fpr) (row : Row) → Has keys at → Has (rows_into q.told at) row → Has (flat_map issuers_into keys) row.edge.issuer
+  issuer_among : (keys : List Fpr) (at : Fpr) (row : Row) → Has keys at → Has (rows_into q.told at) row
+      → Has (flat_map issuers_into keys) row.edge.issuer
   issuer_among [] at row h r = absurd h
   issuer_among (k ∷ keys) at row (inl e) r =
       has_left (issuers_into k) (flat_map issuers_into keys) row.edge.issuer
@@ -372,11 +434,14 @@ module _ (q : Question) (used : Use) where
   module _ (b : Built all_issuers) where
     covers_led : (size : ℕ) (at : Fpr) → size < 255 → Led size at → Covers q used size b.table at
     covers_led size at lt l row h = within_covered q.target used (demand_of q size) (size + 1) b.table row (λ s.
-        b.each row.edge.issuer (size + 1) (issuer_among (keys_of q.told) at row (row_key q.told at row h) h) (omega arith) (omega (arith, lt))
+        b.each row.edge.issuer (size + 1) (issuer_among (keys_of q.told) at row (row_key q.told at row h) h)
+        (omega arith) (omega (arith, lt))
         (subst (λ (n : ℕ). Led n row.edge.issuer) (omega arith) (led_on size at row h l s)))
 
     some_label : (fpr : Fpr) (label : ℕ) → label_at b.table fpr ≡ Some label → (1 ≤ label) × (label ≤ 255)
-    some_label fpr label e = let small = label_small b.table b.good.labels fpr label e in (let some = small.0 in omega (arith, some), small.1)
+    some_label fpr label e =
+        let small = label_small b.table b.good.labels fpr label e in
+        (let some = small.0 in omega (arith, some), small.1)
 
     built_least : IsLeast q used b.table
     built_least = record {
@@ -384,20 +449,24 @@ module _ (q : Question) (used : Use) where
         last = covers_last q used b.table (λ fpr label e. (some_label fpr label e).0)
             (covers_led 0 q.target (omega arith) (record { steps = []; trail = tt; long = refl; there = refl }));
         others = λ at label row e lt m.
-            covers_at q used b.table at label (some_label at label e).0 (covers_led label at lt (b.only at label e).led) row m;
+            covers_at q used b.table at label (some_label at label e).0 (covers_led label at lt (b.only at label e).led)
+            row m;
       };
       least = λ other good c fpr label e.
           let l = (b.only fpr label e).led in
           let small = some_label fpr label e in
           let long = l.long in
-          let w = trail_within q used other c l.steps l.trail (omega (arith, long, small.0)) (omega (arith, long, small.1)) in
-          subst (λ (n : ℕ). IsWithin n (label_at other fpr)) long (subst (λ (f : Fpr). IsWithin (length l.steps) (label_at other f)) l.there w);
+          let w = trail_within q used other c l.steps l.trail (omega (arith, long, small.0))
+          (omega (arith, long, small.1)) in
+          subst (λ (n : ℕ). IsWithin n (label_at other fpr)) long
+          (subst (λ (f : Fpr). IsWithin (length l.steps) (label_at other f)) l.there w);
     }
 
     -- ---- its trails
 
     -- a step may stand before fewer
-    stands_before : (other : ℕ) (step : Step) (rest : List Step) (s : Stands q step rest) → 0 < step_left used step → 1 ≤ other → other < length rest
+    stands_before : (other : ℕ) (step : Step) (rest : List Step) (s : Stands q step rest) → 0 < step_left used step
+        → 1 ≤ other → other < length rest
         → may_stand q.target used (demand_of q other) s.row ≡ true
     stands_before zero step rest s left some lt = absurd (omega (arith, some))
     stands_before (suc n) step [] s left some lt = absurd (omega (arith, lt))
@@ -406,11 +475,13 @@ module _ (q : Question) (used : Use) where
         let depth = r.0 in
         let positive = subst (λ (y : Step). 0 < step_left used y) (sym s.shown) left in
         subst (λ (d : Demand). may_stand q.target used d s.row ≡ true) (sym (demand_some q n))
-        (before_whole q.target used s.row (suc n) (omega (arith, depth, lt)) r.1 r.2 (record { usable = s.usable; left = positive }))
+        (before_whole q.target used s.row (suc n) (omega (arith, depth, lt)) r.1 r.2
+        (record { usable = s.usable; left = positive }))
 
     -- each issuer of a shortest trail has the number of steps from there as its label
     labelled : (steps : List Step) → Trail q used steps → length steps ≤ 255
-        → ((other : ℕ) → 1 ≤ other → Led other (start q.target steps) → length steps ≤ other) → Labelled q used b.table steps
+        → ((other : ℕ) → 1 ≤ other → Led other (start q.target steps) → length steps ≤ other)
+        → Labelled q used b.table steps
     labelled [] t few least = tt
     labelled (x ∷ rest) t few least = (label_is, t.0, t.1, labelled rest t.2 (omega (arith, few)) shorter)
       where
@@ -418,12 +489,16 @@ module _ (q : Question) (used : Use) where
         issuer = ap (λ (y : Step). y.issuer) t.0.shown
 
         among : Has all_issuers x.issuer
-        among = subst (Has all_issuers) issuer (issuer_among (keys_of q.told) (start q.target rest) t.0.row (row_key q.told (start q.target rest) t.0.row t.0.into) t.0.into)
+        among = subst (Has all_issuers) issuer
+            (issuer_among (keys_of q.told) (start q.target rest) t.0.row
+            (row_key q.told (start q.target rest) t.0.row t.0.into) t.0.into)
 
         label_is : label_at b.table x.issuer ≡ Some (length (x ∷ rest))
         label_is =
-            let led : Led (suc (length rest)) x.issuer = record { steps = x ∷ rest; trail = t; long = refl; there = refl } in
-            let w = within_some (suc (length rest)) (label_at b.table x.issuer) (b.each x.issuer (suc (length rest)) among (omega arith) (omega (arith, few)) led) in
+            let led : Led (suc (length rest)) x.issuer =
+            record { steps = x ∷ rest; trail = t; long = refl; there = refl } in
+            let w = within_some (suc (length rest)) (label_at b.table x.issuer)
+            (b.each x.issuer (suc (length rest)) among (omega arith) (omega (arith, few)) led) in
             let le = least w.0 (some_label x.issuer w.0 w.1).0 (b.only x.issuer w.0 w.1).led in
             let most = w.2 in
             w.1 ∙ ap Some (omega (arith, most, le))
@@ -431,7 +506,8 @@ module _ (q : Question) (used : Use) where
         shorter : (other : ℕ) → 1 ≤ other → Led other (start q.target rest) → length rest ≤ other
         shorter other some l = elim (cases_lt other (length rest)) [
           | inl lt ↦
-              let on = led_on other (start q.target rest) t.0.row t.0.into l (stands_before other x rest t.0 t.1 some lt) in
+              let on = led_on other (start q.target rest) t.0.row t.0.into l
+              (stands_before other x rest t.0 t.1 some lt) in
               let le = least (suc other) (omega arith) (subst (Led (suc other)) issuer on) in
               omega (arith, lt, le)
           | inr le ↦ le
@@ -446,7 +522,8 @@ module _ (q : Question) (used : Use) where
             let small = some_label fpr label e in
             let long = s.led.long in
             let least : (other : ℕ) → 1 ≤ other → Led other (start q.target s.led.steps) → length s.led.steps ≤ other =
-            λ other some l. (let le = s.least other some (subst (Led other) s.led.there l) in omega (arith, le, long)) in
+            λ other some l.
+            (let le = s.least other some (subst (Led other) s.led.there l) in omega (arith, le, long)) in
             record {
               leads = record {
                 steps = s.led.steps;
@@ -462,20 +539,24 @@ module _ (q : Question) (used : Use) where
     roots_spent : is_in_order q ≡ true → IsSpent q used → RootsSpent q used b.table
     roots_spent ok spent fpr label e = elim (cases_lt 0 (root_left q used fpr)) [
       | inl left ↦
-          let path = rooted_left q used b.table ok settled (record { fpr = fpr; label = label; labelled = e; left = left }) in
+          let path = rooted_left q used b.table ok settled
+          (record { fpr = fpr; label = label; labelled = e; left = left }) in
           absurd (spent path.0 path.1)
       | inr le ↦ omega (arith, le)
     ]
 
   -- THE LEAST TABLE SHOWS THAT NOTHING IS LEFT, where nothing is.
-  pub least_shows : (table : Labels) → IsTable table → IsLeastTable q used table → IsSpent q used → IsAbsence q used table
+  pub least_shows : (table : Labels) → IsTable table → IsLeastTable q used table → IsSpent q used
+      → IsAbsence q used table
   least_shows table good least spent = by (is_in_order q) refl
     where
       shows : is_in_order q ≡ true → (b : Built all_issuers) → IsLeast q used table → IsAbsence q used table
       shows ok b l =
           let other = built_least b in
           let same : b.table ≡ table =
-          tables_same b.table table b.good good (λ fpr. same_labels (label_at b.table fpr) (label_at table fpr) (other.least table good l.closes fpr) (l.least b.table b.good other.closes fpr)) in
+          tables_same b.table table b.good good
+          (λ fpr. same_labels (label_at b.table fpr) (label_at table fpr) (other.least table good l.closes fpr)
+          (l.least b.table b.good other.closes fpr)) in
           inr (record { closes = l.closes; roots = subst (RootsSpent q used) same (roots_spent b ok spent) })
 
       by : (o : Bool) → is_in_order q ≡ o → IsAbsence q used table
@@ -494,7 +575,8 @@ module _ (q : Question) (used : Use) where
       by true = of_built (built all_issuers)
 
 -- What is told of an answer that missed is accepted.
-pub least_accepted : (q : Question) (wanted : ℕ) (paths : List Path) (table : Labels) → IsTable table → IsAnswer q wanted paths → amount_of paths < wanted
+pub least_accepted : (q : Question) (wanted : ℕ) (paths : List Path) (table : Labels) → IsTable table
+    → IsAnswer q wanted paths → amount_of paths < wanted
     → IsLeastTable q (use_of paths) table → Accepts q (map claim_of paths) table
 least_accepted q wanted paths table good answer lt least =
     (paths, each_next_shows q [] paths answer.each, least_shows q (use_of paths) table good least spent)

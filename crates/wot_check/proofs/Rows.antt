@@ -4,7 +4,8 @@ use Rattle.wot_types.specs.declared.fpr.Fpr.{Fpr}
 use Rattle.wot_edge.specs.declared.edge.EdgeFacts.{EdgeFacts}
 use Rattle.wot_edge.specs.Record.{Record, Row, Has, IsRecord, rows_into, edges_into}
 
-pub row_there : (told : Record) (fpr : Fpr) (edge : EdgeFacts) → Has (edges_into told fpr) edge → (row : Row) × Has (rows_into told fpr) row × (row.edge ≡ edge)
+pub row_there : (told : Record) (fpr : Fpr) (edge : EdgeFacts) → Has (edges_into told fpr) edge
+    → (row : Row) × Has (rows_into told fpr) row × (row.edge ≡ edge)
 row_there told fpr edge h = by (rows_into told fpr) h
   where
     by : (rows : List Row) → Has (map (λ row. row.edge) rows) edge → (row : Row) × Has rows row × (row.edge ≡ edge)
@@ -12,7 +13,8 @@ row_there told fpr edge h = by (rows_into told fpr) h
     by (x ∷ rows) (inl e) = (x, inl refl, sym e)
     by (x ∷ rows) (inr h) = let r = by rows h in (r.0, inr r.1, r.2)
 
-pub row_edge : (told : Record) (fpr : Fpr) (row : Row) → Has (rows_into told fpr) row → Has (edges_into told fpr) row.edge
+pub row_edge : (told : Record) (fpr : Fpr) (row : Row) → Has (rows_into told fpr) row
+    → Has (edges_into told fpr) row.edge
 row_edge told fpr row h = by (rows_into told fpr) h
   where
     by : (rows : List Row) → Has rows row → Has (map (λ r. r.edge) rows) row.edge
@@ -27,10 +29,12 @@ Within {X} rest all = (x : X) → Has rest x → Has all x
 pub within_first : {X : Type 0} (rest all later : List X) (x : X) → rest ≡ x ∷ later → Within rest all → Has all x
 within_first {X} rest all later x e w = w x (subst (λ (xs : List X). Has xs x) (sym e) (inl refl))
 
-pub within_later : {X : Type 0} (rest all later : List X) (x : X) → rest ≡ x ∷ later → Within rest all → Within later all
+pub within_later : {X : Type 0} (rest all later : List X) (x : X) → rest ≡ x ∷ later → Within rest all
+    → Within later all
 within_later {X} rest all later x e w y h = w y (subst (λ (xs : List X). Has xs y) (sym e) (inr h))
 
-pub first_or_later : {X : Type 0} (rest later : List X) (x y : X) → rest ≡ x ∷ later → Has rest y → (y ≡ x) ⊎ Has later y
+pub first_or_later : {X : Type 0} (rest later : List X) (x y : X) → rest ≡ x ∷ later → Has rest y
+    → (y ≡ x) ⊎ Has later y
 first_or_later {X} rest later x y e h = subst (λ (xs : List X). Has xs y) e h
 
 pub none_left : {X : Type 0} (rest : List X) (x : X) → length rest ≡ 0 → Has rest x → ⊥
@@ -43,15 +47,18 @@ none_left (y ∷ rest) x e h = omega (arith, e)
 abbrev pub AreInto : (List ℕ → Record) → Fpr → List EdgeFacts → Type 0
 AreInto told at edges = (id : List ℕ) → Within edges (edges_into (told id) at)
 
-pub all_into : (told : List ℕ → Record) (at : Fpr) (edges : List EdgeFacts) → ((id : List ℕ) → edges ≡ edges_into (told id) at) → AreInto told at edges
+pub all_into : (told : List ℕ → Record) (at : Fpr) (edges : List EdgeFacts)
+    → ((id : List ℕ) → edges ≡ edges_into (told id) at) → AreInto told at edges
 all_into told at edges e id x h = subst (λ (xs : List EdgeFacts). Has xs x) (e id) h
 
 module _ (told : List ℕ → Record) (good : (id : List ℕ) → IsRecord (told id)) (at : Fpr) where
-  pub into_target : (edge : EdgeFacts) → ((id : List ℕ) → Has (edges_into (told id) at) edge) → (id : List ℕ) → edge.target ≡ at
+  pub into_target : (edge : EdgeFacts) → ((id : List ℕ) → Has (edges_into (told id) at) edge) → (id : List ℕ)
+      → edge.target ≡ at
   into_target edge h id =
       let r = row_there (told id) at edge (h id) in
       ap (λ (x : EdgeFacts). x.target) (sym r.2) ∙ (good id).into at r.0 r.1
 
   -- an edge into it is one of those into its target
-  pub into_own : (edge : EdgeFacts) → ((id : List ℕ) → Has (edges_into (told id) at) edge) → (id : List ℕ) → Has (edges_into (told id) edge.target) edge
+  pub into_own : (edge : EdgeFacts) → ((id : List ℕ) → Has (edges_into (told id) at) edge) → (id : List ℕ)
+      → Has (edges_into (told id) edge.target) edge
   into_own edge h id = subst (λ (f : Fpr). Has (edges_into (told id) f) edge) (sym (into_target edge h id)) (h id)

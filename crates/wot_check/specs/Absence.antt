@@ -1,5 +1,5 @@
--- Tables of absence: labels that show, edge by edge, that no valid path of positive amount is left. A label says how
--- many edges lead at least from there to the target, as far as depth, scope and what is left of the edges go.
+-- Proofs of absence: labels that show, edge by edge, that no valid path of positive amount is left. A label is the
+-- least number of edges from there to the target, as far as depth, scope and residual amounts go.
 use Rattle.std.specs.Prelude.{◌≡◌, ◌≢◌, ◌⊎◌, ◌↔◌, ℕ, ◌+◌, ◌<◌, ◌≤◌, Bool, true, false, List, [], map}
 use Rattle.std.specs.Prelude.{Option, Some, None, Result, IfOk}
 use Rattle.wot_types.specs.declared.fpr.Fpr.{Fpr}
@@ -14,7 +14,7 @@ use Rattle.wot_check.specs.declared.checking.Checked.TheVariants.{Yes, BadPaths,
 use Rattle.wot_check.specs.Claim.{Claim, AreGood, EachShows, claim_of}
 use Rattle.wot_check.specs.Table.{Labels, label_at, IsWithin, IsTable}
 
--- a usable edge into a fingerprint, of which something is left
+-- a usable edge into a fingerprint with a positive residual amount
 pub record Carries (q : Question) (used : Use) (at : Fpr) (row : Row) : Type 0 where
   pub into : Has (rows_into q.told at) row
   pub usable : row.usable ≡ true
@@ -39,7 +39,7 @@ OthersLabelled q used table =
     (at : Fpr) (label : ℕ) (row : Row) → label_at table at ≡ Some label → label < 255 → MayPrecede q used at label row
     → IsWithin (label + 1) (label_at table row.edge.issuer)
 
--- the third point: of no labelled fingerprint anything is left as a root
+-- the third point: no labelled fingerprint is a root with a residual amount
 abbrev pub RootsSpent : Question → Use → Labels → Type 0
 RootsSpent q used table = (fpr : Fpr) (label : ℕ) → label_at table fpr ≡ Some label → root_left q used fpr ≡ 0
 
@@ -56,14 +56,14 @@ pub record Excludes (q : Question) (used : Use) (table : Labels) : Type 0 where
 abbrev pub is_in_order : Question → Bool
 is_in_order q = (entry_at q.told q.target).in_order
 
--- A TABLE OF ABSENCE after what is used: the target isn't in order for U, or the three points hold.
+-- A proof of absence after what is used: the target isn't valid for U, or the three points hold.
 abbrev pub IsAbsence : Question → Use → Labels → Type 0
 IsAbsence q used table = (is_in_order q ≡ false) ⊎ Excludes q used table
 
 -- ---- the least table
 
--- It meets the first two points, and each of its labels is in each table that meets them, there with the same number or
--- a smaller one.
+-- It meets the first two points, and each table that meets them has each of its labels, with an equal or smaller
+-- number.
 pub record IsLeast (q : Question) (used : Use) (table : Labels) : Type 0 where
   pub closes : Closes q used table
   pub least : (other : Labels) → IsTable other → Closes q used other
@@ -73,7 +73,7 @@ abbrev pub LeastBy : Bool → Question → Use → Labels → Type 0
 LeastBy false q used table = table ≡ []
 LeastBy true q used table = IsLeast q used table
 
--- THE LEAST TABLE after what is used: empty where the target isn't in order for U.
+-- The least table after what is used: empty if the target isn't valid for U.
 abbrev pub IsLeastTable : Question → Use → Labels → Type 0
 IsLeastTable q used table = LeastBy (is_in_order q) q used table
 
@@ -83,18 +83,18 @@ IsLeastTable q used table = LeastBy (is_in_order q) q used table
 abbrev pub IsLeft : Question → Use → Type 0
 IsLeft q used = (steps : List Step) × IsOpen q used steps
 
--- the least table, and nothing is left; or no table, and something is left
+-- the least table, and no path is left; or no table, and a path is left
 abbrev pub IsMade : Question → Use → Option Labels → Type 0
 IsMade q used None = IsLeft q used
 IsMade q used (Some table) = IsTable table × IsLeastTable q used table × IsSpent q used
 
 -- ---- what is checked
 
--- the claims are good, and the table is one of absence after their paths
+-- the claims are right, and the table proves absence after their paths
 abbrev pub Accepts : Question → List Claim → Labels → Type 0
 Accepts q claims table = (paths : List Path) × EachShows q [] claims paths × IsAbsence q (use_of paths) table
 
--- the claims are good, and the table is none of absence after their paths
+-- the claims are right, and the table doesn't prove absence after their paths
 abbrev pub Rejects : Question → List Claim → Labels → Type 0
 Rejects q claims table = (paths : List Path) × EachShows q [] claims paths × (IsAbsence q (use_of paths) table → ⊥)
 
@@ -102,17 +102,17 @@ Rejects q claims table = (paths : List Path) × EachShows q [] claims paths × (
 abbrev pub AreSpent : Question → List Claim → Type 0
 AreSpent q claims = (paths : List Path) → EachShows q [] claims paths → IsSpent q (use_of paths)
 
--- what each answer of a check comes to
+-- what each result of a check means
 abbrev pub IsChecked : Question → List Claim → Labels → Checked → Type 0
 IsChecked q claims table Yes = Accepts q claims table
 IsChecked q claims table BadPaths = AreGood q claims → ⊥
 IsChecked q claims table BadTable = Rejects q claims table
 
--- if there is an answer of a check, it is this one exactly where a fact holds
+-- if a check has a result, it is this one if and only if a fact holds
 abbrev pub SaysIff : Result Checked Memory → Checked → Type 0 → Type 0
 SaysIff result answer fact = IfOk result (λ checked. (checked ≡ answer) ↔ fact)
 
--- some answer is right; and two right ones are the same
+-- there is a right result; and two right ones are equal
 abbrev pub HasAnswer : Question → List Claim → Labels → Type 0
 HasAnswer q claims table = (checked : Checked) × IsChecked q claims table checked
 
@@ -124,15 +124,15 @@ abbrev pub IsAccepted : Question → List Path → Option Labels → Type 0
 IsAccepted q paths None = ⊥
 IsAccepted q paths (Some table) = Accepts q (map claim_of paths) table
 
--- what is so where paths are an answer that missed its wanted amount
+-- what holds if paths are an answer that misses its wanted amount
 abbrev pub IfMissed : Question → ℕ → List Path → Type 0 → Type 0
 IfMissed q wanted paths fact = IsAnswer q wanted paths → amount_of paths < wanted → fact
 
--- what is told of an answer that missed, its paths and the least table after them, is accepted
+-- the paths of an answer that misses, and the least table after them, are accepted
 abbrev pub AcceptsLeast : Question → ℕ → List Path → Labels → Type 0
 AcceptsLeast q wanted paths table =
     IfMissed q wanted paths (IsLeastTable q (use_of paths) table → Accepts q (map claim_of paths) table)
 
--- what was made is accepted, where the paths are an answer that missed
+-- what was made is accepted, if the paths are an answer that misses
 abbrev pub AcceptsMissed : Question → List Path → Option Labels → Type 0
 AcceptsMissed q paths made = (wanted : ℕ) → IfMissed q wanted paths (IsAccepted q paths made)

@@ -8,22 +8,22 @@ use Rattle.wot_edge.specs.Path.{Question, Use, asks, path_amount}
 use Rattle.wot_edge.specs.Sums.{use_in}
 use Rattle.wot_check.specs.declared.asked.Asked.{Asked}
 
--- the program's question, by what the roads tell
+-- the program's question, given what the network says
 abbrev pub question_of : (List ℕ → Record) → Asked → Question
 question_of told asked = asks (told asked.uid.now) asked.roots.now asked.target.now
 
 abbrev pub used_in : Asked → Use
 used_in asked = use_in asked.used.now
 
--- what is so of the program's question and of what is used
+-- what holds for the program's question and what is used
 abbrev pub Asking : (List ℕ → Record) → Asked → (Question → Use → Type 0) → Type 0
 Asking told asked fact = fact (question_of told asked) (used_in asked)
 
--- what is so of each row of an edge, of the target and of what is used
+-- what holds for each row of an edge, the target and what is used
 abbrev pub EachAsked : (List ℕ → Record) → Asked → EdgeFacts → (Fpr → Use → Row → Type 0) → Type 0
 EachAsked told asked edge fact = EachRow (told asked.uid.now) edge (fact asked.target.now (used_in asked))
 
--- a test of each row of an edge comes to this
+-- a test of each row of an edge has this result
 abbrev pub TellsEach : (List ℕ → Record) → Asked → EdgeFacts → (Fpr → Use → Row → Bool) → Bool → Type 0
 TellsEach told asked edge test comes = EachAsked told asked edge (λ target used row. test target used row ≡ comes)
 

@@ -1,4 +1,4 @@
--- What is demanded of an edge into a fingerprint from which so many edges lead to the target.
+-- What is demanded of an edge into a fingerprint that is this many edges from the target.
 use Rattle.std.specs.Prelude.{◌≡◌, ℕ, ◌+◌, ◌<◌, nat_le, nat_lt, nat_eq, ◌&&◌, ◌||◌, not, Bool, true, false, Option}
 use Rattle.std.specs.Prelude.{Some, None, cond}
 use Rattle.wot_types.specs.declared.fpr.Fpr.{Fpr}
@@ -18,7 +18,7 @@ abbrev pub is_met : Fpr → Demand → EdgeFacts → Bool
 is_met target (On place) edge = is_place place edge.uid
 is_met target (Before size) edge = nat_le size edge.depth && not (same_fpr edge.issuer target)
 
--- the demand before so many edges
+-- the demand before this many edges
 abbrev pub demand_of : Question → ℕ → Demand
 demand_of q size = cond (nat_eq size 0) (On (entry_at q.told q.target).place) (Before size)
 
@@ -27,21 +27,21 @@ abbrev pub is_in_scope : Demand → Row → Bool
 is_in_scope (On place) row = true
 is_in_scope (Before size) row = row.scope
 
--- the edge meets the demand, and something is left of it
+-- the edge meets the demand, and has a positive residual amount
 abbrev pub promises : Fpr → Use → Demand → EdgeFacts → Bool
 promises target used demand edge = is_met target demand edge && nat_lt 0 (step_left used (step_of edge))
 
--- an edge may stand there
+-- an edge may come there
 abbrev pub may_stand : Fpr → Use → Demand → Row → Bool
 may_stand target used demand row = promises target used demand row.edge && (row.usable && is_in_scope demand row)
 
--- ---- what a table owes to an edge
+-- ---- what a table has to have for an edge
 
 abbrev pub is_within : ℕ → Option ℕ → Bool
 is_within most None = false
 is_within most (Some label) = nat_le label most
 
--- the issuer has a label of at most so much, or the edge may not stand there
+-- the issuer has a label of at most this, or the edge may not come there
 abbrev pub is_covered : Fpr → Use → Demand → ℕ → Labels → Row → Bool
 is_covered target used demand most table row =
     is_within most (label_at table row.edge.issuer) || not (may_stand target used demand row)
@@ -50,12 +50,12 @@ is_covered target used demand most table row =
 abbrev pub is_covered_by : Demand → ℕ → Labels → Fpr → Use → Row → Bool
 is_covered_by demand most table target used row = is_covered target used demand most table row
 
--- so is each edge into a fingerprint from which so many edges lead to the target
+-- that holds for each edge into a fingerprint that is this many edges from the target
 abbrev pub Covers : Question → Use → ℕ → Labels → Fpr → Type 0
 Covers q used size table at =
     (row : Row) → Has (rows_into q.told at) row
     → is_covered q.target used (demand_of q size) (size + 1) table row ≡ true
 
--- nothing is asked of the greatest label
+-- the greatest label demands nothing
 abbrev pub CoversBelow : ℕ → Labels → Fpr → Question → Use → Type 0
 CoversBelow label table at q used = label < 255 → Covers q used label table at

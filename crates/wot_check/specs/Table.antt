@@ -14,12 +14,12 @@ Labels = List (Fpr × ℕ)
 abbrev pub label_at : Labels → Fpr → Option ℕ
 label_at table fpr = lookup (is_at (fpr_cmp fpr)) table
 
--- this is the label of this fingerprint now; all others have what they had
+-- this is now the label of this fingerprint; all others are unchanged
 abbrev pub GivesLabel : Labels → Labels → Fpr → ℕ → Type 0
 GivesLabel old new fpr label =
     (other : Fpr) → label_at new other ≡ (if same_fpr fpr other then Some label else label_at old other)
 
--- a label is there, and at most so much
+-- there is a label, and it is at most this
 abbrev pub IsWithin : ℕ → Option ℕ → Type 0
 IsWithin most None = ⊥
 IsWithin most (Some label) = label ≤ most
@@ -28,7 +28,7 @@ IsWithin most (Some label) = label ≤ most
 abbrev pub AreLabels : Labels → Type 0
 AreLabels table = AllByRecursion (λ entry. (0 < entry.1) × (entry.1 ≤ 255)) table
 
--- what every value of `Table` is
+-- the invariant of `Table`
 pub record IsTable (table : Labels) : Type 0 where
   pub order : IsStrictlySortedBy fpr_cmp (keys_of table)
   pub labels : AreLabels table

@@ -19,7 +19,7 @@ abbrev pub begin_of : Fpr → List ClaimedStep → Fpr
 begin_of target [] = target
 begin_of target (item ∷ later) = item.issuer
 
--- a claimed step is this one, which may stand before the later ones
+-- a claimed step is this one, which may come before the later ones
 pub record Follows (q : Question) (used : Use) (item : ClaimedStep) (later : List ClaimedStep)
     (step : Step) : Type 0 where
   pub row : Row

@@ -1,3 +1,7 @@
+//! `check`: claimed paths and a table are right or not.
+//!
+//! It stands on `show` for the paths and on `points` for the table, and on `specs/Absence.antt`. It looks at nothing
+//! but the network and the roots, so a reply to `check` doesn't depend on how a path was found.
 ghost use Rattle.std.specs.Prelude.{◌≡◌, ◌<◌, ◌^◌, length, IfOk};
 ghost use Rattle.wot_edge.specs.Path.{asks};
 ghost use Rattle.wot_edge.specs.Record.{IsRecord};
@@ -14,15 +18,15 @@ use std::alloc::Global;
 use wot_edge::{Roads, Roots};
 use wot_types::{Fpr, Memory};
 
-/// What a check of claimed paths and of a table comes to.
+/// The result of checking claimed paths and a table.
 #[derive(Clone, Copy, PartialEq, Eq)]
 pub enum Checked {
-    /// The paths are valid, each with the amount that those before it left, and the table shows
-    /// that no more is left after them.
+    /// The paths are valid, each with its residual amount after those before it, and the table shows that no path is
+    /// left after them.
     Yes,
-    /// Some path isn't valid, or has another amount.
+    /// A path isn't valid, or has another amount.
     BadPaths,
-    /// The paths are good, and the table doesn't show it.
+    /// The paths are right, but the table doesn't show that.
     BadTable,
 }
 
@@ -64,7 +68,7 @@ fn judge<R: Roads>(
     }
 }
 
-/// Checks claimed paths, and a table of absence after them. Both rest on the roads and roots alone:
+/// Checks claimed paths, and a table that proves absence after them. Only the network and the roots are looked at;
 /// nothing is searched.
 pub fn check<R: Roads>(
     alloc: Global,
@@ -85,7 +89,7 @@ pub fn check<R: Roads>(
     ensures bad_table { SaysIff result answers.BadTable
         (Rejects (asks (R.told roads.now uid.now) roots.now target.now) paths.now table.now) }
 
-    // No valid path of positive amount is left after paths and a table that are accepted.
+    // After paths and a table that are accepted, no valid path of positive amount is left.
     ensures spent { IfOk result (λ checked. checked ≡ answers.Yes
         → AreSpent (asks (R.told roads.now uid.now) roots.now target.now) paths.now) }
 {

@@ -1,3 +1,7 @@
+//! Claimed paths: what a client says about a path, which may be false.
+//!
+//! `specs/Claim.antt` says when a claim is right. `wot_machine` makes them of the fields of `check`, and `absence`
+//! prints those of an answer.
 ghost use Rattle.std.specs.Prelude.{◌≡◌, ◌++◌, ◌∷◌, [], map, IfOk, OnOk, OnErr};
 ghost use Rattle.wot_check.specs.Claim.{claim_of, claimed_step};
 
@@ -6,16 +10,15 @@ use std::marker::Model;
 use wot_edge::{Path, Step};
 use wot_types::{Fpr, Memory};
 
-/// What is claimed of a step: who certifies, and the place of the user ID among the target's, in the
-/// order of their octets. The target is the issuer of the next step, and of the last one the target
-/// of the path.
+/// A claimed step: its issuer, and the place of the certified user ID among the target's, ordered by octets. The target
+/// is the issuer of the next step, or of the last step the target of the path.
 #[derive(Clone, Copy, PartialEq, Eq)]
 pub struct ClaimedStep {
     pub issuer: Fpr,
     pub place: u32,
 }
 
-/// A path as somebody claims it: its amount and its steps, from the root on.
+/// A claimed path: its amount and its steps, from the root on.
 #[derive(Drop)]
 pub struct Claimed {
     amount: u8,
@@ -31,7 +34,7 @@ impl Model for Claimed {
 }
 
 impl Claimed {
-    /// A claim of this amount, without steps yet.
+    /// A claim with this amount and no steps yet.
     pub fn new(alloc: Global, amount: u8) -> Claimed
         ensures amount { result.amount ≡ amount }
         ensures none { result.steps ≡ [] }
@@ -42,7 +45,7 @@ impl Claimed {
         }
     }
 
-    /// What is claimed of a path.
+    /// The claim that a path is.
     pub fn of(alloc: Global, path: &Path) -> Result<Claimed, Memory>
         ensures claim { IfOk result (λ made. made ≡ claim_of path.now) }
     {
@@ -53,7 +56,7 @@ impl Claimed {
         })
     }
 
-    /// One step more, at the end. After `Memory` the claim is as before.
+    /// Appends a step. After `Memory` the claim is unchanged.
     pub fn push(&mut self, issuer: Fpr, place: u32) -> Result<(), Memory>
         ensures pushed { OnOk result
             (self.new.steps ≡ self.old.steps ++ record { issuer = issuer; place = place } ∷ []) }
@@ -64,14 +67,14 @@ impl Claimed {
         Ok(())
     }
 
-    /// The amount that is claimed.
+    /// The claimed amount.
     pub fn amount(&self) -> u8
         ensures amount { result ≡ self.now.amount }
     {
         self.amount
     }
 
-    /// The steps that are claimed.
+    /// The claimed steps.
     pub fn steps(&self) -> &[ClaimedStep]
         ensures steps { result.now ≡ self.now.steps }
     {

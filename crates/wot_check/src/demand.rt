@@ -1,7 +1,9 @@
-ghost use Rattle.std.specs.Prelude.{◌≡◌, ◌≤◌, ℕ, List, IfOk};
+//! What is demanded of an edge at its place on a path: user ID, depth, scope, issuer, and residual amount.
+//!
+//! It stands on `left` and on `specs/Demand.antt`. It follows the definition of a valid path, and shares no code with
+//! the search.
+ghost use Rattle.std.specs.Prelude.{◌≡◌, ℕ, List, IfOk};
 ghost use Rattle.wot_edge.specs.Record.{EachRow, Has, edges_into};
-ghost use Rattle.wot_edge.specs.Path.{step_of, step_left};
-ghost use Rattle.wot_edge.specs.Sums.{use_in};
 ghost use Rattle.wot_check.specs.Asked.{TellsEach, question_of, used_in};
 ghost use Rattle.wot_check.specs.Demand.{is_place, is_met, demand_of, is_in_scope, promises, may_stand};
 
@@ -11,16 +13,15 @@ use crate::same::is_same;
 use wot_edge::{Edge, EdgeFacts, Roads};
 use wot_types::{Fpr, Memory};
 
-/// What is demanded of an edge: to be on the wanted user ID, by its place among the target's; or
-/// to have a depth of at least so many edges, a scope that holds, and an issuer other than the
-/// target.
+/// What is demanded of an edge: to be on the wanted user ID, by its place among the target's; or to have at least this
+/// depth, a scope that holds, and an issuer other than the target.
 #[derive(Clone, Copy)]
 pub enum Demand {
     On(Option<u32>),
     Before(u8),
 }
 
-/// What is demanded of edges that stand before so many others.
+/// What is demanded of edges with `size` edges after them.
 pub fn demanded<R: Roads>(roads: &R, asked: &Asked, size: u8) -> Demand
     ensures { result ≡ demand_of (question_of (R.told roads.now) asked.now) size }
 {
@@ -55,7 +56,7 @@ fn offers(asked: &Asked, demand: Demand, edge: &EdgeFacts) -> bool
     meets(asked.target, demand, edge) && left_of_step(asked.used, &step_from(edge)) > 0
 }
 
-/// Whether the scope of an edge holds, where it has to.
+/// Whether the scope of an edge holds if it has to.
 fn holds<R: Roads>(roads: &R, asked: &Asked, demand: Demand, edge: &Edge) -> Result<bool, Memory>
     requires row { (id : List ℕ) → Has (edges_into (R.told roads.now id) edge.now.target) edge.now }
     ensures { IfOk result (λ holds. EachRow (R.told roads.now asked.now.uid.now) edge.now
@@ -70,7 +71,7 @@ fn holds<R: Roads>(roads: &R, asked: &Asked, demand: Demand, edge: &Edge) -> Res
     }
 }
 
-/// Whether an edge meets a demand, is usable, and something is left of it.
+/// Whether an edge meets a demand, is usable, and has something left.
 pub fn stands<R: Roads>(
     roads: &R,
     asked: &Asked,

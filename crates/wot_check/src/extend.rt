@@ -1,4 +1,7 @@
-ghost use Rattle.std.specs.Prelude.{◌≡◌, ◌<◌, ◌+◌, ℕ, List, OnOk};
+//! One layer more of the least table: labels for the issuers of edges into the last layer.
+//!
+//! It stands on `demand` and `growth`, and on `specs/Growth.antt`. `making` calls `advance` until no label is added.
+ghost use Rattle.std.specs.Prelude.{◌<◌, ◌+◌, ℕ, List, OnOk};
 ghost use Rattle.wot_edge.specs.Record.{Has, edges_into};
 ghost use Rattle.wot_check.specs.Asked.{Asking, EachAsked};
 ghost use Rattle.wot_check.specs.Growth.{GivesIfNew, GoesOn, GrowsByLayer, GrowsInto};
@@ -11,7 +14,7 @@ use std::mem;
 use wot_edge::{Edge, Roads};
 use wot_types::{Fpr, Memory};
 
-/// Gives the issuer of an edge a label, if the edge may stand there and it has none yet.
+/// Labels the issuer of an edge, if the edge may come there and its issuer has no label yet.
 fn consider<R: Roads>(
     roads: &R,
     asked: &Asked,
@@ -35,7 +38,7 @@ fn consider<R: Roads>(
     Ok(())
 }
 
-/// Considers each edge into a fingerprint from which so many edges lead to the target.
+/// Considers the edges into a fingerprint that is `size` edges from the target.
 fn extend<R: Roads>(
     roads: &R,
     asked: &Asked,
@@ -56,7 +59,7 @@ fn extend<R: Roads>(
     Ok(())
 }
 
-/// Considers each edge into each fingerprint of a layer.
+/// Considers the edges into each fingerprint of a layer.
 fn extend_all<R: Roads>(
     roads: &R,
     asked: &Asked,
@@ -76,7 +79,7 @@ fn extend_all<R: Roads>(
     Ok(())
 }
 
-/// One layer more.
+/// Adds one layer.
 pub fn advance<R: Roads>(
     alloc: Global,
     roads: &R,

@@ -1,4 +1,5 @@
-//! Laws of the definitions. Each function does nothing: its contract is the law.
+//! Laws of proofs of absence. Each function does nothing: its contract is the law, and `wot_machine` cites it by a
+//! call. They stand on `specs/Absence.antt`.
 ghost use Rattle.std.specs.Prelude.{◌≡◌, ◌≤◌, ◌<◌, ◌^◌, ℕ, List, [], length};
 ghost use Rattle.wot_edge.specs.declared.path.Path.{Path};
 ghost use Rattle.wot_edge.specs.Answer.{EachNext};
@@ -12,20 +13,20 @@ ghost use Rattle.wot_check.specs.Table.{IsTable, Labels};
 
 use wot_edge::laws::paths_fit;
 
-/// After whatever is used there is a least table, and only one.
+/// Whatever is used, there is exactly one least table.
 pub fn least_table_is_one()
     ensures some { (q : Question) (used : Use) → (table : Labels) × IsTable table × IsLeastTable q used table }
     ensures one { (q : Question) (used : Use) (a b : Labels) → IsTable a → IsTable b
         → IsLeastTable q used a → IsLeastTable q used b → a ≡ b }
 {}
 
-/// What is told of an answer that missed its wanted amount, its paths and the least table after them, is accepted.
+/// If an answer misses its wanted amount, its paths and the least table after them are accepted.
 pub fn least_tables_are_accepted()
     ensures accepted { (q : Question) (wanted : ℕ) (paths : List Path) (table : Labels) → IsTable table
         → AcceptsLeast q wanted paths table }
 {}
 
-/// Each check of claims and a table comes to something, and only to one thing.
+/// Each check of claims and a table has exactly one result.
 pub fn check_is_one()
     ensures some { (q : Question) (claims : List Claim) (table : Labels) → IsTable table
         → HasAnswer q claims table }
@@ -33,8 +34,8 @@ pub fn check_is_one()
         → AreOne q claims table a b }
 {}
 
-/// The paths of an answer are fewer than `absence` and `check` take: each has an amount, and together they have no more
-/// than 64 roots of 255.
+/// The paths of an answer are fewer than `absence` and `check` accept: each has a positive amount, and together they
+/// have at most that of 64 roots of 255.
 pub fn answers_are_few()
     ensures few { (q : Question) (paths : List Path) → EachNext q [] paths → IsRoots q.roots → length q.roots ≤ 64
         → length paths < 2 ^ 24 }
@@ -42,7 +43,7 @@ pub fn answers_are_few()
     paths_fit();
 }
 
-/// After paths that are accepted with a table no valid path of positive amount is left.
+/// After paths that are accepted with a table, no valid path of positive amount is left.
 pub fn accepted_paths_leave_nothing()
     ensures spent { (q : Question) (claims : List Claim) (table : Labels) → IsRecord q.told → Accepts q claims table
         → AreSpent q claims }

@@ -1,5 +1,7 @@
-//! Tables of absence: why no more is left of a binding's amount, and a check of such a claim that
-//! trusts no search.
+//! Proofs of absence: why no further path is left for a binding, and a check of such a proof that trusts no search.
+//!
+//! It stands on `wot_edge` only, and shares no code with `wot_search`. `wot_machine` answers `absence` and `check` with
+//! it; `docs/PROFILE.md` says what a proof of absence is.
 #![tactic(auto)]
 
 mod asked;

@@ -1,3 +1,7 @@
+//! `absence`: the least table after the paths of an answer.
+//!
+//! It stands on `extend` and `points`, and on `specs/Absence.antt`. Its table is the one that the reply to `absence`
+//! prints.
 ghost use Rattle.std.specs.Prelude.{◌≡◌, ◌↔◌, ◌<◌, ◌^◌, [], ◌∷◌, None, length, IfOk};
 ghost use Rattle.wot_edge.specs.Path.{asks, use_of};
 ghost use Rattle.wot_check.specs.Absence.{AcceptsMissed, IsLeft, IsMade};
@@ -14,7 +18,7 @@ use std::alloc::Global;
 use wot_edge::{Path, Roads, Roots};
 use wot_types::{Fpr, Memory};
 
-/// Before the first layer: the target alone, and no labels.
+/// Before the first layer: only the target, and no labels.
 fn begin(alloc: Global, target: &Fpr) -> Result<Growth, Memory>
     ensures table { IfOk result (λ growth. growth.table ≡ []) }
     ensures layer { IfOk result (λ growth. growth.layer.items ≡ target.now ∷ []) }
@@ -27,8 +31,7 @@ fn begin(alloc: Global, target: &Fpr) -> Result<Growth, Memory>
     })
 }
 
-/// The labels of the least table: of each fingerprint, how many edges lead at least from there to
-/// the target.
+/// The labels of the least table: for each fingerprint, the least number of edges from there to the target.
 fn settle<R: Roads>(alloc: Global, roads: &R, asked: &Asked) -> Result<Table, Memory>
     ensures settled { IfOk result
         (λ table. IsSettled (question_of (R.told roads.now) asked.now) (used_in asked.now) table) }
@@ -43,8 +46,8 @@ fn settle<R: Roads>(alloc: Global, roads: &R, asked: &Asked) -> Result<Table, Me
     Ok(growth.table)
 }
 
-/// The least table of absence after these paths; `None` exactly where a valid path of positive
-/// amount is left after them. Where the target isn't in order for the user ID it is empty.
+/// Makes the least table that proves absence after these paths. `None` if and only if a valid path of positive amount
+/// is left after them. The table is empty if the key isn't a valid target for the user ID.
 pub fn absence<R: Roads>(
     alloc: Global,
     roads: &R,
@@ -54,13 +57,13 @@ pub fn absence<R: Roads>(
     uid: &[u8],
 ) -> Result<Option<Table>, Memory>
     requires few { length paths.now < 2 ^ 24 }
-    // The least table, and nothing is left; or none, and something is.
+    // The least table, and no path is left; or none, and a path is left.
     ensures made { IfOk result
         (λ made. IsMade (asks (R.told roads.now uid.now) roots.now target.now) (use_of paths.now) made) }
     ensures none { IfOk result
         (λ made. (made ≡ None) ↔ IsLeft (asks (R.told roads.now uid.now) roots.now target.now) (use_of paths.now)) }
 
-    // For an answer that missed its wanted amount there is a table, and `check` accepts it.
+    // For an answer that misses its wanted amount there is a table, and `check` accepts it.
     ensures accepted { IfOk result
         (λ made. AcceptsMissed (asks (R.told roads.now uid.now) roots.now target.now) paths.now made) }
 {

@@ -1,4 +1,8 @@
-ghost use Rattle.std.specs.Prelude.{◌≡◌, ◌↔◌, ◌≤◌, ◌<◌, ◌+◌, ℕ, List, Option, true, IfOk};
+//! The three points that make a table a proof of absence, tested edge by edge.
+//!
+//! It stands on `demand` and `table`, and on `specs/Absence.antt`. A wrong test here would accept a false proof; the
+//! contract of `excludes` rules that out.
+ghost use Rattle.std.specs.Prelude.{◌≡◌, ◌↔◌, ◌<◌, ◌+◌, ℕ, List, Option, true, IfOk};
 ghost use Rattle.wot_edge.specs.Record.{Has, Record, edges_into};
 ghost use Rattle.wot_check.specs.Absence.{Excludes, OthersLabelled};
 ghost use Rattle.wot_check.specs.Asked.{Asking, TellsEach};
@@ -21,7 +25,7 @@ fn within(most: u8, label: Option<u8>) -> bool
     }
 }
 
-/// Whether the issuer of an edge has a label of at most so much, or the edge may not stand there.
+/// Whether the issuer of an edge has a label of at most this, or the edge may not come there.
 fn covers_edge<R: Roads>(
     roads: &R,
     asked: &Asked,
@@ -41,7 +45,7 @@ fn covers_edge<R: Roads>(
     Ok(!stands)
 }
 
-/// Whether so is each edge into a fingerprint from which so many edges lead to the target.
+/// Whether that holds for each edge into a fingerprint that is `size` edges from the target.
 fn covers<R: Roads>(
     roads: &R,
     asked: &Asked,
@@ -64,7 +68,7 @@ fn covers<R: Roads>(
     Ok(true)
 }
 
-/// The same of a label; nothing is asked of the greatest one.
+/// Whether it holds for the edges into a fingerprint with this label. The greatest label demands nothing.
 fn covers_below<R: Roads>(
     roads: &R,
     asked: &Asked,
@@ -81,7 +85,7 @@ fn covers_below<R: Roads>(
     covers(roads, asked, label, table, at)
 }
 
-/// Whether so is each edge into each labelled fingerprint.
+/// Whether it holds for the edges into each labelled fingerprint.
 fn covers_all<R: Roads>(roads: &R, asked: &Asked, table: &Table) -> Result<bool, Memory>
     ensures { IfOk result (λ covered. (covered ≡ true)
         ↔ Asking (R.told roads.now) asked.now (λ q used. OthersLabelled q used table.now)) }
@@ -95,7 +99,7 @@ fn covers_all<R: Roads>(roads: &R, asked: &Asked, table: &Table) -> Result<bool,
     Ok(true)
 }
 
-/// Whether of no labelled fingerprint anything is left as a root.
+/// Whether no labelled fingerprint is a root with a residual amount.
 pub fn roots_spent(asked: &Asked, table: &Table) -> bool
     ensures { (told : List ℕ → Record) → Asking told asked.now (λ q used. AreRootsSpent result q used table.now) }
 {
@@ -113,7 +117,7 @@ pub fn excludes<R: Roads>(roads: &R, asked: &Asked, table: &Table) -> Result<boo
     ensures { IfOk result (λ meets. (meets ≡ true)
         ↔ Asking (R.told roads.now) asked.now (λ q used. Excludes q used table.now)) }
 {
-    // What every table is.
+    // The invariant of a table.
     let _labels = table.iter();
     if !roots_spent(asked, table) {
         return Ok(false);

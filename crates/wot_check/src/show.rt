@@ -1,4 +1,8 @@
-ghost use Rattle.std.specs.Prelude.{◌≡◌, ◌↔◌, ◌≤◌, ◌<◌, ◌^◌, ℕ, List, true, length, IfOk};
+//! From claims to paths: whether each claimed path is valid and has its residual amount.
+//!
+//! It stands on `trace` for the steps and on `using` for what earlier paths use, and on `specs/Claim.antt`. `check`
+//! calls it first.
+ghost use Rattle.std.specs.Prelude.{◌≡◌, ◌↔◌, ◌<◌, ◌^◌, ℕ, List, true, length, IfOk};
 ghost use Rattle.wot_edge.specs.Path.{asks, Distinct, issuers};
 ghost use Rattle.wot_edge.specs.Record.{Has, IsRecord, Record};
 ghost use Rattle.wot_check.specs.Absence.{is_in_order};
@@ -15,7 +19,7 @@ use std::alloc::Global;
 use wot_edge::{Path, Roads, Roots, Step, StepList, Used};
 use wot_types::{Fpr, Memory};
 
-/// Whether some step is of this issuer.
+/// Whether a step has this issuer.
 fn has_issuer(steps: &[Step], fpr: &Fpr) -> bool
     ensures { (result ≡ true) ↔ Has (issuers steps.now) fpr.now }
 {
@@ -43,7 +47,7 @@ fn are_distinct(steps: &[Step]) -> bool
     true
 }
 
-/// The path by these steps, if no issuer occurs twice and this amount is left for it.
+/// The path by these steps, if no issuer occurs twice and this is its residual amount.
 fn path_by(asked: &Asked, amount: u8, steps: Vec<Step>) -> Option<Path>
     ensures { (told : List ℕ → Record)
         → IsPathBy (question_of told asked.now) (used_in asked.now) amount steps.items result }
@@ -90,7 +94,7 @@ fn show<R: Roads>(
     }
 }
 
-/// What the paths use that these claims show, if each shows one after those before it.
+/// What the claimed paths use, if each claim shows a path after those before it.
 pub fn show_all<R: Roads>(
     alloc: Global,
     roads: &R,

@@ -1,3 +1,7 @@
+//! Tables of labels by fingerprint.
+//!
+//! They stand on std's map and on `specs/Table.antt`. `making` makes one, `wot_machine` reads one from the fields of
+//! `check`, and `points` tests it.
 ghost use Rattle.std.specs.Prelude.{◌≡◌, ◌≤◌, [], OnOk, OnErr};
 ghost use Rattle.std.specs.BTreeMap.{insert_entry};
 ghost use Rattle.std.specs.Iterator.{YieldsFirst, item_count};
@@ -38,8 +42,7 @@ impl Table {
         }
     }
 
-    /// Gives a fingerprint its label, in place of an earlier one. After `Memory` the table is as
-    /// before.
+    /// Sets the label of a fingerprint, in place of an earlier one. After `Memory` the table is unchanged.
     pub fn set(&mut self, fpr: Fpr, label: u8) -> Result<(), Memory>
         requires some { 1 ≤ label }
         ensures set { OnOk result (self.new ≡ insert_entry fpr_cmp self.old fpr label) }
@@ -50,7 +53,7 @@ impl Table {
         Ok(())
     }
 
-    /// The label of a fingerprint; `None` exactly where it has none.
+    /// The label of a fingerprint, if it has one.
     pub fn get(&self, fpr: &Fpr) -> Option<u8>
         ensures label { result ≡ label_at self.now fpr.now }
     {
@@ -71,7 +74,7 @@ impl Table {
     }
 }
 
-/// Goes over labels, in the order of their fingerprints.
+/// Iterates over labels, in the order of their fingerprints.
 #[derive(Drop)]
 pub struct TableIter<'a> {
     entries: Iter<'a, Fpr, u8>,

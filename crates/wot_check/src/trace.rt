@@ -1,5 +1,8 @@
-ghost use Rattle.std.specs.Prelude.{◌≡◌, ◌≤◌, ◌<◌, ℕ, List, length, IfOk, MatchOption};
-ghost use Rattle.wot_edge.specs.Record.{Has, IsRecord};
+//! From claimed steps to steps: the edge that each claimed step names, if that edge may come there.
+//!
+//! It stands on `demand` and on `specs/Trace.antt`. `show` makes paths of the steps.
+ghost use Rattle.std.specs.Prelude.{◌≡◌, ◌≤◌, ◌<◌, length, IfOk, MatchOption};
+ghost use Rattle.wot_edge.specs.Record.{IsRecord};
 ghost use Rattle.wot_check.specs.Asked.{question_of, used_in};
 ghost use Rattle.wot_check.specs.Trace.{IsFollower, IsFound, IsTrace, NoneNamed, begin_of, has_name};
 
@@ -33,7 +36,7 @@ fn find<'a>(edges: &'a [Edge], item: &ClaimedStep) -> Option<&'a Edge>
     None
 }
 
-/// Where claimed steps begin: the first issuer, or the target itself.
+/// Where claimed steps begin: at the first issuer, or at the target itself.
 fn begin(target: &Fpr, later: &[ClaimedStep]) -> Fpr
     ensures { result ≡ begin_of target.now later.now }
 {
@@ -43,7 +46,7 @@ fn begin(target: &Fpr, later: &[ClaimedStep]) -> Fpr
     }
 }
 
-/// The step that is claimed before the later ones, if it may stand there.
+/// The step that is claimed in front of the later ones, if it may come there.
 fn follow<R: Roads>(
     roads: &R,
     asked: &Asked,
@@ -68,7 +71,7 @@ fn follow<R: Roads>(
     }
 }
 
-/// The steps that are claimed, if each of them may stand before those after it.
+/// The claimed steps, if each of them may come before those after it.
 pub fn trace<R: Roads>(
     alloc: Global,
     roads: &R,

@@ -1,3 +1,7 @@
+//! What earlier paths use, computed anew from a list of paths.
+//!
+//! It stands on `Used` of `wot_edge`; its laws bound the sums, so that none overflows. `making` and `show` start from
+//! it.
 ghost use Rattle.std.specs.Prelude.{◌≡◌, ◌<◌, ◌+◌, ◌*◌, ◌^◌, ◌∷◌, ◌++◌, ℕ, List, [], length, IfOk, OnOk};
 ghost use Rattle.wot_edge.specs.declared.path.Path.{Path as ThePath};
 ghost use Rattle.wot_edge.specs.Path.{use_of};
@@ -8,7 +12,7 @@ use std::alloc::Global;
 use wot_edge::{Path, Used};
 use wot_types::Memory;
 
-/// Nothing is used yet.
+/// Nothing used yet.
 pub fn unused(alloc: Global) -> Used
     ensures none { use_in result ≡ use_of [] }
     ensures below { AreBelow 0 result }
@@ -16,14 +20,14 @@ pub fn unused(alloc: Global) -> Used
     Used::new(alloc)
 }
 
-/// One path more is used.
+/// Adds what one more path uses.
 pub fn add(used: &mut Used, path: &Path) -> Result<(), Memory>
     requires small { AreBelow (255 * 2 ^ 24) used.old }
     ensures used { OnOk result ((paths : List ThePath) → use_in used.old ≡ use_of paths
         → use_in used.new ≡ use_of (paths ++ path.now ∷ [])) }
     ensures below { OnOk result ((most : ℕ) → AreBelow most used.old → AreBelow (most + 255) used.new) }
 {
-    // What the bounds rest on: an amount is an octet.
+    // A law for the bounds: an amount is an octet.
     let _amount = path.amount;
     used.add(path)?;
     Ok(())

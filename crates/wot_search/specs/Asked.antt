@@ -1,4 +1,4 @@
--- What is asked of a search, and of the roads that it goes over.
+-- A question to a search, and to the network that it searches.
 use Rattle.std.specs.Prelude.{◌≡◌, ℕ, List, Option}
 use Rattle.wot_types.specs.declared.fpr.Fpr.{Fpr}
 use Rattle.wot_edge.specs.declared.path.Path.{Path}
@@ -11,11 +11,11 @@ use Rattle.wot_search.specs.Offers.{AreNextWhereAgreed, TakesWhereAgreed}
 use Rattle.wot_search.specs.Reach.{Table, IsReach, number_at}
 use Rattle.wot_search.specs.declared.asked.Asked.{Asked}
 
--- the question, by what the roads tell
+-- the question, given what the network says
 abbrev pub question_of : (List ℕ → Record) → Asked → Question
 question_of told asked = asks (told asked.uid.now) asked.roots.now asked.target.now
 
--- the reach is one of these roads and of the roots
+-- the reach is one of this network and of the roots
 abbrev pub IsWithin : (List ℕ → Record) → Asked → Type 0
 IsWithin told asked = IsReach told asked.roots.now asked.reach.now
 
@@ -27,19 +27,19 @@ LeadsToAsked told asked fpr = Leads (told asked.uid.now) asked.target.now fpr
 abbrev pub HasAll : Table → Type 0
 HasAll table = (fpr : Fpr) → number_at table fpr ≡ 255
 
--- ---- what rests on no more than what is noted, where the reach leaves nothing out
+-- ---- what depends only on what was noted, if the reach leaves nothing out
 
--- the next path after what is used, or that there is none, of each question that agrees on it
+-- the next path after what is used, or that there is none, for every question that agrees on it
 abbrev pub IsNextLocally : (List ℕ → Record) → Asked → Sums → (Fpr → Type 0) → Option Path → Type 0
 IsNextLocally told asked used noted found =
     HasAll asked.reach.now → IsNextWhereAgreed (question_of told asked) (use_in used) noted found
 
--- the next path and offers after it, of each question that agrees on it
+-- the next path and offers after it, for every question that agrees on it
 abbrev pub AreNextLocally : (List ℕ → Record) → Asked → Sums → (Fpr → Type 0) → List Path → Type 0
 AreNextLocally told asked used noted paths =
     HasAll asked.reach.now → AreNextWhereAgreed asked.roots.now (question_of told asked) (use_in used) noted paths
 
--- the same, of each question that agrees on it and of which the old offers were some
+-- the next path and offers after it, for every question that agrees on it and had the old offers
 abbrev pub TakesLocally :
     (List ℕ → Record) → Asked → Sums → (Fpr → Type 0) → List Path → List Path → Option Path → Type 0
 TakesLocally told asked used noted old new found =

@@ -1,4 +1,4 @@
--- What comes next, where its amount may be enough.
+-- What comes next, if its amount can be enough.
 use Rattle.std.specs.Prelude.{◌≡◌, ℕ, ◌≤◌}
 use Rattle.wot_edge.specs.declared.path.Path.{Path as ThePath}
 use Rattle.wot_edge.specs.Path.{Question, Use, IsNextPath, IsSpent}

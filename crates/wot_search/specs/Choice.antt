@@ -15,7 +15,7 @@ abbrev pub node_width : Option Node → ℕ
 node_width None = 0
 node_width (Some node) = node.width
 
--- what a path from here has: the least of what is left of the root and of the edges
+-- the amount of a path from here: the least residual amount of the root and of the edges
 abbrev pub choice_at : Quest → Found → Fpr → Choice
 choice_at quest found fpr =
     record { fpr = fpr; width = min (root_left quest.question quest.used fpr) (node_width (found fpr)) }

@@ -33,11 +33,11 @@ if_kept goal found (Some node) = cond (is_kept goal node (found node.step.issuer
 abbrev pub wanted_of : Quest → Found → Demand → ℕ → ℕ → EdgeFacts → Option Node
 wanted_of quest found demand size width edge = if_kept quest.goal found (candidate_of quest demand size width edge)
 
--- whether a row may stand before so many edges, if it meets the demand
+-- whether a row may come before this many edges, if it meets the demand
 abbrev pub may_stand_of : ℕ → Row → Bool
 may_stand_of size row = row.usable && (nat_eq size 0 || row.scope)
 
--- a node is put for its issuer, and a new issuer is of the last layer
+-- a node is kept for its issuer, and a new issuer joins the last layer
 abbrev pub PutsNode : Reached → Reached → Node → Type 0
 PutsNode old new node =
     (fpr : Fpr) → look new.nodes fpr ≡ (if same_fpr node.step.issuer fpr then Some node else look old.nodes fpr)
@@ -54,7 +54,7 @@ abbrev pub IsPutIf : Bool → Reached → Reached → Node → Type 0
 IsPutIf true old new node = IsPut old new node
 IsPutIf false old new node = old ≡ new
 
--- a suffix of so many edges and so much that was found, and begins there
+-- a found suffix with this number of edges and this width that begins there
 pub record IsRest (quest : Quest) (found : Found) (size : ℕ) (at : Fpr) (wide : ℕ) (rest : List Step) : Type 0 where
   pub kept : Kept quest found rest
   pub long : length rest ≡ size
@@ -66,14 +66,14 @@ pub record Advances (quest : Quest) (size : ℕ) (old new : Reached) : Type 0 wh
   pub growing : IsGrowing quest size (look new.nodes) new.layer.items
   pub onward : Onward quest size (look old.nodes) (look new.nodes)
 
--- if this edge may stand before the rest, it is covered there
+-- if this edge may come before the rest, it is covered there
 abbrev pub IsTaken : Quest → Found → EdgeFacts → List Step → Type 0
 IsTaken quest found edge rest =
     (row : Row) → Has (rows_into quest.question.told (start quest.question.target rest)) row → row.edge ≡ edge
     → row.usable ≡ true → Reaches quest.question row rest → quest.least ≤ step_left quest.used (step_of edge)
     → length rest < quest.reach edge.issuer → Covered quest found (step_of edge ∷ rest)
 
--- if it may stand there but for being usable, its issuer was looked at
+-- if it may come there, usable or not, its issuer was looked at
 abbrev pub IsNoted : Quest → (Fpr → Type 0) → EdgeFacts → List Step → Type 0
 IsNoted quest set edge rest =
     (row : Row) → Has (rows_into quest.question.told (start quest.question.target rest)) row → row.edge ≡ edge
@@ -88,16 +88,16 @@ AreNoted found set = (fpr : Fpr) (node : Node) → found fpr ≡ Some node → s
 abbrev pub KeepsNoted : Reached → Reached → (Fpr → Type 0) → (Fpr → Type 0) → Type 0
 KeepsNoted old new before after = AreNoted (look old.nodes) before → AreNoted (look new.nodes) after
 
--- what is so of each row of an edge
+-- what holds for each row of an edge
 abbrev pub EachRow : Record → EdgeFacts → (Row → Type 0) → Type 0
 EachRow told edge holds = (row : Row) → Has (rows_into told edge.target) row → row.edge ≡ edge → holds row
 
--- it is put if it may stand, as each row of the edge tells
+-- it is kept if it may come there by each row of the edge
 abbrev pub PutsIfStands : Record → ℕ → EdgeFacts → Reached → Reached → Node → Type 0
 PutsIfStands told size edge old new node = EachRow told edge (λ row. IsPutIf (may_stand_of size row) old new node)
 
--- After an edge is considered before any suffix of so many edges and so much that begins at its target: the layer grew,
--- the edge is taken, and its issuer is noted.
+-- After an edge is considered in front of a suffix with this number of edges and this width that begins at its target:
+-- the layer grew, the edge is taken, and its issuer is noted.
 abbrev pub GrowsByEdge : Quest → ℕ → ℕ → EdgeFacts → Reached → Reached → Type 0
 GrowsByEdge quest size wide edge old new =
     (rest : List Step) → IsRest quest (look old.nodes) size edge.target wide rest
@@ -112,21 +112,21 @@ abbrev pub NotesEdge : Quest → ℕ → EdgeFacts → Reached → (Fpr → Type
 NotesEdge quest size edge old before after =
     (rest : List Step) → length rest ≡ size → AreNoted (look old.nodes) before → IsNoted quest after edge rest
 
--- the same of the program's quest, by what the roads tell
+-- `NotesEdge` for the program's quest, given what the network says
 abbrev pub SeesEdge : (List ℕ → Record) → Told → ℕ → EdgeFacts → Reached → (Fpr → Type 0) → (Fpr → Type 0) → Type 0
 SeesEdge told quest size edge old before after = NotesEdge (quest_of told quest) size edge old before after
 
 -- ---- one fingerprint of the layer before
 
--- the width of what was found of so many edges; the empty suffix has all
+-- the width of what was found with this many edges; the empty suffix has the greatest
 abbrev pub wide_of : ℕ → Option Node → ℕ
 wide_of size node = cond (nat_eq size 0) 255 (node_width node)
 
--- each edge that may stand before the rest is covered there
+-- each edge that may come before the rest is covered there
 abbrev pub AreTaken : Quest → Found → List Step → Type 0
 AreTaken quest found rest = (step : Step) → Serves quest step rest → Covered quest found (step ∷ rest)
 
--- After the edges into a fingerprint are considered before any suffix of so many edges that begins there.
+-- After the edges into a fingerprint are considered in front of any suffix of this many edges that begins there.
 abbrev pub GrowsInto : Quest → ℕ → Fpr → Reached → Reached → Type 0
 GrowsInto quest size at old new =
     (rest : List Step) → Kept quest (look old.nodes) rest → length rest ≡ size → start quest.question.target rest ≡ at
@@ -144,7 +144,7 @@ SeesInto told quest size at old before after =
 
 -- ---- one layer
 
--- After the edges into each fingerprint of the layer of so many edges are considered.
+-- After the edges into each fingerprint of the layer of this many edges are considered.
 abbrev pub GrowsByLayer : Quest → ℕ → List Fpr → Reached → Reached → Type 0
 GrowsByLayer quest size layer old new =
     IsLayer quest (look old.nodes) size layer → IsGrowing quest size (look old.nodes) old.layer.items
@@ -170,13 +170,13 @@ pub record IsAfter (quest : Quest) (size : ℕ) (reached : Reached) (set : Fpr �
   pub noted : AreNoted (look reached.nodes) set
   pub looked : IsLooked quest size set
 
--- no suffix of fewer edges begins at a root of which so much is left
+-- no suffix of fewer edges begins at a root with the wanted residual amount
 abbrev pub IsUnrooted : Quest → Found → ℕ → Type 0
 IsUnrooted quest found size =
     (steps : List Step) → Kept quest found steps → 1 ≤ length steps → suc (length steps) ≤ size
     → quest.least ≤ root_left quest.question quest.used (start quest.question.target steps) → ⊥
 
--- One layer more: what was known stays known, of one edge more.
+-- One more layer: what was known is known for one edge more.
 abbrev pub GoesOn : (List ℕ → Record) → Told → ℕ → Reached → Reached → (Fpr → Type 0) → (Fpr → Type 0) → Type 0
 GoesOn told quest size old new before after =
     IsAfter (quest_of told quest) size old before → IsAfter (quest_of told quest) (suc size) new after
@@ -191,31 +191,31 @@ GainsAfter told quest size old before after =
     IsAfter (quest_of told quest) size old before
     → Gains (Leads (told quest.uid.now) quest.target.now) before after
 
--- ---- what a search gives
+-- ---- what a search returns
 
 -- no root has more than an octet holds
 abbrev pub IsSmall : Quest → Type 0
 IsSmall quest = (fpr : Fpr) → root_left quest.question quest.used fpr ≤ 255
 
--- this is the suffix of so many edges that was found from there, in whatever quest
+-- this is the suffix of this many edges that was found from there, in any quest
 abbrev pub IsFoundFrom : Found → Fpr → ℕ → List Step → Type 0
 IsFoundFrom found from size made =
     (quest : Quest) → IsRecord quest.question.told → (steps : List Step) → Kept quest found steps → length steps ≡ size
     → start quest.question.target steps ≡ from → made ≡ steps
 
--- a path that is the first, of so many edges, with its root and its amount
+-- a path that is the first with this many edges, with its root and its amount
 pub record IsFirstPath (quest : Quest) (size : ℕ) (path : Path) : Type 0 where
   pub first : IsFirst quest path.steps
   pub root : path.root ≡ start quest.question.target path.steps
   pub amount : path.amount ≡ path_amount quest.question quest.used path.steps
   pub long : length path.steps ≡ size
 
--- the first path of a layer, or that no root of which so much is left is in it
+-- the first path of a layer, or that no root with the wanted residual amount is in it
 abbrev pub IsTurn : Quest → Found → ℕ → Option Path → Type 0
 IsTurn quest found size None = IsUnrooted quest found (suc size)
 IsTurn quest found size (Some path) = IsFirstPath quest size path
 
--- it is so where all that was found is known, and no root is in an earlier layer
+-- this holds if all that was found is known, and no root is in an earlier layer
 abbrev pub TurnsTo : Quest → ℕ → Reached → Option Path → Type 0
 TurnsTo quest size reached found =
     IsRecord quest.question.told → IsSmall quest → IsLayer quest (look reached.nodes) size reached.layer.items
@@ -227,7 +227,7 @@ abbrev pub IsResult : Quest → Option Path → Type 0
 IsResult quest None = (other : List Step) → Rooted quest other → ⊥
 IsResult quest (Some path) = IsFirstPath quest (length path.steps) path
 
--- where a path was found, what is known after as many layers as it has edges
+-- if a path was found, what is known after as many layers as it has edges
 abbrev pub IsAfterPath : Quest → Reached → (Fpr → Type 0) → Option Path → Type 0
 IsAfterPath quest reached set found = IfSome found (λ (path : Path). IsAfter quest (length path.steps) reached set)
 

@@ -1,4 +1,4 @@
--- What a search has looked at, as what is so of each fingerprint of it.
+-- What a search has looked at, as what holds for each fingerprint of it.
 use Rattle.std.specs.Prelude.{◌≡◌, ◌⊎◌, ℕ, ◌<◌, ◌≤◌, List, length}
 use Rattle.wot_types.specs.declared.fpr.Fpr.{Fpr}
 use Rattle.wot_edge.specs.declared.path.Step.{Step}
@@ -11,19 +11,19 @@ use Rattle.wot_search.specs.Suffix.{Suffix}
 abbrev pub Widens : (Fpr → Type 0) → (Fpr → Type 0) → Type 0
 Widens old new = (fpr : Fpr) → old fpr → new fpr
 
--- what a set gained is only this
+-- a set gained only this
 abbrev pub Gains : (Fpr → Type 0) → (Fpr → Type 0) → (Fpr → Type 0) → Type 0
 Gains only before after = (fpr : Fpr) → after fpr → before fpr ⊎ only fpr
 
--- Before these edges the search looked at all that matters: where they begin, and the issuer of each edge into it
--- that may stand before them, of which so much is left, and that reaches so far, if only it is usable.
+-- Before these edges the search looked at everything that matters: where they begin, and the issuer of each edge into
+-- it, usable or not, that may come before them, has the wanted residual amount, and whose issuer is within its reach.
 pub record IsSeen (quest : Quest) (set : Fpr → Type 0) (rest : List Step) : Type 0 where
   pub it : set (start quest.question.target rest)
   pub issuers : (row : Row) → Has (rows_into quest.question.told (start quest.question.target rest)) row
       → Reaches quest.question row rest → quest.least ≤ step_left quest.used (step_of row.edge)
       → length rest < quest.reach row.edge.issuer → set row.edge.issuer
 
--- the same before each suffix of fewer edges
+-- it looked at everything that matters before each suffix of fewer edges
 abbrev pub IsLooked : Quest → ℕ → (Fpr → Type 0) → Type 0
 IsLooked quest size set = (rest : List Step) → length rest < size → Suffix quest rest → IsSeen quest set rest
 

@@ -1,4 +1,4 @@
--- A table of reach in the making: what is known of it before all fingerprints are checked.
+-- A table of reach while it is made: what is known of it before all fingerprints are checked.
 use Rattle.std.specs.Prelude.{ℕ, List, drop, ◌⊎◌, Option, IfSome}
 use Rattle.std.specs.Borrow.{Bor}
 use Rattle.std.specs.List.{AllByRecursion}
@@ -18,13 +18,12 @@ AreKeysOf fprs numbers = AllByRecursion (λ (e : Fpr × ℕ). Has fprs e.0) numb
 abbrev pub HaveEnoughBut : (List ℕ → Record) → List (Fpr × ℕ) → (Fpr → ℕ) → List Fpr → Type 0
 HaveEnoughBut told roots number rest = (fpr : Fpr) → HasEnough told roots number fpr ⊎ Has rest fpr
 
--- The places so far are those of all edges that lead on, and all but the fingerprints from the next one on have
--- enough.
+-- The places so far are those of all edges that lead on, and all fingerprints before the next one have enough.
 pub record IsChecking (told : List ℕ → Record) (roots : List (Fpr × ℕ)) (c : Checking) : Type 0 where
   pub onward : AreOnward told (number_at c.reach) c.reach.onward
   pub enough : HaveEnoughBut told roots (number_at c.reach) (drop c.next c.fprs.items)
 
--- Nothing is claimed of the numbers before the check, but that they are those of the fingerprints. Where the table is
+-- Before the check, nothing is known of the numbers except that they belong to the fingerprints. Once the table is
 -- made, it is the reach.
 abbrev pub IsMaking : (List ℕ → Record) → List (Fpr × ℕ) → Making → Type 0
 IsMaking told roots (stages.Begun fprs) = Unit {0}
@@ -35,7 +34,7 @@ IsMaking told roots (stages.Numbering numbering) = AreKeysOf numbering.fprs.item
 IsMaking told roots (stages.Checking checking) = IsChecking told roots checking
 IsMaking told roots (stages.Made reach) = IsReach told roots reach
 
--- what is found of it is the reach
+-- what is returned of it is the reach
 abbrev pub GivesReach : Making → Option (Bor Table) → Type 0
 GivesReach making found =
     (told : List ℕ → Record) (roots : List (Fpr × ℕ)) → IsMaking told roots making

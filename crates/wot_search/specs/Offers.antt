@@ -1,4 +1,4 @@
--- Offers: next paths that one search finds at once, one of each root.
+-- Offers: next paths that one search finds at once, one for each root.
 use Rattle.std.specs.Prelude.{◌≡◌, ℕ, ◌<◌, ◌≤◌, ◌-◌, ◌++◌, nat_le, nat_lt, Bool, true, false}
 use Rattle.std.specs.Prelude.{List, [], ◌∷◌, Option, Some, None}
 use Rattle.std.specs.List.{list_all}
@@ -18,21 +18,21 @@ use Rattle.wot_search.specs.Reached.{look}
 use Rattle.wot_search.specs.declared.reached.Reached.{Reached}
 use Rattle.wot_search.specs.Suffix.{Found}
 
--- of each pair and of each root at least as much is used
+-- each pair and each root is used at least as much
 pub record IsLater (used later : Use) : Type 0 where
   pub pair : (issuer target : Fpr) → used.pair issuer target ≤ later.pair issuer target
   pub root : (fpr : Fpr) → used.root fpr ≤ later.root fpr
 
--- what is left of a root of these amounts
+-- the residual amount of a root
 abbrev pub left_at : List (Fpr × ℕ) → Use → Fpr → ℕ
 left_at roots used fpr = root_amount roots fpr - used.root fpr
 
--- whether so much is left of each of these edges
+-- whether each of these edges has at least this residual amount
 abbrev pub is_left : Use → ℕ → List Step → Bool
 is_left used amount steps = list_all (λ step. nat_le amount (step_left used step)) steps
 
--- Offers, whatever is used later: the first is the next path while its amount is left of its root and of its edges.
--- Once less is left of its root, the others are offers.
+-- Offers, whatever is used later: the first is the next path as long as its root and its edges still have its amount.
+-- Once its root has less, the others are offers.
 abbrev pub AreOffers : List (Fpr × ℕ) → Question → Use → List Path → Type 0
 AreOffers roots q used [] = Unit {0}
 AreOffers roots q used (path ∷ paths) =
@@ -44,7 +44,7 @@ AreOffers roots q used (path ∷ paths) =
 abbrev pub AreOffersFor : Question → Use → List Path → Type 0
 AreOffersFor q used paths = AreOffers q.roots q used paths
 
--- the next path and offers after it; or no path, where none is left
+-- the next path and offers after it; or no path, if none is left
 abbrev pub AreNext : List (Fpr × ℕ) → Question → Use → List Path → Type 0
 AreNext roots q used [] = IsSpent q used
 AreNext roots q used (path ∷ paths) = IsNextPath q used path × AreOffers roots q used (path ∷ paths)
@@ -53,14 +53,14 @@ AreNext roots q used (path ∷ paths) = IsNextPath q used path × AreOffers root
 abbrev pub AreNextFor : Question → Use → List Path → Type 0
 AreNextFor q used paths = AreNext q.roots q used paths
 
--- so it is of each question that agrees with this one on a set that has all that is noted
+-- this holds for every question that agrees with this one on a set that contains what was noted
 abbrev pub AreNextWhereAgreed : List (Fpr × ℕ) → Question → Use → (Fpr → Type 0) → List Path → Type 0
 AreNextWhereAgreed roots q used noted paths =
     (set : List Fpr) → Widens noted (Has set) → (other : Question) → Agree q other set → AreNext roots other used paths
 
 -- ---- which offer is taken
 
--- whether less is left of the first one's root than its amount
+-- whether the first one's root has less left than its amount
 abbrev pub is_first_spent : List (Fpr × ℕ) → Use → List Path → Bool
 is_first_spent roots used [] = false
 is_first_spent roots used (path ∷ paths) = nat_lt (left_at roots used path.root) path.amount
@@ -73,25 +73,25 @@ abbrev pub IsNextIfSome : Question → Use → Option Path → Type 0
 IsNextIfSome q used None = Unit {0}
 IsNextIfSome q used (Some path) = IsNextPath q used path
 
--- the next path of each question of which these are offers
+-- the next path for every question with these offers
 abbrev pub IsOpenOffer : List (Fpr × ℕ) → Use → List Path → Option Path → Type 0
 IsOpenOffer roots used offers found = (q : Question) → AreOffers roots q used offers → IsNextIfSome q used found
 
--- the new ones are offers of each question of which the old ones are
+-- the new ones are offers for every question with the old ones
 abbrev pub KeepsOffers : List (Fpr × ℕ) → Use → List Path → List Path → Type 0
 KeepsOffers roots used old new = (q : Question) → AreOffers roots q used old → AreOffers roots q used new
 
--- the next path of each question that agrees with this one on a set that has all that is noted, and of which the old
--- offers were some: then the new ones are some of it too
+-- the next path for every question that agrees with this one on a set that contains what was noted, and that had the
+-- old offers: then it has the new ones too
 abbrev pub TakesWhereAgreed :
     List (Fpr × ℕ) → Question → Use → (Fpr → Type 0) → List Path → List Path → Option Path → Type 0
 TakesWhereAgreed roots q used noted old new found =
     (set : List Fpr) → Widens noted (Has set) → (other : Question) → Agree q other set → AreOffers roots other used old
     → IsNextOrSpent other used found × AreOffers roots other used new
 
--- ---- of which roots a search has offers
+-- ---- the offers of each root
 
--- the path of so many edges that was found from a root of which so much is left
+-- the path of this many edges that was found from a root with this residual amount
 pub record IsOfferOf (quest : Quest) (found : Found) (size : ℕ) (fpr : Fpr) (path : Path) : Type 0 where
   pub left : quest.least ≤ root_left quest.question quest.used fpr
   pub node : Node
@@ -124,11 +124,11 @@ AreOfferedBy quest found size (root ∷ roots) paths =
     (offer : Option Path) × (others : List Path) × IsOfferIf quest found size root.0 offer
     × AreOfferedBy quest found size roots others × (paths ≡ with_offer offer others)
 
--- each suffix that was found has at least so much
+-- each found suffix has at least this width
 abbrev pub AreWide : ℕ → Found → Type 0
 AreWide amount found = (fpr : Fpr) (node : Node) → found fpr ≡ Some node → amount ≤ node.width
 
--- the same of what a search found in so many layers
+-- each suffix found in this many layers has at least this width
 pub record AreFoundOffers (quest : Quest) (size : ℕ) (roots : List (Fpr × ℕ)) (paths : List Path) : Type 0 where
   pub reached : Reached
   pub after : IsAfter quest size reached (λ fpr. Unit {0})

@@ -1,4 +1,4 @@
--- Edges that lead on: that may stand before another one on a path within reach.
+-- Edges that lead on: those that can have another edge after them on a path within reach.
 use Rattle.std.specs.Prelude.{◌≡◌, ◌⊎◌, ℕ, ◌<◌, nat_le, ◌&&◌, Bool, true, List, Option, IfSome}
 use Rattle.std.specs.Borrow.{Bor}
 use Rattle.std.specs.List.{All}
@@ -12,7 +12,7 @@ use Rattle.wot_search.specs.declared.onward.Onward.{Onward}
 abbrev pub leads_on : (Fpr → ℕ) → EdgeFacts → Bool
 leads_on number edge = nat_le 1 edge.depth && nat_le 2 (number edge.issuer)
 
--- an edge is usable, as each row of it tells
+-- an edge is usable by each of its rows
 abbrev pub IsUsable : (List ℕ → Record) → EdgeFacts → Type 0
 IsUsable told edge = (uid : List ℕ) → EachRow (told uid) edge (λ row. row.usable ≡ true)
 
@@ -26,15 +26,15 @@ Covers told number fpr edges =
     (uid : List ℕ) (edge : EdgeFacts) → Has (edges_into (told uid) fpr) edge
     → leads_on number edge ≡ true → Has edges edge
 
--- what is known where these are known to be usable
+-- what is known if these are known to be usable
 abbrev pub AreUsableIf : (List ℕ → Record) → Bool → List EdgeFacts → Type 0
 AreUsableIf told usable edges = usable ≡ true → (edge : EdgeFacts) → Has edges edge → IsUsable told edge
 
--- the same of all edges into a fingerprint
+-- what is known if all edges into a fingerprint are known to be usable
 abbrev pub AreAllUsableIf : (List ℕ → Record) → Bool → Fpr → Type 0
 AreAllUsableIf told usable fpr = (uid : List ℕ) → AreUsableIf told usable (edges_into (told uid) fpr)
 
--- where all are known to be usable, so were those before, and so is this edge
+-- if all are known to be usable, so were those before, and so is this edge
 abbrev pub IsUsableIf : (List ℕ → Record) → Bool → Bool → EdgeFacts → Type 0
 IsUsableIf told old new edge = new ≡ true → (old ≡ true) × IsUsable told edge
 
@@ -45,11 +45,11 @@ pub record LeadsOnInto (told : List ℕ → Record) (number : Fpr → ℕ) (fpr 
   pub usable : AreUsableIf told one.usable one.edges.items
   pub all : AreAllUsableIf told one.all_usable fpr
 
--- so it is of each of these
+-- this holds for each of these
 abbrev pub AreOnward : (List ℕ → Record) → (Fpr → ℕ) → List Onward → Type 0
 AreOnward told number onward = All (λ (one : Onward). LeadsOnInto told number one.fpr one) onward
 
--- what is found for a fingerprint among these is of that fingerprint
+-- what is found for a fingerprint among these belongs to that fingerprint
 abbrev pub GivesOnward : (Fpr → ℕ) → List Onward → Fpr → Option (Bor Onward) → Type 0
 GivesOnward number onward fpr found =
     (told : List ℕ → Record) → AreOnward told number onward
@@ -64,8 +64,8 @@ pub record AddsLead (told : List ℕ → Record) (number : Fpr → ℕ) (edge : 
   pub usable : AreUsableIf told old.usable old.edges.items → AreUsableIf told new.usable new.edges.items
   pub all : IsUsableIf told old.all_usable new.all_usable edge
 
--- of the edges into a fingerprint these are all that matter before so many others: before one or more those that lead
--- on
+-- of the edges into a fingerprint these are all that matter before this many others: before one or more, those that
+-- lead on
 pub record MatterBefore (told : List ℕ → Record) (number : Fpr → ℕ) (size : ℕ) (fpr : Fpr) (edges : List EdgeFacts)
     : Type 0 where
   pub into : AreInto told fpr edges

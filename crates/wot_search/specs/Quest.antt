@@ -1,4 +1,4 @@
--- What a search is for.
+-- What a search looks for.
 use Rattle.std.specs.Prelude.{ℕ, List}
 use Rattle.wot_types.specs.declared.fpr.Fpr.{Fpr}
 use Rattle.wot_edge.specs.Record.{Record}
@@ -9,8 +9,8 @@ use Rattle.wot_search.specs.Reach.{number_at}
 use Rattle.wot_search.specs.declared.node.Goal.{Goal}
 use Rattle.wot_search.specs.declared.quest.Quest.{Quest as Told}
 
--- The paths that answer the question, after what is used, of which so much is left; and which of those of fewest edges.
--- No issuer is looked for further before the target than its reach.
+-- The paths that answer the question after what is used and have this residual amount, and which of the shortest of
+-- them. Issuers are looked for within their reach only.
 pub record Quest : Type 0 where
   pub question : Question
   pub used : Use
@@ -18,7 +18,7 @@ pub record Quest : Type 0 where
   pub least : ℕ
   pub goal : Goal
 
--- the program's quest, by what the roads tell
+-- the program's quest, given what the network says
 abbrev pub quest_of : (List ℕ → Record) → Told → Quest
 quest_of told quest = record {
   question = asks (told quest.uid.now) quest.roots.now quest.target.now;
@@ -32,6 +32,6 @@ quest_of told quest = record {
 abbrev pub LeadsOn : (List ℕ → Record) → Told → Type 0
 LeadsOn told quest = AreOnward told (number_at quest.reach.now) quest.reach.now.onward
 
--- what is so of the quest whatever the roads tell
+-- what holds for the quest whatever the network says
 abbrev pub WhateverTold : Told → (Quest → Type 0) → Type 0
 WhateverTold quest holds = (told : List ℕ → Record) → holds (quest_of told quest)

@@ -1,4 +1,4 @@
--- Reach: how far before a target an issuer may stand, by a table of numbers that serves every question.
+-- Reach: how far before a target an issuer may come, by a table of numbers that serves every question.
 use Rattle.std.specs.Prelude.{◌≡◌, ℕ, ◌<◌, ◌≤◌, ◌-◌, min, true, List}
 use Rattle.std.specs.Option.{unwrap_or}
 use Rattle.std.specs.Map.{lookup}
@@ -11,11 +11,11 @@ use Rattle.wot_edge.specs.Roots.{root_amount}
 use Rattle.wot_search.specs.Onward.{AreOnward}
 use Rattle.wot_search.specs.declared.onward.Onward.{Onward}
 
--- the number of a fingerprint, of at most 255; 255 where the table has none
+-- the number of a fingerprint, at most 255; 255 if the table has none
 abbrev pub number_of : List (Fpr × ℕ) → Fpr → ℕ
 number_of numbers fpr = min 255 (unwrap_or (lookup (is_at (fpr_cmp fpr)) numbers) 255)
 
--- a table: the number of each fingerprint, and of some fingerprints the places of the edges into it that lead on
+-- a table: the number of each fingerprint, and for some fingerprints the places of the edges into it that lead on
 pub record Table : Type 0 where
   pub numbers : List (Fpr × ℕ)
   pub onward : List Onward
@@ -23,19 +23,19 @@ pub record Table : Type 0 where
 abbrev pub number_at : Table → Fpr → ℕ
 number_at table fpr = number_of table.numbers fpr
 
--- A fingerprint has enough where it has 255 if it is a root, and the target of each usable edge of positive amount has
+-- When a fingerprint has enough: it has 255 if it is a root, and the target of each usable edge of positive amount has
 -- at least the lesser of the edge's depth and one less than its issuer's number.
 pub record HasEnough (told : List ℕ → Record) (roots : List (Fpr × ℕ)) (number : Fpr → ℕ) (fpr : Fpr) : Type 0 where
   pub root : 0 < root_amount roots fpr → number fpr ≡ 255
   pub edges : (uid : List ℕ) (row : Row) → Has (rows_into (told uid) fpr) row → row.usable ≡ true → 0 < row.edge.amount
       → min row.edge.depth (number row.edge.issuer - 1) ≤ number fpr
 
--- These numbers are the reach of all records, scopes left aside, and of the roots: on a path from a root no issuer
--- stands further before the target than its number.
+-- These numbers are the reach for all records, scopes left aside, and for the roots: on a path from a root no issuer
+-- comes further before the target than its number.
 abbrev pub HaveEnough : (List ℕ → Record) → List (Fpr × ℕ) → (Fpr → ℕ) → Type 0
 HaveEnough told roots number = (fpr : Fpr) → HasEnough told roots number fpr
 
--- the same of the numbers of a table, whose places are those of all edges that lead on
+-- the numbers of a table are the reach, and its places are those of all edges that lead on
 pub record IsReach (told : List ℕ → Record) (roots : List (Fpr × ℕ)) (table : Table) : Type 0 where
   pub enough : HaveEnough told roots (number_at table)
   pub onward : AreOnward told (number_at table) table.onward

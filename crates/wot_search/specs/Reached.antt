@@ -1,4 +1,4 @@
--- What the values of a search show.
+-- What contracts see of the values of a search.
 use Rattle.std.specs.BTreeMap.{BTreeMap, get}
 use Rattle.wot_types.specs.declared.fpr.Fpr.{Fpr}
 use Rattle.wot_types.specs.Fpr.{fpr_cmp}

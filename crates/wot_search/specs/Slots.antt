@@ -1,19 +1,19 @@
--- Numbers that stand in a list beside the table that they are of.
+-- Numbers of a table that are also kept in a list.
 use Rattle.std.specs.Prelude.{◌≡◌, ℕ, List, Option, Some, None}
 use Rattle.std.specs.List.{All}
 use Rattle.wot_types.specs.declared.fpr.Fpr.{Fpr}
 use Rattle.wot_search.specs.Reach.{number_of}
 use Rattle.wot_search.specs.declared.slots.Slot.{Slot}
 
--- the table tells this number of the fingerprint
+-- the table has this number for the fingerprint
 abbrev pub Tells : List (Fpr × ℕ) → Fpr → ℕ → Type 0
 Tells numbers fpr number = number ≡ number_of numbers fpr
 
--- each slot has what the table tells
+-- each slot has the table's number
 abbrev pub AreSlots : List (Fpr × ℕ) → List Slot → Type 0
 AreSlots numbers slots = All (λ (slot : Slot). Tells numbers slot.fpr slot.number) slots
 
--- what was found is what the table tells
+-- what was found is the table's number
 abbrev pub TellsIfSome : List (Fpr × ℕ) → Fpr → Option ℕ → Type 0
 TellsIfSome numbers fpr None = Unit {0}
 TellsIfSome numbers fpr (Some number) = Tells numbers fpr number

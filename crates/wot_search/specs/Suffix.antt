@@ -1,4 +1,4 @@
--- Suffixes: lists of edges to the target, of each of which so much is left; and those that a search keeps.
+-- Suffixes: lists of edges to the target that all have the wanted residual amount; and those that a search keeps.
 use Rattle.std.specs.Prelude.{◌≡◌, ℕ, ◌<◌, ◌≤◌, List, [], ◌∷◌, length, Option, Some}
 use Rattle.wot_types.specs.declared.fpr.Fpr.{Fpr}
 use Rattle.wot_edge.specs.declared.path.Step.{Step}
@@ -6,7 +6,7 @@ use Rattle.wot_edge.specs.Path.{Use, Stands, step_left, least_left}
 use Rattle.wot_search.specs.declared.node.Node.{Node}
 use Rattle.wot_search.specs.Quest.{Quest}
 
--- a step that may stand before others, of which so much is left, and whose issuer reaches so far
+-- a step that may come before others, has the wanted residual amount, and whose issuer is within its reach
 pub record Serves (quest : Quest) (step : Step) (rest : List Step) : Type 0 where
   pub stands : Stands quest.question step rest
   pub left : quest.least ≤ step_left quest.used step
@@ -16,11 +16,11 @@ abbrev pub Suffix : Quest → List Step → Type 0
 Suffix quest [] = Unit {0}
 Suffix quest (step ∷ rest) = Serves quest step rest × Suffix quest rest
 
--- the least of what is left of its edges, none of which has more than 255
+-- the least residual amount of its edges, none of which has more than 255
 abbrev pub width : Use → List Step → ℕ
 width used steps = least_left used 255 steps
 
--- what is kept of a suffix, for its first issuer
+-- the node of a suffix, kept for its first issuer
 abbrev pub node_of : Use → Step → List Step → Node
 node_of used step rest = record { step = step; size = length (step ∷ rest); width = width used (step ∷ rest) }
 

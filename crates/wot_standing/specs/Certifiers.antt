@@ -21,7 +21,7 @@ use Rattle.wot_standing.specs.Standing.{newest_certification}
 abbrev pub number_for : List (Fpr × ℕ) → Fpr → Option ℕ
 number_for numbers issuer = lookup (is_at (fpr_cmp issuer)) numbers
 
--- this is the number for this issuer now; for all others there is what there was
+-- this is now the number for this issuer; all others are unchanged
 abbrev pub KeepsNumber : List (Fpr × ℕ) → List (Fpr × ℕ) → Fpr → ℕ → Type 0
 KeepsNumber old new issuer number =
     (q : Fpr) → number_for new q ≡ cond (same_fpr issuer q) (Some number) (number_for old q)
@@ -35,7 +35,7 @@ abbrev pub KeepsNewest : Entries → ℕ → Component → List (Fpr × ℕ) →
 KeepsNewest verdicts t uid places =
     (issuer : Fpr) → kept_for places uid.sigs issuer ≡ newest_certification verdicts issuer t uid
 
--- ---- one signature more, in front
+-- ---- one more signature, in front
 
 -- The numbers are those of the latest live revocation of each issuer.
 abbrev pub KeepsLatest : Entries → ℕ → List Signature → List (Fpr × ℕ) → Type 0
@@ -52,7 +52,7 @@ newer_by verdicts issuer t sigs s best =
     if is_valid_after verdicts issuer t Certification (revoked_at verdicts issuer t sigs) s
     then higher_of newness s best else best
 
--- the numbers have taken the signature in; and so have the places
+-- the numbers have the signature in them, and so have the places
 abbrev pub TakesLatest : Entries → ℕ → Signature → List (Fpr × ℕ) → List (Fpr × ℕ) → Type 0
 TakesLatest verdicts t s old new = (q : Fpr) → number_for new q ≡ later_by verdicts q t s (number_for old q)
 

@@ -29,28 +29,28 @@ own c = fpr_of c.key
 abbrev pub primacy : Signature → Signature → Ordering
 primacy a b = ordering_then (bool_cmp (is_primary a) (is_primary b)) (newness a b)
 
--- the newest certification of a user ID by this one; by the user ID's own key it is its self-certification
+-- the newest certification of a user ID by this key; if it is the user ID's own key, its self-certification
 abbrev pub newest_certification : Entries → Fpr → ℕ → Component → Option Signature
 newest_certification verdicts fpr t uid = newest_valid verdicts fpr t Certification uid.sigs
 
--- an issuer by which no signature on a user ID counts has no certification there
+-- an issuer with no counting signature on a user ID has no certification there
 abbrev pub OnlyCounted : Entries → ℕ → Type 0
 OnlyCounted verdicts t =
     (issuer : Fpr) (uid : Component) → list_any (counts_by verdicts issuer) uid.sigs ≡ false
     → newest_certification verdicts issuer t uid ≡ None
 
--- the one that governs among the user IDs: each gives its newest self-certification
+-- the governing one among the user IDs: the greatest of their newest self-certifications
 abbrev pub primary_among : Entries → Fpr → ℕ → List Component → Option Signature
 primary_among verdicts fpr t uids = greatest primacy (filter_map (newest_certification verdicts fpr t) uids)
 
--- The newest direct key signature governs, and where there is none the greatest of the self-certifications.
+-- The newest direct key signature governs, or if there is none, the greatest of the self-certifications.
 abbrev pub governing : Entries → Certificate → ℕ → Option Signature
 governing verdicts c t =
     option_or (newest_valid verdicts (own c) t DirectKey c.direct) (primary_among verdicts (own c) t c.user_ids)
 
 -- ---- end
 
--- when the key ends by what its governing signature says, if it ever does
+-- when the key expires by its governing signature, if it ever does
 abbrev pub end_by : ℕ → Option Signature → Option ℕ
 end_by created None = None
 end_by created (Some s) =
@@ -58,14 +58,14 @@ end_by created (Some s) =
 
 -- ---- revoked
 
--- a revocation of the key (kind 0x20) that counts by this one
+-- a revocation of the key (type 0x20) that counts as this key's
 abbrev pub revokes_key : Entries → Fpr → Signature → Bool
 revokes_key verdicts fpr s = has_kind 32 s && counts_by verdicts fpr s
 
 abbrev pub is_hard_revocation : Entries → Fpr → Signature → Bool
 is_hard_revocation verdicts fpr s = revokes_key verdicts fpr s && not (is_soft s)
 
--- A hard one counts at every time, also before it was made.
+-- A hard one counts at every time, even before it was created.
 abbrev pub is_hard_revoked : Entries → Certificate → Bool
 is_hard_revoked verdicts c = list_any (is_hard_revocation verdicts (own c)) c.direct
 
@@ -76,7 +76,7 @@ abbrev pub least_of : List ℕ → Option ℕ
 least_of [] = None
 least_of (m ∷ ms) = Some (option_map_or (min m) (least_of ms) m)
 
--- when the first of the live soft ones was made
+-- when the first of the live soft ones was created
 abbrev pub soft_moment : Entries → Fpr → ℕ → List Signature → Option ℕ
 soft_moment verdicts fpr t direct = least_of (map made_of (filter (is_soft_revocation verdicts fpr t) direct))
 

@@ -1,4 +1,4 @@
--- What is live at one time as at another.
+-- What is live at one time if and only if it is at another.
 use Rattle.std.specs.Prelude.{◌≡◌, ℕ}
 use Rattle.std.specs.List.{AllByRecursion}
 use Rattle.wot_cert.specs.Certificate.{Signature, Component, Certificate}
@@ -20,7 +20,7 @@ pub record IsSteady (c : Certificate) (t u : ℕ) : Type 0 where
   pub direct : AllByRecursion (Same t u) c.direct
   pub user_ids : AllByRecursion (SameOn t u) c.user_ids
 
--- The newest certification by this one on a user ID is the same at both times, and so is whether it revoked the user
+-- The newest certification by this key on a user ID is the same at both times, and so is whether it revoked the user
 -- ID.
 pub record SameBy (verdicts : Entries) (issuer : Fpr) (t u : ℕ) (uid : Component) : Type 0 where
   pub certification : newest_certification verdicts issuer t uid ≡ newest_certification verdicts issuer u uid

@@ -1,4 +1,4 @@
--- What may be relied on, by the standing of whom it rests on.
+-- Usable edges and valid targets, by the standing of a key.
 use Rattle.std.specs.Prelude.{ℕ, Bool, true, not, ◌&&◌, nat_le, nat_lt, Option, is_some}
 use Rattle.std.specs.List.{list_any}
 use Rattle.std.specs.Option.{option_map_or}
@@ -12,19 +12,20 @@ use Rattle.wot_standing.specs.Standing.{own, standing_of}
 abbrev pub is_after : ℕ → Option ℕ → Bool
 is_after t moment = option_map_or (nat_lt t) moment true
 
--- An edge made then is usable at the time of its issuer's standing: the issuer stands, was there when the edge was
--- made, had not ended, isn't hard revoked, and wasn't soft revoked by then.
+-- An edge created then is usable at the time of its issuer's standing: the issuer stands, already existed when the edge
+-- was created, hadn't expired, isn't hard revoked, and wasn't soft revoked by then.
 abbrev pub is_usable : Standing → ℕ → Bool
 is_usable issuer made =
     issuer.has && (nat_le issuer.created made
     && (is_after made issuer.end && (not issuer.hard && is_after made issuer.soft)))
 
--- A key is in order at t where it stands, was created, hasn't ended and isn't revoked.
+-- A key is a valid target at t if it stands, already exists, hasn't expired and isn't revoked.
 abbrev pub is_key_in_order : Standing → ℕ → Bool
 is_key_in_order target t =
     target.has && (nat_le target.created t && (is_after t target.end && (not target.hard && not (is_some target.soft))))
 
--- A certificate is in order for a user ID at t where its key is, and the user ID is there and not revoked by its key.
+-- A certificate is a valid target for a user ID at t if its key is one, and the user ID is there and not revoked by its
+-- key.
 abbrev pub is_in_order : Entries → Certificate → ℕ → (Component → Bool) → Bool
 is_in_order verdicts c t is_wanted =
     is_key_in_order (standing_of verdicts c t) t

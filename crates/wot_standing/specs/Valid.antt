@@ -1,4 +1,4 @@
--- Signatures of one place that hold at a time, and the newest of them.
+-- Signatures on one component that are valid at a time, and the newest of them.
 use Rattle.std.specs.Prelude.{ℕ, Bool, ◌&&◌, List, filter, Option}
 use Rattle.wot_types.specs.declared.fpr.Fpr.{Fpr}
 use Rattle.wot_verdict.specs.Verdicts.{Entries}
@@ -10,7 +10,7 @@ use Rattle.wot_cert.specs.Time.{is_live, newness}
 use Rattle.wot_standing.specs.declared.kinds.Binding.{Binding}
 use Rattle.wot_standing.specs.Kinds.{is_binding}
 
--- It is of this kind, counts by this one, is live at t, and isn't revoked at its place.
+-- It is of this type, counts as this key's, is live at t, and isn't revoked on its component.
 abbrev pub is_valid : Entries → Fpr → ℕ → Binding → List Signature → Signature → Bool
 is_valid verdicts fpr t binding sigs s =
     is_binding binding s && (counts_by verdicts fpr s && (is_live t s && is_unrevoked verdicts fpr t sigs s))

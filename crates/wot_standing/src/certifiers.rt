@@ -1,3 +1,6 @@
+//! The newest valid certification of every issuer on a user ID, found in one walk over its signatures.
+//!
+//! It stands on `latest`, `newest` and `kinds`, and on `specs/Certifiers.antt`. `wot_live` makes one edge of each.
 // The newest certifications of all issuers on a user ID, in one walk.
 ghost use Rattle.std.specs.Prelude.{◌≡◌, ◌<◌, ◌^◌, length, Some, OnOk, IfOk, if◌then◌else◌};
 ghost use Rattle.std.specs.List.{slice_get};
@@ -39,7 +42,8 @@ impl Model for Certifiers {
 }
 
 impl Certifiers {
-    /// Of each issuer the newest certification on the user ID that counts by it, is live at `t` and unrevoked.
+    /// For each issuer, the newest certification on the user ID that counts as the issuer's, is live at `t` and
+    /// unrevoked.
     pub fn new(alloc: Global, uid: &Part, verdicts: &Verdicts, t: u32) -> Result<Certifiers, Memory>
         requires few { length uid.now.sigs < 2 ^ 32 }
         ensures newest { IfOk result (λ found. KeepsNewest verdicts.now t uid.now found) }
@@ -70,7 +74,7 @@ fn keep(numbers: &mut Numbers, issuer: Fpr, number: u32) -> Result<(), Memory>
     Ok(())
 }
 
-/// When each issuer made its latest live revocation at a place.
+/// When each issuer's latest live revocation among these signatures was created.
 fn latest_revocations(
     alloc: Global,
     sigs: &[Sig],
@@ -88,7 +92,7 @@ fn latest_revocations(
     Ok(latest)
 }
 
-/// Takes a signature into the latest revocations.
+/// Adds a signature to the latest revocations.
 fn note_revocation(
     latest: &mut Numbers,
     sig: &Sig,
@@ -138,7 +142,7 @@ fn newest_places(
     Ok(places)
 }
 
-/// Takes a signature, which stands at this place, into the newest certifications.
+/// Adds the signature at this place to the newest certifications.
 fn note_certification(
     places: &mut Numbers,
     sigs: &[Sig],
@@ -175,7 +179,7 @@ fn kept<'a>(places: &Numbers, sigs: &'a [Sig], issuer: &Fpr) -> Option<&'a Sig>
     }
 }
 
-/// Whether it is newer than the other one, if there is one.
+/// Whether a signature is newer than the other one, if there is one.
 fn is_newest(sig: &Sig, other: Option<&Sig>) -> bool
     ensures { higher_of newness sig.now (option_copied other.entry)
         ≡ (if result then Some sig.now else option_copied other.entry) }

@@ -1,4 +1,8 @@
-ghost use Rattle.std.specs.Prelude.{◌≡◌, ℕ};
+//! `standing`: which signature governs a key at a time, when the key ends, and whether it is revoked.
+//!
+//! It stands on `newest` and `revoked`, and on `specs/Standing.antt`. Usable edges and valid targets are decided by the
+//! result.
+ghost use Rattle.std.specs.Prelude.{◌≡◌};
 ghost use Rattle.std.specs.Option.{option_copied};
 ghost use Rattle.wot_cert.specs.Span.{span_of, created_of};
 ghost use Rattle.wot_standing.specs.Standing.{standing_of, governing as governing_spec, end_by};
@@ -9,10 +13,9 @@ use crate::kinds::Binding;
 use crate::newest::{newest_valid, primary};
 use crate::revoked::{has_hard, soft_moment};
 use wot_cert::{Cert, Sig, Span, span};
-use wot_types::Fpr;
 use wot_verdict::Verdicts;
 
-/// The signature that governs: the newest direct key signature, else the primary self-certification.
+/// The governing signature: the newest direct key signature, or else the primary self-certification.
 fn governing<'a>(cert: &'a Cert, verdicts: &Verdicts, t: u32) -> Option<&'a Sig>
     ensures { option_copied result ≡ governing_spec verdicts.now cert.now t }
 {
@@ -58,11 +61,11 @@ fn standing_at(cert: &Cert, verdicts: &Verdicts, t: u32) -> Standing
     }
 }
 
-/// The standing of a certificate at a time, and the span of times through which it is the same.
+/// Computes the standing of a certificate at a time, and the span of times throughout which it doesn't change.
 ///
-/// The newest direct key signature governs that counts by the key itself, is live and unrevoked; where there is none,
-/// the greatest, by the primary mark and then newness, of each user ID's newest self-certification. A revocation of
-/// the key that doesn't say that it was superseded, retired or renamed is hard.
+/// The newest direct key signature by the key itself that is live and unrevoked governs. If there is none, the greatest
+/// of all user IDs' newest self-certifications governs, compared by the primary mark and then by newness. A revocation
+/// of the key is hard unless it says that the key was superseded or retired or that the user ID isn't valid any more.
 pub fn standing(cert: &Cert, verdicts: &Verdicts, t: u32) -> (Standing, Span)
     ensures standing { result.0 ≡ standing_of verdicts.now cert.now t }
     ensures span { result.1 ≡ span_of cert.now t }

@@ -1,5 +1,7 @@
-//! What one signature is: its kind, when it was made, whether it is live, by whom it counts.
-ghost use Rattle.std.specs.Prelude.{◌≡◌, ◌==◌, ℕ, Bool, nat_le, ◌&&◌};
+//! What one signature is: its type, when it was created, whether it is live, whose it is, and whether it revokes.
+//!
+//! It stands on the facts of `wot_signature` and on `specs/Kinds.antt`. Everything else in this crate asks it.
+ghost use Rattle.std.specs.Prelude.{◌≡◌, ◌==◌, ◌&&◌};
 ghost use Rattle.wot_cert.specs.Issuer.{counts_by};
 ghost use Rattle.wot_cert.specs.Revoked.{has_kind as has_kind_spec, is_revocable as is_revocable_spec, revokes_by};
 ghost use Rattle.wot_cert.specs.Time.{made_of, facts_live, is_live as is_live_spec};
@@ -13,14 +15,14 @@ use wot_signature::SigFacts;
 use wot_types::{Fpr, compare_fprs};
 use wot_verdict::Verdicts;
 
-// Kinds of signatures (RFC 9580, section 5.2.1).
+// Signature types (RFC 9580, section 5.2.1).
 const DIRECT_KEY: u8 = 0x1f;
 
 pub(crate) const KEY_REVOCATION: u8 = 0x20;
 
 const CERTIFICATION_REVOCATION: u8 = 0x30;
 
-/// By which signature a key binds: to itself, or to a user ID.
+/// What a self-signature binds: the key itself, or a user ID.
 #[derive(Clone, Copy)]
 pub(crate) enum Binding {
     DirectKey,
@@ -36,7 +38,7 @@ pub(crate) fn has_kind(sig: &Sig, kind: u8) -> bool
     }
 }
 
-/// Whether it is a certification, of any of its four kinds.
+/// Whether it is a certification, of any of the four types.
 pub fn is_certification(sig: &Sig) -> bool
     ensures { result ≡ is_certification_spec sig.now }
 {
@@ -82,7 +84,7 @@ pub(crate) fn is_primary(sig: &Sig) -> bool
     }
 }
 
-/// Whether it may be revoked.
+/// Whether it can be revoked.
 pub fn is_revocable(sig: &Sig) -> bool
     ensures { result ≡ is_revocable_spec sig.now }
 {
@@ -92,7 +94,7 @@ pub fn is_revocable(sig: &Sig) -> bool
     }
 }
 
-/// When it was made, in seconds since 1970; 0 where it isn't readable.
+/// When it was created, in seconds since 1970; 0 if it can't be parsed.
 pub fn made(sig: &Sig) -> u32
     ensures { result ≡ made_of sig.now }
 {
@@ -118,7 +120,7 @@ pub fn is_live(sig: &Sig, t: u32) -> bool
     }
 }
 
-/// Whether it counts by this one.
+/// Whether it counts as a signature by this key.
 pub(crate) fn counts(sig: &Sig, verdicts: &Verdicts, fpr: &Fpr) -> bool
     ensures { result ≡ counts_by verdicts.now fpr.now sig.now }
 {
@@ -128,7 +130,7 @@ pub(crate) fn counts(sig: &Sig, verdicts: &Verdicts, fpr: &Fpr) -> bool
     }
 }
 
-/// Whether it is a live revocation of certifications by this one.
+/// Whether it is a live revocation of certifications by this key.
 pub fn revokes(sig: &Sig, verdicts: &Verdicts, fpr: &Fpr, t: u32) -> bool
     ensures { result ≡ revokes_by verdicts.now fpr.now t sig.now }
 {

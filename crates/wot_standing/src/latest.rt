@@ -1,3 +1,6 @@
+//! The latest revocation of an issuer: one moment decides which of its signatures are revoked.
+//!
+//! It stands on `kinds` and on `specs/Latest.antt`. `newest` and `certifiers` compare with it.
 ghost use Rattle.std.specs.Prelude.{◌≡◌, max};
 ghost use Rattle.std.specs.Option.{option_map_or};
 ghost use Rattle.wot_standing.specs.Latest.{revoked_at, outlives as outlives_spec};
@@ -7,7 +10,7 @@ use wot_cert::Sig;
 use wot_types::Fpr;
 use wot_verdict::Verdicts;
 
-/// When the latest live revocation by this one at a place was made.
+/// When the latest live revocation by this key among these signatures was created.
 pub(crate) fn latest_revocation(sigs: &[Sig], verdicts: &Verdicts, fpr: &Fpr, t: u32) -> Option<u32>
     ensures { result ≡ revoked_at verdicts.now fpr.now t sigs.now }
 {
@@ -31,7 +34,7 @@ pub(crate) fn later(made: u32, best: Option<u32>) -> u32
     }
 }
 
-/// Whether what was made then is newer than the latest revocation, if there is one.
+/// Whether a signature created then is newer than the latest revocation, if there is one.
 pub(crate) fn outlives(revoked: Option<u32>, made: u32) -> bool
     ensures { result ≡ outlives_spec revoked made }
 {

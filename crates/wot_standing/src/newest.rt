@@ -1,5 +1,8 @@
+//! Which of several valid signatures is the newest, and which self-certification is primary.
+//!
+//! It stands on `kinds` and `latest`, and on `specs/Valid.antt` and `specs/Standing.antt`. `governing` and `certifiers`
+//! decide by it.
 ghost use Rattle.std.specs.Prelude.{◌≡◌, filter};
-ghost use Rattle.std.specs.List.{filter_map};
 ghost use Rattle.std.specs.Option.{option_copied};
 ghost use Rattle.wot_cert.specs.Ranked.{greatest, higher as higher_of};
 ghost use Rattle.wot_cert.specs.Time.{newness};
@@ -14,7 +17,7 @@ use wot_cert::{Part, Sig};
 use wot_types::{Fpr, compare_numbers};
 use wot_verdict::Verdicts;
 
-/// By the time made, then the number, then the body.
+/// Compares by creation time, then by number, then by body.
 pub(crate) fn compare_newness(a: &Sig, b: &Sig) -> Ordering
     ensures { result ≡ newness a.now b.now }
 {
@@ -27,7 +30,7 @@ pub(crate) fn compare_newness(a: &Sig, b: &Sig) -> Ordering
     }
 }
 
-/// By the primary mark, then newness.
+/// Compares by the primary mark, then by newness.
 fn compare_primacy(a: &Sig, b: &Sig) -> Ordering
     ensures { result ≡ primacy a.now b.now }
 {
@@ -37,7 +40,7 @@ fn compare_primacy(a: &Sig, b: &Sig) -> Ordering
     }
 }
 
-/// The one that is not less.
+/// The greater of two signatures.
 fn higher<'a>(order: Ordering, a: &'a Sig, b: &'a Sig) -> &'a Sig
     ensures { result.now ≡ higher_of order a.now b.now }
 {
@@ -64,7 +67,7 @@ pub(crate) fn is_valid_after(
         && (!is_revocable(sig) || outlives(revoked, made(sig)))
 }
 
-/// The newest of those that are valid, where the latest revocation was made then.
+/// The newest of the valid signatures, given when the latest revocation was created.
 fn newest_after<'a>(
     sigs: &'a [Sig],
     verdicts: &Verdicts,
@@ -90,7 +93,7 @@ fn newest_after<'a>(
     best
 }
 
-/// The newest valid one at a place.
+/// The newest valid signature among these.
 pub(crate) fn newest_valid<'a>(
     sigs: &'a [Sig],
     verdicts: &Verdicts,
@@ -104,7 +107,7 @@ pub(crate) fn newest_valid<'a>(
     newest_after(sigs, verdicts, fpr, t, binding, revoked)
 }
 
-/// The greatest, by the primary mark and then newness, of the newest self-certifications of the user IDs.
+/// The greatest of all user IDs' newest self-certifications, by the primary mark and then by newness.
 pub(crate) fn primary<'a>(
     user_ids: &'a [Part],
     verdicts: &Verdicts,

@@ -1,3 +1,5 @@
+//! Whether a user ID is revoked by its own key. It stands on `kinds` and `newest`, and on `specs/Own.antt`. Such a user
+//! ID is no valid target.
 ghost use Rattle.std.specs.Prelude.{◌≡◌};
 ghost use Rattle.std.specs.List.{list_any};
 ghost use Rattle.wot_cert.specs.Revoked.{revokes_by};
@@ -21,8 +23,8 @@ fn has_revocation(sigs: &[Sig], verdicts: &Verdicts, fpr: &Fpr, t: u32) -> bool
     found
 }
 
-/// Whether a user ID is revoked at a time by its own key, which has this fingerprint: a live revocation by it stands
-/// on the user ID, and no self-certification that is live and unrevoked.
+/// Whether a user ID is revoked at a time by its own key, which has this fingerprint: it has a live revocation by the
+/// key, and no live and unrevoked self-certification.
 pub fn is_own_revoked(uid: &Part, verdicts: &Verdicts, fpr: &Fpr, t: u32) -> bool
     ensures revoked { result ≡ is_own_revoked_spec verdicts.now fpr.now t uid.now }
 {

@@ -1,3 +1,6 @@
+//! Revocations of a key: hard ones, which count at every time, and the first soft one.
+//!
+//! It stands on `kinds` and on `specs/Standing.antt`. `governing` puts the result into the standing.
 ghost use Rattle.std.specs.Prelude.{◌≡◌, min};
 ghost use Rattle.std.specs.List.{list_any};
 ghost use Rattle.std.specs.Option.{option_map_or};
@@ -28,7 +31,7 @@ fn is_soft_revocation(sig: &Sig, verdicts: &Verdicts, fpr: &Fpr, t: u32) -> bool
     revokes_key(sig, verdicts, fpr) && is_soft(sig) && is_live(sig, t)
 }
 
-/// Whether one of these revokes the key for hard, whenever it was made.
+/// Whether one of these is a hard revocation of the key, whenever it was created.
 pub(crate) fn has_hard(direct: &[Sig], verdicts: &Verdicts, fpr: &Fpr) -> bool
     ensures { result ≡ list_any (is_hard_spec verdicts.now fpr.now) direct.now }
 {
@@ -41,7 +44,7 @@ pub(crate) fn has_hard(direct: &[Sig], verdicts: &Verdicts, fpr: &Fpr) -> bool
     found
 }
 
-/// When the first of those was made that softly revoke the key and are live.
+/// When the first live soft revocation of the key was created.
 pub(crate) fn soft_moment(direct: &[Sig], verdicts: &Verdicts, fpr: &Fpr, t: u32) -> Option<u32>
     ensures { result ≡ soft_moment_spec verdicts.now fpr.now t direct.now }
 {

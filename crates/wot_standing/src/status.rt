@@ -1,14 +1,16 @@
+//! The standing of a key as a value. `governing` makes it, `usable` decides by it, and `wot_explain` finds its words by
+//! it.
 /// Whether a key stands at a time, and what ends it.
 #[derive(Clone, Copy, PartialEq, Eq)]
 pub struct Standing {
-    /// A signature of its own governs it.
+    /// Whether a self-signature governs it.
     pub has: bool,
-    /// When the key was made, in seconds since 1970.
+    /// When the key was created, in seconds since 1970.
     pub created: u32,
-    /// When it ends by what the governing signature says; `None` is never, or that no signature governs.
+    /// When it expires by the governing signature; `None` if it doesn't, or no signature governs.
     pub end: Option<u64>,
-    /// A revocation takes effect for all times.
+    /// Whether it is hard revoked.
     pub hard: bool,
-    /// When the first revocation was made that takes effect from then on.
+    /// When the first soft revocation was created, if there is one.
     pub soft: Option<u32>,
 }

@@ -1,3 +1,7 @@
+//! The span of times throughout which the same signatures of a certificate are live.
+//!
+//! It stands on `Cert::span` and on the law in `proofs/SpanLaw.antt`. `wot_network` keeps edges for as long as the time
+//! stays in it.
 ghost use Rattle.std.specs.Prelude.{ℕ, ◌≡◌};
 ghost use Rattle.wot_types.specs.declared.fpr.Fpr.{Fpr};
 ghost use Rattle.wot_verdict.specs.Verdicts.{Entries};
@@ -6,7 +10,7 @@ ghost use Rattle.wot_standing.specs.Steady.{AreSameBy, IsSteady};
 
 use wot_cert::{Cert, Span, span};
 
-/// The span of a time, throughout which the same signatures are live.
+/// The span of times around `t` throughout which the same signatures are live.
 pub fn steady_span(cert: &Cert, t: u32) -> Span
     ensures span { result ≡ span_of cert.now t }
     ensures steady { (u : ℕ) → InSpan result u → IsSteady cert.now t u }

@@ -1,5 +1,8 @@
-ghost use Rattle.std.specs.Prelude.{◌≡◌, true, nat_lt};
-ghost use Rattle.std.specs.Option.{option_map_or};
+//! Usable edges and valid targets, by the standing of a key.
+//!
+//! It stands on `status` and on `specs/Usable.antt`. `wot_network` asks it for each edge and target; `docs/PROFILE.md`
+//! states the rules.
+ghost use Rattle.std.specs.Prelude.{◌≡◌, true};
 ghost use Rattle.wot_standing.specs.Usable.{is_usable as is_usable_spec, is_key_in_order as is_key_in_order_spec};
 ghost use Rattle.wot_standing.specs.Usable.{is_after as is_after_spec};
 
@@ -23,8 +26,8 @@ fn is_after(t: u32, moment: Option<u32>) -> bool
     }
 }
 
-/// Whether an edge made then is usable, by the standing of its issuer: the issuer stands, was there by then, had not
-/// ended, isn't hard revoked, and wasn't soft revoked by then.
+/// Whether an edge created then is usable, by the standing of its issuer: the issuer stands, already existed, hadn't
+/// expired, isn't hard revoked, and wasn't soft revoked by then.
 pub fn is_usable(issuer: &Standing, made: u32) -> bool
     ensures usable { result ≡ is_usable_spec issuer.now made }
 {
@@ -35,7 +38,8 @@ pub fn is_usable(issuer: &Standing, made: u32) -> bool
         && is_after(made, issuer.soft)
 }
 
-/// Whether a key is in order at a time, by its standing then: it stands, was created, hasn't ended and isn't revoked.
+/// Whether a key is a valid target at a time, by its standing then: it stands, already exists, hasn't expired and isn't
+/// revoked.
 pub fn is_key_in_order(target: &Standing, t: u32) -> bool
     ensures in_order { result ≡ is_key_in_order_spec target.now t }
 {

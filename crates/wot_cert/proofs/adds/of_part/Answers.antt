@@ -11,5 +11,6 @@ listed l o e = omega arith
 
 pub returns : goal.returns
 returns c =
-    let same : sum_of (λ _. 1) c.args.part.now.sigs ≡ length c.sigs.result.now = ones c.args.part.now.sigs ∙ ap length (sym c.sigs.ensures.sigs) in
+    let same : sum_of (λ _. 1) c.args.part.now.sigs ≡ length c.sigs.result.now =
+    ones c.args.part.now.sigs ∙ ap length (sym c.sigs.ensures.sigs) in
     record { items = counted _ _ same; signatures = listed _ _ same; octets = c.part_octets.ensures }

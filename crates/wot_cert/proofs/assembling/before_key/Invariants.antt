@@ -7,7 +7,8 @@ use Rattle.wot_cert.proofs.assembling.before_key.Given as goal
 abbrev pub invariant-packets : goal.invariant-packets
 invariant-packets l = record {
   within : l.count ≤ length l.packets;
-  before : (cut_at is_key (spelled_all l.packets)).0 ≡ take l.count (spelled_all l.packets) ++ (cut_at is_key (drop l.count (spelled_all l.packets))).0;
+  before : (cut_at is_key (spelled_all l.packets)).0 ≡ take l.count
+      (spelled_all l.packets) ++ (cut_at is_key (drop l.count (spelled_all l.packets))).0;
   behind : (cut_at is_key (spelled_all l.packets)).1 ≡ (cut_at is_key (drop l.count (spelled_all l.packets))).1;
 }
 

@@ -14,10 +14,12 @@ abbrev pub invariant-left : goal.invariant-left
 invariant-left g l = record {
   rises : IsRising part_cmp l.parts.items;
   fit : AllByRecursion PartFits l.left;
-  union : unite_parts l.parts.items (map (part_with (judged_sig (rows_of l.initial.policy))) l.left) ≡ unite_parts l.initial.parts.items (map (part_with (judged_sig (rows_of l.initial.policy))) l.more);
+  union : unite_parts l.parts.items (map (part_with (judged_sig (rows_of l.initial.policy))) l.left) ≡ unite_parts
+      l.initial.parts.items (map (part_with (judged_sig (rows_of l.initial.policy))) l.more);
   back : parts_back l.log.items l.parts.items ≡ parts_back l.initial.log.items l.initial.parts.items;
   follow : FollowParts l.initial.totals l.totals l.initial.parts.items l.parts.items;
-  asked : (k : ℕ) × (l.policy ≡ asked_more k l.initial.policy) × (k + sum_of sound_weight l.initial.parts.items ≡ sum_of sound_weight l.parts.items);
+  asked : (k : ℕ) × (l.policy ≡ asked_more k l.initial.policy)
+      × (k + sum_of sound_weight l.initial.parts.items ≡ sum_of sound_weight l.parts.items);
   faithful : IsFaithful g.F.Fn l.policy;
 }
 

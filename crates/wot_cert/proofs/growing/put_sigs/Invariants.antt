@@ -14,10 +14,12 @@ abbrev pub invariant-left : goal.invariant-left
 invariant-left g l = record {
   rises : IsRising sig_cmp l.sigs.items;
   fit : AllByRecursion SigFits l.left;
-  union : unite_sigs l.sigs.items (map (judged_sig (rows_of l.initial.policy)) l.left) ≡ unite_sigs l.initial.sigs.items (map (judged_sig (rows_of l.initial.policy)) l.more);
+  union : unite_sigs l.sigs.items (map (judged_sig (rows_of l.initial.policy)) l.left) ≡ unite_sigs l.initial.sigs.items
+      (map (judged_sig (rows_of l.initial.policy)) l.more);
   back : without_all l.log.items l.sigs.items ≡ without_all l.initial.log.items l.initial.sigs.items;
   follow : FollowSigs l.initial.totals l.totals l.initial.sigs.items l.sigs.items;
-  asked : (k : ℕ) × (l.policy ≡ asked_more k l.initial.policy) × (k + sum_of if_sound l.initial.sigs.items ≡ sum_of if_sound l.sigs.items);
+  asked : (k : ℕ) × (l.policy ≡ asked_more k l.initial.policy)
+      × (k + sum_of if_sound l.initial.sigs.items ≡ sum_of if_sound l.sigs.items);
   faithful : IsFaithful g.F.Fn l.policy;
 }
 

@@ -4,4 +4,5 @@ use Rattle.wot_cert.proofs.Wholes.{unite_whole, marked_whole}
 use Rattle.wot_cert.proofs.laws.united_whole.Goals as goal
 
 pub returns : goal.returns
-returns c = record { united = unite_whole; unmarked = marked_whole (λ _. false); judged = λ rows. marked_whole (is_admitted_by rows) }
+returns c = record
+    { united = unite_whole; unmarked = marked_whole (λ _. false); judged = λ rows. marked_whole (is_admitted_by rows) }

@@ -5,7 +5,8 @@ use Rattle.wot_cert.proofs.measure.with_parts.Goals as goal
 pub rest-preserved : goal.rest-preserved
 rest-preserved c = record {
   fit = search rules;
-  before = before_on _ _ _ _ _ _ _ _ _ _ _ c.of_part.ensures c.with-sum.ensures c.in-Some.ensures.cases.0 c.rest.invariant.before;
+  before = before_on _ _ _ _ _ _ _ _ _ _ _ c.of_part.ensures c.with-sum.ensures c.in-Some.ensures.cases.0
+      c.rest.invariant.before;
 }
 
 pub returns : goal.returns

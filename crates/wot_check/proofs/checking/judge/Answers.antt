@@ -21,7 +21,8 @@ pub returns-then-not-in_order-clause-checked : goal.returns-then-not-in_order-cl
 returns-then-not-in_order-clause-checked g c =
     let q = asks (g.R.Roads.told c.args.roads.now c.args.uid.now) c.args.roots.now c.args.target.now in
     let claims = c.args.paths.now in
-    disordered_bad q claims (sym c.if-not-in_order.ensures.in_order) (λ e. false≢true (c.if-is_empty.ensures ∙ eq-eqb (length claims) 0 (ap length e)))
+    disordered_bad q claims (sym c.if-not-in_order.ensures.in_order)
+    (λ e. false≢true (c.if-is_empty.ensures ∙ eq-eqb (length claims) 0 (ap length e)))
 
 pub returns-in-None-clause-checked : goal.returns-in-None-clause-checked
 returns-in-None-clause-checked g c =
@@ -41,4 +42,5 @@ returns-clause-checked g c =
     let q = asks (g.R.Roads.told c.args.roads.now c.args.uid.now) c.args.roots.now c.args.target.now in
     let claims = c.args.paths.now in
     let u = subst (λ (found : Option Sums). AreUsedBy q claims found) c.in-Some.is c.in_ok-show_all.ensures.used in
-    rejected q claims c.in-Some.used c.args.table.now u (sym c.if-not-in_order.ensures.in_order) (λ x. false≢true (sym c.if-branch.false ∙ c.in_ok-excludes-in-Some.ensures.1 x))
+    rejected q claims c.in-Some.used c.args.table.now u (sym c.if-not-in_order.ensures.in_order)
+    (λ x. false≢true (sym c.if-branch.false ∙ c.in_ok-excludes-in-Some.ensures.1 x))

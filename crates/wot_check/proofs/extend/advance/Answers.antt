@@ -12,4 +12,8 @@ returns g c =
     let now : Growth = record { table = c.args.growth.now.table; layer = c.replace-layer.new.dest } in
     let l = c.deref.ensures.value ∙ ap (λ (v : Vec Fpr Global). v.items) c.replace-layer.ensures.value in
     let e = ap (λ (v : Vec Fpr Global). v.items) c.replace-layer.ensures.after ∙ c.new.ensures.items in
-    record { after = on_ok_weaker c.extend_all.result (λ grown. advanced q (used_in c.args.asked.now) c.args.size c.args.growth.now now c.extend_all.new.growth c.deref.result.now l refl e grown) c.extend_all.ensures.grown }
+    record {
+      after = on_ok_weaker c.extend_all.result
+          (λ grown. advanced q (used_in c.args.asked.now) c.args.size c.args.growth.now now c.extend_all.new.growth
+          c.deref.result.now l refl e grown) c.extend_all.ensures.grown;
+    }

@@ -13,13 +13,16 @@ rest-init g c =
     let q = question_of told c.args.asked.now in
     record {
       into = all_into told c.args.at.now c.rows-rest.result.now c.rows-rest.ensures.rows;
-      grew = λ leads layered. grew_begin q (used_in c.args.asked.now) c.args.size c.args.at.now c.args.growth.now c.rows-rest.result.now (c.rows-rest.ensures.rows c.args.asked.now.uid.now) layered;
+      grew = λ leads layered. grew_begin q (used_in c.args.asked.now) c.args.size c.args.at.now c.args.growth.now
+          c.rows-rest.result.now (c.rows-rest.ensures.rows c.args.asked.now.uid.now) layered;
     }
 
 pub consider-requires-clause-row : goal.consider-requires-clause-row
 consider-requires-clause-row g c =
     let told = g.R.Roads.told c.args.roads.now in
-    let h : (id : List ℕ) → Has (edges_into (told id) c.args.at.now) c.in-Some.edge.now = λ id. within_first c.rest.rest.now _ c.in-Some.later.now c.in-Some.edge.now c.in-Some.ensures.cases.0 (c.rest.invariant.into id) in
+    let h : (id : List ℕ) → Has (edges_into (told id) c.args.at.now) c.in-Some.edge.now =
+    λ id. within_first c.rest.rest.now _ c.in-Some.later.now c.in-Some.edge.now c.in-Some.ensures.cases.0
+    (c.rest.invariant.into id) in
     into_own told c.rows-rest.ensures.lawful c.args.at.now c.in-Some.edge.now h
 
 pub rest-preserved : goal.rest-preserved
@@ -30,16 +33,25 @@ rest-preserved g c =
     let used = used_in c.args.asked.now in
     let edge = c.in-Some.edge.now in
     let both = c.in-Some.ensures.cases.0 in
-    let h : (id : List ℕ) → Has (edges_into (told id) c.args.at.now) edge = λ id. within_first c.rest.rest.now _ c.in-Some.later.now edge both (c.rest.invariant.into id) in
+    let h : (id : List ℕ) → Has (edges_into (told id) c.args.at.now) edge =
+    λ id. within_first c.rest.rest.now _ c.in-Some.later.now edge both (c.rest.invariant.into id) in
     let t = into_target told c.rows-rest.ensures.lawful c.args.at.now edge h uid in
-    let P : Demand → Type 0 = λ d. EachRow q.told edge (λ (row : Row). GivesIf (is_new q.target used d c.rest.growth.table row) c.rest.growth c.consider.new.growth row.edge.issuer (c.args.size + 1)) in
+    let P : Demand → Type 0 =
+    λ d. EachRow q.told edge
+    (λ (row : Row). GivesIf (is_new q.target used d c.rest.growth.table row) c.rest.growth c.consider.new.growth
+    row.edge.issuer (c.args.size + 1)) in
     let gives = subst P c.demanded-demand.ensures c.in_ok-consider.ensures.given in
     record {
       into = λ id. within_later c.rest.rest.now _ c.in-Some.later.now edge both (c.rest.invariant.into id);
-      grew = λ leads layered. grew_more q used c.args.size c.args.at.now c.args.growth.now c.rest.growth c.consider.new.growth c.rest.rest.now c.in-Some.later.now edge both t (h uid) leads gives (c.rest.invariant.grew leads layered);
+      grew = λ leads layered. grew_more q used c.args.size c.args.at.now c.args.growth.now c.rest.growth
+          c.consider.new.growth c.rest.rest.now c.in-Some.later.now edge both t (h uid) leads gives
+          (c.rest.invariant.grew leads layered);
     }
 
 pub returns : goal.returns
 returns g c =
     let q = question_of (g.R.Roads.told c.args.roads.now) c.args.asked.now in
-    record { grown = λ leads layered. grew_end q (used_in c.args.asked.now) c.args.size c.args.at.now c.args.growth.now c.rest.growth c.rest.rest.now c.in_default.ensures.cases (c.rest.invariant.grew leads layered) }
+    record {
+      grown = λ leads layered. grew_end q (used_in c.args.asked.now) c.args.size c.args.at.now c.args.growth.now
+          c.rest.growth c.rest.rest.now c.in_default.ensures.cases (c.rest.invariant.grew leads layered);
+    }

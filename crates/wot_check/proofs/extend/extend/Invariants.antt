@@ -11,7 +11,8 @@ invariant-rest g l =
     let q = question_of told l.asked in
     record {
       into : AreInto told l.at l.rest;
-      grew : Leads q (used_in l.asked) l.fn.growth.table l.size l.at → IsLayered q (used_in l.asked) (suc l.size) l.fn.growth
+      grew : Leads q (used_in l.asked) l.fn.growth.table l.size l.at
+          → IsLayered q (used_in l.asked) (suc l.size) l.fn.growth
           → GrewInto q (used_in l.asked) l.size l.at l.fn.growth l.growth l.rest;
     }
 

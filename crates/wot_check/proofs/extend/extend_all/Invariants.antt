@@ -10,7 +10,8 @@ invariant-rest g l =
     let q = question_of (g.R.Roads.told l.roads) l.asked in
     record {
       within : Within l.rest l.layer;
-      grew : LeadsFromLayer q (used_in l.asked) l.size l.layer l.fn.growth.table → IsLayered q (used_in l.asked) (suc l.size) l.fn.growth
+      grew : LeadsFromLayer q (used_in l.asked) l.size l.layer l.fn.growth.table
+          → IsLayered q (used_in l.asked) (suc l.size) l.fn.growth
           → GrewBy q (used_in l.asked) l.size l.layer l.fn.growth l.growth l.rest;
     }
 

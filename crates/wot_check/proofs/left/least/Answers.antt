@@ -9,7 +9,8 @@ pub rest-preserved : goal.rest-preserved
 rest-preserved c =
     let used = use_in c.args.used.now in
     let later = c.in-Some.later.now in
-    ap (λ (n : ℕ). least_left used n later) (c.min-least.ensures ∙ ap (λ (n : ℕ). min c.rest.least n) c.left_of_step.ensures)
+    ap (λ (n : ℕ). least_left used n later)
+    (c.min-least.ensures ∙ ap (λ (n : ℕ). min c.rest.least n) c.left_of_step.ensures)
     ∙ least_more used c.rest.least (step_left used c.in-Some.step.now) later
     ∙ ap (λ (steps : List Step). least_left used c.rest.least steps) (sym c.in-Some.ensures.cases.0)
     ∙ c.rest.invariant

@@ -7,4 +7,5 @@ pub returns : goal.returns
 returns c told e =
     let used = used_in c.args.asked.now in
     c.least.ensures
-    ∙ ap (λ (n : ℕ). least_left used n c.args.steps.now) (c.left_of_root.ensures told ∙ ap (root_left (question_of told c.args.asked.now) used) e)
+    ∙ ap (λ (n : ℕ). least_left used n c.args.steps.now)
+    (c.left_of_root.ensures told ∙ ap (root_left (question_of told c.args.asked.now) used) e)

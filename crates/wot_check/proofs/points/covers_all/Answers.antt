@@ -9,9 +9,13 @@ use Rattle.wot_check.proofs.points.covers_all.Goals as goal
 pub returns-then-not-branch : goal.returns-then-not-branch
 returns-then-not-branch g c =
     let q = question_of (g.R.Roads.told c.args.roads.now) c.args.asked.now in
-    let h = within_first c.rest.rest c.args.table.now c.next.new.self (c.in-Some.fpr, c.in-Some.label) c.in-Some.ensures.steps c.rest.invariant.2.within in (
+    let h = within_first c.rest.rest c.args.table.now c.next.new.self (c.in-Some.fpr, c.in-Some.label)
+    c.in-Some.ensures.steps c.rest.invariant.2.within in (
       λ e. absurd (false≢true e),
-      λ others. absurd (labels_fail q (used_in c.args.asked.now) c.args.table.now c.iter-rest.ensures.table c.in-Some.fpr c.in-Some.label h
+      λ others. absurd
+          (labels_fail q (used_in c.args.asked.now) c.args.table.now c.iter-rest.ensures.table c.in-Some.fpr
+          c.in-Some.label
+          h
           (λ f. false≢true (sym c.if-not-branch.true ∙ c.in_ok-covers_below.ensures.1 f)) others),
     )
 
@@ -21,14 +25,19 @@ rest-preserved g c =
       tt,
       tt,
       record {
-        within = within_later c.rest.rest c.args.table.now c.next.new.self (c.in-Some.fpr, c.in-Some.label) c.in-Some.ensures.steps c.rest.invariant.2.within;
-        covered = labels_more q (used_in c.args.asked.now) c.args.table.now c.rest.rest c.next.new.self c.in-Some.fpr c.in-Some.label c.in-Some.ensures.steps (c.in_ok-covers_below.ensures.0 c.if-not-branch.false) c.rest.invariant.2.covered;
+        within = within_later c.rest.rest c.args.table.now c.next.new.self (c.in-Some.fpr, c.in-Some.label)
+            c.in-Some.ensures.steps c.rest.invariant.2.within;
+        covered = labels_more q (used_in c.args.asked.now) c.args.table.now c.rest.rest c.next.new.self c.in-Some.fpr
+            c.in-Some.label c.in-Some.ensures.steps (c.in_ok-covers_below.ensures.0 c.if-not-branch.false)
+            c.rest.invariant.2.covered;
       },
     )
 
 pub returns : goal.returns
 returns g c =
     let q = question_of (g.R.Roads.told c.args.roads.now) c.args.asked.now in (
-      λ e. labels_all q (used_in c.args.asked.now) c.args.table.now c.iter-rest.ensures.table (subst (λ (xs : Labels). LabelsSoFar q (used_in c.args.asked.now) c.args.table.now xs) c.in_default.ensures.steps.0 c.rest.invariant.2.covered),
+      λ e. labels_all q (used_in c.args.asked.now) c.args.table.now c.iter-rest.ensures.table
+          (subst (λ (xs : Labels). LabelsSoFar q (used_in c.args.asked.now) c.args.table.now xs)
+          c.in_default.ensures.steps.0 c.rest.invariant.2.covered),
       λ others. refl,
     )

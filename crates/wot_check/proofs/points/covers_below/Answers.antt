@@ -15,5 +15,7 @@ returns g c =
     let small = c.ranges.label in
     let n = c.if-label-eq255.false in
     let P : Bool → Type 0 = λ covered. (covered ≡ true) ↔ Covers q used c.args.label c.args.table.now c.args.at.now in
-    let Q : Bool → Type 0 = λ covered. (covered ≡ true) ↔ CoversBelow c.args.label c.args.table.now c.args.at.now q used in
-    IfOk-weaker c.covers.result P Q (λ covered h. (λ e lt. h.0 e, λ covers. h.1 (covers (omega (arith, n))))) c.covers.ensures
+    let Q : Bool → Type 0 =
+    λ covered. (covered ≡ true) ↔ CoversBelow c.args.label c.args.table.now c.args.at.now q used in
+    IfOk-weaker c.covers.result P Q (λ covered h. (λ e lt. h.0 e, λ covers. h.1 (covers (omega (arith, n)))))
+    c.covers.ensures

@@ -11,14 +11,19 @@ pub returns-then-not-roots_spent : goal.returns-then-not-roots_spent
 returns-then-not-roots_spent g c =
     let told = g.R.Roads.told c.args.roads.now in
     let q = question_of told c.args.asked.now in
-    let used = used_in c.args.asked.now in
-    (λ e. absurd (false≢true e), λ x. absurd (rooted_unspent q used c.args.table.now (c.if-not-roots_spent.ensures told) x.roots))
+    let used = used_in c.args.asked.now in (
+      λ e. absurd (false≢true e),
+      λ x. absurd (rooted_unspent q used c.args.table.now (c.if-not-roots_spent.ensures told) x.roots),
+    )
 
 pub returns-then-not-branch : goal.returns-then-not-branch
 returns-then-not-branch g c =
     let q = question_of (g.R.Roads.told c.args.roads.now) c.args.asked.now in
-    let used = used_in c.args.asked.now in
-    (λ e. absurd (false≢true e), λ x. absurd (false≢true (sym c.if-not-branch.true ∙ c.in_ok-covers.ensures.1 (last_covered q used c.args.table.now x))))
+    let used = used_in c.args.asked.now in (
+      λ e. absurd (false≢true e),
+      λ x. absurd (false≢true
+          (sym c.if-not-branch.true ∙ c.in_ok-covers.ensures.1 (last_covered q used c.args.table.now x))),
+    )
 
 pub returns : goal.returns
 returns g c =
@@ -30,7 +35,8 @@ returns g c =
     let Q : Bool → Type 0 = λ meets. (meets ≡ true) ↔ Excludes q used table in
     IfOk-weaker c.covers_all.result P Q
     (λ meets h. (
-      λ e. three_points q used table c.iter-labels.ensures.table (c.if-not-roots_spent.ensures told) (c.in_ok-covers.ensures.0 c.if-not-branch.false) (h.0 e),
+      λ e. three_points q used table c.iter-labels.ensures.table (c.if-not-roots_spent.ensures told)
+          (c.in_ok-covers.ensures.0 c.if-not-branch.false) (h.0 e),
       λ x. h.1 x.closes.others,
     ))
     c.covers_all.ensures

@@ -12,7 +12,8 @@ pub returns-then-left_of_root-gt0 : goal.returns-then-left_of_root-gt0
 returns-then-left_of_root-gt0 c told =
     let t = c.if-left_of_root-gt0.true in
     let e = c.left_of_root.ensures told in
-    let h = within_first c.rest.rest c.args.table.now c.next.new.self (c.in-Some.fpr, c.in-Some.field-0-1) c.in-Some.ensures.steps c.rest.invariant.2.within in
+    let h = within_first c.rest.rest c.args.table.now c.next.new.self (c.in-Some.fpr, c.in-Some.field-0-1)
+    c.in-Some.ensures.steps c.rest.invariant.2.within in
     record {
       fpr = c.in-Some.fpr;
       label = c.in-Some.field-0-1;
@@ -25,18 +26,23 @@ rest-preserved c = (
   tt,
   tt,
   record {
-    within = within_later c.rest.rest c.args.table.now c.next.new.self (c.in-Some.fpr, c.in-Some.field-0-1) c.in-Some.ensures.steps c.rest.invariant.2.within;
+    within = within_later c.rest.rest c.args.table.now c.next.new.self (c.in-Some.fpr, c.in-Some.field-0-1)
+        c.in-Some.ensures.steps c.rest.invariant.2.within;
     spent = λ told fpr label h. elim (c.rest.invariant.2.spent told fpr label h) [
       | inl e ↦ inl e
-      | inr k ↦ elim (first_or_later c.rest.rest c.next.new.self (c.in-Some.fpr, c.in-Some.field-0-1) (fpr, label) c.in-Some.ensures.steps k) [
-        | inl same ↦
-            let left : root_left (question_of told c.args.asked.now) (used_in c.args.asked.now) fpr ≡ root_left (question_of told c.args.asked.now) (used_in c.args.asked.now) c.in-Some.fpr
-            = ap (λ (entry : Fpr × ℕ). root_left (question_of told c.args.asked.now) (used_in c.args.asked.now) entry.0) same in
-            let f = c.if-left_of_root-gt0.false in
-            let e = c.left_of_root.ensures told in
-            inl (omega (arith, left, f, e))
-        | inr k' ↦ inr k'
-      ]
+      | inr k ↦ elim (first_or_later c.rest.rest c.next.new.self (c.in-Some.fpr, c.in-Some.field-0-1) (fpr, label)
+          c.in-Some.ensures.steps k) [
+            | inl same ↦
+                let left : root_left (question_of told c.args.asked.now) (used_in c.args.asked.now) fpr ≡ root_left
+                (question_of told c.args.asked.now) (used_in c.args.asked.now) c.in-Some.fpr
+                = ap (λ (entry : Fpr × ℕ). root_left (question_of told c.args.asked.now) (used_in c.args.asked.now)
+                entry.0)
+                same in
+                let f = c.if-left_of_root-gt0.false in
+                let e = c.left_of_root.ensures told in
+                inl (omega (arith, left, f, e))
+            | inr k' ↦ inr k'
+          ]
     ];
   },
 )

@@ -7,7 +7,9 @@ use Rattle.wot_check.proofs.show.are_distinct.Goals as goal
 pub rest-preserved : goal.rest-preserved
 rest-preserved c =
     let both = c.in-Some.ensures.cases.0 in (
-      λ d. c.rest.invariant.0 (subst (λ (steps : List Step). Distinct (issuers steps)) (sym both) (λ h. let t = c.if-has_issuer.ensures.1 h in cc, d)),
+      λ d. c.rest.invariant.0
+          (subst (λ (steps : List Step). Distinct (issuers steps)) (sym both)
+          (λ h. let t = c.if-has_issuer.ensures.1 h in cc, d)),
       λ d. (subst (λ (steps : List Step). Distinct (issuers steps)) both (c.rest.invariant.1 d)).1,
     )
 

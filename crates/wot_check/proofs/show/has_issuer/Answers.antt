@@ -18,4 +18,7 @@ rest-preserved c =
     )
 
 pub returns : goal.returns
-returns c = (λ e. absurd (false≢true e), λ h. absurd (no_issuers c.rest.rest.now c.args.fpr.now c.in_default.ensures.cases (c.rest.invariant.1 h)))
+returns c = (
+  λ e. absurd (false≢true e),
+  λ h. absurd (no_issuers c.rest.rest.now c.args.fpr.now c.in_default.ensures.cases (c.rest.invariant.1 h)),
+)

@@ -16,7 +16,8 @@ pub stands-requires : goal.stands-requires
 stands-requires g c =
     let told = g.R.Roads.told c.args.roads.now in
     let edge = c.in-Some.edge.now in
-    let h : (id : List ℕ) → Has (edges_into (told id) c.begin-target.result) edge = λ id. subst (λ (xs : List EdgeFacts). Has xs edge) (c.rows.ensures.rows id) c.in-Some.ensures.0 in
+    let h : (id : List ℕ) → Has (edges_into (told id) c.begin-target.result) edge =
+    λ id. subst (λ (xs : List EdgeFacts). Has xs edge) (c.rows.ensures.rows id) c.in-Some.ensures.0 in
     record { row = into_own told c.rows.ensures.lawful c.begin-target.result edge h }
 
 pub returns-in-None : goal.returns-in-None
@@ -24,7 +25,11 @@ returns-in-None g c =
     let told = g.R.Roads.told c.args.roads.now in
     let uid = c.args.asked.now.uid.now in
     let q = question_of told c.args.asked.now in
-    record { found = none_named q (used_in c.args.asked.now) (c.rows.ensures.lawful uid) c.args.item.now c.args.later.now c.begin-target.result c.rows.result.now c.begin-target.ensures (c.rows.ensures.rows uid) c.in-None.ensures }
+    record {
+      found = none_named q (used_in c.args.asked.now) (c.rows.ensures.lawful uid) c.args.item.now
+          c.args.later.now c.begin-target.result c.rows.result.now c.begin-target.ensures (c.rows.ensures.rows uid)
+          c.in-None.ensures;
+    }
 
 pub returns-then-branch : goal.returns-then-branch
 returns-then-branch g c =
@@ -33,16 +38,24 @@ returns-then-branch g c =
     let q = question_of told c.args.asked.now in
     let used = used_in c.args.asked.now in
     let edge = c.in-Some.edge.now in
-    let h : (id : List ℕ) → Has (edges_into (told id) c.begin-target.result) edge = λ id. subst (λ (xs : List EdgeFacts). Has xs edge) (c.rows.ensures.rows id) c.in-Some.ensures.0 in
+    let h : (id : List ℕ) → Has (edges_into (told id) c.begin-target.result) edge =
+    λ id. subst (λ (xs : List EdgeFacts). Has xs edge) (c.rows.ensures.rows id) c.in-Some.ensures.0 in
     let good = c.rows.ensures.lawful uid in
     let r = row_there (told uid) c.begin-target.result edge (h uid) in
-    let own = subst (λ (f : Fpr). Has (rows_into (told uid) f) r.0) (sym (into_target told c.rows.ensures.lawful c.begin-target.result edge h uid)) r.1 in
+    let own = subst (λ (f : Fpr). Has (rows_into (told uid) f) r.0)
+    (sym (into_target told c.rows.ensures.lawful c.begin-target.result edge h uid)) r.1 in
     let into = subst (λ (f : Fpr). Has (rows_into (told uid) f) r.0) c.begin-target.ensures r.1 in
-    let named : IsNamed c.args.item.now r.0.edge = subst (λ (e : EdgeFacts). IsNamed c.args.item.now e) (sym r.2) c.in-Some.ensures.1 in
+    let named : IsNamed c.args.item.now r.0.edge =
+    subst (λ (e : EdgeFacts). IsNamed c.args.item.now e) (sym r.2) c.in-Some.ensures.1 in
     let stands : may_stand q.target used (demand_of q (length c.args.later.now)) r.0 ≡ true =
-    subst (λ (d : Demand). may_stand q.target used d r.0 ≡ true) c.demanded-demand.ensures (c.in_ok-stands-in-Some.ensures r.0 own r.2 ∙ c.if-branch.true) in
-    let same : step_of r.0.edge ≡ c.step_from.result = ap step_of r.2 ∙ sym (c.step_from.ensures ∙ ap step_of c.facts.ensures.facts) in
-    record { found = subst (λ (s : Step). IsFollower q used c.args.item.now c.args.later.now (Some s)) same (row_follows q used good c.args.item.now c.args.later.now r.0 into named stands) }
+    subst (λ (d : Demand). may_stand q.target used d r.0 ≡ true) c.demanded-demand.ensures
+    (c.in_ok-stands-in-Some.ensures r.0 own r.2 ∙ c.if-branch.true) in
+    let same : step_of r.0.edge ≡ c.step_from.result =
+    ap step_of r.2 ∙ sym (c.step_from.ensures ∙ ap step_of c.facts.ensures.facts) in
+    record {
+      found = subst (λ (s : Step). IsFollower q used c.args.item.now c.args.later.now (Some s)) same
+          (row_follows q used good c.args.item.now c.args.later.now r.0 into named stands);
+    }
 
 pub returns-else-branch : goal.returns-else-branch
 returns-else-branch g c =
@@ -51,12 +64,16 @@ returns-else-branch g c =
     let q = question_of told c.args.asked.now in
     let used = used_in c.args.asked.now in
     let edge = c.in-Some.edge.now in
-    let h : (id : List ℕ) → Has (edges_into (told id) c.begin-target.result) edge = λ id. subst (λ (xs : List EdgeFacts). Has xs edge) (c.rows.ensures.rows id) c.in-Some.ensures.0 in
+    let h : (id : List ℕ) → Has (edges_into (told id) c.begin-target.result) edge =
+    λ id. subst (λ (xs : List EdgeFacts). Has xs edge) (c.rows.ensures.rows id) c.in-Some.ensures.0 in
     let good = c.rows.ensures.lawful uid in
     let r = row_there (told uid) c.begin-target.result edge (h uid) in
-    let own = subst (λ (f : Fpr). Has (rows_into (told uid) f) r.0) (sym (into_target told c.rows.ensures.lawful c.begin-target.result edge h uid)) r.1 in
+    let own = subst (λ (f : Fpr). Has (rows_into (told uid) f) r.0)
+    (sym (into_target told c.rows.ensures.lawful c.begin-target.result edge h uid)) r.1 in
     let into = subst (λ (f : Fpr). Has (rows_into (told uid) f) r.0) c.begin-target.ensures r.1 in
-    let named : IsNamed c.args.item.now r.0.edge = subst (λ (e : EdgeFacts). IsNamed c.args.item.now e) (sym r.2) c.in-Some.ensures.1 in
+    let named : IsNamed c.args.item.now r.0.edge =
+    subst (λ (e : EdgeFacts). IsNamed c.args.item.now e) (sym r.2) c.in-Some.ensures.1 in
     let stands : may_stand q.target used (demand_of q (length c.args.later.now)) r.0 ≡ false =
-    subst (λ (d : Demand). may_stand q.target used d r.0 ≡ false) c.demanded-demand.ensures (c.in_ok-stands-in-Some.ensures r.0 own r.2 ∙ c.if-branch.false) in
+    subst (λ (d : Demand). may_stand q.target used d r.0 ≡ false) c.demanded-demand.ensures
+    (c.in_ok-stands-in-Some.ensures r.0 own r.2 ∙ c.if-branch.false) in
     record { found = row_fails q used good c.args.item.now c.args.later.now r.0 into named stands }

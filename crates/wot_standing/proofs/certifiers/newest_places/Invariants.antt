@@ -13,7 +13,9 @@ abbrev pub invariant-back : goal.invariant-back
 invariant-back l = record {
   seen : List Signature;
   all : l.sigs ≡ l.rest ++ seen;
-  newest : (q : Fpr) → kept_for l.places.entries l.sigs q ≡ greatest newness (filter (is_valid_after l.verdicts q l.t Certification (revoked_at l.verdicts q l.t l.sigs)) seen);
+  newest : (q : Fpr)
+      → kept_for l.places.entries l.sigs q ≡ greatest newness
+      (filter (is_valid_after l.verdicts q l.t Certification (revoked_at l.verdicts q l.t l.sigs)) seen);
 }
 
 abbrev pub decreases-back : goal.decreases-back

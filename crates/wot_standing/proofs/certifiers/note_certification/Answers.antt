@@ -15,7 +15,8 @@ returns-then-not-is_valid_after c =
     let issuer = c.in-Some.issuer in
     unchanged issuer old (λ q best. newer_by a.verdicts.now q a.t a.sigs.now a.sig.now best)
     (others_newer a.verdicts.now a.t a.sigs.now a.sig.now issuer (sym c.in-Some.ensures.issuer))
-    (not_newer a.verdicts.now issuer a.t a.sigs.now a.sig.now (old issuer) c.number-revoked.result (c.number-revoked.ensures ∙ c.requires.latest issuer) (sym c.if-not-is_valid_after.ensures))
+    (not_newer a.verdicts.now issuer a.t a.sigs.now a.sig.now (old issuer) c.number-revoked.result
+    (c.number-revoked.ensures ∙ c.requires.latest issuer) (sym c.if-not-is_valid_after.ensures))
 
 pub returns-then-not-is_newest : goal.returns-then-not-is_newest
 returns-then-not-is_newest c =
@@ -24,7 +25,8 @@ returns-then-not-is_newest c =
     let issuer = c.in-Some.issuer in
     unchanged issuer old (λ q best. newer_by a.verdicts.now q a.t a.sigs.now a.sig.now best)
     (others_newer a.verdicts.now a.t a.sigs.now a.sig.now issuer (sym c.in-Some.ensures.issuer))
-    (is_newer a.verdicts.now issuer a.t a.sigs.now a.sig.now (old issuer) _ (old issuer) c.number-revoked.result (c.number-revoked.ensures ∙ c.requires.latest issuer) (sym c.if-not-is_valid_after.ensures)
+    (is_newer a.verdicts.now issuer a.t a.sigs.now a.sig.now (old issuer) _ (old issuer) c.number-revoked.result
+    (c.number-revoked.ensures ∙ c.requires.latest issuer) (sym c.if-not-is_valid_after.ensures)
     c.kept.ensures (c.if-not-is_newest.ensures ∙ c.kept.ensures))
 
 pub returns : goal.returns
@@ -35,6 +37,10 @@ returns c =
     changed issuer old (λ q best. newer_by a.verdicts.now q a.t a.sigs.now a.sig.now best)
     (others_newer a.verdicts.now a.t a.sigs.now a.sig.now issuer (sym c.in-Some.ensures.issuer))
     (λ q. kept_for c.keep.new.numbers.entries a.sigs.now q) (slice_get a.sigs.now a.at)
-    (λ q. ap (option_and_then (slice_get a.sigs.now)) (c.in_ok-keep.ensures q) ∙ found_at (slice_get a.sigs.now) (same_fpr issuer q) a.at (number_for a.places.now.entries q))
-    (c.requires.here ∙ sym (is_newer a.verdicts.now issuer a.t a.sigs.now a.sig.now (old issuer) _ (Some a.sig.now) c.number-revoked.result (c.number-revoked.ensures ∙ c.requires.latest issuer) (sym c.if-not-is_valid_after.ensures)
+    (λ q. ap (option_and_then (slice_get a.sigs.now)) (c.in_ok-keep.ensures q)
+    ∙ found_at (slice_get a.sigs.now) (same_fpr issuer q) a.at (number_for a.places.now.entries q))
+    (c.requires.here
+    ∙ sym (is_newer a.verdicts.now issuer a.t a.sigs.now a.sig.now (old issuer) _ (Some a.sig.now)
+    c.number-revoked.result (c.number-revoked.ensures ∙ c.requires.latest issuer)
+    (sym c.if-not-is_valid_after.ensures)
     c.kept.ensures c.if-not-is_newest.ensures))

@@ -21,4 +21,5 @@ returns c =
     changed issuer old (λ q best. later_by a.verdicts.now q a.t a.sig.now best)
     (others_later a.verdicts.now a.t a.sig.now issuer (sym c.in-Some.ensures.issuer))
     (λ q. number_for c.keep.new.numbers.entries q) (Some c.later-best.result) c.in_ok-keep.ensures
-    (is_later a.verdicts.now issuer a.t a.sig.now (old issuer) c.number.result c.made.result c.later-best.result (sym c.if-not-revokes.ensures) c.made.ensures c.number.ensures c.later-best.ensures)
+    (is_later a.verdicts.now issuer a.t a.sig.now (old issuer) c.number.result c.made.result c.later-best.result
+    (sym c.if-not-revokes.ensures) c.made.ensures c.number.ensures c.later-best.ensures)

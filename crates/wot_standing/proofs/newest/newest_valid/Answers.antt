@@ -10,5 +10,6 @@ pub returns : goal.returns
 returns c =
     let a = c.args in
     c.newest_after.ensures
-    ∙ ap (λ r. greatest newness (filter (is_valid_after a.verdicts.now a.fpr.now a.t a.binding r) a.sigs.now)) c.latest_revocation-revoked.ensures
+    ∙ ap (λ r. greatest newness (filter (is_valid_after a.verdicts.now a.fpr.now a.t a.binding r) a.sigs.now))
+    c.latest_revocation-revoked.ensures
     ∙ newest-latest a.verdicts.now a.fpr.now a.t a.binding a.sigs.now

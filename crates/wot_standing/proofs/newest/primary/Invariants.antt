@@ -5,7 +5,9 @@ use Rattle.wot_standing.specs.Standing.{primary_among}
 use Rattle.wot_standing.proofs.newest.primary.Given as goal
 
 abbrev pub invariant-back : goal.invariant-back
-invariant-back l = (seen : List Component) × (l.user_ids ≡ l.rest ++ seen) × (option_copied l.best ≡ primary_among l.verdicts l.fpr l.t seen)
+invariant-back l =
+    (seen : List Component) × (l.user_ids ≡ l.rest ++ seen)
+    × (option_copied l.best ≡ primary_among l.verdicts l.fpr l.t seen)
 
 abbrev pub decreases-back : goal.decreases-back
 decreases-back l = length l.rest

@@ -6,7 +6,8 @@ pub whole-requires : goal.whole-requires
 whole-requires c =
     let places = c.put_drafted.new.self in
     let drafted = c.in_ok-put_drafted.ensures.drafted in
-    made-whole c.in-Some.key c.in-Some-fingerprint.fpr c.args.body.now (seen c.args.draft.now) c.in_ok-body.body.items places.direct.items places.user_ids.items places.attributes.items places.subkeys.items
+    made-whole c.in-Some.key c.in-Some-fingerprint.fpr c.args.body.now (seen c.args.draft.now) c.in_ok-body.body.items
+    places.direct.items places.user_ids.items places.attributes.items places.subkeys.items
     (record {
       key_is = c.in-Some.ensures.read;
       fpr_is = c.in-Some-fingerprint.ensures.digest;

@@ -1,4 +1,4 @@
-use Rattle.std.proofs.Common.{◌+◌, ◌<◌, ◌^◌, refl, sym, ap, ◌∙◌, subst, arith}
+use Rattle.std.proofs.Common.{◌+◌, refl, sym, ap, ◌∙◌, subst, arith}
 use Rattle.wot_policy.specs.Kept.{rows_of}
 use Rattle.wot_cert.specs.Certificate.{unite}
 use Rattle.wot_cert.specs.Counts.{items_of}
@@ -18,12 +18,17 @@ overflow_sub-added g c =
 
 pub returns-in-Ok-clause-union : goal.returns-in-Ok-clause-union
 returns-in-Ok-clause-union g c =
-    c.in-Ok.ensures.union ∙ merged (rows_of c.args.policy.now) c.args.self.now c.args.other.now c.has_key_of.ensures.whole.0 c.has_key_of.ensures.whole.1
+    c.in-Ok.ensures.union
+    ∙ merged (rows_of c.args.policy.now) c.args.self.now c.args.other.now c.has_key_of.ensures.whole.0
+    c.has_key_of.ensures.whole.1
 
 pub returns-in-Ok-clause-judged : goal.returns-in-Ok-clause-judged
 returns-in-Ok-clause-judged g c =
-    let e = c.in-Ok.ensures.union ∙ merged (rows_of c.args.policy.now) c.args.self.now c.args.other.now c.has_key_of.ensures.whole.0 c.has_key_of.ensures.whole.1 in
-    λ j. subst (IsJudged (rows_of c.args.policy.now)) (sym e) (merged_judged (rows_of c.args.policy.now) c.args.self.now c.args.other.now j)
+    let e = c.in-Ok.ensures.union
+    ∙ merged (rows_of c.args.policy.now) c.args.self.now c.args.other.now c.has_key_of.ensures.whole.0
+    c.has_key_of.ensures.whole.1 in
+    λ j. subst (IsJudged (rows_of c.args.policy.now)) (sym e)
+    (merged_judged (rows_of c.args.policy.now) c.args.self.now c.args.other.now j)
 
 pub returns-in-Ok-clause-items : goal.returns-in-Ok-clause-items
 returns-in-Ok-clause-items g c =
@@ -38,5 +43,10 @@ returns-in-Ok-clause-asked g c =
     let a = c.args.self.now in
     let b = c.args.other.now in
     let more = c.in-Ok.ensures.asked in
-    let total = ap sound_of c.in-Ok.ensures.union ∙ beside_weight if_sound (λ _. 0) (rows_of c.args.policy.now) (λ s. refl) (λ old p. refl) a (unite a b) in
-    (more.0, more.1, ap (λ k. k + sound_of a) more.2 ∙ merged_sound a b c.has_key_of.ensures.whole.0 c.has_key_of.ensures.whole.1 ∙ sym total)
+    let total = ap sound_of c.in-Ok.ensures.union
+    ∙ beside_weight if_sound (λ _. 0) (rows_of c.args.policy.now) (λ s. refl) (λ old p. refl) a (unite a b) in (
+      more.0,
+      more.1,
+      ap (λ k. k + sound_of a) more.2 ∙ merged_sound a b c.has_key_of.ensures.whole.0 c.has_key_of.ensures.whole.1
+          ∙ sym total,
+    )

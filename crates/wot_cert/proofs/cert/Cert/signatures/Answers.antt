@@ -8,5 +8,6 @@ use Rattle.wot_cert.proofs.cert.Cert.signatures.Goals as goal
 
 pub returns : goal.returns
 returns c = record {
-  signatures = c.self.invariant.1.signatures ∙ ap (λ (x : Certificate). cap (signatures_of x)) c.self.view_is ∙ uncapped _ (few_signatures c.args.self.now c.requires);
+  signatures = c.self.invariant.1.signatures ∙ ap (λ (x : Certificate). cap (signatures_of x)) c.self.view_is
+      ∙ uncapped _ (few_signatures c.args.self.now c.requires);
 }

@@ -12,7 +12,9 @@ whole-requires c =
     let b = c.other.inside in
     let k : c.in_ok-body.body.items ≡ a.body.items = c.in_ok-body.ensures.items ∙ c.deref.ensures.value in
     let unions = c.in_ok-put_unions.ensures.unions in
-    let same : a.body.items ≡ b.body.items = ap (λ (x : Certificate). x.key) c.self.view_is ∙ c.requires ∙ sym (ap (λ (x : Certificate). x.key) c.other.view_is) in
+    let same : a.body.items ≡ b.body.items =
+    ap (λ (x : Certificate). x.key) c.self.view_is ∙ c.requires
+    ∙ sym (ap (λ (x : Certificate). x.key) c.other.view_is) in
     let whole = unite_whole _ _ c.self.invariant.0.2 c.other.invariant.0.2 same in (
       c.self.invariant.0.0 ∙ ap key_of (sym k),
       c.self.invariant.0.1 ∙ ap fpr_of (sym k),

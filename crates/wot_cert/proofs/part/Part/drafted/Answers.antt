@@ -7,4 +7,5 @@ use Rattle.wot_cert.proofs.part.Part.drafted.Goals as goal
 
 pub invariant_of-result : goal.invariant_of-result
 invariant_of-result c =
-    subst (λ (sigs : List Signature). IsRising sig_cmp sigs) (sym c.in_ok-put_fresh_sigs.ensures.sigs) (sigs-rise c.args.key.now c.args.kind c.args.body.now (bodies_in c.args.sigs.now) c.requires.rises)
+    subst (λ (sigs : List Signature). IsRising sig_cmp sigs) (sym c.in_ok-put_fresh_sigs.ensures.sigs)
+    (sigs-rise c.args.key.now c.args.kind c.args.body.now (bodies_in c.args.sigs.now) c.requires.rises)

@@ -8,4 +8,7 @@ use Rattle.wot_cert.proofs.Walk.{sigs_total, kept_same}
 use Rattle.wot_cert.proofs.part.Part.grow.Goals as goal
 
 pub invariant_of-self : goal.invariant_of-self
-invariant_of-self g c = subst (λ (xs : List Signature). IsRising sig_cmp xs) (sym c.in-Ok.ensures.union) (united_rises sig_cmp kept sigs_total kept_same c.self.inside.sigs.items (map (judged_sig (rows_of c.args.policy.now)) c.sigs.result.now) c.self.invariant)
+invariant_of-self g c =
+    subst (λ (xs : List Signature). IsRising sig_cmp xs) (sym c.in-Ok.ensures.union)
+    (united_rises sig_cmp kept sigs_total kept_same c.self.inside.sigs.items
+    (map (judged_sig (rows_of c.args.policy.now)) c.sigs.result.now) c.self.invariant)
