@@ -1,5 +1,6 @@
--- An edge with a depth is a certification that its issuer made with a depth.
-use Rattle.std.proofs.Common.{◌≡◌, ◌⊎◌, inl, inr, ℕ, ◌≤◌, ◌+◌, Bool, true, false, cond, List, [], ◌∷◌, ◌++◌, map, Option, Some, None, Ordering, refl, sym, ap, subst, ◌∙◌, arith}
+-- An edge with a depth comes from a certification that its issuer made with a depth.
+use Rattle.std.proofs.Common.{◌≡◌, ◌⊎◌, inl, inr, ℕ, ◌≤◌, ◌+◌, Bool, true, false, cond, List, [], ◌∷◌, ◌++◌, map}
+use Rattle.std.proofs.Common.{Option, Some, None, Ordering, refl, sym, ap, subst, ◌∙◌, arith}
 use Rattle.std.specs.Prelude.{◌&&◌, filter, if◌then◌else◌}
 use Rattle.std.specs.declared.cmp.Ordering.TheVariants.{Less, Equal, Greater}
 use Rattle.std.specs.List.{cons_option, filter_map}
@@ -29,12 +30,14 @@ use Rattle.wot_network.proofs.Looking.{entry_some, row_told}
 
 -- ---- members of lists
 
-put_has : (x : EdgeFacts) (ys : List EdgeFacts) (z : EdgeFacts) → Has (put edge_cmp one_of_both x ys) z → (z ≡ x) ⊎ Has ys z
+put_has : (x : EdgeFacts) (ys : List EdgeFacts) (z : EdgeFacts) → Has (put edge_cmp one_of_both x ys) z →
+    (z ≡ x) ⊎ Has ys z
 put_has x [] z (inl e) = inl e
 put_has x [] z (inr h) = absurd h
 put_has x (y ∷ ys) z h = by (put_has x ys z) (edge_cmp x y) h
   where
-    by : (Has (put edge_cmp one_of_both x ys) z → (z ≡ x) ⊎ Has ys z) → (o : Ordering) → Has (placed o one_of_both x y ys (put edge_cmp one_of_both x ys)) z → (z ≡ x) ⊎ Has (y ∷ ys) z
+    by : (Has (put edge_cmp one_of_both x ys) z → (z ≡ x) ⊎ Has ys z) → (o : Ordering) →
+        Has (placed o one_of_both x y ys (put edge_cmp one_of_both x ys)) z → (z ≡ x) ⊎ Has (y ∷ ys) z
     by later Less (inl e) = inl e
     by later Less (inr k) = inr k
     by later Equal (inl e) = inl e
@@ -44,27 +47,35 @@ put_has x (y ∷ ys) z h = by (put_has x ys z) (edge_cmp x y) h
 
 united_has : (ys : List EdgeFacts) (z : EdgeFacts) → Has (united edge_cmp one_of_both [] ys) z → Has ys z
 united_has [] z h = absurd h
-united_has (y ∷ ys) z h = elim (put_has y (united edge_cmp one_of_both [] ys) z h) [ inl e ↦ inl e | inr k ↦ inr (united_has ys z k) ]
+united_has (y ∷ ys) z h = elim (put_has y (united edge_cmp one_of_both [] ys) z h) [
+  | inl e ↦ inl e
+  | inr k ↦
+      inr (united_has ys z k)
+]
 
 append_has : (xs ys : List EdgeFacts) (z : EdgeFacts) → Has (xs ++ ys) z → Has xs z ⊎ Has ys z
 append_has [] ys z h = inr h
 append_has (x ∷ xs) ys z (inl e) = inl (inl e)
 append_has (x ∷ xs) ys z (inr h) = elim (append_has xs ys z h) [ inl k ↦ inl (inr k) | inr k ↦ inr k ]
 
-filter_has : (test : Signature → Bool) (xs : List Signature) (s : Signature) → Has (filter test xs) s → Has xs s × (test s ≡ true)
+filter_has : (test : Signature → Bool) (xs : List Signature) (s : Signature) → Has (filter test xs) s →
+    Has xs s × (test s ≡ true)
 filter_has test [] s h = absurd h
 filter_has test (x ∷ xs) s h = by (filter_has test xs s) (test x) refl h
   where
-    by : (Has (filter test xs) s → Has xs s × (test s ≡ true)) → (b : Bool) → test x ≡ b → Has (cond b (x ∷ filter test xs) (filter test xs)) s → Has (x ∷ xs) s × (test s ≡ true)
+    by : (Has (filter test xs) s → Has xs s × (test s ≡ true)) → (b : Bool) → test x ≡ b →
+        Has (cond b (x ∷ filter test xs) (filter test xs)) s → Has (x ∷ xs) s × (test s ≡ true)
     by later true e (inl f) = (inl f, ap test f ∙ e)
     by later true e (inr k) = let r = later k in (inr r.0, r.1)
     by later false e k = let r = later k in (inr r.0, r.1)
 
-filter_map_has : (h : Signature → Option EdgeFacts) (xs : List Signature) (e : EdgeFacts) → Has (filter_map h xs) e → (s : Signature) × (h s ≡ Some e)
+filter_map_has : (h : Signature → Option EdgeFacts) (xs : List Signature) (e : EdgeFacts) → Has (filter_map h xs) e →
+    (s : Signature) × (h s ≡ Some e)
 filter_map_has h [] e k = absurd k
 filter_map_has h (x ∷ xs) e k = by (filter_map_has h xs e) (h x) refl k
   where
-    by : (Has (filter_map h xs) e → (s : Signature) × (h s ≡ Some e)) → (o : Option EdgeFacts) → h x ≡ o → Has (cons_option o (filter_map h xs)) e → (s : Signature) × (h s ≡ Some e)
+    by : (Has (filter_map h xs) e → (s : Signature) × (h s ≡ Some e)) → (o : Option EdgeFacts) → h x ≡ o →
+        Has (cons_option o (filter_map h xs)) e → (s : Signature) × (h s ≡ Some e)
     by later None f j = later j
     by later (Some y) f (inl g) = (x, f ∙ ap (λ (z : EdgeFacts). Some z) (sym g))
     by later (Some y) f (inr j) = later j
@@ -78,13 +89,15 @@ greatest_has (x ∷ xs) s e = by (greatest_has xs) (greatest newness xs) refl e
     pick y h Equal f = inl cc
     pick y h Greater f = inl cc
 
-    by : ((y : Signature) → greatest newness xs ≡ Some y → Has xs y) → (o : Option Signature) → greatest newness xs ≡ o → higher_of newness x o ≡ Some s → Has (x ∷ xs) s
+    by : ((y : Signature) → greatest newness xs ≡ Some y → Has xs y) → (o : Option Signature) →
+        greatest newness xs ≡ o → higher_of newness x o ≡ Some s → Has (x ∷ xs) s
     by later None f g = inl cc
     by later (Some y) f g = pick y (later y f) (newness x y) g
 
 -- ---- a signature that counts
 
-good_with : (said : Option SigFacts) (admitted : Bool) (good : Option Fpr) (fpr : Fpr) → issuer_with said admitted good ≡ Some fpr → good ≡ Some fpr
+good_with : (said : Option SigFacts) (admitted : Bool) (good : Option Fpr) (fpr : Fpr) →
+    issuer_with said admitted good ≡ Some fpr → good ≡ Some fpr
 good_with None admitted good fpr e = absurd cc
 good_with (Some facts) false good fpr e = absurd cc
 good_with (Some facts) true None fpr e = absurd cc
@@ -94,10 +107,12 @@ good_with (Some facts) true (Some by) fpr e = pick (facts.sound && allows facts.
     pick true f = f
     pick false f = absurd cc
 
-counted_good : (verdicts : Entries) (fpr : Fpr) (s : Signature) → counts_by verdicts fpr s ≡ true → good_by (verdict_at verdicts s.number) ≡ Some fpr
+counted_good : (verdicts : Entries) (fpr : Fpr) (s : Signature) → counts_by verdicts fpr s ≡ true →
+    good_by (verdict_at verdicts s.number) ≡ Some fpr
 counted_good verdicts fpr s e = by (issuer_of verdicts s) refl e
   where
-    by : (o : Option Fpr) → issuer_of verdicts s ≡ o → option_map_or (same_fpr fpr) o false ≡ true → good_by (verdict_at verdicts s.number) ≡ Some fpr
+    by : (o : Option Fpr) → issuer_of verdicts s ≡ o → option_map_or (same_fpr fpr) o false ≡ true →
+        good_by (verdict_at verdicts s.number) ≡ Some fpr
     by None f g = absurd cc
     by (Some x) f g =
         good_with (said_by s) s.admitted (good_by (verdict_at verdicts s.number)) x f
@@ -106,33 +121,41 @@ counted_good verdicts fpr s e = by (issuer_of verdicts s) refl e
 -- ---- an edge
 
 -- the newest of those that pass a test is one of them
-newest_of : (test : Signature → Bool) (sigs : List Signature) (s : Signature) → greatest newness (filter test sigs) ≡ Some s → Has sigs s × (test s ≡ true)
+newest_of : (test : Signature → Bool) (sigs : List Signature) (s : Signature) →
+    greatest newness (filter test sigs) ≡ Some s → Has sigs s × (test s ≡ true)
 newest_of test sigs s e = filter_has test sigs s (greatest_has (filter test sigs) s e)
 
 -- what the newest certification by an issuer on a user ID is
-newest_is : (verdicts : Entries) (issuer : Fpr) (t : ℕ) (p : Component) (s : Signature) → newest_certification verdicts issuer t p ≡ Some s
+newest_is : (verdicts : Entries) (issuer : Fpr) (t : ℕ) (p : Component) (s : Signature) →
+    newest_certification verdicts issuer t p ≡ Some s
     → Has p.sigs s × (is_certification s ≡ true) × (good_by (verdict_at verdicts s.number) ≡ Some issuer)
 newest_is verdicts issuer t p s e =
     let (among, holds) = newest_of _ p.sigs s e in
-    let kind = and_parts (is_certification s) (counts_by verdicts issuer s && (is_live t s && is_unrevoked verdicts issuer t p.sigs s)) holds in
-    let counts = and_parts (counts_by verdicts issuer s) (is_live t s && is_unrevoked verdicts issuer t p.sigs s) kind.1 in
+    let kind = and_parts (is_certification s)
+    (counts_by verdicts issuer s && (is_live t s && is_unrevoked verdicts issuer t p.sigs s)) holds in
+    let counts = and_parts (counts_by verdicts issuer s) (is_live t s && is_unrevoked verdicts issuer t p.sigs s)
+    kind.1 in
     (among, kind.0, counted_good verdicts issuer s counts.0)
 
--- an edge has no more depth than its signature says
-said_deep : (issuer target : Fpr) (uid place : ℕ) (f : SigFacts) (edge : EdgeFacts) → edge_facts issuer target uid place f ≡ edge → 1 ≤ edge.depth → 1 ≤ f.depth
-said_deep issuer target uid place f edge e deep = by (same_fpr issuer target) (subst (λ (z : EdgeFacts). 1 ≤ z.depth) (sym e) deep)
+-- an edge has at most the depth that its signature says
+said_deep : (issuer target : Fpr) (uid place : ℕ) (f : SigFacts) (edge : EdgeFacts) →
+    edge_facts issuer target uid place f ≡ edge → 1 ≤ edge.depth → 1 ≤ f.depth
+said_deep issuer target uid place f edge e deep =
+    by (same_fpr issuer target) (subst (λ (z : EdgeFacts). 1 ≤ z.depth) (sym e) deep)
   where
     by : (b : Bool) → 1 ≤ (if b then 0 else f.depth) → 1 ≤ f.depth
     by true le = absurd (omega (arith, le))
     by false le = le
 
 module _ (verdicts : Entries) (c : Certificate) (t : ℕ) where
-  on_trusted : (issuer : Fpr) (uid : ℕ) (p : Component) (edge : EdgeFacts) → Has c.user_ids p → edge_on verdicts (own c) t issuer uid p ≡ Some edge → 1 ≤ edge.depth
+  on_trusted : (issuer : Fpr) (uid : ℕ) (p : Component) (edge : EdgeFacts) → Has c.user_ids p →
+      edge_on verdicts (own c) t issuer uid p ≡ Some edge → 1 ≤ edge.depth
       → IsTrusted verdicts edge.issuer c
   on_trusted issuer uid p edge on e deep = newest (newest_certification verdicts issuer t p) refl e
     where
       says : (s : Signature) → newest_certification verdicts issuer t p ≡ Some s → (o : Option SigFacts) → said_by s ≡ o
-          → option_map (edge_facts issuer (own c) uid (place_of s p.sigs)) o ≡ Some edge → IsTrusted verdicts edge.issuer c
+          → option_map (edge_facts issuer (own c) uid (place_of s p.sigs)) o ≡ Some edge →
+          IsTrusted verdicts edge.issuer c
       says s n None f g = absurd cc
       says s n (Some facts) f g =
           let (among, kind, good) = newest_is verdicts issuer t p s n in
@@ -149,31 +172,41 @@ module _ (verdicts : Entries) (c : Certificate) (t : ℕ) where
             deep = said_deep issuer (own c) uid (place_of s p.sigs) facts edge same deep;
           }
 
-      newest : (o : Option Signature) → newest_certification verdicts issuer t p ≡ o → option_and_then (edge_by issuer (own c) uid p.sigs) o ≡ Some edge → IsTrusted verdicts edge.issuer c
+      newest : (o : Option Signature) → newest_certification verdicts issuer t p ≡ o →
+          option_and_then (edge_by issuer (own c) uid p.sigs) o ≡ Some edge → IsTrusted verdicts edge.issuer c
       newest None f g = absurd cc
       newest (Some s) f g = says s f (said_by s) refl g
 
-  with_trusted : (uid : ℕ) (p : Component) (edge : EdgeFacts) (s : Signature) → Has c.user_ids p → edge_with verdicts (own c) t uid p s ≡ Some edge → 1 ≤ edge.depth → IsTrusted verdicts edge.issuer c
+  with_trusted : (uid : ℕ) (p : Component) (edge : EdgeFacts) (s : Signature) → Has c.user_ids p →
+      edge_with verdicts (own c) t uid p s ≡ Some edge → 1 ≤ edge.depth → IsTrusted verdicts edge.issuer c
   with_trusted uid p edge s on e deep = by (issuer_of verdicts s) refl e
     where
-      by : (o : Option Fpr) → issuer_of verdicts s ≡ o → option_and_then (λ issuer. edge_on verdicts (own c) t issuer uid p) o ≡ Some edge → IsTrusted verdicts edge.issuer c
+      by : (o : Option Fpr) → issuer_of verdicts s ≡ o →
+          option_and_then (λ issuer. edge_on verdicts (own c) t issuer uid p) o ≡ Some edge →
+          IsTrusted verdicts edge.issuer c
       by None f g = absurd cc
       by (Some issuer) f g = on_trusted issuer uid p edge on g deep
 
-  from_trusted : (uid : ℕ) (ps : List Component) → ((p : Component) → Has ps p → Has c.user_ids p) → (edge : EdgeFacts) → Has (edges_from verdicts (own c) t uid ps) edge → 1 ≤ edge.depth
+  from_trusted : (uid : ℕ) (ps : List Component) → ((p : Component) → Has ps p → Has c.user_ids p) →
+      (edge : EdgeFacts) → Has (edges_from verdicts (own c) t uid ps) edge → 1 ≤ edge.depth
       → IsTrusted verdicts edge.issuer c
   from_trusted uid [] all edge h deep = absurd h
-  from_trusted uid (p ∷ ps) all edge h deep = elim (append_has (edges_on verdicts (own c) t uid p) (edges_from verdicts (own c) t (uid + 1) ps) edge h) [
-    | inl k ↦ let (s, e) = filter_map_has (edge_with verdicts (own c) t uid p) p.sigs edge k in with_trusted uid p edge s (all p (inl refl)) e deep
-    | inr k ↦ from_trusted (uid + 1) ps (λ x j. all x (inr j)) edge k deep
-  ]
+  from_trusted uid (p ∷ ps) all edge h deep =
+      elim (append_has (edges_on verdicts (own c) t uid p) (edges_from verdicts (own c) t (uid + 1) ps) edge h) [
+        | inl k ↦ let (s, e) = filter_map_has (edge_with verdicts (own c) t uid p) p.sigs edge k in
+            with_trusted uid p edge s (all p (inl refl)) e deep
+        | inr k ↦ from_trusted (uid + 1) ps (λ x j. all x (inr j)) edge k deep
+      ]
 
-  pub edge_trusted : (edge : EdgeFacts) → Has (edges_of verdicts c t) edge → 1 ≤ edge.depth → IsTrusted verdicts edge.issuer c
-  edge_trusted edge h deep = from_trusted 0 c.user_ids (λ p k. k) edge (united_has (edges_from verdicts (own c) t 0 c.user_ids) edge h) deep
+  pub edge_trusted : (edge : EdgeFacts) → Has (edges_of verdicts c t) edge → 1 ≤ edge.depth →
+      IsTrusted verdicts edge.issuer c
+  edge_trusted edge h deep = from_trusted 0 c.user_ids (λ p k. k) edge
+      (united_has (edges_from verdicts (own c) t 0 c.user_ids) edge h) deep
 
 -- ---- a row
 
-row_has : (verdicts : Entries) (certs : Certificates) (t : ℕ) (u : List ℕ) (c : Certificate) (edges : List EdgeFacts) (row : Row) → Has (map (row_of verdicts certs t u c) edges) row → Has edges row.edge
+row_has : (verdicts : Entries) (certs : Certificates) (t : ℕ) (u : List ℕ) (c : Certificate) (edges : List EdgeFacts)
+    (row : Row) → Has (map (row_of verdicts certs t u c) edges) row → Has edges row.edge
 row_has verdicts certs t u c [] row h = absurd h
 row_has verdicts certs t u c (edge ∷ edges) row (inl e) = inl (ap (λ (r : Row). r.edge) e)
 row_has verdicts certs t u c (edge ∷ edges) row (inr h) = inr (row_has verdicts certs t u c edges row h)
@@ -181,5 +214,6 @@ row_has verdicts certs t u c (edge ∷ edges) row (inr h) = inr (row_has verdict
 pub rests_on_trust : (certs : Certificates) (verdicts : Entries) (t : ℕ) (u : List ℕ) → RestsOnTrust certs verdicts t u
 rests_on_trust certs verdicts t u fpr row h deep =
     let (c, found, told) = row_told certs verdicts t u fpr row h in
-    let among = row_has verdicts certs t u c (edges_of verdicts c t) row (subst (λ (entry : Entry). Has entry.rows row) (entry_some certs verdicts t u fpr c found) h) in
+    let among = row_has verdicts certs t u c (edges_of verdicts c t) row (subst (λ (entry : Entry). Has entry.rows row)
+    (entry_some certs verdicts t u fpr c found) h) in
     (c, found, edge_trusted verdicts c t row.edge among deep)

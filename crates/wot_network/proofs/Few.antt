@@ -12,7 +12,8 @@ parts_few kind [] = omega arith
 parts_few kind (p ∷ parts) =
     let h = long kind p in
     let more = parts_few kind parts in
-    let all : length (part_text kind p ++ parts_text kind parts) ≡ length (part_text kind p) + length (parts_text kind parts) = length-append (part_text kind p) (parts_text kind parts) in
+    let all : length (part_text kind p ++ parts_text kind parts) ≡ length (part_text kind p) + length
+    (parts_text kind parts) = length-append (part_text kind p) (parts_text kind parts) in
     omega (arith, h, more, all)
 
 third : (a b c d e : List ℕ) → length c ≤ length (a ++ b ++ c ++ d ++ e)
@@ -25,7 +26,8 @@ third a b c d e =
 pub user_ids_few : (c : Certificate) → size_of c ≤ 4194304 → length c.user_ids < 2 ^ 32
 user_ids_few c small =
     let few = parts_few 13 c.user_ids in
-    let within : length (parts_text 13 c.user_ids) ≤ size_of c = third (written 6 c.key) (sigs_text c.direct) (parts_text 13 c.user_ids) (parts_text 17 c.attributes) (parts_text 14 c.subkeys) in
+    let within : length (parts_text 13 c.user_ids) ≤ size_of c = third (written 6 c.key) (sigs_text c.direct)
+    (parts_text 13 c.user_ids) (parts_text 17 c.attributes) (parts_text 14 c.subkeys) in
     by (length c.user_ids) (length (parts_text 13 c.user_ids)) (size_of c) few within small
   where
     by : (a b d : ℕ) → a ≤ b → b ≤ d → d ≤ 4194304 → a < 2 ^ 32

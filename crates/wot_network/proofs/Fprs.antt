@@ -1,5 +1,6 @@
 -- Fingerprints, and what is found under them.
-use Rattle.std.proofs.Common.{◌≡◌, ◌≢◌, true, false, Bool, ◌||◌, cond, map, List, [], ◌∷◌, Option, Some, None, refl, sym, ap, ◌∙◌, subst}
+use Rattle.std.proofs.Common.{◌≡◌, true, false, Bool, ◌||◌, cond, map, List, [], ◌∷◌, Option, Some, None, refl, sym, ap}
+use Rattle.std.proofs.Common.{◌∙◌, subst}
 use Rattle.std.specs.Cmp.{IsTotalOrder}
 use Rattle.std.specs.BTreeMap.{insert_entry}
 use Rattle.std.specs.List.Sorted.{IsStrictlySortedBy}
@@ -51,8 +52,9 @@ greater_apart q a b greater h k =
     let equal : fpr_cmp a b ≡ Equal = ap (λ (x : Fpr). fpr_cmp a x) (sym same) ∙ tied_itself fprs_total a in
     cc
 
--- what stands behind an entry is of other fingerprints
-pub apart : (f : Fpr) (es : Entries) → AllByRecursion (λ y. fpr_cmp f y ≡ Less) (keys_of es) → AllByRecursion (λ (e : Fpr × Kept). is_fpr f e.0 ≡ false) es
+-- what comes after an entry has other fingerprints
+pub apart : (f : Fpr) (es : Entries) → AllByRecursion (λ y. fpr_cmp f y ≡ Less) (keys_of es) →
+    AllByRecursion (λ (e : Fpr × Kept). is_fpr f e.0 ≡ false) es
 apart f [] below = tt
 apart f (e ∷ es) below = (ap is_eq below.0, apart f es below.1)
 
@@ -60,24 +62,32 @@ pub away : (f q : Fpr) → fpr_cmp f q ≡ Less → is_fpr q f ≡ false
 away f q less = ap is_eq (fprs_total.antisymm q f ∙ ap ordering_reverse less)
 
 -- each entry is found under its fingerprint
-lifted : (e : Fpr × Kept) (es ys : Entries) → AllByRecursion (λ (x : Fpr × Kept). lookup (is_fpr x.0) es ≡ Some x.1) ys → AllByRecursion (λ y. fpr_cmp e.0 y ≡ Less) (keys_of ys) → AllByRecursion (λ (x : Fpr × Kept). lookup (is_fpr x.0) (e ∷ es) ≡ Some x.1) ys
+lifted : (e : Fpr × Kept) (es ys : Entries) → AllByRecursion (λ (x : Fpr × Kept). lookup (is_fpr x.0) es ≡ Some x.1)
+    ys → AllByRecursion (λ y. fpr_cmp e.0 y ≡ Less) (keys_of ys) →
+    AllByRecursion (λ (x : Fpr × Kept). lookup (is_fpr x.0) (e ∷ es) ≡ Some x.1) ys
 lifted e es [] all below = tt
 lifted e es (y ∷ ys) all below =
     (ap (λ b. cond b (Some e.1) (lookup (is_fpr y.0) es)) (away e.0 y.0 below.0) ∙ all.0, lifted e es ys all.1 below.1)
 
-pub found_each : (es : Entries) → AreSortedByFpr es → AllByRecursion (λ (x : Fpr × Kept). lookup (is_fpr x.0) es ≡ Some x.1) es
+pub found_each : (es : Entries) → AreSortedByFpr es →
+    AllByRecursion (λ (x : Fpr × Kept). lookup (is_fpr x.0) es ≡ Some x.1) es
 found_each [] sorted = tt
-found_each (e ∷ es) sorted =
-    (ap (λ b. cond b (Some e.1) (lookup (is_fpr e.0) es)) (itself e.0), lifted e es es (found_each es (sorted_tail fpr_cmp e.0 (keys_of es) sorted)) (sorted_head fpr_cmp e.0 (keys_of es) sorted))
+found_each (e ∷ es) sorted = (
+  ap (λ b. cond b (Some e.1) (lookup (is_fpr e.0) es)) (itself e.0),
+  lifted e es es (found_each es (sorted_tail fpr_cmp e.0 (keys_of es) sorted))
+      (sorted_head fpr_cmp e.0 (keys_of es) sorted),
+)
 
 -- ---- names
 
-pub named_certs : (es : Entries) → AreNamed es → AllByRecursion (λ (e : Fpr × Certificate). e.0 ≡ fpr_of e.1.key) (stripped es)
+pub named_certs : (es : Entries) → AreNamed es → AllByRecursion (λ (e : Fpr × Certificate). e.0 ≡ fpr_of e.1.key)
+    (stripped es)
 named_certs [] all = tt
 named_certs (e ∷ es) all = (all.0, named_certs es all.1)
 
 -- what is found is among the certificates
-pub found_named : (q : Fpr) (es : Entries) (x : Kept) → AreNamed es → lookup (is_fpr q) es ≡ Some x → is_named_in (map (λ (e : Fpr × Kept). e.1.cert) es) q ≡ true
+pub found_named : (q : Fpr) (es : Entries) (x : Kept) → AreNamed es → lookup (is_fpr q) es ≡ Some x →
+    is_named_in (map (λ (e : Fpr × Kept). e.1.cert) es) q ≡ true
 found_named q [] x all f = absurd cc
 found_named q (e ∷ es) x all f = by (is_fpr q e.0) refl f (found_named q es x all.1)
   where
@@ -85,9 +95,11 @@ found_named q (e ∷ es) x all f = by (is_fpr q e.0) refl f (found_named q es x 
     more true b h = refl
     more false b h = h
 
-    by : (b : Bool) → is_fpr q e.0 ≡ b → cond b (Some e.1) (lookup (is_fpr q) es) ≡ Some x → (lookup (is_fpr q) es ≡ Some x → is_named_in (map (λ (y : Fpr × Kept). y.1.cert) es) q ≡ true)
+    by : (b : Bool) → is_fpr q e.0 ≡ b → cond b (Some e.1) (lookup (is_fpr q) es) ≡ Some x →
+        (lookup (is_fpr q) es ≡ Some x → is_named_in (map (λ (y : Fpr × Kept). y.1.cert) es) q ≡ true)
         → is_fpr (fpr_of e.1.cert.key) q || is_named_in (map (λ (y : Fpr × Kept). y.1.cert) es) q ≡ true
-    by true t g later = ap (λ b. b || is_named_in (map (λ (y : Fpr × Kept). y.1.cert) es) q) (ap (λ (f : Fpr). is_fpr f q) (sym all.0) ∙ turned q e.0 t)
+    by true t g later = ap (λ b. b || is_named_in (map (λ (y : Fpr × Kept). y.1.cert) es) q)
+        (ap (λ (f : Fpr). is_fpr f q) (sym all.0) ∙ turned q e.0 t)
     by false t g later = more (is_fpr (fpr_of e.1.cert.key) q) _ (later g)
 
 -- ---- what is found after something is put in, or taken out
@@ -97,25 +109,33 @@ module _ {V : Type 0} where
   same_twice true x y o = refl
   same_twice false x y o = refl
 
-  swapped : (a b : Bool) (x y : V) (o : Option V) → (a ≡ true → b ≡ true → ⊥) → cond a (Some x) (cond b (Some y) o) ≡ cond b (Some y) (cond a (Some x) o)
+  swapped : (a b : Bool) (x y : V) (o : Option V) → (a ≡ true → b ≡ true → ⊥) →
+      cond a (Some x) (cond b (Some y) o) ≡ cond b (Some y) (cond a (Some x) o)
   swapped true true x y o apart = absurd (apart refl refl)
   swapped true false x y o apart = refl
   swapped false true x y o apart = refl
   swapped false false x y o apart = refl
 
-  pub found_put : (q : Fpr) (es : List (Fpr × V)) (fpr : Fpr) (v : V) → lookup (is_fpr q) (insert_entry fpr_cmp es fpr v) ≡ cond (is_fpr fpr q) (Some v) (lookup (is_fpr q) es)
+  pub found_put : (q : Fpr) (es : List (Fpr × V)) (fpr : Fpr) (v : V) →
+      lookup (is_fpr q) (insert_entry fpr_cmp es fpr v) ≡ cond (is_fpr fpr q) (Some v) (lookup (is_fpr q) es)
   found_put q [] fpr v = ap (λ b. cond b (Some v) None) (both_ways q fpr)
   found_put q (e ∷ es) fpr v =
-      elim (fpr_cmp fpr e.0) as (λ r. fpr_cmp fpr e.0 ≡ r → lookup (is_fpr q) (match_ordering r ((fpr, v) ∷ e ∷ es) ((e.0, v) ∷ es) (e ∷ insert_entry fpr_cmp es fpr v)) ≡ cond (is_fpr fpr q) (Some v) (cond (is_fpr q e.0) (Some e.1) (lookup (is_fpr q) es))) [
-        | Less ↦ λ less. ap (λ b. cond b (Some v) (cond (is_fpr q e.0) (Some e.1) (lookup (is_fpr q) es))) (both_ways q fpr)
+      elim (fpr_cmp fpr e.0) as (λ r. fpr_cmp fpr e.0 ≡ r →
+      lookup (is_fpr q) (match_ordering r ((fpr, v) ∷ e ∷ es) ((e.0, v) ∷ es) (e ∷ insert_entry fpr_cmp es fpr v)) ≡
+      cond (is_fpr fpr q) (Some v) (cond (is_fpr q e.0) (Some e.1) (lookup (is_fpr q) es))) [
+        | Less ↦ λ less. ap (λ b. cond b (Some v) (cond (is_fpr q e.0) (Some e.1) (lookup (is_fpr q) es)))
+            (both_ways q fpr)
         | Equal ↦ λ equal.
             same_twice (is_fpr q e.0) v e.1 (lookup (is_fpr q) es)
-            ∙ ap (λ b. cond b (Some v) (cond (is_fpr q e.0) (Some e.1) (lookup (is_fpr q) es))) (both_ways q e.0 ∙ ap (λ (f : Fpr). is_fpr f q) (sym (exact fpr e.0 equal)))
+            ∙ ap (λ b. cond b (Some v) (cond (is_fpr q e.0) (Some e.1) (lookup (is_fpr q) es))) (both_ways q e.0
+            ∙ ap (λ (f : Fpr). is_fpr f q) (sym (exact fpr e.0 equal)))
         | Greater ↦ λ greater.
             ap (λ (o : Option V). cond (is_fpr q e.0) (Some e.1) o) (found_put q es fpr v)
             ∙ swapped (is_fpr q e.0) (is_fpr fpr q) e.1 v (lookup (is_fpr q) es) (greater_apart q fpr e.0 greater)
       ] refl
 
-  pub found_out : (fpr q : Fpr) (es : List (Fpr × V)) → IsStrictlySortedBy fpr_cmp (keys_of es) → lookup (is_fpr q) (remove_entry (is_fpr fpr) es) ≡ cond (is_fpr fpr q) None (lookup (is_fpr q) es)
+  pub found_out : (fpr q : Fpr) (es : List (Fpr × V)) → IsStrictlySortedBy fpr_cmp (keys_of es) →
+      lookup (is_fpr q) (remove_entry (is_fpr fpr) es) ≡ cond (is_fpr fpr q) None (lookup (is_fpr q) es)
   found_out fpr q es sorted =
-      lookup-remove_entry (eq_by_cmp_equiv fprs_total) (is_fpr fpr) (λ x y h. ap (λ (z : Fpr). is_fpr z y) (same_fpr fpr x h)) q es (IsDistinct-from_sorted fpr_cmp (keys_of es) sorted)
+      lookup-remove_entry (eq_by_cmp_equiv fprs_total) (is_fpr fpr) (λ x y h. ap (λ (z : Fpr). is_fpr z y)
+      (same_fpr fpr x h)) q es (IsDistinct-from_sorted fpr_cmp (keys_of es) sorted)

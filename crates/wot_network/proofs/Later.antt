@@ -1,5 +1,5 @@
 -- A network that fits a keyring fits each later one.
-use Rattle.std.proofs.Common.{◌≡◌, ◌≤◌, ◌<◌, ◌⊎◌, inl, inr, ℕ, Option, Some, None, refl, sym, ap, ◌∙◌, subst, arith}
+use Rattle.std.proofs.Common.{◌≡◌, ◌≤◌, ◌<◌, inl, inr, ℕ, Option, Some, None, sym, ◌∙◌, subst, arith}
 use Rattle.std.specs.List.{AllByRecursion}
 use Rattle.std.specs.Option.{option_map_or}
 use Rattle.wot_types.specs.declared.fpr.Fpr.{Fpr}
@@ -7,12 +7,13 @@ use Rattle.wot_verdict.specs.Verdicts.{Entries}
 use Rattle.wot_cert.specs.Certificate.{Certificate}
 use Rattle.wot_cert.specs.Counts.{all_sigs}
 use Rattle.wot_keyring.specs.declared.kept.Kept.{Kept}
-use Rattle.wot_keyring.specs.Keyring.{Keyring, kept_at, stamp_at}
+use Rattle.wot_keyring.specs.Keyring.{Keyring, kept_at}
 use Rattle.wot_keyring.specs.Later.{SaysSame, IsUnaltered, IsLaterAt, IsLater}
-use Rattle.wot_network.specs.Net.{Line, Net, Fits, LineFits, HasStamp, Tells, TellsThroughout, line_at}
+use Rattle.wot_network.specs.Net.{Line, Net, Fits, LineFits, Tells}
 use Rattle.wot_network.proofs.Verdicts.{edges_same, standing_same, revoked_same}
 
-tells_same : (old new : Entries) (c : Certificate) (t : ℕ) (line : Line) → AllByRecursion (SaysSame old new) (all_sigs c) → Tells old c t line → Tells new c t line
+tells_same : (old new : Entries) (c : Certificate) (t : ℕ) (line : Line) →
+    AllByRecursion (SaysSame old new) (all_sigs c) → Tells old c t line → Tells new c t line
 tells_same old new c t line said tells = record {
   edges = sym (edges_same old new c t said) ∙ tells.edges;
   standing = sym (standing_same old new c t said) ∙ tells.standing;
@@ -29,14 +30,16 @@ above : (a b : ℕ) → a < b → b ≤ a → ⊥
 above a b h k = omega arith
 
 module _ (old new : Keyring) (later : IsLater old new) where
-  -- What is kept now with a stamp up to the old count was kept so.
+  -- What is kept now with a stamp up to the old count was already kept with it.
   unaltered : (fpr : Fpr) (x : Kept) → kept_at new fpr ≡ Some x → x.stamp ≤ old.changes → IsUnaltered old new fpr
   unaltered fpr x found past = by (later.at fpr)
     where
       by : IsLaterAt old new fpr → IsUnaltered old new fpr
       by (inl same) = same
       by (inr (inl gone)) = absurd (some_none (kept_at new fpr) x found gone)
-      by (inr (inr given)) = absurd (above old.changes x.stamp (subst (λ (o : Option Kept). old.changes < option_map_or (λ (y : Kept). y.stamp) o 0) found given) past)
+      by (inr (inr given)) =
+          absurd (above old.changes x.stamp
+          (subst (λ (o : Option Kept). old.changes < option_map_or (λ (y : Kept). y.stamp) o 0) found given) past)
 
   line_fits : (fpr : Fpr) (line : Line) → LineFits old fpr line → LineFits new fpr line
   line_fits fpr line fits = record {

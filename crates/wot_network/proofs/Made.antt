@@ -1,10 +1,9 @@
--- The span of a time has that time, and what is made of a certificate tells of it throughout the span.
-use Rattle.std.proofs.Common.{◌≡◌, ◌≤◌, ◌<◌, ◌-◌, ◌^◌, max, min, ℕ, Bool, true, false, cond, nat_le, nat_lt, List, [], ◌∷◌, filter, refl, sym, subst, arith}
+-- The span for a time contains it, and what is made of a certificate holds throughout the span.
+use Rattle.std.proofs.Common.{◌≡◌, ◌≤◌, ◌<◌, ◌-◌, ◌^◌, max, min, ℕ, Bool, true, false, cond, nat_le, nat_lt, List, []}
+use Rattle.std.proofs.Common.{◌∷◌, filter, refl, arith}
 use Rattle.std.proofs.lemmas.Bool.Decides.{nat_tests}
-use Rattle.wot_verdict.specs.Verdicts.{Entries}
 use Rattle.wot_cert.specs.Certificate.{Certificate}
-use Rattle.wot_cert.specs.Span.{InSpan, span_of, moments_of, most, least, begin_of, end_of}
-use Rattle.wot_cert.specs.declared.moments.Span.{Span}
+use Rattle.wot_cert.specs.Span.{InSpan, span_of, moments_of, most, least}
 
 le_of : (a b : ℕ) → nat_le a b ≡ true → a ≤ b
 le_of a b h = grind (arith, nat_tests)
@@ -28,7 +27,8 @@ begins : (ms : List ℕ) (t : ℕ) → most (filter (λ m. nat_le m t) ms) ≤ t
 begins [] t = nothing t
 begins (m ∷ ms) t = by (nat_le m t) refl (begins ms t)
   where
-    by : (b : Bool) → nat_le m t ≡ b → most (filter (λ x. nat_le x t) ms) ≤ t → most (cond b (m ∷ filter (λ x. nat_le x t) ms) (filter (λ x. nat_le x t) ms)) ≤ t
+    by : (b : Bool) → nat_le m t ≡ b → most (filter (λ x. nat_le x t) ms) ≤ t →
+        most (cond b (m ∷ filter (λ x. nat_le x t) ms) (filter (λ x. nat_le x t) ms)) ≤ t
     by true e later = greater m (most (filter (λ x. nat_le x t) ms)) t (le_of m t e) later
     by false e later = later
 
@@ -36,7 +36,8 @@ ends : (ms : List ℕ) (t top : ℕ) → t < top → t < least top (filter (λ m
 ends [] t top h = h
 ends (m ∷ ms) t top h = by (nat_lt t m) refl (ends ms t top h)
   where
-    by : (b : Bool) → nat_lt t m ≡ b → t < least top (filter (λ x. nat_lt t x) ms) → t < least top (cond b (m ∷ filter (λ x. nat_lt t x) ms) (filter (λ x. nat_lt t x) ms))
+    by : (b : Bool) → nat_lt t m ≡ b → t < least top (filter (λ x. nat_lt t x) ms) →
+        t < least top (cond b (m ∷ filter (λ x. nat_lt t x) ms) (filter (λ x. nat_lt t x) ms))
     by true e later = lesser m (least top (filter (λ x. nat_lt t x) ms)) t (lt_of t m e) later
     by false e later = later
 

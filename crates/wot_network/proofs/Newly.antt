@@ -1,9 +1,7 @@
 -- A network of which nothing was made.
-use Rattle.std.proofs.Common.{◌≡◌, ◌≤◌, ◌<◌, ℕ, List, [], Option, Some, None, sym, ap, ◌∙◌, arith}
-use Rattle.std.proofs.lemmas.Map.{lookup-none}
-use Rattle.wot_types.specs.declared.fpr.Fpr.{Fpr}
-use Rattle.wot_keyring.specs.Keyring.{Keyring, is_fpr}
-use Rattle.wot_network.specs.Net.{Line, Lines, Net, Fits, line_at}
+use Rattle.std.proofs.Common.{◌≡◌, ◌≤◌, ◌<◌, ℕ, [], Option, Some, None, sym, ap, arith}
+use Rattle.wot_keyring.specs.Keyring.{Keyring}
+use Rattle.wot_network.specs.Net.{Line, Lines, Fits, line_at}
 
 not_both : (n : ℕ) → 0 < n → n ≤ 0 → ⊥
 not_both n h k = omega arith
@@ -11,7 +9,8 @@ not_both n h k = omega arith
 none_some : {o : Option Line} {line : Line} → None ≡ o → o ≡ Some line → ⊥
 none_some h k = cc
 
-pub fits_new : (k : Keyring) (t : ℕ) (lines : Lines) → lines ≡ [] → Fits (record { time = t; count = 0; lines = lines }) k
+pub fits_new : (k : Keyring) (t : ℕ) (lines : Lines) → lines ≡ [] → Fits (record { time = t; count = 0; lines = lines })
+    k
 fits_new k t lines none = record {
   past = omega arith;
   lines = λ fpr line found. absurd (none_some (sym (ap (λ (ls : Lines). line_at ls fpr) none)) found);

@@ -1,4 +1,4 @@
--- What verdicts give a certificate rests on the verdicts on its signatures alone.
+-- What verdicts make of a certificate depends only on the verdicts on its signatures.
 use Rattle.std.proofs.Common.{◌≡◌, ℕ, ◌+◌, Bool, false, List, [], ◌∷◌, ◌++◌, map, Option, Some, None, refl, ap, ◌∙◌}
 use Rattle.std.specs.Prelude.{◌&&◌, ◌||◌, not, nat_lt, filter, is_some}
 use Rattle.std.specs.List.{AllByRecursion, list_all, list_any, filter_map}
@@ -19,7 +19,9 @@ use Rattle.wot_edge.specs.declared.edge.EdgeFacts.{EdgeFacts}
 use Rattle.wot_standing.specs.declared.status.Standing.{Standing}
 use Rattle.wot_standing.specs.Kinds.{is_certification, is_soft}
 use Rattle.wot_standing.specs.Own.{is_own_revoked}
-use Rattle.wot_standing.specs.Standing.{own, primacy, newest_certification, primary_among, governing, end_by, is_hard_revocation, is_hard_revoked, is_soft_revocation, least_of, soft_moment, standing_of}
+use Rattle.wot_standing.specs.Standing.{own, primacy, newest_certification, primary_among, governing, end_by}
+use Rattle.wot_standing.specs.Standing.{is_hard_revocation, is_hard_revoked, is_soft_revocation, least_of, soft_moment}
+use Rattle.wot_standing.specs.Standing.{standing_of}
 use Rattle.wot_standing.specs.Usable.{is_key_in_order, is_in_order}
 use Rattle.wot_live.specs.Edge.{edge_by, edge_on}
 use Rattle.wot_live.specs.Rows.{edge_with, edges_on, edges_from, in_edge_order, edges_of, places_where, revoked_of}
@@ -28,25 +30,30 @@ use Rattle.wot_network.specs.Standings.{GiveSame}
 
 -- ---- lists
 
-filter_same : {A : Type 0} (P : A → Type 0) (p q : A → Bool) → ((x : A) → P x → p x ≡ q x) → (xs : List A) → AllByRecursion P xs → filter p xs ≡ filter q xs
+filter_same : {A : Type 0} (P : A → Type 0) (p q : A → Bool) → ((x : A) → P x → p x ≡ q x) → (xs : List A) →
+    AllByRecursion P xs → filter p xs ≡ filter q xs
 filter_same P p q f [] h = refl
 filter_same P p q f (x ∷ xs) h = rw (f x h.0, filter_same P p q f xs h.1) refl
 
-list_all_same : {A : Type 0} (P : A → Type 0) (p q : A → Bool) → ((x : A) → P x → p x ≡ q x) → (xs : List A) → AllByRecursion P xs → list_all p xs ≡ list_all q xs
+list_all_same : {A : Type 0} (P : A → Type 0) (p q : A → Bool) → ((x : A) → P x → p x ≡ q x) → (xs : List A) →
+    AllByRecursion P xs → list_all p xs ≡ list_all q xs
 list_all_same P p q f [] h = refl
 list_all_same P p q f (x ∷ xs) h = rw (f x h.0, list_all_same P p q f xs h.1) refl
 
-list_any_same : {A : Type 0} (P : A → Type 0) (p q : A → Bool) → ((x : A) → P x → p x ≡ q x) → (xs : List A) → AllByRecursion P xs → list_any p xs ≡ list_any q xs
+list_any_same : {A : Type 0} (P : A → Type 0) (p q : A → Bool) → ((x : A) → P x → p x ≡ q x) → (xs : List A) →
+    AllByRecursion P xs → list_any p xs ≡ list_any q xs
 list_any_same P p q f [] h = refl
 list_any_same P p q f (x ∷ xs) h = rw (f x h.0, list_any_same P p q f xs h.1) refl
 
-filter_map_same : {A B : Type 0} (P : A → Type 0) (p q : A → Option B) → ((x : A) → P x → p x ≡ q x) → (xs : List A) → AllByRecursion P xs → filter_map p xs ≡ filter_map q xs
+filter_map_same : {A B : Type 0} (P : A → Type 0) (p q : A → Option B) → ((x : A) → P x → p x ≡ q x) → (xs : List A) →
+    AllByRecursion P xs → filter_map p xs ≡ filter_map q xs
 filter_map_same P p q f [] h = refl
 filter_map_same P p q f (x ∷ xs) h = rw (f x h.0, filter_map_same P p q f xs h.1) refl
 
--- the newest of a place's signatures of a kind that hold: of certifications, and of direct key signatures
+-- the newest valid signature of some types at a place: of certifications, and of direct key signatures
 abbrev is_valid : Entries → (Signature → Bool) → Fpr → ℕ → List Signature → Signature → Bool
-is_valid verdicts kind fpr t place s = kind s && (counts_by verdicts fpr s && (is_live t s && is_unrevoked verdicts fpr t place s))
+is_valid verdicts kind fpr t place s =
+    kind s && (counts_by verdicts fpr s && (is_live t s && is_unrevoked verdicts fpr t place s))
 
 abbrev newest : Entries → (Signature → Bool) → Fpr → ℕ → List Signature → Option Signature
 newest verdicts kind fpr t place = greatest newness (filter (is_valid verdicts kind fpr t place) place)
@@ -71,25 +78,33 @@ module _ (v w : Entries) where
 
   -- ---- one place
 
-  unrevoked_same : (fpr : Fpr) (t : ℕ) (place : List Signature) → AllByRecursion Same place → (s : Signature) → is_unrevoked v fpr t place s ≡ is_unrevoked w fpr t place s
+  unrevoked_same : (fpr : Fpr) (t : ℕ) (place : List Signature) → AllByRecursion Same place → (s : Signature) →
+      is_unrevoked v fpr t place s ≡ is_unrevoked w fpr t place s
   unrevoked_same fpr t place h s =
       ap (λ (b : Bool). not (is_revocable s) || b)
-      (list_all_same Same (λ r. not (revokes_by v fpr t r) || nat_lt (made_of r) (made_of s)) (λ r. not (revokes_by w fpr t r) || nat_lt (made_of r) (made_of s))
+      (list_all_same Same (λ r. not (revokes_by v fpr t r) || nat_lt (made_of r) (made_of s))
+      (λ r. not (revokes_by w fpr t r) || nat_lt (made_of r) (made_of s))
       (λ r e. ap (λ (b : Bool). not b || nat_lt (made_of r) (made_of s)) (revokes_same fpr t r e)) place h)
 
-  valid_same : (kind : Signature → Bool) (fpr : Fpr) (t : ℕ) (place : List Signature) → AllByRecursion Same place → (s : Signature) → Same s → is_valid v kind fpr t place s ≡ is_valid w kind fpr t place s
+  valid_same : (kind : Signature → Bool) (fpr : Fpr) (t : ℕ) (place : List Signature) → AllByRecursion Same place →
+      (s : Signature) → Same s → is_valid v kind fpr t place s ≡ is_valid w kind fpr t place s
   valid_same kind fpr t place h s e =
       ap (λ (b : Bool). kind s && (b && (is_live t s && is_unrevoked v fpr t place s))) (counts_same fpr s e)
       ∙ ap (λ (b : Bool). kind s && (counts_by w fpr s && (is_live t s && b))) (unrevoked_same fpr t place h s)
 
-  newest_same : (kind : Signature → Bool) (fpr : Fpr) (t : ℕ) (place : List Signature) → AllByRecursion Same place → newest v kind fpr t place ≡ newest w kind fpr t place
+  newest_same : (kind : Signature → Bool) (fpr : Fpr) (t : ℕ) (place : List Signature) → AllByRecursion Same place →
+      newest v kind fpr t place ≡ newest w kind fpr t place
   newest_same kind fpr t place h =
-      ap (greatest newness) (filter_same Same (is_valid v kind fpr t place) (is_valid w kind fpr t place) (valid_same kind fpr t place h) place h)
+      ap (greatest newness) (filter_same Same (is_valid v kind fpr t place) (is_valid w kind fpr t place)
+      (valid_same kind fpr t place h) place h)
 
-  own_revoked_same : (fpr : Fpr) (t : ℕ) (uid : Component) → SameOn uid → is_own_revoked v fpr t uid ≡ is_own_revoked w fpr t uid
+  own_revoked_same : (fpr : Fpr) (t : ℕ) (uid : Component) → SameOn uid →
+      is_own_revoked v fpr t uid ≡ is_own_revoked w fpr t uid
   own_revoked_same fpr t uid h =
-      ap (λ (b : Bool). b && not (is_some (newest_certification v fpr t uid))) (list_any_same Same (revokes_by v fpr t) (revokes_by w fpr t) (revokes_same fpr t) uid.sigs h)
-      ∙ ap (λ (o : Option Signature). list_any (revokes_by w fpr t) uid.sigs && not (is_some o)) (newest_same is_certification fpr t uid.sigs h)
+      ap (λ (b : Bool). b && not (is_some (newest_certification v fpr t uid))) (list_any_same Same (revokes_by v fpr t)
+      (revokes_by w fpr t) (revokes_same fpr t) uid.sigs h)
+      ∙ ap (λ (o : Option Signature). list_any (revokes_by w fpr t) uid.sigs && not (is_some o))
+      (newest_same is_certification fpr t uid.sigs h)
 
   pub uid_same : (fpr : Fpr) (t : ℕ) (uid : Component) → SameOn uid → GiveSame v w fpr t uid
   uid_same fpr t uid h = record {
@@ -100,48 +115,72 @@ module _ (v w : Entries) where
 
   -- ---- standing
 
-  governing_same : (c : Certificate) (t : ℕ) → AllByRecursion Same c.direct → AllByRecursion SameOn c.user_ids → governing v c t ≡ governing w c t
+  governing_same : (c : Certificate) (t : ℕ) → AllByRecursion Same c.direct → AllByRecursion SameOn c.user_ids →
+      governing v c t ≡ governing w c t
   governing_same c t direct uids =
-      ap (λ (o : Option Signature). option_or o (primary_among v (own c) t c.user_ids)) (newest_same (has_kind 31) (own c) t c.direct direct)
+      ap (λ (o : Option Signature). option_or o (primary_among v (own c) t c.user_ids))
+      (newest_same (has_kind 31) (own c) t c.direct direct)
       ∙ ap (λ (o : Option Signature). option_or (newest w (has_kind 31) (own c) t c.direct) o)
-      (ap (greatest primacy) (filter_map_same SameOn (newest_certification v (own c) t) (newest_certification w (own c) t) (λ p e. newest_same is_certification (own c) t p.sigs e) c.user_ids uids))
+      (ap (greatest primacy) (filter_map_same SameOn (newest_certification v (own c) t)
+      (newest_certification w (own c) t) (λ p e. newest_same is_certification (own c) t p.sigs e) c.user_ids uids))
 
   hard_same : (c : Certificate) → AllByRecursion Same c.direct → is_hard_revoked v c ≡ is_hard_revoked w c
   hard_same c h =
-      list_any_same Same (is_hard_revocation v (own c)) (is_hard_revocation w (own c)) (λ s e. ap (λ (b : Bool). (has_kind 32 s && b) && not (is_soft s)) (counts_same (own c) s e)) c.direct h
+      list_any_same Same (is_hard_revocation v (own c)) (is_hard_revocation w (own c))
+      (λ s e. ap (λ (b : Bool). (has_kind 32 s && b) && not (is_soft s)) (counts_same (own c) s e)) c.direct h
 
-  soft_same : (fpr : Fpr) (t : ℕ) (direct : List Signature) → AllByRecursion Same direct → soft_moment v fpr t direct ≡ soft_moment w fpr t direct
+  soft_same : (fpr : Fpr) (t : ℕ) (direct : List Signature) → AllByRecursion Same direct →
+      soft_moment v fpr t direct ≡ soft_moment w fpr t direct
   soft_same fpr t direct h =
       ap (λ (ss : List Signature). least_of (map made_of ss))
-      (filter_same Same (is_soft_revocation v fpr t) (is_soft_revocation w fpr t) (λ s e. ap (λ (b : Bool). (has_kind 32 s && b) && (is_soft s && is_live t s)) (counts_same fpr s e)) direct h)
+      (filter_same Same (is_soft_revocation v fpr t) (is_soft_revocation w fpr t)
+      (λ s e. ap (λ (b : Bool). (has_kind 32 s && b) && (is_soft s && is_live t s)) (counts_same fpr s e)) direct h)
 
   abbrev standing_by : Certificate → Option Signature → Bool → Option ℕ → Standing
-  standing_by c by hard soft = record { has = is_some by; created = created_of c; end = end_by (created_of c) by; hard = hard; soft = soft }
+  standing_by c by hard soft = record {
+    has = is_some by;
+    created = created_of c;
+    end = end_by (created_of c) by;
+    hard =
+        hard;
+    soft = soft;
+  }
 
-  standing_parts : (c : Certificate) (t : ℕ) → AllByRecursion Same c.direct → AllByRecursion SameOn c.user_ids → standing_of v c t ≡ standing_of w c t
+  standing_parts : (c : Certificate) (t : ℕ) → AllByRecursion Same c.direct → AllByRecursion SameOn c.user_ids →
+      standing_of v c t ≡ standing_of w c t
   standing_parts c t direct uids =
-      ap (λ (by : Option Signature). standing_by c by (is_hard_revoked v c) (soft_moment v (own c) t c.direct)) (governing_same c t direct uids)
-      ∙ ap (λ (hard : Bool). standing_by c (governing w c t) hard (soft_moment v (own c) t c.direct)) (hard_same c direct)
-      ∙ ap (λ (soft : Option ℕ). standing_by c (governing w c t) (is_hard_revoked w c) soft) (soft_same (own c) t c.direct direct)
+      ap (λ (by : Option Signature). standing_by c by (is_hard_revoked v c) (soft_moment v (own c) t c.direct))
+      (governing_same c t direct uids)
+      ∙ ap (λ (hard : Bool). standing_by c (governing w c t) hard (soft_moment v (own c) t c.direct))
+      (hard_same c direct)
+      ∙ ap (λ (soft : Option ℕ). standing_by c (governing w c t) (is_hard_revoked w c) soft)
+      (soft_same (own c) t c.direct direct)
 
   -- ---- edges
 
-  edge_on_same : (target : Fpr) (t : ℕ) (issuer : Fpr) (uid : ℕ) (p : Component) → SameOn p → edge_on v target t issuer uid p ≡ edge_on w target t issuer uid p
-  edge_on_same target t issuer uid p h = ap (option_and_then (edge_by issuer target uid p.sigs)) (newest_same is_certification issuer t p.sigs h)
+  edge_on_same : (target : Fpr) (t : ℕ) (issuer : Fpr) (uid : ℕ) (p : Component) → SameOn p →
+      edge_on v target t issuer uid p ≡ edge_on w target t issuer uid p
+  edge_on_same target t issuer uid p h = ap (option_and_then (edge_by issuer target uid p.sigs))
+      (newest_same is_certification issuer t p.sigs h)
 
-  edge_with_same : (target : Fpr) (t uid : ℕ) (p : Component) → SameOn p → (s : Signature) → Same s → edge_with v target t uid p s ≡ edge_with w target t uid p s
+  edge_with_same : (target : Fpr) (t uid : ℕ) (p : Component) → SameOn p → (s : Signature) → Same s →
+      edge_with v target t uid p s ≡ edge_with w target t uid p s
   edge_with_same target t uid p h s e =
       ap (option_and_then (λ issuer. edge_on v target t issuer uid p)) (issuer_same s e)
       ∙ by (issuer_of w s)
     where
-      by : (o : Option Fpr) → option_and_then (λ issuer. edge_on v target t issuer uid p) o ≡ option_and_then (λ issuer. edge_on w target t issuer uid p) o
+      by : (o : Option Fpr) → option_and_then (λ issuer. edge_on v target t issuer uid p) o ≡ option_and_then
+          (λ issuer. edge_on w target t issuer uid p) o
       by None = refl
       by (Some issuer) = edge_on_same target t issuer uid p h
 
-  edges_from_same : (target : Fpr) (t uid : ℕ) (ps : List Component) → AllByRecursion SameOn ps → edges_from v target t uid ps ≡ edges_from w target t uid ps
+  edges_from_same : (target : Fpr) (t uid : ℕ) (ps : List Component) → AllByRecursion SameOn ps →
+      edges_from v target t uid ps ≡ edges_from w target t uid ps
   edges_from_same target t uid [] h = refl
   edges_from_same target t uid (p ∷ ps) h =
-      ap (λ (es : List EdgeFacts). es ++ edges_from v target t (uid + 1) ps) (filter_map_same Same (edge_with v target t uid p) (edge_with w target t uid p) (edge_with_same target t uid p h.0) p.sigs h.0)
+      ap (λ (es : List EdgeFacts). es ++ edges_from v target t (uid + 1) ps)
+      (filter_map_same Same (edge_with v target t uid p) (edge_with w target t uid p)
+      (edge_with_same target t uid p h.0) p.sigs h.0)
       ∙ ap (λ (es : List EdgeFacts). edges_on w target t uid p ++ es) (edges_from_same target t (uid + 1) ps h.1)
 
   -- ---- of a certificate with these verdicts on all its signatures
@@ -151,25 +190,32 @@ module _ (v w : Entries) where
 
   uids_in : (c : Certificate) → AllByRecursion Same (all_sigs c) → AllByRecursion SameOn c.user_ids
   uids_in c h =
-      let parts = all_each Same (λ (p : Component). p.sigs) (parts_in c) (all_back Same c.direct (sigs_on (parts_in c)) h) in
+      let parts = all_each Same (λ (p : Component). p.sigs) (parts_in c)
+      (all_back Same c.direct (sigs_on (parts_in c)) h) in
       all_prefix SameOn c.user_ids c.attributes (all_prefix SameOn (c.user_ids ++ c.attributes) c.subkeys parts)
 
-  pub standing_same : (c : Certificate) (t : ℕ) → AllByRecursion Same (all_sigs c) → standing_of v c t ≡ standing_of w c t
+  pub standing_same : (c : Certificate) (t : ℕ) → AllByRecursion Same (all_sigs c) →
+      standing_of v c t ≡ standing_of w c t
   standing_same c t h = standing_parts c t (direct_in c h) (uids_in c h)
 
   pub edges_same : (c : Certificate) (t : ℕ) → AllByRecursion Same (all_sigs c) → edges_of v c t ≡ edges_of w c t
   edges_same c t h = ap in_edge_order (edges_from_same (own c) t 0 c.user_ids (uids_in c h))
 
-  places_same : (fpr : Fpr) (t place : ℕ) (uids : List Component) → AllByRecursion SameOn uids → places_where (is_own_revoked v fpr t) place uids ≡ places_where (is_own_revoked w fpr t) place uids
+  places_same : (fpr : Fpr) (t place : ℕ) (uids : List Component) → AllByRecursion SameOn uids →
+      places_where (is_own_revoked v fpr t) place uids ≡ places_where (is_own_revoked w fpr t) place uids
   places_same fpr t place [] h = refl
-  places_same fpr t place (uid ∷ uids) h = rw (own_revoked_same fpr t uid h.0, places_same fpr t (place + 1) uids h.1) refl
+  places_same fpr t place (uid ∷ uids) h = rw (own_revoked_same fpr t uid h.0, places_same fpr t (place + 1) uids h.1)
+      refl
 
   pub revoked_same : (c : Certificate) (t : ℕ) → AllByRecursion Same (all_sigs c) → revoked_of v c t ≡ revoked_of w c t
   revoked_same c t h = places_same (own c) t 0 c.user_ids (uids_in c h)
 
-  pub in_order_same : (c : Certificate) (t : ℕ) (is_wanted : Component → Bool) → AllByRecursion Same (all_sigs c) → is_in_order v c t is_wanted ≡ is_in_order w c t is_wanted
+  pub in_order_same : (c : Certificate) (t : ℕ) (is_wanted : Component → Bool) → AllByRecursion Same (all_sigs c) →
+      is_in_order v c t is_wanted ≡ is_in_order w c t is_wanted
   in_order_same c t is_wanted h =
-      ap (λ (s : Standing). is_key_in_order s t && list_any (λ uid. is_wanted uid && not (is_own_revoked v (own c) t uid)) c.user_ids) (standing_same c t h)
+      ap (λ (s : Standing). is_key_in_order s t && list_any
+      (λ uid. is_wanted uid && not (is_own_revoked v (own c) t uid)) c.user_ids) (standing_same c t h)
       ∙ ap (λ (b : Bool). is_key_in_order (standing_of w c t) t && b)
-      (list_any_same SameOn (λ uid. is_wanted uid && not (is_own_revoked v (own c) t uid)) (λ uid. is_wanted uid && not (is_own_revoked w (own c) t uid))
+      (list_any_same SameOn (λ uid. is_wanted uid && not (is_own_revoked v (own c) t uid))
+      (λ uid. is_wanted uid && not (is_own_revoked w (own c) t uid))
       (λ uid e. ap (λ (b : Bool). is_wanted uid && not b) (own_revoked_same (own c) t uid e)) c.user_ids (uids_in c h))

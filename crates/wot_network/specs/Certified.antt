@@ -1,4 +1,4 @@
--- Who certified what, without a look at times, policy or revocations. So a database can keep an index of it.
+-- Who certified what, regardless of times, policy or revocations, so that a database can keep an index of it.
 use Rattle.std.specs.Prelude.{◌≡◌, ℕ, ◌<◌, ◌≤◌, true, List, Some}
 use Rattle.std.specs.Map.{lookup}
 use Rattle.wot_types.specs.declared.fpr.Fpr.{Fpr}
@@ -12,8 +12,8 @@ use Rattle.wot_keyring.specs.Keyring.{Certificates, is_fpr}
 use Rattle.wot_standing.specs.Kinds.{is_certification}
 use Rattle.wot_network.specs.Told.{record_of}
 
--- A certification (RFC 9580, section 5.2.1) on a user ID of the certificate, good by the issuer, whose trust subpacket
--- has a depth of at least 1.
+-- A certification (RFC 9580, section 5.2.1) on a user ID of the certificate, verified as good by the issuer, whose
+-- trust subpacket has a depth of at least 1.
 pub record IsTrusted (verdicts : Entries) (issuer : Fpr) (c : Certificate) : Type 0 where
   pub user_id : Component
   pub on : Has c.user_ids user_id
@@ -25,14 +25,16 @@ pub record IsTrusted (verdicts : Entries) (issuer : Fpr) (c : Certificate) : Typ
   pub says : said_by signature ≡ Some facts
   pub deep : 1 ≤ facts.depth
 
--- An edge with a depth of at least 1 is into a certificate that its issuer certified so.
+-- An edge with a depth of at least 1 leads to a certificate that its issuer certified in this way.
 abbrev pub RestsOnTrust : Certificates → Entries → ℕ → List ℕ → Type 0
 RestsOnTrust certs verdicts t u =
     (fpr : Fpr) (row : Row) → Has (rows_into (record_of certs verdicts t u) fpr) row → 1 ≤ row.edge.depth
     → (c : Certificate) × (lookup (is_fpr fpr) certs ≡ Some c) × IsTrusted verdicts row.edge.issuer c
 
--- A slice: a set that has each root, and with each member whatever it certified with a depth of at least 1.
-pub record IsSlice (certs : Certificates) (verdicts : Entries) (amounts : List (Fpr × ℕ)) (set : List Fpr) : Type 0 where
+-- A slice: a set that contains each root, and with each member all that the member certified with a depth of at least
+-- 1.
+pub record IsSlice (certs : Certificates) (verdicts : Entries) (amounts : List (Fpr × ℕ)) (set : List Fpr) : Type
+    0 where
   pub roots : (fpr : Fpr) → 0 < root_amount amounts fpr → Has set fpr
   pub onward : (fpr issuer : Fpr) (c : Certificate) → lookup (is_fpr fpr) certs ≡ Some c → IsTrusted verdicts issuer c
       → Has set issuer → Has set fpr

@@ -14,8 +14,8 @@ use Rattle.wot_keyring.specs.Keyring.{Certificates, is_fpr}
 use Rattle.wot_keyring.specs.Later.{SaysSame}
 use Rattle.wot_network.specs.Told.{record_of}
 
--- Both hold the same certificate under a fingerprint, with its marks of admission, or none; and the verdicts on the
--- numbers of its signatures are the same.
+-- Both hold the same certificate under a fingerprint, with the same marks, or none; and the verdicts on the numbers of
+-- its signatures are the same.
 pub record AgreeAt (certs : Certificates) (verdicts : Entries) (others : Certificates) (other : Entries)
     (fpr : Fpr) : Type 0 where
   pub same : lookup (is_fpr fpr) certs ≡ lookup (is_fpr fpr) others
@@ -26,12 +26,12 @@ pub record AgreeAt (certs : Certificates) (verdicts : Entries) (others : Certifi
 abbrev pub AgreeOn : Certificates → Entries → Certificates → Entries → List Fpr → Type 0
 AgreeOn certs verdicts others other set = (fpr : Fpr) → Has set fpr → AgreeAt certs verdicts others other fpr
 
--- Each of the set has the same amount as a root.
+-- Each fingerprint of the set has the same amount as a root.
 abbrev pub SameAmounts : List (Fpr × ℕ) → List (Fpr × ℕ) → List Fpr → Type 0
 SameAmounts roots amounts set = (fpr : Fpr) → Has set fpr → root_amount roots fpr ≡ root_amount amounts fpr
 
--- What is told of each user ID rests on these certificates and verdicts locally: of a set of fingerprints on which
--- others agree with them, those tell the same at this time.
+-- What is known of each user ID depends only on these certificates and verdicts locally: if others agree with them on a
+-- set of fingerprints, these make the same of the set at this time.
 abbrev pub IsLocal : Certificates → Entries → ℕ → (List ℕ → Record) → Type 0
 IsLocal certs verdicts t told =
     (others : Certificates) (other : Entries) (u : List ℕ) (roots amounts : List (Fpr × ℕ)) (target : Fpr)

@@ -1,4 +1,4 @@
--- A network: what was made of the certificates of a keyring, so that it needn't be made again for each question.
+-- A network: what was made of the certificates of a keyring, kept so that it isn't made again for each question.
 use Rattle.std.specs.Prelude.{◌≡◌, ℕ, ◌<◌, ◌≤◌, Bool, true, false, ◌&&◌, nat_eq, nat_le, if◌then◌else◌, List, map}
 use Rattle.std.specs.Prelude.{length, Option, Some, None, is_some, IsSomeAnd}
 use Rattle.std.specs.Option.{option_map_or, MatchOption}
@@ -24,7 +24,7 @@ use Rattle.wot_network.specs.Told.{record_of}
 -- ---- lines
 
 -- what was made of a certificate: its stamp then, the edges into it, its standing, the places of the user IDs that its
--- own key revoked, and the span through which these are the same
+-- own key revoked, and the span in which these stay the same
 pub record Line : Type 0 where
   pub stamp : ℕ
   pub edges : List EdgeFacts
@@ -38,23 +38,23 @@ Lines = List (Fpr × Line)
 abbrev pub line_at : Lines → Fpr → Option Line
 line_at lines fpr = lookup (is_fpr fpr) lines
 
--- That is so of the certificate at t.
+-- The line says what holds for the certificate at t.
 pub record Tells (verdicts : Entries) (c : Certificate) (t : ℕ) (line : Line) : Type 0 where
   pub edges : edges_of verdicts c t ≡ line.edges
   pub standing : standing_of verdicts c t ≡ line.standing
   pub revoked : revoked_of verdicts c t ≡ line.revoked
 
--- It is so at every time of the line's span.
+-- It does so at every time of the line's span.
 abbrev pub TellsThroughout : Entries → Certificate → Line → Type 0
 TellsThroughout verdicts c line = (t : ℕ) → InSpan line.span t → Tells verdicts c t line
 
--- Each line's edges are into its fingerprint, in order.
+-- Each line's edges lead to its fingerprint, and are sorted.
 abbrev pub AreLawful : Lines → Type 0
 AreLawful lines = (fpr : Fpr) (line : Line) → line_at lines fpr ≡ Some line → AreRows fpr line.edges
 
 -- ---- marks
 
--- until when a line stands: as long as the certificate has this stamp and the time is in this span
+-- how long a line holds: while the certificate has this stamp and the time is in this span
 pub record Mark : Type 0 where
   pub stamp : ℕ
   pub span : Span
@@ -82,7 +82,7 @@ AreMarksOf marks k t =
     (fpr : Fpr) → MatchOption (kept_at k fpr) (lookup (is_fpr fpr) marks ≡ None)
     (λ (x : Kept). has_current marks t fpr x.stamp ≡ true)
 
--- Each kept certificate that had a current mark has one.
+-- Each kept certificate that had a current mark still has one.
 abbrev pub StayCurrent : Keyring → ℕ → Marks → Marks → Type 0
 StayCurrent k t old new =
     (fpr : Fpr) (x : Kept) → kept_at k fpr ≡ Some x → has_current old t fpr x.stamp ≡ true
@@ -90,15 +90,15 @@ StayCurrent k t old new =
 
 -- ---- what is stale
 
--- what a certificate weighs where it is stale: where it has no current mark
+-- the weight of a certificate if it is stale, that is, without a current mark
 abbrev pub stale_weight : (Certificate → ℕ) → Marks → ℕ → Fpr × Kept → ℕ
 stale_weight weight marks t e = if has_current marks t e.0 e.1.stamp then 0 else weight e.1.cert
 
--- what the stale certificates of the keyring weigh together
+-- the weight of all stale certificates of the keyring
 abbrev pub weigh_stale : (Certificate → ℕ) → Marks → ℕ → keyrings.Entries → ℕ
 weigh_stale weight marks t entries = sum_of (stale_weight weight marks t) entries
 
--- how many signatures stand on the stale certificates
+-- how many signatures the stale certificates have
 abbrev pub stale_signatures : Marks → ℕ → Keyring → ℕ
 stale_signatures marks t k = weigh_stale signatures_of marks t k.certs
 
@@ -112,13 +112,13 @@ signatures_in k = weigh signatures_of (certificates_in k)
 
 -- ---- networks
 
--- the time for which it was refreshed last, the keyring's count of changes then, and the lines
+-- the time of the last refresh, the keyring's count of changes then, and the lines
 pub record Net : Type 0 where
   pub time : ℕ
   pub count : ℕ
   pub lines : Lines
 
--- A line's stamp was given before now. Where it is the present one the line tells of the certificate.
+-- A line's stamp isn't in the future. If it is the certificate's current stamp, the line holds for the certificate.
 pub record LineFits (k : Keyring) (fpr : Fpr) (line : Line) : Type 0 where
   pub given : 0 < line.stamp
   pub past : line.stamp ≤ k.changes
@@ -131,7 +131,7 @@ AreFit k lines = (fpr : Fpr) (line : Line) → line_at lines fpr ≡ Some line �
 abbrev pub HasStamp : Lines → Fpr → ℕ → Type 0
 HasStamp lines fpr stamp = IsSomeAnd (line_at lines fpr) (λ (line : Line). line.stamp ≡ stamp)
 
--- What has a stamp up to the count has a line of that stamp.
+-- A certificate with a stamp up to the count has a line of that stamp.
 abbrev pub AreKnown : Keyring → ℕ → Lines → Type 0
 AreKnown k count lines =
     (fpr : Fpr) (x : Kept) → kept_at k fpr ≡ Some x → 0 < x.stamp → x.stamp ≤ count → HasStamp lines fpr x.stamp
@@ -142,13 +142,13 @@ pub record Fits (n : Net) (k : Keyring) : Type 0 where
   pub lines : AreFit k n.lines
   pub known : AreKnown k n.count n.lines
 
--- A line tells of a kept certificate as it is, at t.
+-- A line holds for a kept certificate at t.
 pub record IsLineNow (verdicts : Entries) (t : ℕ) (x : Kept) (line : Line) : Type 0 where
   pub stamp : line.stamp ≡ x.stamp
   pub span : InSpan line.span t
   pub tells : Tells verdicts x.cert t line
 
--- The network is that of this keyring as it is, at t: it has a line of each kept certificate, and no other.
+-- The network is up to date with this keyring at t: it has a line for each certificate, and no other.
 pub record IsRight (n : Net) (k : Keyring) (t : ℕ) : Type 0 where
   pub time : n.time ≡ t
   pub present : (fpr : Fpr) (x : Kept) → kept_at k fpr ≡ Some x → is_some (line_at n.lines fpr) ≡ true
@@ -158,11 +158,11 @@ pub record IsRight (n : Net) (k : Keyring) (t : ℕ) : Type 0 where
 
 -- ---- roads
 
--- what roads are of: a keyring as it is, at a time
+-- what roads stand for: a keyring at a time
 pub record Present : Type 0 where
   pub keyring : Keyring
   pub time : ℕ
 
--- what they tell of a user ID
+-- what they make of a user ID
 abbrev pub told_of : Present → List ℕ → Record
 told_of p u = record_of (certificates_in p.keyring) p.keyring.verdicts p.time u

@@ -1,4 +1,4 @@
--- Places that rise, gone over beside what stands at them.
+-- Sorted places, walked over together with what is at them.
 use Rattle.std.specs.Prelude.{◌≡◌, ℕ, Bool, false, not, ◌&&◌, ◌==◌, if◌then◌else◌, List, [], ◌∷◌}
 use Rattle.std.specs.List.{list_any}
 use Rattle.wot_verdict.specs.Verdicts.{Entries}
@@ -21,13 +21,13 @@ behind_first place (p ∷ places) = if p == place then places else p ∷ places
 abbrev pub is_unrevoked : List ℕ → (Component → Bool) → Component → Bool
 is_unrevoked u is_revoked uid = is_user_id u uid && not (is_revoked uid)
 
--- Where the revoked ones stand at these places, this is whether some user ID is U, and isn't revoked.
+-- If the revoked ones are at these places, this is whether some user ID is U and isn't revoked.
 abbrev pub TellsUnrevoked : List ℕ → List Component → List ℕ → Bool → Type 0
 TellsUnrevoked u user_ids revoked told =
     (is_revoked : Component → Bool) → revoked ≡ places_where is_revoked 0 user_ids
     → told ≡ list_any (is_unrevoked u is_revoked) user_ids
 
--- Of each certificate with this standing, these revoked places and these user IDs at t, this is whether it is in order
+-- For each certificate with this standing, these revoked places and these user IDs at t, this is whether it is in order
 -- for U.
 abbrev pub TellsInOrder : ℕ → List ℕ → List Component → Standing → List ℕ → Bool → Type 0
 TellsInOrder t u user_ids standing revoked told =

@@ -1,4 +1,4 @@
--- The certification network: what certificates and verdicts tell of a user ID U at a time t.
+-- The certification network: what certificates and verdicts make of a user ID U at a time t.
 use Rattle.std.specs.Prelude.{◌≡◌, ℕ, suc, Bool, false, not, ◌||◌, if◌then◌else◌, List, [], ◌∷◌, map, Option, Some}
 use Rattle.std.specs.Prelude.{None}
 use Rattle.std.specs.List.{AllByRecursion, slice_get}
@@ -22,14 +22,14 @@ use Rattle.wot_live.specs.Rows.{edges_of}
 
 -- ---- usable
 
--- An edge made then by this one is usable: the issuer is kept, and stands so that what it made then may be relied on.
+-- An edge is usable if its issuer is kept, and its standing allows to rely on what it created then.
 abbrev pub is_usable_by : Entries → Certificates → ℕ → Fpr → ℕ → Bool
 is_usable_by verdicts certs t issuer made =
     option_map_or (λ (c : Certificate). is_usable (standing_of verdicts c t) made) (lookup (is_fpr issuer) certs) false
 
 -- ---- scope
--- What decides a scope is told by true or false here. By wot_scope's law `scope_is_told` it is the relation
--- `ScopeHolds`, which says what a scope means by the grammar and the meaning of patterns.
+-- Here a scope is decided by a test. By wot_scope's law `scope_is_told` the test is the relation `ScopeHolds`, which
+-- says what a scope means by the grammar and the meaning of regular expressions.
 
 abbrev pub body_in : ℕ → Component → List ℕ
 body_in sig uid = option_map_or (λ (s : Signature). s.body) (slice_get uid.sigs sig) []
@@ -38,7 +38,7 @@ body_in sig uid = option_map_or (λ (s : Signature). s.body) (slice_get uid.sigs
 abbrev pub body_at : List Component → ℕ → ℕ → List ℕ
 body_at user_ids uid sig = option_map_or (body_in sig) (slice_get user_ids uid) []
 
--- The edge has no limited scope, or the scope of its signature, which stands on one of these user IDs, holds for U.
+-- The edge has no scope, or the scope of its signature on one of these user IDs covers U.
 abbrev pub is_in_scope : List Component → List ℕ → EdgeFacts → Bool
 is_in_scope user_ids u edge = not edge.scoped || scope_holds (scopes_of (body_at user_ids edge.uid edge.sig)) u
 
@@ -54,7 +54,7 @@ place_of u (uid ∷ uids) = if is_user_id u uid then Some 0 else option_map suc 
 
 -- ---- the record
 -- By wot_live's law `edges_are_rows` the list of edges has the newest certification that counts of each issuer and user
--- ID, and no other.
+-- ID, and nothing else.
 
 abbrev pub row_of : Entries → Certificates → ℕ → List ℕ → Certificate → EdgeFacts → Row
 row_of verdicts certs t u c edge = record {
@@ -63,7 +63,8 @@ row_of verdicts certs t u c edge = record {
   scope = is_in_scope c.user_ids u edge;
 }
 
--- what is told of a certificate: the edges into it, the place of U among its user IDs, and whether it is in order for U
+-- what is known of a certificate: the edges into it, the place of U among its user IDs, and whether it is in order for
+-- U
 abbrev pub entry_of : Entries → Certificates → ℕ → List ℕ → Certificate → Entry
 entry_of verdicts certs t u c = record {
   rows = map (row_of verdicts certs t u c) (edges_of verdicts c t);
@@ -75,10 +76,10 @@ entry_of verdicts certs t u c = record {
 abbrev pub record_of : Certificates → Entries → ℕ → List ℕ → Record
 record_of certs verdicts t u = map (λ (e : Fpr × Certificate). (e.0, entry_of verdicts certs t u e.1)) certs
 
--- Certificates stand under their own fingerprints.
+-- Certificates are under their own fingerprints.
 abbrev pub AreOwn : Certificates → Type 0
 AreOwn certs = AllByRecursion (λ (e : Fpr × Certificate). e.0 ≡ fpr_of e.1.key) certs
 
--- The rows into each fingerprint stand in the order of issuer and user ID.
+-- The rows into each fingerprint are sorted by issuer and user ID.
 abbrev pub TellsRows : Certificates → Entries → ℕ → List ℕ → Type 0
 TellsRows certs verdicts t u = AreEntries (record_of certs verdicts t u)

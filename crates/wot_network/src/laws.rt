@@ -1,4 +1,5 @@
-//! Laws of the definitions. Each function does nothing: its contract is the law.
+//! Laws of the definitions. Each function does nothing: its contract is the law. They carry the facts about a whole
+//! record (sorted, local, resting on trust signatures) from the definitions to wot_cache and wot_machine.
 ghost use Rattle.std.specs.Prelude.{◌≤◌, ℕ, List};
 ghost use Rattle.wot_verdict.specs.Verdicts.{Entries};
 ghost use Rattle.wot_edge.specs.Record.{IsRecord};
@@ -18,13 +19,13 @@ pub fn fits_later()
     ensures later { (n : Net) (old new : Keyring) → Fits n old → IsLater old new → Fits n new }
 {}
 
-/// The stale certificates have no more signatures than all have.
+/// The stale certificates have at most as many signatures as all certificates.
 pub fn stale_are_some()
     ensures some { (marks : Marks) (t : ℕ) (k : Keyring) → stale_signatures marks t k ≤ signatures_in k }
 {}
 
-/// What certificates under their own fingerprints tell is a record, whose rows stand in the order of issuer and user
-/// ID.
+/// The edges that certificates under their own fingerprints make form a record, whose rows are sorted by issuer and
+/// user ID.
 pub fn record_is_lawful()
     ensures ordered { (certs : Certificates) (verdicts : Entries) (t : ℕ) (u : List ℕ) → AreOwn certs
         → TellsRows certs verdicts t u }
@@ -35,15 +36,15 @@ pub fn record_is_lawful()
     edges_are_rows();
 }
 
-/// What certificates and verdicts tell of a set of fingerprints rests on the certificates of the set and on the
-/// verdicts on their signatures alone.
+/// What certificates and verdicts make of a set of fingerprints depends only on the certificates of the set and on the
+/// verdicts on their signatures.
 pub fn records_agree()
     ensures local { (certs : Certificates) (verdicts : Entries) (t : ℕ)
         → IsLocal certs verdicts t (record_of certs verdicts t) }
 {}
 
-/// An edge with a depth of at least 1 is into a certificate that its issuer certified so, by a certification that is
-/// found without a look at times, policy or revocations.
+/// An edge with a depth of at least 1 leads to a certificate that its issuer certified with such a depth. This
+/// certification is found without regard to times, policy or revocations.
 pub fn edges_rest_on_trust()
     ensures trust { (certs : Certificates) (verdicts : Entries) (t : ℕ) (u : List ℕ) → RestsOnTrust certs verdicts t u }
 {}

@@ -1,3 +1,5 @@
+//! A line of the network: what was made of one certificate, with the stamp and the span for which it holds. A line is
+//! stale as soon as the stamp differs or the time leaves the span; everything that is kept about a certificate is here.
 ghost use Rattle.std.specs.Prelude.{◌≡◌};
 ghost use Rattle.wot_network.specs.Net.{is_current, mark_of};
 
@@ -6,7 +8,7 @@ use wot_cert::Span;
 use wot_edge::Edge;
 use wot_standing::Standing;
 
-/// What was made of a certificate.
+/// What was made of one certificate, and for how long it holds.
 #[derive(Drop)]
 pub(crate) struct NetLine {
     pub(crate) stamp: u64,
@@ -56,7 +58,7 @@ impl NetLine {
         self.span
     }
 
-    /// Whether it tells of a certificate with this stamp at `t`.
+    /// Whether the line holds for a certificate with this stamp at `t`.
     pub(crate) fn is_current(&self, stamp: u64, t: u32) -> bool
         ensures current { result ≡ is_current t stamp (mark_of self.now) }
     {

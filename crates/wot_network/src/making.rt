@@ -1,4 +1,5 @@
-//! Making the line of one certificate.
+//! Makes the line of one certificate from wot_live's edges and wot_standing's standing. `refreshing` calls it for each
+//! stale certificate, and it is the only place where edges of the network are made.
 ghost use Rattle.std.specs.Prelude.{◌<◌, ◌≤◌, ◌+◌, ◌^◌, min, length, IfOk, OnOk};
 ghost use Rattle.wot_cert.specs.Counts.{signatures_of};
 ghost use Rattle.wot_cert.specs.Text.{size_of};
@@ -13,7 +14,7 @@ use wot_standing::standing;
 use wot_types::{Memory, Steps};
 use wot_verdict::Verdicts;
 
-/// The line of a certificate with this stamp.
+/// The line of a certificate with this stamp at `t`.
 pub(crate) fn make(
     alloc: Global,
     cert: &Cert,

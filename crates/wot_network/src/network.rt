@@ -1,3 +1,5 @@
+//! The network and its refresh. The contract of `refresh` says both that the result is the certification network of the
+//! keyring at `t` and that only stale certificates cost anything. wot_cache stands on these two facts.
 ghost use Rattle.std.specs.Prelude.{◌≡◌, ◌≤◌, ◌+◌, ℕ, List, min, [], OnOk, OnErr};
 ghost use Rattle.std.specs.Option.{option_copied};
 ghost use Rattle.wot_keyring.specs.Keyring.{Keyring as KeyringOf, certificates_in};
@@ -19,13 +21,13 @@ use wot_cert::Span;
 use wot_keyring::Keyring;
 use wot_types::{Fpr, Memory, Steps};
 
-/// The certification network of a keyring at a time: the edges into each kept certificate, and its standing.
+/// The certification network of a keyring at a time: the edges into each certificate, and its standing.
 #[derive(Drop)]
 pub struct Network {
     time: u32,
     /// The keyring's count of changes at the last refresh.
     count: u64,
-    /// Times at which no line's span has ended.
+    /// Times that are within the span of every line.
     window: Span,
     lines: Table,
     alloc: Global,
@@ -33,12 +35,7 @@ pub struct Network {
 
 impl Model for Network {
     ghost use Rattle.wot_edge.specs.Lawful.{AreEntries};
-    ghost use Rattle.wot_edge.specs.Agree.{Agree};
-    ghost use Rattle.wot_edge.specs.Path.{asks};
-    ghost use Rattle.wot_edge.specs.Record.{Has, IsRecord};
-    ghost use Rattle.wot_edge.specs.Roots.{root_amount};
-    ghost use Rattle.wot_types.specs.declared.fpr.Fpr.{Fpr as FprOf};
-    ghost use Rattle.wot_verdict.specs.Verdicts.{Entries};
+    ghost use Rattle.wot_edge.specs.Record.{IsRecord};
     ghost use Rattle.wot_network.specs.Net.{Net, AreLawful};
     ghost use Rattle.wot_network.specs.Refreshing.{AreOpen};
 
@@ -52,7 +49,7 @@ impl Model for Network {
 impl Network {
     ghost use Rattle.wot_network.specs.Roads.{present_of};
 
-    /// A network with the time `t`, of which nothing was made yet. It fits every keyring. Takes no memory.
+    /// An empty network with the time `t`. It fits every keyring. Doesn't allocate.
     pub fn new(alloc: Global, t: u32) -> Network
         ensures time { result.time ≡ t }
         ensures empty { (result.count ≡ 0) × (result.lines ≡ []) }
@@ -70,18 +67,18 @@ impl Network {
         }
     }
 
-    /// The time that it was refreshed for last.
+    /// The time of the last refresh.
     pub fn time(&self) -> u32
         ensures time { result ≡ self.now.time }
     {
         self.time
     }
 
-    /// Makes the network that of this keyring at `t`. Lines are made of stale certificates alone: those that were
-    /// altered since their line was made, those whose span `t` isn't in, and those that have no line. Where neither
-    /// the time left a span nor more was altered than the keyring has logged, the others aren't looked at.
-    /// After `Memory` each line is still right for its stamp and its span, and it is time and count of the last
-    /// refresh that the network has.
+    /// Brings the network up to date with this keyring at `t`. Lines are made only for stale certificates: those
+    /// altered since their line was made, those whose span doesn't include `t`, and those without a line. If `t` is
+    /// within all spans and the keyring's log goes back to the last refresh, no other certificate is looked at. After
+    /// `Memory` each line still holds for its stamp and its span, and the network keeps the time and the count of the
+    /// last refresh.
     pub fn refresh(&mut self, keyring: &Keyring, t: u32, steps: &mut Steps) -> Result<(), Memory>
         requires fits { Fits self.old keyring.now }
         ensures right { OnOk result (IsRight self.new keyring.now t) }
@@ -110,7 +107,7 @@ impl Network {
         Ok(())
     }
 
-    /// The roads of the network, of which it holds what was made of the keyring.
+    /// The roads of the network, which has to be up to date with this keyring.
     pub fn roads<'a>(&'a self, keyring: &'a Keyring) -> NetRoads<'a>
         requires right { IsRight self.now keyring.now self.now.time }
         ensures keyring { (present_of result).keyring ≡ keyring.now }
@@ -129,7 +126,7 @@ impl Network {
         }
     }
 
-    /// What was made of the certificate of a fingerprint.
+    /// The line of the certificate of a fingerprint.
     pub(crate) fn line(&self, fpr: &Fpr) -> Option<&NetLine>
         ensures found { option_copied result ≡ line_at self.now.lines fpr.now }
         ensures lawful { AreLawful self.now.lines }

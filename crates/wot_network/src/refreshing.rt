@@ -1,5 +1,7 @@
-//! The steps of a refresh: each certificate that may be stale is looked at.
-ghost use Rattle.std.specs.Prelude.{◌≡◌, ◌≤◌, ◌<◌, OnOk, IfSome};
+//! The steps of a refresh: each certificate that may be stale is looked at, and its line is made if it is. The
+//! keyring's log of changes says which ones these are; without it all certificates are looked at. `Network::refresh`
+//! stands on it.
+ghost use Rattle.std.specs.Prelude.{◌<◌, OnOk, IfSome};
 ghost use Rattle.wot_types.specs.declared.fpr.Fpr.{Fpr as TheFpr};
 ghost use Rattle.wot_cert.specs.Span.{InSpan};
 ghost use Rattle.wot_keyring.specs.Kept.{AreNamed, AreSortedByFpr, AreStamped};
@@ -15,7 +17,7 @@ use wot_cert::Span;
 use wot_keyring::Keyring;
 use wot_types::{Fpr, Memory, Steps};
 
-/// A law: the certificates of a keyring are named, and in order.
+/// A law: the certificates of a keyring are under their own fingerprints, and sorted.
 pub(crate) fn ordered(keyring: &Keyring)
     ensures sorted { AreSortedByFpr keyring.now.certs }
     ensures named { AreNamed keyring.now.certs }
@@ -24,7 +26,7 @@ pub(crate) fn ordered(keyring: &Keyring)
     let _ = keyring.len();
 }
 
-/// Makes the line of a certificate, unless it is current; takes it away where the certificate isn't kept.
+/// Makes the line of a certificate unless it has a current one. Removes the line if the certificate isn't kept.
 fn look_at(
     alloc: Global,
     lines: &mut Table,
@@ -58,7 +60,7 @@ fn look_at(
     Ok(())
 }
 
-/// Looks at each certificate.
+/// Looks at every certificate.
 fn look_at_all(
     alloc: Global,
     lines: &mut Table,
@@ -83,7 +85,7 @@ fn look_at_all(
     Ok(())
 }
 
-/// Looks at these certificates, beside which no other is stale.
+/// Looks at these certificates. No others are stale.
 fn look_at_changed(
     alloc: Global,
     lines: &mut Table,
@@ -110,7 +112,8 @@ fn look_at_changed(
     Ok(())
 }
 
-/// The certificates beside which none is stale, where that is known without a walk: where `t` is in the window.
+/// The only certificates that may be stale, if they are known without a walk: `t` is in the window, and the log goes
+/// back far enough.
 fn may_be_stale<'a>(
     keyring: &'a Keyring,
     window: &Span,
@@ -126,7 +129,7 @@ fn may_be_stale<'a>(
     None
 }
 
-/// Looks at each certificate that may be stale. What has a stamp up to the count has a line of that stamp.
+/// Looks at each certificate that may be stale. A certificate with a stamp up to the count has a line of that stamp.
 pub(crate) fn look_at_stale(
     alloc: Global,
     lines: &mut Table,
@@ -153,7 +156,7 @@ pub(crate) fn look_at_stale(
     }
 }
 
-/// Takes the lines away of certificates that aren't kept, where there are as many lines as certificates none is.
+/// Removes the lines of certificates that aren't kept. If there are as many lines as certificates, there are none.
 pub(crate) fn settle(lines: &mut Table, keyring: &Keyring, t: u32)
     requires sorted { AreSortedByFpr keyring.now.certs }
     requires done { AreDone keyring.now t lines.old.entries }

@@ -1,16 +1,18 @@
+//! The network as the search sees it: `Roads` of wot_edge, over a network and the keyring that it was made of. Edges
+//! come from the lines; scopes and user IDs are read from the certificates, and only when the search asks. Its contract
+//! is the record that all answers are proved about.
 ghost use Rattle.wot_network.specs.Net.{IsRight};
 
 use crate::laws::record_is_lawful;
 use crate::network::Network;
 use crate::refreshing::ordered;
 use crate::user_ids::{holds_for, is_in_order, place_of};
-use std::alloc::Global;
 use wot_edge::{Edge, Roads};
 use wot_keyring::Keyring;
 use wot_standing::is_usable;
 use wot_types::{Fpr, Memory};
 
-/// The roads of a keyring as it is, at one time, by the network that was made of it.
+/// The roads of a keyring at one time, over the network that is up to date with it.
 #[derive(Drop)]
 pub struct NetRoads<'a> {
     pub(crate) network: &'a Network,
@@ -43,7 +45,7 @@ impl<'a> Roads for NetRoads<'a> {
 
     fn scope(&self, edge: &Edge, uid: &[u8]) -> Result<bool, Memory> {
         let facts = edge.facts();
-        // Most edges have no scope, and then nothing is looked up.
+        // Most edges have no scope: then nothing is looked up.
         if !facts.scoped {
             return Ok(true);
         }

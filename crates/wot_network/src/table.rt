@@ -1,4 +1,5 @@
-//! The lines by fingerprint, call by call, and the window: times at which no line's span has ended.
+//! The lines by fingerprint, one small call for each use of the map, and the window: the times that are within the span
+//! of every line. `refreshing` and `network` work on it through these calls only.
 ghost use Rattle.std.specs.Prelude.{◌≡◌, OnOk, OnErr};
 ghost use Rattle.std.specs.BTreeMap.{insert_entry};
 ghost use Rattle.std.specs.List.Sorted.{IsStrictlySortedBy};
@@ -41,7 +42,7 @@ pub(crate) fn rises(lines: &Table)
     let _ = lines.len();
 }
 
-/// Puts a line in place of the one that is there. After `Memory` all is as before.
+/// Sets or replaces a line. On `Memory` nothing changes.
 pub(crate) fn put(lines: &mut Table, fpr: Fpr, line: NetLine) -> Result<(), Memory>
     ensures entries { OnOk result (lines.new.entries ≡ insert_entry fpr_cmp lines.old.entries fpr line) }
     ensures same { OnErr result (lines.new.entries ≡ lines.old.entries) }
@@ -50,21 +51,21 @@ pub(crate) fn put(lines: &mut Table, fpr: Fpr, line: NetLine) -> Result<(), Memo
     Ok(())
 }
 
-/// Takes a line away. Takes no memory.
+/// Removes a line. Doesn't allocate.
 pub(crate) fn forget(lines: &mut Table, fpr: &Fpr)
     ensures entries { lines.new.entries ≡ remove_entry (is_fpr fpr.now) lines.old.entries }
 {
     let _ = lines.remove(fpr);
 }
 
-/// Takes the lines away of certificates that aren't kept. Takes no memory.
+/// Removes the lines of certificates that aren't kept. Doesn't allocate.
 pub(crate) fn forget_absent(lines: &mut Table, keyring: &Keyring)
     ensures present { KeepsPresent keyring.now lines.old.entries lines.new.entries }
 {
     lines.retain(|fpr, _| keyring.get(fpr).is_some());
 }
 
-/// The times of both.
+/// The times in both spans.
 pub(crate) fn narrow(window: Span, span: Span) -> Span
     ensures window { IsInside result window }
     ensures span { IsInside result span }
@@ -75,7 +76,7 @@ pub(crate) fn narrow(window: Span, span: Span) -> Span
     }
 }
 
-/// The times at which all lines stand.
+/// The times that are within the span of every line.
 pub(crate) fn window_of(lines: &Table) -> Span
     ensures open { AreOpen result lines.now.entries }
 {

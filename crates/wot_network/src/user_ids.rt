@@ -1,4 +1,5 @@
-// Looking among the user IDs of a certificate.
+//! Finds user IDs in a certificate: the place of one, whether one is there unrevoked, and whether an edge's scope
+//! covers it. `roads` stands on it; scopes are matched by wot_scope.
 ghost use Rattle.std.specs.Prelude.{◌≡◌, ◌<◌, ◌^◌, length, IfOk};
 ghost use Rattle.wot_network.specs.Places.{TellsInOrder, TellsUnrevoked};
 ghost use Rattle.wot_network.specs.Places.{is_first as is_first_spec, behind_first as behind_first_spec};
@@ -31,7 +32,7 @@ fn body_at(user_ids: &[Part], uid: u32, sig: u32) -> &[u8]
     }
 }
 
-/// Whether the scope of an edge holds for a user ID, by the user IDs of its target.
+/// Whether the scope of an edge covers a user ID. The target's user IDs have the signature with the scope.
 pub(crate) fn holds_for(
     alloc: Global,
     user_ids: &[Part],
@@ -79,7 +80,7 @@ fn is_first(place: u32, places: &[u32]) -> bool
     }
 }
 
-/// These places without this one, where it is the first.
+/// The places after this one, if it is the first; else all of them.
 fn behind_first(place: u32, places: &[u32]) -> &[u32]
     ensures behind { result.now ≡ behind_first_spec place places.now }
 {
@@ -89,7 +90,7 @@ fn behind_first(place: u32, places: &[u32]) -> &[u32]
     }
 }
 
-/// Whether it is among these, and not at one of the revoked places, which rise.
+/// Whether the user ID is among these, at a place that isn't revoked. The revoked places are sorted.
 fn has_unrevoked(user_ids: &[Part], revoked: &[u32], u: &[u8]) -> bool
     requires few { length user_ids.now < 2 ^ 32 }
     ensures has { TellsUnrevoked u.now user_ids.now revoked.now result }
@@ -108,8 +109,8 @@ fn has_unrevoked(user_ids: &[Part], revoked: &[u32], u: &[u8]) -> bool
     false
 }
 
-/// Whether a certificate with these user IDs, of which these are revoked by its own key and this is its standing at
-/// `t`, is in order for a user ID.
+/// Whether a certificate is in order for a user ID, given its user IDs, its standing at `t` and the places that its own
+/// key revoked.
 pub(crate) fn is_in_order(
     user_ids: &[Part],
     standing: &Standing,

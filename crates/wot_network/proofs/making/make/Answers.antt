@@ -1,9 +1,6 @@
 use Rattle.std.proofs.Common.{◌≡◌, ◌∙◌, refl, sym, subst}
 use Rattle.wot_cert.specs.Span.{InSpan}
 use Rattle.wot_cert.specs.declared.moments.Span.{Span}
-use Rattle.wot_live.specs.Rows.{edges_of, revoked_of}
-use Rattle.wot_standing.specs.Standing.{standing_of}
-use Rattle.wot_standing.specs.Throughout.{IsThroughout}
 use Rattle.wot_network.proofs.Made.{in_its_span}
 use Rattle.wot_network.proofs.making.make.Goals as goal
 
@@ -13,7 +10,8 @@ returns-clause-made c =
     let same : c.standing.result.1 ≡ c.in_ok-rows.span = c.standing.ensures.span ∙ sym e.span in
     record {
       stamp = refl;
-      span = subst (λ (s : Span). InSpan s c.args.t) (sym e.span) (in_its_span c.args.cert.now c.args.t c.ranges.t.fits);
+      span = subst (λ (s : Span). InSpan s c.args.t) (sym e.span)
+          (in_its_span c.args.cert.now c.args.t c.ranges.t.fits);
       tells = λ u h. record {
         edges = e.throughout u h;
         standing = c.standing.ensures.throughout u (subst (λ (s : Span). InSpan s u) (sym same) h);

@@ -1,4 +1,4 @@
-use Rattle.std.proofs.Common.{rules, ◌≡◌, ◌∙◌, sym, subst}
+use Rattle.std.proofs.Common.{rules, sym, subst}
 use Rattle.std.proofs.lemmas.Map.Made.{filter_same_pairs}
 use Rattle.wot_types.specs.declared.fpr.Fpr.{Fpr}
 use Rattle.wot_keyring.specs.Keyring.{cert_at}
@@ -12,6 +12,8 @@ pub returns : goal.returns
 returns c = record {
   present =
       subst (λ (ls : Lines). KeepsPresent c.args.keyring.now c.args.lines.now.entries ls)
-      (sym (filter_same_pairs _ (λ (e : Fpr × Line). is_some (cert_at c.args.keyring.now e.0)) _ (λ k v b w f' t. search rules) _ _ c.retain.ensures.filtered))
-      (kept_alone c.args.keyring.now c.args.lines.now.entries (λ q. is_some (cert_at c.args.keyring.now q)) (λ q. is_kept_some _));
+      (sym (filter_same_pairs _ (λ (e : Fpr × Line). is_some (cert_at c.args.keyring.now e.0)) _
+      (λ k v b w f' t. search rules) _ _ c.retain.ensures.filtered))
+      (kept_alone c.args.keyring.now c.args.lines.now.entries (λ q. is_some (cert_at c.args.keyring.now q))
+      (λ q. is_kept_some _));
 }

@@ -3,7 +3,7 @@ use Rattle.std.specs.Option.{option_map}
 use Rattle.wot_network.specs.Told.{place_of}
 use Rattle.wot_network.proofs.user_ids.place_of.Given as goal
 
--- What is found among the rest stands that much further on.
+-- What is found among the rest is that much further on.
 abbrev pub invariant-rest : goal.invariant-rest
 invariant-rest l = record {
   count : l.place + length l.rest ≡ length l.user_ids;

@@ -1,5 +1,3 @@
-use Rattle.std.proofs.Common.{◌≡◌, ◌≤◌, ◌<◌, ℕ, List, Some, [], arith}
-use Rattle.wot_network.specs.Net.{Line, Lines, line_at}
 use Rattle.wot_network.proofs.Newly.{fits_new}
 use Rattle.wot_network.proofs.network.Network.new.Goals as goal
 

@@ -8,17 +8,20 @@ use Rattle.wot_network.proofs.roads.NetRoadsRoads.place.Goals as goal
 
 pub place_of-requires : goal.place_of-requires
 place_of-requires c = record {
-  few = subst (λ (uids : List Component). length uids < 2 ^ 32) (sym c.user_ids.ensures.user_ids) (user_ids_few c.in-Some.cert.now c.in-Some.ensures.size);
+  few = subst (λ (uids : List Component). length uids < 2 ^ 32) (sym c.user_ids.ensures.user_ids)
+      (user_ids_few c.in-Some.cert.now c.in-Some.ensures.size);
 }
 
 pub returns-in-Some : goal.returns-in-Some
 returns-in-Some c = record {
   place = c.place_of.ensures.place
       ∙ ap (λ (uids : List Component). place_of c.args.uid.now uids) c.user_ids.ensures.user_ids
-      ∙ ap (λ (e : Entry). e.place) (present c.args.self.now.network.now c.args.self.now.keyring.now c.args.self.now.right c.args.uid.now c.args.target.now c.in-Some.cert.now (sym c.in-Some.ensures.found));
+      ∙ ap (λ (e : Entry). e.place) (present c.args.self.now.network.now c.args.self.now.keyring.now
+      c.args.self.now.right c.args.uid.now c.args.target.now c.in-Some.cert.now (sym c.in-Some.ensures.found));
 }
 
 pub returns-in-None : goal.returns-in-None
 returns-in-None c = record {
-  place = ap (λ (e : Entry). e.place) (absent_cert c.args.self.now.network.now c.args.self.now.keyring.now c.args.self.now.right c.args.uid.now c.args.target.now (sym c.in-None.ensures.found));
+  place = ap (λ (e : Entry). e.place) (absent_cert c.args.self.now.network.now c.args.self.now.keyring.now
+      c.args.self.now.right c.args.uid.now c.args.target.now (sym c.in-None.ensures.found));
 }
