@@ -64,7 +64,7 @@ part_few adds a b left right ys y w h k =
 back_few : (o s p : ℕ) → o + s < p → s < p
 back_few o s p h = omega arith
 
--- The union of two components is small.
+-- Two merged components are small.
 pub union_few : (adds : Adds) (a b left right : List Component) (x : Component) (xs : List Component) (y : Component)
     (ys : List Component) → PartsAdding adds a b left right → left ≡ x ∷ xs → right ≡ y ∷ ys → part_cmp x y ≡ Equal
     → sum_of part_size (unite_parts a b) < 2 ^ 63 → sum_of sig_size (unite_sigs x.sigs y.sigs) < 2 ^ 63
@@ -103,7 +103,7 @@ parts_few_equal adds e a b left right x xs y ys w l r h g k = record {
       (wider _ _ (le_refl _) k);
 }
 
--- the same of equal lists
+-- the law for equal lists
 pub brings_same : (e : Adds) (s s' t t' : List Signature) → s ≡ s' → t ≡ t' → BringsSigs e s (unite_sigs s t)
     → BringsSigs e s' (unite_sigs s' t')
 brings_same e s s' t t' p q h =

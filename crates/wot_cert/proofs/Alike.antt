@@ -1,4 +1,4 @@
--- Lists that rise are equal where each rank finds the same in both.
+-- Sorted lists are equal if each rank finds equal items in both.
 use Rattle.std.proofs.Common.{◌≡◌, List, [], ◌∷◌, Option, Some, None, refl, sym, ap, ◌∙◌, subst}
 use Rattle.std.specs.declared.cmp.Ordering.{Ordering}
 use Rattle.std.specs.declared.cmp.Ordering.TheVariants.{Less, Equal, Greater}

@@ -5,5 +5,3 @@ use Rattle.wot_cert.specs.Counts.{sum_of}
 pub ones : {A : Type 0} (xs : List A) → sum_of (λ _. 1) xs ≡ length xs
 ones [] = refl
 ones (x ∷ xs) = omega (arith, ones xs)
-
--- ---- signatures

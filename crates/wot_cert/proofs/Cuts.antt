@@ -41,7 +41,7 @@ is-other kind ne = by_test (eqb kind 6) refl
     by_test true e = absurd (ne (eqb-true kind 6 e))
     by_test false e = e
 
--- at a key nothing stands before it
+-- if the first packet is a key, none comes before it
 pub at-key : (p : Spelled) (ps : List Spelled) → is_key p.kind ≡ true → (cut_at is_key (p ∷ ps)).0 ≡ []
 at-key p ps e = rw e refl
 
@@ -116,7 +116,7 @@ skipped-first s sections =
     one : (x : Section) → count_by unreadable (x ∷ []) ≡ skipped_by x
     one x = by_case (has_readable_key x)
 
--- What a key and the packets behind it add, where so many of these stand before the next key.
+-- What a key and the packets after it add, given how many of these come before the next key.
 pub record KeyTaken (p : Spelled) (ps : List Spelled) (n : ℕ) : Type 0 where
   pub certs : certificates_of (p ∷ ps) ≡ certs_in (p, take n ps) ++ certificates_of (drop n ps)
   pub skipped : skipped_in (p ∷ ps) ≡ skipped_by (p, take n ps) + skipped_in (drop n ps)

@@ -1,4 +1,4 @@
--- A component that is new, judged.
+-- A new component, marked.
 use Rattle.std.proofs.Common.{◌≡◌, ℕ, ◌+◌, List, [], ◌∷◌, map, refl, ap, ◌∙◌, arith}
 use Rattle.wot_policy.specs.declared.rows.PolicyRows.{PolicyRows}
 use Rattle.wot_cert.specs.declared.sig.Marks.TheVariants.{Dropped}

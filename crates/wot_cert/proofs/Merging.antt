@@ -1,4 +1,4 @@
--- Judging what is new in a union is uniting with what is judged.
+-- Marking what is new in a merged certificate is merging with what is marked.
 use Rattle.std.proofs.Common.{◌≡◌, ℕ, ◌+◌, List, [], ◌∷◌, map, refl, sym, ap, ◌∙◌, arith, zero-add}
 use Rattle.std.specs.declared.cmp.Ordering.TheVariants.{Equal}
 use Rattle.std.specs.List.{AllByRecursion}
@@ -122,7 +122,7 @@ four : (p q r s a b c d w x y z : ℕ) → p + a ≡ w → q + b ≡ x → r + c
     → (p + q + r + s) + (a + b + c + d) ≡ w + x + y + z
 four p q r s a b c d w x y z e f g h = omega arith
 
--- As many are asked as the union has sound ones more.
+-- The policy is asked as many times as the merged certificate has more sound signatures.
 pub merged_sound : (a b : Certificate) → IsCertificate a → IsCertificate b
     → sound_beside a (unite a b) + sound_of a ≡ sound_of (unite a b)
 merged_sound a b h k =
@@ -131,7 +131,7 @@ merged_sound a b h k =
     (places_weighed a.key b.key _ a.attributes b.attributes h.attributes k.attributes)
     (places_weighed a.key b.key _ a.subkeys b.subkeys h.subkeys k.subkeys)
 
--- ---- judged
+-- ---- marked
 
 pub sigs_judged : (rows : PolicyRows) (ys : List Signature)
     → AllByRecursion (IsJudgedSig rows) (map (judged_sig rows) ys)
@@ -152,7 +152,7 @@ unite_parts_judged : (rows : PolicyRows) (a b : List Component) → AllByRecursi
 unite_parts_judged rows a b h k =
     united_all part_cmp unite_part (IsJudgedPart rows) (λ x y e p q. unite_sigs_judged rows x.sigs y.sigs p q) a b h k
 
--- The union of what is judged with what the rows judge is judged.
+-- What is marked, merged with what the rows mark, is marked.
 pub merged_judged : (rows : PolicyRows) (a b : Certificate) → IsJudged rows a → IsJudged rows (unite a (judged rows b))
 merged_judged rows a b h = record {
   direct = unite_sigs_judged rows a.direct _ h.direct (sigs_judged rows b.direct);

@@ -1,4 +1,4 @@
--- What a union has that the list before it had not, in any order and any join.
+-- What a merged list has that the old list didn't have, in any order and with any join.
 use Rattle.std.proofs.Common.{◌≡◌, ℕ, ◌+◌, List, [], ◌∷◌, map, Some, None, refl, sym, ap, ◌∙◌, arith}
 use Rattle.std.specs.declared.cmp.Ordering.{Ordering}
 use Rattle.std.specs.declared.cmp.Ordering.TheVariants.{Less, Equal, Greater}
@@ -88,7 +88,7 @@ module _ {A : Type 0} (R : A → A → Ordering) (join : A → A → A) (o : IsT
             ∙ sym (greater R join o same x xs (only y) (map only ys) a only_h (right_as x y ∙ e))
       ] refl
 
-  -- Marking what is new in a union is uniting with what was marked.
+  -- Marking what is new in a merged list is merging with what was marked.
   pub marked_union : (a b : List A) → IsRising R a → IsRising R b → AllByRecursion P a → AllByRecursion P b
       → marked_new R both only (united R join a b) a ≡ united R join a (map only b)
   marked_union [] b a h p q =
@@ -156,7 +156,7 @@ module _ {A : Type 0} (R : A → A → Ordering) (join : A → A → A) (o : IsT
             ∙ ap (sum_of m) (sym u)
       ] refl
 
-  -- What is new in a union weighs what the union weighs more.
+  -- What is new in a merged list weighs as much as the list gained.
   pub weighed_union : (a b : List A) → IsRising R a → IsRising R b → AllByRecursion P a → AllByRecursion P b
       → weighed_new R both only (united R join a b) a + sum_of m a ≡ sum_of m (united R join a b)
   weighed_union [] b a h p q =

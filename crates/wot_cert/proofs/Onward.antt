@@ -1,4 +1,4 @@
--- A union made in place: from the last item to the first.
+-- A merge in place: from the last item to the first.
 use Rattle.std.proofs.Common.{◌≡◌, ℕ, ◌+◌, ◌≤◌, List, [], ◌∷◌, ◌++◌, map, refl, sym, ap, ◌∙◌, subst, arith}
 use Rattle.std.specs.List.{AllByRecursion}
 use Rattle.std.specs.declared.cmp.Ordering.{Ordering}
@@ -24,7 +24,7 @@ module _ {A : Type 0} (R : A → A → Ordering) (join : A → A → A) (change 
   union_on now next first left rest all y h e f =
       ap (λ (xs : List A). U xs rest) f ∙ sym (united_last now rest y) ∙ ap (U now) (sym e) ∙ h
 
-  -- What is put in once more weighs no more than the whole union.
+  -- One further inserted item weighs no more than the whole merged list.
   pub put_within : (m : A → ℕ) → ((x y : A) → m x ≤ m (join x y)) → (now first left rest all : List A) (y : A)
       → U now left ≡ U first all → left ≡ rest ++ y ∷ [] → sum_of m (put R join (change y) now) ≤ sum_of m (U first all)
   put_within m least now first left rest all y h e =

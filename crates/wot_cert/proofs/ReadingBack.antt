@@ -93,7 +93,7 @@ module _ (P : Plain → Type 0) where
   all-append [] ys h k = k
   all-append (x ∷ xs) ys h k = (h.0, all-append xs ys h.1 k)
 
--- a packet that stands behind a key and is no fault there
+-- a packet that comes after a key and is no fault there
 pub record IsBehind (x : Plain) : Type 0 where
   pub other : is_key x.0 ≡ false
   pub fine : (body : List ℕ) (at : ℕ) → fault_at true (record { kind = x.0; body = body; at = at }) ≡ None

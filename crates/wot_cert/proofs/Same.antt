@@ -1,4 +1,4 @@
--- Certificates with the same parts are the same.
+-- Certificates with equal parts are equal.
 use Rattle.std.proofs.Common.{◌≡◌}
 use Rattle.wot_cert.specs.Certificate.{Certificate}
 

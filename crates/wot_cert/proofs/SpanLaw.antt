@@ -1,4 +1,4 @@
--- What is live is the same at every time of a span.
+-- What is live doesn't change within a span.
 use Rattle.std.proofs.Common.{◌≡◌, ℕ, ◌+◌, ◌≤◌, ◌<◌, ◌^◌, Bool, true, false, cond, ◌||◌, ◌==◌, List, [], ◌∷◌, ◌++◌, map}
 use Rattle.std.proofs.Common.{Some, None, refl, arith}
 use Rattle.std.specs.Prelude.{nat_le, nat_lt, filter}
@@ -95,7 +95,7 @@ alike c t u h =
     (live_same (created_of c) t u) (all_sigs c)
     (all_each (OneSide t u) (sig_moments (created_of c)) (all_sigs c) at.1)
 
--- The live signatures are the same at every time of a span.
+-- The live signatures don't change within a span.
 pub live_at_same : (c : Certificate) (t u : ℕ) → InSpan (span_of c t) u → live_at t c ≡ live_at u c
 live_at_same c t u h =
     let Same : Signature → Type 0 = λ s. is_live t s ≡ is_live u s in

@@ -73,12 +73,12 @@ items_least c =
     (sum_least (λ _. 1) sig_size (λ s. some_octet 2 s.body) c.direct) (parts c.user_ids) (parts c.attributes)
     (parts c.subkeys)
 
--- ---- unions
+-- ---- merging
 
 less_sum : (k j u a b n m s : ℕ) → n ≡ k + a → m ≡ j + b → s ≡ k + u → u ≤ a + b → s ≤ n + m
 less_sum k j u a b n m s e f g h = omega arith
 
--- The text of a union is no longer than both.
+-- The text of a merged certificate is no longer than both texts.
 pub size_less : (a b : Certificate) → size_of (unite a b) ≤ size_of a + size_of b
 size_less a b =
     less_sum (length (written 6 a.key)) (length (written 6 b.key)) _ _ _ _ _ _ (size_is a) (size_is b)
@@ -87,7 +87,7 @@ size_less a b =
 below : (i n m p : ℕ) → i ≤ n → n ≤ m → m < p → i < p
 below i n m p h k l = omega arith
 
--- The items of a union, and of its first certificate, are few.
+-- The items of a merged certificate, and of the first one, are few.
 pub union_items : (rows : PolicyRows) (a b : Certificate) → size_of a + size_of b < 2 ^ 63
     → items_of (judged_beside rows a (unite a b)) < 2 ^ 63
 union_items rows a b h =

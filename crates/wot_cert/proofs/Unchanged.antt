@@ -1,4 +1,4 @@
--- A union that weighs no more than its first part is that part, and marks weigh nothing.
+-- A merged certificate that weighs no more than the first one is that one, and marks weigh nothing.
 use Rattle.std.proofs.Common.{◌≡◌, ℕ, ◌+◌, ◌≤◌, Bool, false, List, [], ◌∷◌, ◌++◌, map, length, refl, sym, ap, ◌∙◌}
 use Rattle.std.proofs.Common.{subst, arith}
 use Rattle.std.specs.declared.cmp.Ordering.{Ordering}

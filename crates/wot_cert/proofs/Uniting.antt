@@ -96,7 +96,7 @@ module _ (mark : Signature → Bool) where
       map-united part_cmp unite_part part_cmp unite_part (part_with (marked_as mark)) (λ x y. refl)
       (λ x y e. part-alike x _ _ (sigs-marked x.sigs y.sigs)) a b
 
-  -- The union of what is marked by a rule is the union, marked by it.
+  -- Merging what a rule marked is marking what was merged.
   pub united-marked : (a b : Certificate)
       → with_each (marked_as mark) (unite a b) ≡ unite (with_each (marked_as mark) a) (with_each (marked_as mark) b)
   united-marked a b =
@@ -204,11 +204,12 @@ module _ (a b : Certificate) (h : IsCertificate a) (k : IsCertificate b) (e : a.
       (fresh-parts a.key on_subkey a.subkeys h.subkeys.1 u.subkeys.1)
       (fresh-parts a.key on_subkey b.subkeys l.subkeys.1 v.subkeys.1))
 
-  -- Both unions have the same signatures with the same numbers; their marks may differ.
+  -- In both orders the merged certificates have the same signatures with the same numbers; only marks may differ.
   pub commutes : unmarked (unite a b) ≡ unmarked (unite b a)
   commutes = united-marked (λ _. false) a b ∙ unmarked-commute ∙ sym (united-marked (λ _. false) b a)
 
--- What a rule marks in a union doesn't depend on the order of the two, where the rule doesn't look at earlier marks.
+-- What a rule marks in a merged certificate doesn't depend on the order of the two, if the rule doesn't look at earlier
+-- marks.
 pub marked-commute : (mark : Signature → Bool) → ((s : Signature) → mark (unmarked_sig s) ≡ mark s)
     → (a b : Certificate) → IsCertificate a → IsCertificate b → a.key ≡ b.key
     → with_each (marked_as mark) (unite a b) ≡ with_each (marked_as mark) (unite b a)

@@ -1,4 +1,4 @@
--- What unions and judged certificates weigh.
+-- What merged and marked certificates weigh.
 use Rattle.std.proofs.Common.{◌≡◌, ℕ, ◌+◌, ◌≤◌, List, [], ◌∷◌, Some, None, refl, arith}
 use Rattle.std.specs.declared.cmp.Ordering.{Ordering}
 use Rattle.std.specs.declared.cmp.Ordering.TheVariants.{Less, Equal, Greater}
@@ -9,7 +9,7 @@ use Rattle.wot_cert.specs.Certificate.{Signature, Component, Certificate, sig_cm
 use Rattle.wot_cert.specs.Judged.{judged_sig}
 use Rattle.wot_cert.specs.New.{met, marked_on, marked_new, stays, judged_sigs, judged_part, judged_parts, judged_beside}
 
--- ---- unions
+-- ---- merging
 
 module _ {A : Type 0} (R : A → A → Ordering) (join : A → A → A) (m : A → ℕ) (least : (x y : A) → m x ≤ m (join x y)) where
   placed_more : (r : Ordering) (x y : A) (ys rest : List A) → sum_of m ys ≤ sum_of m rest
@@ -28,7 +28,7 @@ module _ {A : Type 0} (R : A → A → Ordering) (join : A → A → A) (m : A �
   reach : (a : ℕ) → a ≤ a
   reach a = omega arith
 
-  -- A union weighs no less than its first list.
+  -- A merged list weighs no less than the first one.
   pub united_more : (xs ys : List A) → sum_of m xs ≤ sum_of m (united R join xs ys)
   united_more xs [] = reach (sum_of m xs)
   united_more xs (y ∷ ys) = chain _ _ _ (united_more xs ys) (put_more y (united R join xs ys))
@@ -50,7 +50,7 @@ module _ {A : Type 0} (R : A → A → Ordering) (join : A → A → A) (m : A �
   reach_zero : (a : ℕ) → a ≤ a + 0
   reach_zero a = omega arith
 
-  -- A union weighs no more than both lists.
+  -- A merged list weighs no more than both.
   pub united_less : (xs ys : List A) → sum_of m (united R join xs ys) ≤ sum_of m xs + sum_of m ys
   united_less xs [] = reach_zero (sum_of m xs)
   united_less xs (y ∷ ys) = next _ _ _ _ _ (put_less y (united R join xs ys)) (united_less xs ys)

@@ -1,4 +1,4 @@
--- Marks and unions keep what is true of every certificate.
+-- Marking and merging keep the invariant of certificates.
 use Rattle.std.proofs.Common.{◌≡◌, ℕ, Bool, List, [], ◌∷◌, map, refl, sym, subst}
 use Rattle.std.specs.declared.cmp.Ordering.{Ordering}
 use Rattle.std.specs.declared.cmp.Ordering.TheVariants.{Less, Equal, Greater}
@@ -67,7 +67,7 @@ marked_whole mark c h = record {
   subkeys = marked_parts mark c.key on_subkey c.subkeys h.subkeys;
 }
 
--- ---- unions
+-- ---- merging
 
 module _ {A : Type 0} (R : A → A → Ordering) (join : A → A → A) (P : A → Type 0) (closed : (x y : A) → R y x ≡ Equal → P x → P y → P (join x y)) where
   placed_all : (r : Ordering) (x y : A) (ys rest : List A) → R x y ≡ r → P x → P y → AllByRecursion P ys

@@ -1,7 +1,7 @@
 //! What a merge would add, without merging: how many keys, components, signatures and octets.
 //!
-//! It stands on the sorted lists of both certificates and on `specs/Sizes.antt`. `wot_keyring` checks its limits with
-//! it before a merge.
+//! It stands on the sorted lists of both certificates and on `specs/Sizes.antt`. `Cert::adds` hands it on; the program
+//! itself learns from `Cert::grow` what a merge added.
 ghost use Rattle.std.specs.Prelude.{◌≡◌, ◌<◌, ◌^◌, ◌+◌};
 ghost use Rattle.std.specs.List.{AllByRecursion};
 ghost use Rattle.wot_cert.specs.Certificate.{unite, sig_cmp, part_cmp, unite_sigs, unite_parts};

@@ -1,4 +1,4 @@
-//! `certificates`: the packets of a text to certificates.
+//! `assemble`: the packets of a text to certificates.
 //!
 //! It stands on `draft` for the packets after each key, on `first_fault` for errors, and on `specs/Assembly.antt` (RFC
 //! 9580, section 10.1). Imports, loads and dumps are assembled here.

@@ -1,4 +1,4 @@
-//! A list of certificates that contracts see as a list. `certificates` returns one, and `wot_keyring` imports it.
+//! A list of certificates that contracts see as a list. `assemble` returns one, and `wot_keyring` imports it.
 use crate::Cert;
 use std::alloc::Global;
 use std::marker::Model;

@@ -1,7 +1,7 @@
 //! Merging in place: what is new is inserted at its place, and logged, so that it can be taken out again.
 //!
-//! It stands on `specs/Growing.antt`. `places` calls it for each list; `shrinking` undoes the log. A merge costs what
-//! it adds, however large the certificate is.
+//! It stands on `specs/Growing.antt`. `places` calls it for each list; `shrinking` undoes the log. What is already
+//! there is neither copied nor walked over.
 ghost use Rattle.std.specs.Prelude.{◌≡◌, ◌≤◌, ◌<◌, ◌+◌, ◌++◌, ◌∷◌, [], vec_len, vec_capacity};
 ghost use Rattle.std.specs.Prelude.{IfOk, Ok, Err, OnOk, OnErr};
 ghost use Rattle.std.specs.List.{AllByRecursion, insert};

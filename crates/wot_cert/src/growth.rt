@@ -1,5 +1,5 @@
 //! The log of a merge in place: what was inserted, and where. `growing` writes it, `shrinking` reads it, and
-//! `wot_keyring` keeps it until the whole import has succeeded.
+//! `wot_keyring` keeps it until an import can't fail any more.
 ghost use Rattle.std.specs.Prelude.{◌≡◌, []};
 
 use crate::Adds;

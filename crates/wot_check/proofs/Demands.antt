@@ -129,7 +129,7 @@ within_some most (Some label) w = (label, refl, w)
 pub some_within : (most label : ℕ) (o : Option ℕ) → o ≡ Some label → label ≤ most → IsWithin most o
 some_within most label o e le = subst (IsWithin most) (sym e) le
 
--- a covered edge that may stand there
+-- a covered edge that may come there
 pub covered_within : (target : Fpr) (used : Use) (demand : Demand) (most : ℕ) (table : Labels) (row : Row)
     → is_covered target used demand most table row ≡ true → may_stand target used demand row ≡ true
     → IsWithin most (label_at table row.edge.issuer)

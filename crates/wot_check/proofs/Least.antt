@@ -220,7 +220,7 @@ row_key (e ∷ told) at row h = by (same_fpr at e.0) refl h (row_key told at row
     by false apart h later = inr (later h)
 
 module _ (q : Question) (used : Use) where
-  -- a trail of so many steps begins there
+  -- a trail of this many steps begins there
   record Led (size : ℕ) (fpr : Fpr) : Type 0 where
     steps : List Step
     trail : Trail q used steps
@@ -310,12 +310,12 @@ module _ (q : Question) (used : Use) where
       (is_so (same_fpr row.edge.issuer fpr))) (rows_into q.told at)))
       (keys_of q.told))
 
-  -- a shortest trail from there has so many steps
+  -- a shortest trail from there has this many steps
   record Shortest (size : ℕ) (fpr : Fpr) : Type 0 where
     led : Led size fpr
     least : (other : ℕ) → 1 ≤ other → Led other fpr → size ≤ other
 
-  -- it has at most so many
+  -- it has at most this many
   record Nearest (most : ℕ) (fpr : Fpr) : Type 0 where
     size : ℕ
     some : 1 ≤ size
@@ -464,7 +464,7 @@ module _ (q : Question) (used : Use) where
 
     -- ---- its trails
 
-    -- a step may stand before fewer
+    -- a step may come before fewer
     stands_before : (other : ℕ) (step : Step) (rest : List Step) (s : Stands q step rest) → 0 < step_left used step
         → 1 ≤ other → other < length rest
         → may_stand q.target used (demand_of q other) s.row ≡ true
@@ -545,7 +545,7 @@ module _ (q : Question) (used : Use) where
       | inr le ↦ omega (arith, le)
     ]
 
-  -- THE LEAST TABLE SHOWS THAT NOTHING IS LEFT, where nothing is.
+  -- The least table shows that no path is left, if none is.
   pub least_shows : (table : Labels) → IsTable table → IsLeastTable q used table → IsSpent q used
       → IsAbsence q used table
   least_shows table good least spent = by (is_in_order q) refl
@@ -574,7 +574,7 @@ module _ (q : Question) (used : Use) where
       by false = ([], empty_table, refl)
       by true = of_built (built all_issuers)
 
--- What is told of an answer that missed is accepted.
+-- What is printed for an answer that misses is accepted.
 pub least_accepted : (q : Question) (wanted : ℕ) (paths : List Path) (table : Labels) → IsTable table
     → IsAnswer q wanted paths → amount_of paths < wanted
     → IsLeastTable q (use_of paths) table → Accepts q (map claim_of paths) table

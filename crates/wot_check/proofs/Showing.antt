@@ -128,7 +128,7 @@ pub record Shown (q : Question) (sums : Sums) (claims : List Claim) (paths : Lis
     pub below : AreBelow (255 * length paths) sums
     pub count : length paths + length rest ≡ length claims
 
--- the same of some paths
+-- these paths were shown and are used, for some paths
 pub record SomeShown (q : Question) (sums : Sums) (claims : List Claim) (rest : List Claim) : Type 0 where
   pub paths : List Path
   pub shown : Shown q sums claims paths rest

@@ -1,4 +1,4 @@
--- Trails: steps to the target that may be taken one after the other, of each of which something is left.
+-- Trails: steps to the target that may follow one another, each with a positive residual amount.
 use Rattle.std.proofs.Common.{◌≡◌, inl, inr, ℕ, ◌+◌, ◌<◌, ◌≤◌, false, List, [], ◌∷◌, length, sym, ap, subst, arith}
 use Rattle.wot_types.specs.declared.fpr.Fpr.{Fpr}
 use Rattle.wot_edge.specs.declared.path.Step.{Step}
@@ -70,7 +70,7 @@ trail_within q used table c (x ∷ y ∷ rest) t some few =
 pub open_trail : (q : Question) (used : Use) (steps : List Step) → IsOpen q used steps → Trail q used steps
 open_trail q used steps o = chain_trail q used (root_left q used (start q.target steps)) steps o.0.chain o.1
 
--- A TABLE THAT MEETS THE THREE POINTS LEAVES NOTHING.
+-- A table that meets the three points proves that no path is left.
 pub excludes_spent : (q : Question) (used : Use) (table : Labels) → Excludes q used table → IsSpent q used
 excludes_spent q used table x steps o =
     let w = within_some (length steps) (label_at table (start q.target steps))

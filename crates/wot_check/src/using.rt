@@ -1,4 +1,4 @@
-//! What earlier paths use, computed anew from a list of paths.
+//! What earlier paths use, computed from a list of paths.
 //!
 //! It stands on `Used` of `wot_edge`; its laws bound the sums, so that none overflows. `making` and `show` start from
 //! it.

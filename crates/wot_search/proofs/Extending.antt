@@ -42,7 +42,7 @@ pub edge_known : (told : List ℕ → Record) → ((id : List ℕ) → IsRecord 
 edge_known told good at edges e edge h id =
     edge_into (told id) (good id) at edge (subst (λ (xs : List EdgeFacts). Has xs edge) (e id) h)
 
--- an edge that may stand before others leads on
+-- an edge that may come before others leads on
 leads : (quest : Quest) (row : Row) (rest : List Step) → 0 < length rest → Reaches quest.question row rest
     → length rest < quest.reach row.edge.issuer → leads_on quest.reach row.edge ≡ true
 leads quest row [] some r far = absurd (omega (arith, some))
@@ -51,7 +51,7 @@ leads quest row (next ∷ rest) some r far =
     and_from (nat_le 1 row.edge.depth) (nat_le 2 (quest.reach row.edge.issuer))
     (le-leb 1 row.edge.depth (omega (arith, deep))) (le-leb 2 (quest.reach row.edge.issuer) (omega (arith, far)))
 
--- each edge into a fingerprint that may matter before so many others is one of these
+-- each edge into a fingerprint that may matter before this many others is one of these
 abbrev pub HasAllBefore : Quest → ℕ → Fpr → List EdgeFacts → Type 0
 HasAllBefore quest size at edges =
     (edge : EdgeFacts) → Has (edges_into quest.question.told at) edge → (0 < size → leads_on quest.reach edge ≡ true)

@@ -105,7 +105,7 @@ turn_some quest good small found size layer is complete u pos most choice e path
         ∙ ap (λ (n : ℕ). min (root_left quest.question quest.used x.issuer) n) w
         ∙ sym (amount_width quest.question quest.used (x ∷ xs) (small x.issuer))
 
--- what a turn gives after a layer
+-- what a turn returns after a layer
 pub turned : (quest : Quest) (size : ℕ) (reached : Reached) (set : Fpr → Type 0) (found : Option Path)
     → IsRecord quest.question.told → IsSmall quest → IsAfter quest (suc size) reached set
     → IsUnrooted quest (look reached.nodes) (suc size) → TurnsTo quest (size + 1) reached found
@@ -133,7 +133,7 @@ module _ (quest : Quest) (size : ℕ) (reached : Reached) (set : Fpr → Type 0)
         (after.layer.all steps k (omega (arith, le, few))))
   ]
 
-  -- Where a layer is empty, there is no path.
+  -- If a layer is empty, there is no path.
   pub empty_result : reached.layer.items ≡ [] → IsResult quest None
   empty_result e other r =
       let c = complete_all quest (look reached.nodes) (suc size) (omega arith) after.complete (kept_fewer e) other

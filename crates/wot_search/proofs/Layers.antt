@@ -37,7 +37,7 @@ covered_trans quest found a b c e m =
     }
 
 module _ (quest : Quest) (found : Found) where
-  -- ONE LAYER MORE. Where each edge before each suffix found of so many edges is covered, all suffixes of one edge more
+  -- One more layer: if each edge before each found suffix of this many edges is covered, all suffixes of one edge more
   -- are.
   pub complete_more : (size : ℕ) → IsComplete quest found size
       → ((rest : List Step) → Kept quest found rest → length rest ≡ size → (step : Step) → Serves quest step rest
@@ -61,7 +61,7 @@ module _ (quest : Quest) (found : Found) where
         ]) refl (AtMost-cons quest.used quest.goal step c.steps (next ∷ rest) c.most)
   ]
 
-  -- Where no suffix of so many edges was found, all are covered.
+  -- If no suffix of this many edges was found, all are covered.
   pub complete_all : (size : ℕ) → 1 ≤ size → IsComplete quest found size
       → ((steps : List Step) → Kept quest found steps → 1 ≤ length steps → length steps < size)
       → (other : List Step) → 1 ≤ length other → Suffix quest other → Covered quest found other

@@ -93,7 +93,7 @@ starts_less target (x ∷ a) (y ∷ b) some more l = λ less.
 
 -- ---- the first paths
 
--- an open path of so many edges and at least so much
+-- an open path of this many edges and at least this amount
 pub record IsOne (q : Question) (used : Use) (n a : ℕ) (path : Path) : Type 0 where
   pub free : IsOpen q used path.steps
   pub long : length path.steps ≡ n
@@ -106,7 +106,7 @@ abbrev pub Ascend : List Path → Type 0
 Ascend [] = Unit {0}
 Ascend (path ∷ paths) = ((other : Path) → Has paths other → fpr_cmp path.root other.root ≡ Less) × Ascend paths
 
--- an open path of so many edges and so much is not less than one of these from its root
+-- an open path of this many edges and this amount isn't less than one of these from its root
 abbrev pub IsMet : Question → Use → ℕ → ℕ → List Path → Type 0
 IsMet q used n a paths =
     (other : List Step) → IsOpen q used other → length other ≡ n → a ≤ path_amount q used other
@@ -123,7 +123,7 @@ pub record AreFirst (q : Question) (used : Use) (n a : ℕ) (paths : List Path) 
 module _ (roots : List (Fpr × ℕ)) (q : Question) (used : Use) (n a : ℕ) (pos : 0 < a)
     (fewest : (other : List Step) → IsOpen q used other → n ≤ length other)
     (widest : (other : List Step) → IsOpen q used other → length other ≡ n → path_amount q used other ≤ a) where
-  -- each is such a path, and its root has the amount that is told
+  -- each is such a path, and its root has the amount in the list
   abbrev AreEach : List Path → Type 0
   AreEach paths =
       (path : Path) → Has paths path
@@ -220,7 +220,7 @@ module _ (roots : List (Fpr × ℕ)) (q : Question) (used : Use) (n a : ℕ) (po
           let m = least_most later (root_left q later (start q.target other)) other in
           absurd (omega (arith, lt, enough, amount, same, m))
 
--- THE FIRST PATHS ARE OFFERS, and the first of them is the next path.
+-- The first paths are offers, and the first of them is the next path.
 pub first_offers : (roots : List (Fpr × ℕ)) (q : Question) (used : Use) (n a : ℕ) (path : Path) (paths : List Path)
     → 0 < a → AreFirst q used n a (path ∷ paths)
     → ((x : Path) → Has (path ∷ paths) x → root_amount roots x.root ≡ root_amount q.roots x.root)

@@ -1,4 +1,4 @@
--- Where one search serves as two: all that it found is of the greatest amount.
+-- When one search serves as two: everything that it found has the greatest amount.
 use Rattle.std.proofs.Common.{◌≡◌, ◌⊎◌, inl, inr, ℕ, ◌<◌, ◌≤◌, Bool, true, false, cond, nat_le, List, [], ◌∷◌, length}
 use Rattle.std.proofs.Common.{Option, Some, None, ap, subst, arith}
 use Rattle.std.proofs.lemmas.Bool.{and_parts, leb-true}
@@ -45,7 +45,7 @@ roots_left q used most none fpr = (let n = none fpr in omega (arith, n))
 some_is : (a b : Node) → Some a ≡ Some b → a ≡ b
 some_is a b e = ap (λ (o : Option Node). unwrap_or o a) e
 
--- each node that a look-up finds has at least so much
+-- each node that a look-up finds has at least this width
 pub all_wide : (amount : ℕ) (entries : List (Fpr × Node))
     → list_all (λ (node : Node). nat_le amount node.width) (values_of entries) ≡ true
     → (fpr : Fpr) (node : Node) → lookup (is_at (fpr_cmp fpr)) entries ≡ Some node → amount ≤ node.width
@@ -119,7 +119,7 @@ module _ (reach : Fpr → ℕ) (q : Question) (used : Use) where
   looked_wide size set looked rest lt t =
       (let seen = looked rest lt (suffix_any rest t) in record { it = seen.it; issuers = seen.issuers })
 
-  -- ---- where so much is left of all that was found, a search for so much finds the same
+  -- ---- if all that was found has this width, a search for this amount finds the same
 
   module _ (amount : ℕ) (pos : 1 ≤ amount) (found : Found) (each : (fpr : Fpr) (node : Node) → found fpr ≡ Some node → amount ≤ node.width) where
     abbrev more : Quest

@@ -10,7 +10,7 @@ use Rattle.wot_edge.specs.declared.path.Step.{Step}
 use Rattle.wot_edge.specs.Order.{step_cmp, steps_cmp}
 use Rattle.wot_edge.specs.StepLaws.{step_total, steps_total}
 
--- two fingerprints are the same, or not
+-- two fingerprints are equal or not
 pub fpr_cases : (a b : Fpr) → (a ≡ b) ⊎ (a ≢ b)
 fpr_cases a b = by (same_fpr a b) refl
   where

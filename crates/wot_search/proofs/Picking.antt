@@ -65,7 +65,7 @@ unahead-behind Least a b e = not_lt-gt (fpr_cmp a.fpr b.fpr) (fpr_cmp b.fpr a.fp
 -- ---- the choice
 
 module _ (quest : Quest) (found : Found) where
-  -- what is chosen of those of which done tells
+  -- what is chosen among those that are done
   abbrev IsChosen : (Fpr → Type 0) → Option Choice → Type 0
   IsChosen done None = (fpr : Fpr) → done fpr → quest.least ≤ root_left quest.question quest.used fpr → ⊥
   IsChosen done (Some c) =

@@ -17,7 +17,7 @@ use Rattle.wot_search.proofs.Within.{Within, Holds}
 use Rattle.wot_search.proofs.Order.{not_less-trans}
 use Rattle.wot_search.proofs.Suffixes.{serves_shorter}
 
--- the quests of the two searches: for the widest path, and for the least list of which so much is left
+-- the quests of the two searches: for the widest path, and for the least list with this residual amount
 abbrev pub widest_quest : (Fpr → ℕ) → Question → Use → Quest
 widest_quest reach q used = record { question = q; used = used; reach = reach; least = 1; goal = Widest }
 
@@ -199,7 +199,7 @@ first_open quest steps pos ok f = (
           })
     ]
 
--- THE NEXT PATH. The least of those of which so much is left as of the widest.
+-- The next path: the least of those with the residual amount of the widest one.
 pub first_next : (reach : Fpr → ℕ) (q : Question) (used : Use) → Holds reach q used → (wide steps : List Step)
     → (entry_at q.told q.target).in_order ≡ true → IsFirst (widest_quest reach q used) wide
     → IsFirst (least_quest reach q used (path_amount q used wide)) steps → IsNext q used steps

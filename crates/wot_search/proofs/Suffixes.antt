@@ -17,7 +17,7 @@ use Rattle.wot_search.specs.Quest.{Quest}
 use Rattle.wot_search.specs.Suffix.{Serves, Suffix, Found, Kept, node_of}
 use Rattle.wot_search.specs.Layer.{link_cmp}
 
--- An edge may also stand before fewer edges from the same issuer.
+-- An edge may also come before fewer edges from the same issuer.
 pub reaches_shorter : (q : Question) (row : Row) (rest other : List Step) → 1 ≤ length rest → 1 ≤ length other
     → length other ≤ length rest → Reaches q row rest → Reaches q row other
 reaches_shorter q row [] other a b le r = absurd (omega arith)
@@ -39,7 +39,7 @@ serves_shorter quest step rest other a b le e s = record {
   high = let h = s.high in omega (arith, h, le);
 }
 
--- an edge that may stand before others is into where they begin
+-- an edge that may come before others leads to where they begin
 pub serves_into : (quest : Quest) → IsRecord quest.question.told → (step : Step) (rest : List Step)
     → Serves quest step rest → step.target ≡ start quest.question.target rest
 serves_into quest good step rest s =

@@ -1,4 +1,4 @@
--- Paths whose issuers stand within their reach.
+-- Paths whose issuers are within their reach.
 use Rattle.std.proofs.Common.{◌≡◌, ℕ, ◌<◌, ◌≤◌, List, [], ◌∷◌, length, sym, ap, subst, arith}
 use Rattle.wot_types.specs.declared.fpr.Fpr.{Fpr}
 use Rattle.wot_edge.specs.declared.path.Step.{Step}
@@ -8,7 +8,7 @@ use Rattle.wot_search.specs.Reach.{HaveEnough, IsReach, Table, number_at}
 use Rattle.wot_search.specs.Onward.{AreOnward}
 use Rattle.wot_search.specs.declared.onward.Onward.{Onward}
 
--- each issuer stands within its reach
+-- each issuer is within its reach
 abbrev pub Within : (Fpr → ℕ) → List Step → Type 0
 Within reach [] = Unit {0}
 Within reach (step ∷ rest) = (length rest < reach step.issuer) × Within reach rest

@@ -41,7 +41,7 @@ and_false : (a : Bool) → (a && false) ≡ false
 and_false true = refl
 and_false false = refl
 
--- A signature counts by its issuer alone.
+-- A signature counts only as its issuer's.
 others_fail : (verdicts : Entries) (s : Signature) (issuer q : Fpr) (a b : Bool) → issuer_of verdicts s ≡ Some issuer
     → same_fpr issuer q ≡ false → (a && (counts_by verdicts q s && b)) ≡ false
 others_fail verdicts s issuer q a b e h =

@@ -1,4 +1,4 @@
--- Where no signature counts by an issuer, none is valid by it.
+-- If no signature counts as an issuer's, none is valid as the issuer's.
 use Rattle.std.proofs.Common.{◌≡◌, ℕ, Bool, true, false, cond, ◌&&◌, ◌||◌, List, [], ◌∷◌, None, refl, ap, ◌∙◌}
 use Rattle.std.specs.Prelude.{filter}
 use Rattle.std.specs.List.{list_any}

@@ -1,4 +1,4 @@
--- One number tells which signatures are revoked.
+-- One number decides which signatures are revoked.
 use Rattle.std.proofs.Common.{◌≡◌, ℕ, Bool, true, false, cond, not, ◌&&◌, ◌||◌, List, [], ◌∷◌, map, max, Option, Some}
 use Rattle.std.proofs.Common.{None, refl, sym, ap, ◌∙◌, arith}
 use Rattle.std.specs.Prelude.{filter, nat_lt}
@@ -40,7 +40,7 @@ all_after p m (r ∷ rs) =
       | false ↦ all_after p m rs
     ]
 
--- A signature is unrevoked where it isn't revocable, or was made after the latest revocation.
+-- A signature is unrevoked if it isn't revocable or was created after the latest revocation.
 pub unrevoked-latest : (verdicts : Entries) (fpr : Fpr) (t : ℕ) (sigs : List Signature) (s : Signature)
     → is_unrevoked verdicts fpr t sigs
     s ≡ (not (is_revocable s) || outlives (revoked_at verdicts fpr t sigs) (made_of s))

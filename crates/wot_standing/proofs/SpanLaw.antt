@@ -1,4 +1,4 @@
--- What is live, and so the standing, is the same at every time of a span.
+-- What is live, and so the standing, doesn't change within a span.
 use Rattle.std.proofs.Common.{◌≡◌, ℕ, ◌+◌, Bool, not, ◌&&◌, ◌||◌, List, [], ◌∷◌, ◌++◌, map, Option, refl, sym, ap, ◌∙◌}
 use Rattle.std.specs.Prelude.{nat_lt, is_some}
 use Rattle.std.specs.List.{AllByRecursion, list_all, list_any, filter_map}
@@ -121,7 +121,7 @@ with_parts : (verdicts : Entries) (c : Certificate) (t : ℕ) (by by' : Option S
     } in made by soft ≡ made by' soft')
 with_parts verdicts c t by by' soft soft' e f = rw (e, f) refl
 
--- The standing is the same at every time of a span.
+-- The standing doesn't change within a span.
 pub standing_same : (verdicts : Entries) (c : Certificate) (t u : ℕ) → AreLiveAlike c t u
     → standing_of verdicts c u ≡ standing_of verdicts c t
 standing_same verdicts c t u h =
@@ -130,7 +130,7 @@ standing_same verdicts c t u h =
     (soft_moment verdicts (own c) t c.direct) (soft_moment verdicts (own c) u c.direct)
     (governing_same verdicts c t u s) (soft_same verdicts (own c) t u c.direct s.direct))
 
--- Whether a user ID is revoked by its own key is the same too.
+-- Whether a user ID is revoked by its own key doesn't change either.
 pub own_revoked_same : (verdicts : Entries) (fpr : Fpr) (t u : ℕ) (uid : Component) → AllByRecursion (Same t u) uid.sigs
     → is_own_revoked verdicts fpr t uid ≡ is_own_revoked verdicts fpr u uid
 own_revoked_same verdicts fpr t u uid h =
@@ -140,7 +140,7 @@ own_revoked_same verdicts fpr t u uid h =
     ∙ ap (λ o. list_any (revokes_by verdicts fpr u) uid.sigs && not (is_some o))
     (newest_same verdicts fpr t u Certification uid.sigs h)
 
--- The certifications of each issuer on each user ID are the same at every time of a span.
+-- The certifications of each issuer on each user ID don't change within a span.
 pub certifications_same : (c : Certificate) (t u : ℕ) → AreLiveAlike c t u → (verdicts : Entries) (issuer : Fpr)
     → AllByRecursion (SameBy verdicts issuer t u) c.user_ids
 certifications_same c t u h verdicts issuer =
