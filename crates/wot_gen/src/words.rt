@@ -4,6 +4,7 @@ ghost use Rattle.std.specs.Prelude.{◌≡◌, ◌+◌, ◌<◌, ◌^◌};
 ghost use Rattle.wot_gen.specs.Words.{state_after, word};
 
 use rand_core::SeedableRng;
+use rand_core::utils::NextWord;
 use rand_xoshiro::SplitMix64;
 
 /// The words of SplitMix64 from a start on.
