@@ -22,7 +22,8 @@ PLAIN = re.compile(r"[\w']+")
 TRAIT = re.compile(r"\btrait (\w+)")
 COMMENT = {".rt": re.compile(r"//[^\n]*"), ".antt": re.compile(r"--[^\n]*")}
 # Traits of std and of the kit's crates, and the operators that a `do` block stands for.
-USED_UNSEEN = {"Digest", "Model", "RngCore", "SeedableRng", "Read", "Write", "BufRead", "FromStr", "◌>>=◌", "◌>>◌"}
+USED_UNSEEN = {"Digest", "Model", "RngCore", "SeedableRng", "Read", "Write", "BufRead", "FromStr", "NextWord", "◌>>=◌",
+               "◌>>◌"}
 REMEDY = "remove it, or write it into the list of what is owed if a tactic needs it"
 
 

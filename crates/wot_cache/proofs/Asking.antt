@@ -1,5 +1,6 @@
 -- What is asked over the parts that are seen from a view is the view's question.
-use Rattle.std.proofs.Common.{◌≡◌, ℕ, ◌≤◌, List, [], length, Option, Some, None, Result, Ok, Err, refl, sym, ap, subst, ◌∙◌, arith}
+use Rattle.std.proofs.Common.{◌≡◌, ℕ, ◌≤◌, List, [], length, Option, Some, None, Result, Ok, Err, refl, sym, ap, subst}
+use Rattle.std.proofs.Common.{◌∙◌, arith}
 use Rattle.std.specs.Prelude.{IfOk, IfSome, IsSomeAnd}
 use Rattle.wot_types.specs.declared.fpr.Fpr.{Fpr}
 use Rattle.wot_types.specs.declared.limits.Limits.{Limits}
@@ -30,10 +31,12 @@ if_ok (Ok a) P Q step p = step a p
 if_ok (Err e) P Q step p = tt
 
 -- keyring and views are those of an engine of which the networks alone became others
-pub same_engine : {marks : ViewMarks} {turns : Turns} (engine : Engine) (k new : Keyring) (views more : Views) → record { keyring = k; views = views; marks = marks; turns = turns } ≡ engine
+pub same_engine : {marks : ViewMarks} {turns : Turns} (engine : Engine) (k new : Keyring) (views more : Views) →
+    record { keyring = k; views = views; marks = marks; turns = turns } ≡ engine
     → new ≡ k → more ≡ views → engine_of new more ≡ engine_of engine.keyring engine.views
 same_engine engine k new views more seen same equal =
-    ap (λ (k : Keyring). engine_of k more) same ∙ ap (λ (vs : Views). engine_of k vs) equal ∙ ap (λ (e : Engine). engine_of e.keyring e.views) seen
+    ap (λ (k : Keyring). engine_of k more) same ∙ ap (λ (vs : Views). engine_of k vs) equal
+    ∙ ap (λ (e : Engine). engine_of e.keyring e.views) seen
 
 -- These are the parts that are seen from the view of that name, which is open.
 abbrev pub AreSeen : Engine → List ℕ → Parts → Type 0
@@ -46,24 +49,30 @@ of_view None k p P step seen = tt
 of_view (Some v) k p P step seen = step v seen
 
 -- what holds of what is asked over them holds of the view's question
-pub as_asked : (P : Question → Type 0) (engine : Engine) (name : List ℕ) (p : Parts) (target : Fpr) (uid : List ℕ) → AreSeen engine name p
-    → P (asked_over (present_of p.roads) p.roots.now target uid) → IfSome (view_at engine.views name) (λ (v : View). P (question_in (state_of engine) v target uid))
+pub as_asked : (P : Question → Type 0) (engine : Engine) (name : List ℕ) (p : Parts) (target : Fpr) (uid : List ℕ) →
+    AreSeen engine name p
+    → P (asked_over (present_of p.roads) p.roots.now target uid) →
+    IfSome (view_at engine.views name) (λ (v : View). P (question_in (state_of engine) v target uid))
 as_asked P engine name p target uid seen holds =
     of_view (view_at engine.views name) engine.keyring p (λ v. P (question_in (state_of engine) v target uid)) (λ v are.
     subst (λ (present : Present). P (asked_over present v.roots target uid)) are.roads
     (subst (λ (roots : List (Fpr × ℕ)). P (asked_over (present_of p.roads) roots target uid)) are.roots holds)) seen
 
 -- The parts are seen from the view of an engine whose networks alone became others.
-pub seen_after : {marks : ViewMarks} {turns : Turns} (engine : Engine) (k new : Keyring) (views more : Views) (name : List ℕ) (p : Parts)
-    → record { keyring = k; views = views; marks = marks; turns = turns } ≡ engine → new ≡ k → more ≡ views → IsSomeAnd (view_at more name) (λ (v : View). ArePartsOf new v p) → AreSeen engine name p
+pub seen_after : {marks : ViewMarks} {turns : Turns} (engine : Engine) (k new : Keyring) (views more : Views)
+    (name : List ℕ) (p : Parts)
+    → record { keyring = k; views = views; marks = marks; turns = turns } ≡ engine → new ≡ k → more ≡ views →
+    IsSomeAnd (view_at more name) (λ (v : View). ArePartsOf new v p) → AreSeen engine name p
 seen_after engine k new views more name p is same equal seen =
     subst (λ (e : Engine). AreSeen e name p) (same_engine engine k new views more is same equal) seen
 
-few_of : (limits : Limits) (k : Keyring) (views : Views) (name : List ℕ) (p : Parts) → IsWithin limits views → limits.roots ≤ 64
+few_of : (limits : Limits) (k : Keyring) (views : Views) (name : List ℕ) (p : Parts) → IsWithin limits views →
+    limits.roots ≤ 64
     → IsSomeAnd (view_at views name) (λ (v : View). ArePartsOf k v p) → length p.roots.now ≤ 64
 few_of limits k views name p within small seen = by (view_at views name) refl seen
   where
-    by : (o : Option View) → view_at views name ≡ o → IsSomeAnd o (λ (v : View). ArePartsOf k v p) → length p.roots.now ≤ 64
+    by : (o : Option View) → view_at views name ≡ o → IsSomeAnd o (λ (v : View). ArePartsOf k v p) →
+        length p.roots.now ≤ 64
     by None found are = absurd are
     by (Some v) found are =
         let few = few_there limits views name v within found in
@@ -71,93 +80,119 @@ few_of limits k views name p within small seen = by (view_at views name) refl se
         omega (arith, few, small, same)
 
 -- there are few roots among them
-pub few_seen : {marks : ViewMarks} {turns : Turns} (engine : Engine) (k : Keyring) (views : Views) (networks : Networks) (answers : AllAnswers) (name : List ℕ) (p : Parts)
-    → record { keyring = k; views = views; marks = marks; turns = turns } ≡ engine → IsEngine k views networks answers turns → AreSeen engine name p → length p.roots.now ≤ 64
+pub few_seen : {marks : ViewMarks} {turns : Turns} (engine : Engine) (k : Keyring) (views : Views) (networks : Networks)
+    (answers : AllAnswers) (name : List ℕ) (p : Parts)
+    → record { keyring = k; views = views; marks = marks; turns = turns } ≡ engine →
+    IsEngine k views networks answers turns → AreSeen engine name p → length p.roots.now ≤ 64
 few_seen engine k views networks answers name p same inside seen =
-    few_of k.limits engine.keyring engine.views name p (subst (λ (e : Engine). IsWithin k.limits e.views) same inside.within) inside.small.roots seen
+    few_of k.limits engine.keyring engine.views name p (subst (λ (e : Engine). IsWithin k.limits e.views) same
+    inside.within) inside.small.roots seen
 
 -- what is local at the time of a view's network is local at the view's
-pub local_from : (k : Keyring) (views : Views) (networks : Networks) (name : List ℕ) (shown : View) (n : Net) (p : Present)
-    → view_at views name ≡ Some shown → network_at networks name ≡ Some n → IsReady k views networks name → IsLocalTo k n.time p
+pub local_from : (k : Keyring) (views : Views) (networks : Networks) (name : List ℕ) (shown : View) (n : Net)
+    (p : Present)
+    → view_at views name ≡ Some shown → network_at networks name ≡ Some n → IsReady k views networks name →
+    IsLocalTo k n.time p
     → IfSome (view_at views name) (λ (v : View). IsLocalTo k v.time p)
 local_from k views networks name shown n p found kept ready h =
     let there : IsSomeAnd (network_at networks name) (λ (n : Net). IsRight n k shown.time) =
-    subst (λ (o : Option View). IsSomeAnd o (λ (v : View). IsSomeAnd (network_at networks name) (λ (n : Net). IsRight n k v.time))) found ready in
-    let right : IsRight n k shown.time = subst (λ (o : Option Net). IsSomeAnd o (λ (n : Net). IsRight n k shown.time)) kept there in
+    subst (λ (o : Option View). IsSomeAnd o (λ (v : View). IsSomeAnd (network_at networks name)
+    (λ (n : Net). IsRight n k v.time))) found ready in
+    let right : IsRight n k shown.time = subst (λ (o : Option Net). IsSomeAnd o (λ (n : Net). IsRight n k shown.time))
+    kept there in
     subst (λ (o : Option View). IfSome o (λ (v : View). IsLocalTo k v.time p)) (sym found)
     (subst (λ (t : ℕ). IsLocalTo k t p) right.time h)
 
 pub time_seen : (engine : Engine) (name : List ℕ) (p : Parts) → AreSeen engine name p
     → IfSome (view_at engine.views name) (λ (v : View). (present_of p.roads).time ≡ v.time)
 time_seen engine name p seen =
-    of_view (view_at engine.views name) engine.keyring p (λ v. (present_of p.roads).time ≡ v.time) (λ v are. ap (λ (p : Present). p.time) are.roads) seen
+    of_view (view_at engine.views name) engine.keyring p (λ v. (present_of p.roads).time ≡ v.time)
+    (λ v are. ap (λ (p : Present). p.time) are.roads) seen
 
-pub keyring_seen : (engine : Engine) (name : List ℕ) (p : Parts) → AreSeen engine name p → (present_of p.roads).keyring ≡ engine.keyring
+pub keyring_seen : (engine : Engine) (name : List ℕ) (p : Parts) → AreSeen engine name p →
+    (present_of p.roads).keyring ≡ engine.keyring
 keyring_seen engine name p = by (view_at engine.views name)
   where
-    by : (o : Option View) → IsSomeAnd o (λ (v : View). ArePartsOf engine.keyring v p) → (present_of p.roads).keyring ≡ engine.keyring
+    by : (o : Option View) → IsSomeAnd o (λ (v : View). ArePartsOf engine.keyring v p) →
+        (present_of p.roads).keyring ≡ engine.keyring
     by None are = absurd are
     by (Some v) are = ap (λ (p : Present). p.keyring) are.roads
 
 -- ---- answers
 
 -- the parts are of the keyring and the time that their roads are of
-pub present_seen : (engine : Engine) (name : List ℕ) (p : Parts) → AreSeen engine name p → present_of p.roads ≡ present_in p
+pub present_seen : (engine : Engine) (name : List ℕ) (p : Parts) → AreSeen engine name p →
+    present_of p.roads ≡ present_in p
 present_seen engine name p = by (view_at engine.views name)
   where
-    by : (o : Option View) → IsSomeAnd o (λ (v : View). ArePartsOf engine.keyring v p) → present_of p.roads ≡ present_in p
+    by : (o : Option View) → IsSomeAnd o (λ (v : View). ArePartsOf engine.keyring v p) →
+        present_of p.roads ≡ present_in p
     by None are = absurd are
     by (Some v) are =
-        are.roads ∙ sym (ap (λ (k : Keyring). record { keyring = k; time = p.t }) are.keyring ∙ ap (λ (t : ℕ). record { keyring = engine.keyring; time = t }) are.time)
+        are.roads ∙ sym (ap (λ (k : Keyring). record { keyring = k; time = p.t }) are.keyring
+        ∙ ap (λ (t : ℕ). record { keyring = engine.keyring; time = t }) are.time)
 
 -- the kept answers are right from the keyring of the parts on
-pub right_seen : {marks : ViewMarks} {turns : Turns} (engine : Engine) (k : Keyring) (views : Views) (name : List ℕ) (p : Parts) (answers : AllAnswers) → record { keyring = k; views = views; marks = marks; turns = turns } ≡ engine
+pub right_seen : {marks : ViewMarks} {turns : Turns} (engine : Engine) (k : Keyring) (views : Views) (name : List ℕ)
+    (p : Parts) (answers : AllAnswers) → record { keyring = k; views = views; marks = marks; turns = turns } ≡ engine
     → AreSeen engine name p → AreAllRight k answers → AreAllRight p.keyring.now answers
 right_seen engine k views name p answers same seen right = by (view_at engine.views name) seen
   where
-    by : (o : Option View) → IsSomeAnd o (λ (v : View). ArePartsOf engine.keyring v p) → AreAllRight p.keyring.now answers
+    by : (o : Option View) → IsSomeAnd o (λ (v : View). ArePartsOf engine.keyring v p) →
+        AreAllRight p.keyring.now answers
     by None are = absurd are
-    by (Some v) are = subst (λ (k : Keyring). AreAllRight k answers) (ap (λ (e : Engine). e.keyring) same ∙ sym are.keyring) right
+    by (Some v) are = subst (λ (k : Keyring). AreAllRight k answers) (ap (λ (e : Engine). e.keyring) same
+        ∙ sym are.keyring) right
 
 -- and the other way round
-pub right_kept : {marks : ViewMarks} {turns : Turns} (engine : Engine) (k new : Keyring) (views : Views) (name : List ℕ) (p : Parts) (answers : AllAnswers) → record { keyring = k; views = views; marks = marks; turns = turns } ≡ engine
+pub right_kept : {marks : ViewMarks} {turns : Turns} (engine : Engine) (k new : Keyring) (views : Views) (name : List ℕ)
+    (p : Parts) (answers : AllAnswers) → record { keyring = k; views = views; marks = marks; turns = turns } ≡ engine
     → new ≡ k → AreSeen engine name p → AreAllRight p.keyring.now answers → AreAllRight new answers
 right_kept engine k new views name p answers same equal seen right = by (view_at engine.views name) seen
   where
     by : (o : Option View) → IsSomeAnd o (λ (v : View). ArePartsOf engine.keyring v p) → AreAllRight new answers
     by None are = absurd are
-    by (Some v) are = subst (λ (k : Keyring). AreAllRight k answers) (are.keyring ∙ sym (ap (λ (e : Engine). e.keyring) same) ∙ sym equal) right
+    by (Some v) are = subst (λ (k : Keyring). AreAllRight k answers) (are.keyring
+        ∙ sym (ap (λ (e : Engine). e.keyring) same) ∙ sym equal) right
 
 -- All that is said of an answer over the parts is said of the view's question.
-pub told_seen : (engine : Engine) (name : List ℕ) (p : Parts) (target : Fpr) (uid : List ℕ) (wanted : ℕ) (a : Answer) → AreSeen engine name p
-    → IsTold (asked_of p target uid) wanted a → IfSome (view_at engine.views name) (λ (v : View). IsTold (question_in (state_of engine) v target uid) wanted a)
+pub told_seen : (engine : Engine) (name : List ℕ) (p : Parts) (target : Fpr) (uid : List ℕ) (wanted : ℕ) (a : Answer) →
+    AreSeen engine name p
+    → IsTold (asked_of p target uid) wanted a →
+    IfSome (view_at engine.views name) (λ (v : View). IsTold (question_in (state_of engine) v target uid) wanted a)
 told_seen engine name p target uid wanted a seen told =
     as_asked (λ (q : Question). IsTold q wanted a) engine name p target uid seen
-    (subst (λ (present : Present). IsTold (asked_over present p.roots.now target uid) wanted a) (sym (present_seen engine name p seen)) told)
+    (subst (λ (present : Present). IsTold (asked_over present p.roots.now target uid) wanted a)
+    (sym (present_seen engine name p seen)) told)
 
 pub if_some : {A : Type 0} (o : Option A) (P Q : A → Type 0) → ((a : A) → P a → Q a) → IfSome o P → IfSome o Q
 if_some None P Q step p = tt
 if_some (Some a) P Q step p = step a p
 
-pub both_ok : {A E : Type 0} (r : Result A E) (P Q R : A → Type 0) → ((a : A) → P a → Q a → R a) → IfOk r P → IfOk r Q → IfOk r R
+pub both_ok : {A E : Type 0} (r : Result A E) (P Q R : A → Type 0) → ((a : A) → P a → Q a → R a) → IfOk r P → IfOk r Q →
+    IfOk r R
 both_ok (Ok a) P Q R step p q = step a p q
 both_ok (Err e) P Q R step p q = tt
 
 -- ---- what the laws say of an answer
 
 abbrev pub OneAnswer : Type 0
-OneAnswer = (q : Question) (wanted : ℕ) (a b : List Path) → IsRecord q.told → IsAnswer q wanted a → IsAnswer q wanted b → a ≡ b
+OneAnswer = (q : Question) (wanted : ℕ) (a b : List Path) → IsRecord q.told → IsAnswer q wanted a →
+    IsAnswer q wanted b → a ≡ b
 
 abbrev pub ZeroSpent : Type 0
-ZeroSpent = (q : Question) (wanted : ℕ) (paths : List Path) → 1 ≤ wanted → IsAnswer q wanted paths → TellsSpent q (amount_of paths)
+ZeroSpent = (q : Question) (wanted : ℕ) (paths : List Path) → 1 ≤ wanted → IsAnswer q wanted paths →
+    TellsSpent q (amount_of paths)
 
 abbrev pub PairsFit : Type 0
 PairsFit = (q : Question) (paths : List Path) → EachNext q [] paths → AllFit [] paths
 
 abbrev pub RootsFit : Type 0
-RootsFit = (q : Question) (paths : List Path) (fpr : Fpr) → EachNext q [] paths → (use_of paths).root fpr ≤ root_amount q.roots fpr
+RootsFit = (q : Question) (paths : List Path) (fpr : Fpr) → EachNext q [] paths →
+    (use_of paths).root fpr ≤ root_amount q.roots fpr
 
-pub told_from : OneAnswer → ZeroSpent → PairsFit → RootsFit → (q : Question) (wanted : ℕ) (a : Answer) → 1 ≤ wanted → IsRecord q.told
+pub told_from : OneAnswer → ZeroSpent → PairsFit → RootsFit → (q : Question) (wanted : ℕ) (a : Answer) → 1 ≤ wanted →
+    IsRecord q.told
     → IsAnswer q wanted a.paths → a.sum ≡ amount_of a.paths → IsTold q wanted a
 told_from one spent pairs roots q wanted a some lawful is sum =
     let zero = spent q wanted a.paths some is in record {

@@ -14,7 +14,11 @@ pub found : (k : Keyring) (fpr : Fpr) → cert_at k fpr ≡ cert_in (held_of k) 
 found k fpr = sym (lookup-map_values (λ (x : Kept). x.cert) (is_fpr fpr) k.certs)
 
 -- What becomes of what is held becomes of the state; the views stay.
-pub held_state : {A E : Type 0} {marks : ViewMarks} {turns : Turns} (result : Result A E) (old : Engine) (k new : Keyring) (views : Views) (change : Held → Held)
-    → record { keyring = k; views = views; marks = marks; turns = turns } ≡ old → OnOk result (held_of new ≡ change (held_of k)) → OnOk result (state_of (engine_of new views) ≡ with_held (state_of old) (change (held_of old.keyring)))
-held_state (Ok done) old k new views change seen held = rw (← seen) (ap (λ (h : Held). record { held = h; views = views }) held)
+pub held_state : {A E : Type 0} {marks : ViewMarks} {turns : Turns} (result : Result A E) (old : Engine)
+    (k new : Keyring) (views : Views) (change : Held → Held)
+    → record { keyring = k; views = views; marks = marks; turns = turns } ≡ old →
+    OnOk result (held_of new ≡ change (held_of k)) →
+    OnOk result (state_of (engine_of new views) ≡ with_held (state_of old) (change (held_of old.keyring)))
+held_state (Ok done) old k new views change seen held =
+    rw (← seen) (ap (λ (h : Held). record { held = h; views = views }) held)
 held_state (Err fault) old k new views change seen held = held

@@ -11,10 +11,12 @@ use Rattle.std.specs.Ordering.{nat_cmp}
 use Rattle.std.proofs.lemmas.Cmp.{nat_cmp_total}
 use Rattle.wot_keyring.specs.Keyring.{Keyring}
 use Rattle.wot_cache.specs.declared.answers.KeptAnswer.{KeptAnswer}
-use Rattle.wot_cache.specs.Answers.{Amounts, AreFew, AreRight, Entries, IsGood, IsRight, IsSameBut, looked_by, looked_in}
+use Rattle.wot_cache.specs.Answers.{Amounts, AreFew, AreRight, Entries, IsGood, IsRight, IsSameBut, looked_by}
+use Rattle.wot_cache.specs.Answers.{looked_in}
 use Rattle.wot_cache.proofs.Inside.{each_inserted, length_inserted}
 
-pub right_put : (k : Keyring) (roots : Amounts) (turn : ℕ) (entries : Entries) (a : KeptAnswer) → AreRight k roots turn entries → IsRight k a
+pub right_put : (k : Keyring) (roots : Amounts) (turn : ℕ) (entries : Entries) (a : KeptAnswer) →
+    AreRight k roots turn entries → IsRight k a
     → IsGood k roots turn a → AreRight k roots turn (insert_entry nat_cmp entries a.key a)
 right_put k roots turn entries a all right good =
     each_inserted (λ (x : KeptAnswer). IsRight k x × IsGood k roots turn x) nat_cmp entries a.key a all (right, good)
@@ -25,7 +27,8 @@ by_option (Some a) = refl
 
 -- what all consulted with this answer in the place of an earlier one
 pub counted : (entries : Entries) (a : KeptAnswer) → IsStrictlySortedBy nat_cmp (keys_of entries)
-    → sum_by looked_in (values_of (insert_entry nat_cmp entries a.key a)) + looked_by (lookup (is_at (nat_cmp a.key)) entries)
+    → sum_by looked_in (values_of (insert_entry nat_cmp entries a.key a)) + looked_by
+    (lookup (is_at (nat_cmp a.key)) entries)
     ≡ sum_by looked_in (values_of entries) + looked_in a
 counted entries a sorted =
     let same = by_option (lookup (is_at (nat_cmp a.key)) entries) in
@@ -33,14 +36,17 @@ counted entries a sorted =
     omega (arith, same, sums)
 
 -- no more than what all consulted goes
-pub fewer : (entries : Entries) (a : KeptAnswer) (looked earlier : ℕ) → IsStrictlySortedBy nat_cmp (keys_of entries) → AreFew entries looked
+pub fewer : (entries : Entries) (a : KeptAnswer) (looked earlier : ℕ) → IsStrictlySortedBy nat_cmp (keys_of entries) →
+    AreFew entries looked
     → earlier ≡ looked_by (lookup (is_at (nat_cmp a.key)) entries) → earlier ≤ looked + looked_in a
 fewer entries a looked earlier sorted few e =
     let sums = counted entries a sorted in
     omega (arith, sums, e, few.counted)
 
-pub few_put : (entries : Entries) (a : KeptAnswer) (looked earlier : ℕ) → IsStrictlySortedBy nat_cmp (keys_of entries) → AreFew entries looked
-    → earlier ≡ looked_by (lookup (is_at (nat_cmp a.key)) entries) → length entries < 1024 → looked + looked_in a ≤ 1048576
+pub few_put : (entries : Entries) (a : KeptAnswer) (looked earlier : ℕ) → IsStrictlySortedBy nat_cmp (keys_of entries) →
+    AreFew entries looked
+    → earlier ≡ looked_by (lookup (is_at (nat_cmp a.key)) entries) → length entries < 1024 →
+    looked + looked_in a ≤ 1048576
     → AreFew (insert_entry nat_cmp entries a.key a) (looked + looked_in a - earlier)
 few_put entries a looked earlier sorted few e room fits =
     let sums = counted entries a sorted in
@@ -52,7 +58,8 @@ few_put entries a looked earlier sorted few e room fits =
     }
 
 -- one that was found good again counts as before
-pub few_set : (entries : Entries) (key : ℕ) (old new : KeptAnswer) (looked : ℕ) → lookup (is_at (nat_cmp key)) entries ≡ Some old → IsSameBut old new
+pub few_set : (entries : Entries) (key : ℕ) (old new : KeptAnswer) (looked : ℕ) →
+    lookup (is_at (nat_cmp key)) entries ≡ Some old → IsSameBut old new
     → AreFew entries looked → AreFew (set_value (is_at (nat_cmp key)) entries new) looked
 few_set entries key old new looked found same few =
     let sums = sum_by-set_value looked_in (is_at (nat_cmp key)) entries old new found in

@@ -1,5 +1,6 @@
 -- Lines that are put one by one.
-use Rattle.std.proofs.Common.{◌≡◌, ℕ, ◌+◌, ◌*◌, ◌≤◌, ◌<◌, ◌^◌, List, [], ◌∷◌, ◌++◌, length, arith, length-append, refl, sym, ap, ◌∙◌, append_assoc, append-nil}
+use Rattle.std.proofs.Common.{◌≡◌, ℕ, ◌+◌, ◌*◌, ◌≤◌, ◌<◌, ◌^◌, List, [], ◌∷◌, ◌++◌, length, arith, length-append, refl}
+use Rattle.std.proofs.Common.{sym, ap, ◌∙◌, append_assoc, append-nil}
 use Rattle.std.proofs.lemmas.Grind.{flat_map-append}
 use Rattle.std.proofs.lemmas.List.{length-map}
 use Rattle.std.specs.List.{AllByRecursion, flat_map}
@@ -37,7 +38,8 @@ pub some_put : (before now next : List ℕ) (all cs rest : List Command) → Put
 some_put before now next all cs rest so_far added lines = record {
   made = so_far.made ++ lines_of cs;
   text = added ∙ ap (λ text. text ++ lines_of cs) so_far.text ∙ append_assoc before so_far.made (lines_of cs);
-  left = append_assoc so_far.made (lines_of cs) (lines_of rest) ∙ ap (λ text. so_far.made ++ text) (sym (lines-append cs rest)) ∙ so_far.left;
+  left = append_assoc so_far.made (lines_of cs) (lines_of rest) ∙ ap (λ text. so_far.made ++ text)
+      (sym (lines-append cs rest)) ∙ so_far.left;
   lined = λ h. so_far.lined (both_lines cs rest lines h);
 }
 
@@ -49,39 +51,48 @@ pub record ViewsPut (before now : List ℕ) (all rest : Views) (count : ℕ) : T
   pub counted : count + length (flat_map view_commands rest) ≡ length (flat_map view_commands all)
   pub roots : HaveRoots rest → HaveRoots all
 
-length-view_commands : (e : List ℕ × View) (rest : List Command) → length (view_commands e ++ rest) ≡ 1 + length e.1.roots + length rest
+length-view_commands : (e : List ℕ × View) (rest : List Command) →
+    length (view_commands e ++ rest) ≡ 1 + length e.1.roots + length rest
 length-view_commands e rest = omega (arith, length-append (view_commands e) rest, length-map e.1.roots (root_of e.0))
 
-pub view_put : (before now next : List ℕ) (all : Views) (e : List ℕ × View) (rest : Views) (count : ℕ) → ViewsPut before now all (e ∷ rest) count
+pub view_put : (before now next : List ℕ) (all : Views) (e : List ℕ × View) (rest : Views) (count : ℕ) →
+    ViewsPut before now all (e ∷ rest) count
     → next ≡ now ++ lines_of (view_commands e) → AreLines (view_commands e) → IsRoots e.1.roots
     → ViewsPut before next all rest (count + (1 + length e.1.roots))
 view_put before now next all e rest count so_far added lines roots = record {
-  lines = some_put before now next (flat_map view_commands all) (view_commands e) (flat_map view_commands rest) so_far.lines added lines;
+  lines = some_put before now next (flat_map view_commands all) (view_commands e) (flat_map view_commands rest)
+      so_far.lines added lines;
   counted = omega (arith, so_far.counted, length-view_commands e (flat_map view_commands rest));
   roots = λ h. so_far.roots (roots, h);
 }
 
 -- there is room to count the next view
-pub countable : (before now : List ℕ) (all : Views) (e : List ℕ × View) (rest : Views) (count : ℕ) → ViewsPut before now all (e ∷ rest) count
+pub countable : (before now : List ℕ) (all : Views) (e : List ℕ × View) (rest : Views) (count : ℕ) →
+    ViewsPut before now all (e ∷ rest) count
     → length (flat_map view_commands all) < 2 ^ 32 → count + (1 + length e.1.roots) < 2 ^ 32
-countable before now all e rest count so_far few = omega (arith, so_far.counted, length-view_commands e (flat_map view_commands rest), few)
+countable before now all e rest count so_far few =
+    omega (arith, so_far.counted, length-view_commands e (flat_map view_commands rest), few)
 
 -- within the limits there are not many commands
-pub few_commands : (l : Limits) (views : Views) → l.roots ≤ 64 → AllByRecursion (λ (e : List ℕ × View). length e.1.roots ≤ l.roots) views
+pub few_commands : (l : Limits) (views : Views) → l.roots ≤ 64 →
+    AllByRecursion (λ (e : List ℕ × View). length e.1.roots ≤ l.roots) views
     → length (flat_map view_commands views) ≤ 65 * length views
 few_commands l [] small few = omega arith
 few_commands l (e ∷ views) small few =
     omega (arith, length-view_commands e (flat_map view_commands views), few.0, few_commands l views small few.1)
 
-pub few_lines : (l : Limits) (views : Views) → AreSmall l → IsWithin l views → length (flat_map view_commands views) < 2 ^ 32
+pub few_lines : (l : Limits) (views : Views) → AreSmall l → IsWithin l views →
+    length (flat_map view_commands views) < 2 ^ 32
 few_lines l views small within =
     let views_small : l.views ≤ 16 = small.views in
     omega (arith, few_commands l views small.roots within.few_roots, within.few)
 
 -- ---- an engine
 
-pub dumped : (engine : Engine) (before mid now : List ℕ) → mid ≡ before ++ lines_of (keyrings.commands_of (held_of engine.keyring))
-    → now ≡ mid ++ lines_of (flat_map view_commands engine.views) → now ≡ before ++ lines_of (commands_of (state_of engine))
+pub dumped : (engine : Engine) (before mid now : List ℕ) →
+    mid ≡ before ++ lines_of (keyrings.commands_of (held_of engine.keyring))
+    → now ≡ mid ++ lines_of (flat_map view_commands engine.views) →
+    now ≡ before ++ lines_of (commands_of (state_of engine))
 dumped engine before mid now first last =
     let held : List Command = keyrings.commands_of (held_of engine.keyring) in
     last
@@ -89,6 +100,8 @@ dumped engine before mid now first last =
     ∙ append_assoc before (lines_of held) (lines_of (flat_map view_commands engine.views))
     ∙ ap (λ text. before ++ text) (sym (lines-append held (flat_map view_commands engine.views)))
 
-pub dumped_lines : (engine : Engine) → AreLines (keyrings.commands_of (held_of engine.keyring)) → AreLines (flat_map view_commands engine.views)
+pub dumped_lines : (engine : Engine) → AreLines (keyrings.commands_of (held_of engine.keyring)) →
+    AreLines (flat_map view_commands engine.views)
     → AreLines (commands_of (state_of engine))
-dumped_lines engine first last = both_lines (keyrings.commands_of (held_of engine.keyring)) (flat_map view_commands engine.views) first last
+dumped_lines engine first last = both_lines (keyrings.commands_of (held_of engine.keyring))
+    (flat_map view_commands engine.views) first last

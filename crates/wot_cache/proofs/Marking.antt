@@ -1,5 +1,6 @@
 -- Marks of views: networks are kept for open views alone, and what is shown of them.
-use Rattle.std.proofs.Common.{◌≡◌, inl, inr, ℕ, ◌≤◌, Bool, true, false, cond, List, [], ◌∷◌, Option, Some, None, Result, Ok, Err, OnOk, OnErr, refl, sym, ap, subst, ◌∙◌, arith}
+use Rattle.std.proofs.Common.{◌≡◌, ℕ, Bool, true, false, cond, List, [], ◌∷◌, Option, Some, None, Result, Ok, Err, OnOk}
+use Rattle.std.proofs.Common.{OnErr, refl, sym, ap, subst, ◌∙◌}
 use Rattle.std.specs.Prelude.{IfOk, IfSome, IsSomeAnd, is_ok}
 use Rattle.std.specs.declared.cmp.Ordering.{Ordering}
 use Rattle.std.specs.declared.cmp.Ordering.TheVariants.{Less, Equal, Greater}
@@ -17,7 +18,8 @@ use Rattle.wot_network.specs.Net.{Net, Marks, marks_of}
 use Rattle.wot_cache.specs.declared.view.View.{View}
 use Rattle.wot_cache.specs.Answers.{AllAnswers, KeepsFor, OfView}
 use Rattle.wot_cache.specs.Inside.{AllFit, AreOfOpen, IsEngine, Networks, network_at}
-use Rattle.wot_cache.specs.Marks.{IsForgotten, IsMadeFor, IsRefreshed, OthersStay, marks_by, marks_in, marks_shown, shown}
+use Rattle.wot_cache.specs.Marks.{IsForgotten, IsMadeFor, IsRefreshed, OthersStay, marks_by, marks_in, marks_shown}
+use Rattle.wot_cache.specs.Marks.{shown}
 use Rattle.wot_cache.specs.State.{Engine, OtherMarksStay, marks_at}
 use Rattle.wot_cache.specs.Turns.{Turns}
 use Rattle.wot_cache.specs.Views.{MovesTime, SetsAmount, Views, is_name, view_at, with_amount}
@@ -30,14 +32,16 @@ equal_if Equal e = refl
 equal_if Greater e = absurd cc
 
 -- what is found by one name is found by an equal one
-pub found_by : {X : Type 0} (name other : List ℕ) (es : List (List ℕ × X)) → is_name name other ≡ true → lookup (is_name name) es ≡ lookup (is_name other) es
+pub found_by : {X : Type 0} (name other : List ℕ) (es : List (List ℕ × X)) → is_name name other ≡ true →
+    lookup (is_name name) es ≡ lookup (is_name other) es
 found_by name other es e =
     let same = equal_if (view_name_cmp name other) e in
     ap (λ (test : List ℕ → Bool). lookup test es) (λ i key. is_eq (nat_list_cmp_total.congr name other key same i))
 
 -- ---- what isn't in a map that grew wasn't in it before
 
-none_behind : {X : Type 0} (q : Bool) (v w : X) (old new : Option X) → (new ≡ None → old ≡ None) → cond q (Some v) new ≡ None → cond q (Some w) old ≡ None
+none_behind : {X : Type 0} (q : Bool) (v w : X) (old new : Option X) → (new ≡ None → old ≡ None) →
+    cond q (Some v) new ≡ None → cond q (Some w) old ≡ None
 none_behind true v w old new rest none = absurd cc
 none_behind false v w old new rest none = rest none
 
@@ -45,12 +49,14 @@ none_left : {X : Type 0} (q : Bool) (v : X) (old : Option X) → cond q (Some v)
 none_left true v old none = absurd cc
 none_left false v old none = none
 
-none_set : {K X : Type 0} (query test : K → Bool) (es : List (K × X)) (v : X) → lookup query (set_value test es v) ≡ None → lookup query es ≡ None
+none_set : {K X : Type 0} (query test : K → Bool) (es : List (K × X)) (v : X) →
+    lookup query (set_value test es v) ≡ None → lookup query es ≡ None
 none_set query test [] v none = refl
 none_set query test (e ∷ es) v none = by (none_set query test es v) (test e.0) none
   where
     by : (lookup query (set_value test es v) ≡ None → lookup query es ≡ None) → (b : Bool)
-        → lookup query (cond b ((e.0, v) ∷ es) (e ∷ set_value test es v)) ≡ None → cond (query e.0) (Some e.1) (lookup query es) ≡ None
+        → lookup query (cond b ((e.0, v) ∷ es) (e ∷ set_value test es v)) ≡ None →
+        cond (query e.0) (Some e.1) (lookup query es) ≡ None
     by rest true = none_behind (query e.0) v e.1 (lookup query es) (lookup query es) (λ none. none)
     by rest false = none_behind (query e.0) e.1 e.1 (lookup query es) (lookup query (set_value test es v)) rest
 
@@ -68,67 +74,87 @@ none_put query cmp (e ∷ es) k v none = by (none_put query cmp es k v) (cmp k e
 
 -- ---- what is kept stays that of open views
 
-of_more : {X : Type 0} (views new : Views) (kept : List (List ℕ × X)) → ((other : List ℕ) → view_at new other ≡ None → view_at views other ≡ None)
+of_more : {X : Type 0} (views new : Views) (kept : List (List ℕ × X)) →
+    ((other : List ℕ) → view_at new other ≡ None → view_at views other ≡ None)
     → AreOfOpen views kept → AreOfOpen new kept
 of_more views new kept more all other none = all other (more other none)
 
-pub moved_open : {X : Type 0} (views new : Views) (kept : List (List ℕ × X)) (name : List ℕ) (t : ℕ) (moved : Bool) → MovesTime moved name t views new
+pub moved_open : {X : Type 0} (views new : Views) (kept : List (List ℕ × X)) (name : List ℕ) (t : ℕ) (moved : Bool) →
+    MovesTime moved name t views new
     → AreOfOpen views kept → AreOfOpen new kept
 moved_open views new kept name t moved moves = of_more views new kept (λ other. by other (view_at views name) moves)
   where
-    by : (other : List ℕ) (o : Option View) → MatchOption o ((moved ≡ false) × (new ≡ views)) (λ (v : View). (moved ≡ true) × (new ≡ set_value (is_name name) views (record v { time = t })))
+    by : (other : List ℕ) (o : Option View) → MatchOption o ((moved ≡ false) × (new ≡ views))
+        (λ (v : View). (moved ≡ true) × (new ≡ set_value (is_name name) views (record v { time = t })))
         → view_at new other ≡ None → view_at views other ≡ None
     by other None m none = subst (λ (vs : Views). view_at vs other ≡ None) m.1 none
-    by other (Some v) m none = none_set (is_name other) (is_name name) views (record v { time = t }) (subst (λ (vs : Views). view_at vs other ≡ None) m.1 none)
+    by other (Some v) m none = none_set (is_name other) (is_name name) views (record v { time = t })
+        (subst (λ (vs : Views). view_at vs other ≡ None) m.1 none)
 
-pub opened_open : {X : Type 0} (views new : Views) (kept : List (List ℕ × X)) (name : List ℕ) (view : View) (r : Result (Unit {0}) Memory)
-    → OnOk r (new ≡ insert_entry view_name_cmp views name view) → OnErr r (new ≡ views) → AreOfOpen views kept → AreOfOpen new kept
+pub opened_open : {X : Type 0} (views new : Views) (kept : List (List ℕ × X)) (name : List ℕ) (view : View)
+    (r : Result (Unit {0}) Memory)
+    → OnOk r (new ≡ insert_entry view_name_cmp views name view) → OnErr r (new ≡ views) → AreOfOpen views kept →
+    AreOfOpen new kept
 opened_open views new kept name view (Ok done) put same =
-    of_more views new kept (λ other none. none_put (is_name other) view_name_cmp views name view (subst (λ (vs : Views). view_at vs other ≡ None) put none))
+    of_more views new kept (λ other none. none_put (is_name other) view_name_cmp views name view
+    (subst (λ (vs : Views). view_at vs other ≡ None) put none))
 opened_open views new kept name view (Err fault) put same =
     of_more views new kept (λ other none. subst (λ (vs : Views). view_at vs other ≡ None) same none)
 
-pub set_open : {X : Type 0} (views new : Views) (kept : List (List ℕ × X)) (name : List ℕ) (fpr : Fpr) (amount : ℕ) (r : Result (Unit {0}) Memory)
+pub set_open : {X : Type 0} (views new : Views) (kept : List (List ℕ × X)) (name : List ℕ) (fpr : Fpr) (amount : ℕ)
+    (r : Result (Unit {0}) Memory)
     → OnOk r (SetsAmount name fpr amount views new) → OnErr r (new ≡ views) → AreOfOpen views kept → AreOfOpen new kept
 set_open views new kept name fpr amount (Err fault) set same =
     of_more views new kept (λ other none. subst (λ (vs : Views). view_at vs other ≡ None) same none)
-set_open views new kept name fpr amount (Ok done) set same = of_more views new kept (λ other. by other (view_at views name) set)
+set_open views new kept name fpr amount (Ok done) set same =
+    of_more views new kept (λ other. by other (view_at views name) set)
   where
-    by : (other : List ℕ) (o : Option View) → MatchOption o ⊥ (λ (v : View). new ≡ set_value (is_name name) views (record v { roots = with_amount v.roots fpr amount }))
+    by : (other : List ℕ) (o : Option View) →
+        MatchOption o ⊥ (λ (v : View). new ≡ set_value (is_name name) views
+        (record v { roots = with_amount v.roots fpr amount }))
         → view_at new other ≡ None → view_at views other ≡ None
     by other None m none = absurd m
     by other (Some v) m none =
-        none_set (is_name other) (is_name name) views (record v { roots = with_amount v.roots fpr amount }) (subst (λ (vs : Views). view_at vs other ≡ None) m none)
+        none_set (is_name other) (is_name name) views (record v { roots = with_amount v.roots fpr amount })
+        (subst (λ (vs : Views). view_at vs other ≡ None) m none)
 
-pub closed_open : {X : Type 0} (views left : Views) (kept rest : List (List ℕ × X)) (name : List ℕ) → IsForgotten name views left → IsForgotten name kept rest
+pub closed_open : {X : Type 0} (views left : Views) (kept rest : List (List ℕ × X)) (name : List ℕ) →
+    IsForgotten name views left → IsForgotten name kept rest
     → AreOfOpen views kept → AreOfOpen left rest
-closed_open views left kept rest name closed forgotten all other = by (is_name name other) (closed other) (forgotten other)
+closed_open views left kept rest name closed forgotten all other = by (is_name name other) (closed other)
+    (forgotten other)
   where
-    by : (b : Bool) → view_at left other ≡ cond b None (view_at views other) → lookup (is_name other) rest ≡ cond b None (lookup (is_name other) kept)
+    by : (b : Bool) → view_at left other ≡ cond b None (view_at views other) → lookup (is_name other) rest ≡ cond b None
+        (lookup (is_name other) kept)
         → view_at left other ≡ None → lookup (is_name other) rest ≡ None
     by true v n none = n
     by false v n none = n ∙ all other (sym v ∙ none)
 
-pub refreshed_open : (views : Views) (old new : Networks) (name : List ℕ) → OthersStay name old new → (view_at views name ≡ None → new ≡ old)
+pub refreshed_open : (views : Views) (old new : Networks) (name : List ℕ) → OthersStay name old new →
+    (view_at views name ≡ None → new ≡ old)
     → AreOfOpen views old → AreOfOpen views new
 refreshed_open views old new name others closed all other none = by (is_name name other) refl
   where
     by : (b : Bool) → is_name name other ≡ b → network_at new other ≡ None
-    by true e = ap (λ (ns : Networks). network_at ns other) (closed (found_by name other views e ∙ none)) ∙ all other none
+    by true e = ap (λ (ns : Networks). network_at ns other) (closed (found_by name other views e ∙ none))
+        ∙ all other none
     by false e = others other e ∙ all other none
 
 -- ---- the answers of other views
 
-still_none_set : {K X : Type 0} (query test : K → Bool) (es : List (K × X)) (v : X) → lookup query es ≡ None → lookup query (set_value test es v) ≡ None
+still_none_set : {K X : Type 0} (query test : K → Bool) (es : List (K × X)) (v : X) → lookup query es ≡ None →
+    lookup query (set_value test es v) ≡ None
 still_none_set query test [] v none = refl
 still_none_set query test (e ∷ es) v none = by (still_none_set query test es v) (test e.0) none
   where
     by : (lookup query es ≡ None → lookup query (set_value test es v) ≡ None) → (b : Bool)
-        → cond (query e.0) (Some e.1) (lookup query es) ≡ None → lookup query (cond b ((e.0, v) ∷ es) (e ∷ set_value test es v)) ≡ None
+        → cond (query e.0) (Some e.1) (lookup query es) ≡ None →
+        lookup query (cond b ((e.0, v) ∷ es) (e ∷ set_value test es v)) ≡ None
     by rest true = none_behind (query e.0) e.1 v (lookup query es) (lookup query es) (λ none. none)
     by rest false = none_behind (query e.0) e.1 e.1 (lookup query (set_value test es v)) (lookup query es) rest
 
-still_none_put : {K X : Type 0} (query : K → Bool) (cmp : K → K → Ordering) (es : List (K × X)) (k : K) (v : X) → query k ≡ false
+still_none_put : {K X : Type 0} (query : K → Bool) (cmp : K → K → Ordering) (es : List (K × X)) (k : K) (v : X) →
+    query k ≡ false
     → lookup query es ≡ None → lookup query (insert_entry cmp es k v) ≡ None
 still_none_put query cmp [] k v apart none = ap (λ (b : Bool). cond b (Some v) None) apart
 still_none_put query cmp (e ∷ es) k v apart none = by (still_none_put query cmp es k v apart) (cmp k e.0) none
@@ -138,19 +164,23 @@ still_none_put query cmp (e ∷ es) k v apart none = by (still_none_put query cm
         → lookup query (match_ordering o ((k, v) ∷ e ∷ es) ((e.0, v) ∷ es) (e ∷ insert_entry cmp es k v)) ≡ None
     by rest Less none = ap (λ (b : Bool). cond b (Some v) (cond (query e.0) (Some e.1) (lookup query es))) apart ∙ none
     by rest Equal none = none_behind (query e.0) e.1 v (lookup query es) (lookup query es) (λ none. none) none
-    by rest Greater none = none_behind (query e.0) e.1 e.1 (lookup query (insert_entry cmp es k v)) (lookup query es) rest none
+    by rest Greater none = none_behind (query e.0) e.1 e.1 (lookup query (insert_entry cmp es k v)) (lookup query es)
+        rest none
 
-pub keeps_set : (answers : AllAnswers) (name : List ℕ) (of_view : OfView) → KeepsFor name answers (set_value (is_name name) answers of_view)
+pub keeps_set : (answers : AllAnswers) (name : List ℕ) (of_view : OfView) →
+    KeepsFor name answers (set_value (is_name name) answers of_view)
 keeps_set answers name of_view other apart none = still_none_set (is_name other) (is_name name) answers of_view none
 
 pub keeps_inserted : {A E : Type 0} (answers new : AllAnswers) (name : List ℕ) (of_view : OfView) (r : Result A E)
-    → OnOk r (new ≡ insert_entry view_name_cmp answers name of_view) → OnErr r (new ≡ answers) → KeepsFor name answers new
+    → OnOk r (new ≡ insert_entry view_name_cmp answers name of_view) → OnErr r (new ≡ answers) →
+    KeepsFor name answers new
 keeps_inserted answers new name of_view (Ok done) put same other apart none =
     ap (lookup (is_name other)) put ∙ still_none_put (is_name other) view_name_cmp answers name of_view apart none
 keeps_inserted answers new name of_view (Err fault) put same other apart none = ap (lookup (is_name other)) same ∙ none
 
 -- where the view is open, what is kept for it is kept for an open one
-pub answered_open : (P : View → Type 0) (views : Views) (old new : AllAnswers) (name : List ℕ) → IsSomeAnd (view_at views name) P
+pub answered_open : (P : View → Type 0) (views : Views) (old new : AllAnswers) (name : List ℕ) →
+    IsSomeAnd (view_at views name) P
     → KeepsFor name old new → AreOfOpen views old → AreOfOpen views new
 answered_open P views old new name there keeps all other none = by (is_name other name) refl
   where
@@ -160,22 +190,26 @@ answered_open P views old new name there keeps all other none = by (is_name othe
 
 -- ---- what is shown of networks
 
-pub shown_at : (networks : Networks) (name : List ℕ) → unwrap_or (lookup (is_name name) (marks_shown networks)) [] ≡ marks_in networks name
+pub shown_at : (networks : Networks) (name : List ℕ) → unwrap_or (lookup (is_name name) (marks_shown networks))
+    [] ≡ marks_in networks name
 shown_at networks name =
-    ap (λ (o : Option Marks). unwrap_or o []) (lookup-map_values (λ (n : Net). marks_of n.lines) (is_name name) networks) ∙ by (network_at networks name)
+    ap (λ (o : Option Marks). unwrap_or o []) (lookup-map_values (λ (n : Net). marks_of n.lines) (is_name name)
+    networks) ∙ by (network_at networks name)
   where
     by : (o : Option Net) → unwrap_or (option_map (λ (n : Net). marks_of n.lines) o) [] ≡ marks_by o
     by None = refl
     by (Some n) = refl
 
 -- a view that isn't open has no marks, and none once it is opened
-pub unmarked : {turns : Turns} (next : Turns) (engine : Engine) (k : Keyring) (views new : Views) (networks : Networks) (name : List ℕ) → shown k views networks turns ≡ engine
+pub unmarked : {turns : Turns} (next : Turns) (engine : Engine) (k : Keyring) (views new : Views) (networks : Networks)
+    (name : List ℕ) → shown k views networks turns ≡ engine
     → AreOfOpen views networks → view_at engine.views name ≡ None → marks_at (shown k new networks next) name ≡ []
 unmarked {turns} next engine k views new networks name seen all =
     subst (λ (e : Engine). view_at e.views name ≡ None → marks_at (shown k new networks next) name ≡ []) seen
     (λ none. shown_at networks name ∙ ap marks_by (all name none))
 
-pub others_marked : {turns : Turns} (next : Turns) (engine : Engine) (k new : Keyring) (views more : Views) (old rest : Networks) (name : List ℕ) → shown k views old turns ≡ engine
+pub others_marked : {turns : Turns} (next : Turns) (engine : Engine) (k new : Keyring) (views more : Views)
+    (old rest : Networks) (name : List ℕ) → shown k views old turns ≡ engine
     → OthersStay name old rest → OtherMarksStay name engine (shown new more rest next)
 others_marked {turns} next engine k new views more old rest name seen others =
     subst (λ (e : Engine). OtherMarksStay name e (shown new more rest next)) seen
@@ -188,27 +222,32 @@ others_left name old rest forgotten other e = forgotten other ∙ ap (λ (b : Bo
 -- what was forgotten isn't there
 pub gone_itself : (name : List ℕ) (old rest : Networks) → IsForgotten name old rest → network_at rest name ≡ None
 gone_itself name old rest forgotten =
-    forgotten name ∙ ap (λ (o : Ordering). cond (is_eq o) None (network_at old name)) (tied_itself nat_list_cmp_total name)
+    forgotten name ∙ ap (λ (o : Ordering). cond (is_eq o) None (network_at old name))
+    (tied_itself nat_list_cmp_total name)
 
-pub none_shown : (turns : Turns) (k : Keyring) (views : Views) (rest : Networks) (name : List ℕ) → network_at rest name ≡ None → marks_at (shown k views rest turns) name ≡ []
+pub none_shown : (turns : Turns) (k : Keyring) (views : Views) (rest : Networks) (name : List ℕ) →
+    network_at rest name ≡ None → marks_at (shown k views rest turns) name ≡ []
 none_shown turns k views rest name none = shown_at rest name ∙ ap marks_by none
 
 -- ---- questions
 
-on_less : {A B T E : Type 0} (r : Result A B) (s : Result T E) (P : Type 0) → (is_ok s ≡ true → is_ok r ≡ true) → OnOk r P → OnOk s P
+on_less : {A B T E : Type 0} (r : Result A B) (s : Result T E) (P : Type 0) → (is_ok s ≡ true → is_ok r ≡ true) →
+    OnOk r P → OnOk s P
 on_less r (Err e) P less p = tt
 on_less (Ok a) (Ok b) P less p = p
 on_less (Err e) (Ok b) P less p = let never : false ≡ true = less refl in absurd cc
 
 -- what is an error is Ok at most where anything is
-pub err_less : {A B T E : Type 0} (r : Result A B) (s : Result T E) (e : E) → s ≡ Err e → is_ok s ≡ true → is_ok r ≡ true
+pub err_less : {A B T E : Type 0} (r : Result A B) (s : Result T E) (e : E) → s ≡ Err e → is_ok s ≡ true →
+    is_ok r ≡ true
 err_less r s e is ok = let never : false ≡ true = sym (ap is_ok is) ∙ ok in absurd cc
 
 pub if_err : {T E : Type 0} (s : Result T E) (P : T → Type 0) (e : E) → s ≡ Err e → IfOk s P
 if_err {T} {E} s P e is = subst (λ (r : Result T E). IfOk r P) (sym is) tt
 
 -- after a refresh the bounds stand whatever comes of the question
-pub made_as : {A B T E : Type 0} (o : Option View) (r : Result A B) (s : Result T E) (k : Keyring) (old new : Marks) (before after : ℕ)
+pub made_as : {A B T E : Type 0} (o : Option View) (r : Result A B) (s : Result T E) (k : Keyring) (old new : Marks)
+    (before after : ℕ)
     → (is_ok s ≡ true → is_ok r ≡ true) → IfSome o (λ (v : View). IsMadeFor r k v.time old new before after)
     → IfSome o (λ (v : View). IsMadeFor s k v.time old new before after)
 made_as None r s k old new before after less m = tt
@@ -220,25 +259,37 @@ made_as (Some v) r s k old new before after less m = record {
   never_less = m.never_less;
 }
 
-pub left : {T E : Type 0} {turns : Turns} (s : Result T E) (engine : Engine) (k new : Keyring) (views more : Views) (old rest : Networks) (name : List ℕ) (before after : ℕ)
+pub left : {T E : Type 0} {turns : Turns} (s : Result T E) (engine : Engine) (k new : Keyring) (views more : Views)
+    (old rest : Networks) (name : List ℕ) (before after : ℕ)
     → shown k views old turns ≡ engine → new ≡ k → more ≡ views
-    → IfSome (view_at views name) (λ (v : View). IsMadeFor s k v.time (marks_in old name) (marks_in rest name) before after)
-    → OthersStay name old rest → (view_at views name ≡ None → (rest ≡ old) × (after ≡ before)) → IsRefreshed s name engine (shown new more rest turns) before after
+    → IfSome (view_at views name) (λ (v : View). IsMadeFor s k v.time (marks_in old name) (marks_in rest name) before
+    after)
+    → OthersStay name old rest → (view_at views name ≡ None → (rest ≡ old) × (after ≡ before)) →
+    IsRefreshed s name engine (shown new more rest turns) before after
 left {turns = turns} s engine k new views more old rest name before after seen same equal made others closed =
     subst (λ (e : Engine). IsRefreshed s name e (shown new more rest turns) before after) seen (record {
       stays = record { keyring = same; views = equal; turns = refl };
-      made = subst (λ (m : Marks). IfSome (view_at views name) (λ (v : View). IsMadeFor s k v.time m (marks_at (shown new more rest turns) name) before after))
+      made = subst (λ (m : Marks). IfSome (view_at views name) (λ (v : View). IsMadeFor s k v.time m
+          (marks_at (shown new more rest turns) name) before after))
           (sym (shown_at old name))
-          (subst (λ (m : Marks). IfSome (view_at views name) (λ (v : View). IsMadeFor s k v.time (marks_in old name) m before after)) (sym (shown_at rest name)) made);
+          (subst (λ (m : Marks). IfSome (view_at views name) (λ (v : View). IsMadeFor s k v.time (marks_in old name) m
+          before after)) (sym (shown_at rest name)) made);
       others = others_marked turns (shown k views old turns) k new views more old rest name refl others;
-      closed = λ none. (shown_at rest name ∙ ap (λ (ns : Networks). marks_in ns name) (closed none).0 ∙ sym (shown_at old name), (closed none).1);
+      closed = λ none. (
+        shown_at rest name ∙ ap (λ (ns : Networks). marks_in ns name) (closed none).0
+            ∙ sym (shown_at old name),
+        (closed none).1,
+      );
     })
 
 -- an engine after a refresh of the networks
-pub engine_after : {turns : Turns} (answers : AllAnswers) (k new : Keyring) (views more : Views) (old rest : Networks) (name : List ℕ) (before after : ℕ) → new ≡ k → more ≡ views → AllFit rest new
-    → OthersStay name old rest → (view_at views name ≡ None → (rest ≡ old) × (after ≡ before)) → IsEngine k views old answers turns → IsEngine new more rest answers turns
+pub engine_after : {turns : Turns} (answers : AllAnswers) (k new : Keyring) (views more : Views) (old rest : Networks)
+    (name : List ℕ) (before after : ℕ) → new ≡ k → more ≡ views → AllFit rest new
+    → OthersStay name old rest → (view_at views name ≡ None → (rest ≡ old) × (after ≡ before)) →
+    IsEngine k views old answers turns → IsEngine new more rest answers turns
 engine_after {turns} answers k new views more old rest name before after same equal fit others closed e =
-    subst (λ (k : Keyring). IsEngine k more rest answers turns) (sym same) (subst (λ (vs : Views). IsEngine k vs rest answers turns) (sym equal) (record {
+    subst (λ (k : Keyring). IsEngine k more rest answers turns) (sym same)
+    (subst (λ (vs : Views). IsEngine k vs rest answers turns) (sym equal) (record {
       small = e.small;
       within = e.within;
       fit = subst (λ (x : Keyring). AllFit rest x) same fit;

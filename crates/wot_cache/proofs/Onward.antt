@@ -1,5 +1,6 @@
 -- How views go on: a view that becomes another has a turn, and one that is closed is open no more.
-use Rattle.std.proofs.Common.{◌≡◌, inl, inr, ℕ, ◌+◌, Bool, true, false, cond, List, [], ◌∷◌, Option, Some, None, refl, sym, ap, ◌∙◌, arith}
+use Rattle.std.proofs.Common.{◌≡◌, inl, inr, ℕ, ◌+◌, Bool, true, false, cond, List, [], ◌∷◌, Option, Some, None, refl}
+use Rattle.std.proofs.Common.{sym, ap, ◌∙◌, arith}
 use Rattle.std.specs.declared.cmp.Ordering.{Ordering}
 use Rattle.std.specs.declared.cmp.Ordering.TheVariants.{Less, Equal, Greater}
 use Rattle.std.specs.BTreeMap.{insert_entry}
@@ -26,7 +27,8 @@ turned_about a b = ap is_eq (nat_list_cmp_total.antisymm a b) ∙ about (view_na
     about Greater = refl
 
 -- what has this name doesn't have another
-apart_from : (name other key : List ℕ) → is_name name other ≡ false → view_name_cmp name key ≡ Equal → is_name other key ≡ false
+apart_from : (name other key : List ℕ) → is_name name other ≡ false → view_name_cmp name key ≡ Equal →
+    is_name other key ≡ false
 apart_from name other key apart same =
     turned_about other key ∙ ap is_eq (sym (nat_list_cmp_total.congr name key other same)) ∙ apart
 
@@ -40,23 +42,31 @@ passed_by true v o e = absurd cc
 passed_by false v o e = refl
 
 module _ {X : Type 0} (name other : List ℕ) (apart : is_name name other ≡ false) where
-  others_put : (es : List (List ℕ × X)) (v : X) → lookup (is_name other) (insert_entry view_name_cmp es name v) ≡ lookup (is_name other) es
+  others_put : (es : List (List ℕ × X)) (v : X) → lookup (is_name other) (insert_entry view_name_cmp es name v) ≡ lookup
+      (is_name other) es
   others_put [] v = passed_by (is_name other name) v None (turned_about other name ∙ apart)
   others_put (e ∷ es) v = by (others_put es v) (view_name_cmp name e.0) refl
     where
-      by : lookup (is_name other) (insert_entry view_name_cmp es name v) ≡ lookup (is_name other) es → (o : Ordering) → view_name_cmp name e.0 ≡ o
-          → lookup (is_name other) (match_ordering o ((name, v) ∷ e ∷ es) ((e.0, v) ∷ es) (e ∷ insert_entry view_name_cmp es name v)) ≡ lookup (is_name other) (e ∷ es)
-      by rest Less h = passed_by (is_name other name) v (lookup (is_name other) (e ∷ es)) (turned_about other name ∙ apart)
+      by : lookup (is_name other) (insert_entry view_name_cmp es name v) ≡ lookup (is_name other) es → (o : Ordering) →
+          view_name_cmp name e.0 ≡ o
+          → lookup (is_name other) (match_ordering o ((name, v) ∷ e ∷ es) ((e.0, v) ∷ es)
+          (e ∷ insert_entry view_name_cmp es name v)) ≡ lookup (is_name other) (e ∷ es)
+      by rest Less h = passed_by (is_name other name) v (lookup (is_name other) (e ∷ es)) (turned_about other name
+          ∙ apart)
       by rest Equal h = passed (is_name other e.0) v e.1 (lookup (is_name other) es) (apart_from name other e.0 apart h)
       by rest Greater h = ap (cond (is_name other e.0) (Some e.1)) rest
 
-  others_set : (es : List (List ℕ × X)) (v : X) → lookup (is_name other) (set_value (is_name name) es v) ≡ lookup (is_name other) es
+  others_set : (es : List (List ℕ × X)) (v : X) → lookup (is_name other) (set_value (is_name name) es v) ≡ lookup
+      (is_name other) es
   others_set [] v = refl
   others_set (e ∷ es) v = by (others_set es v) (is_name name e.0) refl
     where
-      by : lookup (is_name other) (set_value (is_name name) es v) ≡ lookup (is_name other) es → (b : Bool) → is_name name e.0 ≡ b
-          → lookup (is_name other) (cond b ((e.0, v) ∷ es) (e ∷ set_value (is_name name) es v)) ≡ lookup (is_name other) (e ∷ es)
-      by rest true h = passed (is_name other e.0) v e.1 (lookup (is_name other) es) (apart_from name other e.0 apart (equal_if (view_name_cmp name e.0) h))
+      by : lookup (is_name other) (set_value (is_name name) es v) ≡ lookup (is_name other) es → (b : Bool) →
+          is_name name e.0 ≡ b
+          → lookup (is_name other) (cond b ((e.0, v) ∷ es) (e ∷ set_value (is_name name) es v)) ≡ lookup (is_name other)
+          (e ∷ es)
+      by rest true h = passed (is_name other e.0) v e.1 (lookup (is_name other) es)
+          (apart_from name other e.0 apart (equal_if (view_name_cmp name e.0) h))
       by rest false h = ap (cond (is_name other e.0) (Some e.1)) rest
 
 pub timed_others : (name : List ℕ) (views : Views) (t : ℕ) → OtherViewsStay name views (with_time views name t)
@@ -66,7 +76,8 @@ timed_others name views t other apart = by (view_at views name)
     by None = others_put name other apart views (record { time = t; roots = [] })
     by (Some v) = others_set name other apart views (record v { time = t })
 
-pub rooted_others : (name : List ℕ) (views : Views) (fpr : Fpr) (amount : ℕ) → OtherViewsStay name views (with_root views name fpr amount)
+pub rooted_others : (name : List ℕ) (views : Views) (fpr : Fpr) (amount : ℕ) →
+    OtherViewsStay name views (with_root views name fpr amount)
 rooted_others name views fpr amount other apart = by (view_at views name)
   where
     by : (o : Option View) → view_at (rooted views name fpr amount o) other ≡ view_at views other

@@ -1,5 +1,6 @@
 -- The commands of a dump, run in a fresh engine, give the state that was dumped.
-use Rattle.std.proofs.Common.{◌≡◌, ℕ, ◌<◌, ◌≤◌, ◌==◌, Bool, false, List, [], ◌∷◌, ◌++◌, length, map, Option, Some, None, refl, sym, ap, ◌∙◌, subst, arith, append_assoc, append-nil, length-append}
+use Rattle.std.proofs.Common.{◌≡◌, ℕ, ◌<◌, ◌≤◌, ◌==◌, Bool, false, List, [], ◌∷◌, ◌++◌, length, map, Option, Some, None}
+use Rattle.std.proofs.Common.{refl, sym, ap, ◌∙◌, subst, arith, append_assoc, append-nil, length-append}
 use Rattle.std.specs.Prelude.{◌&&◌, nat_lt, nat_le, is_none, if◌then◌else◌, IsSomeAnd}
 use Rattle.std.specs.Option.{unwrap_or, option_map}
 use Rattle.std.specs.Cmp.{IsTotalOrder}
@@ -18,7 +19,10 @@ use Rattle.wot_types.specs.FprLaws.{fpr_total}
 use Rattle.wot_types.specs.ViewName.{view_name_cmp}
 use Rattle.wot_policy.specs.declared.rows.PolicyRows.{PolicyRows}
 use Rattle.wot_script.specs.declared.command.Command.{Command}
-use Rattle.wot_script.specs.declared.command.Command.TheVariants.{Import, Load, Store, Remove, Good, Bad, Unjudge, Time, Root, Close, Ask, Explain, Pending, Keys, Export, Dump, Absence, Check, CursorOver, CursorNext, CursorClose, WatchOn, WatchOff}
+use Rattle.wot_script.specs.declared.command.Command.TheVariants.{Import, Load, Store, Remove, Good, Bad, Unjudge, Time}
+use Rattle.wot_script.specs.declared.command.Command.TheVariants.{Root, Close, Ask, Explain, Pending, Keys, Export}
+use Rattle.wot_script.specs.declared.command.Command.TheVariants.{Dump, Absence, Check, CursorOver, CursorNext}
+use Rattle.wot_script.specs.declared.command.Command.TheVariants.{CursorClose, WatchOn, WatchOff}
 use Rattle.wot_keyring.specs.Dump as keyrings
 use Rattle.wot_keyring.specs.Dump.{after_all, judged_by}
 use Rattle.wot_keyring.specs.Held.{Held, held_of, nothing}
@@ -28,7 +32,8 @@ use Rattle.wot_cache.specs.declared.view.ViewFault.{ViewFault}
 use Rattle.wot_cache.specs.declared.view.ViewFault.TheVariants as faults
 use Rattle.wot_cache.specs.Views.{Views, IsWithin, root_fault, rooted, timed, view_at, with_amount, is_name}
 use Rattle.wot_cache.specs.State.{Engine, State, rooting, start, state_of, timing}
-use Rattle.wot_cache.specs.Dump.{AreSortedByName, CarriesOver, HaveRoots, IsRestored, after, commands_of, root_of, unless_refused, view_commands}
+use Rattle.wot_cache.specs.Dump.{AreSortedByName, CarriesOver, HaveRoots, IsRestored, after, commands_of, root_of}
+use Rattle.wot_cache.specs.Dump.{unless_refused, view_commands}
 use Rattle.wot_keyring.specs.Behind.{AreBelow, all_at, below_next, last_found, last_set, none_before, put_behind}
 
 -- ---- what the keyring's commands do
@@ -40,7 +45,8 @@ over views held = record { held = held; views = views }
 abbrev over_some : Views → Option Held → Option State
 over_some views o = option_map (over views) o
 
-one_over : (rows : PolicyRows) (l : Limits) (views : Views) (command : Command) (held new : Held) → keyrings.after rows l command held ≡ Some new
+one_over : (rows : PolicyRows) (l : Limits) (views : Views) (command : Command) (held new : Held) →
+    keyrings.after rows l command held ≡ Some new
     → after rows l command (over views held) ≡ Some (over views new)
 one_over rows l views (Import octets) held new e = ap (over_some views) e
 one_over rows l views (Good number fpr) held new e = ap (over_some views) e
@@ -67,23 +73,30 @@ one_over rows l views (CursorClose cursor) held new e = cc e
 one_over rows l views (WatchOn watch view fpr wanted uid) held new e = cc e
 one_over rows l views (WatchOff watch) held new e = cc e
 
-refused_stays : (rows : PolicyRows) (l : Limits) (commands : List Command) → after_all (keyrings.after rows l) commands None ≡ None
+refused_stays : (rows : PolicyRows) (l : Limits) (commands : List Command) →
+    after_all (keyrings.after rows l) commands None ≡ None
 refused_stays rows l [] = refl
 refused_stays rows l (command ∷ commands) = refl
 
-further : (rows : PolicyRows) (l : Limits) (views : Views) (command : Command) (commands : List Command) (held new : Held)
-    → ((mid : Held) → after_all (keyrings.after rows l) commands (Some mid) ≡ Some new → after_all (after rows l) commands (Some (over views mid)) ≡ Some (over views new))
-    → (o : Option Held) → keyrings.after rows l command held ≡ o → after_all (keyrings.after rows l) commands o ≡ Some new
+further : (rows : PolicyRows) (l : Limits) (views : Views) (command : Command) (commands : List Command)
+    (held new : Held)
+    → ((mid : Held) → after_all (keyrings.after rows l) commands (Some mid) ≡ Some new →
+    after_all (after rows l) commands (Some (over views mid)) ≡ Some (over views new))
+    → (o : Option Held) → keyrings.after rows l command held ≡ o → after_all (keyrings.after rows l) commands o ≡ Some
+    new
     → after_all (after rows l) commands (after rows l command (over views held)) ≡ Some (over views new)
-further rows l views command commands held new rest None was e = let none = refused_stays rows l commands in cc (none, e)
+further rows l views command commands held new rest None was e = let none = refused_stays rows l commands in
+    cc (none, e)
 further rows l views command commands held new rest (Some mid) was e =
     ap (after_all (after rows l) commands) (one_over rows l views command held mid was) ∙ rest mid e
 
 all_over : (rows : PolicyRows) (l : Limits) (views : Views) (commands : List Command) (held new : Held)
-    → after_all (keyrings.after rows l) commands (Some held) ≡ Some new → after_all (after rows l) commands (Some (over views held)) ≡ Some (over views new)
+    → after_all (keyrings.after rows l) commands (Some held) ≡ Some new →
+    after_all (after rows l) commands (Some (over views held)) ≡ Some (over views new)
 all_over rows l views [] held new e = ap (over_some views) e
 all_over rows l views (command ∷ commands) held new e =
-    further rows l views command commands held new (λ mid. all_over rows l views commands mid new) (keyrings.after rows l command held) refl e
+    further rows l views command commands held new (λ mid. all_over rows l views commands mid new)
+    (keyrings.after rows l command held) refl e
 
 -- ---- views
 
@@ -102,26 +115,31 @@ timed_new : (views : Views) (name : List ℕ) (t : ℕ) (o : Option View) → o 
 timed_new views name t o h = ap (timed views name t) h
 
 -- a view behind all others is opened
-opened : (rows : PolicyRows) (l : Limits) (s : State) (prefix : Views) (name : List ℕ) (t : ℕ) → AreBelow view_name_cmp name prefix → length prefix < l.views
-    → after rows l (Time name t) (with_views s prefix) ≡ Some (with_views s (prefix ++ (name, record { time = t; roots = [] }) ∷ []))
+opened : (rows : PolicyRows) (l : Limits) (s : State) (prefix : Views) (name : List ℕ) (t : ℕ) →
+    AreBelow view_name_cmp name prefix → length prefix < l.views
+    → after rows l (Time name t) (with_views s prefix) ≡ Some
+    (with_views s (prefix ++ (name, record { time = t; roots = [] }) ∷ []))
 opened rows l s prefix name t below room =
     let new : View = record { time = t; roots = [] } in
     let free : (is_none (view_at prefix name) && nat_le l.views (length prefix)) ≡ false =
     and_right (is_none (view_at prefix name)) (nat_le l.views (length prefix)) (lt-leb l.views (length prefix) room) in
     let Full : Bool → Option ViewFault = λ b. if b then Some (faults.Full words.Views) else None in
     ap (λ b. unless_refused (Full b) (timing name t (with_views s prefix))) free
-    ∙ ap (λ (views : Views). Some (with_views s views)) (timed_new prefix name t (view_at prefix name) (none_before view_name_cmp names_total prefix name below)
+    ∙ ap (λ (views : Views). Some (with_views s views)) (timed_new prefix name t (view_at prefix name)
+    (none_before view_name_cmp names_total prefix name below)
     ∙ put_behind view_name_cmp names_total prefix name new below)
 
 -- a root behind all others is set in the last view
-rooted_next : (rows : PolicyRows) (l : Limits) (s : State) (prefix : Views) (name : List ℕ) (t : ℕ) (roots : List (Fpr × ℕ)) (fpr : Fpr) (amount : ℕ)
+rooted_next : (rows : PolicyRows) (l : Limits) (s : State) (prefix : Views) (name : List ℕ) (t : ℕ)
+    (roots : List (Fpr × ℕ)) (fpr : Fpr) (amount : ℕ)
     → AreBelow view_name_cmp name prefix → AreBelow fpr_cmp fpr roots → 0 < amount → length roots < l.roots
     → after rows l (Root name fpr amount) (with_views s (prefix ++ (name, record { time = t; roots = roots }) ∷ []))
     ≡ Some (with_views s (prefix ++ (name, record { time = t; roots = roots ++ (fpr, amount) ∷ [] }) ∷ []))
 rooted_next rows l s prefix name t roots fpr amount below lower some room =
     let old : View = record { time = t; roots = roots } in
     let views : Views = prefix ++ (name, old) ∷ [] in
-    let there : view_at views name ≡ Some old = last_found view_name_cmp names_total prefix name old below (tied_itself names_total name) in
+    let there : view_at views name ≡ Some old = last_found view_name_cmp names_total prefix name old below
+    (tied_itself names_total name) in
     let zero : root_amount roots fpr ≡ 0 = ap (λ o. unwrap_or o 0) (none_before fpr_cmp fprs_total roots fpr lower) in
     let more : (amount == 0) ≡ false = ne_eqb amount 0 (λ e. omega arith) in
     let free : nat_le l.roots (length roots) ≡ false = lt-leb l.roots (length roots) room in
@@ -135,10 +153,18 @@ rooted_next rows l s prefix name t roots fpr amount below lower some room =
     let grown : with_amount roots fpr amount ≡ roots ++ (fpr, amount) ∷ [] =
     ap (λ b. if b then remove_entry (is_at (fpr_cmp fpr)) roots else insert_entry fpr_cmp roots fpr amount) more
     ∙ put_behind fpr_cmp fprs_total roots fpr amount lower in
-    let changed : rooted views name fpr amount (view_at views name) ≡ prefix ++ (name, record { time = t; roots = roots ++ (fpr, amount) ∷ [] }) ∷ [] =
+    let changed : rooted views name fpr amount (view_at views name) ≡ prefix ++ (
+      name,
+      record {
+        time = t;
+        roots =
+            roots ++ (fpr, amount) ∷ [];
+      },
+    ) ∷ [] =
     ap (rooted views name fpr amount) there
     ∙ ap (λ (rs : List (Fpr × ℕ)). set_value (is_name name) views (record { time = t; roots = rs })) grown
-    ∙ last_set view_name_cmp names_total prefix name old (record { time = t; roots = roots ++ (fpr, amount) ∷ [] }) below (tied_itself names_total name) in
+    ∙ last_set view_name_cmp names_total prefix name old (record { time = t; roots = roots ++ (fpr, amount) ∷ [] })
+    below (tied_itself names_total name) in
     ap (λ f. unless_refused f (rooting name fpr amount (with_views s views))) sound
     ∙ ap (λ (vs : Views). Some (with_views s vs)) changed
 
@@ -146,19 +172,26 @@ rooted_next rows l s prefix name t roots fpr amount below lower some room =
 abbrev with_last : State → Views → List ℕ → ℕ → List (Fpr × ℕ) → Option State
 with_last s prefix name t roots = Some (with_views s (prefix ++ (name, record { time = t; roots = roots }) ∷ []))
 
-roots_set : (rows : PolicyRows) (l : Limits) (s : State) (prefix : Views) (name : List ℕ) (t : ℕ) → AreBelow view_name_cmp name prefix
+roots_set : (rows : PolicyRows) (l : Limits) (s : State) (prefix : Views) (name : List ℕ) (t : ℕ) →
+    AreBelow view_name_cmp name prefix
     → (all : List (Fpr × ℕ)) → IsRoots all → length all ≤ l.roots → (done rest : List (Fpr × ℕ)) → done ++ rest ≡ all
-    → after_all (after rows l) (map (root_of name) rest) (with_last s prefix name t done) ≡ with_last s prefix name t all
-roots_set rows l s prefix name t below all roots few done [] parts = ap (with_last s prefix name t) (sym (append-nil done) ∙ parts)
+    → after_all (after rows l) (map (root_of name) rest) (with_last s prefix name t done) ≡ with_last s prefix name t
+    all
+roots_set rows l s prefix name t below all roots few done [] parts =
+    ap (with_last s prefix name t) (sym (append-nil done) ∙ parts)
 roots_set rows l s prefix name t below all roots few done (r ∷ rest) parts =
     let Sorted : List (Fpr × ℕ) → Type 0 = λ rs. IsStrictlySortedBy fpr_cmp (keys_of rs) in
-    let some = all_at (λ (r : Fpr × ℕ). (0 < r.1) × (r.1 ≤ 255)) done r rest (subst AreAmounts (sym parts) roots.amounts) in
+    let some = all_at (λ (r : Fpr × ℕ). (0 < r.1) × (r.1 ≤ 255)) done r rest
+    (subst AreAmounts (sym parts) roots.amounts) in
     let lower = below_next fpr_cmp done r rest (subst Sorted (sym parts) roots.order) in
     let room : length done < l.roots = omega (arith, ap length parts, length-append done (r ∷ rest), few) in
-    ap (after_all (after rows l) (map (root_of name) rest)) (rooted_next rows l s prefix name t done r.0 r.1 below lower some.0 room)
-    ∙ roots_set rows l s prefix name t below all roots few (done ++ r ∷ []) rest (append_assoc done (r ∷ []) rest ∙ parts)
+    ap (after_all (after rows l) (map (root_of name) rest)) (rooted_next rows l s prefix name t done r.0 r.1 below lower
+    some.0 room)
+    ∙ roots_set rows l s prefix name t below all roots few (done ++ r ∷ []) rest (append_assoc done (r ∷ []) rest
+    ∙ parts)
 
-view_made : (rows : PolicyRows) (l : Limits) (s : State) (prefix : Views) (e : List ℕ × View) → AreBelow view_name_cmp e.0 prefix → length prefix < l.views
+view_made : (rows : PolicyRows) (l : Limits) (s : State) (prefix : Views) (e : List ℕ × View) →
+    AreBelow view_name_cmp e.0 prefix → length prefix < l.views
     → IsRoots e.1.roots → length e.1.roots ≤ l.roots
     → after_all (after rows l) (view_commands e) (Some (with_views s prefix)) ≡ Some (with_views s (prefix ++ e ∷ []))
 view_made rows l s prefix e below room roots few =
@@ -172,10 +205,12 @@ after_both rows l (c ∷ cs) [] None = refl
 after_both rows l (c ∷ cs) (d ∷ ds) None = refl
 after_both rows l (c ∷ cs) ds (Some s) = after_both rows l cs ds (after rows l c s)
 
-views_made : (rows : PolicyRows) (l : Limits) (s : State) (all : Views) → IsWithin l all → HaveRoots all → AreSortedByName all
+views_made : (rows : PolicyRows) (l : Limits) (s : State) (all : Views) → IsWithin l all → HaveRoots all →
+    AreSortedByName all
     → (prefix rest : Views) → prefix ++ rest ≡ all
     → after_all (after rows l) (flat_map view_commands rest) (Some (with_views s prefix)) ≡ Some (with_views s all)
-views_made rows l s all within roots order prefix [] parts = ap (λ (views : Views). Some (with_views s views)) (sym (append-nil prefix) ∙ parts)
+views_made rows l s all within roots order prefix [] parts = ap (λ (views : Views). Some (with_views s views))
+    (sym (append-nil prefix) ∙ parts)
 views_made rows l s all within roots order prefix (e ∷ rest) parts =
     let Few : Views → Type 0 = λ views. AllByRecursion (λ (e : List ℕ × View). length e.1.roots ≤ l.roots) views in
     let Rooted : Views → Type 0 = λ views. HaveRoots views in
@@ -190,17 +225,21 @@ views_made rows l s all within roots order prefix (e ∷ rest) parts =
 
 -- ---- all of them
 
-carried : (rows : PolicyRows) (s new : State) (o : Option State) → o ≡ Some new → CarriesOver rows s new → IsSomeAnd o (CarriesOver rows s)
+carried : (rows : PolicyRows) (s new : State) (o : Option State) → o ≡ Some new → CarriesOver rows s new →
+    IsSomeAnd o (CarriesOver rows s)
 carried rows s new o e same = subst (λ (o : Option State). IsSomeAnd o (CarriesOver rows s)) (sym e) same
 
-pub restored : (rows : PolicyRows) (engine : Engine) → keyrings.IsRestored rows engine.keyring → IsWithin engine.keyring.limits engine.views
+pub restored : (rows : PolicyRows) (engine : Engine) → keyrings.IsRestored rows engine.keyring →
+    IsWithin engine.keyring.limits engine.views
     → HaveRoots engine.views → AreSortedByName engine.views → IsRestored rows engine
 restored rows engine keyring within roots order =
     let l : Limits = engine.keyring.limits in
     let held : Held = held_of engine.keyring in
     let new : Held = judged_by rows held in
-    carried rows (state_of engine) (over engine.views new) (after_all (after rows l) (commands_of (state_of engine)) (Some start))
+    carried rows (state_of engine) (over engine.views new) (after_all (after rows l) (commands_of (state_of engine))
+    (Some start))
     (after_both rows l (keyrings.commands_of held) (flat_map view_commands engine.views) (Some start)
-    ∙ ap (after_all (after rows l) (flat_map view_commands engine.views)) (all_over rows l [] (keyrings.commands_of held) nothing new keyring)
+    ∙ ap (after_all (after rows l) (flat_map view_commands engine.views))
+    (all_over rows l [] (keyrings.commands_of held) nothing new keyring)
     ∙ views_made rows l (over [] new) engine.views within roots order [] engine.views refl)
     (record { held = refl; views = refl })

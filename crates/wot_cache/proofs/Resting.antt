@@ -1,5 +1,6 @@
 -- How an engine goes on, and what rests on a basis meanwhile.
-use Rattle.std.proofs.Common.{◌≡◌, inl, inr, ℕ, ◌+◌, ◌<◌, ◌≤◌, Bool, true, false, cond, List, [], ◌∷◌, length, Option, Some, None, refl, sym, ap, subst, ◌∙◌, arith}
+use Rattle.std.proofs.Common.{◌≡◌, inl, inr, ℕ, ◌+◌, ◌<◌, ◌≤◌, Bool, true, false, cond, List, [], ◌∷◌, length, Option}
+use Rattle.std.proofs.Common.{Some, None, refl, sym, ap, subst, ◌∙◌, arith}
 use Rattle.std.specs.Prelude.{◌⊎◌, ◌||◌, nat_le, IfSome, Result, Err, Vec, is_ok}
 use Rattle.std.specs.declared.alloc.Global.{Global}
 use Rattle.std.specs.List.{AllByRecursion}
@@ -25,7 +26,9 @@ use Rattle.wot_cache.specs.declared.view.AskFault.{AskFault}
 use Rattle.wot_cache.specs.declared.view.AskFault.TheVariants as asked
 use Rattle.wot_cache.specs.declared.view.View.{View}
 use Rattle.wot_cache.specs.Answers.{AllStill, Amounts, AreStill, IsOf, IsRight}
-use Rattle.wot_cache.specs.Basis.{AllIn, AreCalm, AreViewsOn, Basis, CarriesOn, HasAmount, HasGrown, Includes, IsFreeOf, IsKeptAt, IsKeptOn, IsKeyringOn, IsPresent, IsSameOrClosed, IsUndisturbed, RestsAt, RestsOn, is_in, question_on}
+use Rattle.wot_cache.specs.Basis.{AllIn, AreCalm, AreViewsOn, Basis, CarriesOn, HasAmount, HasGrown, Includes, IsFreeOf}
+use Rattle.wot_cache.specs.Basis.{IsKeptAt, IsKeptOn, IsKeyringOn, IsPresent, IsSameOrClosed, IsUndisturbed, RestsAt}
+use Rattle.wot_cache.specs.Basis.{RestsOn, is_in, question_on}
 use Rattle.wot_cache.specs.Inside.{Networks}
 use Rattle.wot_cache.specs.Marks.{IsRefreshed, shown}
 use Rattle.wot_cache.specs.Question.{OfQuestion, question_in}
@@ -61,7 +64,8 @@ says_same : (said : verdicts.Entries) (sigs : List Signature) → AllByRecursion
 says_same said [] = tt
 says_same said (s ∷ sigs) = (refl, says_same said sigs)
 
-says_on : (a b c : verdicts.Entries) (sigs : List Signature) → AllByRecursion (SaysSame a b) sigs → AllByRecursion (SaysSame b c) sigs → AllByRecursion (SaysSame a c) sigs
+says_on : (a b c : verdicts.Entries) (sigs : List Signature) → AllByRecursion (SaysSame a b) sigs →
+    AllByRecursion (SaysSame b c) sigs → AllByRecursion (SaysSame a c) sigs
 says_on a b c [] h k = tt
 says_on a b c (s ∷ sigs) h k = (h.0 ∙ k.0, says_on a b c sigs h.1 k.1)
 
@@ -83,7 +87,8 @@ keyring_further old mid new first second = record {
   counted = chain _ _ _ first.counted second.counted;
   at = λ fpr. by fpr (first.at fpr) (second.at fpr);
   same = λ e.
-      second.same (last_same _ _ _ first.counted second.counted e) ∙ first.same (first_same _ _ _ first.counted second.counted e);
+      second.same (last_same _ _ _ first.counted second.counted e)
+      ∙ first.same (first_same _ _ _ first.counted second.counted e);
 }
   where
     by : (fpr : Fpr) → IsKeptAt old mid fpr → IsKeptAt mid new fpr → IsKeptAt old new fpr
@@ -92,7 +97,8 @@ keyring_further old mid new first second = record {
     by fpr (inl h) (inl k) =
         inl (record {
           kept = k.kept ∙ h.kept;
-          said = λ x e. says_on old.verdicts mid.verdicts new.verdicts (all_sigs x.cert) (h.said x e) (k.said x (h.kept ∙ e));
+          said = λ x e. says_on old.verdicts mid.verdicts new.verdicts (all_sigs x.cert) (h.said x e)
+              (k.said x (h.kept ∙ e));
         })
 
 -- what is gone though nothing is gone wasn't there
@@ -102,7 +108,8 @@ absent_on old new fpr gone none = inl (record { kept = gone ∙ sym none; said =
     never : (x : Kept) → None ≡ Some x → ⊥
     never x e = cc
 
-changed_on : (old new : Keyring) → IsLater old new → KeepsAll old new → new.changes ≡ old.changes + 1 → IsKeyringOn old new
+changed_on : (old new : Keyring) → IsLater old new → KeepsAll old new → new.changes ≡ old.changes + 1 →
+    IsKeyringOn old new
 changed_on old new later all counted = record {
   counted = later.counted;
   at = λ fpr. by fpr (later.at fpr);
@@ -141,14 +148,17 @@ views_still old new before after same still = record {
   each = λ e name. inl (ap (λ (vs : Views). view_at vs name) same);
 }
 
-views_further : (old mid new : Views) (before between after : Turns) → AreViewsOn old before mid between → AreViewsOn mid between new after → AreViewsOn old before new after
+views_further : (old mid new : Views) (before between after : Turns) → AreViewsOn old before mid between →
+    AreViewsOn mid between new after → AreViewsOn old before new after
 views_further old mid new before between after first second = record {
   counted = chain _ _ _ first.counted second.counted;
   each = λ e name.
-      by name (first.each (first_same _ _ _ first.counted second.counted e) name) (second.each (last_same _ _ _ first.counted second.counted e) name);
+      by name (first.each (first_same _ _ _ first.counted second.counted e) name)
+      (second.each (last_same _ _ _ first.counted second.counted e) name);
 }
   where
-    by : (name : List ℕ) → IsSameOrClosed (view_at old name) (view_at mid name) → IsSameOrClosed (view_at mid name) (view_at new name) → IsSameOrClosed (view_at old name) (view_at new name)
+    by : (name : List ℕ) → IsSameOrClosed (view_at old name) (view_at mid name) →
+        IsSameOrClosed (view_at mid name) (view_at new name) → IsSameOrClosed (view_at old name) (view_at new name)
     by name h (inr closed) = inr closed
     by name (inl same) (inl e) = inl (e ∙ same)
     by name (inr closed) (inl e) = inr (e ∙ closed)
@@ -176,7 +186,8 @@ pub grown_itself : (b : Basis) → HasGrown b b
 grown_itself b = record { changes = refl; turns = refl; fprs = λ fpr h. h; whole = λ h. h }
 
 -- what is undisturbed though more rests on it was undisturbed
-pub undisturbed_before : (later : Engine) (old new : Basis) → HasGrown old new → IsUndisturbed later new → IsUndisturbed later old
+pub undisturbed_before : (later : Engine) (old new : Basis) → HasGrown old new → IsUndisturbed later new →
+    IsUndisturbed later old
 undisturbed_before later old new grown calm = record {
   turns = calm.turns ∙ grown.turns;
   calm = λ fpr there. subst (λ n. stamp_at later.keyring fpr ≤ n) grown.changes (calm.calm fpr (grown.fprs fpr there));
@@ -185,16 +196,19 @@ undisturbed_before later old new grown calm = record {
 
 pub rests_grown : (engine : Engine) (old new : Basis) (view : List ℕ) (target : Fpr) (wanted : ℕ) (uid : List ℕ) (n : ℕ)
     → HasGrown old new → RestsOn engine old view target wanted uid n → RestsOn engine new view target wanted uid n
-rests_grown engine old new view target wanted uid n grown rests later on calm = rests later on (undisturbed_before later old new grown calm)
+rests_grown engine old new view target wanted uid n grown rests later on calm =
+    rests later on (undisturbed_before later old new grown calm)
 
 pub rests_later : (old new : Engine) (basis : Basis) (view : List ℕ) (target : Fpr) (wanted : ℕ) (uid : List ℕ) (n : ℕ)
     → IsKeptOn old new → RestsOn old basis view target wanted uid n → RestsOn new basis view target wanted uid n
-rests_later old new basis view target wanted uid n on rests later further calm = rests later (engine_further old new later on further) calm
+rests_later old new basis view target wanted uid n on rests later further calm =
+    rests later (engine_further old new later on further) calm
 
 -- ---- what an answer rests on
 
 -- What has no stamp above the count of then is unaltered.
-unaltered_at : (k later : Keyring) (fpr : Fpr) → IsKeyringOn k later → stamp_at later fpr ≤ k.changes → IsUnaltered k later fpr
+unaltered_at : (k later : Keyring) (fpr : Fpr) → IsKeyringOn k later → stamp_at later fpr ≤ k.changes →
+    IsUnaltered k later fpr
 unaltered_at k later fpr on past = by (on.at fpr)
   where
     by : IsKeptAt k later fpr → IsUnaltered k later fpr
@@ -202,7 +216,8 @@ unaltered_at k later fpr on past = by (on.at fpr)
     by (inr given) = absurd (not_both k.changes (stamp_at later fpr) given past)
 
 -- at these fingerprints the same is found as was
-pub still_on : (k later : Keyring) (roots : Amounts) (fprs : List Fpr) (looked : List Looked) → IsKeyringOn k later → AreCalm later k.changes fprs
+pub still_on : (k later : Keyring) (roots : Amounts) (fprs : List Fpr) (looked : List Looked) → IsKeyringOn k later →
+    AreCalm later k.changes fprs
     → AllIn fprs looked → AreStill k roots looked → AreStill later roots looked
 still_on k later roots fprs [] on calm all still = tt
 still_on k later roots fprs (l ∷ ls) on calm all still = (
@@ -214,103 +229,135 @@ still_on k later roots fprs (l ∷ ls) on calm all still = (
 )
 
 -- A right answer to the question rests on the fingerprints that it consulted.
-pub answer_rests : (k : Keyring) (fprs : List Fpr) (view : View) (target : Fpr) (wanted : ℕ) (uid : List ℕ) (a : KeptAnswer)
+pub answer_rests : (k : Keyring) (fprs : List Fpr) (view : View) (target : Fpr) (wanted : ℕ) (uid : List ℕ)
+    (a : KeptAnswer)
     → IsRight k a → IsOf a target wanted uid view.time
     → ((later : Keyring) → IsKeyringOn k later → AreCalm later k.changes fprs → AllStill later view.roots a.looked)
     → RestsAt k k.changes fprs view target wanted uid a.answer.sum
 answer_rests k fprs view target wanted uid a right is still later on calm = (
   a.answer.paths,
-  of_question later view.roots a target wanted uid view.time is (right.answer later view.roots (on_later k later on) (still later on calm)),
+  of_question later view.roots a target wanted uid view.time is (right.answer later view.roots (on_later k later on)
+      (still later on calm)),
   right.sum,
 )
 
 -- where all that it consulted is found as it was, and is among them
-pub sum_rests : (k : Keyring) (fprs : List Fpr) (view : View) (target : Fpr) (wanted : ℕ) (uid : List ℕ) (a : KeptAnswer) (looked : Vec Looked Global)
-    → a.looked ≡ Some looked → IsRight k a → IsOf a target wanted uid view.time → AreStill k view.roots looked.items → AllIn fprs looked.items
+pub sum_rests : (k : Keyring) (fprs : List Fpr) (view : View) (target : Fpr) (wanted : ℕ) (uid : List ℕ)
+    (a : KeptAnswer) (looked : Vec Looked Global)
+    → a.looked ≡ Some looked → IsRight k a → IsOf a target wanted uid view.time → AreStill k view.roots looked.items →
+    AllIn fprs looked.items
     → RestsAt k k.changes fprs view target wanted uid a.answer.sum
 sum_rests k fprs view target wanted uid a looked there right is still all =
     answer_rests k fprs view target wanted uid a right is
-    (λ later on calm. subst (AllStill later view.roots) (sym there) (still_on k later view.roots fprs looked.items on calm all still))
+    (λ later on calm. subst (AllStill later view.roots) (sym there) (still_on k later view.roots fprs looked.items on
+    calm all still))
 
 -- ---- what rests in an engine
 
 -- seen from a view that is as it was, or closed
-rests_seen : (engine later : Engine) (name : List ℕ) (target : Fpr) (wanted : ℕ) (uid : List ℕ) (n : ℕ) (v : View) → view_at engine.views name ≡ Some v
-    → IsSameOrClosed (view_at engine.views name) (view_at later.views name) → HasAmount wanted n (question_on later.keyring v target uid)
+rests_seen : (engine later : Engine) (name : List ℕ) (target : Fpr) (wanted : ℕ) (uid : List ℕ) (n : ℕ) (v : View) →
+    view_at engine.views name ≡ Some v
+    → IsSameOrClosed (view_at engine.views name) (view_at later.views name) →
+    HasAmount wanted n (question_on later.keyring v target uid)
     → OfQuestion later name target uid (HasAmount wanted n)
 rests_seen engine later name target wanted uid n v found (inr closed) has =
-    subst (λ (o : Option View). IfSome o (λ (v : View). HasAmount wanted n (question_in (state_of later) v target uid))) (sym closed) tt
+    subst (λ (o : Option View). IfSome o (λ (v : View). HasAmount wanted n (question_in (state_of later) v target uid)))
+    (sym closed) tt
 rests_seen engine later name target wanted uid n v found (inl same) has =
-    subst (λ (o : Option View). IfSome o (λ (v : View). HasAmount wanted n (question_in (state_of later) v target uid))) (sym (same ∙ found)) has
+    subst (λ (o : Option View). IfSome o (λ (v : View). HasAmount wanted n (question_in (state_of later) v target uid)))
+    (sym (same ∙ found)) has
 
 -- What rests on fingerprints of the keyring rests on a basis that has them.
-pub engine_rests : (engine : Engine) (basis : Basis) (name : List ℕ) (target : Fpr) (wanted : ℕ) (uid : List ℕ) (n : ℕ) (v : View)
+pub engine_rests : (engine : Engine) (basis : Basis) (name : List ℕ) (target : Fpr) (wanted : ℕ) (uid : List ℕ) (n : ℕ)
+    (v : View)
     → IsPresent engine basis → view_at engine.views name ≡ Some v
-    → RestsAt engine.keyring engine.keyring.changes basis.fprs v target wanted uid n → RestsOn engine basis name target wanted uid n
+    → RestsAt engine.keyring engine.keyring.changes basis.fprs v target wanted uid n →
+    RestsOn engine basis name target wanted uid n
 engine_rests engine basis name target wanted uid n v now found rests later on calm =
     rests_seen engine later name target wanted uid n v found (on.views.each (calm.turns ∙ now.turns) name)
-    (rests later.keyring on.keyring (λ fpr there. subst (λ m. stamp_at later.keyring fpr ≤ m) now.changes (calm.calm fpr there)))
+    (rests later.keyring on.keyring (λ fpr there. subst (λ m. stamp_at later.keyring fpr ≤ m) now.changes
+    (calm.calm fpr there)))
 
 -- and it is so now
-pub rests_now : (engine : Engine) (basis : Basis) (name : List ℕ) (target : Fpr) (wanted : ℕ) (uid : List ℕ) (n : ℕ) (v : View)
+pub rests_now : (engine : Engine) (basis : Basis) (name : List ℕ) (target : Fpr) (wanted : ℕ) (uid : List ℕ) (n : ℕ)
+    (v : View)
     → AreStamped engine.keyring.changes engine.keyring.certs → view_at engine.views name ≡ Some v
-    → RestsAt engine.keyring engine.keyring.changes basis.fprs v target wanted uid n → OfQuestion engine name target uid (HasAmount wanted n)
+    → RestsAt engine.keyring engine.keyring.changes basis.fprs v target wanted uid n →
+    OfQuestion engine name target uid (HasAmount wanted n)
 rests_now engine basis name target wanted uid n v stamped found rests =
     rests_seen engine engine name target wanted uid n v found (inl refl)
     (rests engine.keyring (keyring_itself engine.keyring) (λ fpr there. stamp_past engine.keyring fpr stamped))
 
 -- On a basis that rests on all that there is each answer rests.
 pub whole_rests : (engine : Engine) (basis : Basis) (name : List ℕ) (target : Fpr) (wanted : ℕ) (uid : List ℕ) (n : ℕ)
-    → IsPresent engine basis → basis.whole ≡ true → OfQuestion engine name target uid (HasAmount wanted n) → RestsOn engine basis name target wanted uid n
+    → IsPresent engine basis → basis.whole ≡ true → OfQuestion engine name target uid (HasAmount wanted n) →
+    RestsOn engine basis name target wanted uid n
 whole_rests engine basis name target wanted uid n now all has later on calm =
     let same : later.keyring ≡ engine.keyring = on.keyring.same (calm.whole all ∙ now.changes) in
     by (view_at engine.views name) refl (on.views.each (calm.turns ∙ now.turns) name) same has
   where
-    by : (o : Option View) → view_at engine.views name ≡ o → IsSameOrClosed (view_at engine.views name) (view_at later.views name) → later.keyring ≡ engine.keyring
-        → IfSome (view_at engine.views name) (λ (v : View). HasAmount wanted n (question_in (state_of engine) v target uid))
+    by : (o : Option View) → view_at engine.views name ≡ o → IsSameOrClosed (view_at engine.views name)
+        (view_at later.views name) → later.keyring ≡ engine.keyring
+        → IfSome (view_at engine.views name)
+        (λ (v : View). HasAmount wanted n (question_in (state_of engine) v target uid))
         → OfQuestion later name target uid (HasAmount wanted n)
     by None none (inl e) same h =
-        subst (λ (o : Option View). IfSome o (λ (v : View). HasAmount wanted n (question_in (state_of later) v target uid))) (sym (e ∙ none)) tt
+        subst (λ (o : Option View). IfSome o
+        (λ (v : View). HasAmount wanted n (question_in (state_of later) v target uid))) (sym (e ∙ none)) tt
     by None none (inr closed) same h =
-        subst (λ (o : Option View). IfSome o (λ (v : View). HasAmount wanted n (question_in (state_of later) v target uid))) (sym closed) tt
+        subst (λ (o : Option View). IfSome o
+        (λ (v : View). HasAmount wanted n (question_in (state_of later) v target uid))) (sym closed) tt
     by (Some v) found seen same h =
         let here : HasAmount wanted n (question_on engine.keyring v target uid) =
-        subst (λ (o : Option View). IfSome o (λ (v : View). HasAmount wanted n (question_in (state_of engine) v target uid))) found h in
-        rests_seen engine later name target wanted uid n v found seen (subst (λ (k : Keyring). HasAmount wanted n (question_on k v target uid)) (sym same) here)
+        subst (λ (o : Option View). IfSome o
+        (λ (v : View). HasAmount wanted n (question_in (state_of engine) v target uid))) found h in
+        rests_seen engine later name target wanted uid n v found seen
+        (subst (λ (k : Keyring). HasAmount wanted n (question_on k v target uid)) (sym same) here)
 
 -- ---- moving a basis on
 
-module _ (engine : Engine) (k : Keyring) (views : Views) (networks : Networks) (turns : Turns) (seen : shown k views networks turns ≡ engine) (old new : Basis) where
-  pub stands_now : old.turns ≡ turns.count → AreCalm k old.changes old.fprs → (old.whole ≡ true → k.changes ≡ old.changes) → IsUndisturbed engine old
+module _ (engine : Engine) (k : Keyring) (views : Views) (networks : Networks) (turns : Turns)
+    (seen : shown k views networks turns ≡ engine) (old new : Basis) where
+  pub stands_now : old.turns ≡ turns.count → AreCalm k old.changes old.fprs →
+      (old.whole ≡ true → k.changes ≡ old.changes) → IsUndisturbed engine old
   stands_now same calm whole =
       subst (λ (e : Engine). IsUndisturbed e old) seen (record { turns = sym same; calm = calm; whole = whole })
 
-  pub still_now : (stands : Bool) (count : ℕ) → (old.turns ≡ count → old.changes ≡ k.changes → stands ≡ true) → count ≡ turns.count
+  pub still_now : (stands : Bool) (count : ℕ) → (old.turns ≡ count → old.changes ≡ k.changes → stands ≡ true) →
+      count ≡ turns.count
       → IsPresent engine old → stands ≡ true
   still_now stands count is counted now =
-      let here : IsPresent (shown k views networks turns) old = subst (λ (e : Engine). IsPresent e old) (sym seen) now in
+      let here : IsPresent (shown k views networks turns) old = subst (λ (e : Engine). IsPresent e old)
+      (sym seen) now in
       is (here.turns ∙ sym counted) here.changes
 
   pub moved_now : old.turns ≡ turns.count → new ≡ record old { changes = k.changes } → IsPresent engine new
   moved_now same moved =
-      subst (λ (e : Engine). IsPresent e new) seen (subst (λ (b : Basis). IsPresent (shown k views networks turns) b) (sym moved) (record { changes = refl; turns = same }))
+      subst (λ (e : Engine). IsPresent e new) seen (subst (λ (b : Basis). IsPresent (shown k views networks turns) b)
+      (sym moved) (record { changes = refl; turns = same }))
 
-  moved_on : AreCalm k old.changes old.fprs → (old.whole ≡ true → k.changes ≡ old.changes) → CarriesOn (shown k views networks turns) old (record old { changes = k.changes })
+  moved_on : AreCalm k old.changes old.fprs → (old.whole ≡ true → k.changes ≡ old.changes) →
+      CarriesOn (shown k views networks turns) old (record old { changes = k.changes })
   moved_on calm whole later on undisturbed = record {
     turns = undisturbed.turns;
     calm = λ fpr is.
-        let same = same_stamp k later.keyring fpr (unaltered_at k later.keyring fpr on.keyring (undisturbed.calm fpr is)) in
+        let same = same_stamp k later.keyring fpr (unaltered_at k later.keyring fpr on.keyring
+        (undisturbed.calm fpr is)) in
         subst (λ n. n ≤ old.changes) (sym same) (calm fpr is);
     whole = λ all. undisturbed.whole all ∙ whole all;
   }
 
   -- whether it was moved or not
-  pub carried_on : (stands : Bool) → (stands ≡ true → AreCalm k old.changes old.fprs) → (stands ≡ true → old.whole ≡ true → k.changes ≡ old.changes)
-      → (stands ≡ true → new ≡ record old { changes = k.changes }) → (stands ≡ false → new ≡ old) → CarriesOn engine old new
+  pub carried_on : (stands : Bool) → (stands ≡ true → AreCalm k old.changes old.fprs) →
+      (stands ≡ true → old.whole ≡ true → k.changes ≡ old.changes)
+      → (stands ≡ true → new ≡ record old { changes = k.changes }) → (stands ≡ false → new ≡ old) →
+      CarriesOn engine old new
   carried_on true calm whole moved kept =
       subst (λ (e : Engine). CarriesOn e old new) seen
-      (subst (λ (b : Basis). CarriesOn (shown k views networks turns) old b) (sym (moved refl)) (moved_on (calm refl) (whole refl)))
-  carried_on false calm whole moved kept = λ later on undisturbed. subst (λ (b : Basis). IsUndisturbed later b) (kept refl) undisturbed
+      (subst (λ (b : Basis). CarriesOn (shown k views networks turns) old b) (sym (moved refl))
+      (moved_on (calm refl) (whole refl)))
+  carried_on false calm whole moved kept = λ later on undisturbed. subst (λ (b : Basis). IsUndisturbed later b)
+      (kept refl) undisturbed
 
 -- ---- growing
 
@@ -329,14 +376,22 @@ grown_by old fprs more = record { changes = refl; turns = refl; fprs = more; who
 -- to all that there is
 pub grown_whole : (old b new : Basis) → HasGrown old b → new ≡ record b { whole = true } → HasGrown old new
 grown_whole old b new grown is =
-    subst (λ (c : Basis). HasGrown old c) (sym is) (record { changes = grown.changes; turns = grown.turns; fprs = grown.fprs; whole = λ all. refl })
+    subst (λ (c : Basis). HasGrown old c) (sym is) (record {
+      changes = grown.changes;
+      turns = grown.turns;
+      fprs =
+          grown.fprs;
+      whole = λ all. refl;
+    })
 
 pub present_on : (engine : Engine) (old new : Basis) → HasGrown old new → IsPresent engine old → IsPresent engine new
 present_on engine old new grown now = record { changes = grown.changes ∙ now.changes; turns = grown.turns ∙ now.turns }
 
 -- ---- what is found for a view
 
-module _ (engine : Engine) (k : Keyring) (views : Views) (networks : Networks) (turns : Turns) (seen : shown k views networks turns ≡ engine) (name : List ℕ) (target : Fpr) (wanted : ℕ) (uid : List ℕ) (v : View) (found : Some v ≡ view_at views name) where
+module _ (engine : Engine) (k : Keyring) (views : Views) (networks : Networks) (turns : Turns)
+    (seen : shown k views networks turns ≡ engine) (name : List ℕ) (target : Fpr) (wanted : ℕ) (uid : List ℕ) (v : View)
+    (found : Some v ≡ view_at views name) where
   at_view : view_at engine.views name ≡ Some v
   at_view = subst (λ (e : Engine). view_at e.views name ≡ Some v) seen (sym found)
 
@@ -346,15 +401,19 @@ module _ (engine : Engine) (k : Keyring) (views : Views) (networks : Networks) (
   abbrev Rests : Keyring → Basis → ℕ → Type 0
   Rests k basis n = RestsAt k k.changes basis.fprs v target wanted uid n
 
-  pub found_rests : (o : Option ℕ) (old new : Basis) → HasGrown old new → IsPresent engine old → IfSome o (Rests k new) → IfSome o (RestsOn engine new name target wanted uid)
+  pub found_rests : (o : Option ℕ) (old new : Basis) → HasGrown old new → IsPresent engine old →
+      IfSome o (Rests k new) → IfSome o (RestsOn engine new name target wanted uid)
   found_rests None old new grown now rests = tt
   found_rests (Some n) old new grown now rests =
-      engine_rests engine new name target wanted uid n v (present_on engine old new grown now) at_view (subst (λ (z : Keyring). Rests z new n) at_keyring rests)
+      engine_rests engine new name target wanted uid n v (present_on engine old new grown now) at_view
+      (subst (λ (z : Keyring). Rests z new n) at_keyring rests)
 
-  pub found_now : (o : Option ℕ) (new : Basis) → AreStamped k.changes k.certs → IfSome o (Rests k new) → IfSome o (λ n. OfQuestion engine name target uid (HasAmount wanted n))
+  pub found_now : (o : Option ℕ) (new : Basis) → AreStamped k.changes k.certs → IfSome o (Rests k new) →
+      IfSome o (λ n. OfQuestion engine name target uid (HasAmount wanted n))
   found_now None new stamped rests = tt
   found_now (Some n) new stamped rests =
-      rests_now engine new name target wanted uid n v (subst (λ (z : Keyring). AreStamped z.changes z.certs) at_keyring stamped) at_view
+      rests_now engine new name target wanted uid n v (subst (λ (z : Keyring). AreStamped z.changes z.certs) at_keyring
+      stamped) at_view
       (subst (λ (z : Keyring). Rests z new n) at_keyring rests)
 
 -- ---- after a question
@@ -362,39 +421,49 @@ module _ (engine : Engine) (k : Keyring) (views : Views) (networks : Networks) (
 pub stays_back : (old new : Engine) → StaysButMarks old new → StaysButMarks new old
 stays_back old new stays = record { keyring = sym stays.keyring; views = sym stays.views; turns = sym stays.turns }
 
-pub present_still : (old new : Engine) (basis : Basis) → StaysButMarks old new → IsPresent old basis → IsPresent new basis
+pub present_still : (old new : Engine) (basis : Basis) → StaysButMarks old new → IsPresent old basis →
+    IsPresent new basis
 present_still old new basis stays now = record {
   changes = now.changes ∙ ap (λ (k : Keyring). k.changes) (sym stays.keyring);
   turns = now.turns ∙ ap (λ (t : Turns). t.count) (sym stays.turns);
 }
 
-pub rests_before : (old new : Engine) (basis : Basis) (name : List ℕ) (target : Fpr) (wanted : ℕ) (uid : List ℕ) (n : ℕ) → StaysButMarks old new
+pub rests_before : (old new : Engine) (basis : Basis) (name : List ℕ) (target : Fpr) (wanted : ℕ) (uid : List ℕ)
+    (n : ℕ) → StaysButMarks old new
     → RestsOn new basis name target wanted uid n → RestsOn old basis name target wanted uid n
 rests_before old new basis name target wanted uid n stays rests =
     rests_later new old basis name target wanted uid n (engine_still new old (stays_back old new stays)) rests
 
-pub question_before : (P : Question → Type 0) (old new : Engine) (name : List ℕ) (target : Fpr) (uid : List ℕ) → StaysButMarks old new
+pub question_before : (P : Question → Type 0) (old new : Engine) (name : List ℕ) (target : Fpr) (uid : List ℕ) →
+    StaysButMarks old new
     → OfQuestion new name target uid P → OfQuestion old name target uid P
 question_before P old new name target uid stays here =
-    subst (λ (k : Keyring). IfSome (view_at old.views name) (λ (v : View). P (question_on k v target uid))) stays.keyring
-    (subst (λ (vs : Views). IfSome (view_at vs name) (λ (v : View). P (question_on new.keyring v target uid))) stays.views here)
+    subst (λ (k : Keyring). IfSome (view_at old.views name) (λ (v : View). P (question_on k v target uid)))
+    stays.keyring
+    (subst (λ (vs : Views). IfSome (view_at vs name) (λ (v : View). P (question_on new.keyring v target uid)))
+    stays.views here)
 
 -- the sum of the answer is its amount
 pub sum_of_answer : (engine : Engine) (name : List ℕ) (target : Fpr) (wanted : ℕ) (uid : List ℕ) (a : Answer)
-    → OfQuestion engine name target uid (λ q. IsAnswer q wanted a.paths) → a.sum ≡ amount_of a.paths → OfQuestion engine name target uid (HasAmount wanted a.sum)
-sum_of_answer engine name target wanted uid a here sum = if_some (view_at engine.views name) _ _ (λ v is. (a.paths, is, sum)) here
+    → OfQuestion engine name target uid (λ q. IsAnswer q wanted a.paths) → a.sum ≡ amount_of a.paths →
+    OfQuestion engine name target uid (HasAmount wanted a.sum)
+sum_of_answer engine name target wanted uid a here sum = if_some (view_at engine.views name) _ _
+    (λ v is. (a.paths, is, sum)) here
 
-pub refreshed_as : {A B T E : Type 0} (r : Result A B) (s : Result T E) (name : List ℕ) (old new : Engine) (before after : ℕ) → (is_ok s ≡ true → is_ok r ≡ true)
+pub refreshed_as : {A B T E : Type 0} (r : Result A B) (s : Result T E) (name : List ℕ) (old new : Engine)
+    (before after : ℕ) → (is_ok s ≡ true → is_ok r ≡ true)
     → IsRefreshed r name old new before after → IsRefreshed s name old new before after
 refreshed_as r s name old new before after less is = record {
   stays = is.stays;
-  made = made_as (view_at old.views name) r s old.keyring (marks_at old name) (marks_at new name) before after less is.made;
+  made = made_as (view_at old.views name) r s old.keyring (marks_at old name) (marks_at new name) before after less
+      is.made;
   others = is.others;
   closed = is.closed;
 }
 
 -- a fault tells the same of any answer
-pub open_as : (A B : Type 0) (fault : AskFault) (o : Option View) → TellsOpen {T = A} (Err fault) o → TellsOpen {T = B} (Err fault) o
+pub open_as : (A B : Type 0) (fault : AskFault) (o : Option View) → TellsOpen {T = A} (Err fault) o →
+    TellsOpen {T = B} (Err fault) o
 open_as A B asked.View o told = told
 open_as A B asked.Memory o told = told
 
@@ -404,7 +473,8 @@ pub includes_on : (a b c : List Fpr) → Includes a b → Includes b c → Inclu
 includes_on a b c h k fpr there = k fpr (h fpr there)
 
 -- what an insertion into a set leaves
-pub updated_more : (fpr : Fpr) (old new : List Fpr) → ((q : Fpr) → is_in q new ≡ cond (is_fpr fpr q) true (is_in q old)) → Includes old new
+pub updated_more : (fpr : Fpr) (old new : List Fpr) →
+    ((q : Fpr) → is_in q new ≡ cond (is_fpr fpr q) true (is_in q old)) → Includes old new
 updated_more fpr old new update q there = update q ∙ by (is_fpr fpr q) there
   where
     by : (b : Bool) → is_in q old ≡ true → cond b true (is_in q old) ≡ true
@@ -413,30 +483,36 @@ updated_more fpr old new update q there = update q ∙ by (is_fpr fpr q) there
 
 -- one more is in
 pub put_in : (looked rest later : List Looked) (first : Looked) (old new : List Fpr) → rest ≡ first ∷ later
-    → ((fprs : List Fpr) → Includes old fprs → AllIn fprs rest → AllIn fprs looked) → Includes old new → is_in first.fpr new ≡ true
+    → ((fprs : List Fpr) → Includes old fprs → AllIn fprs rest → AllIn fprs looked) → Includes old new →
+    is_in first.fpr new ≡ true
     → (fprs : List Fpr) → Includes new fprs → AllIn fprs later → AllIn fprs looked
 put_in looked rest later first old new split all grows there fprs more those =
-    all fprs (includes_on old new fprs grows more) (subst (λ (ls : List Looked). AllIn fprs ls) (sym split) (more first.fpr there, those))
+    all fprs (includes_on old new fprs grows more) (subst (λ (ls : List Looked). AllIn fprs ls) (sym split)
+    (more first.fpr there, those))
 
-other_fpr : (fprs : List Fpr) (fpr other : Fpr) → is_in fpr fprs ≡ true → is_in other fprs ≡ false → is_fpr fpr other ≡ false
+other_fpr : (fprs : List Fpr) (fpr other : Fpr) → is_in fpr fprs ≡ true → is_in other fprs ≡ false →
+    is_fpr fpr other ≡ false
 other_fpr fprs fpr other there apart = by (is_fpr fpr other) refl
   where
     clash : is_in fpr fprs ≡ true → is_in fpr fprs ≡ false → ⊥
     clash a b = let never : true ≡ false = sym a ∙ b in cc
 
     by : (b : Bool) → is_fpr fpr other ≡ b → b ≡ false
-    by true same = absurd (clash there (subst (λ (f : Fpr). is_in f fprs ≡ false) (sym (same_fpr-true fpr other same)) apart))
+    by true same = absurd (clash there (subst (λ (f : Fpr). is_in f fprs ≡ false) (sym (same_fpr-true fpr other same))
+        apart))
     by false e = refl
 
 -- one more isn't in
-pub free_more : (fprs : List Fpr) (changed rest later : Logged) (first : ℕ × Fpr) → rest ≡ first ∷ later → (IsFreeOf fprs rest → IsFreeOf fprs changed)
+pub free_more : (fprs : List Fpr) (changed rest later : Logged) (first : ℕ × Fpr) → rest ≡ first ∷ later →
+    (IsFreeOf fprs rest → IsFreeOf fprs changed)
     → is_in first.1 fprs ≡ false → IsFreeOf fprs later → IsFreeOf fprs changed
 free_more fprs changed rest later first split all apart free =
     all (subst (λ (es : Logged). IsFreeOf fprs es) (sym split)
     (λ fpr there. ap (λ b. b || is_listed fpr later) (other_fpr fprs fpr first.1 there apart) ∙ free fpr there))
 
 -- what isn't listed has no stamp above the count
-pub calm_by : (k : Keyring) (count : ℕ) (fprs : List Fpr) (changed : Logged) → HasChangedSince k count changed → IsFreeOf fprs changed → AreCalm k count fprs
+pub calm_by : (k : Keyring) (count : ℕ) (fprs : List Fpr) (changed : Logged) → HasChangedSince k count changed →
+    IsFreeOf fprs changed → AreCalm k count fprs
 calm_by k count fprs changed since free fpr there = by (nat_le (stamp_at k fpr) count) refl
   where
     clash : is_listed fpr changed ≡ true → is_listed fpr changed ≡ false → ⊥

@@ -1,5 +1,5 @@
 -- Marks: for which certificates a view's network has lines, and until when they stand. No answer depends on them.
-use Rattle.std.specs.Prelude.{◌≡◌, ◌≤◌, ◌+◌, ◌-◌, ◌^◌, ℕ, Bool, false, cond, min, List, [], map}
+use Rattle.std.specs.Prelude.{◌≡◌, ◌≤◌, ◌+◌, ◌-◌, ◌^◌, ℕ, false, cond, min, List, [], map}
 use Rattle.std.specs.Prelude.{Result, Option, None, IfSome, OnOk}
 use Rattle.std.specs.Map.{lookup}
 use Rattle.std.specs.Option.{option_map_or}

@@ -1,4 +1,6 @@
-//! The answers that a view keeps, each with its question and with what it rests on.
+//! The answers that a view keeps, each with its question and with the fingerprints that it depends on. An answer is
+//! returned again only if their stamps and root amounts are unchanged. The table of reach of the view is here too.
+//! `ask` and `recall` use it; `basis` asks it whether watches may have changed.
 ghost use Rattle.std.specs.Prelude.{◌≡◌, ◌≤◌, ◌<◌, ◌+◌, ℕ, [], true, map, length, IfOk, IfSome, OnOk, OnErr, None};
 ghost use Rattle.std.specs.BTreeMap.{insert_entry, is_at};
 ghost use Rattle.std.specs.List.Sorted.{IsStrictlySortedBy};

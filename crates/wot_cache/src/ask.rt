@@ -1,4 +1,6 @@
-//! The answer over roads: one that is kept, or a new one.
+//! The answer to a question: a kept one, or a new search. Searches first look only at what leads to the target; when
+//! that costs more than a table of reach, the table is made and used. `Engine::ask` is the caller, and wot_search and
+//! wot_auth do the searching.
 ghost use Rattle.std.specs.Prelude.{◌≡◌, ◌≤◌, ℕ, List, length, IfOk, IfSome, OnErr};
 ghost use Rattle.wot_edge.specs.Answer.{IsAnswer, amount_of};
 ghost use Rattle.wot_edge.specs.Record.{IsRecord};

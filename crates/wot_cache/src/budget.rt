@@ -1,4 +1,5 @@
-//! How much is looked at from a view before a table of reach pays.
+//! How much a view's searches may look at before a table of reach pays off. `making` spends it, and `ask` asks it. Only
+//! speed depends on these numbers.
 use wot_keyring::Keyring;
 use wot_search::Making;
 

@@ -1,3 +1,6 @@
+//! The engine's public calls: changes of the keyring and of views, questions, and the parts that listings read. Each
+//! contract says what changes and what doesn't, in the terms of specs/State.antt. wot_machine is proved from these
+//! alone.
 ghost use Rattle.std.specs.Prelude.{◌≡◌, ◌≢◌, ◌<◌, ◌≤◌, ◌+◌, ◌-◌, ◌^◌, ◌++◌, ℕ, List, [], length, false, true};
 ghost use Rattle.std.specs.Prelude.{Some, None, Err, is_ok, is_some, IfOk, IfSome, IsSomeAnd, OnOk, OnErr};
 ghost use Rattle.std.specs.Option.{option_copied, option_map};

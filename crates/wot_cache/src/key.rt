@@ -1,4 +1,5 @@
-//! The keys of questions.
+//! The key under which an answer is kept: a 64-bit hash of the question. Two questions with the same key replace each
+//! other's answer, which costs time and nothing else.
 use wot_types::Fpr;
 
 /// The key under which an answer is kept: two questions that have one key take each other's place. It is Fowler, Noll

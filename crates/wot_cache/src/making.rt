@@ -1,4 +1,5 @@
-//! A view's table of reach, made in parts beside the searches that pay for it.
+//! Makes a view's table of reach in parts, next to the searches that pay for it. It stands on `budget` and on
+//! wot_search's `Making`, and keeps the progress in `answers`.
 ghost use Rattle.std.specs.Prelude.{◌≡◌, IfOk, IfSome};
 ghost use Rattle.wot_network.specs.Net.{told_of};
 ghost use Rattle.wot_network.specs.Roads.{present_of};

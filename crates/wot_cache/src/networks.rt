@@ -1,4 +1,5 @@
-//! The networks that an engine keeps for its views, so that nothing is made again where nothing changed.
+//! The networks that an engine keeps for its views, by name, so that nothing is made again when nothing changed.
+//! `present` refreshes them; closing a view forgets its network.
 ghost use Rattle.std.specs.Prelude.{◌≡◌, Some, None, OnOk, OnErr, IsSomeAnd};
 ghost use Rattle.std.specs.Option.{option_copied};
 ghost use Rattle.std.specs.BTreeMap.{insert_entry};

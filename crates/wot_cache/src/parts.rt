@@ -1,3 +1,5 @@
+//! What a listing reads: the keyring, the roads at a view's time, the view's roots, and the time. wot_explain and the
+//! replies of wot_machine take it apart.
 use wot_edge::Roots;
 use wot_keyring::Keyring;
 use wot_network::NetRoads;

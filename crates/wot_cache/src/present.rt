@@ -1,5 +1,6 @@
-//! The certification network of the keyring as it is, seen from an open view.
-ghost use Rattle.std.specs.Prelude.{◌≡◌, ◌≤◌, ◌+◌, ℕ, List, None, IfSome, IsSomeAnd, OnOk};
+//! The certification network as a view sees it now: it refreshes the view's network and returns the parts that borrow
+//! from it. Every question and listing goes through here first.
+ghost use Rattle.std.specs.Prelude.{◌≡◌, ◌≤◌, ◌+◌, ℕ, List, IfSome, IsSomeAnd, OnOk};
 ghost use Rattle.wot_edge.specs.Lawful.{AreEntries};
 ghost use Rattle.wot_edge.specs.Record.{IsRecord};
 ghost use Rattle.wot_network.specs.Net.{signatures_in, told_of};

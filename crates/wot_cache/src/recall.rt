@@ -1,4 +1,5 @@
-//! The answers that an engine keeps for its views.
+//! The kept answers of all views, by name, and the steps that keep or forget one. Running out of memory only means that
+//! an answer isn't kept.
 ghost use Rattle.std.specs.Prelude.{◌≡◌, IfOk};
 ghost use Rattle.std.specs.Map.{remove_entry};
 ghost use Rattle.wot_edge.specs.Answer.{IsAnswer, amount_of};

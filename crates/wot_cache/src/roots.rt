@@ -1,4 +1,5 @@
-//! The roots that a view had when its kept answers were looked at last.
+//! Copies of a view's roots, and whether they are unchanged. `answers` compares them, since an answer depends on
+//! amounts.
 ghost use Rattle.std.specs.Prelude.{◌≡◌, true, IfOk};
 
 use std::alloc::Global;

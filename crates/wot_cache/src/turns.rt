@@ -1,4 +1,5 @@
-//! How often views were opened or changed.
+//! The turns of views: how often each was opened or changed. Cursors compare turns to know whether they are stale, so
+//! each change of a view has to raise its turn.
 ghost use Rattle.std.specs.Prelude.{◌≡◌, ◌<◌, ◌-◌, ◌^◌, None, true, is_some, OnOk, OnErr};
 ghost use Rattle.wot_cache.specs.Marks.{IsForgotten};
 ghost use Rattle.wot_cache.specs.Turns.{no_turns, turn_at, turned, without_turn, Turns as TheTurns};

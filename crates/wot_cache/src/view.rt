@@ -1,3 +1,4 @@
+//! A view: a time and trust roots. With it the errors of calls that name a view; wot_machine turns them into refusals.
 ghost use Rattle.std.specs.Prelude.{◌≡◌};
 ghost use Rattle.wot_cache.specs.declared.view.ViewFault.TheVariants as faults;
 

@@ -1,4 +1,4 @@
-//! The map of views, call by call.
+//! The map of views, one small call for each use of it. `engine` works on it through these calls only.
 ghost use Rattle.std.specs.Prelude.{◌≡◌, OnOk, OnErr, is_some, true};
 ghost use Rattle.std.specs.Option.{option_copied};
 ghost use Rattle.std.specs.BTreeMap.{insert_entry};
@@ -9,7 +9,6 @@ ghost use Rattle.wot_cache.specs.Views.{view_at, without_view, MovesTime, SetsAm
 use crate::view::View;
 use std::alloc::Global;
 use std::collections::BTreeMap;
-use wot_edge::Roots;
 use wot_types::{Fpr, Memory, ViewName};
 
 pub type Views = BTreeMap<ViewName, View, Global>;

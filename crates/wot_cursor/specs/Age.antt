@@ -1,10 +1,10 @@
--- Which of the two numbers that a listing rests on differs first.
-use Rattle.std.specs.Prelude.{ℕ, ◌==◌, if◌then◌else◌}
+-- Which of the two stamps of a listing differs first.
+use Rattle.std.specs.Prelude.{◌==◌, if◌then◌else◌}
 use Rattle.wot_cursor.specs.declared.stamps.Age.{Age}
 use Rattle.wot_cursor.specs.declared.stamps.Age.TheVariants as ages
 use Rattle.wot_cursor.specs.declared.stamps.Stamps.{Stamps}
 
--- The count of changes is compared first, then the view's turn; both numbers are told.
+-- The count of changes is compared first, then the view's turn; the result has both numbers.
 abbrev pub age_of : Stamps → Stamps → Age
 age_of was now =
     if was.keyring == now.keyring

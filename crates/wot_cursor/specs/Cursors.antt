@@ -1,5 +1,5 @@
 -- Cursors by name.
-use Rattle.std.specs.Prelude.{ℕ, ◌&&◌, Bool, if◌then◌else◌, nat_le, List, length, Option, Some, None, is_none}
+use Rattle.std.specs.Prelude.{ℕ, ◌&&◌, Bool, nat_le, List, length, Option, Some, None, is_none}
 use Rattle.std.specs.BTreeMap.{insert_entry, is_at}
 use Rattle.std.specs.Map.{lookup, set_value, remove_entry}
 use Rattle.std.specs.Option.{option_map_or}
@@ -7,23 +7,23 @@ use Rattle.wot_types.specs.ViewName.{view_name_cmp}
 use Rattle.wot_types.specs.declared.place.Place.{Place}
 use Rattle.wot_cursor.specs.declared.stamps.Stamps.{Stamps}
 
--- A cursor: which view's bindings of which wanted amount it lists, what that rested on at the beginning, and the last
--- binding given, or none.
+-- A cursor: the view and the wanted amount of the bindings that it lists, the stamps at its start, and the last binding
+-- listed, or none.
 pub record Cursor : Type 0 where
   pub view : List ℕ
   pub wanted : ℕ
   pub stamps : Stamps
   pub place : Option Place
 
--- a cursor at its beginning
+-- a cursor at its start
 abbrev pub begun : List ℕ → ℕ → Stamps → Cursor
 begun view wanted stamps = record { view = view; wanted = wanted; stamps = stamps; place = None }
 
--- The cursors in the order of their names, which are seen as their octets.
+-- The cursors in the order of their names, which are seen as octets.
 abbrev pub Cursors : Type 0
 Cursors = List (List ℕ × Cursor)
 
--- how many cursors there may be
+-- the limit on the number of cursors
 abbrev pub most : ℕ
 most = 16
 
@@ -31,11 +31,11 @@ most = 16
 abbrev pub is_name : List ℕ → List ℕ → Bool
 is_name name = is_at (view_name_cmp name)
 
--- the cursor of a name; none where it isn't there
+-- the cursor of a name; none if it isn't there
 abbrev pub cursor_at : Cursors → List ℕ → Option Cursor
 cursor_at cursors name = lookup (is_name name) cursors
 
--- whether a cursor of this name would be one too many: the name is new, and as many as may be are there
+-- whether a cursor of this name would exceed the limit: the name is new, and the limit is reached
 abbrev pub is_full : Cursors → List ℕ → Bool
 is_full cursors name = is_none (cursor_at cursors name) && nat_le most (length cursors)
 
@@ -43,7 +43,7 @@ is_full cursors name = is_none (cursor_at cursors name) && nat_le most (length c
 abbrev pub with_cursor : Cursors → List ℕ → Cursor → Cursors
 with_cursor cursors name cursor = insert_entry view_name_cmp cursors name cursor
 
--- the cursors, with that one, which is there, after this binding
+-- the cursors after this one, which is there, listed this binding
 abbrev pub with_place : Cursors → List ℕ → Place → Cursors
 with_place cursors name place =
     option_map_or (λ cursor. set_value (is_name name) cursors (record cursor { place = Some place }))

@@ -1,9 +1,11 @@
+//! Whether a cursor is stale: the stamps that it started with, compared with the current ones. wot_machine replies with
+//! the pair of numbers that differ.
 ghost use Rattle.std.specs.Prelude.{◌≡◌};
 ghost use Rattle.wot_cursor.specs.Age.{age_of};
 
 use crate::stamps::{Age, Stamps};
 
-/// Compares what a listing rested on with what it would rest on now.
+/// Compares the stamps at the start of a listing with the current ones.
 pub fn age(was: Stamps, now: Stamps) -> Age
     ensures first { result ≡ age_of was now }
 {

@@ -1,3 +1,4 @@
+//! One cursor. It only changes by `advance`, which wot_machine calls after a piece was written.
 ghost use Rattle.std.specs.Prelude.{◌≡◌, Some};
 ghost use Rattle.std.specs.Option.{option_copied};
 ghost use Rattle.wot_cursor.specs.Cursors.{begun};
@@ -6,7 +7,7 @@ use crate::stamps::Stamps;
 use std::marker::Model;
 use wot_types::{Place, ViewName};
 
-/// How far one listing has come.
+/// How far one listing has come, and what it lists.
 #[derive(Drop)]
 pub struct Cursor {
     view: ViewName,
@@ -24,7 +25,7 @@ impl Model for Cursor {
 }
 
 impl Cursor {
-    /// A cursor over the bindings that reach the wanted amount in a view, before the first of them.
+    /// A cursor before the first of the bindings that reach the wanted amount in a view.
     pub(crate) fn new(view: ViewName, wanted: u32, stamps: Stamps) -> Cursor
         ensures begun { result ≡ begun view wanted stamps }
     {
@@ -50,21 +51,21 @@ impl Cursor {
         self.wanted
     }
 
-    /// What the listing rested on at its beginning.
+    /// The stamps at the start of the listing.
     pub fn stamps(&self) -> Stamps
         ensures stamps { result ≡ self.now.stamps }
     {
         self.stamps
     }
 
-    /// The last binding given; `None` before the first.
+    /// The last binding that was listed. `None` before the first.
     pub fn place(&self) -> Option<&Place>
         ensures place { option_copied result ≡ self.now.place }
     {
         self.place.as_ref()
     }
 
-    /// The binding is the last one given from now on.
+    /// Makes the binding the last one that was listed.
     pub(crate) fn advance(&mut self, place: Place)
         ensures advanced { self.new ≡ record self.old { place = Some place } }
     {

@@ -1,3 +1,5 @@
+//! All cursors by name, and the limit on their number. wot_watch has a table of the same shape: what changes here
+//! probably changes there.
 ghost use Rattle.std.specs.Prelude.{◌≡◌, [], Err, true, is_some, OnOk, OnErr};
 ghost use Rattle.std.specs.Option.{option_copied};
 ghost use Rattle.wot_cursor.specs.Cursors.{begun, cursor_at, is_full, with_cursor, with_place, without_cursor};
@@ -11,15 +13,15 @@ use std::collections::BTreeMap;
 use std::marker::Model;
 use wot_types::{Memory, Place, ViewName};
 
-/// How many cursors there may be.
+/// The limit on the number of cursors.
 const MOST: usize = 16;
 
-/// Why a cursor doesn't begin.
+/// Why a cursor wasn't started.
 #[derive(Clone, Copy)]
 pub enum BeginFault {
-    /// As many cursors as may be are there, and none has this name.
+    /// The limit is reached, and no cursor has this name.
     Full,
-    /// No memory was found.
+    /// Out of memory.
     Memory,
 }
 
@@ -55,7 +57,7 @@ impl Cursors {
         }
     }
 
-    /// Begins a cursor, or begins it anew. After a refusal all cursors are as before.
+    /// Starts or restarts a cursor. On an error all cursors are unchanged.
     pub fn begin(
         &mut self,
         name: ViewName,
@@ -74,14 +76,14 @@ impl Cursors {
         Ok(())
     }
 
-    /// The cursor of a name; `None` exactly where it isn't there.
+    /// The cursor of a name. `None` if and only if there is none.
     pub fn get(&self, name: &ViewName) -> Option<&Cursor>
         ensures found { option_copied result ≡ cursor_at self.now name.now }
     {
         self.cursors.get(name)
     }
 
-    /// The binding is the last one that the cursor gave; whether the cursor is there.
+    /// Records the last binding that the cursor listed. Returns whether the cursor is there.
     pub fn advance(&mut self, name: &ViewName, place: Place) -> bool
         ensures there { result ≡ is_some (cursor_at self.old name.now) }
         ensures advanced { self.new ≡ with_place self.old name.now place }
@@ -95,7 +97,7 @@ impl Cursors {
         }
     }
 
-    /// Takes a cursor away; whether it was there.
+    /// Removes a cursor. Returns whether it was there.
     pub fn end(&mut self, name: &ViewName) -> bool
         ensures there { result ≡ is_some (cursor_at self.old name.now) }
         ensures ended { self.new ≡ without_cursor self.old name.now }
@@ -104,7 +106,7 @@ impl Cursors {
     }
 }
 
-/// Keeps a cursor under a name, in place of an earlier one.
+/// Sets or replaces the cursor of a name.
 fn put(
     cursors: &mut BTreeMap<ViewName, Cursor, Global>,
     name: ViewName,

@@ -1,4 +1,6 @@
-//! Cursors: how far clients have come in their listings, and whether what they list is still the same.
+//! Cursors: how far clients have come in their listings, and whether what they list is still the same. A cursor
+//! remembers a place and two stamps, never bindings. wot_machine answers the `cursor` commands with it, and decides
+//! what a stale cursor means.
 #![tactic(auto)]
 
 mod compare;

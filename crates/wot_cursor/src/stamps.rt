@@ -1,14 +1,16 @@
-/// What a listing rests on: the keyring's count of changes, and the turn of its view.
+//! The two numbers that say what a listing depends on. wot_cache counts a view's turns; the keyring counts its changes.
+
+/// What a listing depends on: the keyring's count of changes, and the turn of its view.
 #[derive(Clone, Copy, PartialEq, Eq)]
 pub struct Stamps {
     pub keyring: u64,
     pub view: u64,
 }
 
-/// Whether what a listing rests on is still the same; else the first number that differs, as it was and as it is.
+/// Whether a listing is current; if not, the first stamp that differs, before and now.
 #[derive(Clone, Copy, PartialEq, Eq)]
 pub enum Age {
-    /// Both numbers are the same.
+    /// Both stamps are the same.
     Same,
     /// The keyring was changed.
     Keyring(u64, u64),

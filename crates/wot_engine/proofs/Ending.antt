@@ -1,5 +1,6 @@
 -- What an exit status tells of the end of a run.
-use Rattle.std.proofs.Common.{◌≡◌, ◌⊎◌, inl, inr, ℕ, ◌<◌, ◌^◌, List, length, Option, Some, None, Result, Ok, Err, OnOk, refl, sym, ap, subst, ◌∙◌, rules, arith}
+use Rattle.std.proofs.Common.{◌≡◌, ◌⊎◌, inl, inr, ℕ, List, Option, Some, None, Result, Ok, Err, OnOk, refl, sym, ap}
+use Rattle.std.proofs.Common.{subst, ◌∙◌, rules, arith}
 use Rattle.std.specs.Prelude.{IfErr, IfSome, IsErrOf}
 use Rattle.wot_policy.specs.declared.rows.PolicyRows.{PolicyRows}
 use Rattle.wot_machine.specs.Transcript.{HasMost}
@@ -59,7 +60,8 @@ module _ {T : Type 0} where
   is_much (Err Memory) e = absurd (omega (arith, e))
   is_much (Err TooMuch) e = refl
 
-  pub much_or_memory : (r : Result T Stop) (status : ℕ) → status ≡ status_at r → IsErrOf r TooMuch ⊎ IsErrOf r Memory → (status ≡ 6) ⊎ (status ≡ 5)
+  pub much_or_memory : (r : Result T Stop) (status : ℕ) → status ≡ status_at r → IsErrOf r TooMuch ⊎ IsErrOf r Memory →
+      (status ≡ 6) ⊎ (status ≡ 5)
   much_or_memory r status is p = elim p [ inl e ↦ inl (is ∙ ap status_at e) | inr e ↦ inr (is ∙ ap status_at e) ]
 
   any : (r : Result T Stop) → IsStatus (status_at r)
@@ -90,7 +92,8 @@ module _ {T : Type 0} where
   complete (Err Memory) left form source sink read write much calm = reads_any left 5 (inr refl)
   complete (Err TooMuch) left form source sink read write much calm = reads_most left 6 (much refl)
 
-  pub run_complete : (r : Result T Stop) (status : ℕ) (left : Option (List ℕ)) (form source sink : Type 0) → status ≡ status_at r
+  pub run_complete : (r : Result T Stop) (status : ℕ) (left : Option (List ℕ)) (form source sink : Type 0) →
+      status ≡ status_at r
       → (IsErrOf r Read → source) → (IsErrOf r Write → sink) → (IsErrOf r TooMuch → HasMost left)
       → form × (source → ⊥) × (sink → ⊥) → ReadsFew left status
   run_complete r status left form source sink is read write much calm =
@@ -108,7 +111,8 @@ module _ {T : Type 0} where
   ends (Err Memory) p = search rules
   ends (Err TooMuch) p = elim p [ inl e ↦ absurd cc | inr e ↦ absurd cc ]
 
-  pub generated_ends : (r : Result T Stop) (status : ℕ) → status ≡ status_at r → WritesAlone r → (status ≡ 0) ⊎ (status ≡ 4) ⊎ (status ≡ 5)
+  pub generated_ends : (r : Result T Stop) (status : ℕ) → status ≡ status_at r → WritesAlone r →
+      (status ≡ 0) ⊎ (status ≡ 4) ⊎ (status ≡ 5)
   generated_ends r status is p = subst (λ (n : ℕ). (n ≡ 0) ⊎ (n ≡ 4) ⊎ (n ≡ 5)) (sym is) (ends r p)
 
   pub never_read : (r : Result T Stop) (status : ℕ) → status ≡ status_at r → WritesAlone r → status ≡ 3 → ⊥
@@ -125,11 +129,13 @@ module _ {T : Type 0} where
   never_much (Err Memory) status is p e = absurd (omega (arith, is, e))
   never_much (Err TooMuch) status is p e = elim p [ inl f ↦ absurd cc | inr f ↦ absurd cc ]
 
-  pub generated_complete : (r : Result T Stop) (status : ℕ) (left : Option (List ℕ)) (form source sink : Type 0) → status ≡ status_at r → WritesAlone r
+  pub generated_complete : (r : Result T Stop) (status : ℕ) (left : Option (List ℕ)) (form source sink : Type 0) →
+      status ≡ status_at r → WritesAlone r
       → (IsErrOf r Write → sink) → form × (source → ⊥) × (sink → ⊥) → ReadsFew left status
   generated_complete r status left form source sink is p write calm = reads_any left status (by r is p write calm.2)
     where
-      by : (r : Result T Stop) → status ≡ status_at r → WritesAlone r → (IsErrOf r Write → sink) → (sink → ⊥) → (status ≡ 0) ⊎ (status ≡ 5)
+      by : (r : Result T Stop) → status ≡ status_at r → WritesAlone r → (IsErrOf r Write → sink) → (sink → ⊥) →
+          (status ≡ 0) ⊎ (status ≡ 5)
       by (Ok value) is p write b = inl is
       by (Err Read) is p write b = elim p [ inl f ↦ absurd cc | inr f ↦ absurd cc ]
       by (Err Write) is p write b = absurd (b (write refl))
@@ -137,15 +143,20 @@ module _ {T : Type 0} where
       by (Err TooMuch) is p write b = elim p [ inl f ↦ absurd cc | inr f ↦ absurd cc ]
 
   -- what is said of one script is said of the script of these words
-  pub generated_whole : (r : Result T Stop) (status : ℕ) (rows : PolicyRows) (words : List (List ℕ)) (start count : ℕ) (written after : Option (List ℕ))
-      → status ≡ status_at r → IsGenerated words start count → OnOk r (IfSome written (λ before. Summarized rows start count before after))
-      → status ≡ 0 → OnGenerated words (λ start count. IfSome written (λ before. Summarized rows start count before after))
+  pub generated_whole : (r : Result T Stop) (status : ℕ) (rows : PolicyRows) (words : List (List ℕ)) (start count : ℕ)
+      (written after : Option (List ℕ))
+      → status ≡ status_at r → IsGenerated words start count →
+      OnOk r (IfSome written (λ before. Summarized rows start count before after))
+      → status ≡ 0 → OnGenerated words
+      (λ start count. IfSome written (λ before. Summarized rows start count before after))
   generated_whole r status rows words start count written after is form told zero other more p =
       let same = one_script words start count other more form p in
-      let done : IfSome written (λ before. Summarized rows start count before after) = is_done r _ (sym is ∙ zero) told in
+      let done : IfSome written (λ before. Summarized rows start count before after) =
+      is_done r _ (sym is ∙ zero) told in
       rw same.0 (rw same.1 done)
 
-pub generated_begun : (rows : PolicyRows) (words : List (List ℕ)) (start count : ℕ) (written after : Option (List ℕ)) → IsGenerated words start count
+pub generated_begun : (rows : PolicyRows) (words : List (List ℕ)) (start count : ℕ) (written after : Option (List ℕ)) →
+    IsGenerated words start count
     → IfSome written (λ before. SummaryBegun rows start count before after)
     → OnGenerated words (λ start count. IfSome written (λ before. SummaryBegun rows start count before after))
 generated_begun rows words start count written after form told other more p =

@@ -1,5 +1,6 @@
 -- The words after the program's name, and the numbers in them.
-use Rattle.std.proofs.Common.{◌≡◌, ◌≢◌, ℕ, ◌≤◌, ◌<◌, Bool, true, false, ◌&&◌, List, [], ◌∷◌, length, get_or, Some, None, Result, Ok, Err, refl, sym, ap, ◌∙◌, arith}
+use Rattle.std.proofs.Common.{◌≡◌, ◌≢◌, ℕ, ◌≤◌, ◌<◌, Bool, true, false, ◌&&◌, List, [], ◌∷◌, length, get_or, Some, None}
+use Rattle.std.proofs.Common.{Result, Ok, Err, refl, sym, ap, ◌∙◌, arith}
 use Rattle.std.specs.Prelude.{nat_le, nat_lt, if◌then◌else◌}
 use Rattle.std.specs.Char.{is_ascii_digit}
 use Rattle.std.specs.Result.{result_ok}
@@ -19,7 +20,8 @@ own : IsNumeralModel (λ digits. all_ascii_digits digits ≡ true) (digits_value
 own = numerals_by_value (λ digits. all_ascii_digits digits ≡ true) tells_all_ascii_digits
 
 -- digits of which the first isn't `0`, or which are one
-decimal_from : (digits : List ℕ) → all_ascii_digits digits ≡ true → 0 < length digits → (2 ≤ length digits → get_or digits 0 0 ≢ 48)
+decimal_from : (digits : List ℕ) → all_ascii_digits digits ≡ true → 0 < length digits →
+    (2 ≤ length digits → get_or digits 0 0 ≢ 48)
     → is_decimal digits ≡ true
 decimal_from [] all some first = absurd (omega arith)
 decimal_from (digit ∷ []) all some first = (and_parts (is_ascii_digit digit) true all).0
@@ -32,7 +34,8 @@ decimal_from (digit ∷ next ∷ digits) all some first =
 decimal_digits : (digits : List ℕ) → is_decimal digits ≡ true → (all_ascii_digits digits ≡ true) × (0 < length digits)
 decimal_digits [] e = absurd cc
 decimal_digits (digit ∷ []) e = (and_from (is_ascii_digit digit) true e refl, omega arith)
-decimal_digits (digit ∷ next ∷ digits) e = ((and_parts (nat_lt 48 digit) (all_ascii_digits (digit ∷ next ∷ digits)) e).1, omega arith)
+decimal_digits (digit ∷ next ∷ digits) e =
+    ((and_parts (nat_lt 48 digit) (all_ascii_digits (digit ∷ next ∷ digits)) e).1, omega arith)
 
 none_if : (b : Bool) (n : ℕ) → (b ≡ true → ⊥) → (if b then Some n else None) ≡ None
 none_if true n h = absurd (h refl)
@@ -53,8 +56,10 @@ module _ {E : Type 0} where
   parsed digits (Ok number) p plus first =
       let is = parse_plain own {E = E} 64 digits (Ok number) p plus in
       let small : digits_value 10 digits ≤ most = omega (arith, is.0.2) in
-      let both = and_from (is_decimal digits) (nat_le (digits_value 10 digits) most) (decimal_from digits is.0.0 is.0.1 first) (le-leb (digits_value 10 digits) most small) in
-      ap (λ n. Some n) is.1 ∙ sym (some_if (is_decimal digits && nat_le (digits_value 10 digits) most) (digits_value 10 digits) both)
+      let both = and_from (is_decimal digits) (nat_le (digits_value 10 digits) most)
+      (decimal_from digits is.0.0 is.0.1 first) (le-leb (digits_value 10 digits) most small) in
+      ap (λ n. Some n) is.1 ∙ sym (some_if (is_decimal digits && nat_le (digits_value 10 digits) most)
+      (digits_value 10 digits) both)
   parsed digits (Err fault) p plus first =
       let is = parse_plain own {E = E} 64 digits (Err fault) p plus in
       sym (none_if (is_decimal digits && nat_le (digits_value 10 digits) most) (digits_value 10 digits) (λ e.
@@ -67,8 +72,10 @@ unfolding decimal_up_to
 leading_zero [] two zero = absurd (omega arith)
 leading_zero (digit ∷ []) two zero = absurd (omega arith)
 leading_zero (digit ∷ next ∷ digits) two zero =
-    none_if (is_decimal (digit ∷ next ∷ digits) && nat_le (digits_value 10 (digit ∷ next ∷ digits)) most) (digits_value 10 (digit ∷ next ∷ digits)) (λ e.
-    let both = and_parts (is_decimal (digit ∷ next ∷ digits)) (nat_le (digits_value 10 (digit ∷ next ∷ digits)) most) e in
+    none_if (is_decimal (digit ∷ next ∷ digits) && nat_le (digits_value 10 (digit ∷ next ∷ digits)) most)
+    (digits_value 10 (digit ∷ next ∷ digits)) (λ e.
+    let both = and_parts (is_decimal (digit ∷ next ∷ digits)) (nat_le (digits_value 10 (digit ∷ next ∷ digits)) most)
+    e in
     let first = and_parts (nat_lt 48 digit) (all_ascii_digits (digit ∷ next ∷ digits)) both.0 in
     absurd (omega (arith, ltb-true 48 digit first.0, zero)))
 
@@ -76,7 +83,8 @@ pub leading_plus : (digits : List ℕ) → 1 ≤ length digits → get_or digits
 unfolding decimal_up_to
 leading_plus [] one plus = absurd (omega arith)
 leading_plus (digit ∷ digits) one plus =
-    none_if (is_decimal (digit ∷ digits) && nat_le (digits_value 10 (digit ∷ digits)) most) (digits_value 10 (digit ∷ digits)) (λ e.
+    none_if (is_decimal (digit ∷ digits) && nat_le (digits_value 10 (digit ∷ digits)) most)
+    (digits_value 10 (digit ∷ digits)) (λ e.
     let both = and_parts (is_decimal (digit ∷ digits)) (nat_le (digits_value 10 (digit ∷ digits)) most) e in
     let all = (decimal_digits (digit ∷ digits) both.0).0 in
     let first = and_parts (is_ascii_digit digit) (all_ascii_digits digits) all in
@@ -88,9 +96,11 @@ leading_plus (digit ∷ digits) one plus =
 abbrev count_test : List ℕ → Bool
 count_test digits = is_decimal digits && nat_lt 0 (digits_value 10 digits) && nat_le (digits_value 10 digits) 2000
 
-count_parts : (digits : List ℕ) → count_test digits ≡ true → (is_decimal digits ≡ true) × (1 ≤ digits_value 10 digits) × (digits_value 10 digits ≤ 2000)
+count_parts : (digits : List ℕ) → count_test digits ≡ true →
+    (is_decimal digits ≡ true) × (1 ≤ digits_value 10 digits) × (digits_value 10 digits ≤ 2000)
 count_parts digits e =
-    let both = and_parts (is_decimal digits && nat_lt 0 (digits_value 10 digits)) (nat_le (digits_value 10 digits) 2000) e in
+    let both = and_parts (is_decimal digits && nat_lt 0 (digits_value 10 digits)) (nat_le (digits_value 10 digits) 2000)
+    e in
     let some = and_parts (is_decimal digits) (nat_lt 0 (digits_value 10 digits)) both.0 in
     (some.0, omega (arith, ltb-true 0 (digits_value 10 digits) some.1), leb-true (digits_value 10 digits) 2000 both.1)
 
@@ -99,12 +109,14 @@ unfolding decimal_up_to positive_up_to
 count_none digits none =
     none_if (count_test digits) (digits_value 10 digits) (λ e.
     let parts = count_parts digits e in
-    let both = and_from (is_decimal digits) (nat_le (digits_value 10 digits) most) parts.0 (le-leb (digits_value 10 digits) most (omega (arith, parts.2))) in
+    let both = and_from (is_decimal digits) (nat_le (digits_value 10 digits) most) parts.0
+    (le-leb (digits_value 10 digits) most (omega (arith, parts.2))) in
     let some = some_if (is_decimal digits && nat_le (digits_value 10 digits) most) (digits_value 10 digits) both in
     let never : None ≡ Some (digits_value 10 digits) = sym none ∙ some in
     absurd cc)
 
-pub count_other : (digits : List ℕ) (number : ℕ) → decimal_up_to most digits ≡ Some number → (1 ≤ number → number ≤ 2000 → ⊥)
+pub count_other : (digits : List ℕ) (number : ℕ) → decimal_up_to most digits ≡ Some number →
+    (1 ≤ number → number ≤ 2000 → ⊥)
     → positive_up_to 2000 digits ≡ None
 unfolding decimal_up_to positive_up_to
 count_other digits number is other =
@@ -119,14 +131,16 @@ unfolding decimal_up_to positive_up_to
 count_some digits number is some few =
     let got = if_some (is_decimal digits && nat_le (digits_value 10 digits) most) (digits_value 10 digits) number is in
     let spelled = (and_parts (is_decimal digits) (nat_le (digits_value 10 digits) most) got.0).0 in
-    let positive = and_from (is_decimal digits) (nat_lt 0 (digits_value 10 digits)) spelled (lt-ltb 0 (digits_value 10 digits) (omega (arith, got.1, some))) in
+    let positive = and_from (is_decimal digits) (nat_lt 0 (digits_value 10 digits)) spelled
+    (lt-ltb 0 (digits_value 10 digits) (omega (arith, got.1, some))) in
     some_if (count_test digits) (digits_value 10 digits)
     (and_from (is_decimal digits && nat_lt 0 (digits_value 10 digits)) (nat_le (digits_value 10 digits) 2000) positive
     (le-leb (digits_value 10 digits) 2000 (omega (arith, got.1, few))))
     ∙ ap (λ n. Some n) got.1
 
 -- a count is one of a script
-pub count_bounds : (digits : List ℕ) (count : ℕ) → positive_up_to 2000 digits ≡ Some count → (1 ≤ count) × (count ≤ 2000)
+pub count_bounds : (digits : List ℕ) (count : ℕ) → positive_up_to 2000 digits ≡ Some count →
+    (1 ≤ count) × (count ≤ 2000)
 unfolding positive_up_to
 count_bounds digits count is =
     let got = if_some (count_test digits) (digits_value 10 digits) count is in
@@ -144,7 +158,8 @@ one_form (word ∷ first ∷ second ∷ []) start count run generated = run
 one_form (word ∷ first ∷ second ∷ third ∷ words) start count run generated = run
 
 -- Words of a generated run are those of one script.
-pub one_script : (words : List (List ℕ)) (start count other more : ℕ) → IsGenerated words start count → IsGenerated words other more
+pub one_script : (words : List (List ℕ)) (start count other more : ℕ) → IsGenerated words start count →
+    IsGenerated words other more
     → (other ≡ start) × (more ≡ count)
 one_script [] start count other more p q = absurd p
 one_script (word ∷ []) start count other more p q = absurd p
@@ -156,7 +171,8 @@ one_script (word ∷ first ∷ second ∷ []) start count other more p q =
     some_is x y e = cc
 one_script (word ∷ first ∷ second ∷ third ∷ words) start count other more p q = absurd p
 
-pub script_bounds : (words : List (List ℕ)) (start count : ℕ) → IsGenerated words start count → (1 ≤ count) × (count ≤ 2000)
+pub script_bounds : (words : List (List ℕ)) (start count : ℕ) → IsGenerated words start count →
+    (1 ≤ count) × (count ≤ 2000)
 script_bounds [] start count p = absurd p
 script_bounds (word ∷ []) start count p = absurd p
 script_bounds (word ∷ first ∷ []) start count p = absurd p

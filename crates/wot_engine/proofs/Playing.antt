@@ -1,6 +1,6 @@
 -- The lines of a script, answered one after another.
-use Rattle.std.proofs.Common.{◌≡◌, ℕ, List, [], ◌∷◌, ◌++◌, length, Option, Some, None, Result, Ok, Err, OnOk, refl, sym, ap, subst, ◌∙◌, append_assoc, arith, inl, inr}
-use Rattle.std.specs.List.{AllByRecursion}
+use Rattle.std.proofs.Common.{◌≡◌, ℕ, List, [], ◌∷◌, ◌++◌, length, Option, Some, None, refl, sym, ap, subst, ◌∙◌}
+use Rattle.std.proofs.Common.{append_assoc, arith, inl, inr}
 use Rattle.std.proofs.lemmas.List.{append-nil, nil_from_length}
 use Rattle.wot_io.specs.Input.{lines_of}
 use Rattle.wot_policy.specs.declared.rows.PolicyRows.{PolicyRows}
@@ -33,9 +33,14 @@ pub record AddsUpTo (first now : Tally) (all rest : List Reply) : Type 0 where
   pub tells : (told : List Reply) → Tells first told → Tells now (told ++ done)
 
 pub adds_first : (tally : Tally) (all : List Reply) → AddsUpTo tally tally all all
-adds_first tally all = record { done = []; parts = refl; tells = λ told t. subst (Tells tally) (sym (append-nil told)) t }
+adds_first tally all = record {
+  done = [];
+  parts = refl;
+  tells = λ told t. subst (Tells tally) (sym (append-nil told)) t;
+}
 
-pub adds_next : (first old now : Tally) (all rest others : List Reply) (line : Reply) → AddsUpTo first old all rest → rest ≡ line ∷ others
+pub adds_next : (first old now : Tally) (all rest others : List Reply) (line : Reply) → AddsUpTo first old all rest →
+    rest ≡ line ∷ others
     → ((told : List Reply) → Tells old told → Tells now (told ++ line ∷ [])) → AddsUpTo first now all others
 adds_next first old now all rest others line s e add = record {
   done = s.done ++ line ∷ [];
@@ -43,10 +48,12 @@ adds_next first old now all rest others line s e add = record {
   tells = λ told t. subst (Tells now) (append_assoc told s.done (line ∷ [])) (add (told ++ s.done) (s.tells told t));
 }
 
-pub adds_last : (first now : Tally) (all rest : List Reply) → AddsUpTo first now all rest → length rest ≡ 0 → (told : List Reply) → Tells first told
+pub adds_last : (first now : Tally) (all rest : List Reply) → AddsUpTo first now all rest → length rest ≡ 0 →
+    (told : List Reply) → Tells first told
     → Tells now (told ++ all)
 adds_last first now all rest s none told t =
-    let whole : s.done ≡ all = sym (append-nil s.done) ∙ ap (λ (ls : List Reply). s.done ++ ls) (sym (nil_from_length rest none)) ∙ s.parts in
+    let whole : s.done ≡ all = sym (append-nil s.done) ∙ ap (λ (ls : List Reply). s.done ++ ls)
+    (sym (nil_from_length rest none)) ∙ s.parts in
     subst (λ (ls : List Reply). Tells now (told ++ ls)) whole (s.tells told t)
 
 -- A watch line tells no answer's amount.
@@ -58,19 +65,23 @@ module _ (rows : PolicyRows) where
   -- ---- one line
 
   -- what was replied over a shelf that tells its world, and the watch lines behind it, are the line's step
-  pub step_over : (line : List ℕ) (old mid new : Whole) (before after : World) (faults later : ℕ) (reply : Option Reply) (told : List Reply)
-      → Replied rows line old (record { world = Some before; faults = faults }) reply mid (record { world = Some after; faults = later }) → watching.Tells mid told new
+  pub step_over : (line : List ℕ) (old mid new : Whole) (before after : World) (faults later : ℕ) (reply : Option Reply)
+      (told : List Reply)
+      → Replied rows line old (record { world = Some before; faults = faults }) reply mid
+      (record { world = Some after; faults = later }) → watching.Tells mid told new
       → Step rows (over old before) line reply told (over new after)
   step_over line old mid new before after faults later reply told r t =
       let g : Goes rows (Some before) (Some after) before old new line reply told =
-      goes rows (Some before) (Some before) (Some after) before old mid new line (use_of (heard line)) r.given reply told refl tt refl r.served r.step t in
+      goes rows (Some before) (Some before) (Some after) before old mid new line (use_of (heard line)) r.given reply
+      told refl tt refl r.served r.step t in
       let same : g.next ≡ after = some_is g.next after (sym g.is_next) in
       subst (λ (w : World). Step rows (over old before) line reply told (over new w)) same g.step
     where
       some_is : (x y : World) → Some x ≡ Some y → x ≡ y
       some_is x y e = cc
 
-  pub adds_none : (line : List ℕ) (old new : Whole) (before after : Seen) (tally : Tally) → Replied rows line old before None new after
+  pub adds_none : (line : List ℕ) (old new : Whole) (before after : Seen) (tally : Tally) →
+      Replied rows line old before None new after
       → AddsReply rows line old before tally new after tally
   adds_none line old new before after tally replied = record {
     reply = None;
@@ -79,14 +90,17 @@ module _ (rows : PolicyRows) where
   }
 
   -- the reply and the watch lines behind it were added
-  pub adds_both : (line : List ℕ) (old mid new : Whole) (before after : World) (faults later : ℕ) (had has total : Tally)
-      → AddsReply rows line old (record { world = Some before; faults = faults }) had mid (record { world = Some after; faults = later }) has → AddsTold mid has new total
+  pub adds_both : (line : List ℕ) (old mid new : Whole) (before after : World) (faults later : ℕ)
+      (had has total : Tally)
+      → AddsReply rows line old (record { world = Some before; faults = faults }) had mid
+      (record { world = Some after; faults = later }) has → AddsTold mid has new total
       → Adds rows line (over old before) had (over new after) total
   adds_both line old mid new before after faults later had has total a t = record {
     reply = a.reply;
     told = t.told;
     step = step_over line old mid new before after faults later a.reply t.told a.replied t.told_are;
-    tells = λ replies s. subst (Tells total) (append_assoc replies (listed a.reply) t.told) (t.tells (replies ++ listed a.reply) (a.tells replies s));
+    tells = λ replies s. subst (Tells total) (append_assoc replies (listed a.reply) t.told)
+        (t.tells (replies ++ listed a.reply) (a.tells replies s));
   }
 
   -- ---- so far
@@ -103,10 +117,12 @@ module _ (rows : PolicyRows) where
   starts text tally tells = record { done = []; replies = []; lines = refl; run = (refl, refl); tells = tells }
 
   -- by a machine that was told no line
-  pub starts_with : (text : List ℕ) (machine : Machine) (world : World) (tally : Tally) → machine.engine ≡ empty standard_limits → machine.cursors ≡ [] → machine.watches ≡ []
+  pub starts_with : (text : List ℕ) (machine : Machine) (world : World) (tally : Tally) →
+      machine.engine ≡ empty standard_limits → machine.cursors ≡ [] → machine.watches ≡ []
       → world ≡ no_entries → Tells tally [] → Plays text text (over (kept machine) world) tally
   starts_with text machine world tally e k w none tells =
-      let same : over (kept machine) world ≡ opening no_entries = λ i. over (watched (whole_of (e i) (k i)) (w i)) (none i) in
+      let same : over (kept machine) world ≡ opening no_entries = λ i. over (watched (whole_of (e i) (k i)) (w i))
+      (none i) in
       subst (λ (s : Scene). Plays text text s tally) (sym same) (starts text tally tells)
 
   pub goes_on : (text rest others line : List ℕ) (old new : Scene) (before after : Tally) → Plays text rest old before
@@ -118,17 +134,21 @@ module _ (rows : PolicyRows) where
       record {
         done = p.done ++ line ∷ [];
         replies = p.replies ++ here;
-        lines = p.lines ∙ ap (λ (x : List (List ℕ)). p.done ++ x) first ∙ sym (append_assoc p.done (line ∷ []) (lines_of others));
-        run = subst (λ (x : List Reply). Run rows (opening no_entries) (p.done ++ line ∷ []) (p.replies ++ x) new) (append-nil here) both;
+        lines = p.lines ∙ ap (λ (x : List (List ℕ)). p.done ++ x) first
+            ∙ sym (append_assoc p.done (line ∷ []) (lines_of others));
+        run = subst (λ (x : List Reply). Run rows (opening no_entries) (p.done ++ line ∷ []) (p.replies ++ x) new)
+            (append-nil here) both;
         tells = a.tells p.replies p.tells;
       }
 
-  pub ends : (text rest : List ℕ) (scene : Scene) (tally : Tally) → Plays text rest scene tally → length rest ≡ 0 → IsPlayed rows (lines_of text) tally
+  pub ends : (text rest : List ℕ) (scene : Scene) (tally : Tally) → Plays text rest scene tally → length rest ≡ 0 →
+      IsPlayed rows (lines_of text) tally
   ends text [] scene tally p none = record {
     replies = p.replies;
     told = record {
       last = scene;
-      run = subst (λ (x : List (List ℕ)). Run rows (opening no_entries) x p.replies scene) (sym (p.lines ∙ append-nil p.done)) p.run;
+      run = subst (λ (x : List (List ℕ)). Run rows (opening no_entries) x p.replies scene)
+          (sym (p.lines ∙ append-nil p.done)) p.run;
     };
     tells = p.tells;
   }

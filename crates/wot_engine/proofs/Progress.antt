@@ -1,5 +1,6 @@
 -- Where a run stands between two lines.
-use Rattle.std.proofs.Common.{◌≡◌, ◌⊎◌, inl, inr, ℕ, ◌+◌, ◌<◌, ◌≤◌, ◌^◌, List, [], ◌∷◌, ◌++◌, length, take, drop, Option, Some, None, refl, sym, ap, subst, ◌∙◌, append_assoc, arith, length-append}
+use Rattle.std.proofs.Common.{◌≡◌, ◌⊎◌, inl, inr, ℕ, ◌+◌, ◌<◌, ◌≤◌, ◌^◌, List, [], ◌∷◌, ◌++◌, length, take, drop}
+use Rattle.std.proofs.Common.{Option, Some, None, refl, sym, ap, subst, ◌∙◌, append_assoc, arith, length-append}
 use Rattle.std.proofs.lemmas.List.{append-nil, take_at, take-append-le, append_cancel_left}
 use Rattle.std.proofs.Math.Seq.{drop-append_seam, take-append-add}
 use Rattle.std.proofs.lemmas.Grind.{flat_map-append}
@@ -15,15 +16,17 @@ use Rattle.wot_machine.specs.Scene.{Scene, Step, opening}
 use Rattle.wot_machine.specs.Entry.{MayPut, MayPutIn, Use, use_of}
 use Rattle.wot_machine.specs.Lines.{heard}
 use Rattle.wot_machine.specs.Transcript.{Run, RepliesTo, Answered, Begun, IsNow, Leaves, listed, octets_of}
-use Rattle.wot_engine.specs.Ended.{Finished, FinishedMost, FinishedTaken, IsLastTaken, MayPutNext, Reached, ReachedWhole}
+use Rattle.wot_engine.specs.Ended.{FinishedMost, FinishedTaken, IsLastTaken, MayPutNext, Reached, ReachedWhole}
 use Rattle.wot_machine.proofs.Giving.{over}
 use Rattle.wot_machine.proofs.Runs.{Run-some, Run-append}
 use Rattle.wot_machine.proofs.CutLines.{lines_of-feed, whole_lines_of-feed, whole_lines_of-none, lines_of-last}
 use Rattle.wot_policy.specs.declared.rows.PolicyRows.{PolicyRows}
 
-pub joined : (before : List ℕ) (some others : List Reply) → (before ++ octets_of some) ++ octets_of others ≡ before ++ octets_of (some ++ others)
+pub joined : (before : List ℕ) (some others : List Reply) →
+    (before ++ octets_of some) ++ octets_of others ≡ before ++ octets_of (some ++ others)
 joined before some others =
-    append_assoc before (octets_of some) (octets_of others) ∙ ap (λ (x : List ℕ). before ++ x) (sym (flat_map-append reply_text some others))
+    append_assoc before (octets_of some) (octets_of others) ∙ ap (λ (x : List ℕ). before ++ x)
+    (sym (flat_map-append reply_text some others))
 
 module _ (rows : PolicyRows) (origin : Option World) (world : World) where
   -- whatever follows these octets, these are the lines in front
@@ -32,7 +35,8 @@ module _ (rows : PolicyRows) (origin : Option World) (world : World) where
     pub whole : (x : List ℕ) → whole_lines_of (gone ++ x) ≡ done ++ whole_lines_of x
 
   -- the lines were given, and their replies were written
-  pub record Stands (input before held : List ℕ) (taken : ℕ) (left written : Option (List ℕ)) (shelf : Option World) (state : Whole) : Type 0 where
+  pub record Stands (input before held : List ℕ) (taken : ℕ) (left written : Option (List ℕ)) (shelf : Option World)
+      (state : Whole) : Type 0 where
     pub gone : List ℕ
     pub rest : List ℕ
     pub done : List (List ℕ)
@@ -46,7 +50,8 @@ module _ (rows : PolicyRows) (origin : Option World) (world : World) where
     pub written_is : written ≡ Some (before ++ octets_of replies)
     pub lines : IsPrefix gone done ⊎ ((taken < 2 ^ 30) × (held ++ rest ≡ []) × (lines_of input ≡ done))
 
-  pub starts : (input before : List ℕ) (left written : Option (List ℕ)) (shelf : Option World) → left ≡ Some input → written ≡ Some before → IsNow origin shelf world
+  pub starts : (input before : List ℕ) (left written : Option (List ℕ)) (shelf : Option World) → left ≡ Some input →
+      written ≡ Some before → IsNow origin shelf world
       → Stands input before [] 0 left written shelf beginning
   starts input before left written shelf e f is = record {
     gone = [];
@@ -63,8 +68,10 @@ module _ (rows : PolicyRows) (origin : Option World) (world : World) where
     lines = inl (record { lines = λ x. refl; whole = λ x. refl });
   }
 
-  Run-push : (lines : List (List ℕ)) (line : List ℕ) (replies : List Reply) (reply : Option Reply) (told : List Reply) (old mid new : Scene)
-      → Run rows old lines replies mid → Step rows mid line reply told new → Run rows old (lines ++ line ∷ []) (replies ++ (listed reply ++ told)) new
+  Run-push : (lines : List (List ℕ)) (line : List ℕ) (replies : List Reply) (reply : Option Reply) (told : List Reply)
+      (old mid new : Scene)
+      → Run rows old lines replies mid → Step rows mid line reply told new →
+      Run rows old (lines ++ line ∷ []) (replies ++ (listed reply ++ told)) new
   Run-push [] line replies reply told old mid new r s =
       let s' : Step rows old line reply told new = subst (λ (x : Scene). Step rows x line reply told new) r.1 s in
       (reply, told, new, [], s', (refl, refl), rw r.0 (sym (append-nil (listed reply ++ told))))
@@ -78,10 +85,14 @@ module _ (rows : PolicyRows) (origin : Option World) (world : World) where
     rw r.6 (append_assoc (listed r.0 ++ r.1) r.3 (listed reply ++ told)),
   )
 
-  IsPrefix-push : (gone : List ℕ) (done : List (List ℕ)) (line : List ℕ) → HasNoFeed line → IsPrefix gone done → IsPrefix (gone ++ (line ++ 10 ∷ [])) (done ++ line ∷ [])
+  IsPrefix-push : (gone : List ℕ) (done : List (List ℕ)) (line : List ℕ) → HasNoFeed line → IsPrefix gone done →
+      IsPrefix (gone ++ (line ++ 10 ∷ [])) (done ++ line ∷ [])
   IsPrefix-push gone done line h f = record {
-    lines = λ x. ap lines_of (regroup gone line x) ∙ f.lines (line ++ 10 ∷ x) ∙ ap (λ (ls : List (List ℕ)). done ++ ls) (lines_of-feed line x h) ∙ sym (append_assoc done (line ∷ []) (lines_of x));
-    whole = λ x. ap whole_lines_of (regroup gone line x) ∙ f.whole (line ++ 10 ∷ x) ∙ ap (λ (ls : List (List ℕ)). done ++ ls) (whole_lines_of-feed line x h) ∙ sym (append_assoc done (line ∷ []) (whole_lines_of x));
+    lines = λ x. ap lines_of (regroup gone line x) ∙ f.lines (line ++ 10 ∷ x) ∙ ap (λ (ls : List (List ℕ)). done ++ ls)
+        (lines_of-feed line x h) ∙ sym (append_assoc done (line ∷ []) (lines_of x));
+    whole = λ x. ap whole_lines_of (regroup gone line x) ∙ f.whole (line ++ 10 ∷ x)
+        ∙ ap (λ (ls : List (List ℕ)). done ++ ls) (whole_lines_of-feed line x h)
+        ∙ sym (append_assoc done (line ∷ []) (whole_lines_of x));
   }
     where
       regroup : (gone line x : List ℕ) → (gone ++ (line ++ 10 ∷ [])) ++ x ≡ gone ++ (line ++ 10 ∷ x)
@@ -96,7 +107,9 @@ module _ (rows : PolicyRows) (origin : Option World) (world : World) where
   nil-both (x ∷ xs) ys e = absurd cc
 
   -- more octets were taken, and are held
-  pub took_on : (input before held : List ℕ) (taken : ℕ) (left written : Option (List ℕ)) (shelf : Option World) (state : Whole) (left' : Option (List ℕ)) (taken' : ℕ) → Stands input before held taken left written shelf state → (t : Took left taken left' taken')
+  pub took_on : (input before held : List ℕ) (taken : ℕ) (left written : Option (List ℕ)) (shelf : Option World)
+      (state : Whole) (left' : Option (List ℕ)) (taken' : ℕ) → Stands input before held taken left written shelf state →
+      (t : Took left taken left' taken')
       → Stands input before (held ++ t.gone) taken' left' written shelf state
   took_on input before held taken left written shelf state left' taken' s t =
       let l : LosesOf s.rest left' t.gone = subst (λ (o : Option (List ℕ)). Loses o left' t.gone) s.left_is t.loses in
@@ -108,7 +121,8 @@ module _ (rows : PolicyRows) (origin : Option World) (world : World) where
         now = s.now;
         left_is = l.left_is;
         count = omega (arith, s.count, t.count, ap length l.parts, length-append t.gone l.rest);
-        parts = s.parts ∙ ap (λ (x : List ℕ). s.gone ++ (held ++ x)) l.parts ∙ ap (λ (x : List ℕ). s.gone ++ x) (sym (append_assoc held t.gone l.rest));
+        parts = s.parts ∙ ap (λ (x : List ℕ). s.gone ++ (held ++ x)) l.parts ∙ ap (λ (x : List ℕ). s.gone ++ x)
+            (sym (append_assoc held t.gone l.rest));
         is_now = s.is_now;
         run = s.run;
         written_is = s.written_is;
@@ -117,19 +131,27 @@ module _ (rows : PolicyRows) (origin : Option World) (world : World) where
           | inr ended ↦
               let none : s.rest ≡ [] = (nil-both held s.rest ended.1).1 in
               let both = nil-both t.gone l.rest (sym l.parts ∙ none) in
-              inr (omega (arith, ended.0, t.count, ap length both.0), append_assoc held t.gone l.rest ∙ ap (λ (x : List ℕ). held ++ x) (sym l.parts) ∙ ended.1, ended.2)
+              inr (
+                omega (arith, ended.0, t.count, ap length both.0),
+                append_assoc held t.gone l.rest
+                    ∙ ap (λ (x : List ℕ). held ++ x) (sym l.parts) ∙ ended.1,
+                ended.2,
+              )
         ];
       }
 
   -- the line that is given is the next of all
-  pub comes_next : (input before held : List ℕ) (taken : ℕ) (left written : Option (List ℕ)) (shelf : Option World) (state : Whole) (held' : List ℕ) (taken' : ℕ) (left' : Option (List ℕ)) (line : List ℕ)
-      → (s : Stands input before held taken left written shelf state) → (g : GivesOf held s.rest taken held' left' taken' line)
+  pub comes_next : (input before held : List ℕ) (taken : ℕ) (left written : Option (List ℕ)) (shelf : Option World)
+      (state : Whole) (held' : List ℕ) (taken' : ℕ) (left' : Option (List ℕ)) (line : List ℕ)
+      → (s : Stands input before held taken left written shelf state) →
+      (g : GivesOf held s.rest taken held' left' taken' line)
       → lines_of input ≡ s.done ++ line ∷ lines_of (held' ++ g.rest)
   comes_next input before held taken left written shelf state held' taken' left' line s g =
       elim s.lines [
         | inl prefix ↦ elim g.cuts.parts [
           | inl feed ↦
-              ap lines_of (s.parts ∙ ap (λ (x : List ℕ). s.gone ++ x) feed) ∙ prefix.lines (line ++ 10 ∷ (held' ++ g.rest))
+              ap lines_of (s.parts ∙ ap (λ (x : List ℕ). s.gone ++ x) feed)
+              ∙ prefix.lines (line ++ 10 ∷ (held' ++ g.rest))
               ∙ ap (λ (ls : List (List ℕ)). s.done ++ ls) (lines_of-feed line (held' ++ g.rest) g.cuts.no_feed)
           | inr last ↦
               ap lines_of (s.parts ∙ ap (λ (x : List ℕ). s.gone ++ x) last.1) ∙ prefix.lines line
@@ -143,11 +165,16 @@ module _ (rows : PolicyRows) (origin : Option World) (world : World) where
       ]
 
   -- one line on
-  pub goes_on : (input before held : List ℕ) (taken : ℕ) (left written : Option (List ℕ)) (shelf : Option World) (state : Whole) (held' : List ℕ) (taken' : ℕ) (left' written' : Option (List ℕ)) (shelf' : Option World) (state' : Whole) (line : List ℕ) (reply : Option Reply) (told : List Reply)
-      → (s : Stands input before held taken left written shelf state) → GivesOf held s.rest taken held' left' taken' line → (next : World) → IsNow origin shelf' next
-      → Step rows (over state s.now) line reply told (over state' next) → written' ≡ Some ((before ++ octets_of s.replies) ++ octets_of (listed reply ++ told))
+  pub goes_on : (input before held : List ℕ) (taken : ℕ) (left written : Option (List ℕ)) (shelf : Option World)
+      (state : Whole) (held' : List ℕ) (taken' : ℕ) (left' written' : Option (List ℕ)) (shelf' : Option World)
+      (state' : Whole) (line : List ℕ) (reply : Option Reply) (told : List Reply)
+      → (s : Stands input before held taken left written shelf state) →
+      GivesOf held s.rest taken held' left' taken' line → (next : World) → IsNow origin shelf' next
+      → Step rows (over state s.now) line reply told (over state' next) →
+      written' ≡ Some ((before ++ octets_of s.replies) ++ octets_of (listed reply ++ told))
       → Stands input before held' taken' left' written' shelf' state'
-  goes_on input before held taken left written shelf state held' taken' left' written' shelf' state' line reply told s g next is step w =
+  goes_on input before held taken left written shelf state held' taken' left' written' shelf' state' line reply told s g
+      next is step w =
       elim s.lines [
         | inl prefix ↦ elim g.cuts.parts [
           | inl feed ↦ record {
@@ -160,7 +187,8 @@ module _ (rows : PolicyRows) (origin : Option World) (world : World) where
             left_is = g.left_is;
             count = omega (arith, g.count, s.count);
             parts = s.parts ∙ ap (λ (x : List ℕ). s.gone ++ x) feed ∙ regroup s.gone line (held' ++ g.rest);
-            run = Run-push s.done line s.replies reply told (opening world) (over state s.now) (over state' next) s.run step;
+            run = Run-push s.done line s.replies reply told (opening world) (over state s.now) (over state' next) s.run
+                step;
             written_is = w ∙ ap (λ (x : List ℕ). Some x) (joined before s.replies (listed reply ++ told));
             lines = inl (IsPrefix-push s.gone s.done line g.cuts.no_feed prefix);
           }
@@ -173,10 +201,18 @@ module _ (rows : PolicyRows) (origin : Option World) (world : World) where
             is_now = is;
             left_is = g.left_is;
             count = omega (arith, g.count, s.count);
-            parts = s.parts ∙ ap (λ (x : List ℕ). s.gone ++ x) last.1 ∙ sym (ap (λ (x : List ℕ). (s.gone ++ line) ++ x) last.2 ∙ append-nil (s.gone ++ line));
-            run = Run-push s.done line s.replies reply told (opening world) (over state s.now) (over state' next) s.run step;
+            parts = s.parts ∙ ap (λ (x : List ℕ). s.gone ++ x) last.1
+                ∙ sym (ap (λ (x : List ℕ). (s.gone ++ line) ++ x) last.2 ∙ append-nil (s.gone ++ line));
+            run = Run-push s.done line s.replies reply told (opening world) (over state s.now) (over state' next) s.run
+                step;
             written_is = w ∙ ap (λ (x : List ℕ). Some x) (joined before s.replies (listed reply ++ told));
-            lines = inr (last.0, last.2, ap lines_of (s.parts ∙ ap (λ (x : List ℕ). s.gone ++ x) last.1) ∙ prefix.lines line ∙ ap (λ (ls : List (List ℕ)). s.done ++ ls) (lines_of-last line last.3 g.cuts.no_feed));
+            lines = inr (
+              last.0,
+              last.2,
+              ap lines_of (s.parts ∙ ap (λ (x : List ℕ). s.gone ++ x) last.1)
+                  ∙ prefix.lines line ∙ ap (λ (ls : List (List ℕ)). s.done ++ ls)
+                  (lines_of-last line last.3 g.cuts.no_feed),
+            );
           }
         ]
         | inr ended ↦ elim g.cuts.parts [
@@ -189,7 +225,9 @@ module _ (rows : PolicyRows) (origin : Option World) (world : World) where
       regroup gone line x = simp append_assoc
 
   -- the lines given are first ones of all
-  pub begins : (input before held : List ℕ) (taken : ℕ) (left written : Option (List ℕ)) (shelf : Option World) (state : Whole) → (s : Stands input before held taken left written shelf state) → (more : List (List ℕ)) × (lines_of input ≡ s.done ++ more)
+  pub begins : (input before held : List ℕ) (taken : ℕ) (left written : Option (List ℕ)) (shelf : Option World)
+      (state : Whole) → (s : Stands input before held taken left written shelf state) →
+      (more : List (List ℕ)) × (lines_of input ≡ s.done ++ more)
   begins input before held taken left written shelf state s =
       elim s.lines [
         | inl prefix ↦ (lines_of (held ++ s.rest), ap lines_of s.parts ∙ prefix.lines (held ++ s.rest))
@@ -200,9 +238,12 @@ module _ (rows : PolicyRows) (origin : Option World) (world : World) where
   take-prefix lines done more e = ap (take (length done)) e ∙ take_at done more (length done) refl
 
   -- the lines given are answered, and each reply is whole
-  pub at_first : (input before held : List ℕ) (taken : ℕ) (left written : Option (List ℕ)) (shelf : Option World) (state : Whole) (source : Option (List ℕ)) (shelf' : Option World)
-      → (s : Stands input before held taken left written shelf state) → (source ≡ Some input) ⊎ IsLastTaken (drop (length s.done) (lines_of input)) source
-      → MayPutNext (over state s.now) (drop (length s.done) (lines_of input)) origin shelf' → ReachedWhole rows world input before source written origin shelf'
+  pub at_first : (input before held : List ℕ) (taken : ℕ) (left written : Option (List ℕ)) (shelf : Option World)
+      (state : Whole) (source : Option (List ℕ)) (shelf' : Option World)
+      → (s : Stands input before held taken left written shelf state) →
+      (source ≡ Some input) ⊎ IsLastTaken (drop (length s.done) (lines_of input)) source
+      → MayPutNext (over state s.now) (drop (length s.done) (lines_of input)) origin shelf' →
+      ReachedWhole rows world input before source written origin shelf'
   at_first input before held taken left written shelf state source shelf' s next puts =
       let m = begins input before held taken left written shelf state s in
       record {
@@ -215,13 +256,23 @@ module _ (rows : PolicyRows) (origin : Option World) (world : World) where
       }
 
   -- The replies to the lines given, and to all others.
-  told_all : OneOutcome rows → (lines done more : List (List ℕ)) (replies : List Reply) (last : Scene) → lines ≡ done ++ more → Run rows (opening world) done replies last → (others : List Reply) × RepliesTo rows world lines (replies ++ others)
+  told_all : OneOutcome rows → (lines done more : List (List ℕ)) (replies : List Reply) (last : Scene) →
+      lines ≡ done ++ more → Run rows (opening world) done replies last →
+      (others : List Reply) × RepliesTo rows world lines (replies ++ others)
   told_all law lines done more replies last e r =
-      let others = Run-some rows law more last in
-      (others.0, record { last = others.1; run = rw e (Run-append rows done more (opening world) last others.1 replies others.0 r others.2) })
+      let others = Run-some rows law more last in (
+        others.0,
+        record {
+          last = others.1;
+          run =
+              rw e (Run-append rows done more (opening world) last others.1 replies others.0 r others.2);
+        },
+      )
 
   -- all of the replies so far, and nothing else
-  pub so_far : OneOutcome rows → (input before held : List ℕ) (taken : ℕ) (left written : Option (List ℕ)) (shelf : Option World) (state : Whole) → Stands input before held taken left written shelf state → Begun rows world (lines_of input) before written
+  pub so_far : OneOutcome rows → (input before held : List ℕ) (taken : ℕ) (left written : Option (List ℕ))
+      (shelf : Option World) (state : Whole) → Stands input before held taken left written shelf state →
+      Begun rows world (lines_of input) before written
   so_far law input before held taken left written shelf state s =
       let m = begins input before held taken left written shelf state s in
       let all = told_all law (lines_of input) s.done m.0 s.replies (over state s.now) m.1 s.run in
@@ -238,56 +289,114 @@ module _ (rows : PolicyRows) (origin : Option World) (world : World) where
           ∙ take_at (octets_of some) (octets_of others) (length (octets_of some)) refl
 
   -- the end
-  done_all : (input before held : List ℕ) (taken : ℕ) (left written : Option (List ℕ)) (shelf : Option World) (state : Whole) → (s : Stands input before held taken left written shelf state) → held ≡ [] → s.rest ≡ [] → lines_of input ≡ s.done
+  done_all : (input before held : List ℕ) (taken : ℕ) (left written : Option (List ℕ)) (shelf : Option World)
+      (state : Whole) → (s : Stands input before held taken left written shelf state) → held ≡ [] → s.rest ≡ [] →
+      lines_of input ≡ s.done
   done_all input before held taken left written shelf state s e f =
       elim s.lines [
         | inl prefix ↦ ap lines_of s.parts ∙ prefix.lines (held ++ s.rest) ∙ rw (e, f) (append-nil s.done)
         | inr ended ↦ ended.2
       ]
 
-  pub at_end : (input before held : List ℕ) (taken : ℕ) (left written : Option (List ℕ)) (shelf : Option World) (state : Whole) → (s : Stands input before held taken left written shelf state) → held ≡ [] → s.rest ≡ [] → Answered rows world (lines_of input) before written
+  pub at_end : (input before held : List ℕ) (taken : ℕ) (left written : Option (List ℕ)) (shelf : Option World)
+      (state : Whole) → (s : Stands input before held taken left written shelf state) → held ≡ [] → s.rest ≡ [] →
+      Answered rows world (lines_of input) before written
   at_end input before held taken left written shelf state s e f =
       let whole : lines_of input ≡ s.done = done_all input before held taken left written shelf state s e f in
-      record { replies = s.replies; told = record { last = over state s.now; run = rw whole s.run }; written = s.written_is }
+      record {
+        replies = s.replies;
+        told = record { last = over state s.now; run = rw whole s.run };
+        written =
+            s.written_is;
+      }
 
-  pub leaves : (input before held : List ℕ) (taken : ℕ) (left written : Option (List ℕ)) (shelf : Option World) (state : Whole) → (s : Stands input before held taken left written shelf state) → held ≡ [] → s.rest ≡ [] → Leaves rows world (lines_of input) origin shelf
+  pub leaves : (input before held : List ℕ) (taken : ℕ) (left written : Option (List ℕ)) (shelf : Option World)
+      (state : Whole) → (s : Stands input before held taken left written shelf state) → held ≡ [] → s.rest ≡ [] →
+      Leaves rows world (lines_of input) origin shelf
   leaves input before held taken left written shelf state s e f =
       let whole : lines_of input ≡ s.done = done_all input before held taken left written shelf state s e f in
       record { replies = s.replies; told = record { last = over state s.now; run = rw whole s.run }; left = s.is_now }
 
   -- the octets taken that are in no line given have no line feed
-  pub at_stop : (input before held : List ℕ) (taken : ℕ) (left written : Option (List ℕ)) (shelf : Option World) (state : Whole) (left' : Option (List ℕ)) (taken' : ℕ) → (s : Stands input before held taken left written shelf state) → StopsOf held s.rest taken left' taken'
+  pub at_stop : (input before held : List ℕ) (taken : ℕ) (left written : Option (List ℕ)) (shelf : Option World)
+      (state : Whole) (left' : Option (List ℕ)) (taken' : ℕ) →
+      (s : Stands input before held taken left written shelf state) → StopsOf held s.rest taken left' taken'
       → FinishedTaken rows world input before left' written origin shelf
   at_stop input before held taken left written shelf state left' taken' s t =
       elim s.lines [
         | inl prefix ↦ record {
           octets = s.gone ++ t.passed;
-          taken = record { rest = t.rest; input_is = s.parts ∙ ap (λ (x : List ℕ). s.gone ++ x) t.parts ∙ sym (append_assoc s.gone t.passed t.rest); left_is = t.left_is };
-          finished = inl (record { replies = s.replies; told = record { last = over state s.now; run = rw (whole s.gone t.passed s.done prefix t.no_feed) s.run }; written = s.written_is; left = s.is_now });
+          taken = record {
+            rest = t.rest;
+            input_is = s.parts ∙ ap (λ (x : List ℕ). s.gone ++ x) t.parts
+                ∙ sym (append_assoc s.gone t.passed t.rest);
+            left_is = t.left_is;
+          };
+          finished = inl (record {
+            replies = s.replies;
+            told = record {
+              last = over state s.now;
+              run =
+                  rw (whole s.gone t.passed s.done prefix t.no_feed) s.run;
+            };
+            written = s.written_is;
+            left = s.is_now;
+          });
         }
         | inr ended ↦
             let both = nil-both t.passed t.rest (sym t.parts ∙ ended.1) in
             record {
               octets = input;
-              taken = record { rest = t.rest; input_is = sym (ap (λ (x : List ℕ). input ++ x) both.1 ∙ append-nil input); left_is = t.left_is };
-              finished = inr (both.1, record { replies = s.replies; told = record { last = over state s.now; run = rw ended.2 s.run }; written = s.written_is; left = s.is_now });
+              taken = record {
+                rest = t.rest;
+                input_is =
+                    sym (ap (λ (x : List ℕ). input ++ x) both.1 ∙ append-nil input);
+                left_is = t.left_is;
+              };
+              finished = inr (
+                both.1,
+                record {
+                  replies = s.replies;
+                  told = record {
+                    last = over state s.now;
+                    run =
+                        rw ended.2 s.run;
+                  };
+                  written = s.written_is;
+                  left = s.is_now;
+                },
+              );
             }
       ]
     where
-      whole : (gone passed : List ℕ) (done : List (List ℕ)) → IsPrefix gone done → HasNoFeed passed → whole_lines_of (gone ++ passed) ≡ done
-      whole gone passed done f h = f.whole passed ∙ ap (λ (ls : List (List ℕ)). done ++ ls) (whole_lines_of-none passed h) ∙ append-nil done
+      whole : (gone passed : List ℕ) (done : List (List ℕ)) → IsPrefix gone done → HasNoFeed passed →
+          whole_lines_of (gone ++ passed) ≡ done
+      whole gone passed done f h = f.whole passed ∙ ap (λ (ls : List (List ℕ)). done ++ ls)
+          (whole_lines_of-none passed h) ∙ append-nil done
 
-  pub at_most : (input before held : List ℕ) (taken : ℕ) (left written : Option (List ℕ)) (shelf : Option World) (state : Whole) (left' : Option (List ℕ)) (taken' : ℕ) → (s : Stands input before held taken left written shelf state) → StopsOf held s.rest taken left' taken'
+  pub at_most : (input before held : List ℕ) (taken : ℕ) (left written : Option (List ℕ)) (shelf : Option World)
+      (state : Whole) (left' : Option (List ℕ)) (taken' : ℕ) →
+      (s : Stands input before held taken left written shelf state) → StopsOf held s.rest taken left' taken'
       → taken' ≡ 2 ^ 30 → FinishedMost rows world input before left' written origin shelf
   at_most input before held taken left written shelf state left' taken' s t n =
       elim s.lines [
         | inl prefix ↦
-            let input_is : input ≡ (s.gone ++ t.passed) ++ t.rest = s.parts ∙ ap (λ (x : List ℕ). s.gone ++ x) t.parts ∙ sym (append_assoc s.gone t.passed t.rest) in
+            let input_is : input ≡ (s.gone ++ t.passed) ++ t.rest = s.parts ∙ ap (λ (x : List ℕ). s.gone ++ x) t.parts
+            ∙ sym (append_assoc s.gone t.passed t.rest) in
             record {
               octets = s.gone ++ t.passed;
               taken = record { rest = t.rest; input_is = input_is; left_is = t.left_is };
               size = omega (arith, t.count, s.count, n, ap length input_is, length-append (s.gone ++ t.passed) t.rest);
-              finished = record { replies = s.replies; told = record { last = over state s.now; run = rw (whole s.gone t.passed s.done prefix t.no_feed) s.run }; written = s.written_is; left = s.is_now };
+              finished = record {
+                replies = s.replies;
+                told = record {
+                  last = over state s.now;
+                  run =
+                      rw (whole s.gone t.passed s.done prefix t.no_feed) s.run;
+                };
+                written = s.written_is;
+                left = s.is_now;
+              };
             }
         | inr ended ↦
             let both = nil-both t.passed t.rest (sym t.parts ∙ ended.1) in
@@ -295,28 +404,37 @@ module _ (rows : PolicyRows) (origin : Option World) (world : World) where
             absurd (omega (arith, t.count, n, ended.0, ap length both.1, ap length held-is.1))
       ]
     where
-      whole : (gone passed : List ℕ) (done : List (List ℕ)) → IsPrefix gone done → HasNoFeed passed → whole_lines_of (gone ++ passed) ≡ done
-      whole gone passed done f h = f.whole passed ∙ ap (λ (ls : List (List ℕ)). done ++ ls) (whole_lines_of-none passed h) ∙ append-nil done
+      whole : (gone passed : List ℕ) (done : List (List ℕ)) → IsPrefix gone done → HasNoFeed passed →
+          whole_lines_of (gone ++ passed) ≡ done
+      whole gone passed done f h = f.whole passed ∙ ap (λ (ls : List (List ℕ)). done ++ ls)
+          (whole_lines_of-none passed h) ∙ append-nil done
 
   -- a part of the last reply
-  pub takes_more : OneOutcome rows → (input before held : List ℕ) (taken : ℕ) (left : Option (List ℕ)) (shelf : Option World) (state : Whole) (replies reply : List ℕ) (n : ℕ) (written : Option (List ℕ))
-      → (s : Stands input before held taken left (Some ((before ++ replies) ++ reply)) shelf state) → n ≤ length reply → written ≡ Some ((before ++ replies) ++ take n reply) → Begun rows world (lines_of input) before written
+  pub takes_more : OneOutcome rows → (input before held : List ℕ) (taken : ℕ) (left : Option (List ℕ))
+      (shelf : Option World) (state : Whole) (replies reply : List ℕ) (n : ℕ) (written : Option (List ℕ))
+      → (s : Stands input before held taken left (Some ((before ++ replies) ++ reply)) shelf state) → n ≤ length reply →
+      written ≡ Some ((before ++ replies) ++ take n reply) → Begun rows world (lines_of input) before written
   takes_more law input before held taken left shelf state replies reply n written s le w =
       let m = begins input before held taken left (Some ((before ++ replies) ++ reply)) shelf state s in
       let all = told_all law (lines_of input) s.done m.0 s.replies (over state s.now) m.1 s.run in
-      let same : before ++ octets_of s.replies ≡ before ++ (replies ++ reply) = some-is (before ++ octets_of s.replies) (before ++ (replies ++ reply)) (sym s.written_is ∙ ap (λ (x : List ℕ). Some x) (append_assoc before replies reply)) in
-      let parts : octets_of s.replies ≡ replies ++ reply = append_cancel_left before (octets_of s.replies) (replies ++ reply) same in
+      let same : before ++ octets_of s.replies ≡ before ++ (replies ++ reply) = some-is (before ++ octets_of s.replies)
+      (before ++ (replies ++ reply)) (sym s.written_is ∙ ap (λ (x : List ℕ). Some x)
+      (append_assoc before replies reply)) in
+      let parts : octets_of s.replies ≡ replies ++ reply = append_cancel_left before (octets_of s.replies)
+      (replies ++ reply) same in
       record {
         replies = s.replies ++ all.0;
         told = all.1;
         size = length replies + n;
-        written = w ∙ ap (λ (x : List ℕ). Some x) (append_assoc before replies (take n reply) ∙ ap (λ (x : List ℕ). before ++ x) (sym (cut replies reply s.replies all.0 n le parts)));
+        written = w ∙ ap (λ (x : List ℕ). Some x) (append_assoc before replies (take n reply)
+            ∙ ap (λ (x : List ℕ). before ++ x) (sym (cut replies reply s.replies all.0 n le parts)));
       }
     where
       some-is : (x y : List ℕ) → Some x ≡ Some y → x ≡ y
       some-is x y e = cc
 
-      cut : (replies reply : List ℕ) (all others : List Reply) (n : ℕ) → n ≤ length reply → octets_of all ≡ replies ++ reply
+      cut : (replies reply : List ℕ) (all others : List Reply) (n : ℕ) → n ≤ length reply →
+          octets_of all ≡ replies ++ reply
           → take (length replies + n) (octets_of (all ++ others)) ≡ replies ++ take n reply
       cut replies reply all others n le e =
           ap (take (length replies + n)) (flat_map-append reply_text all others)
@@ -328,7 +446,8 @@ module _ (rows : PolicyRows) (origin : Option World) (world : World) where
   -- ---- what the next line puts
 
   -- nothing is put
-  pub puts_nothing : (shelf : Option World) (now : World) (state : Whole) (lines : List (List ℕ)) → IsNow origin shelf now
+  pub puts_nothing : (shelf : Option World) (now : World) (state : Whole) (lines : List (List ℕ)) →
+      IsNow origin shelf now
       → MayPutNext (over state now) lines origin shelf
   puts_nothing shelf now state lines is = by origin lines is
     where
@@ -338,43 +457,66 @@ module _ (rows : PolicyRows) (origin : Option World) (world : World) where
       by (Some o) (line ∷ ls) is = inl is
 
   -- no memory was found for it
-  pub puts_next : (shelf shelf' : Option World) (now : World) (state : Whole) (line : List ℕ) (lines : List (List ℕ)) (use_ : Use) → use_of (heard line) ≡ use_
-      → IsNow origin shelf now → MayPut state.state use_ shelf shelf' → MayPutNext (over state now) (line ∷ lines) origin shelf'
+  pub puts_next : (shelf shelf' : Option World) (now : World) (state : Whole) (line : List ℕ) (lines : List (List ℕ))
+      (use_ : Use) → use_of (heard line) ≡ use_
+      → IsNow origin shelf now → MayPut state.state use_ shelf shelf' →
+      MayPutNext (over state now) (line ∷ lines) origin shelf'
   puts_next shelf shelf' now state line lines use_ e is m = by origin is
     where
       by : (o : Option World) → IsNow o shelf now → MayPutNext (over state now) (line ∷ lines) o shelf'
       by None is = tt
       by (Some o) is =
-          let there : MayPutIn state.state use_ now shelf' = subst (λ (w : Option World). MayPut state.state use_ w shelf') is m in
+          let there : MayPutIn state.state use_ now shelf' =
+          subst (λ (w : Option World). MayPut state.state use_ w shelf') is m in
           inr (subst (λ (u : Use). MayPutIn state.state u now shelf') (sym e) there)
 
   -- What the line that was taken last may have put, and that it is the last one.
-  pub record IsCutShort (unanswered : List (List ℕ)) (last : Scene) (held' : List ℕ) (left' : Option (List ℕ)) (shelf' : Option World) : Type 0 where
+  pub record IsCutShort (unanswered : List (List ℕ)) (last : Scene) (held' : List ℕ) (left' : Option (List ℕ))
+      (shelf' : Option World) : Type 0 where
     pub puts : MayPutNext last unanswered origin shelf'
     pub next : length held' < 65536 → IsLastTaken unanswered left'
 
-  pub cut_short : (input before held : List ℕ) (taken : ℕ) (left written : Option (List ℕ)) (shelf : Option World) (state : Whole) (held' : List ℕ) (taken' : ℕ) (left' : Option (List ℕ)) (line : List ℕ) (use_ : Use) (shelf' : Option World)
-      → (s : Stands input before held taken left written shelf state) → GivesOf held s.rest taken held' left' taken' line
+  pub cut_short : (input before held : List ℕ) (taken : ℕ) (left written : Option (List ℕ)) (shelf : Option World)
+      (state : Whole) (held' : List ℕ) (taken' : ℕ) (left' : Option (List ℕ)) (line : List ℕ) (use_ : Use)
+      (shelf' : Option World)
+      → (s : Stands input before held taken left written shelf state) →
+      GivesOf held s.rest taken held' left' taken' line
       → use_of (heard line) ≡ use_ → MayPut state.state use_ shelf shelf'
       → IsCutShort (drop (length s.done) (lines_of input)) (over state s.now) held' left' shelf'
   cut_short input before held taken left written shelf state held' taken' left' line use_ shelf' s g e m =
       let rest : List (List ℕ) = lines_of (held' ++ g.rest) in
       let is : drop (length s.done) (lines_of input) ≡ line ∷ rest =
-      ap (drop (length s.done)) (comes_next input before held taken left written shelf state held' taken' left' line s g) ∙ drop-append_seam s.done (line ∷ rest) in
+      ap (drop (length s.done)) (comes_next input before held taken left written shelf state held' taken' left' line s
+      g) ∙ drop-append_seam s.done (line ∷ rest) in
       record {
-        puts = subst (λ (ls : List (List ℕ)). MayPutNext (over state s.now) ls origin shelf') (sym is) (puts_next shelf shelf' s.now state line rest use_ e s.is_now m);
-        next = λ few. record { line = line; behind = held'; rest = g.rest; left_is = g.left_is; lines_are = is; few = few };
+        puts = subst (λ (ls : List (List ℕ)). MayPutNext (over state s.now) ls origin shelf') (sym is)
+            (puts_next shelf shelf' s.now state line rest use_ e s.is_now m);
+        next = λ few. record {
+          line = line;
+          behind = held';
+          rest = g.rest;
+          left_is = g.left_is;
+          lines_are = is;
+          few =
+              few;
+        };
       }
 
   -- ---- where the run stands, whatever was written last
 
-  pub reaches : (input before held : List ℕ) (taken : ℕ) (left : Option (List ℕ)) (shelf : Option World) (state : Whole) (replies reply : List ℕ) (n : ℕ) (written : Option (List ℕ)) (shelf' : Option World)
-      → (s : Stands input before held taken left (Some ((before ++ replies) ++ reply)) shelf state) → written ≡ Some ((before ++ replies) ++ take n reply)
-      → MayPutNext (over state s.now) (drop (length s.done) (lines_of input)) origin shelf' → Reached rows world (lines_of input) before written origin shelf'
+  pub reaches : (input before held : List ℕ) (taken : ℕ) (left : Option (List ℕ)) (shelf : Option World) (state : Whole)
+      (replies reply : List ℕ) (n : ℕ) (written : Option (List ℕ)) (shelf' : Option World)
+      → (s : Stands input before held taken left (Some ((before ++ replies) ++ reply)) shelf state) →
+      written ≡ Some ((before ++ replies) ++ take n reply)
+      → MayPutNext (over state s.now) (drop (length s.done) (lines_of input)) origin shelf' →
+      Reached rows world (lines_of input) before written origin shelf'
   reaches input before held taken left shelf state replies reply n written shelf' s w puts =
       let m = begins input before held taken left (Some ((before ++ replies) ++ reply)) shelf state s in
-      let same : before ++ octets_of s.replies ≡ before ++ (replies ++ reply) = some-same (before ++ octets_of s.replies) (before ++ (replies ++ reply)) (sym s.written_is ∙ ap (λ (x : List ℕ). Some x) (append_assoc before replies reply)) in
-      let parts : octets_of s.replies ≡ replies ++ reply = append_cancel_left before (octets_of s.replies) (replies ++ reply) same in
+      let same : before ++ octets_of s.replies ≡ before ++ (replies ++ reply) =
+      some-same (before ++ octets_of s.replies) (before ++ (replies ++ reply)) (sym s.written_is
+      ∙ ap (λ (x : List ℕ). Some x) (append_assoc before replies reply)) in
+      let parts : octets_of s.replies ≡ replies ++ reply = append_cancel_left before (octets_of s.replies)
+      (replies ++ reply) same in
       let first : take (length replies + n) (octets_of s.replies) ≡ replies ++ take n reply =
       ap (take (length replies + n)) parts ∙ take-append-add replies reply n in
       record {
@@ -382,7 +524,8 @@ module _ (rows : PolicyRows) (origin : Option World) (world : World) where
         replies = s.replies;
         told = record { last = over state s.now; run = rw (take-prefix (lines_of input) s.done m.0 m.1) s.run };
         size = length replies + n;
-        written = w ∙ ap (λ (x : List ℕ). Some x) (append_assoc before replies (take n reply) ∙ ap (λ (x : List ℕ). before ++ x) (sym first));
+        written = w ∙ ap (λ (x : List ℕ). Some x) (append_assoc before replies (take n reply)
+            ∙ ap (λ (x : List ℕ). before ++ x) (sym first));
         left = puts;
       }
     where
@@ -390,13 +533,16 @@ module _ (rows : PolicyRows) (origin : Option World) (world : World) where
       some-same x y e = cc
 
   -- where all replies are whole
-  pub reaches_whole : (input before : List ℕ) (source written : Option (List ℕ)) (shelf' : Option World) → ReachedWhole rows world input before source written origin shelf'
+  pub reaches_whole : (input before : List ℕ) (source written : Option (List ℕ)) (shelf' : Option World) →
+      ReachedWhole rows world input before source written origin shelf'
       → Reached rows world (lines_of input) before written origin shelf'
   reaches_whole input before source written shelf' r = record {
     count = r.count;
     replies = r.replies;
     told = r.told;
     size = length (octets_of r.replies);
-    written = r.written ∙ ap (λ (x : List ℕ). Some (before ++ x)) (sym (take_at (octets_of r.replies) [] (length (octets_of r.replies)) refl) ∙ ap (take (length (octets_of r.replies))) (append-nil (octets_of r.replies)));
+    written = r.written ∙ ap (λ (x : List ℕ). Some (before ++ x))
+        (sym (take_at (octets_of r.replies) [] (length (octets_of r.replies)) refl)
+        ∙ ap (take (length (octets_of r.replies))) (append-nil (octets_of r.replies)));
     left = r.left;
   }

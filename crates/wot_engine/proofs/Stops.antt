@@ -1,5 +1,5 @@
 -- Which stop a run ended with, and that a count of faults rose.
-use Rattle.std.proofs.Common.{◌≡◌, ℕ, ◌≤◌, Result, Ok, Err, IfOk, IsErrAnd, OnOk, sym, subst, arith}
+use Rattle.std.proofs.Common.{◌≡◌, ℕ, ◌≤◌, Result, Ok, Err, IsErrAnd, OnOk, sym, subst, arith}
 use Rattle.wot_io.specs.Counts.{Rose}
 use Rattle.wot_engine.specs.declared.run.Stop.{Stop}
 use Rattle.wot_engine.specs.declared.run.Stop.TheVariants.{Read, Write, Memory, TooMuch}

@@ -1,12 +1,13 @@
 -- The three lines that are told of a generated run.
-use Rattle.std.proofs.Common.{◌≡◌, ℕ, suc, List, [], ◌∷◌, ◌++◌, length, Option, Some, None, Result, Err, OnOk, refl, sym, ap, subst, ◌∙◌, append_assoc}
+use Rattle.std.proofs.Common.{◌≡◌, ℕ, suc, List, [], ◌∷◌, ◌++◌, length, Option, Some, None, Result, Err, OnOk, refl}
+use Rattle.std.proofs.Common.{sym, ap, subst, ◌∙◌, append_assoc}
 use Rattle.std.proofs.lemmas.List.{append-nil}
 use Rattle.std.proofs.Math.Seq.{take-length}
 use Rattle.std.proofs.lemmas.List.Concat.{flat_map-cons}
 use Rattle.std.specs.List.{AllByRecursion}
 use Rattle.std.specs.Prelude.{IfSome}
 use Rattle.wot_io.specs.Input.{lines_of}
-use Rattle.wot_io.specs.Sink.{Becomes, GainsPrefix}
+use Rattle.wot_io.specs.Sink.{Becomes}
 use Rattle.wot_policy.specs.declared.rows.PolicyRows.{PolicyRows}
 use Rattle.wot_script.specs.declared.command.Command.{Command}
 use Rattle.wot_script.specs.declared.reply.Reply.{Reply}
@@ -22,7 +23,8 @@ use Rattle.wot_engine.specs.Generated.{IsSummary, SummaryBegun, Summarized, no_e
 use Rattle.wot_engine.specs.Played.{IsPlayed}
 
 -- each command is one line
-pub lines_counted : (commands : List Command) → AllByRecursion IsReadBack commands → length (lines_of (text_of commands)) ≡ length commands
+pub lines_counted : (commands : List Command) → AllByRecursion IsReadBack commands →
+    length (lines_of (text_of commands)) ≡ length commands
 lines_counted [] all = refl
 lines_counted (command ∷ commands) all =
     let text : text_of (command ∷ commands) ≡ spelling command ++ 10 ∷ text_of commands =
@@ -31,18 +33,23 @@ lines_counted (command ∷ commands) all =
     ap (λ (x : List ℕ). length (lines_of x)) text ∙ ap length first ∙ ap (λ n. suc n) (lines_counted commands all.1)
 
 -- nothing is promised of what failed
-pub never : {T E : Type 0} (r : Result T E) (fault : E) (written : Option (List ℕ)) (P : List ℕ → Type 0) → r ≡ Err fault
+pub never : {T E : Type 0} (r : Result T E) (fault : E) (written : Option (List ℕ)) (P : List ℕ → Type 0) →
+    r ≡ Err fault
     → IfSome written (λ before. OnOk r (P before))
 never r fault None P is = tt
 never r fault (Some before) P is = subst (λ (r : Result _ _). OnOk r (P before)) (sym is) tt
 
 -- the script's summary
 pub summed : (rows : PolicyRows) (start count lines amounts : ℕ) (digest out script : List ℕ) (tally : Tally)
-    → AllByRecursion IsReadBack (commands_of start count) → script ≡ [] ++ text_of (commands_of start count) → lines ≡ length (commands_of start count)
-    → IsPlayed rows (lines_of script) tally → amounts ≡ tally.amounts → ((replies : List Reply) → Tells tally replies → digest ≡ transcript_digest replies)
+    → AllByRecursion IsReadBack (commands_of start count) → script ≡ [] ++ text_of (commands_of start count) →
+    lines ≡ length (commands_of start count)
+    → IsPlayed rows (lines_of script) tally → amounts ≡ tally.amounts →
+    ((replies : List Reply) → Tells tally replies → digest ≡ transcript_digest replies)
     → out ≡ [] ++ summary start count lines amounts digest → IsSummary rows start count out
-summed rows start count lines amounts digest out script tally all script_is lines_are played amounts_are digest_is out_is =
-    let number : lines ≡ length (script_lines start count) = lines_are ∙ sym (lines_counted (commands_of start count) all) in
+summed rows start count lines amounts digest out script tally all script_is lines_are played amounts_are digest_is
+    out_is =
+    let number : lines ≡ length (script_lines start count) =
+    lines_are ∙ sym (lines_counted (commands_of start count) all) in
     record {
       replies = played.replies;
       told = subst (λ (x : List ℕ). RepliesTo rows no_entries (lines_of x) played.replies) script_is played.told;
@@ -52,22 +59,33 @@ summed rows start count lines amounts digest out script tally all script_is line
 module _ (rows : PolicyRows) (start count : ℕ) where
   pub some_summary : OneOutcome rows → (text : List ℕ) × IsSummary rows start count text
   some_summary law =
-      let all = RepliesTo-some rows law no_entries (script_lines start count) in
-      (summary start count (length (script_lines start count)) (amounts_in all.0) (transcript_digest all.0), record { replies = all.0; told = all.1; text_is = refl })
+      let all = RepliesTo-some rows law no_entries (script_lines start count) in (
+        summary start count (length (script_lines start count)) (amounts_in all.0) (transcript_digest all.0),
+        record { replies = all.0; told = all.1; text_is = refl },
+      )
 
   -- nothing was written yet
-  pub not_begun : OneOutcome rows → (written : Option (List ℕ)) → IfSome written (λ before. SummaryBegun rows start count before written)
+  pub not_begun : OneOutcome rows → (written : Option (List ℕ)) →
+      IfSome written (λ before. SummaryBegun rows start count before written)
   not_begun law None = tt
   not_begun law (Some before) =
       let some = some_summary law in
-      record { text = some.0; is_summary = some.1; size = 0; written = ap (λ (x : List ℕ). Some x) (sym (append-nil before)) }
+      record {
+        text = some.0;
+        is_summary = some.1;
+        size = 0;
+        written =
+            ap (λ (x : List ℕ). Some x) (sym (append-nil before));
+      }
 
-  pub all_written : (written after : Option (List ℕ)) (text : List ℕ) → IsSummary rows start count text → Becomes written (λ before. before ++ text) after
+  pub all_written : (written after : Option (List ℕ)) (text : List ℕ) → IsSummary rows start count text →
+      Becomes written (λ before. before ++ text) after
       → IfSome written (λ before. Summarized rows start count before after)
   all_written None after text s b = tt
   all_written (Some before) after text s b = record { text = text; is_summary = s; written = b }
 
-  pub all_begun : (written after : Option (List ℕ)) → IfSome written (λ before. Summarized rows start count before after)
+  pub all_begun : (written after : Option (List ℕ)) →
+      IfSome written (λ before. Summarized rows start count before after)
       → IfSome written (λ before. SummaryBegun rows start count before after)
   all_begun None after s = tt
   all_begun (Some before) after s = record {

@@ -1,5 +1,6 @@
 -- How many octets of the source a run takes.
-use Rattle.std.proofs.Common.{◌≡◌, ℕ, ◌≤◌, ◌^◌, List, [], length, ◌++◌, Option, Some, None, refl, sym, ap, subst, ◌∙◌, append_assoc, arith, length-append}
+use Rattle.std.proofs.Common.{◌≡◌, ℕ, ◌≤◌, ◌^◌, List, [], length, ◌++◌, Option, Some, None, refl, sym, ap, subst, ◌∙◌}
+use Rattle.std.proofs.Common.{append_assoc, arith, length-append}
 use Rattle.wot_io.specs.Fill.{Took}
 use Rattle.wot_io.specs.Source.{Loses, LosesOf}
 use Rattle.wot_io.specs.ReaderState.{ReaderState}
@@ -14,7 +15,8 @@ loses_nothing : (left : Option (List ℕ)) → Loses left left []
 loses_nothing None = tt
 loses_nothing (Some octets) = record { rest = octets; left_is = refl; parts = refl }
 
-loses_both : (first second third : Option (List ℕ)) (gone more : List ℕ) → Loses first second gone → Loses second third more
+loses_both : (first second third : Option (List ℕ)) (gone more : List ℕ) → Loses first second gone →
+    Loses second third more
     → Loses first third (gone ++ more)
 loses_both None second third gone more a b = tt
 loses_both (Some octets) second third gone more a b =
@@ -31,10 +33,16 @@ took_none left taken = record { gone = []; loses = loses_nothing left; count = o
 
 -- before the first line
 pub took_nothing : (left : Option (List ℕ)) (lines : ReaderState) → lines ≡ fresh → Took left 0 left lines.taken
-took_nothing left lines e = record { gone = []; loses = loses_nothing left; count = ap (λ (r : ReaderState). r.taken) e }
+took_nothing left lines e = record {
+  gone = [];
+  loses = loses_nothing left;
+  count =
+      ap (λ (r : ReaderState). r.taken) e;
+}
 
 -- one call after another
-pub took_both : (first second third : Option (List ℕ)) (low mid high : ℕ) → Took first low second mid → Took second mid third high
+pub took_both : (first second third : Option (List ℕ)) (low mid high : ℕ) → Took first low second mid →
+    Took second mid third high
     → Took first low third high
 took_both first second third low mid high a b = record {
   gone = a.gone ++ b.gone;
@@ -43,7 +51,8 @@ took_both first second third low mid high a b = record {
 }
 
 -- what was taken is within the bound
-pub takes_at_most : (first last : Option (List ℕ)) (taken : ℕ) → Took first 0 last taken → taken ≤ 2 ^ 30 → TakesAtMost first last
+pub takes_at_most : (first last : Option (List ℕ)) (taken : ℕ) → Took first 0 last taken → taken ≤ 2 ^ 30 →
+    TakesAtMost first last
 takes_at_most None last taken t le = tt
 takes_at_most (Some input) last taken t le = record {
   octets = t.gone;
@@ -52,21 +61,31 @@ takes_at_most (Some input) last taken t le = record {
 }
 
 -- one call more
-pub takes_more : (first second third : Option (List ℕ)) (mid high : ℕ) → Took first 0 second mid → Took second mid third high → high ≤ 2 ^ 30
+pub takes_more : (first second third : Option (List ℕ)) (mid high : ℕ) → Took first 0 second mid →
+    Took second mid third high → high ≤ 2 ^ 30
     → TakesAtMost first third
-takes_more first second third mid high a b le = takes_at_most first third high (took_both first second third 0 mid high a b) le
+takes_more first second third mid high a b le =
+    takes_at_most first third high (took_both first second third 0 mid high a b) le
 
 -- nothing is taken
 pub takes_nothing : (left : Option (List ℕ)) → TakesAtMost left left
-takes_nothing left = takes_at_most left left 0 (record { gone = []; loses = loses_nothing left; count = refl }) (omega arith)
+takes_nothing left = takes_at_most left left 0 (record { gone = []; loses = loses_nothing left; count = refl })
+    (omega arith)
 
 -- where the most was taken, there was as much
 pub has_most : (first last : Option (List ℕ)) (taken : ℕ) → Took first 0 last taken → taken ≡ 2 ^ 30 → HasMost first
 has_most None last taken t most = tt
-has_most (Some input) last taken t most = omega (arith, t.count, most, ap length t.loses.parts, length-append t.gone t.loses.rest)
+has_most (Some input) last taken t most = omega (
+  arith,
+  t.count,
+  most,
+  ap length t.loses.parts,
+  length-append t.gone t.loses.rest,
+)
 
 -- where the most was taken, it was
-pub takes_most : (first last : Option (List ℕ)) (taken : ℕ) → Took first 0 last taken → taken ≡ 2 ^ 30 → TakesMost first last
+pub takes_most : (first last : Option (List ℕ)) (taken : ℕ) → Took first 0 last taken → taken ≡ 2 ^ 30 →
+    TakesMost first last
 takes_most None last taken t most = tt
 takes_most (Some input) last taken t most = record {
   octets = t.gone;
@@ -75,7 +94,8 @@ takes_most (Some input) last taken t most = record {
 }
 
 -- at the end nothing is left
-pub ends_at : (first left last : Option (List ℕ)) (taken : ℕ) (old new : ReaderState) → Took first 0 left taken → given.Answers End old left new last
+pub ends_at : (first left last : Option (List ℕ)) (taken : ℕ) (old new : ReaderState) → Took first 0 left taken →
+    given.Answers End old left new last
     → IsAtEnd first last
 ends_at None left last taken old new t e = tt
 ends_at (Some input) left last taken old new t e =

@@ -1,5 +1,6 @@
 -- The turns of a run, where input, output and shelf are told.
-use Rattle.std.proofs.Common.{◌≡◌, ◌≢◌, inl, inr, ℕ, ◌+◌, ◌<◌, ◌^◌, List, [], ◌++◌, length, take, drop, Option, Some, None, refl, sym, ap, subst, ◌∙◌, append_assoc, arith, length-append}
+use Rattle.std.proofs.Common.{◌≡◌, ◌≢◌, inl, inr, ℕ, ◌+◌, ◌<◌, ◌^◌, List, [], ◌++◌, length, take, drop, Option, Some}
+use Rattle.std.proofs.Common.{refl, sym, ap, subst, ◌∙◌, append_assoc, arith, length-append}
 use Rattle.std.proofs.lemmas.List.{append_cancel_left, append_cancel_right, length-take}
 use Rattle.std.proofs.lemmas.Grind.{flat_map-append}
 use Rattle.wot_io.specs.Input.{lines_of, whole_lines_of}
@@ -25,19 +26,25 @@ use Rattle.wot_machine.proofs.Runs.{Run-one, Run-prefix}
 use Rattle.wot_machine.proofs.Stepping.{heard_long}
 use Rattle.wot_engine.specs.Ended.{FinishedMost, FinishedTaken, Reached, ReachedWhole}
 use Rattle.wot_engine.specs.Turn.{Replies, use_by}
-use Rattle.wot_engine.proofs.Progress.{IsCutShort, Stands, starts, goes_on, so_far, comes_next, cut_short, at_end, leaves, at_first, at_stop, at_most, puts_nothing, reaches_whole}
+use Rattle.wot_engine.proofs.Progress.{IsCutShort, Stands, starts, goes_on, so_far, comes_next, cut_short, at_end}
+use Rattle.wot_engine.proofs.Progress.{leaves, at_first, at_stop, at_most, puts_nothing, reaches_whole}
 use Rattle.wot_policy.specs.declared.rows.PolicyRows.{PolicyRows}
 
 module _ (rows : PolicyRows) where
-  abbrev pub Stood : Option (List ℕ) → Option (List ℕ) → Option World → List ℕ → ℕ → Option (List ℕ) → Option (List ℕ) → Option World → Whole → Type 0
+  abbrev pub Stood : Option (List ℕ) → Option (List ℕ) → Option World → List ℕ → ℕ → Option (List ℕ) → Option (List ℕ) →
+      Option World → Whole → Type 0
   Stood left0 written0 origin held taken left written shelf state =
-      AllTold left0 written0 origin (λ input before world. Stands rows origin world input before held taken left written shelf state)
+      AllTold left0 written0 origin (λ input before world. Stands rows origin world input before held taken left written
+      shelf state)
 
-  pub Stood-init : (left written : Option (List ℕ)) (origin : Option World) → Stood left written origin [] 0 left written origin beginning
-  Stood-init left written origin = all_told left written origin _ (λ input before world e f is. starts rows origin world input before left written origin e f is)
+  pub Stood-init : (left written : Option (List ℕ)) (origin : Option World) →
+      Stood left written origin [] 0 left written origin beginning
+  Stood-init left written origin = all_told left written origin _ (λ input before world e f is. starts rows origin world
+      input before left written origin e f is)
 
   -- a line was given, and its reply is there
-  pub record Turned (origin : Option World) (world : World) (input before : List ℕ) (held' : List ℕ) (taken' : ℕ) (left' written : Option (List ℕ)) (octets : List ℕ) (shelf' : Option World) (state' : Whole) : Type 0 where
+  pub record Turned (origin : Option World) (world : World) (input before : List ℕ) (held' : List ℕ) (taken' : ℕ)
+      (left' written : Option (List ℕ)) (octets : List ℕ) (shelf' : Option World) (state' : Whole) : Type 0 where
     pub held : List ℕ
     pub taken : ℕ
     pub left : Option (List ℕ)
@@ -54,13 +61,24 @@ module _ (rows : PolicyRows) where
     pub octets_are : octets ≡ octets_of (listed reply ++ told)
 
   -- the line is known, and what it was given
-  turned_by : (origin : Option World) (world : World) (input before : List ℕ) (old : ReaderState) (left written : Option (List ℕ)) (shelf : Option World) (state : Whole) (new : ReaderState) (left' : Option (List ℕ)) (shelf' : Option World) (state' : Whole) (line : List ℕ) (use_ : Use) (what : Served) (reply : Option Reply) (mid : Whole) (told : List Reply) (octets : List ℕ)
-      → IsUncalled origin input → (s : Stands rows origin world input before old.held old.taken left written shelf state) → GivesOf old.held s.rest old.taken new.held left' new.taken line
-      → use_of (heard line) ≡ use_ → IsServed state.state use_ shelf what shelf' → LineStep rows state line what reply mid → Tells mid told state'
-      → octets ≡ octets_of (listed reply ++ told) → Turned origin world input before new.held new.taken left' written octets shelf' state'
-  turned_by origin world input before old left written shelf state new left' shelf' state' line use_ what reply mid told octets uncalled s g e served does tells same =
-      let next = comes_next rows origin world input before old.held old.taken left written shelf state new.held new.taken left' line s g in
-      let went = goes rows origin shelf shelf' s.now state mid state' line use_ what reply told e (may_call origin input s.done line (lines_of (new.held ++ g.rest)) next uncalled) s.is_now served does tells in
+  turned_by : (origin : Option World) (world : World) (input before : List ℕ) (old : ReaderState)
+      (left written : Option (List ℕ)) (shelf : Option World) (state : Whole) (new : ReaderState)
+      (left' : Option (List ℕ)) (shelf' : Option World) (state' : Whole) (line : List ℕ) (use_ : Use) (what : Served)
+      (reply : Option Reply) (mid : Whole) (told : List Reply) (octets : List ℕ)
+      → IsUncalled origin input →
+      (s : Stands rows origin world input before old.held old.taken left written shelf state) →
+      GivesOf old.held s.rest old.taken new.held left' new.taken line
+      → use_of (heard line) ≡ use_ → IsServed state.state use_ shelf what shelf' →
+      LineStep rows state line what reply mid → Tells mid told state'
+      → octets ≡ octets_of (listed reply ++ told) → Turned origin world input before new.held new.taken left' written
+      octets shelf' state'
+  turned_by origin world input before old left written shelf state new left' shelf' state' line use_ what reply mid told
+      octets uncalled s g e served does tells same =
+      let next = comes_next rows origin world input before old.held old.taken left written shelf state new.held
+      new.taken left' line s g in
+      let went = goes rows origin shelf shelf' s.now state mid state' line use_ what reply told e
+      (may_call origin input s.done line (lines_of (new.held ++ g.rest)) next uncalled) s.is_now served does
+      tells in
       record {
         held = old.held;
         taken = old.taken;
@@ -78,67 +96,101 @@ module _ (rows : PolicyRows) where
         octets_are = same;
       }
 
-  pub turned : (origin : Option World) (world : World) (input before : List ℕ) (old : ReaderState) (left written : Option (List ℕ)) (shelf : Option World) (state : Whole) (new : ReaderState) (left' : Option (List ℕ)) (shelf' : Option World) (state' : Whole) (line : Line) (octets : List ℕ)
-      → IsUncalled origin input → Stands rows origin world input before old.held old.taken left written shelf state → given.Answers line old left new left' → Replies rows line new.text state shelf octets state' shelf'
+  pub turned : (origin : Option World) (world : World) (input before : List ℕ) (old : ReaderState)
+      (left written : Option (List ℕ)) (shelf : Option World) (state : Whole) (new : ReaderState)
+      (left' : Option (List ℕ)) (shelf' : Option World) (state' : Whole) (line : Line) (octets : List ℕ)
+      → IsUncalled origin input → Stands rows origin world input before old.held old.taken left written shelf state →
+      given.Answers line old left new left' → Replies rows line new.text state shelf octets state' shelf'
       → Turned origin world input before new.held new.taken left' written octets shelf' state'
   turned origin world input before old left written shelf state new left' shelf' state' Text octets uncalled s a r =
       let a' = rw s.left_is at a in
-      turned_by origin world input before old left written shelf state new left' shelf' state' new.text (use_of (heard new.text)) r.given r.reply r.mid r.told octets uncalled s a'.0 refl r.served r.does r.tells r.octets_are
+      turned_by origin world input before old left written shelf state new left' shelf' state' new.text
+      (use_of (heard new.text)) r.given r.reply r.mid r.told octets uncalled s a'.0 refl r.served r.does r.tells
+      r.octets_are
   turned origin world input before old left written shelf state new left' shelf' state' Long octets uncalled s a r =
       let a' = rw s.left_is at a in
-      turned_by origin world input before old left written shelf state new left' shelf' state' a'.0 unused r.given r.reply r.mid r.told octets uncalled s a'.2 (ap use_of (heard_long a'.0 a'.1)) r.served (r.does a'.0 a'.1) r.tells r.octets_are
-  turned origin world input before old left written shelf state new left' shelf' state' End octets uncalled s a r = absurd r.does
+      turned_by origin world input before old left written shelf state new left' shelf' state' a'.0 unused r.given
+      r.reply r.mid r.told octets uncalled s a'.2 (ap use_of (heard_long a'.0 a'.1)) r.served (r.does a'.0 a'.1)
+      r.tells r.octets_are
+  turned origin world input before old left written shelf state new left' shelf' state' End octets uncalled s a r =
+      absurd r.does
 
   -- the reply that was due is written
-  pub wrote : (origin : Option World) (world : World) (input before : List ℕ) (held' : List ℕ) (taken' : ℕ) (left' written : Option (List ℕ)) (octets : List ℕ) (shelf' : Option World) (state' : Whole) (written' : Option (List ℕ))
-      → (t : Turned origin world input before held' taken' left' written octets shelf' state') → written' ≡ Some ((before ++ octets_of t.stands.replies) ++ octets)
+  pub wrote : (origin : Option World) (world : World) (input before : List ℕ) (held' : List ℕ) (taken' : ℕ)
+      (left' written : Option (List ℕ)) (octets : List ℕ) (shelf' : Option World) (state' : Whole)
+      (written' : Option (List ℕ))
+      → (t : Turned origin world input before held' taken' left' written octets shelf' state') →
+      written' ≡ Some ((before ++ octets_of t.stands.replies) ++ octets)
       → Stands rows origin world input before held' taken' left' written' shelf' state'
   wrote origin world input before held' taken' left' written octets shelf' state' written' t w =
-      goes_on rows origin world input before t.held t.taken t.left written t.shelf t.state held' taken' left' written' shelf' state' t.line t.reply t.told t.stands t.gives t.next t.is_next t.step
+      goes_on rows origin world input before t.held t.taken t.left written t.shelf t.state held' taken' left' written'
+      shelf' state' t.line t.reply t.told t.stands t.gives t.next t.is_next t.step
       (w ∙ ap (λ (x : List ℕ). Some ((before ++ octets_of t.stands.replies) ++ x)) t.octets_are)
 
-  pub Begun-here : OneOutcome rows → (left0 written0 : Option (List ℕ)) (origin : Option World) (held : List ℕ) (taken : ℕ) (left written : Option (List ℕ)) (shelf : Option World) (state : Whole) → Stood left0 written0 origin held taken left written shelf state
+  pub Begun-here : OneOutcome rows → (left0 written0 : Option (List ℕ)) (origin : Option World) (held : List ℕ)
+      (taken : ℕ) (left written : Option (List ℕ)) (shelf : Option World) (state : Whole) →
+      Stood left0 written0 origin held taken left written shelf state
       → AllTold left0 written0 origin (λ input before world. Begun rows world (lines_of input) before written)
   Begun-here law left0 written0 origin held taken left written shelf state s =
-      all_weaker left0 written0 origin _ _ (λ input before world uncalled s. so_far rows origin world law input before held taken left written shelf state s) s
+      all_weaker left0 written0 origin _ _ (λ input before world uncalled s. so_far rows origin world law input before
+      held taken left written shelf state s) s
 
   -- the line that was given last had no reply
-  pub cut_by : (origin : Option World) (world : World) (input before : List ℕ) (old : ReaderState) (left written : Option (List ℕ)) (shelf : Option World) (state : Whole) (new : ReaderState) (left' : Option (List ℕ)) (shelf' : Option World) (line : Line)
-      → (s : Stands rows origin world input before old.held old.taken left written shelf state) → given.Answers line old left new left' → line ≢ End
+  pub cut_by : (origin : Option World) (world : World) (input before : List ℕ) (old : ReaderState)
+      (left written : Option (List ℕ)) (shelf : Option World) (state : Whole) (new : ReaderState)
+      (left' : Option (List ℕ)) (shelf' : Option World) (line : Line)
+      → (s : Stands rows origin world input before old.held old.taken left written shelf state) →
+      given.Answers line old left new left' → line ≢ End
       → MayPut state.state (use_by line new.text) shelf shelf'
       → IsCutShort rows origin world (drop (length s.done) (lines_of input)) (over state s.now) new.held left' shelf'
   cut_by origin world input before old left written shelf state new left' shelf' Text s a some m =
       let a' = rw s.left_is at a in
-      cut_short rows origin world input before old.held old.taken left written shelf state new.held new.taken left' new.text (use_of (heard new.text)) shelf' s a'.0 refl m
+      cut_short rows origin world input before old.held old.taken left written shelf state new.held new.taken left'
+      new.text (use_of (heard new.text)) shelf' s a'.0 refl m
   cut_by origin world input before old left written shelf state new left' shelf' Long s a some m =
       let a' = rw s.left_is at a in
-      cut_short rows origin world input before old.held old.taken left written shelf state new.held new.taken left' a'.0 unused shelf' s a'.2 (ap use_of (heard_long a'.0 a'.1)) m
+      cut_short rows origin world input before old.held old.taken left written shelf state new.held new.taken left' a'.0
+      unused shelf' s a'.2 (ap use_of (heard_long a'.0 a'.1)) m
   cut_by origin world input before old left written shelf state new left' shelf' End s a some m = absurd (some refl)
 
-  pub First-here : (left0 written0 : Option (List ℕ)) (origin : Option World) (old : ReaderState) (left written : Option (List ℕ)) (shelf : Option World) (state : Whole) (new : ReaderState) (left' : Option (List ℕ)) (shelf' : Option World) (line : Line)
-      → Stood left0 written0 origin old.held old.taken left written shelf state → given.Answers line old left new left' → line ≢ End
+  pub First-here : (left0 written0 : Option (List ℕ)) (origin : Option World) (old : ReaderState)
+      (left written : Option (List ℕ)) (shelf : Option World) (state : Whole) (new : ReaderState)
+      (left' : Option (List ℕ)) (shelf' : Option World) (line : Line)
+      → Stood left0 written0 origin old.held old.taken left written shelf state →
+      given.Answers line old left new left' → line ≢ End
       → MayPut state.state (use_by line new.text) shelf shelf' → length new.held < 65536
-      → AllTold left0 written0 origin (λ input before world. ReachedWhole rows world input before left' written origin shelf')
+      → AllTold left0 written0 origin (λ input before world. ReachedWhole rows world input before left' written origin
+      shelf')
   First-here left0 written0 origin old left written shelf state new left' shelf' line s a some m few =
       all_weaker left0 written0 origin _ _ (λ input before world uncalled s.
       let cut = cut_by origin world input before old left written shelf state new left' shelf' line s a some m in
-      at_first rows origin world input before old.held old.taken left written shelf state left' shelf' s (inr (cut.next few)) cut.puts) s
+      at_first rows origin world input before old.held old.taken left written shelf state left' shelf' s
+      (inr (cut.next few)) cut.puts) s
 
-  pub First-reached : (left0 written0 : Option (List ℕ)) (origin : Option World) (source written : Option (List ℕ)) (shelf' : Option World)
-      → AllTold left0 written0 origin (λ input before world. ReachedWhole rows world input before source written origin shelf')
-      → AllTold left0 written0 origin (λ input before world. Reached rows world (lines_of input) before written origin shelf')
+  pub First-reached : (left0 written0 : Option (List ℕ)) (origin : Option World) (source written : Option (List ℕ))
+      (shelf' : Option World)
+      → AllTold left0 written0 origin (λ input before world. ReachedWhole rows world input before source written origin
+      shelf')
+      → AllTold left0 written0 origin (λ input before world. Reached rows world (lines_of input) before written origin
+      shelf')
   First-reached left0 written0 origin source written shelf' r =
-      all_weaker left0 written0 origin _ _ (λ input before world uncalled r. reaches_whole rows origin world input before source written shelf' r) r
+      all_weaker left0 written0 origin _ _ (λ input before world uncalled r. reaches_whole rows origin world input
+      before source written shelf' r) r
 
-  pub Answered-end : (left0 written0 : Option (List ℕ)) (origin : Option World) (old : ReaderState) (left written : Option (List ℕ)) (shelf : Option World) (state : Whole) (new : ReaderState) (left' : Option (List ℕ))
+  pub Answered-end : (left0 written0 : Option (List ℕ)) (origin : Option World) (old : ReaderState)
+      (left written : Option (List ℕ)) (shelf : Option World) (state : Whole) (new : ReaderState)
+      (left' : Option (List ℕ))
       → Stood left0 written0 origin old.held old.taken left written shelf state → given.Answers End old left new left'
-      → AllTold left0 written0 origin (λ input before world. Answered rows world (lines_of input) before written × (left' ≡ Some []))
+      → AllTold left0 written0 origin (λ input before world. Answered rows world (lines_of input) before
+      written × (left' ≡ Some []))
   Answered-end left0 written0 origin old left written shelf state new left' s e =
       all_weaker left0 written0 origin _ _ (λ input before world uncalled s.
       let e' = rw s.left_is at e in
       (at_end rows origin world input before old.held old.taken left written shelf state s e'.0.0 e'.0.1, e'.0.3)) s
 
-  pub Left-end : (left0 written0 : Option (List ℕ)) (origin : Option World) (old : ReaderState) (left written : Option (List ℕ)) (shelf : Option World) (state : Whole) (new : ReaderState) (left' : Option (List ℕ))
+  pub Left-end : (left0 written0 : Option (List ℕ)) (origin : Option World) (old : ReaderState)
+      (left written : Option (List ℕ)) (shelf : Option World) (state : Whole) (new : ReaderState)
+      (left' : Option (List ℕ))
       → Stood left0 written0 origin old.held old.taken left written shelf state → given.Answers End old left new left'
       → AllTold left0 written0 origin (λ input before world. Leaves rows world (lines_of input) origin shelf)
   Left-end left0 written0 origin old left written shelf state new left' s e =
@@ -146,9 +198,11 @@ module _ (rows : PolicyRows) where
       let e' = rw s.left_is at e in
       leaves rows origin world input before old.held old.taken left written shelf state s e'.0.0 e'.0.1) s
 
-  pub Answered-stop : (left0 written0 : Option (List ℕ)) (origin : Option World) (held : List ℕ) (taken : ℕ) (left written : Option (List ℕ)) (shelf : Option World) (state : Whole) (left' : Option (List ℕ)) (taken' : ℕ)
+  pub Answered-stop : (left0 written0 : Option (List ℕ)) (origin : Option World) (held : List ℕ) (taken : ℕ)
+      (left written : Option (List ℕ)) (shelf : Option World) (state : Whole) (left' : Option (List ℕ)) (taken' : ℕ)
       → Stood left0 written0 origin held taken left written shelf state → Stops held left taken left' taken'
-      → AllTold left0 written0 origin (λ input before world. FinishedTaken rows world input before left' written origin shelf × (taken' ≡ 2 ^ 30 → FinishedMost rows world input before left' written origin shelf))
+      → AllTold left0 written0 origin (λ input before world. FinishedTaken rows world input before left' written origin
+      shelf × (taken' ≡ 2 ^ 30 → FinishedMost rows world input before left' written origin shelf))
   Answered-stop left0 written0 origin held taken left written shelf state left' taken' s t =
       all_weaker left0 written0 origin _ _ (λ input before world uncalled s.
       let t' = rw s.left_is at t in (
@@ -156,78 +210,151 @@ module _ (rows : PolicyRows) where
         λ n. at_most rows origin world input before held taken left written shelf state left' taken' s t' n,
       )) s
 
-  pub AllTold-weaker : (left0 written0 : Option (List ℕ)) (origin : Option World) (P Q : List ℕ → List ℕ → World → Type 0) → ((input before : List ℕ) (world : World) → P input before world → Q input before world)
+  pub AllTold-weaker : (left0 written0 : Option (List ℕ)) (origin : Option World) (P Q : List ℕ → List ℕ → World →
+      Type 0) → ((input before : List ℕ) (world : World) → P input before world → Q input before world)
       → AllTold left0 written0 origin P → AllTold left0 written0 origin Q
-  AllTold-weaker left0 written0 origin P Q f t = all_weaker left0 written0 origin P Q (λ input before world uncalled. f input before world) t
+  AllTold-weaker left0 written0 origin P Q f t = all_weaker left0 written0 origin P Q
+      (λ input before world uncalled. f input before world) t
 
   some-is : (x y : List ℕ) → Some x ≡ Some y → x ≡ y
   some-is x y e = cc
 
-  cut_size : (before replies reply prefix others : List ℕ) (n : ℕ) → n < length reply → Some ((before ++ replies) ++ take n reply) ≡ Some (before ++ ((replies ++ reply) ++ others)) → ⊥
+  cut_size : (before replies reply prefix others : List ℕ) (n : ℕ) → n < length reply →
+      Some ((before ++ replies) ++ take n reply) ≡ Some (before ++ ((replies ++ reply) ++ others)) → ⊥
   cut_size before replies reply prefix others n lt e =
-      let f : length ((before ++ replies) ++ take n reply) ≡ length (before ++ ((replies ++ reply) ++ others)) = ap length (some-is ((before ++ replies) ++ take n reply) (before ++ ((replies ++ reply) ++ others)) e) in
-      absurd (omega (arith, lt, f, length-append (before ++ replies) (take n reply), length-append before replies, length-append before ((replies ++ reply) ++ others), length-append (replies ++ reply) others, length-append replies reply, length-take n reply))
+      let f : length ((before ++ replies) ++ take n reply) ≡ length (before ++ ((replies ++ reply) ++ others)) =
+      ap length (some-is ((before ++ replies) ++ take n reply) (before ++ ((replies ++ reply) ++ others)) e) in
+      absurd (omega (
+        arith,
+        lt,
+        f,
+        length-append (before ++ replies) (take n reply),
+        length-append before replies,
+        length-append before ((replies ++ reply) ++ others),
+        length-append (replies ++ reply) others,
+        length-append replies reply,
+        length-take n reply,
+      ))
 
   -- where a reply was cut, not all of them were written
-  pub cut_most : OneOutcome rows → (origin : Option World) (world : World) (input before held : List ℕ) (taken : ℕ) (left : Option (List ℕ)) (shelf : Option World) (state : Whole) (replies reply : List ℕ) (n : ℕ) (written : Option (List ℕ))
-      → (s : Stands rows origin world input before held taken left (Some ((before ++ replies) ++ reply)) shelf state) → n < length reply → written ≡ Some ((before ++ replies) ++ take n reply) → AnsweredMost rows world input before left written → ⊥
+  pub cut_most : OneOutcome rows → (origin : Option World) (world : World) (input before held : List ℕ) (taken : ℕ)
+      (left : Option (List ℕ)) (shelf : Option World) (state : Whole) (replies reply : List ℕ) (n : ℕ)
+      (written : Option (List ℕ))
+      → (s : Stands rows origin world input before held taken left (Some ((before ++ replies) ++ reply)) shelf state) →
+      n < length reply → written ≡ Some ((before ++ replies) ++ take n reply) →
+      AnsweredMost rows world input before left written → ⊥
   cut_most law origin world input before held taken left shelf state replies reply n written s lt w a =
       let rests : s.rest ≡ a.taken.rest = some-is s.rest a.taken.rest (sym s.left_is ∙ a.taken.left_is) in
-      let size : taken ≡ 2 ^ 30 = omega (arith, s.count, a.size, ap length rests, ap length a.taken.input_is, length-append a.octets a.taken.rest) in
-      let same : before ++ octets_of s.replies ≡ before ++ (replies ++ reply) = some-is (before ++ octets_of s.replies) (before ++ (replies ++ reply)) (sym s.written_is ∙ ap (λ (x : List ℕ). Some x) (append_assoc before replies reply)) in
-      let all : octets_of s.replies ≡ replies ++ reply = append_cancel_left before (octets_of s.replies) (replies ++ reply) same in
+      let size : taken ≡ 2 ^ 30 = omega (
+        arith,
+        s.count,
+        a.size,
+        ap length rests,
+        ap length a.taken.input_is,
+        length-append a.octets a.taken.rest,
+      ) in
+      let same : before ++ octets_of s.replies ≡ before ++ (replies ++ reply) = some-is (before ++ octets_of s.replies)
+      (before ++ (replies ++ reply)) (sym s.written_is ∙ ap (λ (x : List ℕ). Some x)
+      (append_assoc before replies reply)) in
+      let all : octets_of s.replies ≡ replies ++ reply = append_cancel_left before (octets_of s.replies)
+      (replies ++ reply) same in
       elim s.lines [
         | inl prefix ↦
-            let parts : a.octets ++ a.taken.rest ≡ (s.gone ++ held) ++ a.taken.rest = sym a.taken.input_is ∙ s.parts ∙ sym (append_assoc s.gone held s.rest) ∙ ap (λ (x : List ℕ). (s.gone ++ held) ++ x) rests in
+            let parts : a.octets ++ a.taken.rest ≡ (s.gone ++ held) ++ a.taken.rest = sym a.taken.input_is ∙ s.parts
+            ∙ sym (append_assoc s.gone held s.rest) ∙ ap (λ (x : List ℕ). (s.gone ++ held) ++ x) rests in
             let octets : a.octets ≡ s.gone ++ held = append_cancel_right a.octets (s.gone ++ held) a.taken.rest parts in
-            let lines : whole_lines_of a.octets ≡ s.done ++ whole_lines_of held = ap whole_lines_of octets ∙ prefix.whole held in
-            let run : Run rows (opening world) (s.done ++ whole_lines_of held) a.answered.replies a.answered.told.last = subst (λ (ls : List (List ℕ)). Run rows (opening world) ls a.answered.replies a.answered.told.last) lines a.answered.told.run in
-            let first = Run-prefix rows s.done (whole_lines_of held) (opening world) a.answered.replies a.answered.told.last run in
-            let one = Run-one rows law s.done (opening world) tt first.0 s.replies first.1 (over state s.now) first.3 s.run in
+            let lines : whole_lines_of a.octets ≡ s.done ++ whole_lines_of held = ap whole_lines_of octets
+            ∙ prefix.whole held in
+            let run : Run rows (opening world) (s.done ++ whole_lines_of held) a.answered.replies a.answered.told.last =
+            subst (λ (ls : List (List ℕ)). Run rows (opening world) ls a.answered.replies a.answered.told.last)
+            lines a.answered.told.run in
+            let first = Run-prefix rows s.done (whole_lines_of held) (opening world) a.answered.replies
+            a.answered.told.last run in
+            let one = Run-one rows law s.done (opening world) tt first.0 s.replies first.1 (over state s.now) first.3
+            s.run in
             let whole : octets_of a.answered.replies ≡ (replies ++ reply) ++ octets_of first.2 =
-            ap octets_of first.4 ∙ flat_map-append reply_text first.0 first.2 ∙ ap (λ (x : List ℕ). x ++ octets_of first.2) (ap octets_of one.0 ∙ all) in
-            cut_size before replies reply [] (octets_of first.2) n lt (sym w ∙ a.answered.written ∙ ap (λ (x : List ℕ). Some (before ++ x)) whole)
+            ap octets_of first.4 ∙ flat_map-append reply_text first.0 first.2
+            ∙ ap (λ (x : List ℕ). x ++ octets_of first.2) (ap octets_of one.0 ∙ all) in
+            cut_size before replies reply [] (octets_of first.2) n lt (sym w ∙ a.answered.written
+            ∙ ap (λ (x : List ℕ). Some (before ++ x)) whole)
         | inr ended ↦ absurd (omega (arith, ended.0, size))
       ]
 
   -- when 2 ^ 30 octets were taken
-  most_size : (origin : Option World) (world : World) (input before held : List ℕ) (taken : ℕ) (left written : Option (List ℕ)) (shelf : Option World) (state : Whole) (rest : List ℕ) (left' written' : Option (List ℕ)) (taken' : ℕ)
-      → (s : Stands rows origin world input before held taken left written shelf state) → left' ≡ Some rest → taken' + length rest ≡ taken + length s.rest → AnsweredMost rows world input before left' written' → taken' ≡ 2 ^ 30
+  most_size : (origin : Option World) (world : World) (input before held : List ℕ) (taken : ℕ)
+      (left written : Option (List ℕ)) (shelf : Option World) (state : Whole) (rest : List ℕ)
+      (left' written' : Option (List ℕ)) (taken' : ℕ)
+      → (s : Stands rows origin world input before held taken left written shelf state) → left' ≡ Some rest →
+      taken' + length rest ≡ taken + length s.rest → AnsweredMost rows world input before left' written' →
+      taken' ≡ 2 ^ 30
   most_size origin world input before held taken left written shelf state rest left' written' taken' s e n a =
       let rests : rest ≡ a.taken.rest = some-is rest a.taken.rest (sym e ∙ a.taken.left_is) in
-      omega (arith, n, s.count, a.size, ap length rests, ap length a.taken.input_is, length-append a.octets a.taken.rest)
+      omega (
+        arith,
+        n,
+        s.count,
+        a.size,
+        ap length rests,
+        ap length a.taken.input_is,
+        length-append a.octets a.taken.rest,
+      )
 
-  pub Most-end : (left0 written0 : Option (List ℕ)) (origin : Option World) (old : ReaderState) (left written : Option (List ℕ)) (shelf : Option World) (state : Whole) (new : ReaderState) (left' : Option (List ℕ))
-      → Stood left0 written0 origin old.held old.taken left written shelf state → given.Answers End old left new left' → AllTold left0 written0 origin (λ input before world. AnsweredMost rows world input before left' written → ⊥)
+  pub Most-end : (left0 written0 : Option (List ℕ)) (origin : Option World) (old : ReaderState)
+      (left written : Option (List ℕ)) (shelf : Option World) (state : Whole) (new : ReaderState)
+      (left' : Option (List ℕ))
+      → Stood left0 written0 origin old.held old.taken left written shelf state → given.Answers End old left new left' →
+      AllTold left0 written0 origin (λ input before world. AnsweredMost rows world input before left' written → ⊥)
   Most-end left0 written0 origin old left written shelf state new left' s e =
       all_weaker left0 written0 origin _ _ (λ input before world uncalled s a.
       let e' = rw s.left_is at e in
-      absurd (omega (arith, most_size origin world input before old.held old.taken left written shelf state [] left' written old.taken s e'.0.3 (ap (λ (x : List ℕ). old.taken + length x) (sym e'.0.1)) a, e'.1, e'.2))) s
+      absurd (omega (
+        arith,
+        most_size origin world input before old.held old.taken left written shelf state [] left'
+            written old.taken s e'.0.3 (ap (λ (x : List ℕ). old.taken + length x) (sym e'.0.1)) a,
+        e'.1,
+        e'.2,
+      ))) s
 
-  pub Most-stop : (left0 written0 : Option (List ℕ)) (origin : Option World) (held : List ℕ) (taken : ℕ) (left written : Option (List ℕ)) (shelf : Option World) (state : Whole) (left' : Option (List ℕ)) (taken' : ℕ)
-      → Stood left0 written0 origin held taken left written shelf state → Stops held left taken left' taken' → taken' < 2 ^ 30 → AllTold left0 written0 origin (λ input before world. AnsweredMost rows world input before left' written → ⊥)
+  pub Most-stop : (left0 written0 : Option (List ℕ)) (origin : Option World) (held : List ℕ) (taken : ℕ)
+      (left written : Option (List ℕ)) (shelf : Option World) (state : Whole) (left' : Option (List ℕ)) (taken' : ℕ)
+      → Stood left0 written0 origin held taken left written shelf state → Stops held left taken left' taken' →
+      taken' < 2 ^ 30 → AllTold left0 written0 origin (λ input before world. AnsweredMost rows world input before
+      left' written → ⊥)
   Most-stop left0 written0 origin held taken left written shelf state left' taken' s t lt =
       all_weaker left0 written0 origin _ _ (λ input before world uncalled s a.
       let t' = rw s.left_is at t in
-      absurd (omega (arith, most_size origin world input before held taken left written shelf state t'.rest left' written taken' s t'.left_is t'.count a, lt))) s
+      absurd (omega (
+        arith,
+        most_size origin world input before held taken left written shelf state t'.rest left'
+            written taken' s t'.left_is t'.count a,
+        lt,
+      ))) s
 
   -- where nothing was taken, whatever was written
-  pub Most-untouched : (left0 written0 : Option (List ℕ)) (origin : Option World) (written : Option (List ℕ)) → AllTold left0 written0 origin (λ input before world. AnsweredMost rows world input before left0 written → ⊥)
+  pub Most-untouched : (left0 written0 : Option (List ℕ)) (origin : Option World) (written : Option (List ℕ)) →
+      AllTold left0 written0 origin (λ input before world. AnsweredMost rows world input before left0 written → ⊥)
   Most-untouched left0 written0 origin written =
       all_told left0 written0 origin _ (λ input before world e f is a.
       let same : input ≡ a.taken.rest = some-is input a.taken.rest (sym e ∙ a.taken.left_is) in
       absurd (omega (arith, a.size, ap length same, ap length a.taken.input_is, length-append a.octets a.taken.rest)))
 
   -- where nothing was taken and nothing written
-  pub Begun-nothing : OneOutcome rows → (left0 written0 : Option (List ℕ)) (origin : Option World) → AllTold left0 written0 origin (λ input before world. Begun rows world (lines_of input) before written0)
-  Begun-nothing law left0 written0 origin = Begun-here law left0 written0 origin [] 0 left0 written0 origin beginning (Stood-init left0 written0 origin)
+  pub Begun-nothing : OneOutcome rows → (left0 written0 : Option (List ℕ)) (origin : Option World) →
+      AllTold left0 written0 origin (λ input before world. Begun rows world (lines_of input) before written0)
+  Begun-nothing law left0 written0 origin = Begun-here law left0 written0 origin [] 0 left0 written0 origin beginning
+      (Stood-init left0 written0 origin)
 
-  pub First-nothing : (left0 written0 : Option (List ℕ)) (origin : Option World) → AllTold left0 written0 origin (λ input before world. ReachedWhole rows world input before left0 written0 origin origin)
+  pub First-nothing : (left0 written0 : Option (List ℕ)) (origin : Option World) →
+      AllTold left0 written0 origin (λ input before world. ReachedWhole rows world input before left0 written0 origin
+      origin)
   First-nothing left0 written0 origin =
       all_told left0 written0 origin _ (λ input before world e f is.
       let s = starts rows origin world input before left0 written0 origin e f is in
       at_first rows origin world input before [] 0 left0 written0 origin beginning left0 origin s (inl e)
       (puts_nothing rows origin world origin s.now beginning (drop (length s.done) (lines_of input)) s.is_now))
 
-  pub Reached-nothing : (left0 written0 : Option (List ℕ)) (origin : Option World) → AllTold left0 written0 origin (λ input before world. Reached rows world (lines_of input) before written0 origin origin)
-  Reached-nothing left0 written0 origin = First-reached left0 written0 origin left0 written0 origin (First-nothing left0 written0 origin)
+  pub Reached-nothing : (left0 written0 : Option (List ℕ)) (origin : Option World) →
+      AllTold left0 written0 origin (λ input before world. Reached rows world (lines_of input) before written0 origin
+      origin)
+  Reached-nothing left0 written0 origin = First-reached left0 written0 origin left0 written0 origin
+      (First-nothing left0 written0 origin)

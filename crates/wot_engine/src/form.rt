@@ -1,4 +1,5 @@
-//! The words after the program's name, read by hand.
+//! The command line: `run`, `run DIRECTORY` or `gen X N`, parsed by hand. `words` acts on it. A further form is also in
+//! specs/Forms.antt and in the usage text of the docs.
 ghost use Rattle.std.specs.Prelude.{◌≡◌, ◌≢◌, ◌≤◌, ◌↔◌, ◌∷◌, [], length, map, slice_index, true, false, codes};
 ghost use Rattle.std.specs.Prelude.{string_bytes, IsTrue, Some, None, if◌then◌else◌};
 ghost use Rattle.wot_script.specs.Decimal.{decimal_up_to, positive_up_to};

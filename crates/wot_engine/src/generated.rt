@@ -1,4 +1,5 @@
-//! A generated run: a script that the program makes, answers and sums up.
+//! A generated run: a script that wot_gen makes, answered by a machine over an empty directory in memory, and summed up
+//! in three lines. `words` calls it for `gen X N`.
 ghost use Rattle.std.specs.Prelude.{◌≡◌, ◌⊎◌, ◌≤◌, ◌<◌, ◌+◌, ◌-◌, ◌++◌, ◌^◌, List, [], length};
 ghost use Rattle.std.specs.Prelude.{IfErr, IfOk, OnOk, IsErrOf};
 ghost use Rattle.std.specs.List.{AllByRecursion};

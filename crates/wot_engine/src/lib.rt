@@ -1,4 +1,5 @@
-//! The program's top call: a run of the machine over a source and a sink.
+//! The program's top call: a run of the machine over a source and a sink, with its exit status. wot_cli calls
+//! `run_words` and does nothing else; the tests of whole runs call it too.
 #![tactic(auto)]
 
 mod form;

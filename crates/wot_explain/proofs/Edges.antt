@@ -1,5 +1,6 @@
--- The word 0 stands exactly beside the usable edges.
-use Rattle.std.proofs.Common.{◌≡◌, inl, inr, ℕ, ◌+◌, Bool, true, false, cond, ◌&&◌, List, [], ◌∷◌, Option, Some, None, refl, sym, ap, ◌∙◌, arith}
+-- The word is 0 if and only if the certification is a usable edge.
+use Rattle.std.proofs.Common.{◌≡◌, inl, inr, ℕ, ◌+◌, Bool, true, false, cond, ◌&&◌, List, [], ◌∷◌, Option, Some, None}
+use Rattle.std.proofs.Common.{refl, sym, ap, ◌∙◌, arith}
 use Rattle.std.specs.Prelude.{filter}
 use Rattle.std.specs.declared.cmp.Ordering.{Ordering}
 use Rattle.std.specs.declared.cmp.Ordering.TheVariants.{Less, Equal, Greater}
@@ -58,8 +59,9 @@ below_in x a [] h g = absurd g
 below_in x a (y ∷ ys) h (inl e) = ap (sig_cmp x) e ∙ h.0
 below_in x a (y ∷ ys) h (inr g) = below_in x a ys h.1 g
 
--- the one of a rising list that has the first one's body is the first one
-first_in : (x a : Signature) (xs : List Signature) → IsBelow sig_cmp x xs → Has (x ∷ xs) a → is_eq (sig_cmp a x) ≡ true → a ≡ x
+-- the element of a sorted list that has the first one's body is the first one
+first_in : (x a : Signature) (xs : List Signature) → IsBelow sig_cmp x xs → Has (x ∷ xs) a →
+    is_eq (sig_cmp a x) ≡ true → a ≡ x
 first_in x a xs h (inl e) f = e
 first_in x a xs h (inr g) f =
     let less : sig_cmp x a ≡ Less = below_in x a xs h g in
@@ -69,16 +71,19 @@ first_in x a xs h (inr g) f =
 
 later_in : (x a : Signature) (xs : List Signature) → Has (x ∷ xs) a → is_eq (sig_cmp a x) ≡ false → Has xs a
 later_in x a xs (inl e) f =
-    let tied : is_eq (sig_cmp a x) ≡ true = ap (λ (y : Signature). is_eq (sig_cmp y x)) e ∙ ap is_eq (tied_itself sig_total x) in
+    let tied : is_eq (sig_cmp a x) ≡ true = ap (λ (y : Signature). is_eq (sig_cmp y x)) e
+    ∙ ap is_eq (tied_itself sig_total x) in
     absurd (cc (f, tied))
 later_in x a xs (inr g) f = g
 
--- two of a rising list that have one place are one
-one_place : (ss : List Signature) (a b : Signature) → IsRising sig_cmp ss → Has ss a → Has ss b → place_of a ss ≡ place_of b ss → a ≡ b
+-- two elements of a sorted list at one place are equal
+one_place : (ss : List Signature) (a b : Signature) → IsRising sig_cmp ss → Has ss a → Has ss b →
+    place_of a ss ≡ place_of b ss → a ≡ b
 one_place [] a b h f g e = absurd f
 one_place (x ∷ xs) a b h f g e = by (is_eq (sig_cmp a x)) (is_eq (sig_cmp b x)) refl refl (one_place xs a b h.1) e
   where
-    by : (p q : Bool) → is_eq (sig_cmp a x) ≡ p → is_eq (sig_cmp b x) ≡ q → (Has xs a → Has xs b → place_of a xs ≡ place_of b xs → a ≡ b)
+    by : (p q : Bool) → is_eq (sig_cmp a x) ≡ p → is_eq (sig_cmp b x) ≡ q →
+        (Has xs a → Has xs b → place_of a xs ≡ place_of b xs → a ≡ b)
         → cond p 0 (place_of a xs + 1) ≡ cond q 0 (place_of b xs + 1) → a ≡ b
     by true true ep eq more e = first_in x a xs h.0 f ep ∙ sym (first_in x b xs h.0 g eq)
     by true false ep eq more e = absurd (omega (arith, e))
@@ -87,53 +92,66 @@ one_place (x ∷ xs) a b h f g e = by (is_eq (sig_cmp a x)) (is_eq (sig_cmp b x)
 
 -- ---- the newest
 
--- a certification that counts by this one, is live and unrevoked
+-- a certification that counts for this issuer, is live and unrevoked
 abbrev is_valid : Entries → Fpr → ℕ → List Signature → Signature → Bool
-is_valid verdicts fpr t sigs s = is_certification s && (counts_by verdicts fpr s && (is_live t s && is_unrevoked verdicts fpr t sigs s))
+is_valid verdicts fpr t sigs s =
+    is_certification s && (counts_by verdicts fpr s && (is_live t s && is_unrevoked verdicts fpr t sigs s))
 
-greatest_in : (R : Signature → Signature → Ordering) (p : Signature → Bool) (ss : List Signature) (n : Signature) → greatest R (filter p ss) ≡ Some n → Has ss n × (p n ≡ true)
+greatest_in : (R : Signature → Signature → Ordering) (p : Signature → Bool) (ss : List Signature) (n : Signature) →
+    greatest R (filter p ss) ≡ Some n → Has ss n × (p n ≡ true)
 greatest_in R p [] n e = absurd cc
 greatest_in R p (s ∷ ss) n e = by (p s) refl (greatest_in R p ss n) e
   where
-    later : (greatest R (filter p ss) ≡ Some n → Has ss n × (p n ≡ true)) → greatest R (filter p ss) ≡ Some n → Has (s ∷ ss) n × (p n ≡ true)
+    later : (greatest R (filter p ss) ≡ Some n → Has ss n × (p n ≡ true)) → greatest R (filter p ss) ≡ Some n →
+        Has (s ∷ ss) n × (p n ≡ true)
     later more e = let h = more e in (inr h.0, h.1)
 
     this : p s ≡ true → n ≡ s → Has (s ∷ ss) n × (p n ≡ true)
     this h e = (inl e, ap p e ∙ h)
 
-    higher_is : (o : Ordering) (y : Signature) → (greatest R (filter p ss) ≡ Some n → Has ss n × (p n ≡ true)) → p s ≡ true → greatest R (filter p ss) ≡ Some y → higher o s y ≡ n → Has (s ∷ ss) n × (p n ≡ true)
+    higher_is : (o : Ordering) (y : Signature) → (greatest R (filter p ss) ≡ Some n → Has ss n × (p n ≡ true)) →
+        p s ≡ true → greatest R (filter p ss) ≡ Some y → higher o s y ≡ n → Has (s ∷ ss) n × (p n ≡ true)
     higher_is Less y more h g e = later more (g ∙ ap Some e)
     higher_is Equal y more h g e = this h (sym e)
     higher_is Greater y more h g e = this h (sym e)
 
-    of : (best : Option Signature) → (greatest R (filter p ss) ≡ Some n → Has ss n × (p n ≡ true)) → p s ≡ true → greatest R (filter p ss) ≡ best → higher_of R s best ≡ Some n → Has (s ∷ ss) n × (p n ≡ true)
+    of : (best : Option Signature) → (greatest R (filter p ss) ≡ Some n → Has ss n × (p n ≡ true)) → p s ≡ true →
+        greatest R (filter p ss) ≡ best → higher_of R s best ≡ Some n → Has (s ∷ ss) n × (p n ≡ true)
     of None more h g e = this h (let q : s ≡ n = cc in sym q)
     of (Some y) more h g e = higher_is (R s y) y more h g (let q : higher (R s y) s y ≡ n = cc in q)
 
-    by : (b : Bool) → p s ≡ b → (greatest R (filter p ss) ≡ Some n → Has ss n × (p n ≡ true)) → greatest R (cond b (s ∷ filter p ss) (filter p ss)) ≡ Some n → Has (s ∷ ss) n × (p n ≡ true)
+    by : (b : Bool) → p s ≡ b → (greatest R (filter p ss) ≡ Some n → Has ss n × (p n ≡ true)) →
+        greatest R (cond b (s ∷ filter p ss) (filter p ss)) ≡ Some n → Has (s ∷ ss) n × (p n ≡ true)
     by true h more e = of (greatest R (filter p ss)) more h refl e
     by false h more e = later more e
 
 -- ---- usable
 
-usable_by : (f : Certificate → Standing) (found : Option Certificate) (i : Standing) (made : ℕ) → option_map f found ≡ Some i → is_usable i made ≡ true
+usable_by : (f : Certificate → Standing) (found : Option Certificate) (i : Standing) (made : ℕ) →
+    option_map f found ≡ Some i → is_usable i made ≡ true
     → option_map_or (λ (c : Certificate). is_usable (f c) made) found false ≡ true
 usable_by f None i made e h = absurd cc
 usable_by f (Some c) i made e h = let same : f c ≡ i = cc in ap (λ (j : Standing). is_usable j made) same ∙ h
 
-found_usable : (f : Certificate → Standing) (found : Option Certificate) (made : ℕ) → option_map_or (λ (c : Certificate). is_usable (f c) made) found false ≡ true
+found_usable : (f : Certificate → Standing) (found : Option Certificate) (made : ℕ) →
+    option_map_or (λ (c : Certificate). is_usable (f c) made) found false ≡ true
     → (i : Standing) × (option_map f found ≡ Some i) × (is_usable i made ≡ true)
 found_usable f None made h = absurd cc
 found_usable f (Some c) made h = (f c, refl, h)
 
-module _ (verdicts : Entries) (certs : Certificates) (t : ℕ) (c : Certificate) (place : ℕ) (uid : Component) (s : Signature) where
-  edge_at_place : (issuer : Fpr) → slice_get c.user_ids place ≡ Some uid → edge_of verdicts c t issuer place ≡ edge_on verdicts (own c) t issuer place uid
-  edge_at_place issuer here = ap (λ (o : Option Component). option_and_then (edge_on verdicts (own c) t issuer place) o) here
+module _ (verdicts : Entries) (certs : Certificates) (t : ℕ) (c : Certificate) (place : ℕ) (uid : Component)
+    (s : Signature) where
+  edge_at_place : (issuer : Fpr) → slice_get c.user_ids place ≡ Some uid →
+      edge_of verdicts c t issuer place ≡ edge_on verdicts (own c) t issuer place uid
+  edge_at_place issuer here = ap (λ (o : Option Component). option_and_then (edge_on verdicts (own c) t issuer place) o)
+      here
 
-  pub is_usable_where : IsOnUserId c place uid s → reason_word verdicts certs t uid s ≡ 0 → (step : Step) × IsUsableEdge verdicts certs t c place (place_of s uid.sigs) step
+  pub is_usable_where : IsOnUserId c place uid s → reason_word verdicts certs t uid s ≡ 0 →
+      (step : Step) × IsUsableEdge verdicts certs t c place (place_of s uid.sigs) step
   is_usable_where on h =
       let w = clear_where verdicts certs t uid s h in
-      let newest = so_of (λ (n : Signature). is_eq (sig_cmp s n)) (newest_certification verdicts w.issuer t uid) w.newest in
+      let newest = so_of (λ (n : Signature). is_eq (sig_cmp s n)) (newest_certification verdicts w.issuer t uid)
+      w.newest in
       let body = same_body s newest.0 newest.2 in
       let edge = edge_facts w.issuer (own c) place (place_of s uid.sigs) w.facts in (
         step_of edge,
@@ -142,11 +160,14 @@ module _ (verdicts : Entries) (certs : Certificates) (t : ℕ) (c : Certificate)
           edge = edge;
           made = edge_at_place w.issuer on.here
               ∙ ap (option_and_then (edge_by w.issuer (own c) place uid.sigs)) newest.1
-              ∙ ap (λ (k : ℕ). option_map (edge_facts w.issuer (own c) place k) (said_by newest.0)) (sym (place_same s newest.0 uid.sigs body))
-              ∙ ap (λ (b : List ℕ). option_map (edge_facts w.issuer (own c) place (place_of s uid.sigs)) (facts_of b)) (sym body)
+              ∙ ap (λ (k : ℕ). option_map (edge_facts w.issuer (own c) place k) (said_by newest.0))
+              (sym (place_same s newest.0 uid.sigs body))
+              ∙ ap (λ (b : List ℕ). option_map (edge_facts w.issuer (own c) place (place_of s uid.sigs)) (facts_of b))
+              (sym body)
               ∙ ap (option_map (edge_facts w.issuer (own c) place (place_of s uid.sigs))) w.read;
           place = refl;
-          usable = usable_by (λ (x : Certificate). standing_of verdicts x t) (lookup (is_fpr w.issuer) certs) w.standing w.facts.made w.kept w.usable;
+          usable = usable_by (λ (x : Certificate). standing_of verdicts x t) (lookup (is_fpr w.issuer) certs) w.standing
+              w.facts.made w.kept w.usable;
           shown = refl;
         },
       )
@@ -159,50 +180,70 @@ module _ (verdicts : Entries) (certs : Certificates) (t : ℕ) (c : Certificate)
     admitted : s.admitted ≡ true
 
   counting : (issuer : Fpr) (f : SigFacts) → said_by s ≡ Some f → counts_by verdicts issuer s ≡ true → Counts issuer f
-  counting issuer f e h = by (good_by (verdict_at verdicts s.number)) s.admitted refl refl (ap (λ (o : Option SigFacts). option_map_or (same_fpr issuer) (issuer_with o s.admitted (good_by (verdict_at verdicts s.number))) false) (sym e) ∙ h)
+  counting issuer f e h = by (good_by (verdict_at verdicts s.number)) s.admitted refl refl
+      (ap (λ (o : Option SigFacts). option_map_or (same_fpr issuer)
+      (issuer_with o s.admitted (good_by (verdict_at verdicts s.number))) false) (sym e) ∙ h)
     where
-      of : (other : Fpr) (b : Bool) → (f.sound && allows f.issuer other) ≡ b → good_by (verdict_at verdicts s.number) ≡ Some other → s.admitted ≡ true → option_map_or (same_fpr issuer) (cond b (Some other) None) false ≡ true → Counts issuer f
+      of : (other : Fpr) (b : Bool) → (f.sound && allows f.issuer other) ≡ b →
+          good_by (verdict_at verdicts s.number) ≡ Some other → s.admitted ≡ true →
+          option_map_or (same_fpr issuer) (cond b (Some other) None) false ≡ true → Counts issuer f
       of other true g said admitted h =
           let same : other ≡ issuer = sym (same_fpr-true issuer other h) in
           let parts = and_parts f.sound (allows f.issuer other) g in
-          record { said = said ∙ ap Some same; sound = parts.0; allowed = ap (allows f.issuer) (sym same) ∙ parts.1; admitted = admitted }
+          record {
+            said = said ∙ ap Some same;
+            sound = parts.0;
+            allowed = ap (allows f.issuer) (sym same) ∙ parts.1;
+            admitted = admitted;
+          }
       of other false g said admitted h = absurd cc
 
-      by : (good : Option Fpr) (a : Bool) → good_by (verdict_at verdicts s.number) ≡ good → s.admitted ≡ a → option_map_or (same_fpr issuer) (issuer_with (Some f) a good) false ≡ true → Counts issuer f
+      by : (good : Option Fpr) (a : Bool) → good_by (verdict_at verdicts s.number) ≡ good → s.admitted ≡ a →
+          option_map_or (same_fpr issuer) (issuer_with (Some f) a good) false ≡ true → Counts issuer f
       by None true said admitted h = absurd cc
       by None false said admitted h = absurd cc
       by (Some other) true said admitted h = of other (f.sound && allows f.issuer other) refl said admitted h
       by (Some other) false said admitted h = absurd cc
 
   -- the edge of the newest
-  made_by : (issuer : Fpr) (edge : EdgeFacts) (n : Signature) (f : Option SigFacts) → said_by n ≡ f → option_map (edge_facts issuer (own c) place (place_of n uid.sigs)) f ≡ Some edge
+  made_by : (issuer : Fpr) (edge : EdgeFacts) (n : Signature) (f : Option SigFacts) → said_by n ≡ f →
+      option_map (edge_facts issuer (own c) place (place_of n uid.sigs)) f ≡ Some edge
       → (g : SigFacts) × (said_by n ≡ Some g) × (edge_facts issuer (own c) place (place_of n uid.sigs) g ≡ edge)
   made_by issuer edge n None e h = absurd cc
   made_by issuer edge n (Some f) e h = (f, e, cc)
 
-  newest_of : (issuer : Fpr) (edge : EdgeFacts) (best : Option Signature) → newest_certification verdicts issuer t uid ≡ best → option_and_then (edge_by issuer (own c) place uid.sigs) best ≡ Some edge
-      → (n : Signature) × (newest_certification verdicts issuer t uid ≡ Some n) × (edge_by issuer (own c) place uid.sigs n ≡ Some edge)
+  newest_of : (issuer : Fpr) (edge : EdgeFacts) (best : Option Signature) →
+      newest_certification verdicts issuer t uid ≡ best → option_and_then (edge_by issuer (own c) place uid.sigs)
+      best ≡ Some edge
+      → (n : Signature) × (newest_certification verdicts issuer t uid ≡ Some n) × (edge_by issuer (own c) place uid.sigs
+      n ≡ Some edge)
   newest_of issuer edge None e h = absurd cc
   newest_of issuer edge (Some n) e h = (n, e, h)
 
-  -- of a usable edge: it is clear, and its step is the one that is told
-  clear_edge : (step : Step) → IsOnUserId c place uid s → IsUsableEdge verdicts certs t c place (place_of s uid.sigs) step → IsClear verdicts certs t uid s × (step_by verdicts (own c) place uid s ≡ Some step)
+  -- for a usable edge: no word applies, and its step is the one returned
+  clear_edge : (step : Step) → IsOnUserId c place uid s → IsUsableEdge verdicts certs t c place (place_of s uid.sigs)
+      step → IsClear verdicts certs t uid s × (step_by verdicts (own c) place uid s ≡ Some step)
   clear_edge step on u =
-      let newest = newest_of u.issuer u.edge (newest_certification verdicts u.issuer t uid) refl (sym (edge_at_place u.issuer on.here) ∙ u.made) in
+      let newest = newest_of u.issuer u.edge (newest_certification verdicts u.issuer t uid) refl
+      (sym (edge_at_place u.issuer on.here) ∙ u.made) in
       let n = newest.0 in
       let made = made_by u.issuer u.edge n (said_by n) refl newest.2 in
       let found = greatest_in newness (is_valid verdicts u.issuer t uid.sigs) uid.sigs n newest.1 in
       let places : place_of n uid.sigs ≡ place_of s uid.sigs = ap (λ (e : EdgeFacts). e.sig) made.2 ∙ u.place in
       let same : n ≡ s = one_place uid.sigs n s on.rises found.0 on.there places in
-      let valid : is_valid verdicts u.issuer t uid.sigs s ≡ true = ap (is_valid verdicts u.issuer t uid.sigs) (sym same) ∙ found.1 in
-      let v1 = and_parts (is_certification s) (counts_by verdicts u.issuer s && (is_live t s && is_unrevoked verdicts u.issuer t uid.sigs s)) valid in
-      let v2 = and_parts (counts_by verdicts u.issuer s) (is_live t s && is_unrevoked verdicts u.issuer t uid.sigs s) v1.1 in
+      let valid : is_valid verdicts u.issuer t uid.sigs s ≡ true = ap (is_valid verdicts u.issuer t uid.sigs) (sym same)
+      ∙ found.1 in
+      let v1 = and_parts (is_certification s)
+      (counts_by verdicts u.issuer s && (is_live t s && is_unrevoked verdicts u.issuer t uid.sigs s)) valid in
+      let v2 = and_parts (counts_by verdicts u.issuer s) (is_live t s && is_unrevoked verdicts u.issuer t uid.sigs s)
+      v1.1 in
       let v3 = and_parts (is_live t s) (is_unrevoked verdicts u.issuer t uid.sigs s) v2.1 in
       let read : said_by s ≡ Some made.0 = ap (λ (x : Signature). said_by x) (sym same) ∙ made.1 in
       let counts = counting u.issuer made.0 read v2.0 in
       let by : is_usable_by verdicts certs t u.issuer made.0.made ≡ true =
       ap (λ (e : EdgeFacts). is_usable_by verdicts certs t e.issuer e.made) made.2 ∙ u.usable in
-      let usable = found_usable (λ (x : Certificate). standing_of verdicts x t) (lookup (is_fpr u.issuer) certs) made.0.made by in (
+      let usable = found_usable (λ (x : Certificate). standing_of verdicts x t) (lookup (is_fpr u.issuer) certs)
+      made.0.made by in (
         record {
           issuer = u.issuer;
           facts = made.0;
@@ -214,18 +255,22 @@ module _ (verdicts : Entries) (certs : Certificates) (t : ℕ) (c : Certificate)
           admitted = counts.admitted;
           live = v3.0;
           unrevoked = v3.1;
-          newest = ap (λ (o : Option Signature). is_so (λ (n : Signature). is_eq (sig_cmp s n)) o) (newest.1 ∙ ap Some same) ∙ ap is_eq (tied_itself sig_total s);
+          newest = ap (λ (o : Option Signature). is_so (λ (n : Signature). is_eq (sig_cmp s n)) o)
+              (newest.1 ∙ ap Some same) ∙ ap is_eq (tied_itself sig_total s);
           kept = usable.1;
           usable = usable.2;
         },
-        ap (λ (o : Option Fpr). option_map step_of (option_and_then (λ (issuer : Fpr). edge_by issuer (own c) place uid.sigs s) o)) counts.said
+        ap (λ (o : Option Fpr). option_map step_of
+            (option_and_then (λ (issuer : Fpr). edge_by issuer (own c) place uid.sigs s) o)) counts.said
             ∙ ap (λ (x : Signature). option_map step_of (edge_by u.issuer (own c) place uid.sigs x)) (sym same)
             ∙ ap (option_map step_of) newest.2
             ∙ ap Some u.shown,
       )
 
-  pub zero_is : IsOnUserId c place uid s → (step : Step) → IsUsableEdge verdicts certs t c place (place_of s uid.sigs) step → reason_word verdicts certs t uid s ≡ 0
+  pub zero_is : IsOnUserId c place uid s → (step : Step) → IsUsableEdge verdicts certs t c place (place_of s uid.sigs)
+      step → reason_word verdicts certs t uid s ≡ 0
   zero_is on step u = zero_where verdicts certs t uid s (clear_edge step on u).0
 
-  pub step_is : IsOnUserId c place uid s → (step : Step) → IsUsableEdge verdicts certs t c place (place_of s uid.sigs) step → step_by verdicts (own c) place uid s ≡ Some step
+  pub step_is : IsOnUserId c place uid s → (step : Step) → IsUsableEdge verdicts certs t c place (place_of s uid.sigs)
+      step → step_by verdicts (own c) place uid s ≡ Some step
   step_is on step u = (clear_edge step on u).1

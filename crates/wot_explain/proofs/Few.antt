@@ -31,5 +31,6 @@ third a b c d e = simp length-append (omega arith)
 
 pub sigs_are_few : (c : Certificate) → size_of c ≤ 4194304 → AllByRecursion HasFew c.user_ids
 sigs_are_few c h =
-    let fit = third (written 6 c.key) (sigs_text c.direct) (parts_text 13 c.user_ids) (parts_text 17 c.attributes) (parts_text 14 c.subkeys) in
+    let fit = third (written 6 c.key) (sigs_text c.direct) (parts_text 13 c.user_ids) (parts_text 17 c.attributes)
+    (parts_text 14 c.subkeys) in
     parts_few c.user_ids (omega (arith, fit, h))

@@ -1,5 +1,6 @@
 -- Lists of bindings, joined.
-use Rattle.std.proofs.Common.{◌≡◌, ◌≤◌, ℕ, Bool, true, false, cond, List, [], ◌∷◌, ◌++◌, length, map, arith, refl, sym, ap, subst, ◌∙◌, append_assoc, append-nil}
+use Rattle.std.proofs.Common.{◌≡◌, ◌≤◌, ℕ, Bool, true, false, cond, List, [], ◌∷◌, ◌++◌, length, map, arith, refl, sym}
+use Rattle.std.proofs.Common.{ap, subst, ◌∙◌, append_assoc, append-nil}
 use Rattle.std.specs.Prelude.{nat_le}
 use Rattle.wot_types.specs.declared.fpr.Fpr.{Fpr}
 use Rattle.wot_cert.specs.Certificate.{Component, Certificate}
@@ -11,17 +12,21 @@ use Rattle.wot_keyring.specs.declared.kept.Kept.{Kept}
 use Rattle.wot_keyring.specs.Keyring.{Entries, stripped}
 use Rattle.wot_keyring.specs.Kept.{AreNamed}
 use Rattle.wot_explain.specs.declared.bind.Bind.{Bind}
-use Rattle.wot_explain.specs.Listing.{Pair, pair_of, pairs_in, pairs_of, pairs_of_all, with_bind, IsListed, IsTheList, AddsListed}
+use Rattle.wot_explain.specs.Listing.{Pair, pair_of, pairs_in, pairs_of, pairs_of_all, with_bind, IsListed, IsTheList}
+use Rattle.wot_explain.specs.Listing.{AddsListed}
 
-with_more : (wanted : ℕ) (pair : Pair) (sum : ℕ) (xs ys : List Bind) → with_bind wanted pair sum xs ++ ys ≡ with_bind wanted pair sum (xs ++ ys)
+with_more : (wanted : ℕ) (pair : Pair) (sum : ℕ) (xs ys : List Bind) →
+    with_bind wanted pair sum xs ++ ys ≡ with_bind wanted pair sum (xs ++ ys)
 with_more wanted pair sum xs ys = by (nat_le wanted sum)
   where
-    by : (b : Bool) → cond b (record { sum = sum; fpr = pair.0; uid = pair.1 } ∷ xs) xs ++ ys ≡ cond b (record { sum = sum; fpr = pair.0; uid = pair.1 } ∷ xs ++ ys) (xs ++ ys)
+    by : (b : Bool) → cond b (record { sum = sum; fpr = pair.0; uid = pair.1 } ∷ xs) xs ++ ys ≡ cond b
+        (record { sum = sum; fpr = pair.0; uid = pair.1 } ∷ xs ++ ys) (xs ++ ys)
     by true = refl
     by false = refl
 
 module _ (told : List ℕ → Record) (roots : List (Fpr × ℕ)) (wanted : ℕ) where
-  pub joined : (xs ys : List Pair) (a b : List Bind) → IsListed told roots wanted xs a → IsListed told roots wanted ys b → IsListed told roots wanted (xs ++ ys) (a ++ b)
+  pub joined : (xs ys : List Pair) (a b : List Bind) → IsListed told roots wanted xs a →
+      IsListed told roots wanted ys b → IsListed told roots wanted (xs ++ ys) (a ++ b)
   joined [] ys a b h g = subst (λ (front : List Bind). IsListed told roots wanted ys (front ++ b)) (sym h) g
   joined (x ∷ xs) ys a b h g = record {
     paths = h.paths;
@@ -31,9 +36,10 @@ module _ (told : List ℕ → Record) (roots : List (Fpr × ℕ)) (wanted : ℕ)
     whole = ap (λ (front : List Bind). front ++ b) h.whole ∙ with_more wanted x (amount_of h.paths) h.others b;
   }
 
-  -- the list of pairs that are joined is two lists
+  -- the list of joined pairs is two lists
   pub split : (xs ys : List Pair) (binds : List Bind) → IsListed told roots wanted (xs ++ ys) binds
-      → (a : List Bind) × (b : List Bind) × IsListed told roots wanted xs a × IsListed told roots wanted ys b × (binds ≡ a ++ b)
+      → (a : List Bind) × (b : List Bind) × IsListed told roots wanted xs a × IsListed told roots wanted ys
+      b × (binds ≡ a ++ b)
   split [] ys binds h = ([], binds, refl, h, refl)
   split (x ∷ xs) ys binds h =
       let rest = split xs ys h.others h.listed in
@@ -42,26 +48,35 @@ module _ (told : List ℕ → Record) (roots : List (Fpr × ℕ)) (wanted : ℕ)
         rest.1,
         record { paths = h.paths; others = rest.0; answer = h.answer; listed = rest.2; whole = refl },
         rest.3,
-        h.whole ∙ ap (with_bind wanted x (amount_of h.paths)) rest.4 ∙ sym (with_more wanted x (amount_of h.paths) rest.0 rest.1),
+        h.whole ∙ ap (with_bind wanted x (amount_of h.paths)) rest.4
+            ∙ sym (with_more wanted x (amount_of h.paths) rest.0 rest.1),
       )
 
-  joined_one : (xs ys : List Pair) (a b : List Bind) → IsTheList told roots wanted xs a → IsTheList told roots wanted ys b → IsTheList told roots wanted (xs ++ ys) (a ++ b)
+  joined_one : (xs ys : List Pair) (a b : List Bind) → IsTheList told roots wanted xs a →
+      IsTheList told roots wanted ys b → IsTheList told roots wanted (xs ++ ys) (a ++ b)
   joined_one xs ys a b h g = record {
     listed = joined xs ys a b h.listed g.listed;
     one = λ others l.
         let s = split xs ys others l in
-        s.4 ∙ ap (λ (front : List Bind). front ++ s.1) (h.one s.0 s.2) ∙ ap (λ (bs : List Bind). a ++ bs) (g.one s.1 s.3);
+        s.4 ∙ ap (λ (front : List Bind). front ++ s.1) (h.one s.0 s.2) ∙ ap (λ (bs : List Bind). a ++ bs)
+        (g.one s.1 s.3);
   }
 
-  pub joined_adds : (xs ys : List Pair) (old mid new : List Bind) → AddsListed told roots wanted xs old mid → AddsListed told roots wanted ys mid new → AddsListed told roots wanted (xs ++ ys) old new
-  joined_adds xs ys old mid new h g =
-      (h.0 ++ g.0, joined_one xs ys h.0 g.0 h.1 g.1, g.2 ∙ ap (λ (m : List Bind). m ++ g.0) h.2 ∙ append_assoc old h.0 g.0)
+  pub joined_adds : (xs ys : List Pair) (old mid new : List Bind) → AddsListed told roots wanted xs old mid →
+      AddsListed told roots wanted ys mid new → AddsListed told roots wanted (xs ++ ys) old new
+  joined_adds xs ys old mid new h g = (
+    h.0 ++ g.0,
+    joined_one xs ys h.0 g.0 h.1 g.1,
+    g.2 ∙ ap (λ (m : List Bind). m ++ g.0) h.2
+        ∙ append_assoc old h.0 g.0,
+  )
 
   pub none_added : (out : List Bind) → AddsListed told roots wanted [] out out
   none_added out = ([], record { listed = refl; one = λ others h. h }, sym (append-nil out))
 
   -- the list of one pair
-  pub one_added : (pair : Pair) (paths : List Path) (old new : List Bind) → IsAnswer (asks (told pair.1) roots pair.0) wanted paths
+  pub one_added : (pair : Pair) (paths : List Path) (old new : List Bind) →
+      IsAnswer (asks (told pair.1) roots pair.0) wanted paths
       → ((others : List Path) → IsAnswer (asks (told pair.1) roots pair.0) wanted others → others ≡ paths)
       → new ≡ old ++ with_bind wanted pair (amount_of paths) [] → AddsListed told roots wanted (pair ∷ []) old new
   one_added pair paths old new h one e = (
@@ -78,23 +93,32 @@ module _ (told : List ℕ → Record) (roots : List (Fpr × ℕ)) (wanted : ℕ)
 
   -- ---- loops
 
-  pub one_more : (fpr : Fpr) (uid : Component) (others rest : List Component) (body : List ℕ) (old mid new : List Bind) → rest ≡ uid ∷ others → body ≡ uid.body
-      → AddsListed told roots wanted ((fpr, body) ∷ []) old mid → AddsListed told roots wanted (map (pair_of fpr) others) mid new → AddsListed told roots wanted (map (pair_of fpr) rest) old new
+  pub one_more : (fpr : Fpr) (uid : Component) (others rest : List Component) (body : List ℕ) (old mid new : List Bind)
+      → rest ≡ uid ∷ others → body ≡ uid.body
+      → AddsListed told roots wanted ((fpr, body) ∷ []) old mid →
+      AddsListed told roots wanted (map (pair_of fpr) others) mid new →
+      AddsListed told roots wanted (map (pair_of fpr) rest) old new
   one_more fpr uid others rest body old mid new e f h g =
       subst (λ (ps : List Component). AddsListed told roots wanted (map (pair_of fpr) ps) old new) (sym e)
-      (joined_adds ((fpr, uid.body) ∷ []) (map (pair_of fpr) others) old mid new (subst (λ (b : List ℕ). AddsListed told roots wanted ((fpr, b) ∷ []) old mid) f h) g)
+      (joined_adds ((fpr, uid.body) ∷ []) (map (pair_of fpr) others) old mid new
+      (subst (λ (b : List ℕ). AddsListed told roots wanted ((fpr, b) ∷ []) old mid) f h) g)
 
-  pub none_more : (fpr : Fpr) (rest : List Component) (out : List Bind) → length rest ≡ 0 → AddsListed told roots wanted (map (pair_of fpr) rest) out out
+  pub none_more : (fpr : Fpr) (rest : List Component) (out : List Bind) → length rest ≡ 0 →
+      AddsListed told roots wanted (map (pair_of fpr) rest) out out
   none_more fpr [] out e = none_added out
   none_more fpr (uid ∷ uids) out e = absurd (omega arith)
 
   pub one_cert : (c : Certificate) (others rest : List Certificate) (old mid new : List Bind) → rest ≡ c ∷ others
-      → AddsListed told roots wanted (pairs_of c) old mid → AddsListed told roots wanted (pairs_of_all others) mid new → AddsListed told roots wanted (pairs_of_all rest) old new
+      → AddsListed told roots wanted (pairs_of c) old mid → AddsListed told roots wanted (pairs_of_all others) mid new →
+      AddsListed told roots wanted (pairs_of_all rest) old new
   one_cert c others rest old mid new e h g =
-      subst (λ (cs : List Certificate). AddsListed told roots wanted (pairs_of_all cs) old new) (sym e) (joined_adds (pairs_of c) (pairs_of_all others) old mid new h g)
+      subst (λ (cs : List Certificate). AddsListed told roots wanted (pairs_of_all cs) old new) (sym e)
+      (joined_adds (pairs_of c) (pairs_of_all others) old mid new h g)
 
--- what roads tell alike is listed alike
-pub listed_same : (told other : List ℕ → Record) (roots : List (Fpr × ℕ)) (wanted : ℕ) → ((u : List ℕ) → told u ≡ other u) → (pairs : List Pair) (binds : List Bind) → IsListed told roots wanted pairs binds → IsListed other roots wanted pairs binds
+-- roads with equal records have equal lists
+pub listed_same : (told other : List ℕ → Record) (roots : List (Fpr × ℕ)) (wanted : ℕ) →
+    ((u : List ℕ) → told u ≡ other u) → (pairs : List Pair) (binds : List Bind) →
+    IsListed told roots wanted pairs binds → IsListed other roots wanted pairs binds
 listed_same told other roots wanted e [] binds h = h
 listed_same told other roots wanted e (pair ∷ pairs) binds h = record {
   paths = h.paths;
@@ -104,29 +128,37 @@ listed_same told other roots wanted e (pair ∷ pairs) binds h = record {
   whole = h.whole;
 }
 
-pub the_list_same : (told other : List ℕ → Record) (roots : List (Fpr × ℕ)) (wanted : ℕ) → ((u : List ℕ) → told u ≡ other u) → (pairs : List Pair) (binds : List Bind) → IsTheList told roots wanted pairs binds → IsTheList other roots wanted pairs binds
+pub the_list_same : (told other : List ℕ → Record) (roots : List (Fpr × ℕ)) (wanted : ℕ) →
+    ((u : List ℕ) → told u ≡ other u) → (pairs : List Pair) (binds : List Bind) →
+    IsTheList told roots wanted pairs binds → IsTheList other roots wanted pairs binds
 the_list_same told other roots wanted e pairs binds h = record {
   listed = listed_same told other roots wanted e pairs binds h.listed;
   one = λ others l. h.one others (listed_same other told roots wanted (λ u. sym (e u)) pairs others l);
 }
 
 -- what was appended to nothing is the list
-pub listed_here : (told : List ℕ → Record) (roots : List (Fpr × ℕ)) (wanted : ℕ) (xs ys : List Pair) (old new : List Bind) → xs ≡ ys → old ≡ [] → AddsListed told roots wanted xs old new → IsTheList told roots wanted ys new
+pub listed_here : (told : List ℕ → Record) (roots : List (Fpr × ℕ)) (wanted : ℕ) (xs ys : List Pair)
+    (old new : List Bind) → xs ≡ ys → old ≡ [] → AddsListed told roots wanted xs old new →
+    IsTheList told roots wanted ys new
 listed_here told roots wanted xs ys old new e f h =
     let here : h.0 ≡ new = sym (h.2 ∙ ap (λ (bs : List Bind). bs ++ h.0) f) in
-    subst (λ (bs : List Bind). IsTheList told roots wanted ys bs) here (subst (λ (ps : List Pair). IsTheList told roots wanted ps h.0) e h.1)
+    subst (λ (bs : List Bind). IsTheList told roots wanted ys bs) here
+    (subst (λ (ps : List Pair). IsTheList told roots wanted ps h.0) e h.1)
 
--- Kept certificates stand under their own fingerprints.
-pub pairs_named : (entries : Entries) → AreNamed entries → pairs_of_all (map (λ (e : Fpr × Kept). e.1.cert) entries) ≡ pairs_in (stripped entries)
+-- Certificates are under their own fingerprints.
+pub pairs_named : (entries : Entries) → AreNamed entries →
+    pairs_of_all (map (λ (e : Fpr × Kept). e.1.cert) entries) ≡ pairs_in (stripped entries)
 pairs_named [] h = refl
 pairs_named (e ∷ entries) h =
-    ap (λ (f : Fpr). map (pair_of f) e.1.cert.user_ids ++ pairs_of_all (map (λ (e : Fpr × Kept). e.1.cert) entries)) (sym h.0)
+    ap (λ (f : Fpr). map (pair_of f) e.1.cert.user_ids ++ pairs_of_all (map (λ (e : Fpr × Kept). e.1.cert) entries))
+    (sym h.0)
     ∙ ap (λ (ps : List Pair). map (pair_of e.0) e.1.cert.user_ids ++ ps) (pairs_named entries h.1)
 
 -- ---- one list
 
 pub listed_some : ((q : Question) (wanted : ℕ) → 1 ≤ wanted → (paths : List Path) × IsAnswer q wanted paths)
-    → (told : List ℕ → Record) (roots : List (Fpr × ℕ)) (wanted : ℕ) (pairs : List Pair) → 1 ≤ wanted → (binds : List Bind) × IsListed told roots wanted pairs binds
+    → (told : List ℕ → Record) (roots : List (Fpr × ℕ)) (wanted : ℕ) (pairs : List Pair) → 1 ≤ wanted →
+    (binds : List Bind) × IsListed told roots wanted pairs binds
 listed_some answer told roots wanted [] h = ([], refl)
 listed_some answer told roots wanted (pair ∷ pairs) h =
     let a = answer (asks (told pair.1) roots pair.0) wanted h in
@@ -135,8 +167,11 @@ listed_some answer told roots wanted (pair ∷ pairs) h =
       record { paths = a.0; others = rest.0; answer = a.1; listed = rest.1; whole = refl },
     )
 
-pub listed_one : ((q : Question) (wanted : ℕ) (a b : List Path) → IsRecord q.told → IsAnswer q wanted a → IsAnswer q wanted b → a ≡ b)
-    → (told : List ℕ → Record) (roots : List (Fpr × ℕ)) (wanted : ℕ) (pairs : List Pair) (a b : List Bind) → ((u : List ℕ) → IsRecord (told u)) → IsListed told roots wanted pairs a → IsListed told roots wanted pairs b → a ≡ b
+pub listed_one : ((q : Question) (wanted : ℕ) (a b : List Path) → IsRecord q.told → IsAnswer q wanted a →
+    IsAnswer q wanted b → a ≡ b)
+    → (told : List ℕ → Record) (roots : List (Fpr × ℕ)) (wanted : ℕ) (pairs : List Pair) (a b : List Bind) →
+    ((u : List ℕ) → IsRecord (told u)) → IsListed told roots wanted pairs a → IsListed told roots wanted pairs b →
+    a ≡ b
 listed_one answer told roots wanted [] a b lawful h g = h ∙ sym g
 listed_one answer told roots wanted (pair ∷ pairs) a b lawful h g =
     let paths = answer (asks (told pair.1) roots pair.0) wanted h.paths g.paths (lawful pair.1) h.answer g.answer in

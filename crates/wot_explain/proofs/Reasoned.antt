@@ -1,5 +1,6 @@
--- What is told of each certification on a user ID: whether it is a usable edge.
-use Rattle.std.proofs.Common.{◌≡◌, ℕ, ◌==◌, Bool, true, false, if◌then◌else◌, cond, List, [], ◌∷◌, Option, Some, None, refl, sym, ap, subst, ◌∙◌, inl, inr}
+-- The reason of each certification on a user ID: whether it is a usable edge.
+use Rattle.std.proofs.Common.{◌≡◌, ℕ, ◌==◌, Bool, true, false, if◌then◌else◌, cond, List, [], ◌∷◌, Some, None, refl}
+use Rattle.std.proofs.Common.{sym, ap, subst, ◌∙◌, inl, inr}
 use Rattle.std.specs.Prelude.{filter, is_some, map}
 use Rattle.std.specs.List.{slice_get}
 use Rattle.std.proofs.lemmas.Bool.{eqb-true, eq-eqb}
@@ -21,16 +22,18 @@ use Rattle.wot_explain.proofs.Places.{kept_at, place_here, placed}
 
 -- ---- one certification
 
-module _ (verdicts : Entries) (certs : Certificates) (t : ℕ) (c : Certificate) (place : ℕ) (uid : Component) (s : Signature) where
+module _ (verdicts : Entries) (certs : Certificates) (t : ℕ) (c : Certificate) (place : ℕ) (uid : Component)
+    (s : Signature) where
   abbrev Usable : Step → Type 0
   Usable step = IsUsableEdge verdicts certs t c place (place_of s uid.sigs) step
 
-  -- the step that stands beside a word, where the edge's is this
+  -- the step returned with a word, if the edge's step is this
   shown : (n : ℕ) → reason_word verdicts certs t uid s ≡ n → (b : Bool) → (n == 0) ≡ b → IsOnUserId c place uid s
       → (step : Step) → (if b then step_by verdicts (own c) place uid s else None) ≡ Some step → Usable step
   shown n e true z on step h =
       let usable = is_usable_where verdicts certs t c place uid s on (e ∙ eqb-true n 0 z) in
-      let same : usable.0 ≡ step = let told = sym (step_is verdicts certs t c place uid s on usable.0 usable.1) ∙ h in cc in
+      let same : usable.0 ≡ step = let told = sym (step_is verdicts certs t c place uid s on usable.0 usable.1) ∙ h in
+      cc in
       subst Usable same usable.1
   shown n e false z on step h = absurd cc
 
@@ -42,7 +45,8 @@ module _ (verdicts : Entries) (certs : Certificates) (t : ℕ) (c : Certificate)
       ∙ step_is verdicts certs t c place uid s on step u
 
   beside : (b : Bool) → (reason_word verdicts certs t uid s == 0) ≡ b
-      → is_some (if b then step_by verdicts (own c) place uid s else None) ≡ true → reason_word verdicts certs t uid s ≡ 0
+      → is_some (if b then step_by verdicts (own c) place uid s else None) ≡ true →
+      reason_word verdicts certs t uid s ≡ 0
   beside true z h = eqb-true (reason_word verdicts certs t uid s) 0 z
   beside false z h = absurd cc
 
@@ -52,7 +56,8 @@ module _ (verdicts : Entries) (certs : Certificates) (t : ℕ) (c : Certificate)
       let usable = is_usable_where verdicts certs t c place uid s on h in
       ap is_some (shows on usable.0 usable.1)
 
-  is_reason : IsOnUserId c place uid s → IsReasonFor verdicts certs t c place uid s (reason_of verdicts certs t (own c) place uid s)
+  is_reason : IsOnUserId c place uid s → IsReasonFor verdicts certs t c place uid s
+      (reason_of verdicts certs t (own c) place uid s)
   is_reason on = record {
     number = refl;
     edge = λ step. (
@@ -75,26 +80,33 @@ module _ (verdicts : Entries) (certs : Certificates) (t : ℕ) (c : Certificate)
   -- the first, if it is a certification, and the others
   with_first : (s : Signature) (sigs : List Signature) (b : Bool) → is_certification s ≡ b
       → (is_certification s ≡ true → IsOnUserId c place uid s) → AreOf sigs
-      → AreTold (IsReasonFor verdicts certs t c place uid) (cond b (s ∷ filter is_certification sigs) (filter is_certification sigs))
-      (map (reason_of verdicts certs t (own c) place uid) (cond b (s ∷ filter is_certification sigs) (filter is_certification sigs)))
+      → AreTold (IsReasonFor verdicts certs t c place uid) (cond b (s ∷ filter is_certification sigs)
+      (filter is_certification sigs))
+      (map (reason_of verdicts certs t (own c) place uid) (cond b (s ∷ filter is_certification sigs)
+      (filter is_certification sigs)))
   with_first s sigs true e on rest = (is_reason verdicts certs t c place uid s (on e), rest)
   with_first s sigs false e on rest = rest
 
-  are_told : slice_get c.user_ids place ≡ Some uid → IsRising sig_cmp uid.sigs → (sigs : List Signature) → AreThere sigs → AreOf sigs
+  are_told : slice_get c.user_ids place ≡ Some uid → IsRising sig_cmp uid.sigs → (sigs : List Signature) →
+      AreThere sigs → AreOf sigs
   are_told here rises [] there = tt
   are_told here rises (s ∷ sigs) there =
       with_first s sigs (is_certification s) refl
       (λ kind. record { here = here; rises = rises; there = there s (inl refl); kind = kind })
       (are_told here rises sigs (λ other has. there other (inr has)))
 
--- ---- what is told in a keyring
+-- ---- the explanation in a keyring
 
-pub edges_told : (k : Keyring) (t : ℕ) (fpr : Fpr) (u : List ℕ) (roads : List ℕ → Record) → AreRoadsOf roads k t → (place : ℕ) (c : Certificate)
+pub edges_told : (k : Keyring) (t : ℕ) (fpr : Fpr) (u : List ℕ) (roads : List ℕ → Record) → AreRoadsOf roads k t →
+    (place : ℕ) (c : Certificate)
     → Some place ≡ (entry_at (roads u) fpr).place → Some c ≡ cert_at k fpr
-    → (ids : List Component) → ids ≡ c.user_ids → (uid : Component) → Some uid ≡ slice_get ids place → IsRising sig_cmp uid.sigs
-    → (reasons : List Reason) → reasons ≡ reasons_on k.verdicts (certificates_in k) t (own c) place uid → TellsEdges k t fpr u reasons
+    → (ids : List Component) → ids ≡ c.user_ids → (uid : Component) → Some uid ≡ slice_get ids place →
+    IsRising sig_cmp uid.sigs
+    → (reasons : List Reason) → reasons ≡ reasons_on k.verdicts (certificates_in k) t (own c) place uid →
+    TellsEdges k t fpr u reasons
 edges_told k t fpr u roads present place c e f ids same uid g rises reasons told =
-    let here : slice_get c.user_ids place ≡ Some uid = ap (λ (ps : List Component). slice_get ps place) (sym same) ∙ sym g in
+    let here : slice_get c.user_ids place ≡ Some uid = ap (λ (ps : List Component). slice_get ps place) (sym same)
+    ∙ sym g in
     record {
       cert = c;
       place = place;
@@ -102,6 +114,7 @@ edges_told k t fpr u roads present place c e f ids same uid g rises reasons told
       kept = kept_at k fpr ∙ sym f;
       placed = ap (placed u) f ∙ place_here k t fpr u roads present (Some place) e;
       here = here;
-      each = subst (AreTold (IsReasonFor k.verdicts (certificates_in k) t c place uid) (filter is_certification uid.sigs)) (sym told)
+      each = subst (AreTold (IsReasonFor k.verdicts (certificates_in k) t c place uid)
+          (filter is_certification uid.sigs)) (sym told)
           (are_told k.verdicts (certificates_in k) t c place uid here rises uid.sigs (λ s has. has));
     }

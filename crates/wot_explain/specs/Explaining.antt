@@ -1,5 +1,5 @@
--- What is told of a certificate and one of its user IDs U at t: whether it is in order for U, and of each certification
--- on U whether it is a usable edge; where not, the first reason.
+-- Why a certificate is or isn't in order for one of its user IDs U at t, and for each certification on U whether it is
+-- a usable edge, or else the first reason why not.
 use Rattle.std.specs.Prelude.{◌≡◌, ℕ, List, filter, map, Option, Some, None, Result, Ok, Err}
 use Rattle.std.specs.List.{slice_get}
 use Rattle.std.specs.Map.{lookup}
@@ -23,28 +23,27 @@ abbrev pub reasons_on : Entries → Certificates → ℕ → Fpr → ℕ → Com
 reasons_on verdicts certs t target place uid =
     map (reason_of verdicts certs t target place uid) (filter is_certification uid.sigs)
 
--- what is told of the user ID at this place
+-- the explanation of the user ID at this place
 abbrev pub explained_on : Entries → Certificates → ℕ → Certificate → ℕ → Component → Explained
 explained_on verdicts certs t c place uid = record {
   target = target_word (standing_of verdicts c t) t (is_own_revoked verdicts (own c) t uid);
   certs = reasons_on verdicts certs t (own c) place uid;
 }
 
--- the same in a keyring
+-- the explanation in a keyring
 abbrev pub explained_in : Keyring → ℕ → Certificate → ℕ → Component → Explained
 explained_in k t c place uid = explained_on k.verdicts (certificates_in k) t c place uid
 
 abbrev pub explained_at : Entries → Certificates → ℕ → Certificate → ℕ → Option Explained
 explained_at verdicts certs t c place = option_map (explained_on verdicts certs t c place) (slice_get c.user_ids place)
 
--- nothing where the certificate or the user ID isn't there
+-- nothing if the certificate or the user ID isn't there
 abbrev pub explanation : Certificates → Entries → ℕ → Fpr → List ℕ → Option Explained
 explanation certs verdicts t fpr u =
     option_and_then (λ (c : Certificate). option_and_then (explained_at verdicts certs t c) (place_of u c.user_ids))
     (lookup (is_fpr fpr) certs)
 
--- This is what is told; `Absent` is answered exactly where there is nothing to tell. The only other fault is want of
--- memory.
+-- This is the explanation. `Absent` is returned if and only if there is none. The only other error is "out of memory".
 abbrev pub Explains : Result Explained ExplainFault → Option Explained → Type 0
 Explains (Ok explained) told = told ≡ Some explained
 Explains (Err Absent) told = told ≡ None

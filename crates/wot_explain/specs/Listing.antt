@@ -1,4 +1,4 @@
--- The bindings of fingerprints and user IDs whose answer reaches an amount.
+-- The bindings of fingerprints and user IDs that are authenticated to an amount.
 use Rattle.std.specs.Prelude.{◌≡◌, ◌≤◌, ℕ, length, nat_le, if◌then◌else◌, List, [], ◌∷◌, ◌++◌, map}
 use Rattle.wot_types.specs.declared.fpr.Fpr.{Fpr}
 use Rattle.wot_verdict.specs.Verdicts.{Entries}
@@ -22,17 +22,17 @@ Pair = Fpr × List ℕ
 abbrev pub pair_of : Fpr → Component → Pair
 pair_of fpr uid = (fpr, uid.body)
 
--- each kept certificate with each of its user IDs, in the order of fingerprint and user ID
+-- each certificate with each of its user IDs, sorted by fingerprint and user ID
 abbrev pub pairs_in : Certificates → List Pair
 pairs_in [] = []
 pairs_in (e ∷ certs) = map (pair_of e.0) e.1.user_ids ++ pairs_in certs
 
--- the list with the binding before it, where its sum reaches what is wanted
+-- the list with the binding in front, if its sum reaches the wanted amount
 abbrev pub with_bind : ℕ → Pair → ℕ → List Bind → List Bind
 with_bind wanted pair sum binds =
     if nat_le wanted sum then record { sum = sum; fpr = pair.0; uid = pair.1 } ∷ binds else binds
 
--- An answer for the first pair, and the list of the others.
+-- An answer for the first pair, then the list of the others.
 pub record IsWithFirst (q : Question) (wanted : ℕ) (pair : Pair) (Others : List Bind → Type 0) (binds : List Bind)
     : Type 0 where
   pub paths : List Path
@@ -41,22 +41,22 @@ pub record IsWithFirst (q : Question) (wanted : ℕ) (pair : Pair) (Others : Lis
   pub listed : Others others
   pub whole : binds ≡ with_bind wanted pair (amount_of paths) others
 
--- These are the bindings among the pairs whose answer reaches what is wanted, in order, each with its answer's sum.
+-- These are the bindings among the pairs whose answer reaches the wanted amount, in order, each with its answer's sum.
 abbrev pub IsListed : (List ℕ → Record) → List (Fpr × ℕ) → ℕ → List Pair → List Bind → Type 0
 IsListed told roots wanted [] binds = binds ≡ []
 IsListed told roots wanted (pair ∷ pairs) binds =
     IsWithFirst (asks (told pair.1) roots pair.0) wanted pair (IsListed told roots wanted pairs) binds
 
--- That is so of any pairs, by whatever is told, from whatever roots, up to whatever amount.
+-- That holds for all pairs, records, roots and amounts.
 abbrev pub IsOfEachList : ((List ℕ → Record) → List (Fpr × ℕ) → ℕ → List Pair → Type 0) → Type 0
 IsOfEachList P =
     (told : List ℕ → Record) (roots : List (Fpr × ℕ)) (wanted : ℕ) (pairs : List Pair) → P told roots wanted pairs
 
--- There is such a list, where an amount is wanted.
+-- There is such a list if the wanted amount isn't 0.
 abbrev pub HasList : (List ℕ → Record) → List (Fpr × ℕ) → ℕ → List Pair → Type 0
 HasList told roots wanted pairs = 1 ≤ wanted → (binds : List Bind) × IsListed told roots wanted pairs binds
 
--- There is only one, where what is told is a record.
+-- There is only one if the rows form a record.
 abbrev pub HasOneList : (List ℕ → Record) → List (Fpr × ℕ) → ℕ → List Pair → Type 0
 HasOneList told roots wanted pairs =
     (a b : List Bind) → ((u : List ℕ) → IsRecord (told u))
@@ -68,12 +68,12 @@ pub record IsTheList (told : List ℕ → Record) (roots : List (Fpr × ℕ)) (w
   pub listed : IsListed told roots wanted pairs binds
   pub one : (others : List Bind) → IsListed told roots wanted pairs others → others ≡ binds
 
--- The list of all bindings, by what certificates and verdicts tell at t.
+-- The list of all bindings, by what certificates and verdicts make at t.
 abbrev pub IsListOf : Certificates → Entries → ℕ → List (Fpr × ℕ) → ℕ → List Bind → Type 0
 IsListOf certs verdicts t roots wanted binds =
     IsTheList (record_of certs verdicts t) roots wanted (pairs_in certs) binds
 
--- Where the roads are those of this keyring at some time, it is the list of all bindings then.
+-- If the roads are those of this keyring at some time, it is the list of all bindings then.
 abbrev pub IsListThen : (List ℕ → Record) → Keyring → List (Fpr × ℕ) → ℕ → List Bind → Type 0
 IsListThen told k roots wanted binds =
     (t : ℕ) → AreRoadsOf told k t → IsListOf (certificates_in k) k.verdicts t roots wanted binds
@@ -82,7 +82,7 @@ IsListThen told k roots wanted binds =
 abbrev pub pairs_kept : Keyring → List Pair
 pairs_kept k = pairs_in (certificates_in k)
 
--- What may be sought: at least 1, from at most 64 roots, within their reach.
+-- What may be asked for: an amount of at least 1, from at most 64 roots, within their reach.
 pub record IsSought (told : List ℕ → Record) (sought : Sought) : Type 0 where
   pub wanted : 1 ≤ sought.wanted
   pub few : length sought.roots.now ≤ 64
@@ -95,7 +95,7 @@ abbrev pub AddsListed : (List ℕ → Record) → List (Fpr × ℕ) → ℕ → 
 AddsListed told roots wanted pairs old new =
     (binds : List Bind) × IsTheList told roots wanted pairs binds × (new ≡ old ++ binds)
 
--- The list of those of these pairs that are sought was appended.
+-- The list of those of these pairs that were asked for was appended.
 abbrev pub AddsSought : (List ℕ → Record) → Sought → List Pair → List Bind → List Bind → Type 0
 AddsSought told sought pairs old new = AddsListed told sought.roots.now sought.wanted pairs old new
 

@@ -17,7 +17,7 @@ use Rattle.wot_explain.specs.declared.sought.Sought.{Sought}
 use Rattle.wot_explain.specs.Listing.{IsListed, Pair, pairs_in}
 use Rattle.wot_explain.specs.Usable.{AreRoadsOf}
 
--- by fingerprint, then user ID; each comes after no place
+-- by fingerprint, then user ID; everything comes after no place
 abbrev pub comes_after : Option Place → Pair → Bool
 comes_after None pair = true
 comes_after (Some place) pair = is_gt (ordering_then (fpr_cmp pair.0 place.fpr) (slice_cmp nat_cmp pair.1 place.uid))
@@ -25,22 +25,22 @@ comes_after (Some place) pair = is_gt (ordering_then (fpr_cmp pair.0 place.fpr) 
 abbrev pub is_bind_after : Option Place → Bind → Bool
 is_bind_after after bind = comes_after after (bind.fpr, bind.uid)
 
--- those of a list that come after it
+-- the elements of a list that come after it
 abbrev pub binds_after : Option Place → List Bind → List Bind
 binds_after after binds = filter (is_bind_after after) binds
 
--- the first of them, as many as this or all
+-- the first of them, at most this many
 abbrev pub piece_of : Option Place → ℕ → List Bind → List Bind
 piece_of after count binds = take count (binds_after after binds)
 
--- From the piece of a list `old` came the piece of the list that has these pairs' list behind.
+-- The piece of a list `old` became the piece of the list that continues with these pairs' list.
 abbrev pub AddsPiece : (List ℕ → Record) → List (Fpr × ℕ) → ℕ → Option Place → ℕ → List Pair
     → List Bind → List Bind → Type 0
 AddsPiece told roots wanted after count pairs old new =
     (before binds : List Bind) → old ≡ piece_of after count before → IsListed told roots wanted pairs binds
     → new ≡ piece_of after count (before ++ binds)
 
--- The same of what is sought.
+-- The same for those pairs that are asked for.
 abbrev pub GoesOn : (List ℕ → Record) → Sought → Option (Bor Place) → ℕ → List Pair
     → Vec Bind Global → Vec Bind Global → Type 0
 GoesOn told sought after count pairs old new =
@@ -50,18 +50,18 @@ GoesOn told sought after count pairs old new =
 abbrev pub fpr_at : Option Place → Option Fpr
 fpr_at after = option_map (λ (place : Place). place.fpr) after
 
--- These are the piece of whatever is the list of these pairs.
+-- These are the piece of every list of these pairs.
 abbrev pub IsThePiece : (List ℕ → Record) → List (Fpr × ℕ) → ℕ → List Pair → Option Place → ℕ → List Bind → Type 0
 IsThePiece told roots wanted pairs after count binds =
     (all : List Bind) → IsListed told roots wanted pairs all → binds ≡ piece_of after count all
 
--- The piece of the list of all bindings, by what certificates and verdicts tell at t.
+-- The piece of the list of all bindings, by what certificates and verdicts make at t.
 abbrev pub IsPieceOf : Certificates → Entries → ℕ → List (Fpr × ℕ) → ℕ → Option Place → ℕ → List Bind → Type 0
 IsPieceOf certs verdicts t roots wanted after count binds =
     IsThePiece (record_of certs verdicts t) roots wanted (pairs_in certs) after count binds
 
--- The piece of whatever is the list of the pairs of a keyring; and that of the list of all bindings then, where the
--- roads are those of this keyring at some time.
+-- The piece of every list of the pairs of a keyring; and the piece of the list of all bindings then, if the roads are
+-- those of this keyring at some time.
 abbrev pub IsPieceHere : (List ℕ → Record) → Keyring → List (Fpr × ℕ) → ℕ → Option Place → ℕ → Vec Bind Global → Type 0
 IsPieceHere told k roots wanted after count binds =
     IsThePiece told roots wanted (pairs_in (certificates_in k)) after count binds.items

@@ -24,12 +24,12 @@ use Rattle.wot_explain.specs.Words.{Word, first_word, is_so}
 
 -- ---- the issuer, by the verdict
 
--- the standing of a key, where it is kept
+-- the standing of a key, if it is kept
 abbrev pub standing_by : Entries → Certificates → ℕ → Fpr → Option Standing
 standing_by verdicts certs t fpr =
     option_map (λ (c : Certificate). standing_of verdicts c t) (lookup (is_fpr fpr) certs)
 
--- that of the one by whom the verdict is good
+-- the standing of the issuer of a good verdict
 abbrev pub issuer_standing : Entries → Certificates → ℕ → Option Verdict → Option Standing
 issuer_standing verdicts certs t said = option_and_then (standing_by verdicts certs t) (good_by said)
 
@@ -37,11 +37,11 @@ issuer_standing verdicts certs t said = option_and_then (standing_by verdicts ce
 abbrev pub names_other : Signature → Fpr → Bool
 names_other s issuer = is_true_of (λ f. not (allows f.issuer issuer)) s
 
--- A revocation by this one takes it away.
+-- A revocation by this issuer revokes it.
 abbrev pub is_revoked_by : Entries → ℕ → Component → Signature → Fpr → Bool
 is_revoked_by verdicts t uid s issuer = not (is_unrevoked verdicts issuer t uid.sigs s)
 
--- Of its certifications on the user ID that count, are live and unrevoked the newest is another.
+-- The newest of the issuer's certifications on the user ID that count, are live and unrevoked is another one.
 abbrev pub is_older_by : Entries → ℕ → Component → Signature → Fpr → Bool
 is_older_by verdicts t uid s issuer =
     not (is_so (λ newest. is_eq (sig_cmp s newest)) (newest_certification verdicts issuer t uid))
@@ -51,7 +51,7 @@ is_older_by verdicts t uid s issuer =
 -- by the verdict on it
 abbrev pub verdict_words : Signature → Option Verdict → List Word
 verdict_words s said =
-    -- it is unsound
+    -- it isn't valid
     (1, not (is_sound s))
     -- it has no verdict
     ∷ (2, not (is_some said))
@@ -59,7 +59,7 @@ verdict_words s said =
     ∷ (3, not (is_some (good_by said)))
     ∷ []
 
--- by the issuer of whom the verdict is good
+-- by the issuer of the good verdict
 abbrev pub counting_words : Signature → Option Fpr → List Word
 counting_words s issuer =
     -- its hashed issuer fingerprint isn't the verdict's
@@ -71,34 +71,34 @@ counting_words s issuer =
 -- by the time
 abbrev pub time_words : Entries → ℕ → Component → Signature → Option Fpr → List Word
 time_words verdicts t uid s issuer =
-    -- it was made after t
+    -- it was created after t
     (6, nat_lt t (made_of s))
-    -- it isn't live any more
+    -- it expired
     ∷ (7, not (is_live t s))
     -- it is revoked by its issuer
     ∷ (8, is_so (is_revoked_by verdicts t uid s) issuer)
-    -- a newer one of its issuer is the edge
+    -- a newer one by its issuer is the edge
     ∷ (9, is_so (is_older_by verdicts t uid s) issuer)
     ∷ []
 
--- by when it was made and the issuer's standing at t
+-- by its creation time and the issuer's standing at t
 abbrev pub issuer_words : ℕ → Option Standing → List Word
 issuer_words made issuer =
     -- the issuer isn't kept
     (10, not (is_some issuer))
     -- it has no standing
     ∷ (11, is_so (λ i. not i.has) issuer)
-    -- it was created after the certification was made
+    -- it was created after the certification
     ∷ (12, is_so (λ i. nat_lt made i.created) issuer)
-    -- its end is then or before
+    -- it expired then or before
     ∷ (13, is_so (λ i. not (is_after made i.end)) issuer)
     -- it is hard revoked
     ∷ (14, is_so (λ i. i.hard) issuer)
-    -- its soft moment is then or before
+    -- it was soft revoked then or before
     ∷ (15, is_so (λ i. not (is_after made i.soft)) issuer)
     ∷ []
 
--- where the verdict on it is good by this issuer: those from the time on, and all behind the verdict's
+-- if the verdict on it is good by this issuer: the reasons from the time on, and all after the verdict's
 abbrev pub counted_words : Keyring → ℕ → Component → Signature → Fpr → List Word
 counted_words k t uid s issuer =
     time_words k.verdicts t uid s (Some issuer)
@@ -113,13 +113,13 @@ reason_words verdicts t uid s said issuer =
     verdict_words s said ++ counting_words s (good_by said)
     ++ time_words verdicts t uid s (good_by said) ++ issuer_words (made_of s) issuer
 
--- the word of a certification on a user ID; 0 is that it is a usable edge
+-- the word of a certification on a user ID; 0 means that it is a usable edge
 abbrev pub reason_word : Entries → Certificates → ℕ → Component → Signature → ℕ
 reason_word verdicts certs t uid s =
     first_word (reason_words verdicts t uid s (verdict_at verdicts s.number)
     (issuer_standing verdicts certs t (verdict_at verdicts s.number)))
 
--- ---- what is told
+-- ---- the reason
 
 -- the step of the edge that it makes, on the user ID at this place
 abbrev pub step_by : Entries → Fpr → ℕ → Component → Signature → Option Step
@@ -127,7 +127,7 @@ step_by verdicts target place uid s =
     option_map step_of
     (option_and_then (λ issuer. edge_by issuer target place uid.sigs s) (good_by (verdict_at verdicts s.number)))
 
--- its number, its word and, beside the word 0, its step
+-- its number, its word and, if that is 0, its step
 abbrev pub Reason : Type 0
 Reason = SigNumber × ℕ × Option Step
 

@@ -1,4 +1,4 @@
--- Which certification is a usable edge, by the definitions of edges alone.
+-- When a certification is a usable edge, by the definitions of edges alone.
 use Rattle.std.specs.Prelude.{◌≡◌, ◌↔◌, ℕ, true, List, [], ◌∷◌, Some, filter, is_some}
 use Rattle.std.specs.List.{slice_get}
 use Rattle.std.specs.Map.{lookup}
@@ -19,7 +19,7 @@ use Rattle.wot_standing.specs.Standing.{own}
 use Rattle.wot_explain.specs.Reasons.{Reason, reason_word, step_by}
 
 -- The signature at this place on the user ID at this place makes the edge of some issuer at t. The edge is usable, and
--- its step is this.
+-- has this step.
 pub record IsUsableEdge (verdicts : Entries) (certs : Certificates) (t : ℕ) (c : Certificate) (uid sig : ℕ)
     (step : Step) : Type 0 where
   pub issuer : Fpr
@@ -29,51 +29,52 @@ pub record IsUsableEdge (verdicts : Entries) (certs : Certificates) (t : ℕ) (c
   pub usable : is_usable_by verdicts certs t edge.issuer edge.made ≡ true
   pub shown : step_of edge ≡ step
 
--- The record that roads tell of each user ID is the one that the certificates and verdicts of this keyring give at t.
+-- The record that the roads have for each user ID is the one that the certificates and verdicts of this keyring make at
+-- t.
 abbrev pub AreRoadsOf : (List ℕ → Record) → Keyring → ℕ → Type 0
 AreRoadsOf told k t = (u : List ℕ) → told u ≡ record_of (certificates_in k) k.verdicts t u
 
--- A certification on the user ID at this place of a certificate, whose signatures rise by their bodies.
+-- A certification on the user ID at this place of a certificate whose signatures are sorted by their bodies.
 pub record IsOnUserId (c : Certificate) (place : ℕ) (uid : Component) (s : Signature) : Type 0 where
   pub here : slice_get c.user_ids place ≡ Some uid
   pub rises : IsRising sig_cmp uid.sigs
   pub there : Has uid.sigs s
   pub kind : is_certification s ≡ true
 
--- That is so of each certification on a user ID, by whatever verdicts and certificates tell at whatever time.
+-- That holds for each certification on a user ID, for all verdicts, certificates and times.
 abbrev pub IsOfEachUserId : (Entries → Certificates → ℕ → Certificate → ℕ → Component → Signature → Type 0) → Type 0
 IsOfEachUserId P =
     (verdicts : Entries) (certs : Certificates) (t : ℕ) (c : Certificate) (place : ℕ) (uid : Component) (s : Signature)
     → IsOnUserId c place uid s → P verdicts certs t c place uid s
 
--- Its word is 0 exactly where it is a usable edge.
+-- Its word is 0 if and only if it is a usable edge.
 abbrev pub ZeroIsUsable : Entries → Certificates → ℕ → Certificate → ℕ → Component → Signature → Type 0
 ZeroIsUsable verdicts certs t c place uid s =
     (reason_word verdicts certs t uid s ≡ 0)
     ↔ ((step : Step) × IsUsableEdge verdicts certs t c place (place_of s uid.sigs) step)
 
--- The step told of it is then the edge's.
+-- Its step is then the edge's.
 abbrev pub TellsStep : Entries → Certificates → ℕ → Certificate → ℕ → Component → Signature → Type 0
 TellsStep verdicts certs t c place uid s =
     (step : Step) → IsUsableEdge verdicts certs t c place (place_of s uid.sigs) step
     → step_by verdicts (own c) place uid s ≡ Some step
 
--- What is told of a certification: its number, and a step exactly where it is a usable edge, which is that edge's. The
--- word 0 stands exactly beside a step.
+-- The reason of a certification: its number, and a step if and only if it is a usable edge; the step is that edge's.
+-- The word is 0 if and only if there is a step.
 pub record IsReasonFor (verdicts : Entries) (certs : Certificates) (t : ℕ) (c : Certificate) (place : ℕ)
     (uid : Component) (s : Signature) (reason : Reason) : Type 0 where
   pub number : reason.0 ≡ s.number
   pub edge : (step : Step) → (reason.2 ≡ Some step) ↔ IsUsableEdge verdicts certs t c place (place_of s uid.sigs) step
   pub word : (reason.1 ≡ 0) ↔ (is_some reason.2 ≡ true)
 
--- That is told of these signatures, one by one.
+-- These are the reasons of these signatures, one by one.
 abbrev pub AreTold : (Signature → Reason → Type 0) → List Signature → List Reason → Type 0
 AreTold P [] [] = Unit {0}
 AreTold P [] (reason ∷ reasons) = ⊥
 AreTold P (s ∷ sigs) [] = ⊥
 AreTold P (s ∷ sigs) (reason ∷ reasons) = P s reason × AreTold P sigs reasons
 
--- What is told of a user ID of a kept certificate: of each certification on it whether it is a usable edge.
+-- The explanation of a user ID of a kept certificate: for each certification on it, whether it is a usable edge.
 pub record TellsEdges (k : Keyring) (t : ℕ) (fpr : Fpr) (u : List ℕ) (reasons : List Reason) : Type 0 where
   pub cert : Certificate
   pub place : ℕ

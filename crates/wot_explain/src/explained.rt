@@ -1,3 +1,5 @@
+//! What `explain` returns: a word for the target, and a word for each certification. The words are numbers here;
+//! wot_script spells them, so a new reason needs a word there.
 ghost use Rattle.std.specs.Prelude.{◌≡◌};
 
 use std::alloc::Global;
@@ -5,10 +7,10 @@ use std::marker::Model;
 use wot_edge::Step;
 use wot_types::SigNumber;
 
-/// A certification on a user ID: its number, the number of its word and, exactly beside the word 0, its step.
+/// A certification on a user ID: its number, the number of its word and, if and only if that is 0, its step.
 pub type Reason = (SigNumber, u8, Option<Step>);
 
-/// What is told of certifications, in the order of their bodies.
+/// The reasons of the certifications on a user ID, in the order of their bodies.
 #[derive(Drop)]
 pub struct ReasonList {
     items: Vec<Reason, Global>,
@@ -24,7 +26,7 @@ impl Model for ReasonList {
 }
 
 impl ReasonList {
-    /// The list of these.
+    /// A list of these reasons.
     pub fn new(items: Vec<Reason>) -> ReasonList
         ensures items { result ≡ items.items }
     {
@@ -44,10 +46,10 @@ impl ReasonList {
     }
 }
 
-/// What is told of a certificate and one of its user IDs.
+/// Why a certificate is or isn't in order for one of its user IDs, and each certification on it.
 #[derive(Drop)]
 pub struct Explained {
-    /// The number of the target's word; 0 where it is in order for the user ID.
+    /// The number of the target's word. 0 if it is in order for the user ID.
     pub target: u8,
     pub certs: ReasonList,
 }
@@ -56,6 +58,6 @@ pub struct Explained {
 pub enum ExplainFault {
     /// The certificate or the user ID isn't there.
     Absent,
-    /// No memory was found.
+    /// Out of memory.
     Memory,
 }

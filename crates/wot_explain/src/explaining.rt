@@ -1,3 +1,6 @@
+//! `explain`: the reply to why a binding is or isn't authenticated, certification by certification. It finds the user
+//! ID and asks `target` and `reasons`. Its contract says that a step is there if and only if the certification is a
+//! usable edge, by the definitions of edges alone.
 ghost use Rattle.std.specs.Prelude.{◌≡◌, slice_get, IfOk};
 ghost use Rattle.std.specs.Option.{option_copied};
 ghost use Rattle.wot_explain.specs.Explaining.{Explains, explained_in, explanation};
@@ -29,7 +32,7 @@ fn explain_on(
     ensures explained { IfOk result (λ explained. explained ≡ explained_in keyring.now t cert.now place uid.now) }
     ensures rises { IsRising sig_cmp uid.now.sigs }
 {
-    // That they rise, as a fact.
+    // The law brings in that the signatures are sorted.
     let _sigs = uid.sigs();
     let verdicts = keyring.verdicts();
     let fpr = cert.fpr();
@@ -59,7 +62,8 @@ pub fn explain<R: Roads>(
     ensures explained { Explains result
         (explanation (certificates_in keyring.now) keyring.now.verdicts t fpr.now uid.now) }
 
-    // A step stands exactly beside the usable edges, by the definition of edges alone, and is the edge's.
+    // A step is there if and only if the certification is a usable edge, by the definition of edges alone. It is that
+    // edge's.
     ensures edges { IfOk result (λ explained. TellsEdges keyring.now t fpr.now uid.now explained.certs) }
 {
     let Some(place) = roads.place(fpr, uid) else {

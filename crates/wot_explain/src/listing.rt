@@ -1,3 +1,5 @@
+//! `list`: all bindings that are authenticated to an amount. It asks for the answer of every user ID of the keyring,
+//! with one table of reach for all of them. `piece` lists the same bindings in pieces, through `list_pair`.
 ghost use Rattle.std.specs.Prelude.{◌≤◌, ◌∷◌, [], length, map, IfOk, OnOk};
 ghost use Rattle.wot_explain.specs.Listing.{AddsSought, IsListThen, IsSought, IsTheList};
 ghost use Rattle.wot_explain.specs.Listing.{pair_of, pairs_kept, pairs_of, pairs_of_all};
@@ -12,7 +14,7 @@ use wot_keyring::{CertsIter, Keyring};
 use wot_search::make_reach;
 use wot_types::{Fpr, Memory, UserId};
 
-/// Appends a binding whose sum reaches what is wanted.
+/// Appends a binding if its sum reaches the wanted amount.
 pub(crate) fn list_pair<R: Roads>(
     alloc: Global,
     roads: &R,
@@ -46,7 +48,7 @@ pub(crate) fn list_pair<R: Roads>(
     Ok(())
 }
 
-/// Appends those of these user IDs of a key.
+/// Appends those of a key's user IDs that reach the wanted amount.
 fn list_user_ids<R: Roads>(
     alloc: Global,
     roads: &R,
@@ -105,7 +107,7 @@ fn fprs_of(alloc: Global, certs: CertsIter<'_>) -> Result<Vec<Fpr>, Memory> {
     Ok(fprs)
 }
 
-/// Each user ID of a kept certificate whose answer reaches what is wanted, with the sum of that answer, in the order of
+/// Every user ID of a certificate whose answer reaches the wanted amount, with the sum of that answer, sorted by
 /// fingerprint and user ID.
 pub fn list<R: Roads>(
     alloc: Global,

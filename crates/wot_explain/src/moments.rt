@@ -1,7 +1,8 @@
+//! Comparisons of a time with the end or the soft revocation of a key. `target` and `words` share them.
 ghost use Rattle.std.specs.Prelude.{◌≡◌};
 ghost use Rattle.wot_standing.specs.Usable.{is_after as is_after_spec};
 
-/// Whether there is no end, or one after `t`.
+/// Whether there is no end, or it is after `t`.
 pub(crate) fn ends_after(t: u32, end: Option<u64>) -> bool
     ensures { result ≡ is_after_spec t end }
 {
@@ -11,7 +12,7 @@ pub(crate) fn ends_after(t: u32, end: Option<u64>) -> bool
     }
 }
 
-/// Whether there is no moment, or one after `t`.
+/// Whether there is no such moment, or it is after `t`.
 pub(crate) fn is_after(t: u32, moment: Option<u32>) -> bool
     ensures { result ≡ is_after_spec t moment }
 {

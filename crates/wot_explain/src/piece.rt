@@ -1,3 +1,6 @@
+//! A piece of the list of bindings: the first few after a place. The walk starts at the place's fingerprint and stops
+//! when the piece is full, so a piece costs its own questions. Cursors and paged listings stand on it; the contract
+//! says that it is a piece of the list that `listing` would return.
 ghost use Rattle.std.specs.Prelude.{◌≡◌, ◌≤◌, ◌∷◌, [], length, map, IfOk, OnOk};
 ghost use Rattle.std.specs.Option.{option_copied};
 ghost use Rattle.wot_explain.specs.Listing.{IsSought, pair_of, pairs_of, pairs_of_all};
@@ -27,7 +30,7 @@ fn comes_after(fpr: &Fpr, uid: &[u8], after: Option<&Place>) -> bool
     }
 }
 
-/// Where the walk begins.
+/// The fingerprint at which the walk starts.
 fn start(after: Option<&Place>) -> Option<Fpr>
     ensures { result ≡ fpr_at (option_copied after.entry) }
 {
@@ -109,7 +112,7 @@ fn piece_cert<R: Roads>(
     )
 }
 
-/// Goes on until the piece is full.
+/// Appends bindings until the piece is full.
 fn piece_certs<R: Roads>(
     alloc: Global,
     roads: &R,
@@ -132,8 +135,8 @@ fn piece_certs<R: Roads>(
     Ok(())
 }
 
-/// The first `count` of the bindings of [`list`](crate::list) that come after the place, or of all of them where there
-/// is none.
+/// The first `count` of the bindings of [`list`](crate::list) that come after the place, or the first ones of all if
+/// there is no place.
 pub fn list_after<R: Roads>(
     alloc: Global,
     keyring: &Keyring,
@@ -154,7 +157,7 @@ pub fn list_after<R: Roads>(
     list_after_within(alloc, keyring, roads, roots, &reach, wanted, after, count)
 }
 
-/// The same piece, by searches within a table of how far issuers reach, which serves all pieces of a list.
+/// As [`list_after`], with a table of how far issuers reach that serves all pieces of a list.
 pub fn list_after_within<R: Roads>(
     alloc: Global,
     keyring: &Keyring,

@@ -1,4 +1,5 @@
-// What is told of the certifications on a user ID.
+//! The reasons of the certifications on one user ID: for each its number, its word from `words`, and its step if it is
+//! a usable edge. Each issuer's newest certification is found once for all of them.
 ghost use Rattle.std.specs.Prelude.{◌≡◌, ℕ, List, IfOk};
 ghost use Rattle.std.specs.Option.{option_map};
 ghost use Rattle.wot_cert.specs.Certificate.{Signature};
@@ -23,7 +24,7 @@ use wot_standing::kinds::is_certification;
 use wot_types::{Fpr, Memory, compare_fprs};
 use wot_verdict::{Verdict, Verdicts};
 
-/// The step of an edge by this issuer whose certification says so.
+/// The step of an edge by this issuer, from what its certification says.
 fn step_said(issuer: Fpr, target: Fpr, place: u32, said: SigFacts) -> Step
     ensures { (sig : ℕ) → result ≡ step_of_spec (edge_facts issuer target place sig said) }
 {
@@ -86,7 +87,7 @@ fn reason(
     reason_told(sig, word, step)
 }
 
-/// What is told of the certifications on the user ID at this place.
+/// The reasons of the certifications on the user ID at this place.
 pub(crate) fn reasons(
     alloc: Global,
     uid: &Part,

@@ -1,3 +1,5 @@
+//! Whether an issuer revoked a certification: the rule about revocations that `words` uses. wot_standing has the rule
+//! for edges; the law `zero_is_usable` shows that both agree.
 ghost use Rattle.std.specs.Prelude.{◌≡◌, ◌||◌, not, nat_lt};
 ghost use Rattle.std.specs.List.{list_all};
 ghost use Rattle.wot_cert.specs.Revoked.{is_unrevoked as is_unrevoked_spec, revokes_by};
@@ -8,7 +10,7 @@ use wot_standing::kinds::{is_revocable, made, revokes};
 use wot_types::Fpr;
 use wot_verdict::Verdicts;
 
-/// Whether each live revocation by this one was made before then.
+/// Whether each live revocation by this issuer was created before then.
 fn are_before(sigs: &[Sig], verdicts: &Verdicts, fpr: &Fpr, t: u32, then: u32) -> bool
     ensures { result ≡ list_all (λ r. not (revokes_by verdicts.now fpr.now t r) || nat_lt (made_of r) then) sigs.now }
 {
@@ -21,7 +23,7 @@ fn are_before(sigs: &[Sig], verdicts: &Verdicts, fpr: &Fpr, t: u32, then: u32) -
     all
 }
 
-/// Whether no revocation by this one, among the signatures at its place, takes a signature away at `t`.
+/// Whether no revocation by this issuer in the same place revokes a signature at `t`.
 pub(crate) fn is_unrevoked(sig: &Sig, sigs: &[Sig], verdicts: &Verdicts, fpr: &Fpr, t: u32) -> bool
     ensures { result ≡ is_unrevoked_spec verdicts.now fpr.now t sigs.now sig.now }
 {

@@ -1,4 +1,4 @@
-// Whether a signature is sound, and whom it names.
+//! Two tests of a single signature: whether it is valid, and whether it names another issuer. `words` uses them.
 ghost use Rattle.std.specs.Prelude.{◌≡◌, not};
 ghost use Rattle.wot_cert.specs.Issuer.{allows};
 ghost use Rattle.wot_cert.specs.Judged.{is_sound as is_sound_spec};

@@ -1,8 +1,9 @@
+//! What a listing looks for. `listing` and `piece` hand it from call to call.
 use wot_edge::Roots;
 use wot_search::Reach;
 
-/// What bindings are listed: those that so much reaches from these roots. No issuer is looked for further than its
-/// reach.
+/// Which bindings are listed: those authenticated to the wanted amount from these roots. No search goes further than an
+/// issuer's reach.
 #[derive(Clone, Copy)]
 pub struct Sought<'a> {
     pub roots: &'a Roots,

@@ -1,4 +1,5 @@
-// The words of certifications.
+//! Why a certification isn't a usable edge: the first of fifteen reasons, in the order of specs/Reasons.antt. A new
+//! reason is a row there, a test here, and a word in wot_script.
 ghost use Rattle.std.specs.Prelude.{◌≡◌, not};
 ghost use Rattle.std.specs.Ordering.{is_eq};
 ghost use Rattle.wot_cert.specs.Certificate.{sig_cmp};
@@ -26,7 +27,7 @@ fn standing_at(cert: &Cert, verdicts: &Verdicts, t: u32) -> Standing
     standing(cert, verdicts, t).0
 }
 
-/// The standing of a key at `t`, where it is kept.
+/// The standing of a key at `t`, if it is kept.
 fn standing_by(keyring: &Keyring, fpr: &Fpr, t: u32) -> Option<Standing>
     ensures { result ≡ standing_by_spec keyring.now.verdicts (certificates_in keyring.now) t fpr.now }
 {
@@ -36,7 +37,7 @@ fn standing_by(keyring: &Keyring, fpr: &Fpr, t: u32) -> Option<Standing>
     }
 }
 
-/// Why an issuer of this standing makes an edge that was made then unusable.
+/// Why the standing of its issuer makes an edge that was created then unusable.
 fn issuer_word(made: u32, issuer: Option<Standing>) -> u8
     ensures { result ≡ first_word (issuer_words made issuer) }
 {
@@ -70,7 +71,7 @@ fn is_older(sig: &Sig, uid: &Part, certifiers: &Certifiers, issuer: &Fpr) -> boo
     }
 }
 
-/// The word of a certification that counts by its issuer.
+/// The word of a certification that counts for its issuer.
 fn counting_word(
     sig: &Sig,
     uid: &Part,
@@ -97,7 +98,7 @@ fn counting_word(
     issuer_word(made(sig), standing_by(keyring, issuer, t))
 }
 
-/// The word of a sound certification on which the verdict is good by this issuer.
+/// The word of a valid certification whose verdict is good by this issuer.
 fn good_word(
     sig: &Sig,
     uid: &Part,
@@ -118,8 +119,8 @@ fn good_word(
     counting_word(sig, uid, keyring, t, certifiers, issuer)
 }
 
-/// The number of the word of a certification on a user ID: of the first reason for which it isn't a usable edge, and 0
-/// where it is one.
+/// The number of the word of a certification on a user ID: the first reason why it isn't a usable edge, or 0 if it is
+/// one.
 pub(crate) fn reason_word(
     sig: &Sig,
     uid: &Part,

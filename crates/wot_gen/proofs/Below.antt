@@ -1,4 +1,4 @@
--- What a step says of 0, of 1, and so on.
+-- What a step returns for 0, for 1, and so on.
 use Rattle.std.proofs.Common.{◌≡◌, ℕ, ◌+◌, List, [], ◌∷◌, ◌++◌, sym, ap, ◌∙◌, arith}
 use Rattle.std.specs.List.{flat_map, range_with_len}
 use Rattle.std.proofs.lemmas.List.{append-nil, map-id}

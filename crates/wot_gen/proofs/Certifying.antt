@@ -14,7 +14,8 @@ listed : (start drawn index : ℕ) (one two three : Certification)
     ∷ certification_by start (drawn + 4) index 3
     ∷ []
 listed start drawn index one two three a b c =
-    let first : one ≡ certification_by start (drawn + 0) index 1 = a ∙ ap (λ d. certification_by start d index 1) (omega arith) in
+    let first : one ≡ certification_by start (drawn + 0) index 1 = a ∙ ap (λ d. certification_by start d index 1)
+    (omega arith) in
     cc (first, b, c)
 
 pub three_listed : (start count index : ℕ) → (index == 0) ≡ false

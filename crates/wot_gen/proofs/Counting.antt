@@ -1,22 +1,26 @@
 -- How many lines a script has.
-use Rattle.std.proofs.Common.{◌≡◌, ℕ, zero, suc, ◌+◌, ◌-◌, ◌*◌, ◌/◌, ◌≤◌, List, ◌++◌, length, length-append, refl, ap, subst, ◌∙◌, arith}
+use Rattle.std.proofs.Common.{◌≡◌, ℕ, zero, suc, ◌+◌, ◌-◌, ◌*◌, ◌/◌, ◌≤◌, List, ◌++◌, length, length-append, refl, ap}
+use Rattle.std.proofs.Common.{subst, ◌∙◌, arith}
 use Rattle.std.proofs.lemmas.List.{length-map}
 use Rattle.wot_script.specs.declared.command.Command.{Command}
 use Rattle.wot_script.specs.declared.command.Command.TheVariants.{Good}
 use Rattle.wot_gen.specs.Certifications.{certifications_at}
-use Rattle.wot_gen.specs.Script.{below, certificate_commands, changes, commands_of, line_count, questions, view_commands}
+use Rattle.wot_gen.specs.Script.{below, certificate_commands, changes, commands_of, line_count, questions}
+use Rattle.wot_gen.specs.Script.{view_commands}
 use Rattle.wot_gen.specs.declared.certification.Certification.{Certification}
 use Rattle.wot_gen.proofs.Below.{below_more}
 use Rattle.wot_gen.proofs.Certifying.{three_listed}
 
 -- one step more
-next_length : (f : ℕ → List Command) (n size : ℕ) → length (f n) ≡ size → length (below (suc n) f) ≡ length (below n f) + size
+next_length : (f : ℕ → List Command) (n size : ℕ) → length (f n) ≡ size →
+    length (below (suc n) f) ≡ length (below n f) + size
 next_length f n size e =
     let more : n + 1 ≡ suc n = omega arith in
     let next : below (suc n) f ≡ below n f ++ f n = subst (λ m. below m f ≡ below n f ++ f n) more (below_more f n) in
     ap length next ∙ length-append (below n f) (f n) ∙ ap (λ more. length (below n f) + more) e
 
-same_lengths : (f : ℕ → List Command) (size : ℕ) → ((i : ℕ) → length (f i) ≡ size) → (n : ℕ) → length (below n f) ≡ size * n
+same_lengths : (f : ℕ → List Command) (size : ℕ) → ((i : ℕ) → length (f i) ≡ size) →
+    (n : ℕ) → length (below n f) ≡ size * n
 same_lengths f size each zero = omega arith
 same_lengths f size each (suc n) =
     let before = same_lengths f size each n in
@@ -54,7 +58,8 @@ certificates_length : (start count n : ℕ)
 certificates_length start count n =
     first_shorter (λ i. certificate_commands start i (certifications_at start count i))
     (certificate_length start 0 (certifications_at start count 0) ∙ ap (λ k. 2 + k) (none_first start count))
-    (λ i. certificate_length start (suc i) (certifications_at start count (suc i)) ∙ ap (λ k. 2 + k) (three_others start count i))
+    (λ i. certificate_length start (suc i) (certifications_at start count (suc i))
+    ∙ ap (λ k. 2 + k) (three_others start count i))
     n
 
 lengths : (a b c d : List Command) → length (((a ++ b) ++ c) ++ d) ≡ ((length a + length b) + length c) + length d

@@ -1,5 +1,6 @@
 -- Commands that are appended step by step.
-use Rattle.std.proofs.Common.{◌≡◌, ℕ, ◌+◌, ◌/◌, ◌<◌, List, [], ◌∷◌, ◌++◌, map, length, get_or, refl, sym, ap, ◌∙◌, append_assoc, codes}
+use Rattle.std.proofs.Common.{◌≡◌, ℕ, ◌+◌, ◌/◌, ◌<◌, List, [], ◌∷◌, ◌++◌, map, length, get_or, refl, sym, ap, ◌∙◌}
+use Rattle.std.proofs.Common.{append_assoc, codes}
 use Rattle.std.specs.List.{flat_map}
 use Rattle.std.proofs.lemmas.Option.{slice_get_read}
 use Rattle.wot_script.specs.declared.command.Command.{Command}
@@ -43,8 +44,10 @@ certificate_put start index identity made before now is e =
     e
     ∙ one_by_one before verdicts (Import (identity.packets ++ packets)) (Good identity.direct identity.fpr)
     ∙ ap (λ own. before ++ Import (own ++ packets) ∷ Good identity.direct identity.fpr ∷ verdicts) is.packets
-    ∙ ap (λ number. before ++ Import (packets_at start index ++ packets) ∷ Good number identity.fpr ∷ verdicts) is.direct
-    ∙ ap (λ fpr. before ++ Import (packets_at start index ++ packets) ∷ Good (direct_number_at start index) fpr ∷ verdicts) is.fpr
+    ∙ ap (λ number. before ++ Import (packets_at start index ++ packets) ∷ Good number identity.fpr ∷ verdicts)
+    is.direct
+    ∙ ap (λ fpr. before ++ Import (packets_at start index ++ packets) ∷ Good (direct_number_at start index)
+    fpr ∷ verdicts) is.fpr
 
 in_three : (before : List Command) (a b c d e : Command)
     → ((before ++ a ∷ b ∷ []) ++ c ∷ d ∷ []) ++ e ∷ [] ≡ before ++ a ∷ b ∷ c ∷ d ∷ e ∷ []
@@ -61,6 +64,9 @@ views_put start count first middle before now one half e =
     let a = codes "a" in
     let b = codes "b" in
     e
-    ∙ in_three before (Time a 1200000000) (Root a first.fpr 120) (Time b 1200000000) (Root b first.fpr 60) (Root b middle.fpr 60)
-    ∙ ap (λ fpr. before ++ Time a 1200000000 ∷ Root a fpr 120 ∷ Time b 1200000000 ∷ Root b fpr 60 ∷ Root b middle.fpr 60 ∷ []) one.fpr
-    ∙ ap (λ fpr. before ++ Time a 1200000000 ∷ Root a (fpr_at start 0) 120 ∷ Time b 1200000000 ∷ Root b (fpr_at start 0) 60 ∷ Root b fpr 60 ∷ []) half.fpr
+    ∙ in_three before (Time a 1200000000) (Root a first.fpr 120) (Time b 1200000000) (Root b first.fpr 60)
+    (Root b middle.fpr 60)
+    ∙ ap (λ fpr. before ++ Time a 1200000000 ∷ Root a fpr 120 ∷ Time b 1200000000 ∷ Root b fpr 60 ∷ Root b middle.fpr
+    60 ∷ []) one.fpr
+    ∙ ap (λ fpr. before ++ Time a 1200000000 ∷ Root a (fpr_at start 0) 120 ∷ Time b 1200000000 ∷ Root b (fpr_at start 0)
+    60 ∷ Root b fpr 60 ∷ []) half.fpr

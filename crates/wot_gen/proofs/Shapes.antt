@@ -1,5 +1,6 @@
--- How long bodies are, and that keys are readable.
-use Rattle.std.proofs.Common.{◌≡◌, ℕ, ◌<◌, ◌≤◌, ◌^◌, true, List, ◌++◌, length, append_assoc, length-append, refl, arith, codes}
+-- The length of bodies, and that keys can be parsed.
+use Rattle.std.proofs.Common.{◌≡◌, ℕ, ◌<◌, ◌≤◌, ◌^◌, true, List, ◌++◌, length, append_assoc, length-append, refl, arith}
+use Rattle.std.proofs.Common.{codes}
 use Rattle.std.specs.Fmt.{decimal}
 use Rattle.std.proofs.lemmas.Fmt.{length-decimal-le}
 use Rattle.wot_key.specs.Key.{is_readable}

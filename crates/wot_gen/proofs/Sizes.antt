@@ -1,6 +1,7 @@
 -- How many octets a script has at most.
-use Rattle.std.proofs.Common.{◌≡◌, ℕ, zero, suc, ◌+◌, ◌-◌, ◌*◌, ◌/◌, ◌<◌, ◌≤◌, ◌^◌, true, nat_lt, List, [], ◌∷◌, ◌++◌, map, length, length-append, refl, ap, sym, subst, ◌∙◌, arith}
-use Rattle.std.specs.List.{AllByRecursion, flat_map, range_with_len}
+use Rattle.std.proofs.Common.{◌≡◌, ℕ, zero, suc, ◌+◌, ◌-◌, ◌*◌, ◌/◌, ◌<◌, ◌≤◌, ◌^◌, true, nat_lt, List, [], ◌∷◌, ◌++◌}
+use Rattle.std.proofs.Common.{map, length, length-append, refl, ap, sym, subst, ◌∙◌, arith}
+use Rattle.std.specs.List.{AllByRecursion, flat_map}
 use Rattle.std.specs.Int.{w32, to_be_bytes}
 use Rattle.std.specs.Prelude.{slice_index}
 use Rattle.std.proofs.lemmas.Bool.{lt-ltb}
@@ -17,7 +18,8 @@ use Rattle.wot_gen.specs.Words.{word}
 use Rattle.wot_gen.specs.Bodies.{created, hashed_area, key_body, signature_body, signature_over, user_id}
 use Rattle.wot_gen.specs.Identities.{body_at, direct_at, fpr_at, packets_at}
 use Rattle.wot_gen.specs.Certifications.{certification_body, certification_by, certifications_at, issuer_by, trust_by}
-use Rattle.wot_gen.specs.Script.{IsReadBack, below, certificate_commands, changes, commands_of, line_of, questions, text_of, view_commands}
+use Rattle.wot_gen.specs.Script.{IsReadBack, below, certificate_commands, changes, commands_of, line_of, questions}
+use Rattle.wot_gen.specs.Script.{text_of, view_commands}
 use Rattle.wot_gen.specs.declared.certification.Certification.{Certification}
 use Rattle.wot_gen.proofs.Below.{below_more}
 use Rattle.wot_gen.proofs.Certifying.{three_listed}
@@ -78,7 +80,7 @@ packets_length start index small =
 
 -- ---- lines
 
--- how much room a list of commands takes at most, each with its line feed
+-- the most room that a list of commands takes, each with its line feed
 abbrev room : List Command → ℕ
 room [] = 0
 room (command ∷ commands) = most_octets command + 1 + room commands
@@ -95,10 +97,11 @@ text_fits (command ∷ commands) all =
     let others = text_fits commands all.1 in
     let first = all.0.line.short in
     let line = length-append (spelling command) (10 ∷ []) in
-    let both = ap length (flat_map-cons line_of command commands) ∙ length-append (line_of command) (text_of commands) in
+    let both = ap length (flat_map-cons line_of command commands) ∙ length-append (line_of command)
+    (text_of commands) in
     omega (arith, others, first, line, both)
 
--- steps that take no more than so much each
+-- steps that take at most this much each
 steps_fit : (f : ℕ → List Command) (most n : ℕ) → ((i : ℕ) → i < n → room (f i) ≤ most) → room (below n f) ≤ most * n
 steps_fit f most zero each = omega arith
 steps_fit f most (suc n) each =
@@ -128,10 +131,17 @@ record AreFew (made : List Certification) : Type 0 where
 certifications_fit : (start count index : ℕ) → AreFew (certifications_at start count index)
 unfolding certifications_at
 certifications_fit start count zero = record { count = omega arith; small = tt }
-certifications_fit start count (suc index) = subst AreFew (sym (three_listed start count (suc index) (grind arith))) (record {
-  count = omega arith;
-  small = (certification_fits start _ (suc index) 1, (certification_fits start _ (suc index) 2, (certification_fits start _ (suc index) 3, tt)));
-})
+certifications_fit start count (suc index) = subst AreFew (sym (three_listed start count (suc index) (grind arith)))
+    (record {
+      count = omega arith;
+      small = (
+        certification_fits start _ (suc index) 1,
+        (
+          certification_fits start _ (suc index) 2,
+          (certification_fits start _ (suc index) 3, tt),
+        ),
+      );
+    })
 
 packets_fit : (made : List Certification) → AllByRecursion IsSmall made
     → length (flat_map (λ (one : Certification). one.packet) made) ≤ 45 * length made
@@ -143,7 +153,8 @@ packets_fit (one ∷ made) all =
     ∙ length-append one.packet (flat_map (λ (one : Certification). one.packet) made) in
     omega (arith, others, first, both)
 
-verdicts_fit : (made : List Certification) → room (map (λ (one : Certification). Good one.number one.issuer) made) ≡ 143 * length made
+verdicts_fit : (made : List Certification) →
+    room (map (λ (one : Certification). Good one.number one.issuer) made) ≡ 143 * length made
 verdicts_fit [] = omega arith
 verdicts_fit (one ∷ made) =
     let before = verdicts_fit made in
@@ -189,10 +200,12 @@ commands_fit start count few =
     let turns : (count - 1) / 10 ≤ 200 = omega (arith, few) in
     all_fit _ _ _ _ count ((count - 1) / 10) few turns
     (steps_fit (λ i. certificate_commands start i (certifications_at start count i)) 1100 count
-    (λ i less. certificate_fits start i (certifications_at start count i) (omega (arith, less, few)) (certifications_fit start count i)))
+    (λ i less. certificate_fits start i (certifications_at start count i) (omega (arith, less, few))
+    (certifications_fit start count i)))
     (views_fit start count)
     (steps_fit (questions start) 600 count (λ i less. questions_fit start i (omega (arith, less, few))))
-    (steps_fit (changes start count) 900 ((count - 1) / 10) (λ i less. changes_fit start count i (omega (arith, less, turns))))
+    (steps_fit (changes start count) 900 ((count - 1) / 10) (λ i less. changes_fit start count i
+    (omega (arith, less, turns))))
 
 pub script_fits : (start count : ℕ) → count ≤ 2000 → AllByRecursion IsReadBack (commands_of start count)
     → length (text_of (commands_of start count)) < 4000000

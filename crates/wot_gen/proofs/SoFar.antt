@@ -1,5 +1,6 @@
 -- What the loops have made so far.
-use Rattle.std.proofs.Common.{◌≡◌, ◌⊎◌, ℕ, zero, suc, ◌+◌, ◌*◌, List, [], ◌∷◌, ◌++◌, length, Some, inl, inr, refl, sym, ap, subst, ◌∙◌}
+use Rattle.std.proofs.Common.{◌≡◌, ◌⊎◌, ℕ, zero, suc, ◌+◌, ◌*◌, List, [], ◌∷◌, ◌++◌, length, Some, inl, inr, refl, sym}
+use Rattle.std.proofs.Common.{ap, subst, ◌∙◌}
 use Rattle.std.specs.List.{slice_get}
 use Rattle.std.proofs.lemmas.List.{length_push}
 use Rattle.std.proofs.lemmas.Option.{none-some, same_Some}
@@ -15,13 +16,14 @@ pub record MadeSoFar (start index : ℕ) (words : Words) (made : List Identity) 
   pub drawn : words.drawn ≡ 4 * index
   pub made_all : AreIdentities start index made
 
--- the commands of the steps below a number, after so many words
-pub record DrawnSoFar (start drawn : ℕ) (words : Words) (count : ℕ) (step : ℕ → List Command) (before now : List Command) : Type 0 where
+-- the commands of the steps below a number, after this many words
+pub record DrawnSoFar (start drawn : ℕ) (words : Words) (count : ℕ) (step : ℕ → List Command)
+    (before now : List Command) : Type 0 where
   pub start_kept : words.start ≡ start
   pub drawn_all : words.drawn ≡ drawn
   pub put : now ≡ before ++ below count step
 
--- what stands in a list with one more
+-- what is in a list with one more
 last_or_before : {X : Type 0} (xs : List X) (x y : X) (i : ℕ) → slice_get (xs ++ x ∷ []) i ≡ Some y
     → (slice_get xs i ≡ Some y) ⊎ ((i ≡ length xs) × (x ≡ y))
 last_or_before [] x y zero e = inr (refl, same_Some x y e)
@@ -41,6 +43,7 @@ more_identities start index made one all is = record {
   each = λ at identity found.
       elim (last_or_before made one identity at found) [
         | inl before ↦ all.each at identity before
-        | inr last ↦ subst (λ n. IsIdentity start n identity) (sym (last.0 ∙ all.many)) (subst (IsIdentity start index) last.1 is)
+        | inr last ↦ subst (λ n. IsIdentity start n identity) (sym (last.0 ∙ all.many))
+            (subst (IsIdentity start index) last.1 is)
       ];
 }

@@ -44,7 +44,8 @@ commands-spelled start count =
     both _ _
     (both _ _
     (both _ _
-    (each (λ index. certificate_commands start index (certifications_at start count index)) indices (λ index. certificates start index (certifications_at start count index)))
+    (each (λ index. certificate_commands start index (certifications_at start count index)) indices
+    (λ index. certificates start index (certifications_at start count index)))
     (views start count))
     (each (questions start) indices (asked start)))
     (each (changes start count) (range_with_len 0 ((count - 1) / 10)) (changed start count))

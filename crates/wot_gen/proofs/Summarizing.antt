@@ -11,7 +11,8 @@ numbers start count lines amounts =
     ++ (codes "\namounts " ++ (decimal amounts ++ codes "\ntranscript ")))))))
 
 regrouped : (gen start space count unit lines feed word amounts last digits : List ℕ)
-    → ((gen ++ (start ++ (space ++ (count ++ (unit ++ (lines ++ ((feed ++ word) ++ (amounts ++ (feed ++ last))))))))) ++ digits) ++ feed
+    → ((gen ++ (start ++ (space ++ (count ++ (unit ++ (lines ++ ((feed ++ word) ++ (amounts ++ (feed ++ last))))))))) ++
+    digits) ++ feed
     ≡ (gen ++ (start ++ (space ++ (count ++ (unit ++ (lines ++ feed))))))
     ++ (word ++ (amounts ++ feed))
     ++ (last ++ (digits ++ feed))

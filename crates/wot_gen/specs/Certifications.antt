@@ -1,4 +1,4 @@
--- Three certifications of each user ID but the first, each by a key of a lesser index.
+-- Three certifications of each user ID but the first, each by a key with a lower index.
 use Rattle.std.specs.Prelude.{ℕ, ◌+◌, ◌-◌, ◌*◌, ◌/◌, ◌%◌, ◌==◌, if◌then◌else◌, List, [], ◌∷◌, map}
 use Rattle.wot_packet.specs.Writing.{written}
 use Rattle.wot_verdict.specs.Number.{number_of}
@@ -7,20 +7,20 @@ use Rattle.wot_gen.specs.Bodies.{user_id, signature_body, trust}
 use Rattle.wot_gen.specs.Identities.{body_at, fpr_at}
 use Rattle.wot_gen.specs.declared.certification.Certification.{Certification}
 
--- how many words were drawn before the certifications of an index: four for each key, and two for each certification
--- before
+-- how many words were drawn before the certifications of an index: four for each key, and two for each earlier
+-- certification
 abbrev pub drawn_before : ℕ → ℕ → ℕ
 drawn_before count index = 4 * count + 6 * (index - 1)
 
--- The first word of a certification gives its issuer: an index below its own.
+-- The first word of a certification chooses its issuer: an index below its own.
 abbrev pub issuer_by : ℕ → ℕ → ℕ → ℕ
 issuer_by start drawn index = word start drawn % index
 
--- The second word gives depth and amount.
+-- The second word chooses depth and amount.
 abbrev pub trust_by : ℕ → ℕ → List ℕ
 trust_by start drawn = trust (word start (drawn + 1) % 4) (60 + word start (drawn + 1) / 4 % 61)
 
--- the body of the certification (kind 0x10) that is made in this turn, from the words after so many
+-- the body of the certification (type 0x10) made in this turn, from the words after this many
 abbrev pub certification_body : ℕ → ℕ → ℕ → ℕ → List ℕ
 certification_body start drawn index turn =
     signature_body 16 (1100000000 + turn) (fpr_at start (issuer_by start drawn index)) (trust_by start drawn)

@@ -20,11 +20,11 @@ body_at start index =
 abbrev pub fpr_at : ℕ → ℕ → Fpr
 fpr_at start index = fpr_of (body_at start index)
 
--- its direct key signature (kind 0x1F), made with it and by it
+-- its direct key signature (type 0x1F), created with it and by it
 abbrev pub direct_at : ℕ → ℕ → List ℕ
 direct_at start index = signature_body 31 (created index) (fpr_at start index) []
 
--- the number of that signature, which stands on the key
+-- the number of that signature, which is on the key
 abbrev pub direct_number_at : ℕ → ℕ → SigNumber
 direct_number_at start index = number_of (body_at start index) 0 [] (direct_at start index)
 

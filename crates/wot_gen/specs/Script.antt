@@ -17,7 +17,7 @@ use Rattle.wot_gen.specs.declared.identity.Identity.{Identity}
 use Rattle.wot_gen.specs.declared.commands.View.{View}
 use Rattle.wot_gen.specs.declared.commands.View.TheVariants.{A, B}
 
--- what a step of the script says of 0, of 1, and so on, below a count
+-- what a step of the script returns for 0, for 1, and so on, below a count
 abbrev pub below : ℕ → (ℕ → List Command) → List Command
 below count commands = flat_map commands (range_with_len 0 count)
 
@@ -44,7 +44,7 @@ view_text B = codes "b"
 abbrev pub opening : View → Fpr → ℕ → List Command
 opening view fpr amount = Time (view_text view) 1200000000 ∷ Root (view_text view) fpr amount ∷ []
 
--- the view `a` trusts the first key wholly; the view `b` half, and as much the key in the middle
+-- the view `a` trusts the first key fully; the view `b` trusts it half, and the key in the middle as much
 unfoldable pub view_commands : ℕ → ℕ → List Command
 view_commands start count =
     Time (codes "a") 1200000000
@@ -62,16 +62,16 @@ whole_question start index = Ask (codes "a") (fpr_at start index) 120 (user_id i
 abbrev pub questions : ℕ → ℕ → List Command
 questions start index = whole_question start index ∷ Ask (codes "b") (fpr_at start index) 60 (user_id index) ∷ []
 
--- the words that were drawn before the changes: those of all keys and all certifications
+-- how many words were drawn before the changes: those of all keys and all certifications
 abbrev pub drawn_before_changes : ℕ → ℕ
 drawn_before_changes count = drawn_before count count
 
--- the key whose verdict a turn of changes turns
+-- the key whose verdict a turn of changes sets
 abbrev pub changed_at : ℕ → ℕ → ℕ → ℕ
 changed_at start count turn = word start (drawn_before_changes count + turn) % count
 
--- a turn of changes: the verdict on a key's direct key signature becomes bad and good again, and each time comes the
--- question on the turn's index
+-- a turn of changes: the verdict on a key's direct key signature is set to bad and back to good, and the question on
+-- the turn's index follows each time
 abbrev pub change_commands : ℕ → ℕ → ℕ → List Command
 change_commands start changed index =
     Bad (direct_number_at start changed)
@@ -104,7 +104,7 @@ commands_of start count =
     ++ all_questions start count
     ++ all_changes start count
 
--- How many these are: an import of each key and a verdict on its direct key signature; a verdict on three
+-- How many commands these are: an import of each key and a verdict on its direct key signature; a verdict on three
 -- certifications of each key but the first; five lines of views; two questions on each key; four lines for each turn of
 -- changes.
 abbrev pub line_count : ℕ → ℕ
@@ -118,7 +118,7 @@ line_of command = spelling command ++ 10 ∷ []
 abbrev pub text_of : List Command → List ℕ
 text_of commands = flat_map line_of commands
 
--- The line of a command is read as this command. It is one line, and isn't passed over.
+-- The line of a command is read as this command. It is one line, and isn't skipped.
 pub record IsReadBack (command : Command) : Type 0 where
   pub read : command_of (spelling command) ≡ Some command
   pub line : IsLineFor command (spelling command)

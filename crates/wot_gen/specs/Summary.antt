@@ -1,4 +1,4 @@
--- What is printed of a run of the generated script.
+-- What is printed about a run of the generated script.
 use Rattle.std.specs.Prelude.{◌≡◌, ℕ, List, [], ◌∷◌, ◌++◌, codes}
 use Rattle.std.specs.List.{flat_map, sum_by}
 use Rattle.std.specs.Fmt.{decimal}
@@ -11,12 +11,12 @@ use Rattle.wot_script.specs.declared.reply.Reply.{Reply}
 use Rattle.wot_script.specs.declared.reply.Reply.TheVariants.{Amount}
 use Rattle.wot_gen.specs.declared.tally.Tally.{Tally}
 
--- the amount that the reply to a question tells; other replies tell none
+-- the amount in the reply to a question; other replies have none
 abbrev pub amount_in : Reply → ℕ
 amount_in (Amount sum paths lines) = sum
 amount_in _ = 0
 
--- the sum of the amounts that replies tell
+-- the sum of the amounts in replies
 abbrev pub amounts_in : List Reply → ℕ
 amounts_in replies = sum_by amount_in replies
 
@@ -24,13 +24,13 @@ amounts_in replies = sum_by amount_in replies
 abbrev pub transcript_digest : List Reply → List ℕ
 transcript_digest replies = sha256 (flat_map reply_text replies)
 
--- Three lines: start, count and how many lines the script has; the sum of amounts; a digest in digits.
+-- Three lines: start, count and number of lines; the sum of amounts; the digest in digits.
 abbrev pub summary : ℕ → ℕ → ℕ → ℕ → List ℕ → List ℕ
 summary start count lines amounts digest =
     joined_line (codes "gen " ∷ decimal start ∷ codes " " ∷ decimal count ∷ codes " lines " ∷ decimal lines ∷ [])
     ++ joined_line (codes "amounts " ∷ decimal amounts ∷ [])
     ++ joined_line (codes "transcript " ∷ encode_lower digest ∷ [])
 
--- A tally comes to these replies: to the sum of their amounts, and to their transcript.
+-- A tally stands for these replies: for the sum of their amounts and for their transcript.
 abbrev pub Tells : Tally → List Reply → Type 0
 Tells tally replies = (tally.amounts ≡ amounts_in replies) × Holds256 tally.transcript (flat_map reply_text replies)

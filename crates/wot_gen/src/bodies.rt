@@ -1,4 +1,6 @@
-ghost use Rattle.std.specs.Prelude.{◌≡◌, ◌+◌, ◌<◌, ◌≤◌, ◌++◌, ◌^◌, true, [], ◌∷◌, length, vec_len, IfOk, OnOk};
+//! The bodies of the script's packets: keys, user IDs and signatures, octet by octet as in specs/Bodies.antt.
+//! `identities` and `certification` put them into packets.
+ghost use Rattle.std.specs.Prelude.{◌≡◌, ◌+◌, ◌<◌, ◌≤◌, ◌^◌, true, [], ◌∷◌, length, vec_len, IfOk};
 ghost use Rattle.wot_gen.specs.Bodies.{hashed_area, key_body_with, signature_over};
 ghost use Rattle.wot_gen.specs.Bodies.{signature_body as signature_of, user_id as user_id_of};
 ghost use Rattle.wot_key.specs.Key.{is_readable};
@@ -7,7 +9,7 @@ ghost use Rattle.wot_types.specs.Fpr.{octets_in, version_of};
 use std::alloc::Global;
 use wot_types::{Fpr, Memory, UserId};
 
-/// The body of a version 4 key that was made then, whose material is four words.
+/// The body of a version 4 key that was created then, with four words as its key material.
 #[tactic(auto, using(crate::proofs::Shapes::key_is_readable), unfolding(crate::specs::Bodies::key_body))]
 pub fn key_body(alloc: Global, made: u32, material: [u64; 4]) -> Result<Vec<u8>, Memory>
     ensures body { IfOk result (λ body. body.items ≡ key_body_with made material) }
@@ -75,7 +77,7 @@ fn over(alloc: Global, kind: u8, area: &[u8]) -> Result<Vec<u8>, Memory>
     Ok(body)
 }
 
-/// The body of a version 4 signature of this kind: when it was made, by whom, and these subpackets.
+/// The body of a version 4 signature of this type: when it was created, by whom, and these subpackets.
 pub fn signature_body(
     alloc: Global,
     kind: u8,

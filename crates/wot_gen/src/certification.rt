@@ -1,4 +1,6 @@
-ghost use Rattle.std.specs.Prelude.{◌≡◌, ◌+◌, ◌*◌, ◌<◌, ◌≤◌, ◌^◌, ℕ, [], ◌∷◌, length, IfOk, OnOk};
+//! The certifications of the script: three on each user ID but the first, each by a key with a lower index. Words of
+//! the generator choose issuer, depth and amount.
+ghost use Rattle.std.specs.Prelude.{◌≡◌, ◌+◌, ◌<◌, ◌≤◌, ◌^◌, ℕ, length, IfOk, OnOk};
 ghost use Rattle.wot_gen.specs.Certifications.{certification_by, certifications_at, drawn_before};
 ghost use Rattle.wot_gen.specs.Identities.{AreIdentities};
 
@@ -19,7 +21,7 @@ pub struct Certification {
     pub issuer: Fpr,
 }
 
-/// The certification that is made in this turn, which takes two words: one for the issuer, one for depth and amount.
+/// The certification made in this turn. It takes two words: one for the issuer, one for depth and amount.
 fn certify(
     alloc: Global,
     words: &mut Words,

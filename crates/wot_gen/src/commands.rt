@@ -1,7 +1,8 @@
-ghost use Rattle.std.specs.Prelude.{◌≡◌, ℕ, ◌+◌, ◌-◌, ◌*◌, ◌/◌, ◌<◌, ◌≤◌, ◌^◌, ◌++◌, [], ◌∷◌, length, codes, map, IfOk};
+//! The commands of the script, in order: certificates with their verdicts, two views, questions, and changes of
+//! verdicts with questions. A change here changes the script, and with it the definition in specs/Script.antt.
+ghost use Rattle.std.specs.Prelude.{◌≡◌, ◌+◌, ◌-◌, ◌*◌, ◌/◌, ◌<◌, ◌≤◌, ◌++◌, [], ◌∷◌, length, IfOk};
 ghost use Rattle.std.specs.Prelude.{OnOk};
 ghost use Rattle.std.specs.List.{flat_map};
-ghost use Rattle.wot_gen.specs.Bodies.{user_id};
 ghost use Rattle.wot_gen.specs.Certifications.{drawn_before};
 ghost use Rattle.wot_gen.specs.Identities.{AreIdentities};
 ghost use Rattle.wot_gen.specs.Script.{PutsFor, PutsForAll, PutsForTwo, all_certificates, all_changes, all_questions};
@@ -18,7 +19,7 @@ use std::alloc::Global;
 use wot_script::{Command, Octets};
 use wot_types::{Fpr, Memory, UserId, ViewName};
 
-/// The moment of both views.
+/// The time of both views.
 const MOMENT: u32 = 1_200_000_000;
 
 /// The name of a view.
@@ -179,7 +180,7 @@ fn put_questions(
     Ok(())
 }
 
-/// Appends a turn of changes.
+/// Appends a turn of changes: a verdict that is set to bad and back, with a question after each.
 fn put_change(
     alloc: Global,
     changed: &Identity,

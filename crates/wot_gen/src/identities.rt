@@ -1,4 +1,6 @@
-ghost use Rattle.std.specs.Prelude.{◌≡◌, ◌+◌, ◌*◌, ◌<◌, ◌≤◌, ◌^◌, ℕ, true, [], ◌∷◌, length, IfOk, OnOk};
+//! The keys of the script, each with a user ID and a direct key signature. They are all made first, since
+//! certifications need the fingerprints of their issuers.
+ghost use Rattle.std.specs.Prelude.{◌≡◌, ◌+◌, ◌*◌, ◌<◌, ◌≤◌, ◌^◌, true, [], ◌∷◌, length, IfOk, OnOk};
 ghost use Rattle.wot_gen.specs.Identities.{AreIdentities, IsIdentity};
 ghost use Rattle.wot_key.specs.Key.{fpr_of, is_readable};
 ghost use Rattle.wot_packet.specs.Writing.{written_all};
@@ -38,7 +40,7 @@ fn fpr_of_key(body: &[u8]) -> Fpr
     fpr
 }
 
-/// The key of an index, which takes four words.
+/// The key of an index. It takes four words.
 fn make_identity(alloc: Global, words: &mut Words, index: u32) -> Result<Identity, Memory>
     requires index { index < 2000 }
     requires turn { words.old.drawn ≡ 4 * index }

@@ -1,3 +1,4 @@
+//! One key of the script with what other steps need of it: its fingerprint, its user ID and its packets.
 ghost use Rattle.std.specs.Prelude.{◌<◌, ◌^◌, length};
 
 use wot_script::Octets;

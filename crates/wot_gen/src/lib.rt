@@ -1,4 +1,6 @@
-//! The generated script: a workload that anyone can run, made of the words of a generator.
+//! The generated script: a workload that anyone can reproduce, from a start and a count. It stands on wot_key and
+//! wot_packet for certificates and on wot_script for lines. wot_engine runs it for `wot_cli`'s generating form. The
+//! text is fixed for each start and count: any change shows in its digest.
 #![tactic(auto)]
 
 mod bodies;

@@ -1,3 +1,5 @@
+//! `script`: the text of the commands, one line each. It is the entry of this crate for wot_engine, and its contract
+//! says that each line is read as its command.
 ghost use Rattle.std.specs.Prelude.{◌≡◌, ◌<◌, ◌≤◌, ◌++◌, length, IfOk, OnOk, OnErr};
 ghost use Rattle.std.specs.List.{AllByRecursion};
 ghost use Rattle.wot_script.specs.Spelling.{HasSpelling};
@@ -32,13 +34,12 @@ fn text(alloc: Global, commands: &[Command]) -> Result<Vec<u8>, Memory>
     Ok(text)
 }
 
-/// Appends the generated script of a start and a count, and gives the number of its lines. After `Memory`, `out` is as
-/// before.
-///
+/// Appends the generated script of a start and a count, and returns the number of its lines. On `Memory` `out` is
+/// unchanged.
 /// The words are those of SplitMix64, whose seed is the start in eight little-endian octets. There are `count` keys
-/// with one user ID each, each but the first with three certifications by keys before it; then two views; a question of
-/// each view on each user ID; and for each tenth key a verdict that is turned to bad and back, with a question after
-/// each turn.
+/// with one user ID each, and all but the first have three certifications by keys before them. Then come two views, a
+/// question of each view on each user ID, and for each tenth key a verdict that is set to bad and back, with a question
+/// after each change.
 pub fn script(alloc: Global, start: u64, count: u32, out: &mut Vec<u8>) -> Result<u64, Memory>
     requires some { 1 ≤ count }
     requires few { count ≤ 2000 }

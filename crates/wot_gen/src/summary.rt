@@ -1,3 +1,5 @@
+//! The three lines that are printed about a run of the script. wot_engine writes them instead of the replies; benches
+//! and tests compare them with those of other programs.
 ghost use Rattle.std.specs.Prelude.{◌≡◌, ◌++◌, OnErr, OnOk};
 ghost use Rattle.hex.specs.Hex.{encode_lower};
 ghost use Rattle.wot_gen.specs.Summary.{summary};
@@ -15,9 +17,9 @@ fn put_digits(digest: &[u8; 32], text: &mut Vec<u8>) -> Result<(), Memory>
     Ok(())
 }
 
-/// Appends what is printed of a run of the generated script: a line with its start, its count and the number of its
-/// lines; a line with the sum of the amounts that its questions were told; a line with the SHA-256 of its transcript in
-/// 64 digits. After `Memory`, `out` is as before.
+/// Appends the summary of a run of the generated script: a line with its start, its count and the number of its lines;
+/// a line with the sum of the amounts in the replies to its questions; a line with the SHA-256 of its transcript in 64
+/// digits. On `Memory` `out` is unchanged.
 pub fn put_summary(
     alloc: Global,
     start: u64,

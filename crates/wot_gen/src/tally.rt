@@ -1,3 +1,5 @@
+//! The tally of a run: the sum of the amounts and the digest of the replies, so that no transcript is kept in memory.
+//! wot_engine adds each reply, and `summary` prints the result.
 ghost use Rattle.std.specs.Prelude.{◌≡◌, ◌+◌, ◌<◌, ◌≤◌, ◌++◌, ◌∷◌, ◌^◌, [], List, OnOk};
 ghost use Rattle.wot_gen.specs.Summary.{Tells, amount_in as amount_of, transcript_digest};
 ghost use Rattle.wot_script.specs.Replies.{HasWords};
@@ -8,17 +10,17 @@ use std::alloc::Global;
 use wot_script::{Reply, print_reply};
 use wot_types::Memory;
 
-/// What a run of the generated script comes to so far. Of its transcript only the digest is kept.
+/// The tally of a run of the generated script so far. Only the digest of the transcript is kept.
 #[derive(Drop)]
 pub struct Tally {
-    /// The sum of the amounts that questions were told.
+    /// The sum of the amounts in the replies to questions.
     pub amounts: u64,
     transcript: Sha256,
     octets: Vec<u8>,
 }
 
 impl Tally {
-    /// That of no reply.
+    /// The tally of no replies.
     pub fn new(alloc: Global) -> Tally
         ensures none { Tells result [] }
         ensures amounts { result.amounts ≡ 0 }
@@ -54,7 +56,7 @@ impl Tally {
     }
 }
 
-/// The amount that the reply to a question tells. Other replies tell none.
+/// The amount in the reply to a question. Other replies have none.
 fn amount_in(reply: &Reply) -> u64
     ensures told { result ≡ amount_of reply.now }
     ensures small { result < 2 ^ 32 }

@@ -1,3 +1,5 @@
+//! The random words of the script: SplitMix64 of rand_xoshiro, with a count of the words drawn. The count lets
+//! contracts name each word by its number.
 ghost use Rattle.std.specs.Prelude.{◌≡◌, ◌+◌, ◌<◌, ◌^◌};
 ghost use Rattle.wot_gen.specs.Words.{state_after, word};
 
@@ -11,13 +13,13 @@ pub struct Words {
     generator: SplitMix64,
     /// The eight octets of the generator's seed, as a little-endian number.
     pub start: u64,
-    /// How many were drawn.
+    /// How many words were drawn.
     pub drawn: u64,
     ghost in_place: { generator ≡ state_after start drawn },
 }
 
 impl Words {
-    /// None was drawn.
+    /// A generator from which no word was drawn.
     #[tactic(auto, unfolding(crate::specs::Words::state_after))]
     pub fn new(start: u64) -> Words
         ensures start { result.start ≡ start }

@@ -215,7 +215,7 @@ module _ (n : SigNumber) (stamp : ℕ) where
       true_false : {b : Bool} → b ≡ true → b ≡ false → ⊥
       true_false h k = cc
 
--- ---- where a number stands, by the index
+-- ---- which certificate has a number, by the index
 
 module _ (n : SigNumber) (i : Index) (es : Entries) where
   -- It is on no certificate.

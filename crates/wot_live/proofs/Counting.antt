@@ -1,5 +1,6 @@
--- How many edges there are, and that places fit.
-use Rattle.std.proofs.Common.{◌≡◌, ℕ, ◌+◌, ◌≤◌, ◌<◌, ◌^◌, List, [], ◌∷◌, ◌++◌, length, Option, Some, None, refl, ap, ◌∙◌, arith, length-append}
+-- The number of edges is bounded, and places fit.
+use Rattle.std.proofs.Common.{◌≡◌, ℕ, ◌+◌, ◌≤◌, ◌<◌, ◌^◌, List, [], ◌∷◌, ◌++◌, length, Option, Some, None, refl, ap}
+use Rattle.std.proofs.Common.{◌∙◌, arith, length-append}
 use Rattle.std.specs.List.{AllByRecursion, cons_option, filter_map}
 use Rattle.wot_types.specs.declared.fpr.Fpr.{Fpr}
 use Rattle.wot_verdict.specs.Verdicts.{Entries}
@@ -20,7 +21,8 @@ length_filter_map : {A B : Type 0} (f : A → Option B) (xs : List A) → length
 length_filter_map f [] = omega arith
 length_filter_map f (x ∷ xs) = by (f x) (length_filter_map f xs)
   where
-    by : (o : Option _) → length (filter_map f xs) ≤ length xs → length (cons_option o (filter_map f xs)) ≤ length (x ∷ xs)
+    by : (o : Option _) → length (filter_map f xs) ≤ length xs → length (cons_option o (filter_map f xs)) ≤ length
+        (x ∷ xs)
     by None h = omega arith
     by (Some y) h = omega arith
 
@@ -28,7 +30,8 @@ sum_ones : (ss : List Signature) → sum_of (λ _. 1) ss ≡ length ss
 sum_ones [] = refl
 sum_ones (s ∷ ss) = let h = sum_ones ss in omega (arith, h)
 
-length_from : (verdicts : Entries) (target : Fpr) (t uid : ℕ) (ps : List Component) → length (edges_from verdicts target t uid ps) ≤ sum_of (part_weight (λ _. 1) (λ _. 0)) ps
+length_from : (verdicts : Entries) (target : Fpr) (t uid : ℕ) (ps : List Component) →
+    length (edges_from verdicts target t uid ps) ≤ sum_of (part_weight (λ _. 1) (λ _. 0)) ps
 length_from verdicts target t uid [] = omega arith
 length_from verdicts target t uid (p ∷ ps) =
     let all = length-append (edges_on verdicts target t uid p) (edges_from verdicts target t (uid + 1) ps) in
@@ -51,15 +54,18 @@ length_written kind body = omega arith
 
 sigs_fit : (ss : List Signature) → length ss ≤ length (sigs_text ss)
 sigs_fit [] = omega arith
-sigs_fit (s ∷ ss) = let one = length_written 2 s.body in let more = sigs_fit ss in omega (arith, one, more, length-append (written 2 s.body) (sigs_text ss))
+sigs_fit (s ∷ ss) = let one = length_written 2 s.body in let more = sigs_fit ss in
+    omega (arith, one, more, length-append (written 2 s.body) (sigs_text ss))
 
 part_fits : (p : Component) → length p.sigs + 1 ≤ length (part_text 13 p)
-part_fits p = let one = length_written 13 p.body in let sigs = sigs_fit p.sigs in omega (arith, one, sigs, length-append (written 13 p.body) (sigs_text p.sigs))
+part_fits p = let one = length_written 13 p.body in let sigs = sigs_fit p.sigs in
+    omega (arith, one, sigs, length-append (written 13 p.body) (sigs_text p.sigs))
 
 -- There are fewer user IDs than octets.
 count_fits : (ps : List Component) → length ps ≤ length (parts_text 13 ps)
 count_fits [] = omega arith
-count_fits (p ∷ ps) = let one = part_fits p in let more = count_fits ps in omega (arith, one, more, length-append (part_text 13 p) (parts_text 13 ps))
+count_fits (p ∷ ps) = let one = part_fits p in let more = count_fits ps in
+    omega (arith, one, more, length-append (part_text 13 p) (parts_text 13 ps))
 
 few_fit : (ps : List Component) → length (parts_text 13 ps) < 2 ^ 32 → AllByRecursion HasFew ps
 few_fit [] h = tt
@@ -72,7 +78,8 @@ shorter : (a b c d e : List ℕ) → length c ≤ length (a ++ b ++ c ++ d ++ e)
 shorter a b c d e = simp length-append (omega arith)
 
 uids_fit : (c : Certificate) → length (parts_text 13 c.user_ids) ≤ size_of c
-uids_fit c = shorter (written 6 c.key) (sigs_text c.direct) (parts_text 13 c.user_ids) (parts_text 17 c.attributes) (parts_text 14 c.subkeys)
+uids_fit c = shorter (written 6 c.key) (sigs_text c.direct) (parts_text 13 c.user_ids) (parts_text 17 c.attributes)
+    (parts_text 14 c.subkeys)
 
 pub has_few : (c : Certificate) → size_of c < 2 ^ 32 → AllByRecursion HasFew c.user_ids
 has_few c h = let fit = uids_fit c in few_fit c.user_ids (omega (arith, fit, h))
@@ -84,9 +91,11 @@ length_by_place : (es : List EdgeFacts) → length (by_place es) ≡ length es
 length_by_place [] = refl
 length_by_place (e ∷ es) = let more = length_by_place es in omega (arith, more)
 
--- What is made for each entry is at most one for each signature.
-pub made_within : (verdicts : Entries) (c : Certificate) (t old new : ℕ) (entries : List (EdgePlace × EdgeFacts)) → entries ≡ by_place (edges_of verdicts c t) → new ≤ old + length entries → new ≤ old + signatures_of c
+-- At most one edge is made for each signature.
+pub made_within : (verdicts : Entries) (c : Certificate) (t old new : ℕ) (entries : List (EdgePlace × EdgeFacts)) →
+    entries ≡ by_place (edges_of verdicts c t) → new ≤ old + length entries → new ≤ old + signatures_of c
 made_within verdicts c t old new entries e h =
     let few = few_edges verdicts c t in
-    let same : length entries ≡ length (edges_of verdicts c t) = ap length e ∙ length_by_place (edges_of verdicts c t) in
+    let same : length entries ≡ length (edges_of verdicts c t) =
+    ap length e ∙ length_by_place (edges_of verdicts c t) in
     omega (arith, few, same, h)

@@ -38,7 +38,8 @@ abbrev pub derived_place_cmp : EdgePlace → EdgePlace → Ordering
 derived_place_cmp = places.ghosts.cmp
 
 same_place_order : (a b : EdgePlace) → derived_place_cmp a b ≡ place_cmp a b
-same_place_order a b = ap (λ (cmp : Fpr → Fpr → Ordering). ordering_then (cmp a.issuer b.issuer) (nat_cmp a.uid b.uid)) same_cmp
+same_place_order a b = ap (λ (cmp : Fpr → Fpr → Ordering). ordering_then (cmp a.issuer b.issuer) (nat_cmp a.uid b.uid))
+    same_cmp
 
 pub same_place_cmp : derived_place_cmp ≡ place_cmp
 same_place_cmp = λ i a b. same_place_order a b i

@@ -24,31 +24,38 @@ sig_total = on_total (λ s. s.body) nat_list_cmp_total
 not_tied : (a b : Signature) → sig_cmp a b ≡ Less → is_eq (sig_cmp b a) ≡ false
 not_tied a b h = ap is_eq (sig_total.antisymm b a) ∙ ap (λ o. is_eq (ordering_reverse o)) h
 
-below_at : (x s : Signature) (ss : List Signature) (k : ℕ) → IsBelow sig_cmp x ss → slice_get ss k ≡ Some s → sig_cmp x s ≡ Less
+below_at : (x s : Signature) (ss : List Signature) (k : ℕ) → IsBelow sig_cmp x ss → slice_get ss k ≡ Some s →
+    sig_cmp x s ≡ Less
 below_at x s [] k h e = absurd cc
 below_at x s (y ∷ ys) zero h e = let same : y ≡ s = cc in ap (sig_cmp x) (sym same) ∙ h.0
 below_at x s (y ∷ ys) (suc k) h e = below_at x s ys k h.1 e
 
--- The place of a signature in a rising list is where it stands.
-pub place_at : (s : Signature) (ss : List Signature) (k : ℕ) → IsRising sig_cmp ss → slice_get ss k ≡ Some s → place_of s ss ≡ k
+-- The place of a signature in a sorted list is its index.
+pub place_at : (s : Signature) (ss : List Signature) (k : ℕ) → IsRising sig_cmp ss → slice_get ss k ≡ Some s →
+    place_of s ss ≡ k
 place_at s [] k h e = absurd cc
 place_at s (x ∷ xs) zero h e =
     let same : x ≡ s = cc in
-    ap (λ (y : Signature). cond (is_eq (sig_cmp s y)) 0 (place_of s xs + 1)) same ∙ ap (λ o. cond (is_eq o) 0 (place_of s xs + 1)) (tied_itself sig_total s)
+    ap (λ (y : Signature). cond (is_eq (sig_cmp s y)) 0 (place_of s xs + 1)) same
+    ∙ ap (λ o. cond (is_eq o) 0 (place_of s xs + 1)) (tied_itself sig_total s)
 place_at s (x ∷ xs) (suc k) h e =
-    ap (λ b. cond b 0 (place_of s xs + 1)) (not_tied x s (below_at x s xs k h.0 e)) ∙ (let rest = place_at s xs k h.1 e in omega (arith, rest))
+    ap (λ b. cond b 0 (place_of s xs + 1)) (not_tied x s (below_at x s xs k h.0 e))
+    ∙ (let rest = place_at s xs k h.1 e in omega (arith, rest))
 
 -- The edge by the places that are kept is that of the newest certification.
-pub kept_is : (verdicts : Entries) (target : Fpr) (t uid : ℕ) (p : Component) (places : List (Fpr × ℕ)) → KeepsNewest verdicts t p places → (s : Signature)
+pub kept_is : (verdicts : Entries) (target : Fpr) (t uid : ℕ) (p : Component) (places : List (Fpr × ℕ)) →
+    KeepsNewest verdicts t p places → (s : Signature)
     → edge_kept verdicts target uid p places s ≡ edge_with verdicts target t uid p s
 kept_is verdicts target t uid p places h s =
-    elim (issuer_of verdicts s) as (λ o. option_and_then (λ issuer. option_and_then (edge_by issuer target uid p.sigs) (kept_for places p.sigs issuer)) o ≡ option_and_then (λ issuer. edge_on verdicts target t issuer uid p) o) [
+    elim (issuer_of verdicts s) as (λ o. option_and_then (λ issuer. option_and_then (edge_by issuer target uid p.sigs)
+    (kept_for places p.sigs issuer)) o ≡ option_and_then (λ issuer. edge_on verdicts target t issuer uid p) o) [
       | Some issuer ↦ ap (option_and_then (edge_by issuer target uid p.sigs)) (h issuer)
       | None ↦ refl
     ]
 
--- the edge of what stands at a place
-pub terms_at : (issuer target : Fpr) (uid place : ℕ) (p : Component) (s : Signature) (f : SigFacts) (e : EdgeFacts) → IsRising sig_cmp p.sigs → slice_get p.sigs place ≡ Some s → said_by s ≡ Some f
+-- the edge of the signature at a place
+pub terms_at : (issuer target : Fpr) (uid place : ℕ) (p : Component) (s : Signature) (f : SigFacts) (e : EdgeFacts) →
+    IsRising sig_cmp p.sigs → slice_get p.sigs place ≡ Some s → said_by s ≡ Some f
     → e ≡ edge_facts issuer target uid place f → Some e ≡ edge_at_place issuer target uid p place
 terms_at issuer target uid place p s f e rises here said h =
     ap Some (h ∙ ap (λ k. edge_facts issuer target uid k f) (sym (place_at s p.sigs place rises here)))

@@ -1,14 +1,13 @@
--- A worked certificate: an issuer certified its user ID with the amount 60 at 2000, and with 120 at 3000 for 100 seconds.
+-- A worked certificate: an issuer certified its user ID with the amount 60 at 2000, and with 120 at 3000 for 100
+-- seconds.
 use Rattle.std.proofs.Common.{◌≡◌, ℕ, true, false, List, [], ◌∷◌, refl}
 use Rattle.wot_types.specs.declared.fpr.Fpr.{Fpr}
 use Rattle.wot_types.specs.declared.fpr.Fpr.TheVariants.{V4}
 use Rattle.wot_types.specs.declared.number.SigNumber.{SigNumber}
 use Rattle.wot_subpacket.specs.Area.{subpackets_of}
 use Rattle.wot_signature.specs.Signature.{facts_of, read_body_of}
-use Rattle.wot_verdict.specs.declared.verdict.Verdict.{Verdict}
 use Rattle.wot_verdict.specs.declared.verdict.Verdict.TheVariants.{Good}
 use Rattle.wot_verdict.specs.Verdicts.{Entries}
-use Rattle.wot_cert.specs.declared.moments.Span.{Span}
 use Rattle.wot_cert.specs.Certificate.{Signature, Certificate}
 use Rattle.wot_cert.specs.Span.{span_of}
 use Rattle.wot_edge.specs.declared.edge.EdgeFacts.{EdgeFacts}
@@ -32,7 +31,9 @@ certificate = record {
   direct = signature 0 (4 ∷ 31 ∷ 27 ∷ 8 ∷ 0 ∷ 6 ∷ 5 ∷ 2 ∷ 0 ∷ 0 ∷ 3 ∷ 232 ∷ 0 ∷ 0 ∷ 0 ∷ 0 ∷ []) ∷ [];
   user_ids = record {
     body = 116 ∷ [];
-    sigs = signature 1 (4 ∷ 16 ∷ 27 ∷ 8 ∷ 0 ∷ 10 ∷ 5 ∷ 2 ∷ 0 ∷ 0 ∷ 7 ∷ 208 ∷ 3 ∷ 5 ∷ 0 ∷ 60 ∷ 0 ∷ 0 ∷ 0 ∷ 0 ∷ []) ∷ signature 2 (4 ∷ 16 ∷ 27 ∷ 8 ∷ 0 ∷ 16 ∷ 5 ∷ 2 ∷ 0 ∷ 0 ∷ 11 ∷ 184 ∷ 5 ∷ 3 ∷ 0 ∷ 0 ∷ 0 ∷ 100 ∷ 3 ∷ 5 ∷ 0 ∷ 120 ∷ 0 ∷ 0 ∷ 0 ∷ 0 ∷ []) ∷ [];
+    sigs = signature 1 (4 ∷ 16 ∷ 27 ∷ 8 ∷ 0 ∷ 10 ∷ 5 ∷ 2 ∷ 0 ∷ 0 ∷ 7 ∷ 208 ∷ 3 ∷ 5 ∷ 0 ∷ 60 ∷ 0 ∷ 0 ∷ 0 ∷ 0 ∷ []) ∷
+        signature 2 (4 ∷ 16 ∷ 27 ∷ 8 ∷ 0 ∷ 16 ∷ 5 ∷ 2 ∷ 0 ∷ 0 ∷ 11 ∷ 184 ∷ 5 ∷ 3 ∷ 0 ∷ 0 ∷ 0 ∷ 100 ∷ 3 ∷ 5 ∷ 0 ∷ 120 ∷
+        0 ∷ 0 ∷ 0 ∷ 0 ∷ []) ∷ [];
   } ∷ [];
   attributes = [];
   subkeys = [];
@@ -46,7 +47,17 @@ abbrev at : ℕ → List EdgeFacts
 at t = in_edge_order (edges_from verdicts T t 0 certificate.user_ids)
 
 abbrev edge : ℕ → ℕ → ℕ → EdgeFacts
-edge sig made amount = record { issuer = R; target = T; uid = 0; sig = sig; made = made; depth = 0; amount = amount; scoped = false }
+edge sig made amount = record {
+  issuer = R;
+  target = T;
+  uid = 0;
+  sig = sig;
+  made = made;
+  depth = 0;
+  amount =
+      amount;
+  scoped = false;
+}
 
 before : at 999 ≡ []
 unfolding facts_of read_body_of subpackets_of

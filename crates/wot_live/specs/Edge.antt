@@ -16,7 +16,7 @@ abbrev pub place_of : Signature → List Signature → ℕ
 place_of s [] = 0
 place_of s (x ∷ xs) = if is_eq (sig_cmp s x) then 0 else place_of s xs + 1
 
--- what an edge tells: a certification of one's own has no depth, the full amount and no scope
+-- the terms of an edge: a self-certification has no depth, the full amount and no scope
 abbrev pub edge_facts : Fpr → Fpr → ℕ → ℕ → SigFacts → EdgeFacts
 edge_facts issuer target uid place f = record {
   issuer = issuer;

@@ -1,4 +1,4 @@
--- Edges that are found, kept by issuer and user ID.
+-- The edges that were found, by issuer and user ID.
 use Rattle.std.specs.Prelude.{◌≡◌, ℕ, ◌<◌, ◌^◌, List, length, map, Option}
 use Rattle.std.specs.declared.cmp.Ordering.{Ordering}
 use Rattle.std.specs.List.{slice_get}
@@ -28,14 +28,14 @@ edge_place e = record { issuer = e.issuer; uid = e.uid }
 abbrev pub by_place : List EdgeFacts → List (EdgePlace × EdgeFacts)
 by_place edges = map (λ e. (edge_place e, e)) edges
 
--- edges in order with one more, and with more
+-- sorted edges with one more, and with several more
 abbrev pub with_edge : EdgeFacts → List EdgeFacts → List EdgeFacts
 with_edge = put edge_cmp one_of_both
 
 abbrev pub with_edges : List EdgeFacts → List EdgeFacts → List EdgeFacts
 with_edges = united edge_cmp one_of_both
 
--- where edges in order were kept, what this makes of them is; or they and these others
+-- what becomes of sorted edges under this function; or they and these others
 abbrev pub Becomes : (List EdgeFacts → List EdgeFacts) → List (EdgePlace × EdgeFacts) → List (EdgePlace × EdgeFacts)
     → Type 0
 Becomes change old new = (edges : List EdgeFacts) → old ≡ by_place edges → new ≡ by_place (change edges)
@@ -43,16 +43,16 @@ Becomes change old new = (edges : List EdgeFacts) → old ≡ by_place edges →
 abbrev pub Gains : List EdgeFacts → List (EdgePlace × EdgeFacts) → List (EdgePlace × EdgeFacts) → Type 0
 Gains more = Becomes (λ edges. with_edges edges more)
 
--- the edge of the signature that stands at this place on the user ID
+-- the edge of the signature at this place on the user ID
 abbrev pub edge_at_place : Fpr → Fpr → ℕ → Component → ℕ → Option EdgeFacts
 edge_at_place issuer target uid p place = option_and_then (edge_by issuer target uid p.sigs) (slice_get p.sigs place)
 
--- the edge that the issuer of a signature has by the places that are kept
+-- the edge that the issuer of a signature has, by the places that are kept
 abbrev pub edge_kept : Entries → Fpr → ℕ → Component → List (Fpr × ℕ) → Signature → Option EdgeFacts
 edge_kept verdicts target uid p places s =
     option_and_then (λ issuer. option_and_then (edge_by issuer target uid p.sigs) (kept_for places p.sigs issuer))
     (issuer_of verdicts s)
 
--- few enough signatures that their places fit
+-- so few signatures that their places fit
 abbrev pub HasFew : Component → Type 0
 HasFew p = length p.sigs < 2 ^ 32

@@ -23,17 +23,17 @@ abbrev pub edge_with : Entries → Fpr → ℕ → ℕ → Component → Signatu
 edge_with verdicts target t uid p s =
     option_and_then (λ issuer. edge_on verdicts target t issuer uid p) (issuer_of verdicts s)
 
--- those of all signatures on the user ID; an issuer of several has its edge there several times
+-- the edges of all signatures on the user ID; an issuer of several signatures has its edge there several times
 abbrev pub edges_on : Entries → Fpr → ℕ → ℕ → Component → List EdgeFacts
 edges_on verdicts target t uid p = filter_map (edge_with verdicts target t uid p) p.sigs
 
--- those on these user IDs, the first of which stands at this place
+-- the edges on these user IDs, the first of which is at this place
 abbrev pub edges_from : Entries → Fpr → ℕ → ℕ → List Component → List EdgeFacts
 edges_from verdicts target t uid [] = []
 edges_from verdicts target t uid (p ∷ ps) =
     edges_on verdicts target t uid p ++ edges_from verdicts target t (uid + 1) ps
 
--- Two edges of one issuer and user ID are the same: either will do.
+-- Two edges of one issuer and user ID are equal, so either will do.
 abbrev pub one_of_both : EdgeFacts → EdgeFacts → EdgeFacts
 one_of_both old new = new
 
@@ -65,7 +65,7 @@ AreInto target edges = (edge : EdgeFacts) → Has edges edge → edge.target ≡
 
 -- ---- revoked user IDs
 
--- the places, from this one on, where the test holds
+-- the places, from this one on, at which the test holds
 abbrev pub places_where : {A : Type 0} → (A → Bool) → ℕ → List A → List ℕ
 places_where test place [] = []
 places_where test place (x ∷ xs) =

@@ -1,4 +1,6 @@
-// The edges of all issuers into one certificate, in order.
+//! Finds the edges of all issuers into one certificate, in the order of issuer and user ID. It walks over the
+//! signatures once and asks wot_standing for each issuer's newest certification. Which edges are found is fixed by
+//! `edges_of`.
 ghost use Rattle.std.specs.Prelude.{◌≡◌, ◌<◌, ◌^◌, [], length, OnOk, IfOk};
 ghost use Rattle.std.specs.List.{AllByRecursion, cons_option};
 ghost use Rattle.wot_live.specs.Found.{Becomes, Gains, HasFew, by_place, edge_kept, with_edge};
@@ -14,7 +16,7 @@ use wot_standing::Certifiers;
 use wot_types::{Fpr, Memory};
 use wot_verdict::Verdicts;
 
-/// An issuer, and the place of a user ID.
+/// The issuer of an edge, and the place of its user ID.
 #[derive(Clone, Copy, PartialEq, Eq, PartialOrd, Ord)]
 pub(crate) struct EdgePlace {
     issuer: Fpr,
@@ -34,7 +36,7 @@ fn put_edge(found: &mut Found, edge: EdgeFacts) -> Result<(), Memory>
     Ok(())
 }
 
-/// The edge of the signature that stands at this place on a user ID.
+/// The edge of the signature at this place on a user ID.
 fn edge_at_place(part: &Part, place: u32, issuer: Fpr, target: Fpr, uid: u32) -> Option<EdgeFacts>
     ensures { result ≡ edge_at_place_spec issuer target uid part.now place }
 {
@@ -68,7 +70,7 @@ fn put_some(found: &mut Found, edge: Option<EdgeFacts>) -> Result<(), Memory>
     }
 }
 
-/// Puts in the edges of all issuers on one user ID, which stands at this place.
+/// Adds the edges of all issuers on the user ID at this place.
 fn put_edges_on(
     alloc: Global,
     found: &mut Found,

@@ -1,4 +1,5 @@
-//! Laws of the definitions. Each function does nothing: its contract is the law.
+//! Laws of the definitions. Each function does nothing: its contract is the law. wot_network calls it to know that a
+//! certificate's edges are sorted and complete.
 ghost use Rattle.std.specs.Prelude.{ℕ};
 ghost use Rattle.wot_verdict.specs.Verdicts.{Entries};
 ghost use Rattle.wot_cert.specs.Certificate.{Certificate};
@@ -7,7 +8,7 @@ ghost use Rattle.wot_live.specs.Rows.{AreInto, AreRows, edges_of};
 
 use wot_standing::laws::certifications_count;
 
-/// The edges into a certificate are in the order of issuer and user ID, and are those of each issuer and user ID.
+/// The edges into a certificate are sorted by issuer and user ID, and are exactly the edges of each issuer and user ID.
 pub fn edges_are_rows()
     ensures rows { (verdicts : Entries) (c : Certificate) (t : ℕ) → AreRows verdicts c t (edges_of verdicts c t) }
     ensures into { (verdicts : Entries) (c : Certificate) (t : ℕ) → AreInto (own c) (edges_of verdicts c t) }

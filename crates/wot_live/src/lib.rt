@@ -1,4 +1,6 @@
-//! The edges into one certificate at a time.
+//! The edges into one certificate at a time, and the user IDs that its own key revoked. It stands on wot_standing,
+//! which finds each issuer's newest certification, and on wot_edge for the edge itself. wot_network makes a
+//! certificate's edges with `rows` whenever it is stale.
 #![tactic(auto)]
 
 mod found;

@@ -1,6 +1,8 @@
+//! `rows`, the one call of this crate: edges and revoked user IDs of a certificate at a time, and the span of times in
+//! which they hold. Its contract is what the network above is proved from. A rule about edges changes in `terms` or in
+//! wot_standing, not here.
 ghost use Rattle.std.specs.Prelude.{◌≡◌, ◌<◌, ◌≤◌, ◌+◌, ◌^◌, min, length, IfOk};
 ghost use Rattle.std.specs.BTreeMap.{btree_map_len, values};
-ghost use Rattle.std.specs.List.{AllByRecursion};
 ghost use Rattle.std.specs.List.Sorted.{IsStrictlySortedBy};
 ghost use Rattle.wot_cert.specs.Counts.{signatures_of};
 ghost use Rattle.wot_cert.specs.Span.{span_of};
@@ -8,7 +10,6 @@ ghost use Rattle.wot_cert.specs.Text.{size_of};
 ghost use Rattle.wot_edge.specs.Order.{edge_cmp};
 ghost use Rattle.wot_standing.specs.Standing.{own};
 ghost use Rattle.wot_standing.specs.Throughout.{IsThroughout};
-ghost use Rattle.wot_live.specs.Found.{HasFew};
 ghost use Rattle.wot_live.specs.Rows.{AreInto, AreRows, edges_of, revoked_of};
 
 use crate::Rows;
@@ -22,14 +23,14 @@ use wot_standing::steady_span;
 use wot_types::{Memory, Steps};
 use wot_verdict::Verdicts;
 
-/// Makes the edges that were found.
+/// Creates the edges that were found, and counts them.
 fn make_edges(alloc: Global, found: &Found, steps: &mut Steps) -> Result<Vec<Edge>, Memory>
     ensures edges { IfOk result (λ edges. edges.items ≡ values found.now) }
     ensures made { IfOk result (λ edges. min (steps.old.made + length edges.items) u64.MAX ≤ steps.new.made) }
     ensures made_most { steps.new.made ≤ steps.old.made + btree_map_len found.now }
     ensures never_less { steps.old.made ≤ steps.new.made }
 {
-    // The range of the count is known once it was read.
+    // Reading the count brings its range into the proof.
     let _made = steps.made;
     let mut edges = Vec::new(alloc);
     for facts in found.values() {
@@ -38,12 +39,11 @@ fn make_edges(alloc: Global, found: &Found, steps: &mut Steps) -> Result<Vec<Edg
     Ok(edges)
 }
 
-/// The edges into a certificate at a time, the user IDs that its own key revoked, and the span of times through which
-/// both are the same.
+/// The edges into a certificate at a time, the user IDs that its own key revoked, and the span of times in which both
+/// stay the same.
 ///
-/// The edge of an issuer and a user ID is the newest certification there that counts by the issuer, is live and
-/// unrevoked. A certification of one's own has no depth, the amount 120 and no scope. Each edge that is made is
-/// counted.
+/// The edge of an issuer and a user ID is the newest certification there that counts for the issuer, is live and
+/// unrevoked. A self-certification has depth 0, amount 120 and no scope. Each new edge is counted.
 pub fn rows(
     alloc: Global,
     cert: &Cert,

@@ -1,3 +1,5 @@
+//! Finds the user IDs that the certificate's own key revoked. wot_standing decides on each user ID. A revoked user ID
+//! is never a target.
 ghost use Rattle.std.specs.Prelude.{◌≡◌, ◌<◌, ◌^◌, length, IfOk};
 ghost use Rattle.wot_live.specs.Rows.{revoked_of};
 

@@ -1,5 +1,6 @@
 -- Claims of absence: each line that asks for one, or makes one, has one reply.
-use Rattle.std.proofs.Common.{◌≡◌, ℕ, ◌<◌, ◌≤◌, Bool, true, false, List, [], ◌∷◌, ◌++◌, map, Ordering, Option, Some, None, Result, Ok, Err, refl, sym, ap, ◌∙◌, subst, arith}
+use Rattle.std.proofs.Common.{◌≡◌, ℕ, ◌<◌, ◌≤◌, Bool, true, false, List, [], ◌∷◌, ◌++◌, map, Ordering, Option, Some}
+use Rattle.std.proofs.Common.{None, Result, Ok, Err, refl, sym, ap, ◌∙◌, subst, arith}
 use Rattle.std.specs.Prelude.{nat_le, IfOk, IsSomeAnd}
 use Rattle.std.specs.declared.cmp.Ordering.TheVariants.{Less, Equal, Greater}
 use Rattle.std.specs.Ordering.{is_lt, match_ordering, ordering_reverse}
@@ -48,18 +49,21 @@ all_above : (a b : Fpr) (table : Labels) → fpr_cmp a b ≡ Less → Above b ta
 all_above a b [] less above = tt
 all_above a b (e ∷ table) less above = (fpr_total.trans a b e.0 less above.0, all_above a b table less above.1)
 
-rising_above : (label : LabelLine) (labels : List LabelLine) → is_rising (label ∷ labels) ≡ true → Above label.0 (table_in labels)
+rising_above : (label : LabelLine) (labels : List LabelLine) → is_rising (label ∷ labels) ≡ true →
+    Above label.0 (table_in labels)
 rising_above label [] e = tt
 rising_above label (next ∷ labels) e =
     let parts = and_parts (is_lt (fpr_cmp label.0 next.0)) (is_rising (next ∷ labels)) e in
     let less = is_lt-less (fpr_cmp label.0 next.0) parts.0 in
     (less, all_above label.0 next.0 (table_in labels) less (rising_above next labels parts.1))
 
-rising_later : (label : LabelLine) (labels : List LabelLine) → is_rising (label ∷ labels) ≡ true → is_rising labels ≡ true
+rising_later : (label : LabelLine) (labels : List LabelLine) → is_rising (label ∷ labels) ≡ true →
+    is_rising labels ≡ true
 rising_later label [] e = refl
 rising_later label (next ∷ labels) e = (and_parts (is_lt (fpr_cmp label.0 next.0)) (is_rising (next ∷ labels)) e).1
 
-rising_sorted : (labels : List LabelLine) → is_rising labels ≡ true → IsStrictlySortedBy fpr_cmp (keys_of (table_in labels))
+rising_sorted : (labels : List LabelLine) → is_rising labels ≡ true →
+    IsStrictlySortedBy fpr_cmp (keys_of (table_in labels))
 unfolding IsStrictlySortedBy
 rising_sorted [] e = tt
 rising_sorted (label ∷ labels) e = (rising_above label labels e, rising_sorted labels (rising_later label labels e))
@@ -69,17 +73,20 @@ are_labels [] all = tt
 are_labels (label ∷ labels) all = let some = all.0.0 in ((omega (arith, some), all.0.1), are_labels labels all.1)
 
 -- what a line claims as a table is one
-pub spelled_table : (claims : List ClaimLine) (labels : List LabelLine) → IsClaimSpelled claims labels → IsTable (table_in labels)
+pub spelled_table : (claims : List ClaimLine) (labels : List LabelLine) → IsClaimSpelled claims labels →
+    IsTable (table_in labels)
 spelled_table claims labels s = record { order = rising_sorted labels s.rise; labels = are_labels labels s.numbers }
 
 -- a label put behind all others
-insert_last : (table rest : Labels) (fpr : Fpr) (label : ℕ) → IsStrictlySortedBy fpr_cmp (keys_of (table ++ (fpr, label) ∷ rest))
+insert_last : (table rest : Labels) (fpr : Fpr) (label : ℕ) →
+    IsStrictlySortedBy fpr_cmp (keys_of (table ++ (fpr, label) ∷ rest))
     → insert_entry fpr_cmp table fpr label ≡ table ++ (fpr, label) ∷ []
 unfolding IsStrictlySortedBy
 insert_last [] rest fpr label s = refl
 insert_last (e ∷ table) rest fpr label s =
     let greater : fpr_cmp fpr e.0 ≡ Greater = fpr_total.antisymm fpr e.0 ∙ ap ordering_reverse (below table s.0) in
-    ap (λ (o : Ordering). match_ordering o ((fpr, label) ∷ e ∷ table) ((e.0, label) ∷ table) (e ∷ insert_entry fpr_cmp table fpr label)) greater
+    ap (λ (o : Ordering). match_ordering o ((fpr, label) ∷ e ∷ table) ((e.0, label) ∷ table)
+    (e ∷ insert_entry fpr_cmp table fpr label)) greater
     ∙ ap (λ (es : Labels). e ∷ es) (insert_last table rest fpr label s.1)
   where
     below : (es : Labels) → Above e.0 (es ++ (fpr, label) ∷ rest) → fpr_cmp e.0 fpr ≡ Less
@@ -88,7 +95,8 @@ insert_last (e ∷ table) rest fpr label s =
 
 -- one label more is put in
 table_more : (labels later : List LabelLine) (label : LabelLine) (table new : Labels) → IsTable (table_in labels)
-    → table ++ table_in (label ∷ later) ≡ table_in labels → new ≡ insert_entry fpr_cmp table label.0 label.1 → new ++ table_in later ≡ table_in labels
+    → table ++ table_in (label ∷ later) ≡ table_in labels → new ≡ insert_entry fpr_cmp table label.0 label.1 →
+    new ++ table_in later ≡ table_in labels
 table_more labels later label table new good so e =
     let sorted = subst (λ (es : Labels). IsStrictlySortedBy fpr_cmp (keys_of es)) (sym so) good.order in
     ap (λ (es : Labels). es ++ table_in later) (e ∙ insert_last table (table_in later) label.0 label.1 sorted)
@@ -112,12 +120,14 @@ label_some labels later label table good so = by table (subst AreLabels (sym so)
 abbrev Left : Labels → List LabelLine → List LabelLine → Type 0
 Left table left labels = table ++ table_in left ≡ table_in labels
 
-pub first_put : (labels left later : List LabelLine) (label : LabelLine) (table new : Labels) → IsTable (table_in labels) → left ≡ label ∷ later
+pub first_put : (labels left later : List LabelLine) (label : LabelLine) (table new : Labels) →
+    IsTable (table_in labels) → left ≡ label ∷ later
     → Left table left labels → new ≡ insert_entry fpr_cmp table label.0 label.1 → Left new later labels
 first_put labels left later label table new good e so put =
     table_more labels later label table new good (subst (λ (ls : List LabelLine). Left table ls labels) e so) put
 
-pub first_some : (labels left later : List LabelLine) (label : LabelLine) (table : Labels) → IsTable (table_in labels) → left ≡ label ∷ later
+pub first_some : (labels left later : List LabelLine) (label : LabelLine) (table : Labels) → IsTable (table_in labels) →
+    left ≡ label ∷ later
     → Left table left labels → 1 ≤ label.1
 first_some labels left later label table good e so =
     label_some labels later label table good (subst (λ (ls : List LabelLine). Left table ls labels) e so)
@@ -129,14 +139,17 @@ verdicts_worded claims answers.Yes = tt
 verdicts_worded claims answers.BadPaths = tt
 verdicts_worded claims answers.BadTable = tt
 
-pub tells_worded : (reached : Bool) (q : Question) (paths : List Path) (reply : Reply) → TellsAbsence reached q paths reply → HasWords reply
+pub tells_worded : (reached : Bool) (q : Question) (paths : List Path) (reply : Reply) →
+    TellsAbsence reached q paths reply → HasWords reply
 tells_worded true q paths reply tells = subst HasWords (sym tells) tt
 tells_worded false q paths reply tells = subst HasWords (sym tells.3) tt
 
 -- ---- what is told of an absence
 
-pub tells_one : ((q : Question) (used : Use) (a b : Labels) → IsTable a → IsTable b → IsLeastTable q used a → IsLeastTable q used b → a ≡ b)
-    → (reached : Bool) (q : Question) (paths : List Path) (r s : Reply) → TellsAbsence reached q paths r → TellsAbsence reached q paths s → r ≡ s
+pub tells_one : ((q : Question) (used : Use) (a b : Labels) → IsTable a → IsTable b → IsLeastTable q used a →
+    IsLeastTable q used b → a ≡ b)
+    → (reached : Bool) (q : Question) (paths : List Path) (r s : Reply) → TellsAbsence reached q paths r →
+    TellsAbsence reached q paths s → r ≡ s
 tells_one one true q paths r s a b = a ∙ sym b
 tells_one one false q paths r s a b = a.3 ∙ ap (missed paths) (one q (use_of paths) a.0 b.0 a.1 b.1 a.2 b.2) ∙ sym b.3
 
@@ -145,17 +158,22 @@ pub tells_some : ((q : Question) (used : Use) → (table : Labels) × IsTable ta
 tells_some some true q paths = (replies.Reached (amount_of paths), refl)
 tells_some some false q paths = by (some q (use_of paths))
   where
-    tells : (table : Labels) → IsTable table → IsLeastTable q (use_of paths) table → TellsAbsence false q paths (missed paths table)
+    tells : (table : Labels) → IsTable table → IsLeastTable q (use_of paths) table →
+        TellsAbsence false q paths (missed paths table)
     tells table good least = (table, good, least, refl)
 
-    by : (table : Labels) × IsTable table × IsLeastTable q (use_of paths) table → (r : Reply) × TellsAbsence false q paths r
+    by : (table : Labels) × IsTable table × IsLeastTable q (use_of paths) table →
+        (r : Reply) × TellsAbsence false q paths r
     by t = (missed paths t.0, tells t.0 t.1 t.2)
 
 -- the reply to a question that missed
-pub told_misses : (q : Question) (wanted sum : ℕ) (paths shown : List Path) (made : Option Labels) (table : Labels) (result : Result Reply Memory)
-    → IsAnswer q wanted paths → sum ≡ amount_of paths → sum < wanted → shown ≡ paths → IsMade q (use_of shown) made → made ≡ Some table
+pub told_misses : (q : Question) (wanted sum : ℕ) (paths shown : List Path) (made : Option Labels) (table : Labels)
+    (result : Result Reply Memory)
+    → IsAnswer q wanted paths → sum ≡ amount_of paths → sum < wanted → shown ≡ paths → IsMade q (use_of shown) made →
+    made ≡ Some table
     → IfOk result (λ reply. reply ≡ missed shown table)
-    → IfOk result (λ reply. (x : List Path) × IsAnswer q wanted x × TellsAbsence (nat_le wanted (amount_of x)) q x reply)
+    → IfOk result (λ reply. (x : List Path) × IsAnswer q wanted x × TellsAbsence (nat_le wanted (amount_of x)) q x
+    reply)
 told_misses q wanted sum paths shown made table (Err fault) answer e lt same m some told = tt
 told_misses q wanted sum paths shown made table (Ok reply) answer e lt same m some told =
     let here = subst (IsMade q (use_of shown)) some m in
@@ -166,17 +184,22 @@ told_misses q wanted sum paths shown made table (Ok reply) answer e lt same m so
     tells true f good least = absurd cc
     tells false f good least = (table, good, least, told)
 
-    by : nat_le wanted (amount_of shown) ≡ false → IsAnswer q wanted shown → IsTable table → IsLeastTable q (use_of shown) table
+    by : nat_le wanted (amount_of shown) ≡ false → IsAnswer q wanted shown → IsTable table →
+        IsLeastTable q (use_of shown) table
         → (x : List Path) × IsAnswer q wanted x × TellsAbsence (nat_le wanted (amount_of x)) q x reply
     by f a good least = (shown, a, tells (nat_le wanted (amount_of shown)) f good least)
 
 -- what is checked over the parts that are seen from a view is checked from that view
-pub checks_shown : (engine : Engine) (o : Option View) (parts : Parts) (target : Fpr) (claims : List ClaimLine) (labels : List LabelLine) (uid : List ℕ)
+pub checks_shown : (engine : Engine) (o : Option View) (parts : Parts) (target : Fpr) (claims : List ClaimLine)
+    (labels : List LabelLine) (uid : List ℕ)
     (result : Result Reply Memory) → IsSomeAnd o (λ v. ArePartsOf engine.keyring v parts)
-    → IfOk result (λ reply. (checked : Checked) × IsChecked (asks (told_of (present_of parts.roads) uid) parts.roots.now target) (map claim_in claims) (table_in labels) checked × (reply ≡ verdict_on claims checked))
+    → IfOk result (λ reply. (checked : Checked) × IsChecked (asks (told_of (present_of parts.roads) uid) parts.roots.now
+    target) (map claim_in claims) (table_in labels) checked × (reply ≡ verdict_on claims checked))
     → IfOk result (λ reply. Checks (state_of engine) o target claims labels uid reply)
 checks_shown engine None parts target claims labels uid result are checks = absurd are
 checks_shown engine (Some v) parts target claims labels uid result are checks =
-    let same : asks (told_of (present_of parts.roads) uid) parts.roots.now target ≡ question_in (state_of engine) v target uid =
+    let same : asks (told_of (present_of parts.roads) uid) parts.roots.now target ≡ question_in (state_of engine) v
+    target uid =
     λ i. asks (told_of (are.roads i) uid) (are.roots i) target in
-    subst (λ (q : Question). IfOk result (λ reply. (checked : Checked) × IsChecked q (map claim_in claims) (table_in labels) checked × (reply ≡ verdict_on claims checked))) same checks
+    subst (λ (q : Question). IfOk result (λ reply. (checked : Checked) × IsChecked q (map claim_in claims)
+    (table_in labels) checked × (reply ≡ verdict_on claims checked))) same checks

@@ -1,11 +1,15 @@
 -- An answer depends on certificates, verdicts and the asking view alone.
-use Rattle.std.proofs.Common.{◌≡◌, inl, ℕ, Bool, true, false, List, [], ◌∷◌, length, map, Option, Some, None, refl, sym, ap, subst, ◌∙◌}
+use Rattle.std.proofs.Common.{◌≡◌, inl, ℕ, Bool, true, false, List, [], ◌∷◌, length, map, Option, Some, None, refl, sym}
+use Rattle.std.proofs.Common.{ap, subst, ◌∙◌}
 use Rattle.std.specs.Prelude.{MatchBool, nat_lt}
 use Rattle.wot_types.specs.declared.fpr.Fpr.{Fpr}
 use Rattle.wot_policy.specs.declared.rows.PolicyRows.{PolicyRows}
 use Rattle.wot_verdict.specs.Verdicts as verdicts
 use Rattle.wot_script.specs.declared.command.Command.{Command}
-use Rattle.wot_script.specs.declared.command.Command.TheVariants.{Import, Load, Store, Remove, Good, Bad, Unjudge, Time, Root, Close, Ask, Explain, Pending, Keys, Export, Dump, Absence, Check, CursorOver, CursorNext, CursorClose, WatchOn, WatchOff}
+use Rattle.wot_script.specs.declared.command.Command.TheVariants.{Import, Load, Store, Remove, Good, Bad, Unjudge, Time}
+use Rattle.wot_script.specs.declared.command.Command.TheVariants.{Root, Close, Ask, Explain, Pending, Keys, Export}
+use Rattle.wot_script.specs.declared.command.Command.TheVariants.{Dump, Absence, Check, CursorOver, CursorNext}
+use Rattle.wot_script.specs.declared.command.Command.TheVariants.{CursorClose, WatchOn, WatchOff}
 use Rattle.wot_script.specs.declared.reply.Reply.{Reply}
 use Rattle.wot_script.specs.declared.reply.Reply.TheVariants as replies
 use Rattle.wot_script.specs.Grammar.{command_of}
@@ -46,7 +50,8 @@ module _ (rows : PolicyRows) (forgets : (c : Certificate) → judged rows (unmar
       ∙ ap (λ (xs : Certificates). judged_anew rows e ∷ xs) (anew_bare es)
 
   -- Where each mark is the one that the rows give, equal certificates but for marks are equal.
-  pub same_certs : (one other : State) → judged_by rows one.held ≡ one.held → judged_by rows other.held ≡ other.held → bare one.held.certs ≡ bare other.held.certs
+  pub same_certs : (one other : State) → judged_by rows one.held ≡ one.held → judged_by rows other.held ≡ other.held →
+      bare one.held.certs ≡ bare other.held.certs
       → one.held.certs ≡ other.held.certs
   same_certs one other p q e =
       let first : map (judged_anew rows) one.held.certs ≡ one.held.certs = ap (λ (h : Held). h.certs) p in
@@ -60,8 +65,10 @@ abbrev held_alone : Certificates → verdicts.Entries → State
 held_alone certs entries = record { held = record { certs = certs; verdicts = entries }; views = [] }
 
 -- What is so by certificates, verdicts and the asking view is so in both states.
-alike : (P : State → Option View → Type 0) (one other : State) (name : List ℕ) → one.held.certs ≡ other.held.certs → one.held.verdicts ≡ other.held.verdicts
-    → view_at one.views name ≡ view_at other.views name → P (held_alone one.held.certs one.held.verdicts) (view_at one.views name)
+alike : (P : State → Option View → Type 0) (one other : State) (name : List ℕ) → one.held.certs ≡ other.held.certs →
+    one.held.verdicts ≡ other.held.verdicts
+    → view_at one.views name ≡ view_at other.views name → P (held_alone one.held.certs one.held.verdicts)
+    (view_at one.views name)
     → P (held_alone other.held.certs other.held.verdicts) (view_at other.views name)
 alike P one other name c v w asks =
     subst (λ (view : Option View). P (held_alone other.held.certs other.held.verdicts) view) w
@@ -69,23 +76,30 @@ alike P one other name c v w asks =
     (subst (λ (certs : Certificates). P (held_alone certs one.held.verdicts) (view_at one.views name)) c asks))
 
 -- The views are no part of what decides a reply but the one that asks.
-does_alike : (rows : PolicyRows) (one other : State) (name : List ℕ) (command : Command) (given told : Served) (reply : Reply) (new : State) → one.held.certs ≡ other.held.certs
-    → one.held.verdicts ≡ other.held.verdicts → view_at one.views name ≡ view_at other.views name → AsksFrom name command
+does_alike : (rows : PolicyRows) (one other : State) (name : List ℕ) (command : Command) (given told : Served)
+    (reply : Reply) (new : State) → one.held.certs ≡ other.held.certs
+    → one.held.verdicts ≡ other.held.verdicts → view_at one.views name ≡ view_at other.views name →
+    AsksFrom name command
     → Does rows one command given reply new → Does rows other command told reply other
 does_alike rows one other name (Ask view target wanted uid) given told reply new c v w a does =
-    let W : view_at one.views view ≡ view_at other.views view = subst (λ (n : List ℕ). view_at one.views n ≡ view_at other.views n) (sym a) w in
+    let W : view_at one.views view ≡ view_at other.views view =
+    subst (λ (n : List ℕ). view_at one.views n ≡ view_at other.views n) (sym a) w in
     (alike (λ s shown. Asks s shown target wanted uid reply) one other view c v W does.0, refl)
 does_alike rows one other name (Command.List view wanted) given told reply new c v w a does =
-    let W : view_at one.views view ≡ view_at other.views view = subst (λ (n : List ℕ). view_at one.views n ≡ view_at other.views n) (sym a) w in
+    let W : view_at one.views view ≡ view_at other.views view =
+    subst (λ (n : List ℕ). view_at one.views n ≡ view_at other.views n) (sym a) w in
     (alike (λ s shown. Lists s shown wanted reply) one other view c v W does.0, refl)
 does_alike rows one other name (Explain view fpr uid) given told reply new c v w a does =
-    let W : view_at one.views view ≡ view_at other.views view = subst (λ (n : List ℕ). view_at one.views n ≡ view_at other.views n) (sym a) w in
+    let W : view_at one.views view ≡ view_at other.views view =
+    subst (λ (n : List ℕ). view_at one.views n ≡ view_at other.views n) (sym a) w in
     (alike (λ s shown. reply ≡ explained_from s shown fpr uid) one other view c v W does.0, refl)
 does_alike rows one other name (Absence view target wanted uid) given told reply new c v w a does =
-    let W : view_at one.views view ≡ view_at other.views view = subst (λ (n : List ℕ). view_at one.views n ≡ view_at other.views n) (sym a) w in
+    let W : view_at one.views view ≡ view_at other.views view =
+    subst (λ (n : List ℕ). view_at one.views n ≡ view_at other.views n) (sym a) w in
     (alike (λ s shown. Misses s shown target wanted uid reply) one other view c v W does.0, refl)
 does_alike rows one other name (Check view target claims labels uid) given told reply new c v w a does =
-    let W : view_at one.views view ≡ view_at other.views view = subst (λ (n : List ℕ). view_at one.views n ≡ view_at other.views n) (sym a) w in
+    let W : view_at one.views view ≡ view_at other.views view =
+    subst (λ (n : List ℕ). view_at one.views n ≡ view_at other.views n) (sym a) w in
     (alike (λ s shown. Checks s shown target claims labels uid reply) one other view c v W does.0, refl)
 does_alike rows one other name (Import octets) given told reply new c v w a does = absurd a
 does_alike rows one other name (Load entry) given told reply new c v w a does = absurd a
@@ -109,7 +123,8 @@ does_alike rows one other name (WatchOff watch) given told reply new c v w a doe
 
 -- Such a command leaves turns, cursors and watches.
 asking : (name : List ℕ) (command : Command) (s : Whole) (reply : Reply) → AsksFrom name command
-    → IsTurnedBy command s.state.views s.turns s.state.views s.turns × Paces s command reply s.cursors × Watching s command reply s.watches
+    → IsTurnedBy command s.state.views s.turns s.state.views s.turns × Paces s command reply s.cursors × Watching s
+    command reply s.watches
 asking name (Ask view target wanted uid) s reply a = (refl, refl, refl)
 asking name (Command.List view wanted) s reply a = (refl, refl, refl)
 asking name (Explain view fpr uid) s reply a = (refl, refl, refl)
@@ -136,16 +151,20 @@ asking name (WatchOn watch view target wanted uid) s reply a = absurd a
 asking name (WatchOff watch) s reply a = absurd a
 
 -- A step of a question in the one state is one in the other, where what the command does is.
-pub step_as : (rows : PolicyRows) (one other : Whole) (name line : List ℕ) (given told : Served) (reply : Option Reply) (new : Whole) (ask : IsAsk name line)
-    → ((r : Reply) (s : State) → Does rows one.state ask.command given r s → Does rows other.state ask.command told r other.state)
+pub step_as : (rows : PolicyRows) (one other : Whole) (name line : List ℕ) (given told : Served) (reply : Option Reply)
+    (new : Whole) (ask : IsAsk name line)
+    → ((r : Reply) (s : State) → Does rows one.state ask.command given r s →
+    Does rows other.state ask.command told r other.state)
     → LineStep rows one line given reply new → LineStep rows other line told reply other
 step_as rows one other name line given told reply new ask does step = long (nat_lt longest (length line)) step
   where
-    answers : (o : Option Command) → o ≡ Some ask.command → (r : Option Reply) → HasReply (Answers rows one o given) r new → HasReply (Answers rows other o told) r other
+    answers : (o : Option Command) → o ≡ Some ask.command → (r : Option Reply) →
+        HasReply (Answers rows one o given) r new → HasReply (Answers rows other o told) r other
     answers o e None s = absurd s
     answers o e (Some r) s =
         let Told : Option Command → Type 0 = λ o. Answers rows other o told r other in
-        let s' : Obeys rows one ask.command given r new = subst (λ (o : Option Command). Answers rows one o given r new) e s in
+        let s' : Obeys rows one ask.command given r new = subst (λ (o : Option Command). Answers rows one o given r new)
+        e s in
         let rest = asking name ask.command other r ask.asks in
         subst Told (sym e) (record {
           does = does r new.state s'.does;
@@ -159,30 +178,44 @@ step_as rows one other name line given told reply new ask does step = long (nat_
     refused None g = absurd g
     refused (Some r) g = (g.0, refl)
 
-    silent : (b : Bool) → MatchBool b ((reply ≡ None) × (new ≡ one)) (HasReply (Answers rows one (command_of line) given) reply new)
-        → MatchBool b ((reply ≡ None) × (other ≡ other)) (HasReply (Answers rows other (command_of line) told) reply other)
+    silent : (b : Bool) → MatchBool b ((reply ≡ None) × (new ≡ one))
+        (HasReply (Answers rows one (command_of line) given) reply new)
+        → MatchBool b ((reply ≡ None) × (other ≡ other)) (HasReply (Answers rows other (command_of line) told) reply
+        other)
     silent true g = (g.0, refl)
     silent false g = answers (command_of line) ask.read reply g
 
     long : (b : Bool)
-        → MatchBool b (HasReply (Stays one replies.Long) reply new) (MatchBool (is_silent line) ((reply ≡ None) × (new ≡ one)) (HasReply (Answers rows one (command_of line) given) reply new))
-        → MatchBool b (HasReply (Stays other replies.Long) reply other) (MatchBool (is_silent line) ((reply ≡ None) × (other ≡ other)) (HasReply (Answers rows other (command_of line) told) reply other))
+        → MatchBool b (HasReply (Stays one replies.Long) reply new)
+        (MatchBool (is_silent line) ((reply ≡ None) × (new ≡ one))
+        (HasReply (Answers rows one (command_of line) given) reply new))
+        → MatchBool b (HasReply (Stays other replies.Long) reply other)
+        (MatchBool (is_silent line) ((reply ≡ None) × (other ≡ other))
+        (HasReply (Answers rows other (command_of line) told) reply other))
     long true g = refused reply g
     long false g = silent (is_silent line) g
 
-pub step_alike : (rows : PolicyRows) (one other : Whole) (name line : List ℕ) (given told : Served) (reply : Option Reply) (new : Whole) → one.state.held.certs ≡ other.state.held.certs
-    → one.state.held.verdicts ≡ other.state.held.verdicts → view_at one.state.views name ≡ view_at other.state.views name → IsAsk name line
+pub step_alike : (rows : PolicyRows) (one other : Whole) (name line : List ℕ) (given told : Served)
+    (reply : Option Reply) (new : Whole) → one.state.held.certs ≡ other.state.held.certs
+    → one.state.held.verdicts ≡ other.state.held.verdicts → view_at one.state.views name ≡ view_at other.state.views
+    name → IsAsk name line
     → LineStep rows one line given reply new → LineStep rows other line told reply other
 step_alike rows one other name line given told reply new c v w ask step =
     step_as rows one other name line given told reply new ask
     (λ r s does. does_alike rows one.state other.state name ask.command given told r s c v w ask.asks does) step
 
 -- What is reached can be.
-pub reached_can_be : (rows : PolicyRows) (world : World) (lines : List (List ℕ)) (replies : List Reply) (s : Scene) → Run rows (opening world) lines replies s → AreNamed s.whole.state.held.certs
-reached_can_be rows world lines replies s run = run_stays rows AreNamed (named_all rows) named_without lines (opening world) replies s tt run
+pub reached_can_be : (rows : PolicyRows) (world : World) (lines : List (List ℕ)) (replies : List Reply) (s : Scene) →
+    Run rows (opening world) lines replies s → AreNamed s.whole.state.held.certs
+reached_can_be rows world lines replies s run = run_stays rows AreNamed (named_all rows) named_without lines
+    (opening world) replies s tt run
 
-pub replied_alike : (rows : PolicyRows) → OneOutcome rows → (one other : Whole) (name line : List ℕ) → AreNamed other.state.held.certs → one.state.held.certs ≡ other.state.held.certs
-    → one.state.held.verdicts ≡ other.state.held.verdicts → view_at one.state.views name ≡ view_at other.state.views name → IsAsk name line → (given told : Served)
-    → (reply second : Option Reply) (new third : Whole) → LineStep rows one line given reply new → LineStep rows other line told second third → reply ≡ second
+pub replied_alike : (rows : PolicyRows) → OneOutcome rows → (one other : Whole) (name line : List ℕ) →
+    AreNamed other.state.held.certs → one.state.held.certs ≡ other.state.held.certs
+    → one.state.held.verdicts ≡ other.state.held.verdicts → view_at one.state.views name ≡ view_at other.state.views
+    name → IsAsk name line → (given told : Served)
+    → (reply second : Option Reply) (new third : Whole) → LineStep rows one line given reply new →
+    LineStep rows other line told second third → reply ≡ second
 replied_alike rows law one other name line can c v w ask given told reply second new third p q =
-    (law.one other line told reply second other third can (step_alike rows one other name line given told reply new c v w ask p) q).0
+    (law.one other line told reply second other third can (step_alike rows one other name line given told reply new c v
+    w ask p) q).0

@@ -1,5 +1,6 @@
 -- The lines of a dump, answered from the start on.
-use Rattle.std.proofs.Common.{◌≡◌, ℕ, suc, Bool, true, false, List, [], ◌∷◌, length, map, Option, Some, None, Result, Ok, Err, refl, sym, ap, ◌∙◌, subst, append_assoc}
+use Rattle.std.proofs.Common.{◌≡◌, ℕ, suc, Bool, true, false, List, [], ◌∷◌, length, map, Option, Some, None, Result}
+use Rattle.std.proofs.Common.{Ok, Err, refl, sym, ap, ◌∙◌, subst, append_assoc}
 use Rattle.std.specs.Prelude.{if◌then◌else◌, IsSomeAnd}
 use Rattle.std.specs.Option.{option_map}
 use Rattle.std.specs.List.{AllByRecursion}
@@ -12,7 +13,10 @@ use Rattle.wot_types.specs.Limits.{standard_limits}
 use Rattle.wot_io.specs.Input as inputs
 use Rattle.wot_policy.specs.declared.rows.PolicyRows.{PolicyRows}
 use Rattle.wot_script.specs.declared.command.Command.{Command}
-use Rattle.wot_script.specs.declared.command.Command.TheVariants.{Import, Load, Store, Remove, Good, Bad, Unjudge, Time, Root, Close, Ask, Explain, Pending, Keys, Export, Dump, Absence, Check, CursorOver, CursorNext, CursorClose, WatchOn, WatchOff}
+use Rattle.wot_script.specs.declared.command.Command.TheVariants.{Import, Load, Store, Remove, Good, Bad, Unjudge, Time}
+use Rattle.wot_script.specs.declared.command.Command.TheVariants.{Root, Close, Ask, Explain, Pending, Keys, Export}
+use Rattle.wot_script.specs.declared.command.Command.TheVariants.{Dump, Absence, Check, CursorOver, CursorNext}
+use Rattle.wot_script.specs.declared.command.Command.TheVariants.{CursorClose, WatchOn, WatchOff}
 use Rattle.wot_script.specs.declared.reply.Reply.{Reply}
 use Rattle.wot_script.specs.declared.reply.Reply.TheVariants as replies
 use Rattle.wot_script.specs.Replies.{is_refusal}
@@ -22,7 +26,7 @@ use Rattle.wot_verdict.specs.declared.verdict.Verdict.TheVariants as said
 use Rattle.wot_keyring.specs.declared.import.Imported.{Imported}
 use Rattle.wot_keyring.specs.declared.refusal.Refusal.{Refusal}
 use Rattle.wot_keyring.specs.Dump as keyrings
-use Rattle.wot_keyring.specs.Dump.{AreLines, IsLine, after_all, command_line_of, lines_of, unless_over}
+use Rattle.wot_keyring.specs.Dump.{AreLines, IsLine, after_all, lines_of, unless_over}
 use Rattle.wot_keyring.specs.Held.{Held, verdict_set}
 use Rattle.wot_keyring.specs.Import.{answer_to, importing}
 use Rattle.wot_keyring.specs.Verdict.{is_over}
@@ -56,7 +60,8 @@ record Takes (P : Reply → State → Type 0) (new : State) : Type 0 where
   does : P reply new
 
 taken : (rows : PolicyRows) (s : State) (octets : List ℕ) (answer : Result Imported Refusal) (new : State)
-    → option_map (with_held s) (keyrings.unless_refused answer (importing rows octets s.held)) ≡ Some new → Takes (Gives (imports rows s octets answer)) new
+    → option_map (with_held s) (keyrings.unless_refused answer (importing rows octets s.held)) ≡ Some new →
+    Takes (Gives (imports rows s octets answer)) new
 taken rows s octets (Ok counts) new e = record {
   reply = replies.Taken counts.taken counts.skipped counts.fresh;
   well = refl;
@@ -64,27 +69,38 @@ taken rows s octets (Ok counts) new e = record {
 }
 taken rows s octets (Err refusal) new e = absurd (cc e)
 
-chosen : (b : Bool) (refused : Outcome) (s new : State) (held : Held) → option_map (with_held s) (if b then None else Some held) ≡ Some new
+chosen : (b : Bool) (refused : Outcome) (s new : State) (held : Held) →
+    option_map (with_held s) (if b then None else Some held) ≡ Some new
     → Takes (Gives (if b then refused else done (with_held s held))) new
 chosen true refused s new held e = absurd (cc e)
-chosen false refused s new held e = record { reply = replies.Done; well = refl; does = (refl, sym (same_Some (with_held s held) new e)) }
+chosen false refused s new held e = record {
+  reply = replies.Done;
+  well = refl;
+  does =
+      (refl, sym (same_Some (with_held s held) new e));
+}
 
-allowed : (s : State) (fault : Option ViewFault) (done new : State) → unless_refused fault done ≡ Some new → Takes (Gives (unless s fault done)) new
+allowed : (s : State) (fault : Option ViewFault) (done new : State) → unless_refused fault done ≡ Some new →
+    Takes (Gives (unless s fault done)) new
 allowed s (Some fault) done new e = absurd (cc e)
 allowed s None done new e = record { reply = replies.Done; well = refl; does = (refl, sym (same_Some done new e)) }
 
 judged_so : (s : State) (number : SigNumber) (verdict : Verdict) (new : State)
-    → option_map (with_held s) (unless_over standard_limits number verdict s.held) ≡ Some new → Takes (Gives (set_verdict s number verdict)) new
+    → option_map (with_held s) (unless_over standard_limits number verdict s.held) ≡ Some new →
+    Takes (Gives (set_verdict s number verdict)) new
 judged_so s number verdict new e =
-    chosen (is_over standard_limits s.held.verdicts number) (only s (replies.Full words.Verdicts)) s new (verdict_set number verdict s.held) e
+    chosen (is_over standard_limits s.held.verdicts number) (only s (replies.Full words.Verdicts)) s new
+    (verdict_set number verdict s.held) e
 
 -- a command that isn't refused does what the machine does
-accepted : (rows : PolicyRows) (command : Command) (s new : State) → after rows standard_limits command s ≡ Some new → Takes (Does rows s command unserved) new
+accepted : (rows : PolicyRows) (command : Command) (s new : State) → after rows standard_limits command s ≡ Some new →
+    Takes (Does rows s command unserved) new
 accepted rows (Import octets) s new e = taken rows s octets (answer_to rows standard_limits s.held.certs octets) new e
 accepted rows (Good number fpr) s new e = judged_so s number (said.Good fpr) new e
 accepted rows (Bad number) s new e = judged_so s number said.Bad new e
 accepted rows (Time view t) s new e = allowed s (time_fault standard_limits s.views view) (timing view t s) new e
-accepted rows (Root view fpr amount) s new e = allowed s (root_fault standard_limits (view_at s.views view) fpr amount) (rooting view fpr amount s) new e
+accepted rows (Root view fpr amount) s new e = allowed s (root_fault standard_limits (view_at s.views view) fpr amount)
+    (rooting view fpr amount s) new e
 accepted rows (Load name) s new e = absurd (cc e)
 accepted rows (Store fpr) s new e = absurd (cc e)
 accepted rows (Remove fpr) s new e = absurd (cc e)
@@ -106,7 +122,8 @@ accepted rows (WatchOn watch view fpr wanted uid) s new e = absurd (cc e)
 accepted rows (WatchOff watch) s new e = absurd (cc e)
 
 -- nor does it call the shelf
-uncalled : (rows : PolicyRows) (command : Command) (s new : State) → after rows standard_limits command s ≡ Some new → use_of (Some command) ≡ unused
+uncalled : (rows : PolicyRows) (command : Command) (s new : State) → after rows standard_limits command s ≡ Some new →
+    use_of (Some command) ≡ unused
 uncalled rows (Load name) s new e = absurd (cc e)
 uncalled rows (Store fpr) s new e = absurd (cc e)
 uncalled rows (Import octets) s new e = refl
@@ -133,7 +150,8 @@ uncalled rows (WatchOn watch view fpr wanted uid) s new e = refl
 uncalled rows (WatchOff watch) s new e = refl
 
 -- nor is it one of a cursor
-unpaced : (rows : PolicyRows) (command : Command) (s new : State) → after rows standard_limits command s ≡ Some new → is_pacing command ≡ false
+unpaced : (rows : PolicyRows) (command : Command) (s new : State) → after rows standard_limits command s ≡ Some new →
+    is_pacing command ≡ false
 unpaced rows (Import octets) s new e = refl
 unpaced rows (Load name) s new e = refl
 unpaced rows (Store fpr) s new e = refl
@@ -160,7 +178,8 @@ unpaced rows (WatchOn watch view fpr wanted uid) s new e = refl
 unpaced rows (WatchOff watch) s new e = refl
 
 -- nor is it one of a watch
-unwatched : (rows : PolicyRows) (command : Command) (s new : State) → after rows standard_limits command s ≡ Some new → is_watching command ≡ false
+unwatched : (rows : PolicyRows) (command : Command) (s new : State) → after rows standard_limits command s ≡ Some new →
+    is_watching command ≡ false
 unwatched rows (Import octets) s new e = refl
 unwatched rows (Load name) s new e = refl
 unwatched rows (Store fpr) s new e = refl
@@ -209,7 +228,8 @@ record Leads (rows : PolicyRows) (old : Whole) (c : Command) (reply : Reply) (ne
   watches : whole.watches ≡ old.watches
   obeys : Obeys rows old c unserved reply whole
 
-leads : (rows : PolicyRows) (old : Whole) (c : Command) (reply : Reply) (new : State) → is_pacing c ≡ false → is_watching c ≡ false
+leads : (rows : PolicyRows) (old : Whole) (c : Command) (reply : Reply) (new : State) → is_pacing c ≡ false →
+    is_watching c ≡ false
     → Does rows old.state c unserved reply new → Leads rows old c reply new
 leads rows old c reply new plain still does =
     let count = counted_some old new.held in
@@ -229,13 +249,16 @@ leads rows old c reply new plain still does =
     }
 
 -- the step of a command's line, over a shelf of any world
-stepped : (rows : PolicyRows) (c : Command) (s new : Whole) (reply : Reply) → IsLine c → use_of (Some c) ≡ unused → Obeys rows s c unserved reply new → new.watches ≡ [] → (world : World)
+stepped : (rows : PolicyRows) (c : Command) (s new : Whole) (reply : Reply) → IsLine c → use_of (Some c) ≡ unused →
+    Obeys rows s c unserved reply new → new.watches ≡ [] → (world : World)
     → Step rows (over s world) (spelling c) (Some reply) [] (over new world)
 stepped rows c s new reply line none obeys unwatched world =
     let Answered : Option Command → Type 0 = λ o. Answers rows s o unserved reply new in
     let is_heard : is_silent (spelling c) ≡ false = heard (spelling c) line.heard in
-    uncalled_step rows world s new new (spelling c) (Some reply) [] (ap use_of (heard_read (spelling c) line.short is_heard ∙ line.read) ∙ none)
-    (looked_at rows s (spelling c) unserved reply new line.short is_heard (subst Answered (sym line.read) obeys)) (tells_nothing new unwatched)
+    uncalled_step rows world s new new (spelling c) (Some reply) []
+    (ap use_of (heard_read (spelling c) line.short is_heard ∙ line.read) ∙ none)
+    (looked_at rows s (spelling c) unserved reply new line.short is_heard (subst Answered (sym line.read) obeys))
+    (tells_nothing new unwatched)
 
 -- ---- runs
 
@@ -249,19 +272,26 @@ record Runs (rows : PolicyRows) (s : Whole) (commands : List Command) (new : Sta
   each : length replies_are ≡ length (map spelling commands)
   well : AllByRecursion (λ reply. is_refusal reply ≡ false) replies_are
 
-refused_stays : (rows : PolicyRows) (l : Limits) (commands : List Command) → after_all (after rows l) commands None ≡ None
+refused_stays : (rows : PolicyRows) (l : Limits) (commands : List Command) →
+    after_all (after rows l) commands None ≡ None
 refused_stays rows l [] = refl
 refused_stays rows l (command ∷ commands) = refl
 
-further : (rows : PolicyRows) (c : Command) (commands : List Command) (s : Whole) (new : State) → s.watches ≡ [] → IsLine c
-    → ((mid : Whole) → mid.watches ≡ [] → after_all (after rows standard_limits) commands (Some mid.state) ≡ Some new → Runs rows mid commands new)
-    → (o : Option State) → after rows standard_limits c s.state ≡ o → after_all (after rows standard_limits) commands o ≡ Some new → Runs rows s (c ∷ commands) new
-further rows c commands s new none line rest None was e = let stays = refused_stays rows standard_limits commands in absurd (cc (stays, e))
+further : (rows : PolicyRows) (c : Command) (commands : List Command) (s : Whole) (new : State) → s.watches ≡ [] →
+    IsLine c
+    → ((mid : Whole) → mid.watches ≡ [] → after_all (after rows standard_limits) commands (Some mid.state) ≡ Some new →
+    Runs rows mid commands new)
+    → (o : Option State) → after rows standard_limits c s.state ≡ o →
+    after_all (after rows standard_limits) commands o ≡ Some new → Runs rows s (c ∷ commands) new
+further rows c commands s new none line rest None was e = let stays = refused_stays rows standard_limits commands in
+    absurd (cc (stays, e))
 further rows c commands s new none line rest (Some mid) was e =
     let t : Takes (Does rows s.state c unserved) mid = accepted rows c s.state mid was in
-    let l : Leads rows s c t.reply mid = leads rows s c t.reply mid (unpaced rows c s.state mid was) (unwatched rows c s.state mid was) t.does in
+    let l : Leads rows s c t.reply mid = leads rows s c t.reply mid (unpaced rows c s.state mid was)
+    (unwatched rows c s.state mid was) t.does in
     let still : l.whole.watches ≡ [] = l.watches ∙ none in
-    let more : Runs rows l.whole commands new = rest l.whole still (ap (λ (x : State). after_all (after rows standard_limits) commands (Some x)) l.state ∙ e) in
+    let more : Runs rows l.whole commands new =
+    rest l.whole still (ap (λ (x : State). after_all (after rows standard_limits) commands (Some x)) l.state ∙ e) in
     record {
       replies_are = t.reply ∷ more.replies_are;
       whole = more.whole;
@@ -294,9 +324,11 @@ runs rows [] s new none lines e = record {
   well = tt;
 }
 runs rows (c ∷ commands) s new none lines e =
-    further rows c commands s new none lines.0 (λ mid still. runs rows commands mid new still lines.1) (after rows standard_limits c s.state) refl e
+    further rows c commands s new none lines.0 (λ mid still. runs rows commands mid new still lines.1)
+    (after rows standard_limits c s.state) refl e
 
-reached : (rows : PolicyRows) (l : Limits) (s : State) → IsSomeAnd (after_all (after rows l) (commands_of s) (Some start)) (CarriesOver rows s)
+reached : (rows : PolicyRows) (l : Limits) (s : State) →
+    IsSomeAnd (after_all (after rows l) (commands_of s) (Some start)) (CarriesOver rows s)
     → (new : State) × CarriesOver rows s new × (after_all (after rows l) (commands_of s) (Some start) ≡ Some new)
 reached rows l s there = by (after_all (after rows l) (commands_of s) (Some start)) there
   where
@@ -308,11 +340,14 @@ pub made_anew : (rows : PolicyRows) (engine : Engine) → engine.keyring.limits 
     → AreLines (commands_of (state_of engine)) → IsMadeAnew rows (state_of engine)
 made_anew rows engine standard restored lines =
     let s : State = state_of engine in
-    let From : Limits → Type 0 = λ l. IsSomeAnd (after_all (after rows l) (commands_of s) (Some start)) (CarriesOver rows s) in
+    let From : Limits → Type 0 = λ l. IsSomeAnd (after_all (after rows l) (commands_of s) (Some start))
+    (CarriesOver rows s) in
     let there = reached rows standard_limits s (subst From standard restored) in
-    let all : Runs rows beginning (commands_of s) there.0 = runs rows (commands_of s) beginning there.0 refl lines there.2 in
+    let all : Runs rows beginning (commands_of s) there.0 = runs rows (commands_of s) beginning there.0 refl lines
+    there.2 in
     let cut : map spelling (commands_of s) ≡ dumped s = sym (cut_lines (commands_of s) lines) in
-    let Ran : List (List ℕ) → Type 0 = λ lines. (world : World) → Run rows (over beginning world) lines all.replies_are (over all.whole world) in
+    let Ran : List (List ℕ) → Type 0 = λ lines. (world : World) → Run rows (over beginning world) lines all.replies_are
+    (over all.whole world) in
     record {
       replies = all.replies_are;
       new = all.whole;

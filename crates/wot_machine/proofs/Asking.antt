@@ -1,5 +1,6 @@
 -- What asking watches makes, one after another.
-use Rattle.std.proofs.Common.{◌≡◌, inr, ℕ, ◌≤◌, true, List, [], ◌∷◌, Option, Some, None, Result, Ok, Err, IsErrAnd, refl, sym, subst, ◌∙◌, arith}
+use Rattle.std.proofs.Common.{◌≡◌, inr, ℕ, ◌≤◌, true, List, [], ◌∷◌, Option, Some, None, Result, Ok, Err, IsErrAnd}
+use Rattle.std.proofs.Common.{refl, sym, subst, ◌∙◌, arith}
 use Rattle.std.specs.Prelude.{IfSome, is_ok}
 use Rattle.wot_cache.specs.declared.view.View.{View}
 use Rattle.wot_cache.specs.Marks.{IsMadeFor, IsRefreshed}
@@ -18,14 +19,17 @@ module _ {A B T E : Type 0} (r : Result A B) (s : Result T E) (less : is_ok s �
   watch_as watch old new before after m =
       record { none = m.none; asked = λ some. refreshed_as r s less watch.view old new before after (m.asked some) }
 
-  pub watches_as : (watches : Watches) (old new : Engine) (before after : ℕ) → WatchesMake r watches old new before after
+  pub watches_as : (watches : Watches) (old new : Engine) (before after : ℕ) →
+      WatchesMake r watches old new before after
       → WatchesMake s watches old new before after
   watches_as [] old new before after m = m
   watches_as (e ∷ es) old new before after m =
       (m.0, m.1, watch_as e.1 old m.0 before m.1 m.2, watches_as es m.0 new m.1 after m.3)
 
-pub made_for : {A B T E : Type 0} (r : Result A B) (s : Result T E) → (is_ok s ≡ true → is_ok r ≡ true) → (watch : Watch) (view : List ℕ) (wanted : ℕ)
-    (old new : Engine) (before after : ℕ) → view ≡ watch.view → wanted ≡ watch.wanted → (1 ≤ wanted → IsRefreshed r view old new before after)
+pub made_for : {A B T E : Type 0} (r : Result A B) (s : Result T E) → (is_ok s ≡ true → is_ok r ≡ true) →
+    (watch : Watch) (view : List ℕ) (wanted : ℕ)
+    (old new : Engine) (before after : ℕ) → view ≡ watch.view → wanted ≡ watch.wanted →
+    (1 ≤ wanted → IsRefreshed r view old new before after)
     → (wanted ≡ 0 → (new ≡ old) × (after ≡ before)) → WatchMakes s watch old new before after
 made_for r s less watch view wanted old new before after v w asked none = record {
   none = λ zero. none (w ∙ zero);
@@ -47,7 +51,8 @@ module _ (T : Type 0) {E : Type 0} (e : E) where
   }
     where
       by : (o : Option View) → IfSome o (λ (v : View).
-          IsMadeFor {T = T} {E = E} (Err e) engine.keyring v.time (marks_at engine name) (marks_at engine name) made made)
+          IsMadeFor {T = T} {E = E} (Err e) engine.keyring v.time (marks_at engine name) (marks_at engine name) made
+          made)
       by None = tt
       by (Some v) = record {
         marks = tt;
@@ -76,8 +81,10 @@ MakesSoFar old before all rest now made =
     → WatchesMake r all old new before after
 
 module _ (old : Engine) (before : ℕ) (all : Watches) where
-  pub so_far_more : {A B : Type 0} (rest : Watches) (name : List ℕ) (watch : Watch) (now next : Engine) (made more : ℕ) (x : Result A B)
-      → is_ok x ≡ true → MakesSoFar old before all ((name, watch) ∷ rest) now made → WatchMakes x watch now next made more
+  pub so_far_more : {A B : Type 0} (rest : Watches) (name : List ℕ) (watch : Watch) (now next : Engine) (made more : ℕ)
+      (x : Result A B)
+      → is_ok x ≡ true → MakesSoFar old before all ((name, watch) ∷ rest) now made →
+      WatchMakes x watch now next made more
       → MakesSoFar old before all rest next more
   so_far_more rest name watch now next made more x ok so m r new after others =
       so r new after (next, more, watch_as x r (λ done. ok) watch now next made more m, others)
@@ -89,14 +96,20 @@ module _ (old : Engine) (before : ℕ) (all : Watches) where
       watches_as done s (λ ok. refl) all old now before made (so done now made (rw none (refl, refl)))
 
   -- one of them was refused memory
-  pub so_far_failed : {A B T E : Type 0} (rest : Watches) (name : List ℕ) (watch : Watch) (now next : Engine) (made more : ℕ)
+  pub so_far_failed : {A B T E : Type 0} (rest : Watches) (name : List ℕ) (watch : Watch) (now next : Engine)
+      (made more : ℕ)
       (x : Result A B) (s : Result T E) → (is_ok s ≡ true → ⊥)
       → MakesSoFar old before all ((name, watch) ∷ rest) now made → WatchMakes x watch now next made more
       → WatchesMake s all old next before more
   so_far_failed rest name watch now next made more x s never so m =
       let failed : Result (Unit {0}) (Unit {0}) = Err tt in
       let made_all : WatchesMake failed all old next before more =
-      so failed next more (next, more, watch_as x failed (λ ok. absurd cc) watch now next made more m, watches_still (Unit {0}) tt rest next more) in
+      so failed next more (
+        next,
+        more,
+        watch_as x failed (λ ok. absurd cc) watch now next made more m,
+        watches_still (Unit {0}) tt rest next more,
+      ) in
       watches_as failed s (λ ok. absurd (never ok)) all old next before more made_all
 
 -- ---- telling
@@ -105,8 +118,10 @@ pub never_ok : {T E : Type 0} (r : Result T E) (Q : E → Type 0) → IsErrAnd r
 never_ok (Ok value) Q h ok = absurd h
 never_ok (Err e) Q h ok = absurd cc
 
-pub telling_made : {A B T E : Type 0} (r : Result A B) (s : Result T E) → (is_ok s ≡ true → is_ok r ≡ true) → (old mid new last : Machine) → mid ≡ old
-    → WatchesMake r mid.watches mid.engine new.engine mid.made new.made → last.engine ≡ new.engine → last.made ≡ new.made
+pub telling_made : {A B T E : Type 0} (r : Result A B) (s : Result T E) → (is_ok s ≡ true → is_ok r ≡ true) →
+    (old mid new last : Machine) → mid ≡ old
+    → WatchesMake r mid.watches mid.engine new.engine mid.made new.made → last.engine ≡ new.engine →
+    last.made ≡ new.made
     → TellingMakes s old.watches old.engine last.engine old.made last.made
 telling_made r s less old mid new last same m e n =
     inr (watches_as r s less old.watches old.engine last.engine old.made last.made

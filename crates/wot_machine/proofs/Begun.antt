@@ -54,7 +54,8 @@ reached_sound : (rows : PolicyRows) (lines : List (List ℕ)) (old : Scene) (tol
 reached_sound rows =
     run_keeps rows (λ (w : Whole). AreSound w.state.views w.turns)
     (λ old command answer reply new o s.
-    sound_by (turning_of command) old.state.views old.turns new.state.views new.turns (does_views rows old.state command answer reply new.state o.does) o.turned s)
+    sound_by (turning_of command) old.state.views old.turns new.state.views new.turns
+    (does_views rows old.state command answer reply new.state o.does) o.turned s)
     (λ s watches sound. sound)
 
 -- ---- the line that began it
@@ -78,17 +79,21 @@ began_from s name view wanted cursors (Some shown) e l = by (is_full s.cursors n
     by true l = let never : replies.Done ≡ replies.FullCursors = l.0 in absurd (cc never)
     by false l = record { shown = shown; seen = e; cursors_are = l.1 }
 
-heard_obeys : (rows : PolicyRows) (old : Whole) (o : Option Command) (command : Command) (answer : Served) (reply : Reply) (new : Whole) → o ≡ Some command
+heard_obeys : (rows : PolicyRows) (old : Whole) (o : Option Command) (command : Command) (answer : Served)
+    (reply : Reply) (new : Whole) → o ≡ Some command
     → Hears rows old o answer (Some reply) new → Obeys rows old command answer reply new
-heard_obeys rows old o command answer reply new e h = subst (λ (c : Option Command). Hears rows old c answer (Some reply) new) e h
+heard_obeys rows old o command answer reply new e h =
+    subst (λ (c : Option Command). Hears rows old c answer (Some reply) new) e h
 
 module _
     (rows : PolicyRows)
     (spelled : (line : List ℕ) (command : Command) → command_of line ≡ Some command → HasSpelling command)
-    (lawful : (certs : Certificates) (verdicts : Entries) (t : ℕ) (u : List ℕ) → AllByRecursion (λ (e : Fpr × Certificate). e.0 ≡ fpr_of e.1.key) certs
+    (lawful : (certs : Certificates) (verdicts : Entries) (t : ℕ) (u : List ℕ) →
+    AllByRecursion (λ (e : Fpr × Certificate). e.0 ≡ fpr_of e.1.key) certs
     → IsRecord (record_of certs verdicts t u))
     (some : IsOfEachList HasList) (one : IsOfEachList HasOneList)
-    (name view : List ℕ) (wanted : ℕ) (was : Scene) (exchanges : List Exchange) (last : Scene) (since : Since rows name view wanted was exchanges last)
+    (name view : List ℕ) (wanted : ℕ) (was : Scene) (exchanges : List Exchange) (last : Scene)
+    (since : Since rows name view wanted was exchanges last)
   where
     -- the list at the beginning, and where the cursor stands now
     record Found : Type 0 where
@@ -103,44 +108,54 @@ module _
     obeys : Obeys rows was.whole (CursorOver name view wanted) answer replies.Done since.begins.mid
     unfolding answer
     obeys =
-        heard_obeys rows was.whole (heard since.line) (CursorOver name view wanted) answer replies.Done since.begins.mid since.over
+        heard_obeys rows was.whole (heard since.line) (CursorOver name view wanted) answer replies.Done since.begins.mid
+        since.over
         (hears rows was.whole since.line answer (Some replies.Done) since.begins.mid since.begins.does)
 
     wants : 1 ≤ wanted
-    wants = spelled since.line (CursorOver name view wanted) (heard_reads since.line (CursorOver name view wanted) since.over)
+    wants = spelled since.line (CursorOver name view wanted) (heard_reads since.line (CursorOver name view wanted)
+        since.over)
 
     found : Found
     found =
         let w = was.whole in
-        let from = began_from w name view wanted since.begins.mid.cursors (view_at w.state.views view) refl obeys.paces in
+        let from = began_from w name view wanted since.begins.mid.cursors (view_at w.state.views view) refl
+        obeys.paces in
         let told = record_of w.state.held.certs w.state.held.verdicts from.shown.time in
         let pairs = pairs_in w.state.held.certs in
         let list = some told from.shown.roots wanted pairs wants in
         let can = reached_can_be rows since.world since.lines since.told was since.reached in
-        let sound = reached_sound rows since.lines (opening since.world) since.told was since.reached (record { order = tt; few = tt }) in
+        let sound = reached_sound rows since.lines (opening since.world) since.told was since.reached
+        (record { order = tt; few = tt }) in
         let began : Began name view wanted w from.shown list.0 = record {
           few = turn_few w.state.views w.turns view sound;
           wants = wants;
           seen = from.seen;
           list = list.1;
-          rising = ordered_binds told from.shown.roots wanted w.state.held.certs list.0 (reached_ordered rows since.world since.lines since.told was since.reached) list.1;
+          rising = ordered_binds told from.shown.roots wanted w.state.held.certs list.0
+              (reached_ordered rows since.world since.lines since.told was since.reached) list.1;
           one = λ others l.
-              one told from.shown.roots wanted pairs others list.0 (λ u. lawful w.state.held.certs w.state.held.verdicts from.shown.time u can) l list.1;
+              one told from.shown.roots wanted pairs others list.0 (λ u. lawful w.state.held.certs w.state.held.verdicts
+              from.shown.time u can) l list.1;
         } in
         record {
           shown = from.shown;
           all = list.0;
           began = began;
           stands =
-              passes_on name view wanted w from.shown list.0 began rows exchanges since.mid last [] since.passes since.stays
-              (stands_told name view wanted w from.shown list.0 began rows since.begins.mid since.behind since.mid.whole [] since.begins.tells (record {
+              passes_on name view wanted w from.shown list.0 began rows exchanges since.mid last [] since.passes
+              since.stays
+              (stands_told name view wanted w from.shown list.0 began rows since.begins.mid since.behind since.mid.whole
+              [] since.begins.tells (record {
                 later =
-                    later_obeys rows view w w (CursorOver name view wanted) answer replies.Done since.begins.mid obeys (later_itself view w sound.order);
+                    later_obeys rows view w w (CursorOver name view wanted) answer replies.Done since.begins.mid obeys
+                    (later_itself view w sound.order);
                 cursor = record {
                   place = None;
                   there =
                       ap (λ (cs : Cursors). cursor_at cs name) from.cursors_are
-                      ∙ found_put view_name_cmp nat_list_cmp_total name (begun view wanted (stamps_in w view)) w.cursors;
+                      ∙ found_put view_name_cmp nat_list_cmp_total name (begun view wanted (stamps_in w view))
+                      w.cursors;
                   come = at_first list.0;
                 };
               }));
@@ -157,10 +172,12 @@ module _
           binds = map bind_line f.all;
           rest = map bind_line after;
           list =
-              subst (λ (o : Option View). Lists was.whole.state o wanted (replies.List (length f.all) (map bind_line f.all))) (sym f.began.seen)
+              subst (λ (o : Option View). Lists was.whole.state o wanted
+              (replies.List (length f.all) (map bind_line f.all))) (sym f.began.seen)
               (f.all, f.began.list, refl);
           parts =
-              ap (map bind_line) come.parts ∙ map-append bind_line come.front after ∙ ap (λ (ls : List BindLine). ls ++ map bind_line after) come.lines;
+              ap (map bind_line) come.parts ∙ map-append bind_line come.front after
+              ∙ ap (λ (ls : List BindLine). ls ++ map bind_line after) come.lines;
           whole = λ e. ap (map bind_line) (come.whole e);
         }
 
@@ -169,6 +186,8 @@ module _
         → IsNext was.whole last.whole view count reply
     next line count reply told new e step =
         let served = served_in last (use_of (heard line)) in
-        let o = heard_obeys rows last.whole (heard line) (CursorNext name count) served reply step.mid e (hears rows last.whole line served (Some reply) step.mid step.does) in
-        (goes_own name view wanted was.whole found.shown found.all found.began last.whole count reply step.mid.cursors (pieces_in name exchanges)
+        let o = heard_obeys rows last.whole (heard line) (CursorNext name count) served reply step.mid e
+        (hears rows last.whole line served (Some reply) step.mid step.does) in
+        (goes_own name view wanted was.whole found.shown found.all found.began last.whole count reply step.mid.cursors
+        (pieces_in name exchanges)
         found.stands.later found.stands.cursor o.paces).1

@@ -25,7 +25,8 @@ use Rattle.wot_machine.proofs.Rising.{bind_cmp, bind_total}
 
 all_after : (b : Bind) (binds : List Bind) → IsBelow bind_cmp b binds → binds_after (Some (place_of b)) binds ≡ binds
 all_after b [] all = refl
-all_after b (x ∷ xs) all = rw (above_is bind_cmp bind_total b x all.0) (ap (λ (ys : List Bind). x ∷ ys) (all_after b xs all.1))
+all_after b (x ∷ xs) all = rw (above_is bind_cmp bind_total b x all.0)
+    (ap (λ (ys : List Bind). x ∷ ys) (all_after b xs all.1))
 
 first_below : (x b : Bind) (xs back : List Bind) → IsBelow bind_cmp x (xs ++ b ∷ back) → bind_cmp x b ≡ Less
 first_below x b [] back all = all.0
@@ -48,7 +49,13 @@ has_last : (x : Bind) (xs : List Bind) → HasLast x xs
 has_last x [] = record { front = []; last = x; parts = refl; place = refl }
 has_last x (y ∷ ys) =
     let rest = has_last y ys in
-    record { front = x ∷ rest.front; last = rest.last; parts = ap (λ (zs : List Bind). x ∷ zs) rest.parts; place = rest.place }
+    record {
+      front = x ∷ rest.front;
+      last = rest.last;
+      parts = ap (λ (zs : List Bind). x ∷ zs) rest.parts;
+      place =
+          rest.place;
+    }
 
 after_last : (front : List Bind) (x : Bind) (xs back all : List Bind) → all ≡ front ++ ((x ∷ xs) ++ back)
     → IsRising bind_cmp all
@@ -56,7 +63,8 @@ after_last : (front : List Bind) (x : Bind) (xs back all : List Bind) → all �
 after_last front x xs back all parts r =
     let l = has_last x xs in
     let whole : all ≡ (front ++ l.front) ++ l.last ∷ back =
-    parts ∙ ap (λ (ys : List Bind). front ++ (ys ++ back)) l.parts ∙ ap (λ (ys : List Bind). front ++ ys) (append_assoc l.front (l.last ∷ []) back)
+    parts ∙ ap (λ (ys : List Bind). front ++ (ys ++ back)) l.parts ∙ ap (λ (ys : List Bind). front ++ ys)
+    (append_assoc l.front (l.last ∷ []) back)
     ∙ sym (append_assoc front l.front (l.last ∷ back)) in
     ap (λ (place : Place). binds_after (Some place) all) l.place
     ∙ ap (λ (ys : List Bind). binds_after (Some (place_of l.last)) ys) whole
@@ -85,7 +93,8 @@ place_behind place (b ∷ binds) = Some (last_place b binds)
 
 ended : (given : List Given) (g : Given) → has_end (given ++ g ∷ []) ≡ true
     → (has_end given ≡ true) ⊎ (length g.binds < g.asked)
-ended given g e = by (has_end given) (nat_lt (length g.binds) g.asked) refl (sym (list_any-append (λ (x : Given). nat_lt (length x.binds) x.asked) given (g ∷ [])) ∙ e)
+ended given g e = by (has_end given) (nat_lt (length g.binds) g.asked) refl
+    (sym (list_any-append (λ (x : Given). nat_lt (length x.binds) x.asked) given (g ∷ [])) ∙ e)
   where
     by : (b c : Bool) → nat_lt (length g.binds) g.asked ≡ c → (b || (c || false)) ≡ true
         → (b ≡ true) ⊎ (length g.binds < g.asked)
@@ -95,14 +104,16 @@ ended given g e = by (has_end given) (nat_lt (length g.binds) g.asked) refl (sym
 
 all_given : (given : List Given) (g : Given) → joined (given ++ g ∷ []) ≡ joined given ++ g.binds
 all_given given g =
-    flat_map-append (λ (x : Given). x.binds) given (g ∷ []) ∙ ap (λ (ys : List BindLine). joined given ++ ys) (append-nil g.binds)
+    flat_map-append (λ (x : Given). x.binds) given (g ∷ []) ∙ ap (λ (ys : List BindLine). joined given ++ ys)
+    (append-nil g.binds)
 
 -- where a part is shorter than asked nothing is left
 none_left : (count : ℕ) (back : List Bind) → length (take count back) < count → drop count back ≡ []
 none_left count back short = drop_of_length-le back (omega (arith, short, length-take count back))
 
 -- the piece that comes next
-module _ (all : List Bind) (place : Option Place) (given : List Given) (count : ℕ) (r : IsRising bind_cmp all) (h : HasCome all place given) where
+module _ (all : List Bind) (place : Option Place) (given : List Given) (count : ℕ) (r : IsRising bind_cmp all)
+    (h : HasCome all place given) where
   back : List Bind
   back = binds_after place all
 
@@ -124,15 +135,21 @@ module _ (all : List Bind) (place : Option Place) (given : List Given) (count : 
     where
       by : (has_end given ≡ true) ⊎ (0 < count) → back ≡ []
       by (inl f) = h.whole f
-      by (inr few) = sym (take-append-drop count back) ∙ ap (λ (ys : List Bind). ys ++ drop count back) e ∙ short [] e few
+      by (inr few) = sym (take-append-drop count back) ∙ ap (λ (ys : List Bind). ys ++ drop count back) e
+          ∙ short [] e few
   after_piece (x ∷ xs) e =
-      let parts : back ≡ (x ∷ xs) ++ drop count back = sym (take-append-drop count back) ∙ ap (λ (ys : List Bind). ys ++ drop count back) e in
-      let whole : all ≡ h.front ++ ((x ∷ xs) ++ drop count back) = h.parts ∙ ap (λ (ys : List Bind). h.front ++ ys) parts in
-      let after : binds_after (Some (last_place x xs)) all ≡ drop count back = after_last h.front x xs (drop count back) all whole r in
+      let parts : back ≡ (x ∷ xs) ++ drop count back = sym (take-append-drop count back)
+      ∙ ap (λ (ys : List Bind). ys ++ drop count back) e in
+      let whole : all ≡ h.front ++ ((x ∷ xs) ++ drop count back) = h.parts ∙ ap (λ (ys : List Bind). h.front ++ ys)
+      parts in
+      let after : binds_after (Some (last_place x xs)) all ≡ drop count back =
+      after_last h.front x xs (drop count back) all whole r in
       record {
         front = h.front ++ (x ∷ xs);
-        parts = whole ∙ sym (append_assoc h.front (x ∷ xs) (drop count back)) ∙ ap (λ (ys : List Bind). (h.front ++ (x ∷ xs)) ++ ys) (sym after);
-        lines = map-append bind_line h.front (x ∷ xs) ∙ ap (λ (ys : List BindLine). ys ++ map bind_line (x ∷ xs)) h.lines ∙ sym (all_given given (piece_given (x ∷ xs)));
+        parts = whole ∙ sym (append_assoc h.front (x ∷ xs) (drop count back))
+            ∙ ap (λ (ys : List Bind). (h.front ++ (x ∷ xs)) ++ ys) (sym after);
+        lines = map-append bind_line h.front (x ∷ xs) ∙ ap (λ (ys : List BindLine). ys ++ map bind_line (x ∷ xs))
+            h.lines ∙ sym (all_given given (piece_given (x ∷ xs)));
         whole = λ f. after ∙ by parts (ended given (piece_given (x ∷ xs)) f);
       }
     where
@@ -141,6 +158,10 @@ module _ (all : List Bind) (place : Option Place) (given : List Given) (count : 
       by parts (inl f) = let never : [] ≡ (x ∷ xs) ++ drop count back = sym (h.whole f) ∙ parts in absurd (cc never)
       by parts (inr few) = short (x ∷ xs) e few
 
-  pub next_piece : HasCome all (place_behind place (piece_of place count all)) (given ++ record { asked = count; binds = map bind_line (piece_of place count all) } ∷ [])
+  pub next_piece : HasCome all (place_behind place (piece_of place count all)) (given ++ record {
+    asked = count;
+    binds =
+        map bind_line (piece_of place count all);
+  } ∷ [])
   unfolding back piece_given
   next_piece = after_piece (piece_of place count all) refl

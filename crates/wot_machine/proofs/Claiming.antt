@@ -17,7 +17,8 @@ use Rattle.wot_script.specs.declared.reply.ClaimLine.{ClaimLine}
 use Rattle.wot_script.specs.declared.reply.LabelLine.{LabelLine}
 use Rattle.wot_script.specs.declared.reply.Reply.{Reply}
 use Rattle.wot_script.specs.declared.reply.Reply.TheVariants as replies
-use Rattle.wot_machine.specs.Absent.{TellsAbsence, claim_in, claim_line, claim_step, claimed_step, label_line, missed, sum_in, table_in, verdict_on}
+use Rattle.wot_machine.specs.Absent.{TellsAbsence, claim_in, claim_line, claim_step, claimed_step, label_line, missed}
+use Rattle.wot_machine.specs.Absent.{sum_in, table_in, verdict_on}
 use Rattle.wot_check.specs.Claim as claims_are
 
 -- ---- lines that are made are read as what they were made of
@@ -29,8 +30,13 @@ steps_back (step ∷ steps) = ap (λ xs. claims_are.claimed_step step ∷ xs) (s
 paths_back : (paths : List Path) → map claim_in (map claim_line paths) ≡ map claim_of paths
 paths_back [] = refl
 paths_back (path ∷ paths) =
-    let first : claim_in (claim_line path) ≡ claim_of path = λ i. record { amount = path.amount; steps = steps_back path.steps i } in
-    ap (λ (c : Claim). c ∷ map claim_in (map claim_line paths)) first ∙ ap (λ (cs : List Claim). claim_of path ∷ cs) (paths_back paths)
+    let first : claim_in (claim_line path) ≡ claim_of path = λ i. record {
+      amount = path.amount;
+      steps =
+          steps_back path.steps i;
+    } in
+    ap (λ (c : Claim). c ∷ map claim_in (map claim_line paths)) first ∙ ap (λ (cs : List Claim). claim_of path ∷ cs)
+    (paths_back paths)
 
 table_back : (table : Labels) → table_in (map label_line table) ≡ table
 table_back [] = refl
@@ -46,7 +52,8 @@ sum_back (path ∷ paths) =
 -- ---- replies
 
 missed_sum : (sum other : ℕ) (claims more : List ClaimLine) (labels rest : List LabelLine)
-    → replies.Missed sum claims labels ≡ replies.Missed other more rest → (sum ≡ other) × (claims ≡ more) × (labels ≡ rest)
+    → replies.Missed sum claims labels ≡ replies.Missed other more rest →
+    (sum ≡ other) × (claims ≡ more) × (labels ≡ rest)
 missed_sum sum other claims more labels rest e = (ap sum_of e, ap claims_of e, ap labels_of e)
   where
     sum_of : Reply → ℕ
@@ -63,7 +70,8 @@ missed_sum sum other claims more labels rest e = (ap sum_of e, ap claims_of e, a
 
 -- the check of a claim that is told
 abbrev IsAccepted : Question → ℕ → List ClaimLine → List LabelLine → Type 0
-IsAccepted q sum claims labels = (checked : Checked) × IsChecked q (map claim_in claims) (table_in labels) checked × (replies.CheckedYes sum ≡ verdict_on claims checked)
+IsAccepted q sum claims labels = (checked : Checked) × IsChecked q (map claim_in claims) (table_in labels)
+    checked × (replies.CheckedYes sum ≡ verdict_on claims checked)
 
 accepted_lines : (q : Question) (paths : List Path) (table : Labels) → Accepts q (map claim_of paths) table
     → Accepts q (map claim_in (map claim_line paths)) (table_in (map label_line table))
@@ -71,37 +79,47 @@ accepted_lines q paths table a =
     subst (λ (t : Labels). Accepts q (map claim_in (map claim_line paths)) t) (sym (table_back table))
     (subst (λ (cs : List Claim). Accepts q cs table) (sym (paths_back paths)) a)
 
-with_yes : (q : Question) (sum : ℕ) (claims : List ClaimLine) (labels : List LabelLine) → Accepts q (map claim_in claims) (table_in labels) → sum ≡ sum_in claims
+with_yes : (q : Question) (sum : ℕ) (claims : List ClaimLine) (labels : List LabelLine) →
+    Accepts q (map claim_in claims) (table_in labels) → sum ≡ sum_in claims
     → IsAccepted q sum claims labels
 with_yes q sum claims labels a e = (answers.Yes, a, ap (λ (n : ℕ). replies.CheckedYes n) e)
 
-pub told_accepted : ((q : Question) (wanted : ℕ) (paths : List Path) (table : Labels) → IsTable table → IsAnswer q wanted paths → amount_of paths < wanted
+pub told_accepted : ((q : Question) (wanted : ℕ) (paths : List Path) (table : Labels) → IsTable table →
+    IsAnswer q wanted paths → amount_of paths < wanted
     → IsLeastTable q (use_of paths) table → Accepts q (map claim_of paths) table)
-    → (q : Question) (wanted sum : ℕ) (claims : List ClaimLine) (labels : List LabelLine) (paths : List Path) → IsAnswer q wanted paths
-    → TellsAbsence (nat_le wanted (amount_of paths)) q paths (replies.Missed sum claims labels) → IsAccepted q sum claims labels
+    → (q : Question) (wanted sum : ℕ) (claims : List ClaimLine) (labels : List LabelLine) (paths : List Path) →
+    IsAnswer q wanted paths
+    → TellsAbsence (nat_le wanted (amount_of paths)) q paths (replies.Missed sum claims labels) →
+    IsAccepted q sum claims labels
 told_accepted law q wanted sum claims labels paths answer tells = by (nat_le wanted (amount_of paths)) refl tells
   where
-    made : amount_of paths < wanted → (table : Labels) → IsTable table → IsLeastTable q (use_of paths) table → replies.Missed sum claims labels ≡ missed paths table
+    made : amount_of paths < wanted → (table : Labels) → IsTable table → IsLeastTable q (use_of paths) table →
+        replies.Missed sum claims labels ≡ missed paths table
         → IsAccepted q sum claims labels
     made lt table good least e =
         let parts = missed_sum sum (amount_of paths) claims (map claim_line paths) labels (map label_line table) e in
         let a = accepted_lines q paths table (law q wanted paths table good answer lt least) in
         with_yes q sum claims labels
         (subst (λ (ls : List LabelLine). Accepts q (map claim_in claims) (table_in ls)) (sym parts.2)
-        (subst (λ (cs : List ClaimLine). Accepts q (map claim_in cs) (table_in (map label_line table))) (sym parts.1) a))
+        (subst (λ (cs : List ClaimLine). Accepts q (map claim_in cs) (table_in (map label_line table))) (sym parts.1)
+        a))
         (parts.0 ∙ sym (sum_back paths) ∙ ap sum_in (sym parts.1))
 
-    by : (b : Bool) → nat_le wanted (amount_of paths) ≡ b → TellsAbsence b q paths (replies.Missed sum claims labels) → IsAccepted q sum claims labels
+    by : (b : Bool) → nat_le wanted (amount_of paths) ≡ b → TellsAbsence b q paths (replies.Missed sum claims labels) →
+        IsAccepted q sum claims labels
     by true e t = absurd cc
     by false e t = made (leb-false wanted (amount_of paths) e) t.0 t.1 t.2 t.3
 
 -- ---- what is accepted
 
-pub yes_spent : ((q : Question) (claims : List Claim) (table : Labels) → IsRecord q.told → Accepts q claims table → AreSpent q claims)
-    → (q : Question) (sum : ℕ) (claims : List ClaimLine) (labels : List LabelLine) → IsRecord q.told → IsAccepted q sum claims labels → AreSpent q (map claim_in claims)
+pub yes_spent : ((q : Question) (claims : List Claim) (table : Labels) → IsRecord q.told → Accepts q claims table →
+    AreSpent q claims)
+    → (q : Question) (sum : ℕ) (claims : List ClaimLine) (labels : List LabelLine) → IsRecord q.told →
+    IsAccepted q sum claims labels → AreSpent q (map claim_in claims)
 yes_spent law q sum claims labels good a = by a.0 a.1 a.2
   where
-    by : (checked : Checked) → IsChecked q (map claim_in claims) (table_in labels) checked → replies.CheckedYes sum ≡ verdict_on claims checked → AreSpent q (map claim_in claims)
+    by : (checked : Checked) → IsChecked q (map claim_in claims) (table_in labels) checked →
+        replies.CheckedYes sum ≡ verdict_on claims checked → AreSpent q (map claim_in claims)
     by answers.Yes c e = law q (map claim_in claims) (table_in labels) good c
     by answers.BadPaths c e = absurd cc
     by answers.BadTable c e = absurd cc

@@ -15,7 +15,8 @@ read_so : (line : List ℕ) (o : Option Command) → command_of line ≡ o → I
 read_so line o e d = sym e ∙ ap command_of d ∙ dump_read
 
 -- the line is read as the command
-pub on_dump : (line : List ℕ) (command : Command) (P : Type 0) → command_of line ≡ Some command → OnDump command P → IsDump line → P
+pub on_dump : (line : List ℕ) (command : Command) (P : Type 0) → command_of line ≡ Some command → OnDump command P →
+    IsDump line → P
 on_dump line command P e p d =
     let same : command ≡ Dump = same_Some command Dump (read_so line (Some command) e d) in
     subst (λ (c : Command). OnDump c P) same p

@@ -64,7 +64,8 @@ apart R total k q other x here = by (R q x) refl
     by : (o : Ordering) → R q x ≡ o → is_eq o ≡ false
     by Less h = refl
     by Equal h =
-        let at : R k q ≡ Equal = total.congr k x q (equal (R k x) here) ∙ sym (total.congr q x q h) ∙ tied_itself total q in
+        let at : R k q ≡ Equal = total.congr k x q (equal (R k x) here) ∙ sym (total.congr q x q h)
+        ∙ tied_itself total q in
         let never : true ≡ false = sym (ap is_eq at) ∙ other in
         absurd (cc never)
     by Greater h = refl
@@ -160,7 +161,8 @@ module _ {K X : Type 0} (R : K → K → Ordering) (total : IsTotalOrder R) wher
   other_put k q v (e ∷ es) a = by (R k e.0) refl (other_put k q v es a)
     where
       by : (o : Ordering) → R k e.0 ≡ o → lookup (is_at (R q)) (insert_entry R es k v) ≡ lookup (is_at (R q)) es
-          → lookup (is_at (R q)) (match_ordering o ((k, v) ∷ e ∷ es) ((e.0, v) ∷ es) (e ∷ insert_entry R es k v)) ≡ lookup (is_at (R q)) (e ∷ es)
+          → lookup (is_at (R q)) (match_ordering o ((k, v) ∷ e ∷ es) ((e.0, v) ∷ es)
+          (e ∷ insert_entry R es k v)) ≡ lookup (is_at (R q)) (e ∷ es)
       by Less h rest = rw (a k (ap is_eq (tied_itself total k))) refl
       by Equal h rest = let other : is_at (R q) e.0 ≡ false = a e.0 (ap is_eq h) in rw other refl
       by Greater h rest = ap (cond (is_at (R q) e.0) (Some e.1)) rest
@@ -173,7 +175,8 @@ module _ {K X : Type 0} (R : K → K → Ordering) (total : IsTotalOrder R) wher
       by : (b : Bool) → is_at (R k) e.0 ≡ b
           → lookup (is_at (R q)) (remove_entry (is_at (R k)) es) ≡ lookup (is_at (R q)) es
           → lookup (is_at (R q)) (cond b es (e ∷ remove_entry (is_at (R k)) es)) ≡ lookup (is_at (R q)) (e ∷ es)
-      by true h rest = let other : is_at (R q) e.0 ≡ false = a e.0 h in sym (ap (λ b. cond b (Some e.1) (lookup (is_at (R q)) es)) other)
+      by true h rest = let other : is_at (R q) e.0 ≡ false = a e.0 h in
+          sym (ap (λ b. cond b (Some e.1) (lookup (is_at (R q)) es)) other)
       by false h rest = ap (cond (is_at (R q) e.0) (Some e.1)) rest
 
   pub other_set : (k q : K) (v : X) (es : List (K × X)) → AreApart R k q
@@ -183,7 +186,8 @@ module _ {K X : Type 0} (R : K → K → Ordering) (total : IsTotalOrder R) wher
     where
       by : (b : Bool) → is_at (R k) e.0 ≡ b
           → lookup (is_at (R q)) (set_value (is_at (R k)) es v) ≡ lookup (is_at (R q)) es
-          → lookup (is_at (R q)) (cond b ((e.0, v) ∷ es) (e ∷ set_value (is_at (R k)) es v)) ≡ lookup (is_at (R q)) (e ∷ es)
+          → lookup (is_at (R q)) (cond b ((e.0, v) ∷ es) (e ∷ set_value (is_at (R k)) es v)) ≡ lookup (is_at (R q))
+          (e ∷ es)
       by true h rest = let other : is_at (R q) e.0 ≡ false = a e.0 h in rw other refl
       by false h rest = ap (cond (is_at (R q) e.0) (Some e.1)) rest
 

@@ -22,7 +22,15 @@ module _ (rows : PolicyRows) where
   run_of : (exchanges : List Exchange) (old new : Scene) → Passes rows old exchanges new
       → Run rows old (lines_in exchanges) (replies_in exchanges) new
   run_of [] old new p = (refl, p)
-  run_of (x ∷ exchanges) old new p = (x.reply, x.told, p.0, replies_in exchanges, p.1, run_of exchanges p.0 new p.2, refl)
+  run_of (x ∷ exchanges) old new p = (
+    x.reply,
+    x.told,
+    p.0,
+    replies_in exchanges,
+    p.1,
+    run_of exchanges p.0 new p.2,
+    refl,
+  )
 
   pub runs_told : RunsAreExchanges rows
   runs_told = record {

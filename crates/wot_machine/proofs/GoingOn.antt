@@ -1,5 +1,6 @@
 -- Machines that hold the same reply the same to each line, but to the commands of cursors and of watches.
-use Rattle.std.proofs.Common.{◌≡◌, ℕ, Bool, true, false, List, [], ◌∷◌, length, Option, Some, None, refl, sym, ap, subst, ◌∙◌}
+use Rattle.std.proofs.Common.{◌≡◌, ℕ, Bool, true, false, List, [], ◌∷◌, length, Option, Some, None, refl, sym, ap}
+use Rattle.std.proofs.Common.{subst, ◌∙◌}
 use Rattle.std.specs.Prelude.{MatchBool, nat_lt}
 use Rattle.wot_policy.specs.declared.rows.PolicyRows.{PolicyRows}
 use Rattle.wot_script.specs.declared.command.Command.{Command}
@@ -20,7 +21,7 @@ use Rattle.wot_machine.specs.Pacing.{is_pacing}
 use Rattle.wot_machine.specs.Scene.{Scene, Step, opening, served_in, world_behind}
 use Rattle.wot_machine.specs.Served.{Served}
 use Rattle.wot_machine.specs.Transcript.{Run}
-use Rattle.wot_machine.specs.Watching.{Tells, is_watching}
+use Rattle.wot_machine.specs.Watching.{is_watching}
 use Rattle.wot_machine.specs.Whole.{Whole}
 use Rattle.wot_machine.proofs.Alike.{reached_can_be}
 use Rattle.wot_machine.proofs.Outcomes.{IsOne}
@@ -29,7 +30,8 @@ use Rattle.wot_machine.proofs.Watched.{watched_state}
 
 module _
     (rows : PolicyRows)
-    (does_one : (s : State) (command : Command) (given : Served) → IsState s → is_pacing command ≡ false → is_watching command ≡ false
+    (does_one : (s : State) (command : Command) (given : Served) → IsState s → is_pacing command ≡ false →
+    is_watching command ≡ false
     → IsOne Reply State (Does rows s command given))
     (stays : LeadToStates rows)
   where
@@ -39,24 +41,29 @@ module _
 
     -- ---- one line
 
-    same_obeyed : (a b : Whole) (command : Command) (given : Served) (r s : Reply) (m n : Whole) → IsState a.state → b.state ≡ a.state
-        → Obeys rows a command given r m → Obeys rows b command given s n → AreSame (Some command) (Some r) (Some s) m.state n.state
+    same_obeyed : (a b : Whole) (command : Command) (given : Served) (r s : Reply) (m n : Whole) → IsState a.state →
+        b.state ≡ a.state
+        → Obeys rows a command given r m → Obeys rows b command given s n →
+        AreSame (Some command) (Some r) (Some s) m.state n.state
     same_obeyed a b command given r s m n can e p q = by (is_pacing command) refl (is_watching command) refl
       where
         moved : Does rows a.state command given s n.state
         moved = subst (λ (x : State). Does rows x command given s n.state) e q.does
 
-        by : (c : Bool) → is_pacing command ≡ c → (w : Bool) → is_watching command ≡ w → AreSame (Some command) (Some r) (Some s) m.state n.state
+        by : (c : Bool) → is_pacing command ≡ c → (w : Bool) → is_watching command ≡ w →
+            AreSame (Some command) (Some r) (Some s) m.state n.state
         by true f w g = (
           λ own. absurd (by_paced f own),
-          paced_state rows a.state command given r m.state f p.does ∙ sym (paced_state rows a.state command given s n.state f moved),
+          paced_state rows a.state command given r m.state f p.does
+              ∙ sym (paced_state rows a.state command given s n.state f moved),
         )
           where
             by_paced : is_pacing command ≡ true → is_of_state (Some command) ≡ true → ⊥
             by_paced f own = let never : false ≡ true = rw f at own in absurd cc
         by false f true g = (
           λ own. absurd (by_watched f g own),
-          watched_state rows a.state command given r m.state g p.does ∙ sym (watched_state rows a.state command given s n.state g moved),
+          watched_state rows a.state command given r m.state g p.does
+              ∙ sym (watched_state rows a.state command given s n.state g moved),
         )
           where
             by_watched : is_pacing command ≡ false → is_watching command ≡ true → is_of_state (Some command) ≡ true → ⊥
@@ -65,17 +72,21 @@ module _
             let both = does_one a.state command given can f g r s m.state n.state p.does moved in
             (λ own. ap (λ (x : Reply). Some x) both.0, both.1)
 
-    same_answers : (a b : Whole) (command : Option Command) (given : Served) (r s : Option Reply) (m n : Whole) → IsState a.state → b.state ≡ a.state
-        → HasReply (Answers rows a command given) r m → HasReply (Answers rows b command given) s n → AreSame command r s m.state n.state
+    same_answers : (a b : Whole) (command : Option Command) (given : Served) (r s : Option Reply) (m n : Whole) →
+        IsState a.state → b.state ≡ a.state
+        → HasReply (Answers rows a command given) r m → HasReply (Answers rows b command given) s n →
+        AreSame command r s m.state n.state
     same_answers a b command given None s m n can e p q = absurd p
     same_answers a b command given (Some r) None m n can e p q = absurd q
     same_answers a b None given (Some r) (Some s) m n can e p q = (
       λ own. ap (λ (x : Reply). Some x) (p.0 ∙ sym q.0),
       ap (λ (x : Whole). x.state) p.1 ∙ sym e ∙ sym (ap (λ (x : Whole). x.state) q.1),
     )
-    same_answers a b (Some command) given (Some r) (Some s) m n can e p q = same_obeyed a b command given r s m n can e p q
+    same_answers a b (Some command) given (Some r) (Some s) m n can e p q =
+        same_obeyed a b command given r s m n can e p q
 
-    same_refused : (a b : Whole) (told : Reply) (command : Option Command) (r s : Option Reply) (m n : Whole) → b.state ≡ a.state
+    same_refused : (a b : Whole) (told : Reply) (command : Option Command) (r s : Option Reply) (m n : Whole) →
+        b.state ≡ a.state
         → HasReply (Stays a told) r m → HasReply (Stays b told) s n → AreSame command r s m.state n.state
     same_refused a b told command None s m n e p q = absurd p
     same_refused a b told command (Some r) None m n e p q = absurd q
@@ -84,7 +95,8 @@ module _
       ap (λ (x : Whole). x.state) p.1 ∙ sym e ∙ sym (ap (λ (x : Whole). x.state) q.1),
     )
 
-    same_line : (a b : Whole) (line : List ℕ) (given : Served) (r s : Option Reply) (m n : Whole) → IsState a.state → b.state ≡ a.state
+    same_line : (a b : Whole) (line : List ℕ) (given : Served) (r s : Option Reply) (m n : Whole) → IsState a.state →
+        b.state ≡ a.state
         → LineStep rows a line given r m → LineStep rows b line given s n → AreSame (heard line) r s m.state n.state
     same_line a b line given r s m n can e p q = long (nat_lt longest (length line)) refl p q
       where
@@ -98,24 +110,30 @@ module _
         )
         silent f false g p q =
             let is : heard line ≡ command_of line = rw f (rw g refl) in
-            subst (λ (c : Option Command). AreSame c r s m.state n.state) (sym is) (same_answers a b (command_of line) given r s m n can e p q)
+            subst (λ (c : Option Command). AreSame c r s m.state n.state) (sym is)
+            (same_answers a b (command_of line) given r s m n can e p q)
 
         long : (c : Bool) → nat_lt longest (length line) ≡ c
-            → MatchBool c (HasReply (Stays a replies.Long) r m) (MatchBool (is_silent line) ((r ≡ None) × (m ≡ a)) (HasReply (Answers rows a (command_of line) given) r m))
-            → MatchBool c (HasReply (Stays b replies.Long) s n) (MatchBool (is_silent line) ((s ≡ None) × (n ≡ b)) (HasReply (Answers rows b (command_of line) given) s n))
+            → MatchBool c (HasReply (Stays a replies.Long) r m) (MatchBool (is_silent line) ((r ≡ None) × (m ≡ a))
+            (HasReply (Answers rows a (command_of line) given) r m))
+            → MatchBool c (HasReply (Stays b replies.Long) s n) (MatchBool (is_silent line) ((s ≡ None) × (n ≡ b))
+            (HasReply (Answers rows b (command_of line) given) s n))
             → AreSame (heard line) r s m.state n.state
         long true f p q = same_refused a b replies.Long (heard line) r s m n e p q
         long false f p q = silent f (is_silent line) refl p q
 
     -- ---- over the shelf
 
-    same_step : (a b : Scene) (line : List ℕ) (r s : Option Reply) (told others : List Reply) (m n : Scene) → IsState a.whole.state
+    same_step : (a b : Scene) (line : List ℕ) (r s : Option Reply) (told others : List Reply) (m n : Scene) →
+        IsState a.whole.state
         → b.whole.state ≡ a.whole.state → b.world ≡ a.world → Step rows a line r told m → Step rows b line s others n
-        → (is_of_state (heard line) ≡ true → r ≡ s) × (n.whole.state ≡ m.whole.state) × (n.world ≡ m.world) × IsState m.whole.state
+        → (is_of_state (heard line) ≡ true → r ≡ s) × (n.whole.state ≡ m.whole.state) × (n.world ≡ m.world) × IsState
+        m.whole.state
     same_step a b line r s told others m n can e w p q =
         let use_ : Use = use_of (heard line) in
         let given : served_in b use_ ≡ served_in a use_ = λ i. given_by (w i) (entry_for (e i) use_) in
-        let does : LineStep rows b.whole line (served_in a use_) s q.mid = subst (λ (x : Served). LineStep rows b.whole line x s q.mid) given q.does in
+        let does : LineStep rows b.whole line (served_in a use_) s q.mid =
+        subst (λ (x : Served). LineStep rows b.whole line x s q.mid) given q.does in
         let both = same_line a.whole b.whole line (served_in a use_) r s p.mid q.mid can e p.does does in
         let world : world_behind b use_ ≡ world_behind a use_ =
         λ i. world_after (w i) (entry_for (e i) use_) (put_for (e i) use_ (given i).read) in
@@ -130,24 +148,29 @@ module _
     first_line : (x y : List ℕ) (xs ys : List (List ℕ)) → x ∷ xs ≡ y ∷ ys → (x ≡ y) × (xs ≡ ys)
     first_line x y xs ys e = (cc, cc)
 
-    goes_on : (mine theirs : List Exchange) (a b m n : Scene) → IsState a.whole.state → b.whole.state ≡ a.whole.state → b.world ≡ a.world
+    goes_on : (mine theirs : List Exchange) (a b m n : Scene) → IsState a.whole.state → b.whole.state ≡ a.whole.state →
+        b.world ≡ a.world
         → Passes rows a mine m → Passes rows b theirs n → lines_in mine ≡ lines_in theirs → HaveSameReplies mine theirs
     goes_on [] [] a b m n can e w p q lines = tt
     goes_on [] (f ∷ fs) a b m n can e w p q lines = absurd (cc lines)
     goes_on (x ∷ xs) [] a b m n can e w p q lines = absurd (cc lines)
     goes_on (x ∷ xs) (f ∷ fs) a b m n can e w p q lines =
         let parts = first_line x.line f.line (lines_in xs) (lines_in fs) lines in
-        let step : Step rows b x.line f.reply f.told q.0 = subst (λ (l : List ℕ). Step rows b l f.reply f.told q.0) (sym parts.0) q.1 in
+        let step : Step rows b x.line f.reply f.told q.0 = subst (λ (l : List ℕ). Step rows b l f.reply f.told q.0)
+        (sym parts.0) q.1 in
         let one = same_step a b x.line x.reply f.reply x.told f.told p.0 q.0 can e w p.1 step in
         (one.0, goes_on xs fs p.0 q.0 m n one.3 one.1 one.2 p.2 q.2 parts.1)
 
     -- ---- after a dump
 
-    pub fresh_goes_on : (world : World) (lines : List (List ℕ)) (told : List Reply) (last : Scene) → Run rows (opening world) lines told last
-        → judged_by rows last.whole.state.held ≡ last.whole.state.held → (anew : IsMadeAnew rows last.whole.state) (mine theirs : List Exchange) (here there : Scene)
+    pub fresh_goes_on : (world : World) (lines : List (List ℕ)) (told : List Reply) (last : Scene) →
+        Run rows (opening world) lines told last
+        → judged_by rows last.whole.state.held ≡ last.whole.state.held →
+        (anew : IsMadeAnew rows last.whole.state) (mine theirs : List Exchange) (here there : Scene)
         → Passes rows last mine here → Passes rows (record { whole = anew.new; world = last.world }) theirs there
         → lines_in mine ≡ lines_in theirs → HaveSameReplies mine theirs
     fresh_goes_on world lines told last run marked anew mine theirs here there p q same =
         let held = anew.same.held ∙ marked in
         let state : anew.new.state ≡ last.whole.state = λ i. record { held = held i; views = anew.same.views i } in
-        goes_on mine theirs last (record { whole = anew.new; world = last.world }) here there (reached_can_be rows world lines told last run) state refl p q same
+        goes_on mine theirs last (record { whole = anew.new; world = last.world }) here there
+        (reached_can_be rows world lines told last run) state refl p q same

@@ -43,7 +43,9 @@ hears rows old line given reply new = long (nat_lt longest (length line))
     silent false g = known reply (command_of line) g
 
     long : (b : Bool)
-        → MatchBool b (HasReply (Stays old replies.Long) reply new) (MatchBool (is_silent line) ((reply ≡ None) × (new ≡ old)) (HasReply (Answers rows old (command_of line) given) reply new))
+        → MatchBool b (HasReply (Stays old replies.Long) reply new)
+        (MatchBool (is_silent line) ((reply ≡ None) × (new ≡ old))
+        (HasReply (Answers rows old (command_of line) given) reply new))
         → Hears rows old (if b then None else if is_silent line then None else command_of line) given reply new
     long true g = stays reply g
     long false g = silent (is_silent line) g
@@ -63,7 +65,8 @@ heard_reads line command = long (nat_lt longest (length line))
 -- What every command that is answered keeps, each line keeps, and so each run.
 module _
     (rows : PolicyRows) (P : Whole → Type 0)
-    (kept : (old : Whole) (command : Command) (given : Served) (reply : Reply) (new : Whole) → Obeys rows old command given reply new → P old → P new)
+    (kept : (old : Whole) (command : Command) (given : Served) (reply : Reply) (new : Whole) →
+    Obeys rows old command given reply new → P old → P new)
   where
     pub step_keeps : (old : Whole) (line : List ℕ) (given : Served) (reply : Option Reply) (new : Whole)
         → LineStep rows old line given reply new → P old → P new
@@ -75,14 +78,17 @@ module _
         by (Some command) (Some r) g = kept old command given r new g p
 
     -- the watch lines behind a reply tell watches alone
-    pub run_keeps : ((s : Whole) (watches : Watches) → P s → P (watched s watches)) → (lines : List (List ℕ)) (old : Scene)
+    pub run_keeps : ((s : Whole) (watches : Watches) → P s → P (watched s watches)) →
+        (lines : List (List ℕ)) (old : Scene)
         (told : List Reply) (new : Scene) → Run rows old lines told new → P old.whole → P new.whole
     run_keeps still [] old told new r p = subst (λ (s : Scene). P s.whole) (sym r.1) p
     run_keeps still (line ∷ lines) old told new r p =
         let mid : P r.4.mid = step_keeps old.whole line (served_in old (use_of (heard line))) r.0 r.4.mid r.4.does p in
-        run_keeps still lines r.2 r.3 new r.5 (subst P (sym r.4.tells.left) (still r.4.mid (told_all r.4.mid.watches r.1) mid))
+        run_keeps still lines r.2 r.3 new r.5
+        (subst P (sym r.4.tells.left) (still r.4.mid (told_all r.4.mid.watches r.1) mid))
 
--- What holds of the replies to lines that are too long or aren't read, and of each reply to a command, holds of each reply.
+-- What holds of the replies to lines that are too long or aren't read, and of each reply to a command, holds of each
+-- reply.
 pub told_by : (rows : PolicyRows) (D : Reply → Type 0) → D replies.Long → D replies.Line
     → (old : Whole) (line : List ℕ) (given : Served) (reply : Reply) (new : Whole)
     → ((command : Command) → Obeys rows old command given reply new → D reply)
@@ -99,7 +105,8 @@ told_by rows D too_long unread old line given reply new obeys = long (nat_lt lon
     silent false g = known (command_of line) g
 
     long : (b : Bool)
-        → MatchBool b (Stays old replies.Long reply new) (MatchBool (is_silent line) ((Some reply ≡ None) × (new ≡ old)) (Answers rows old (command_of line) given reply new))
+        → MatchBool b (Stays old replies.Long reply new) (MatchBool (is_silent line) ((Some reply ≡ None) × (new ≡ old))
+        (Answers rows old (command_of line) given reply new))
         → D reply
     long true g = subst D (sym g.0) too_long
     long false g = silent (is_silent line) g

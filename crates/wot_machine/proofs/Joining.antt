@@ -76,14 +76,21 @@ pub record IsLater (view : List ℕ) (was now : Whole) : Type 0 where
   pub shown : IsShown view was.state.views was.turns now.state.views now.turns
 
 pub later_itself : (view : List ℕ) (was : Whole) → AreViewsInOrder was.state.views → IsLater view was was
-later_itself view was order = record { order = order; turns = omega arith; held = inl (refl, refl); shown = inl (refl, refl) }
+later_itself view was order = record {
+  order = order;
+  turns = omega arith;
+  held = inl (refl, refl);
+  shown =
+      inl (refl, refl);
+}
 
 -- Watches are nothing to it.
 later_watched : (view : List ℕ) (was now : Whole) (watches : Watches) → IsLater view was now
     → IsLater view was (watched now watches)
 later_watched view was now watches l = record { order = l.order; turns = l.turns; held = l.held; shown = l.shown }
 
-pub later_obeys : (rows : PolicyRows) (view : List ℕ) (was old : Whole) (command : Command) (answer : Served) (reply : Reply) (new : Whole)
+pub later_obeys : (rows : PolicyRows) (view : List ℕ) (was old : Whole) (command : Command) (answer : Served)
+    (reply : Reply) (new : Whole)
     → Obeys rows old command answer reply new → IsLater view was old → IsLater view was new
 later_obeys rows view was old command answer reply new o l =
     let views = does_views rows old.state command answer reply new.state o.does in
@@ -93,7 +100,8 @@ later_obeys rows view was old command answer reply new o l =
       turns = omega (arith, more, l.turns);
       held = held_by was old new o.counted l.held;
       shown =
-          shown_by view was.state.views was.turns (turning_of command) old.state.views old.turns new.state.views new.turns l.order l.turns views o.turned l.shown;
+          shown_by view was.state.views was.turns (turning_of command) old.state.views old.turns new.state.views
+          new.turns l.order l.turns views o.turned l.shown;
     }
 
 -- ---- stamps
@@ -107,7 +115,8 @@ pub aged : (was now : Stamps) → Aged was now (age_of was now)
 aged was now = by (was.keyring == now.keyring) (was.view == now.view) refl refl
   where
     by : (b c : Bool) → (was.keyring == now.keyring) ≡ b → (was.view == now.view) ≡ c
-        → Aged was now (if b then (if c then ages.Same else ages.View was.view now.view) else ages.Keyring was.keyring now.keyring)
+        → Aged was now (if b then (if c then ages.Same else ages.View was.view now.view) else ages.Keyring was.keyring
+        now.keyring)
     by true true e f = (eqb-true was.keyring now.keyring e, eqb-true was.view now.view f)
     by true false e f = (refl, refl, eqb-false was.view now.view f)
     by false c e f = (refl, refl, eqb-false was.keyring now.keyring e)
@@ -121,7 +130,8 @@ view_same : (view : List ℕ) (was now : Whole) (shown : View) → unwrap_or (tu
     → unwrap_or (turn_at was.turns view) 0 ≡ unwrap_or (turn_at now.turns view) 0
     → view_at now.state.views view ≡ Some shown → view_at was.state.views view ≡ Some shown
 view_same view was now shown few (inl p) e seen = sym p.0 ∙ seen
-view_same view was now shown few (inr (inl none)) e seen = let never : None ≡ Some shown = sym none ∙ seen in absurd (cc never)
+view_same view was now shown few (inr (inl none)) e seen = let never : None ≡ Some shown = sym none ∙ seen in
+    absurd (cc never)
 view_same view was now shown few (inr (inr later)) e seen = absurd (omega (arith, few, later, e))
 
 -- ---- other cursors
@@ -137,16 +147,19 @@ other_name name other e = ap is_eq (nat_list_cmp_total.antisymm other name) ∙ 
 module _ (name other : List ℕ) (cursors : Cursors) (e : is_name name other ≡ false) where
   others_begun : (cursor : Cursor) → cursor_at (with_cursor cursors other cursor) name ≡ cursor_at cursors name
   others_begun cursor =
-      other_put view_name_cmp nat_list_cmp_total other name cursor cursors (apart view_name_cmp nat_list_cmp_total other name (other_name name other e))
+      other_put view_name_cmp nat_list_cmp_total other name cursor cursors
+      (apart view_name_cmp nat_list_cmp_total other name (other_name name other e))
 
   others_ended : cursor_at (without_cursor cursors other) name ≡ cursor_at cursors name
-  others_ended = other_without view_name_cmp nat_list_cmp_total other name cursors (apart view_name_cmp nat_list_cmp_total other name (other_name name other e))
+  others_ended = other_without view_name_cmp nat_list_cmp_total other name cursors
+      (apart view_name_cmp nat_list_cmp_total other name (other_name name other e))
 
   others_moved : (place : Place) → cursor_at (with_place cursors other place) name ≡ cursor_at cursors name
   others_moved place = by (cursor_at cursors other)
     where
       by : (o : Option Cursor)
-          → cursor_at (option_map_or (λ cursor. set_value (is_name other) cursors (record cursor { place = Some place })) o cursors) name ≡ cursor_at cursors name
+          → cursor_at (option_map_or (λ cursor. set_value (is_name other) cursors
+          (record cursor { place = Some place })) o cursors) name ≡ cursor_at cursors name
       by None = refl
       by (Some cursor) =
           other_set view_name_cmp nat_list_cmp_total other name (record cursor { place = Some place }) cursors
@@ -158,7 +171,8 @@ module _ (name other : List ℕ) (cursors : Cursors) (e : is_name name other ≡
 
 -- ---- a piece of another cursor
 
-module _ (now : Whole) (name other : List ℕ) (count : ℕ) (reply : Reply) (cursors : Cursors) (e : is_name name other ≡ false) where
+module _ (now : Whole) (name other : List ℕ) (count : ℕ) (reply : Reply) (cursors : Cursors)
+    (e : is_name name other ≡ false) where
   abbrev Same : Type 0
   Same = cursor_at cursors name ≡ cursor_at now.cursors name
 
@@ -171,10 +185,12 @@ module _ (now : Whole) (name other : List ℕ) (count : ℕ) (reply : Reply) (cu
       by : (b : Bool)
           → MatchBool b (Leaves (piece []) now.cursors reply cursors)
           ((all : List Bind) × AreBindings now.state view cursor.wanted all
-          × Leaves (piece (piece_of cursor.place count all)) (behind now.cursors other (piece_of cursor.place count all)) reply cursors)
+          × Leaves (piece (piece_of cursor.place count all))
+          (behind now.cursors other (piece_of cursor.place count all)) reply cursors)
           → Same
       by true g = same_left g.1
-      by false g = ap (λ (cs : Cursors). cursor_at cs name) g.2.1 ∙ others_behind name other now.cursors e (piece_of cursor.place count g.0)
+      by false g = ap (λ (cs : Cursors). cursor_at cs name) g.2.1 ∙ others_behind name other now.cursors e
+          (piece_of cursor.place count g.0)
 
   goes_other_by : (age : Age) (cursor : Cursor) (view : View) → GoesBy age now other count cursor view reply cursors
       → Same
@@ -234,7 +250,8 @@ not_restart : (b : Bool) → (b && true) ≡ false → b ≡ false
 not_restart true e = e
 not_restart false e = refl
 
-module _ (name view : List ℕ) (wanted : ℕ) (was : Whole) (shown : View) (all : List Bind) (began : Began name view wanted was shown all) where
+module _ (name view : List ℕ) (wanted : ℕ) (was : Whole) (shown : View) (all : List Bind)
+    (began : Began name view wanted was shown all) where
   abbrev at_place : Option Place → Cursor
   at_place place = record { view = view; wanted = wanted; stamps = stamps_in was view; place = place }
 
@@ -253,11 +270,13 @@ module _ (name view : List ℕ) (wanted : ℕ) (was : Whole) (shown : View) (all
 
   more_of : (cursors : Cursors) (given more : List Given) → more ≡ [] → HasCursor cursors given
       → HasCursor cursors (given ++ more)
-  more_of cursors given more e h = subst (HasCursor cursors) (sym (ap (λ (gs : List Given). given ++ gs) e ∙ append-nil given)) h
+  more_of cursors given more e h =
+      subst (HasCursor cursors) (sym (ap (λ (gs : List Given). given ++ gs) e ∙ append-nil given)) h
 
   -- ---- a piece of the cursor
 
-  module _ (now : Whole) (count : ℕ) (reply : Reply) (cursors : Cursors) (given : List Given) (later : IsLater view was now) (h : HasCursor now.cursors given) where
+  module _ (now : Whole) (count : ℕ) (reply : Reply) (cursors : Cursors) (given : List Given)
+      (later : IsLater view was now) (h : HasCursor now.cursors given) where
     abbrev Goal : Type 0
     Goal = HasCursor cursors (given ++ given_by count (Some reply)) × IsNext was now view count reply
 
@@ -265,7 +284,8 @@ module _ (name view : List ℕ) (wanted : ℕ) (was : Whole) (shown : View) (all
     unmoved : (told : Reply) → given_by count (Some told) ≡ [] → IsNext was now view count told
         → Leaves told now.cursors reply cursors → Goal
     unmoved told none next l = (
-      more_of cursors given (given_by count (Some reply)) (ap (λ (r : Reply). given_by count (Some r)) l.0 ∙ none) (left now.cursors cursors given l.1 h),
+      more_of cursors given (given_by count (Some reply)) (ap (λ (r : Reply). given_by count (Some r)) l.0 ∙ none)
+          (left now.cursors cursors given l.1 h),
       subst (IsNext was now view count) (sym l.0) next,
     )
 
@@ -273,14 +293,18 @@ module _ (name view : List ℕ) (wanted : ℕ) (was : Whole) (shown : View) (all
     moved [] = h.there
     moved (bind ∷ binds) =
         let place = last_place bind binds in
-        ap (λ (o : Option Cursor). cursor_at (option_map_or (λ cursor. set_value (is_name name) now.cursors (record cursor { place = Some place })) o now.cursors) name) h.there
+        ap (λ (o : Option Cursor). cursor_at
+        (option_map_or (λ cursor. set_value (is_name name) now.cursors (record cursor { place = Some place })) o
+        now.cursors) name) h.there
         ∙ found_set (is_name name) (at_place (Some place)) now.cursors (ap is_some h.there)
 
-    piece_moves : Leaves (piece (piece_of h.place count all)) (behind now.cursors name (piece_of h.place count all)) reply cursors
+    piece_moves : Leaves (piece (piece_of h.place count all)) (behind now.cursors name (piece_of h.place count all))
+        reply cursors
         → stamps_in now view ≡ stamps_in was view → Goal
     piece_moves l same =
         let p = piece_of h.place count all in
-        let few : length (map bind_line p) ≤ count = omega (arith, length-map p bind_line, length-take count (binds_after h.place all)) in (
+        let few : length (map bind_line p) ≤ count =
+        omega (arith, length-map p bind_line, length-take count (binds_after h.place all)) in (
           subst (λ (r : Reply). HasCursor cursors (given ++ given_by count (Some r))) (sym l.0)
               (record {
                 place = place_behind h.place p;
@@ -307,18 +331,22 @@ module _ (name view : List ℕ) (wanted : ℕ) (was : Whole) (shown : View) (all
         listed : (others : List Bind) → AreBindings now.state v wanted others
             → AreBindings was.state shown wanted others
         listed others l =
-            subst (λ (x : View). IsListed (record_of was.state.held.certs was.state.held.verdicts x.time) x.roots wanted (pairs_in was.state.held.certs) others) here
-            (subst (λ (k : Held). IsListed (record_of k.certs k.verdicts v.time) v.roots wanted (pairs_in k.certs) others) held l)
+            subst (λ (x : View). IsListed (record_of was.state.held.certs was.state.held.verdicts x.time) x.roots wanted
+            (pairs_in was.state.held.certs) others) here
+            (subst (λ (k : Held). IsListed (record_of k.certs k.verdicts v.time) v.roots wanted (pairs_in k.certs)
+            others) held l)
 
         by : (b : Bool) → (wanted == 0) ≡ b
             → MatchBool b (Leaves (piece []) now.cursors reply cursors)
             ((others : List Bind) × AreBindings now.state v wanted others
-            × Leaves (piece (piece_of h.place count others)) (behind now.cursors name (piece_of h.place count others)) reply cursors)
+            × Leaves (piece (piece_of h.place count others)) (behind now.cursors name (piece_of h.place count others))
+            reply cursors)
             → Goal
         by true none g = let zero = eqb-true wanted 0 none in absurd (omega (arith, zero, began.wants))
         by false some g =
             piece_moves
-            (subst (λ (binds : List Bind). Leaves (piece (piece_of h.place count binds)) (behind now.cursors name (piece_of h.place count binds)) reply cursors)
+            (subst (λ (binds : List Bind). Leaves (piece (piece_of h.place count binds))
+            (behind now.cursors name (piece_of h.place count binds)) reply cursors)
             (began.one g.0 (listed g.0 g.1)) g.2) stamps
 
     goes_by : (age : Age) (v : View) → view_at now.state.views view ≡ Some v
@@ -327,22 +355,27 @@ module _ (name view : List ℕ) (wanted : ℕ) (was : Whole) (shown : View) (all
     goes_by ages.Same v seen a g = gives_own v seen a.0 a.1 g
     goes_by (ages.Keyring old new) v seen a g =
         unmoved (replies.StaleKeyring old new) refl (record { then_is = a.0; now_is = a.1; other = a.2 }) g
-    goes_by (ages.View old new) v seen a g = unmoved (replies.StaleView old new) refl (record { then_is = a.0; now_is = a.1; other = a.2 }) g
+    goes_by (ages.View old new) v seen a g = unmoved (replies.StaleView old new) refl
+        (record { then_is = a.0; now_is = a.1; other = a.2 }) g
 
     goes_from : (o : Option View) → view_at now.state.views view ≡ o
         → GoesFrom o now name count (at_place h.place) reply cursors → Goal
     goes_from None none g = unmoved replies.View refl none g
-    goes_from (Some v) seen g = goes_by (age_of (stamps_in was view) (stamps_in now view)) v seen (aged (stamps_in was view) (stamps_in now view)) g
+    goes_from (Some v) seen g = goes_by (age_of (stamps_in was view) (stamps_in now view)) v seen
+        (aged (stamps_in was view) (stamps_in now view)) g
 
     pub goes_own : Goes (cursor_at now.cursors name) now name count reply cursors → Goal
     goes_own g =
-        goes_from (view_at now.state.views view) refl (subst (λ (o : Option Cursor). Goes o now name count reply cursors) h.there g)
+        goes_from (view_at now.state.views view) refl
+        (subst (λ (o : Option Cursor). Goes o now name count reply cursors) h.there g)
 
   -- ---- each command of a cursor
 
-  module _ (now : Whole) (reply : Reply) (cursors : Cursors) (given : List Given) (later : IsLater view was now) (h : HasCursor now.cursors given) where
+  module _ (now : Whole) (reply : Reply) (cursors : Cursors) (given : List Given) (later : IsLater view was now)
+      (h : HasCursor now.cursors given) where
     abbrev Comes : Command → Type 0
-    Comes command = is_restart name (Some command) (Some reply) ≡ false → HasCursor cursors (given ++ given_in name (Some command) (Some reply))
+    Comes command = is_restart name (Some command) (Some reply) ≡ false →
+        HasCursor cursors (given ++ given_in name (Some command) (Some reply))
 
     over_comes : (other from : List ℕ) (n : ℕ) (o : Option View) → Begins now other from n o reply cursors
         → Comes (CursorOver other from n)
@@ -355,20 +388,25 @@ module _ (name view : List ℕ) (wanted : ℕ) (was : Whole) (shown : View) (all
             → HasCursor cursors (given ++ [])
         by true l = more_of cursors given [] refl (left now.cursors cursors given l.1 h)
         by false l =
-            let apart = not_restart (is_name name other) (ap (λ (r : Reply). is_name name other && is_done (Some r)) (sym l.0) ∙ fresh) in
+            let apart = not_restart (is_name name other) (ap (λ (r : Reply). is_name name other && is_done (Some r))
+            (sym l.0) ∙ fresh) in
             more_of cursors given [] refl
-            (stays now.cursors cursors given (ap (λ (cs : Cursors). cursor_at cs name) l.1 ∙ others_begun name other now.cursors apart (begun from n (stamps_in now from))) h)
+            (stays now.cursors cursors given (ap (λ (cs : Cursors). cursor_at cs name) l.1
+            ∙ others_begun name other now.cursors apart (begun from n (stamps_in now from))) h)
 
     close_comes : (other : List ℕ) → Ends now other reply cursors → Comes (CursorClose other)
     close_comes other l fresh = by (is_some (cursor_at now.cursors other)) l
       where
         by : (b : Bool)
-            → MatchBool b (Leaves replies.Done (without_cursor now.cursors other) reply cursors) (Leaves replies.NoCursor now.cursors reply cursors)
+            → MatchBool b (Leaves replies.Done (without_cursor now.cursors other) reply cursors)
+            (Leaves replies.NoCursor now.cursors reply cursors)
             → HasCursor cursors (given ++ [])
         by true l =
-            let apart = not_restart (is_name name other) (ap (λ (r : Reply). is_name name other && is_done (Some r)) (sym l.0) ∙ fresh) in
+            let apart = not_restart (is_name name other) (ap (λ (r : Reply). is_name name other && is_done (Some r))
+            (sym l.0) ∙ fresh) in
             more_of cursors given [] refl
-            (stays now.cursors cursors given (ap (λ (cs : Cursors). cursor_at cs name) l.1 ∙ others_ended name other now.cursors apart) h)
+            (stays now.cursors cursors given (ap (λ (cs : Cursors). cursor_at cs name) l.1
+            ∙ others_ended name other now.cursors apart) h)
         by false l = more_of cursors given [] refl (left now.cursors cursors given l.1 h)
 
     next_comes : (other : List ℕ) (count : ℕ) → Goes (cursor_at now.cursors other) now other count reply cursors
@@ -379,9 +417,12 @@ module _ (name view : List ℕ) (wanted : ℕ) (was : Whole) (shown : View) (all
             → HasCursor cursors (given ++ (if b then given_by count (Some reply) else []))
         by true e =
             (goes_own now count reply cursors given later h
-            (subst (λ (n : List ℕ). Goes (cursor_at now.cursors n) now n count reply cursors) (sym (same_name name other e)) g)).0
+            (subst (λ (n : List ℕ). Goes (cursor_at now.cursors n) now n count reply cursors)
+            (sym (same_name name other e)) g)).0
         by false e =
-            more_of cursors given [] refl (stays now.cursors cursors given (goes_other now name other count reply cursors e (cursor_at now.cursors other) g) h)
+            more_of cursors given [] refl
+            (stays now.cursors cursors given (goes_other now name other count reply cursors e
+            (cursor_at now.cursors other) g) h)
 
     comes : (command : Command) → Paces now command reply cursors → Comes command
     comes command p fresh = by (is_pacing command) refl
@@ -401,16 +442,20 @@ module _ (name view : List ℕ) (wanted : ℕ) (was : Whole) (shown : View) (all
     step_later : (old : Whole) (line : List ℕ) (answer : Served) (reply : Option Reply) (new : Whole)
         → LineStep rows old line answer reply new
         → IsLater view was old → IsLater view was new
-    step_later = step_keeps rows (IsLater view was) (λ old command answer reply new. later_obeys rows view was old command answer reply new)
+    step_later = step_keeps rows (IsLater view was) (λ old command answer reply new. later_obeys rows view was old
+        command answer reply new)
 
-    step_comes : (old : Whole) (line : List ℕ) (answer : Served) (reply : Option Reply) (new : Whole) (given : List Given) → LineStep rows old line answer reply new
+    step_comes : (old : Whole) (line : List ℕ) (answer : Served) (reply : Option Reply) (new : Whole)
+        (given : List Given) → LineStep rows old line answer reply new
         → is_restart name (heard line) reply ≡ false → IsLater view was old → HasCursor old.cursors given
         → HasCursor new.cursors (given ++ given_in name (heard line) reply)
-    step_comes old line answer reply new given step fresh later h = by (heard line) reply fresh (hears rows old line answer reply new step)
+    step_comes old line answer reply new given step fresh later h =
+        by (heard line) reply fresh (hears rows old line answer reply new step)
       where
         by : (o : Option Command) (r : Option Reply) → is_restart name o r ≡ false → Hears rows old o answer r new
             → HasCursor new.cursors (given ++ given_in name o r)
-        by None r f e = more_of new.cursors given [] refl (left old.cursors new.cursors given (ap (λ (w : Whole). w.cursors) e) h)
+        by None r f e = more_of new.cursors given [] refl
+            (left old.cursors new.cursors given (ap (λ (w : Whole). w.cursors) e) h)
         by (Some command) None f g = absurd g
         by (Some command) (Some r) f g = comes old r new.cursors given later h command g.paces f
 
@@ -429,7 +474,8 @@ module _ (name view : List ℕ) (wanted : ℕ) (was : Whole) (shown : View) (all
         → has_restart name exchanges ≡ false → Stands old.whole given
         → Stands new.whole (given ++ pieces_in name exchanges)
     passes_on [] old new given e fresh s =
-        subst (λ (scene : Scene). Stands scene.whole (given ++ [])) (sym e) (subst (Stands old.whole) (sym (append-nil given)) s)
+        subst (λ (scene : Scene). Stands scene.whole (given ++ [])) (sym e)
+        (subst (Stands old.whole) (sym (append-nil given)) s)
     passes_on (x ∷ exchanges) old new given p fresh s =
         let parts = or_parts (is_restart name (heard x.line) x.reply) (has_restart name exchanges) fresh in
         let answer = served_in old (use_of (heard x.line)) in
@@ -438,6 +484,7 @@ module _ (name view : List ℕ) (wanted : ℕ) (was : Whole) (shown : View) (all
           later = step_later old.whole x.line answer x.reply p.1.mid p.1.does s.later;
           cursor = step_comes old.whole x.line answer x.reply p.1.mid given p.1.does parts.0 s.later s.cursor;
         } in
-        let after : Stands p.0.whole (given ++ more) = stands_told p.1.mid x.told p.0.whole (given ++ more) p.1.tells mid in
+        let after : Stands p.0.whole (given ++ more) = stands_told p.1.mid x.told p.0.whole (given ++ more) p.1.tells
+        mid in
         subst (Stands new.whole) (append_assoc given more (pieces_in name exchanges))
         (passes_on exchanges p.0 new (given ++ more) p.2 parts.1 after)

@@ -1,5 +1,6 @@
 -- How often the policy was asked: for what was added, and not at all where nothing was.
-use Rattle.std.proofs.Common.{◌≡◌, ◌≢◌, ℕ, ◌+◌, ◌-◌, ◌≤◌, ◌^◌, true, false, List, length, Option, Some, None, Result, Ok, Err, OnOk, refl, sym, ap, subst, ◌∙◌, arith}
+use Rattle.std.proofs.Common.{◌≡◌, ◌≢◌, ℕ, ◌+◌, ◌-◌, ◌≤◌, ◌^◌, true, false, List, length, Option, Some, None, Result}
+use Rattle.std.proofs.Common.{Ok, Err, OnOk, refl, sym, ap, subst, ◌∙◌, arith}
 use Rattle.std.specs.Prelude.{IfOk, is_ok, max, min}
 use Rattle.wot_types.specs.declared.memory.Memory.{Memory}
 use Rattle.wot_policy.specs.declared.policy.Policy.{Policy}
@@ -11,7 +12,10 @@ use Rattle.wot_keyring.specs.declared.refusal.Refusal.TheVariants as refusals
 use Rattle.wot_keyring.specs.Import.{AsksFor, IsAsked, importing}
 use Rattle.wot_keyring.specs.Keyring.{Keyring}
 use Rattle.wot_script.specs.declared.command.Command.{Command}
-use Rattle.wot_script.specs.declared.command.Command.TheVariants.{Import, Load, Store, Remove, Good, Bad, Unjudge, Time, Root, Close, Ask, Explain, Pending, Keys, Export, Dump, Absence, Check, CursorOver, CursorNext, CursorClose, WatchOn, WatchOff}
+use Rattle.wot_script.specs.declared.command.Command.TheVariants.{Import, Load, Store, Remove, Good, Bad, Unjudge, Time}
+use Rattle.wot_script.specs.declared.command.Command.TheVariants.{Root, Close, Ask, Explain, Pending, Keys, Export}
+use Rattle.wot_script.specs.declared.command.Command.TheVariants.{Dump, Absence, Check, CursorOver, CursorNext}
+use Rattle.wot_script.specs.declared.command.Command.TheVariants.{CursorClose, WatchOn, WatchOff}
 use Rattle.wot_script.specs.declared.reply.Reply.{Reply}
 use Rattle.wot_script.specs.Grammar.{command_of}
 use Rattle.wot_cache.specs.State.{Engine, IsStateAfter, State, state_of}
@@ -41,7 +45,8 @@ always : {T E : Type 0} (r : Result T E) (P : Type 0) → P → OnOk r P
 always (Ok x) P p = p
 always (Err e) P p = tt
 
-on_less : {A B T E : Type 0} (r : Result A B) (s : Result T E) → (is_ok s ≡ true → is_ok r ≡ true) → (P : Type 0) → OnOk r P → OnOk s P
+on_less : {A B T E : Type 0} (r : Result A B) (s : Result T E) → (is_ok s ≡ true → is_ok r ≡ true) → (P : Type 0) →
+    OnOk r P → OnOk s P
 on_less r (Err e) less P p = tt
 on_less (Ok a) (Ok b) less P p = p
 on_less (Err e) (Ok b) less P p = let never : false ≡ true = less refl in absurd cc
@@ -52,9 +57,11 @@ module _ {F : Type 0} where
   not_asked p = ap (λ (n : ℕ). record p { asked = n }) (none_more p.asked)
 
   -- what was added was asked for
-  pub asked_new : {T E : Type 0} (x : T) (rows : PolicyRows) (old new : Engine) (octets : List ℕ) (counts : Imported) (before after : Policy F)
+  pub asked_new : {T E : Type 0} (x : T) (rows : PolicyRows) (old new : Engine) (octets : List ℕ) (counts : Imported)
+      (before after : Policy F)
       → AsksFor (Ok counts) rows old.keyring octets (λ k. after ≡ asked_more k before)
-      → IsStateAfter (importing rows octets) old new → AsksForNew {E = E} (Ok x) (state_of old) (state_of new) before after
+      → IsStateAfter (importing rows octets) old new → AsksForNew {E = E} (Ok x) (state_of old) (state_of new) before
+      after
   asked_new x rows old new octets counts before after a is = record {
     times = a.0;
     asked = a.1;
@@ -66,7 +73,8 @@ module _ {F : Type 0} where
   asked_still r s p = record { times = 0; asked = not_asked p; exact = always r _ (nothing_new s) }
 
   -- what was refused added nothing
-  pub asked_refused : (r : Result Reply Memory) (rows : PolicyRows) (old new : Engine) (octets : List ℕ) (told : Refusal) (before after : Policy F)
+  pub asked_refused : (r : Result Reply Memory) (rows : PolicyRows) (old new : Engine) (octets : List ℕ)
+      (told : Refusal) (before after : Policy F)
       → AsksFor (Err told) rows old.keyring octets (λ k. after ≡ asked_more k before) → new ≡ old
       → IfOk r (IsReplyTo (OfKeyring told)) → AsksForNew r (state_of old) (state_of new) before after
   asked_refused r rows old new octets told before after a same replied = record {
@@ -75,7 +83,8 @@ module _ {F : Type 0} where
     exact = by r replied;
   }
     where
-      by : (r : Result Reply Memory) → IfOk r (IsReplyTo (OfKeyring told)) → OnOk r (a.0 ≡ sound_in (state_of new) - sound_in (state_of old))
+      by : (r : Result Reply Memory) → IfOk r (IsReplyTo (OfKeyring told)) →
+          OnOk r (a.0 ≡ sound_in (state_of new) - sound_in (state_of old))
       by (Ok reply) is =
           never told rows old.keyring octets a.0 is.1 a.2 ∙ nothing_new (state_of old)
           ∙ ap (λ (e : Engine). sound_in (state_of e) - sound_in (state_of old)) (sym same)
@@ -84,10 +93,12 @@ module _ {F : Type 0} where
   -- ---- the same for another result, which is Ok at most where that one is
 
   module _ {A B T E : Type 0} (r : Result A B) (s : Result T E) (less : is_ok s ≡ true → is_ok r ≡ true) where
-    new_as : (old new : State) (before after : Policy F) → AsksForNew r old new before after → AsksForNew s old new before after
+    new_as : (old new : State) (before after : Policy F) → AsksForNew r old new before after →
+        AsksForNew s old new before after
     new_as old new before after a = record { times = a.times; asked = a.asked; exact = on_less r s less _ a.exact }
 
-    pub asks_as : (command : Option Command) (old new : State) (before after : Policy F) → LineAsks r command old new before after
+    pub asks_as : (command : Option Command) (old new : State) (before after : Policy F) →
+        LineAsks r command old new before after
         → LineAsks s command old new before after
     asks_as None old new before after a = a
     asks_as (Some (Import octets)) old new before after a = new_as old new before after a
@@ -116,7 +127,8 @@ module _ {F : Type 0} where
     asks_as (Some (WatchOff watch)) old new before after a = a
 
   -- a line that nothing was done for
-  pub asks_not : {T E : Type 0} (r : Result T E) (command : Option Command) (s : State) (p : Policy F) → LineAsks r command s s p p
+  pub asks_not : {T E : Type 0} (r : Result T E) (command : Option Command) (s : State) (p : Policy F) →
+      LineAsks r command s s p p
   asks_not r None s p = refl
   asks_not r (Some (Import octets)) s p = asked_still r s p
   asks_not r (Some (Load name)) s p = asked_still r s p
@@ -144,7 +156,9 @@ module _ {F : Type 0} where
   asks_not r (Some (WatchOff watch)) s p = refl
 
   -- the line that was looked at
-  pub asks_heard : {T E : Type 0} (s : Result T E) (line : List ℕ) (old new : State) (before after : Policy F) → length line ≤ longest
-      → is_silent line ≡ false → LineAsks s (command_of line) old new before after → LineAsks s (heard line) old new before after
+  pub asks_heard : {T E : Type 0} (s : Result T E) (line : List ℕ) (old new : State) (before after : Policy F) →
+      length line ≤ longest
+      → is_silent line ≡ false → LineAsks s (command_of line) old new before after →
+      LineAsks s (heard line) old new before after
   asks_heard s line old new before after short loud a =
       subst (λ (o : Option Command). LineAsks s o old new before after) (sym (heard_read line short loud)) a

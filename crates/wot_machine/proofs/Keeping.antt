@@ -18,16 +18,20 @@ pub found : (k : Keyring) (fpr : Fpr) → cert_at k fpr ≡ lookup (is_fpr fpr) 
 found k fpr = sym (lookup-map_values (λ (x : Kept). x.cert) (is_fpr fpr) k.certs)
 
 -- the kept certificates are of no more than that many octets
-pub sized : (limit : ℕ) (es : Entries) → AreSized limit es → AllByRecursion (λ (c : Certificate). size_of c ≤ limit) (map (λ (e : Fpr × Kept). e.1.cert) es)
+pub sized : (limit : ℕ) (es : Entries) → AreSized limit es → AllByRecursion (λ (c : Certificate). size_of c ≤ limit)
+    (map (λ (e : Fpr × Kept). e.1.cert) es)
 sized limit [] all = tt
 sized limit (e ∷ es) all = (all.0, sized limit es all.1)
 
-pub lines_bare : (es : Entries) → map key_line_of (map (λ (e : Fpr × Kept). e.1.cert) es) ≡ map (λ (e : Fpr × Certificate). key_line_of e.1) (map (λ (e : Fpr × Kept). (e.0, e.1.cert)) es)
+pub lines_bare : (es : Entries) → map key_line_of (map (λ (e : Fpr × Kept). e.1.cert) es) ≡ map
+    (λ (e : Fpr × Certificate). key_line_of e.1) (map (λ (e : Fpr × Kept). (e.0, e.1.cert)) es)
 lines_bare [] = refl
 lines_bare (e ∷ es) = ap (λ (xs : List KeyLine). key_line_of e.1.cert ∷ xs) (lines_bare es)
 
-pub keys_told : (k : Keyring) (lines : List KeyLine) → lines ≡ map key_line_of (map (λ (e : Fpr × Kept). e.1.cert) k.certs)
-    → replies.Keys (length lines) lines ≡ replies.Keys (length (certificates_in k)) (map (λ (e : Fpr × Certificate). key_line_of e.1) (certificates_in k))
+pub keys_told : (k : Keyring) (lines : List KeyLine) →
+    lines ≡ map key_line_of (map (λ (e : Fpr × Kept). e.1.cert) k.certs)
+    → replies.Keys (length lines) lines ≡ replies.Keys (length (certificates_in k))
+    (map (λ (e : Fpr × Certificate). key_line_of e.1) (certificates_in k))
 keys_told k lines e =
     let same : lines ≡ map (λ (e : Fpr × Certificate). key_line_of e.1) (certificates_in k) = e ∙ lines_bare k.certs in
     rw (same, length-map (certificates_in k) (λ (e : Fpr × Certificate). key_line_of e.1)) refl

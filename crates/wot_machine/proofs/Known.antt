@@ -91,16 +91,25 @@ fprs (V6 xs) (V4 ys) = inr (λ e. cc e)
 signatures : AreKnown Signature
 signatures =
     through (λ (s : Signature). (s.body, (s.number.0, s.admitted)))
-    (λ x y e i. record { body = (e i).0; number = record { 0 = (e i).1.0 }; admitted = (e i).1.1 }) (pairs octets (pairs octets bools))
+    (λ x y e i. record { body = (e i).0; number = record { 0 = (e i).1.0 }; admitted = (e i).1.1 })
+    (pairs octets (pairs octets bools))
 
 components : AreKnown Component
 components =
-    through (λ (c : Component). (c.body, c.sigs)) (λ x y e i. record { body = (e i).0; sigs = (e i).1 }) (pairs octets (lists signatures))
+    through (λ (c : Component). (c.body, c.sigs)) (λ x y e i. record { body = (e i).0; sigs = (e i).1 })
+    (pairs octets (lists signatures))
 
 certificates : AreKnown Certificate
 certificates =
     through (λ (c : Certificate). (c.key, (c.direct, (c.user_ids, (c.attributes, c.subkeys)))))
-    (λ x y e i. record { key = (e i).0; direct = (e i).1.0; user_ids = (e i).1.1.0; attributes = (e i).1.1.1.0; subkeys = (e i).1.1.1.1 })
+    (λ x y e i. record {
+      key = (e i).0;
+      direct = (e i).1.0;
+      user_ids = (e i).1.1.0;
+      attributes =
+          (e i).1.1.1.0;
+      subkeys = (e i).1.1.1.1;
+    })
     (pairs octets (pairs (lists signatures) (pairs (lists components) (pairs (lists components) (lists components)))))
 
 verdicts : AreKnown Verdict
@@ -123,4 +132,5 @@ held =
 
 pub views : AreKnown (Option View)
 views =
-    options (through (λ (v : View). (v.time, v.roots)) (λ x y e i. record { time = (e i).0; roots = (e i).1 }) (pairs numbers (lists (pairs fprs numbers))))
+    options (through (λ (v : View). (v.time, v.roots)) (λ x y e i. record { time = (e i).0; roots = (e i).1 })
+    (pairs numbers (lists (pairs fprs numbers))))

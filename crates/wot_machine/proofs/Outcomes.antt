@@ -1,5 +1,6 @@
 -- Each line has exactly one outcome.
-use Rattle.std.proofs.Common.{◌≡◌, ℕ, ◌≤◌, Bool, true, false, List, length, Option, Some, None, refl, sym, ap, ◌∙◌, subst, inl}
+use Rattle.std.proofs.Common.{◌≡◌, ℕ, ◌≤◌, Bool, true, false, List, length, Option, Some, None, refl, sym, ap, ◌∙◌}
+use Rattle.std.proofs.Common.{subst, inl}
 use Rattle.std.specs.Prelude.{MatchBool, map, nat_le, nat_lt}
 use Rattle.std.specs.List.{AllByRecursion}
 use Rattle.wot_types.specs.declared.fpr.Fpr.{Fpr}
@@ -18,7 +19,10 @@ use Rattle.wot_check.specs.Claim.{Claim}
 use Rattle.wot_check.specs.Table.{IsTable, Labels}
 use Rattle.wot_keyring.specs.Keyring.{Certificates}
 use Rattle.wot_script.specs.declared.command.Command.{Command}
-use Rattle.wot_script.specs.declared.command.Command.TheVariants.{Import, Load, Store, Remove, Good, Bad, Unjudge, Time, Root, Close, Ask, Explain, Pending, Keys, Export, Dump, Absence, Check, CursorOver, CursorNext, CursorClose, WatchOn, WatchOff}
+use Rattle.wot_script.specs.declared.command.Command.TheVariants.{Import, Load, Store, Remove, Good, Bad, Unjudge, Time}
+use Rattle.wot_script.specs.declared.command.Command.TheVariants.{Root, Close, Ask, Explain, Pending, Keys, Export}
+use Rattle.wot_script.specs.declared.command.Command.TheVariants.{Dump, Absence, Check, CursorOver, CursorNext}
+use Rattle.wot_script.specs.declared.command.Command.TheVariants.{CursorClose, WatchOn, WatchOff}
 use Rattle.wot_script.specs.Claims.{IsClaimSpelled}
 use Rattle.wot_script.specs.declared.reply.ClaimLine.{ClaimLine}
 use Rattle.wot_script.specs.declared.reply.LabelLine.{LabelLine}
@@ -32,10 +36,10 @@ use Rattle.wot_explain.specs.declared.bind.Bind.{Bind}
 use Rattle.wot_explain.specs.Listing.{IsListed, Pair, pairs_in}
 use Rattle.wot_cache.specs.Question.{question_in}
 use Rattle.wot_cache.specs.State.{State, IsState}
-use Rattle.wot_cache.specs.Turns.{Turns}
-use Rattle.wot_cache.specs.Views.{Views, view_at}
+use Rattle.wot_cache.specs.Views.{view_at}
 use Rattle.wot_machine.specs.Lines.{is_silent, longest}
-use Rattle.wot_machine.specs.Outcome.{Outcome, only, load, remove, set_verdict, clear_verdict, time, root, close, keys, export, dump, import}
+use Rattle.wot_machine.specs.Outcome.{Outcome, load, remove, set_verdict, clear_verdict, time, root, close, keys}
+use Rattle.wot_machine.specs.Outcome.{export, dump, import}
 use Rattle.wot_machine.specs.Absent.{Checks, Misses, TellsAbsence, claim_in, table_in, verdict_on}
 use Rattle.wot_machine.specs.Answer.{Asks, told}
 use Rattle.wot_machine.specs.Listing.{Lists, bindings, explain, pending}
@@ -44,12 +48,14 @@ use Rattle.wot_machine.specs.Served.{Served}
 use Rattle.wot_machine.specs.Storing.{store}
 use Rattle.wot_machine.proofs.Absences.{spelled_table, tells_one, tells_some}
 use Rattle.wot_machine.specs.Pacing.{is_pacing}
-use Rattle.wot_machine.specs.Whole.{IsTurnedBy, Whole}
+use Rattle.wot_machine.specs.Whole.{Whole}
 use Rattle.wot_machine.proofs.Named.{AreNamed, named_all, named_without}
-use Rattle.wot_machine.proofs.Paced.{paced_state, paces_one, paces_plain, paces_some, plain_paces, state_paced, turns_paced}
+use Rattle.wot_machine.proofs.Paced.{paced_state, paces_one, paces_plain, paces_some, plain_paces, state_paced}
+use Rattle.wot_machine.proofs.Paced.{turns_paced}
 use Rattle.wot_machine.proofs.Stays.{step_stays}
 use Rattle.wot_machine.specs.Watching.{is_watching}
-use Rattle.wot_machine.proofs.Watched.{paced_unwatched, plain_watching, state_watched, turns_watched, watched_state, watching_one, watching_plain, watching_some}
+use Rattle.wot_machine.proofs.Watched.{paced_unwatched, plain_watching, state_watched, turns_watched, watched_state}
+use Rattle.wot_machine.proofs.Watched.{watching_one, watching_plain, watching_some}
 use Rattle.wot_machine.proofs.Wholes.{counted_one, counted_some, turned_one, turned_some, whole_same}
 
 -- At most one reply and one state.
@@ -83,94 +89,122 @@ HasReply-some P some = (Some some.0, some.1, some.2)
 silent-one : (old : Whole) → IsOne (Option Reply) Whole (λ r m. (r ≡ None) × (m ≡ old))
 silent-one old r s m n p q = (p.0 ∙ sym q.0, p.1 ∙ sym q.1)
 
-MatchBool-one : (b : Bool) (P Q : Option Reply → Whole → Type 0) → IsOne (Option Reply) Whole P → IsOne (Option Reply) Whole Q → IsOne (Option Reply) Whole (λ r m. MatchBool b (P r m) (Q r m))
+MatchBool-one : (b : Bool) (P Q : Option Reply → Whole → Type 0) → IsOne (Option Reply) Whole P →
+    IsOne (Option Reply) Whole Q → IsOne (Option Reply) Whole (λ r m. MatchBool b (P r m) (Q r m))
 MatchBool-one true P Q p q = p
 MatchBool-one false P Q p q = q
 
-MatchBool-some : (b : Bool) (P Q : Option Reply → Whole → Type 0) → IsSome (Option Reply) Whole P → IsSome (Option Reply) Whole Q → IsSome (Option Reply) Whole (λ r m. MatchBool b (P r m) (Q r m))
+MatchBool-some : (b : Bool) (P Q : Option Reply → Whole → Type 0) → IsSome (Option Reply) Whole P →
+    IsSome (Option Reply) Whole Q → IsSome (Option Reply) Whole (λ r m. MatchBool b (P r m) (Q r m))
 MatchBool-some true P Q p q = p
 MatchBool-some false P Q p q = q
 
 -- ---- states that can be
 
-pub LineStep-stays : (rows : PolicyRows) (old : Whole) (line : List ℕ) (given : Served) (reply : Option Reply) (new : Whole) → IsState old.state → LineStep rows old line given reply new → IsState new.state
+pub LineStep-stays : (rows : PolicyRows) (old : Whole) (line : List ℕ) (given : Served) (reply : Option Reply)
+    (new : Whole) → IsState old.state → LineStep rows old line given reply new → IsState new.state
 LineStep-stays rows = step_stays rows AreNamed (named_all rows) named_without
 
 -- ---- questions
 
 module _
     (answer_some : (q : Question) (wanted : ℕ) → 1 ≤ wanted → (paths : List Path) × IsAnswer q wanted paths)
-    (answer_one : (q : Question) (wanted : ℕ) (a b : List Path) → IsRecord q.told → IsAnswer q wanted a → IsAnswer q wanted b → a ≡ b)
-    (lawful : (certs : Certificates) (entries : Entries) (t : ℕ) (u : List ℕ) → AllByRecursion (λ (e : Fpr × Certificate). e.0 ≡ fpr_of e.1.key) certs → IsRecord (record_of certs entries t u))
-    (list_some : (told : List ℕ → Record) (roots : List (Fpr × ℕ)) (wanted : ℕ) (pairs : List Pair) → 1 ≤ wanted → (binds : List Bind) × IsListed told roots wanted pairs binds)
-    (list_one : (told : List ℕ → Record) (roots : List (Fpr × ℕ)) (wanted : ℕ) (pairs : List Pair) (a b : List Bind) → ((u : List ℕ) → IsRecord (told u))
+    (answer_one : (q : Question) (wanted : ℕ) (a b : List Path) → IsRecord q.told → IsAnswer q wanted a →
+    IsAnswer q wanted b → a ≡ b)
+    (lawful : (certs : Certificates) (entries : Entries) (t : ℕ) (u : List ℕ) →
+    AllByRecursion (λ (e : Fpr × Certificate). e.0 ≡ fpr_of e.1.key) certs → IsRecord (record_of certs entries t u))
+    (list_some : (told : List ℕ → Record) (roots : List (Fpr × ℕ)) (wanted : ℕ) (pairs : List Pair) → 1 ≤ wanted →
+    (binds : List Bind) × IsListed told roots wanted pairs binds)
+    (list_one : (told : List ℕ → Record) (roots : List (Fpr × ℕ)) (wanted : ℕ) (pairs : List Pair) (a b : List Bind) →
+    ((u : List ℕ) → IsRecord (told u))
     → IsListed told roots wanted pairs a → IsListed told roots wanted pairs b → a ≡ b)
     (least_some : (q : Question) (used : Use) → (table : Labels) × IsTable table × IsLeastTable q used table)
-    (least_one : (q : Question) (used : Use) (a b : Labels) → IsTable a → IsTable b → IsLeastTable q used a → IsLeastTable q used b → a ≡ b)
-    (check_some : (q : Question) (claims : List Claim) (table : Labels) → IsTable table → (checked : Checked) × IsChecked q claims table checked)
-    (check_one : (q : Question) (claims : List Claim) (table : Labels) (a b : Checked) → IsRecord q.told → IsChecked q claims table a → IsChecked q claims table b → a ≡ b)
+    (least_one : (q : Question) (used : Use) (a b : Labels) → IsTable a → IsTable b → IsLeastTable q used a →
+    IsLeastTable q used b → a ≡ b)
+    (check_some : (q : Question) (claims : List Claim) (table : Labels) → IsTable table →
+    (checked : Checked) × IsChecked q claims table checked)
+    (check_one : (q : Question) (claims : List Claim) (table : Labels) (a b : Checked) → IsRecord q.told →
+    IsChecked q claims table a → IsChecked q claims table b → a ≡ b)
     (wants : (line : List ℕ) (command : Command) → command_of line ≡ Some command → HasSpelling command)
     (rows : PolicyRows)
   where
-    Asks-one : (old : State) (view : Option View) (target : Fpr) (wanted : ℕ) (uid : List ℕ) (r s : Reply) → IsState old → Asks old view target wanted uid r → Asks old view target wanted uid s → r ≡ s
+    Asks-one : (old : State) (view : Option View) (target : Fpr) (wanted : ℕ) (uid : List ℕ) (r s : Reply) →
+        IsState old → Asks old view target wanted uid r → Asks old view target wanted uid s → r ≡ s
     Asks-one old None target wanted uid r s p a b = a ∙ sym b
     Asks-one old (Some view) target wanted uid r s p a b =
-        let same = answer_one (question_in old view target uid) wanted a.0 b.0 (lawful old.held.certs old.held.verdicts view.time uid p) a.1 b.1 in
+        let same = answer_one (question_in old view target uid) wanted a.0 b.0
+        (lawful old.held.certs old.held.verdicts view.time uid p) a.1 b.1 in
         a.2 ∙ ap (told old) same ∙ sym b.2
 
-    Asks-some : (old : State) (view : Option View) (target : Fpr) (wanted : ℕ) (uid : List ℕ) → 1 ≤ wanted → (r : Reply) × Asks old view target wanted uid r
+    Asks-some : (old : State) (view : Option View) (target : Fpr) (wanted : ℕ) (uid : List ℕ) → 1 ≤ wanted →
+        (r : Reply) × Asks old view target wanted uid r
     Asks-some old None target wanted uid h = (replies.View, refl)
     Asks-some old (Some view) target wanted uid h =
         let paths = answer_some (question_in old view target uid) wanted h in
         (told old paths.0, (paths.0, paths.1, refl))
 
-    Lists-one : (old : State) (view : Option View) (wanted : ℕ) (r s : Reply) → IsState old → Lists old view wanted r → Lists old view wanted s → r ≡ s
+    Lists-one : (old : State) (view : Option View) (wanted : ℕ) (r s : Reply) → IsState old → Lists old view wanted r →
+        Lists old view wanted s → r ≡ s
     Lists-one old None wanted r s p a b = a ∙ sym b
     Lists-one old (Some view) wanted r s p a b =
         let lawful_there = lawful old.held.certs old.held.verdicts view.time in
-        let same = list_one (record_of old.held.certs old.held.verdicts view.time) view.roots wanted (pairs_in old.held.certs) a.0 b.0 (λ u. lawful_there u p) a.1 b.1 in
+        let same = list_one (record_of old.held.certs old.held.verdicts view.time) view.roots wanted
+        (pairs_in old.held.certs) a.0 b.0 (λ u. lawful_there u p) a.1 b.1 in
         a.2 ∙ ap bindings same ∙ sym b.2
 
     Lists-some : (old : State) (view : Option View) (wanted : ℕ) → 1 ≤ wanted → (r : Reply) × Lists old view wanted r
     Lists-some old None wanted h = (replies.View, refl)
     Lists-some old (Some view) wanted h =
-        let binds = list_some (record_of old.held.certs old.held.verdicts view.time) view.roots wanted (pairs_in old.held.certs) h in
+        let binds = list_some (record_of old.held.certs old.held.verdicts view.time) view.roots wanted
+        (pairs_in old.held.certs) h in
         (bindings binds.0, (binds.0, binds.1, refl))
 
-    Misses-one : (old : State) (view : Option View) (target : Fpr) (wanted : ℕ) (uid : List ℕ) (r s : Reply) → IsState old → Misses old view target wanted uid r → Misses old view target wanted uid s → r ≡ s
+    Misses-one : (old : State) (view : Option View) (target : Fpr) (wanted : ℕ) (uid : List ℕ) (r s : Reply) →
+        IsState old → Misses old view target wanted uid r → Misses old view target wanted uid s → r ≡ s
     Misses-one old None target wanted uid r s p a b = a ∙ sym b
     Misses-one old (Some view) target wanted uid r s p a b =
         let q : Question = question_in old view target uid in
-        let same : a.0 ≡ b.0 = answer_one q wanted a.0 b.0 (lawful old.held.certs old.held.verdicts view.time uid p) a.1 b.1 in
-        tells_one least_one (nat_le wanted (amount_of b.0)) q b.0 r s (subst (λ (paths : List Path). TellsAbsence (nat_le wanted (amount_of paths)) q paths r) same a.2) b.2
+        let same : a.0 ≡ b.0 = answer_one q wanted a.0 b.0 (lawful old.held.certs old.held.verdicts view.time uid p) a.1
+        b.1 in
+        tells_one least_one (nat_le wanted (amount_of b.0)) q b.0 r s
+        (subst (λ (paths : List Path). TellsAbsence (nat_le wanted (amount_of paths)) q paths r) same a.2) b.2
 
-    Misses-some : (old : State) (view : Option View) (target : Fpr) (wanted : ℕ) (uid : List ℕ) → 1 ≤ wanted → (r : Reply) × Misses old view target wanted uid r
+    Misses-some : (old : State) (view : Option View) (target : Fpr) (wanted : ℕ) (uid : List ℕ) → 1 ≤ wanted →
+        (r : Reply) × Misses old view target wanted uid r
     Misses-some old None target wanted uid h = (replies.View, refl)
     Misses-some old (Some view) target wanted uid h = by (answer_some (question_in old view target uid) wanted h)
       where
-        by : (paths : List Path) × IsAnswer (question_in old view target uid) wanted paths → (r : Reply) × Misses old (Some view) target wanted uid r
+        by : (paths : List Path) × IsAnswer (question_in old view target uid) wanted paths →
+            (r : Reply) × Misses old (Some view) target wanted uid r
         by paths =
-            let tells = tells_some least_some (nat_le wanted (amount_of paths.0)) (question_in old view target uid) paths.0 in
+            let tells = tells_some least_some (nat_le wanted (amount_of paths.0)) (question_in old view target uid)
+            paths.0 in
             (tells.0, (paths.0, paths.1, tells.1))
 
-    Checks-one : (old : State) (view : Option View) (target : Fpr) (claims : List ClaimLine) (labels : List LabelLine) (uid : List ℕ) (r s : Reply) → IsState old
+    Checks-one : (old : State) (view : Option View) (target : Fpr) (claims : List ClaimLine) (labels : List LabelLine)
+        (uid : List ℕ) (r s : Reply) → IsState old
         → Checks old view target claims labels uid r → Checks old view target claims labels uid s → r ≡ s
     Checks-one old None target claims labels uid r s p a b = a ∙ sym b
     Checks-one old (Some view) target claims labels uid r s p a b =
-        let same : a.0 ≡ b.0 = check_one (question_in old view target uid) (map claim_in claims) (table_in labels) a.0 b.0 (lawful old.held.certs old.held.verdicts view.time uid p) a.1 b.1 in
+        let same : a.0 ≡ b.0 = check_one (question_in old view target uid) (map claim_in claims) (table_in labels) a.0
+        b.0 (lawful old.held.certs old.held.verdicts view.time uid p) a.1 b.1 in
         a.2 ∙ ap (verdict_on claims) same ∙ sym b.2
 
-    Checks-some : (old : State) (view : Option View) (target : Fpr) (claims : List ClaimLine) (labels : List LabelLine) (uid : List ℕ) → IsClaimSpelled claims labels
+    Checks-some : (old : State) (view : Option View) (target : Fpr) (claims : List ClaimLine) (labels : List LabelLine)
+        (uid : List ℕ) → IsClaimSpelled claims labels
         → (r : Reply) × Checks old view target claims labels uid r
     Checks-some old None target claims labels uid h = (replies.View, refl)
     Checks-some old (Some view) target claims labels uid h =
-        by (check_some (question_in old view target uid) (map claim_in claims) (table_in labels) (spelled_table claims labels h))
+        by (check_some (question_in old view target uid) (map claim_in claims) (table_in labels)
+        (spelled_table claims labels h))
       where
-        by : (checked : Checked) × IsChecked (question_in old view target uid) (map claim_in claims) (table_in labels) checked
+        by : (checked : Checked) × IsChecked (question_in old view target uid) (map claim_in claims) (table_in labels)
+            checked
             → (r : Reply) × Checks old (Some view) target claims labels uid r
         by checked = (verdict_on claims checked.0, (checked.0, checked.1, refl))
 
-    pub Does-one : (old : State) (command : Command) (given : Served) → IsState old → is_pacing command ≡ false → is_watching command ≡ false
+    pub Does-one : (old : State) (command : Command) (given : Served) → IsState old → is_pacing command ≡ false →
+        is_watching command ≡ false
         → IsOne Reply State (Does rows old command given)
     Does-one old (Import octets) given p plain still = Gives-one (import rows old octets)
     Does-one old (Load name) given p plain still = Gives-one (load rows old name given.read)
@@ -182,11 +216,15 @@ module _
     Does-one old (Time view t) given p plain still = Gives-one (time old view t)
     Does-one old (Root view fpr amount) given p plain still = Gives-one (root old view fpr amount)
     Does-one old (Close view) given p plain still = Gives-one (close old view)
-    Does-one old (Ask view target wanted uid) given p plain still = λ r s m n a b. (Asks-one old (view_at old.views view) target wanted uid r s p a.0 b.0, a.1 ∙ sym b.1)
-    Does-one old (Command.List view wanted) given p plain still = λ r s m n a b. (Lists-one old (view_at old.views view) wanted r s p a.0 b.0, a.1 ∙ sym b.1)
+    Does-one old (Ask view target wanted uid) given p plain still =
+        λ r s m n a b. (Asks-one old (view_at old.views view) target wanted uid r s p a.0 b.0, a.1 ∙ sym b.1)
+    Does-one old (Command.List view wanted) given p plain still =
+        λ r s m n a b. (Lists-one old (view_at old.views view) wanted r s p a.0 b.0, a.1 ∙ sym b.1)
     Does-one old (Explain view fpr uid) given p plain still = Gives-one (explain old view fpr uid)
-    Does-one old (Absence view target wanted uid) given p plain still = λ r s m n a b. (Misses-one old (view_at old.views view) target wanted uid r s p a.0 b.0, a.1 ∙ sym b.1)
-    Does-one old (Check view target claims labels uid) given p plain still = λ r s m n a b. (Checks-one old (view_at old.views view) target claims labels uid r s p a.0 b.0, a.1 ∙ sym b.1)
+    Does-one old (Absence view target wanted uid) given p plain still =
+        λ r s m n a b. (Misses-one old (view_at old.views view) target wanted uid r s p a.0 b.0, a.1 ∙ sym b.1)
+    Does-one old (Check view target claims labels uid) given p plain still =
+        λ r s m n a b. (Checks-one old (view_at old.views view) target claims labels uid r s p a.0 b.0, a.1 ∙ sym b.1)
     Does-one old Pending given p plain still = Gives-one (pending old)
     Does-one old Keys given p plain still = Gives-one (keys old)
     Does-one old (Export fpr) given p plain still = Gives-one (export old fpr)
@@ -197,7 +235,8 @@ module _
     Does-one old (WatchOn watch view target wanted uid) given p plain still = absurd (cc still)
     Does-one old (WatchOff watch) given p plain still = absurd (cc still)
 
-    Does-some : (old : State) (command : Command) (given : Served) → HasSpelling command → is_pacing command ≡ false → is_watching command ≡ false
+    Does-some : (old : State) (command : Command) (given : Served) → HasSpelling command → is_pacing command ≡ false →
+        is_watching command ≡ false
         → IsSome Reply State (Does rows old command given)
     Does-some old (Import octets) given h plain still = Gives-some (import rows old octets)
     Does-some old (Load name) given h plain still = Gives-some (load rows old name given.read)
@@ -239,45 +278,59 @@ module _
     lawful_state s t u can = lawful s.held.certs s.held.verdicts t u can
 
     -- by what is one of the reply, the state, the cursors and the watches
-    whole_one : (old : Whole) (command : Command) (given : Served) (r s : Reply) (m n : Whole) → Obeys rows old command given r m → Obeys rows old command given s n
+    whole_one : (old : Whole) (command : Command) (given : Served) (r s : Reply) (m n : Whole) →
+        Obeys rows old command given r m → Obeys rows old command given s n
         → (r ≡ s) × (m.state ≡ n.state) × (m.cursors ≡ n.cursors) × (m.watches ≡ n.watches) → (r ≡ s) × (m ≡ n)
     whole_one old command given r s m n p q same =
         let held = counted_one old m n (ap (λ (x : State). x.held) same.1) p.counted q.counted in
-        let turns = turned_one command old.state.views m.state.views n.state.views old.turns m.turns n.turns (ap (λ (x : State). x.views) same.1) p.turned q.turned in
+        let turns = turned_one command old.state.views m.state.views n.state.views old.turns m.turns n.turns
+        (ap (λ (x : State). x.views) same.1) p.turned q.turned in
         (same.0, whole_same m n same.1 held turns same.2 same.3)
 
-    Obeys-one : (old : Whole) (command : Command) (given : Served) → IsState old.state → IsOne Reply Whole (Obeys rows old command given)
-    Obeys-one old command given can r s m n p q = whole_one old command given r s m n p q (by (is_pacing command) refl (is_watching command) refl)
+    Obeys-one : (old : Whole) (command : Command) (given : Served) → IsState old.state →
+        IsOne Reply Whole (Obeys rows old command given)
+    Obeys-one old command given can r s m n p q = whole_one old command given r s m n p q
+        (by (is_pacing command) refl (is_watching command) refl)
       where
         by : (b : Bool) → is_pacing command ≡ b → (w : Bool) → is_watching command ≡ w
             → (r ≡ s) × (m.state ≡ n.state) × (m.cursors ≡ n.cursors) × (m.watches ≡ n.watches)
         by true e w f =
-            let both = paces_one lawful_state list_some list_one old command e can r s m.cursors n.cursors p.paces q.paces in
+            let both = paces_one lawful_state list_some list_one old command e can r s m.cursors n.cursors p.paces
+            q.paces in
             let first = paced_state rows old.state command given r m.state e p.does in
             let second = paced_state rows old.state command given s n.state e q.does in
             let still = paced_unwatched command e in (
               both.0,
               first ∙ sym second,
               both.1,
-              plain_watching old command r m.watches still p.watching ∙ sym (plain_watching old command s n.watches still q.watching),
+              plain_watching old command r m.watches still p.watching
+                  ∙ sym (plain_watching old command s n.watches still q.watching),
             )
         by false e true f =
             let both = watching_one answer_one lawful old command f can r s m.watches n.watches p.watching q.watching in
             let first = watched_state rows old.state command given r m.state f p.does in
-            let second = watched_state rows old.state command given s n.state f q.does in
-            (both.0, first ∙ sym second, plain_paces old command r m.cursors e p.paces ∙ sym (plain_paces old command s n.cursors e q.paces), both.1)
+            let second = watched_state rows old.state command given s n.state f q.does in (
+              both.0,
+              first ∙ sym second,
+              plain_paces old command r m.cursors e p.paces
+                  ∙ sym (plain_paces old command s n.cursors e q.paces),
+              both.1,
+            )
         by false e false f =
             let both = Does-one old.state command given can e f r s m.state n.state p.does q.does in (
               both.0,
               both.1,
               plain_paces old command r m.cursors e p.paces ∙ sym (plain_paces old command s n.cursors e q.paces),
-              plain_watching old command r m.watches f p.watching ∙ sym (plain_watching old command s n.watches f q.watching),
+              plain_watching old command r m.watches f p.watching
+                  ∙ sym (plain_watching old command s n.watches f q.watching),
             )
 
-    Obeys-some : (old : Whole) (command : Command) (given : Served) → HasSpelling command → IsSome Reply Whole (Obeys rows old command given)
+    Obeys-some : (old : Whole) (command : Command) (given : Served) → HasSpelling command →
+        IsSome Reply Whole (Obeys rows old command given)
     Obeys-some old command given h = by (is_pacing command) refl (is_watching command) refl
       where
-        by : (b : Bool) → is_pacing command ≡ b → (w : Bool) → is_watching command ≡ w → IsSome Reply Whole (Obeys rows old command given)
+        by : (b : Bool) → is_pacing command ≡ b → (w : Bool) → is_watching command ≡ w →
+            IsSome Reply Whole (Obeys rows old command given)
         by true e w f =
             let there = paces_some lawful_state list_some list_one old command e in (
               there.0,
@@ -307,7 +360,14 @@ module _
             let count = counted_some old there.1.held in
             let turns = turned_some command old.state.views there.1.views old.turns in (
               there.0,
-              record { state = there.1; changes = count.0; turns = turns.0; cursors = old.cursors; watches = old.watches },
+              record {
+                state = there.1;
+                changes = count.0;
+                turns = turns.0;
+                cursors = old.cursors;
+                watches =
+                    old.watches;
+              },
               record {
                 does = there.2;
                 counted = count.1;
@@ -317,27 +377,38 @@ module _
               },
             )
 
-    Answers-one : (old : Whole) (command : Option Command) (given : Served) → IsState old.state → IsOne Reply Whole (Answers rows old command given)
+    Answers-one : (old : Whole) (command : Option Command) (given : Served) → IsState old.state →
+        IsOne Reply Whole (Answers rows old command given)
     Answers-one old None given p = Stays-one old replies.Line
     Answers-one old (Some command) given p = Obeys-one old command given p
 
-    Answers-some : (old : Whole) (line : List ℕ) (given : Served) → IsSome Reply Whole (Answers rows old (command_of line) given)
+    Answers-some : (old : Whole) (line : List ℕ) (given : Served) →
+        IsSome Reply Whole (Answers rows old (command_of line) given)
     Answers-some old line given = by (command_of line) refl
       where
-        by : (command : Option Command) → command_of line ≡ command → IsSome Reply Whole (Answers rows old command given)
+        by : (command : Option Command) → command_of line ≡ command →
+            IsSome Reply Whole (Answers rows old command given)
         by None e = Stays-some old replies.Line
         by (Some command) e = Obeys-some old command given (wants line command e)
 
-    pub LineStep-one : (old : Whole) (line : List ℕ) (given : Served) → IsState old.state → IsOne (Option Reply) Whole (LineStep rows old line given)
+    pub LineStep-one : (old : Whole) (line : List ℕ) (given : Served) → IsState old.state →
+        IsOne (Option Reply) Whole (LineStep rows old line given)
     LineStep-one old line given p =
-        MatchBool-one (nat_lt longest (length line)) (HasReply (Stays old replies.Long)) (λ r m. MatchBool (is_silent line) ((r ≡ None) × (m ≡ old)) (HasReply (Answers rows old (command_of line) given) r m))
+        MatchBool-one (nat_lt longest (length line)) (HasReply (Stays old replies.Long))
+        (λ r m. MatchBool (is_silent line) ((r ≡ None) × (m ≡ old))
+        (HasReply (Answers rows old (command_of line) given) r m))
         (HasReply-one (Stays old replies.Long) (Stays-one old replies.Long))
-        (MatchBool-one (is_silent line) (λ r m. (r ≡ None) × (m ≡ old)) (HasReply (Answers rows old (command_of line) given)) (silent-one old)
+        (MatchBool-one (is_silent line) (λ r m. (r ≡ None) × (m ≡ old))
+        (HasReply (Answers rows old (command_of line) given)) (silent-one old)
         (HasReply-one (Answers rows old (command_of line) given) (Answers-one old (command_of line) given p)))
 
-    pub LineStep-some : (old : Whole) (line : List ℕ) (given : Served) → IsSome (Option Reply) Whole (LineStep rows old line given)
+    pub LineStep-some : (old : Whole) (line : List ℕ) (given : Served) →
+        IsSome (Option Reply) Whole (LineStep rows old line given)
     LineStep-some old line given =
-        MatchBool-some (nat_lt longest (length line)) (HasReply (Stays old replies.Long)) (λ r m. MatchBool (is_silent line) ((r ≡ None) × (m ≡ old)) (HasReply (Answers rows old (command_of line) given) r m))
+        MatchBool-some (nat_lt longest (length line)) (HasReply (Stays old replies.Long))
+        (λ r m. MatchBool (is_silent line) ((r ≡ None) × (m ≡ old))
+        (HasReply (Answers rows old (command_of line) given) r m))
         (HasReply-some (Stays old replies.Long) (Stays-some old replies.Long))
-        (MatchBool-some (is_silent line) (λ r m. (r ≡ None) × (m ≡ old)) (HasReply (Answers rows old (command_of line) given)) (None, old, (refl, refl))
+        (MatchBool-some (is_silent line) (λ r m. (r ≡ None) × (m ≡ old))
+        (HasReply (Answers rows old (command_of line) given)) (None, old, (refl, refl))
         (HasReply-some (Answers rows old (command_of line) given) (Answers-some old line given)))

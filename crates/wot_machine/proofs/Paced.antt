@@ -1,14 +1,17 @@
 -- The commands of cursors: what they reply has words, and there is one reply.
-use Rattle.std.proofs.Common.{◌≡◌, inl, inr, ℕ, ◌-◌, ◌≤◌, ◌==◌, Bool, true, false, cond, List, [], ◌∷◌, ◌++◌, length, Option, Some, None, refl, sym, ap, subst, ◌∙◌, arith}
+use Rattle.std.proofs.Common.{◌≡◌, ℕ, ◌-◌, ◌≤◌, ◌==◌, Bool, true, false, List, [], ◌∷◌, length, Option, Some, None}
+use Rattle.std.proofs.Common.{refl, sym, ap, subst, ◌∙◌, arith}
 use Rattle.std.specs.Prelude.{MatchBool, is_some}
 use Rattle.std.specs.List.{slice_get}
-use Rattle.std.specs.Option.{unwrap_or}
 use Rattle.std.proofs.lemmas.Option.{same_Some}
 use Rattle.std.proofs.lemmas.Bool.{eqb-false}
 use Rattle.wot_types.specs.declared.fpr.Fpr.{Fpr}
 use Rattle.wot_types.specs.declared.place.Place.{Place}
 use Rattle.wot_script.specs.declared.command.Command.{Command}
-use Rattle.wot_script.specs.declared.command.Command.TheVariants.{Import, Load, Store, Remove, Good, Bad, Unjudge, Time, Root, Close, Ask, Explain, Absence, Check, Pending, Keys, Export, Dump, CursorOver, CursorNext, CursorClose, WatchOn, WatchOff}
+use Rattle.wot_script.specs.declared.command.Command.TheVariants.{Import, Load, Store, Remove, Good, Bad, Unjudge, Time}
+use Rattle.wot_script.specs.declared.command.Command.TheVariants.{Root, Close, Ask, Explain, Absence, Check, Pending}
+use Rattle.wot_script.specs.declared.command.Command.TheVariants.{Keys, Export, Dump, CursorOver, CursorNext}
+use Rattle.wot_script.specs.declared.command.Command.TheVariants.{CursorClose, WatchOn, WatchOff}
 use Rattle.wot_script.specs.declared.reply.Reply.{Reply}
 use Rattle.wot_script.specs.declared.reply.Reply.TheVariants as replies
 use Rattle.wot_script.specs.Replies.{HasWords}
@@ -19,7 +22,8 @@ use Rattle.wot_cache.specs.State.{IsState, State}
 use Rattle.wot_cache.specs.Turns.{Turns}
 use Rattle.wot_cache.specs.Views.{Views, view_at}
 use Rattle.wot_cursor.specs.Age.{age_of}
-use Rattle.wot_cursor.specs.Cursors.{Cursor, Cursors, begun, cursor_at, is_full, with_cursor, with_place, without_cursor}
+use Rattle.wot_cursor.specs.Cursors.{Cursor, Cursors, begun, cursor_at, is_full, with_cursor, with_place}
+use Rattle.wot_cursor.specs.Cursors.{without_cursor}
 use Rattle.wot_cursor.specs.declared.stamps.Age.{Age}
 use Rattle.wot_watch.specs.Watches.{Watches}
 use Rattle.wot_cursor.specs.declared.stamps.Age.TheVariants as ages
@@ -29,7 +33,8 @@ use Rattle.wot_explain.specs.Piece.{piece_of}
 use Rattle.wot_policy.specs.declared.rows.PolicyRows.{PolicyRows}
 use Rattle.wot_machine.specs.LineStep.{Does}
 use Rattle.wot_machine.specs.Listing.{AreBindings}
-use Rattle.wot_machine.specs.Pacing.{Begins, Ends, GivesPiece, Goes, GoesBy, GoesFrom, Leaves, Paces, behind, is_pacing, last_place, piece, place_of, stamps_in}
+use Rattle.wot_machine.specs.Pacing.{Begins, Ends, GivesPiece, Goes, GoesBy, GoesFrom, Leaves, Paces, behind, is_pacing}
+use Rattle.wot_machine.specs.Pacing.{last_place, piece, place_of, stamps_in}
 use Rattle.wot_machine.specs.Entry.{unused, use_of}
 use Rattle.wot_machine.specs.Served.{Served}
 use Rattle.wot_machine.specs.Whole.{IsTurnedBy, Whole, watched}
@@ -66,7 +71,8 @@ paced_cases P over next close (WatchOn watch view target wanted uid) e = absurd 
 paced_cases P over next close (WatchOff watch) e = absurd (cc e)
 
 -- the other commands leave the cursors
-plain_is : (s : Whole) (command : Command) (reply : Reply) (cursors : Cursors) → is_pacing command ≡ false → Paces s command reply cursors ≡ (cursors ≡ s.cursors)
+plain_is : (s : Whole) (command : Command) (reply : Reply) (cursors : Cursors) → is_pacing command ≡ false →
+    Paces s command reply cursors ≡ (cursors ≡ s.cursors)
 plain_is s (Import octets) reply cursors e = refl
 plain_is s (Load name) reply cursors e = refl
 plain_is s (Store fpr) reply cursors e = refl
@@ -92,37 +98,46 @@ plain_is s (CursorOver name view wanted) reply cursors e = absurd (cc e)
 plain_is s (CursorNext name count) reply cursors e = absurd (cc e)
 plain_is s (CursorClose name) reply cursors e = absurd (cc e)
 
-pub paces_plain : (s : Whole) (command : Command) (reply : Reply) → is_pacing command ≡ false → Paces s command reply s.cursors
+pub paces_plain : (s : Whole) (command : Command) (reply : Reply) → is_pacing command ≡ false →
+    Paces s command reply s.cursors
 paces_plain s command reply e = subst (λ (P : Type 0). P) (sym (plain_is s command reply s.cursors e)) refl
 
-pub plain_paces : (s : Whole) (command : Command) (reply : Reply) (cursors : Cursors) → is_pacing command ≡ false → Paces s command reply cursors → cursors ≡ s.cursors
+pub plain_paces : (s : Whole) (command : Command) (reply : Reply) (cursors : Cursors) → is_pacing command ≡ false →
+    Paces s command reply cursors → cursors ≡ s.cursors
 plain_paces s command reply cursors e p = subst (λ (P : Type 0). P) (plain_is s command reply cursors e) p
 
 -- ---- watches don't matter to them
 
-begins_watched : (s : Whole) (watches : Watches) (name view : List ℕ) (wanted : ℕ) (o : Option View) (reply : Reply) (cursors : Cursors) → Begins s name view wanted o reply cursors
+begins_watched : (s : Whole) (watches : Watches) (name view : List ℕ) (wanted : ℕ) (o : Option View) (reply : Reply)
+    (cursors : Cursors) → Begins s name view wanted o reply cursors
     → Begins (watched s watches) name view wanted o reply cursors
 begins_watched s watches name view wanted None reply cursors p = p
 begins_watched s watches name view wanted (Some there) reply cursors p = p
 
-by_watched : (s : Whole) (watches : Watches) (age : Age) (name : List ℕ) (count : ℕ) (cursor : Cursor) (view : View) (reply : Reply) (cursors : Cursors)
-    → GoesBy age s name count cursor view reply cursors → GoesBy age (watched s watches) name count cursor view reply cursors
+by_watched : (s : Whole) (watches : Watches) (age : Age) (name : List ℕ) (count : ℕ) (cursor : Cursor) (view : View)
+    (reply : Reply) (cursors : Cursors)
+    → GoesBy age s name count cursor view reply cursors → GoesBy age (watched s watches) name count cursor view reply
+    cursors
 by_watched s watches ages.Same name count cursor view reply cursors p = p
 by_watched s watches (ages.Keyring was now) name count cursor view reply cursors p = p
 by_watched s watches (ages.View was now) name count cursor view reply cursors p = p
 
-from_watched : (s : Whole) (watches : Watches) (o : Option View) (name : List ℕ) (count : ℕ) (cursor : Cursor) (reply : Reply) (cursors : Cursors)
+from_watched : (s : Whole) (watches : Watches) (o : Option View) (name : List ℕ) (count : ℕ) (cursor : Cursor)
+    (reply : Reply) (cursors : Cursors)
     → GoesFrom o s name count cursor reply cursors → GoesFrom o (watched s watches) name count cursor reply cursors
 from_watched s watches None name count cursor reply cursors p = p
 from_watched s watches (Some view) name count cursor reply cursors p =
     by_watched s watches (age_of cursor.stamps (stamps_in s cursor.view)) name count cursor view reply cursors p
 
-goes_watched : (s : Whole) (watches : Watches) (o : Option Cursor) (name : List ℕ) (count : ℕ) (reply : Reply) (cursors : Cursors) → Goes o s name count reply cursors
+goes_watched : (s : Whole) (watches : Watches) (o : Option Cursor) (name : List ℕ) (count : ℕ) (reply : Reply)
+    (cursors : Cursors) → Goes o s name count reply cursors
     → Goes o (watched s watches) name count reply cursors
 goes_watched s watches None name count reply cursors p = p
-goes_watched s watches (Some cursor) name count reply cursors p = from_watched s watches (view_at s.state.views cursor.view) name count cursor reply cursors p
+goes_watched s watches (Some cursor) name count reply cursors p =
+    from_watched s watches (view_at s.state.views cursor.view) name count cursor reply cursors p
 
-pub paces_watched : (s : Whole) (watches : Watches) (command : Command) (reply : Reply) (cursors : Cursors) → is_pacing command ≡ true → Paces s command reply cursors
+pub paces_watched : (s : Whole) (watches : Watches) (command : Command) (reply : Reply) (cursors : Cursors) →
+    is_pacing command ≡ true → Paces s command reply cursors
     → Paces (watched s watches) command reply cursors
 paces_watched s watches command reply cursors e =
     paced_cases (λ (c : Command). Paces s c reply cursors → Paces (watched s watches) c reply cursors)
@@ -131,67 +146,90 @@ paces_watched s watches command reply cursors e =
 
 -- ---- they leave the state, the turns and the shelf
 
-pub state_paced : (rows : PolicyRows) (old : State) (command : Command) (given : Served) (reply : Reply) → is_pacing command ≡ true → Does rows old command given reply old
+pub state_paced : (rows : PolicyRows) (old : State) (command : Command) (given : Served) (reply : Reply) →
+    is_pacing command ≡ true → Does rows old command given reply old
 state_paced rows old command given reply e =
-    paced_cases (λ (c : Command). Does rows old c given reply old) (λ name view wanted. refl) (λ name count. refl) (λ name. refl) command e
+    paced_cases (λ (c : Command). Does rows old c given reply old) (λ name view wanted. refl) (λ name count. refl)
+    (λ name. refl) command e
 
-pub paced_state : (rows : PolicyRows) (old : State) (command : Command) (given : Served) (reply : Reply) (new : State) → is_pacing command ≡ true → Does rows old command given reply new → new ≡ old
+pub paced_state : (rows : PolicyRows) (old : State) (command : Command) (given : Served) (reply : Reply) (new : State) →
+    is_pacing command ≡ true → Does rows old command given reply new → new ≡ old
 paced_state rows old command given reply new e d =
-    paced_cases (λ (c : Command). Does rows old c given reply new → new ≡ old) (λ name view wanted p. p) (λ name count p. p) (λ name p. p) command e d
+    paced_cases (λ (c : Command). Does rows old c given reply new → new ≡ old) (λ name view wanted p. p)
+    (λ name count p. p) (λ name p. p) command e d
 
-pub turns_paced : (command : Command) (old new : Views) (before after : Turns) → is_pacing command ≡ true → after ≡ before → IsTurnedBy command old before new after
+pub turns_paced : (command : Command) (old new : Views) (before after : Turns) → is_pacing command ≡ true →
+    after ≡ before → IsTurnedBy command old before new after
 turns_paced command old new before after e same =
-    paced_cases (λ (c : Command). IsTurnedBy c old before new after) (λ name view wanted. same) (λ name count. same) (λ name. same) command e
+    paced_cases (λ (c : Command). IsTurnedBy c old before new after) (λ name view wanted. same) (λ name count. same)
+    (λ name. same) command e
 
 pub uncalled_paced : (command : Command) → is_pacing command ≡ true → use_of (Some command) ≡ unused
 uncalled_paced command e =
-    paced_cases (λ (c : Command). use_of (Some c) ≡ unused) (λ name view wanted. refl) (λ name count. refl) (λ name. refl) command e
+    paced_cases (λ (c : Command). use_of (Some c) ≡ unused) (λ name view wanted. refl) (λ name count. refl)
+    (λ name. refl) command e
 
 -- ---- words
 
-left_worded : (told reply : Reply) (left cursors : Cursors) → HasWords told → Leaves told left reply cursors → HasWords reply
+left_worded : (told reply : Reply) (left cursors : Cursors) → HasWords told → Leaves told left reply cursors →
+    HasWords reply
 left_worded told reply left cursors words l = subst HasWords (sym l.0) words
 
-if_worded : (b : Bool) (P Q : Type 0) (reply : Reply) → (P → HasWords reply) → (Q → HasWords reply) → MatchBool b P Q → HasWords reply
+if_worded : (b : Bool) (P Q : Type 0) (reply : Reply) → (P → HasWords reply) → (Q → HasWords reply) → MatchBool b P Q →
+    HasWords reply
 if_worded true P Q reply f g p = f p
 if_worded false P Q reply f g q = g q
 
-begins_worded : (s : Whole) (name view : List ℕ) (wanted : ℕ) (o : Option View) (reply : Reply) (cursors : Cursors) → Begins s name view wanted o reply cursors → HasWords reply
+begins_worded : (s : Whole) (name view : List ℕ) (wanted : ℕ) (o : Option View) (reply : Reply) (cursors : Cursors) →
+    Begins s name view wanted o reply cursors → HasWords reply
 begins_worded s name view wanted None reply cursors l = left_worded replies.View reply s.cursors cursors tt l
 begins_worded s name view wanted (Some there) reply cursors l =
     if_worded (is_full s.cursors name) _ _ reply (left_worded replies.FullCursors reply s.cursors cursors tt)
     (left_worded replies.Done reply (with_cursor s.cursors name (begun view wanted (stamps_in s view))) cursors tt) l
 
-gives_worded : (s : Whole) (name : List ℕ) (count : ℕ) (cursor : Cursor) (view : View) (reply : Reply) (cursors : Cursors)
+gives_worded : (s : Whole) (name : List ℕ) (count : ℕ) (cursor : Cursor) (view : View) (reply : Reply)
+    (cursors : Cursors)
     → GivesPiece s name count cursor view reply cursors → HasWords reply
 gives_worded s name count cursor view reply cursors g =
-    if_worded (cursor.wanted == 0) _ _ reply (left_worded (piece []) reply s.cursors cursors tt) (λ p. left_worded (piece (piece_of cursor.place count p.0)) reply _ cursors tt p.2) g
+    if_worded (cursor.wanted == 0) _ _ reply (left_worded (piece []) reply s.cursors cursors tt)
+    (λ p. left_worded (piece (piece_of cursor.place count p.0)) reply _ cursors tt p.2) g
 
-by_worded : (age : Age) (s : Whole) (name : List ℕ) (count : ℕ) (cursor : Cursor) (view : View) (reply : Reply) (cursors : Cursors)
+by_worded : (age : Age) (s : Whole) (name : List ℕ) (count : ℕ) (cursor : Cursor) (view : View) (reply : Reply)
+    (cursors : Cursors)
     → GoesBy age s name count cursor view reply cursors → HasWords reply
 by_worded ages.Same s name count cursor view reply cursors g = gives_worded s name count cursor view reply cursors g
-by_worded (ages.Keyring was now) s name count cursor view reply cursors g = left_worded (replies.StaleKeyring was now) reply s.cursors cursors tt g
-by_worded (ages.View was now) s name count cursor view reply cursors g = left_worded (replies.StaleView was now) reply s.cursors cursors tt g
+by_worded (ages.Keyring was now) s name count cursor view reply cursors g =
+    left_worded (replies.StaleKeyring was now) reply s.cursors cursors tt g
+by_worded (ages.View was now) s name count cursor view reply cursors g =
+    left_worded (replies.StaleView was now) reply s.cursors cursors tt g
 
-from_worded : (o : Option View) (s : Whole) (name : List ℕ) (count : ℕ) (cursor : Cursor) (reply : Reply) (cursors : Cursors)
+from_worded : (o : Option View) (s : Whole) (name : List ℕ) (count : ℕ) (cursor : Cursor) (reply : Reply)
+    (cursors : Cursors)
     → GoesFrom o s name count cursor reply cursors → HasWords reply
 from_worded None s name count cursor reply cursors g = left_worded replies.View reply s.cursors cursors tt g
-from_worded (Some view) s name count cursor reply cursors g = by_worded (age_of cursor.stamps (stamps_in s cursor.view)) s name count cursor view reply cursors g
+from_worded (Some view) s name count cursor reply cursors g = by_worded (age_of cursor.stamps (stamps_in s cursor.view))
+    s name count cursor view reply cursors g
 
-goes_worded : (o : Option Cursor) (s : Whole) (name : List ℕ) (count : ℕ) (reply : Reply) (cursors : Cursors) → Goes o s name count reply cursors → HasWords reply
+goes_worded : (o : Option Cursor) (s : Whole) (name : List ℕ) (count : ℕ) (reply : Reply) (cursors : Cursors) →
+    Goes o s name count reply cursors → HasWords reply
 goes_worded None s name count reply cursors g = left_worded replies.NoCursor reply s.cursors cursors tt g
-goes_worded (Some cursor) s name count reply cursors g = from_worded (view_at s.state.views cursor.view) s name count cursor reply cursors g
+goes_worded (Some cursor) s name count reply cursors g = from_worded (view_at s.state.views cursor.view) s name count
+    cursor reply cursors g
 
-ends_worded : (s : Whole) (name : List ℕ) (reply : Reply) (cursors : Cursors) → Ends s name reply cursors → HasWords reply
+ends_worded : (s : Whole) (name : List ℕ) (reply : Reply) (cursors : Cursors) → Ends s name reply cursors →
+    HasWords reply
 ends_worded s name reply cursors l =
-    if_worded (is_some (cursor_at s.cursors name)) _ _ reply (left_worded replies.Done reply (without_cursor s.cursors name) cursors tt)
+    if_worded (is_some (cursor_at s.cursors name)) _ _ reply
+    (left_worded replies.Done reply (without_cursor s.cursors name) cursors tt)
     (left_worded replies.NoCursor reply s.cursors cursors tt) l
 
-pub paces_worded : (s : Whole) (command : Command) (reply : Reply) (cursors : Cursors) → is_pacing command ≡ true → Paces s command reply cursors → HasWords reply
+pub paces_worded : (s : Whole) (command : Command) (reply : Reply) (cursors : Cursors) → is_pacing command ≡ true →
+    Paces s command reply cursors → HasWords reply
 paces_worded s command reply cursors e p =
     paced_cases (λ (c : Command). Paces s c reply cursors → HasWords reply)
     (λ name view wanted. begins_worded s name view wanted (view_at s.state.views view) reply cursors)
-    (λ name count. goes_worded (cursor_at s.cursors name) s name count reply cursors) (λ name. ends_worded s name reply cursors) command e p
+    (λ name count. goes_worded (cursor_at s.cursors name) s name count reply cursors)
+    (λ name. ends_worded s name reply cursors) command e p
 
 -- ---- one reply
 
@@ -207,59 +245,78 @@ leaves_one told left r s m n p q = (p.0 ∙ sym q.0, p.1 ∙ sym q.1)
 leaves_some : (told : Reply) (left : Cursors) → IsSomeOf (Leaves told left)
 leaves_some told left = (told, left, (refl, refl))
 
-if_one : (b : Bool) (P Q : Reply → Cursors → Type 0) → IsOneOf P → IsOneOf Q → IsOneOf (λ r m. MatchBool b (P r m) (Q r m))
+if_one : (b : Bool) (P Q : Reply → Cursors → Type 0) → IsOneOf P → IsOneOf Q →
+    IsOneOf (λ r m. MatchBool b (P r m) (Q r m))
 if_one true P Q p q = p
 if_one false P Q p q = q
 
-if_some : (b : Bool) (P Q : Reply → Cursors → Type 0) → IsSomeOf P → (b ≡ false → IsSomeOf Q) → IsSomeOf (λ r m. MatchBool b (P r m) (Q r m))
+if_some : (b : Bool) (P Q : Reply → Cursors → Type 0) → IsSomeOf P → (b ≡ false → IsSomeOf Q) →
+    IsSomeOf (λ r m. MatchBool b (P r m) (Q r m))
 if_some true P Q p q = p
 if_some false P Q p q = q refl
 
 module _
     (lawful : (s : State) (t : ℕ) (u : List ℕ) → IsState s → IsRecord (record_of s.held.certs s.held.verdicts t u))
-    (list_some : (told : List ℕ → Record) (roots : List (Fpr × ℕ)) (wanted : ℕ) (pairs : List Pair) → 1 ≤ wanted → (binds : List Bind) × IsListed told roots wanted pairs binds)
-    (list_one : (told : List ℕ → Record) (roots : List (Fpr × ℕ)) (wanted : ℕ) (pairs : List Pair) (a b : List Bind) → ((u : List ℕ) → IsRecord (told u))
+    (list_some : (told : List ℕ → Record) (roots : List (Fpr × ℕ)) (wanted : ℕ) (pairs : List Pair) → 1 ≤ wanted →
+    (binds : List Bind) × IsListed told roots wanted pairs binds)
+    (list_one : (told : List ℕ → Record) (roots : List (Fpr × ℕ)) (wanted : ℕ) (pairs : List Pair) (a b : List Bind) →
+    ((u : List ℕ) → IsRecord (told u))
     → IsListed told roots wanted pairs a → IsListed told roots wanted pairs b → a ≡ b)
     (s : Whole)
   where
     listed_one : (name : List ℕ) (count : ℕ) (cursor : Cursor) (view : View) → IsState s.state
         → IsOneOf (λ r m. (all : List Bind) × AreBindings s.state view cursor.wanted all
-        × Leaves (piece (piece_of cursor.place count all)) (behind s.cursors name (piece_of cursor.place count all)) r m)
+        × Leaves (piece (piece_of cursor.place count all)) (behind s.cursors name (piece_of cursor.place count all)) r
+        m)
     listed_one name count cursor view can r t m n p q =
         let same : p.0 ≡ q.0 =
-        list_one (record_of s.state.held.certs s.state.held.verdicts view.time) view.roots cursor.wanted (pairs_in s.state.held.certs) p.0 q.0
+        list_one (record_of s.state.held.certs s.state.held.verdicts view.time) view.roots cursor.wanted
+        (pairs_in s.state.held.certs) p.0 q.0
         (λ u. lawful s.state view.time u can) p.1 q.1 in (
           p.2.0 ∙ ap (λ (all : List Bind). piece (piece_of cursor.place count all)) same ∙ sym q.2.0,
           p.2.1 ∙ ap (λ (all : List Bind). behind s.cursors name (piece_of cursor.place count all)) same ∙ sym q.2.1,
         )
 
-    gives_one : (name : List ℕ) (count : ℕ) (cursor : Cursor) (view : View) → IsState s.state → IsOneOf (GivesPiece s name count cursor view)
-    gives_one name count cursor view can = if_one (cursor.wanted == 0) (Leaves (piece []) s.cursors) _ (leaves_one (piece []) s.cursors) (listed_one name count cursor view can)
+    gives_one : (name : List ℕ) (count : ℕ) (cursor : Cursor) (view : View) → IsState s.state →
+        IsOneOf (GivesPiece s name count cursor view)
+    gives_one name count cursor view can = if_one (cursor.wanted == 0) (Leaves (piece []) s.cursors) _
+        (leaves_one (piece []) s.cursors) (listed_one name count cursor view can)
 
-    gives_some : (name : List ℕ) (count : ℕ) (cursor : Cursor) (view : View) → IsSomeOf (GivesPiece s name count cursor view)
+    gives_some : (name : List ℕ) (count : ℕ) (cursor : Cursor) (view : View) →
+        IsSomeOf (GivesPiece s name count cursor view)
     gives_some name count cursor view =
         if_some (cursor.wanted == 0) (Leaves (piece []) s.cursors) _ (leaves_some (piece []) s.cursors) (λ some.
         let other = eqb-false cursor.wanted 0 some in
-        let all = list_some (record_of s.state.held.certs s.state.held.verdicts view.time) view.roots cursor.wanted (pairs_in s.state.held.certs) (omega (arith, other)) in
-        (piece (piece_of cursor.place count all.0), behind s.cursors name (piece_of cursor.place count all.0), (all.0, all.1, (refl, refl))))
+        let all = list_some (record_of s.state.held.certs s.state.held.verdicts view.time) view.roots cursor.wanted
+        (pairs_in s.state.held.certs) (omega (arith, other)) in (
+          piece (piece_of cursor.place count all.0),
+          behind s.cursors name (piece_of cursor.place count all.0),
+          (all.0, all.1, (refl, refl)),
+        ))
 
-    by_one : (age : Age) (name : List ℕ) (count : ℕ) (cursor : Cursor) (view : View) → IsState s.state → IsOneOf (GoesBy age s name count cursor view)
+    by_one : (age : Age) (name : List ℕ) (count : ℕ) (cursor : Cursor) (view : View) → IsState s.state →
+        IsOneOf (GoesBy age s name count cursor view)
     by_one ages.Same name count cursor view can = gives_one name count cursor view can
     by_one (ages.Keyring was now) name count cursor view can = leaves_one (replies.StaleKeyring was now) s.cursors
     by_one (ages.View was now) name count cursor view can = leaves_one (replies.StaleView was now) s.cursors
 
-    by_some : (age : Age) (name : List ℕ) (count : ℕ) (cursor : Cursor) (view : View) → IsSomeOf (GoesBy age s name count cursor view)
+    by_some : (age : Age) (name : List ℕ) (count : ℕ) (cursor : Cursor) (view : View) →
+        IsSomeOf (GoesBy age s name count cursor view)
     by_some ages.Same name count cursor view = gives_some name count cursor view
     by_some (ages.Keyring was now) name count cursor view = leaves_some (replies.StaleKeyring was now) s.cursors
     by_some (ages.View was now) name count cursor view = leaves_some (replies.StaleView was now) s.cursors
 
-    from_one : (o : Option View) (name : List ℕ) (count : ℕ) (cursor : Cursor) → IsState s.state → IsOneOf (GoesFrom o s name count cursor)
+    from_one : (o : Option View) (name : List ℕ) (count : ℕ) (cursor : Cursor) → IsState s.state →
+        IsOneOf (GoesFrom o s name count cursor)
     from_one None name count cursor can = leaves_one replies.View s.cursors
-    from_one (Some view) name count cursor can = by_one (age_of cursor.stamps (stamps_in s cursor.view)) name count cursor view can
+    from_one (Some view) name count cursor can = by_one (age_of cursor.stamps (stamps_in s cursor.view)) name count
+        cursor view can
 
-    from_some : (o : Option View) (name : List ℕ) (count : ℕ) (cursor : Cursor) → IsSomeOf (GoesFrom o s name count cursor)
+    from_some : (o : Option View) (name : List ℕ) (count : ℕ) (cursor : Cursor) →
+        IsSomeOf (GoesFrom o s name count cursor)
     from_some None name count cursor = leaves_some replies.View s.cursors
-    from_some (Some view) name count cursor = by_some (age_of cursor.stamps (stamps_in s cursor.view)) name count cursor view
+    from_some (Some view) name count cursor = by_some (age_of cursor.stamps (stamps_in s cursor.view)) name count cursor
+        view
 
     goes_one : (o : Option Cursor) (name : List ℕ) (count : ℕ) → IsState s.state → IsOneOf (Goes o s name count)
     goes_one None name count can = leaves_one replies.NoCursor s.cursors
@@ -272,51 +329,61 @@ module _
     begins_one : (name view : List ℕ) (wanted : ℕ) (o : Option View) → IsOneOf (Begins s name view wanted o)
     begins_one name view wanted None = leaves_one replies.View s.cursors
     begins_one name view wanted (Some there) =
-        if_one (is_full s.cursors name) (Leaves replies.FullCursors s.cursors) _ (leaves_one replies.FullCursors s.cursors)
+        if_one (is_full s.cursors name) (Leaves replies.FullCursors s.cursors) _
+        (leaves_one replies.FullCursors s.cursors)
         (leaves_one replies.Done (with_cursor s.cursors name (begun view wanted (stamps_in s view))))
 
     begins_some : (name view : List ℕ) (wanted : ℕ) (o : Option View) → IsSomeOf (Begins s name view wanted o)
     begins_some name view wanted None = leaves_some replies.View s.cursors
     begins_some name view wanted (Some there) =
-        if_some (is_full s.cursors name) (Leaves replies.FullCursors s.cursors) _ (leaves_some replies.FullCursors s.cursors)
+        if_some (is_full s.cursors name) (Leaves replies.FullCursors s.cursors) _
+        (leaves_some replies.FullCursors s.cursors)
         (λ room. leaves_some replies.Done (with_cursor s.cursors name (begun view wanted (stamps_in s view))))
 
     ends_one : (name : List ℕ) → IsOneOf (Ends s name)
     ends_one name =
-        if_one (is_some (cursor_at s.cursors name)) (Leaves replies.Done (without_cursor s.cursors name)) _ (leaves_one replies.Done (without_cursor s.cursors name))
+        if_one (is_some (cursor_at s.cursors name)) (Leaves replies.Done (without_cursor s.cursors name)) _
+        (leaves_one replies.Done (without_cursor s.cursors name))
         (leaves_one replies.NoCursor s.cursors)
 
     ends_some : (name : List ℕ) → IsSomeOf (Ends s name)
     ends_some name =
-        if_some (is_some (cursor_at s.cursors name)) (Leaves replies.Done (without_cursor s.cursors name)) _ (leaves_some replies.Done (without_cursor s.cursors name))
+        if_some (is_some (cursor_at s.cursors name)) (Leaves replies.Done (without_cursor s.cursors name)) _
+        (leaves_some replies.Done (without_cursor s.cursors name))
         (λ none. leaves_some replies.NoCursor s.cursors)
 
     pub paces_one : (command : Command) → is_pacing command ≡ true → IsState s.state → IsOneOf (Paces s command)
     paces_one command e can =
-        paced_cases (λ (c : Command). IsOneOf (Paces s c)) (λ name view wanted. begins_one name view wanted (view_at s.state.views view))
+        paced_cases (λ (c : Command). IsOneOf (Paces s c)) (λ name view wanted. begins_one name view wanted
+        (view_at s.state.views view))
         (λ name count. goes_one (cursor_at s.cursors name) name count can) (λ name. ends_one name) command e
 
     pub paces_some : (command : Command) → is_pacing command ≡ true → IsSomeOf (Paces s command)
     paces_some command e =
-        paced_cases (λ (c : Command). IsSomeOf (Paces s c)) (λ name view wanted. begins_some name view wanted (view_at s.state.views view))
+        paced_cases (λ (c : Command). IsSomeOf (Paces s c)) (λ name view wanted. begins_some name view wanted
+        (view_at s.state.views view))
         (λ name count. goes_some (cursor_at s.cursors name) name count) (λ name. ends_some name) command e
 
 -- ---- places
 
-last_is : (bind : Bind) (binds : List Bind) (last : Bind) → slice_get (bind ∷ binds) (length binds) ≡ Some last → last_place bind binds ≡ place_of last
+last_is : (bind : Bind) (binds : List Bind) (last : Bind) → slice_get (bind ∷ binds) (length binds) ≡ Some last →
+    last_place bind binds ≡ place_of last
 last_is bind [] last e = ap place_of (same_Some bind last e)
 last_is bind (next ∷ binds) last e = last_is next binds last e
 
 -- the place of the last binding is where the cursor goes
-pub behind_last : (cursors : Cursors) (name : List ℕ) (binds : List Bind) (last : Bind) → slice_get binds (length binds - 1) ≡ Some last
+pub behind_last : (cursors : Cursors) (name : List ℕ) (binds : List Bind) (last : Bind) →
+    slice_get binds (length binds - 1) ≡ Some last
     → with_place cursors name (place_of last) ≡ behind cursors name binds
 behind_last cursors name [] last e = absurd cc
 behind_last cursors name (bind ∷ binds) last e =
     let size : length (bind ∷ binds) - 1 ≡ length binds = omega arith in
     ap (with_place cursors name) (sym (last_is bind binds last (sym (ap (slice_get (bind ∷ binds)) size) ∙ e)))
 
-pub moved_to : (cursors : Cursors) (name other : List ℕ) (place : Place) (binds : List Bind) (last : Bind) → other ≡ name → place.fpr ≡ last.fpr → place.uid ≡ last.uid
+pub moved_to : (cursors : Cursors) (name other : List ℕ) (place : Place) (binds : List Bind) (last : Bind) →
+    other ≡ name → place.fpr ≡ last.fpr → place.uid ≡ last.uid
     → Some last ≡ slice_get binds (length binds - 1) → with_place cursors other place ≡ behind cursors name binds
 moved_to cursors name other place binds last n f u e =
-    let there : with_place cursors other place ≡ with_place cursors name (place_of last) = λ i. with_place cursors (n i) (record { fpr = f i; uid = u i }) in
+    let there : with_place cursors other place ≡ with_place cursors name (place_of last) =
+    λ i. with_place cursors (n i) (record { fpr = f i; uid = u i }) in
     there ∙ behind_last cursors name binds last (sym e)

@@ -1,5 +1,6 @@
 -- A line that is refused leaves the state.
-use Rattle.std.proofs.Common.{◌≡◌, ◌∙◌, inl, inr, ℕ, ◌==◌, [], Bool, true, false, cond, List, length, Option, Some, None, Result, Ok, Err, refl, sym, ap}
+use Rattle.std.proofs.Common.{◌≡◌, ◌∙◌, inl, inr, ℕ, ◌==◌, [], Bool, true, false, cond, List, length, Option, Some}
+use Rattle.std.proofs.Common.{None, Result, Ok, Err, refl, sym, ap}
 use Rattle.std.specs.Prelude.{MatchBool, nat_lt, is_some}
 use Rattle.wot_types.specs.declared.limits.Limit.TheVariants as words
 use Rattle.wot_types.specs.declared.name.Name.{Name}
@@ -15,7 +16,10 @@ use Rattle.wot_keyring.specs.Held.{cert_in, verdict_set, removing, verdict_clear
 use Rattle.wot_keyring.specs.Import.{answer_to, answer_under, is_entry}
 use Rattle.wot_keyring.specs.Verdict.{is_over}
 use Rattle.wot_script.specs.declared.command.Command.{Command}
-use Rattle.wot_script.specs.declared.command.Command.TheVariants.{Import, Load, Store, Remove, Good, Bad, Unjudge, Time, Root, Close, Ask, Explain, Absence, Check, Pending, Keys, Export, Dump, CursorOver, CursorNext, CursorClose, WatchOn, WatchOff}
+use Rattle.wot_script.specs.declared.command.Command.TheVariants.{Import, Load, Store, Remove, Good, Bad, Unjudge, Time}
+use Rattle.wot_script.specs.declared.command.Command.TheVariants.{Root, Close, Ask, Explain, Absence, Check, Pending}
+use Rattle.wot_script.specs.declared.command.Command.TheVariants.{Keys, Export, Dump, CursorOver, CursorNext}
+use Rattle.wot_script.specs.declared.command.Command.TheVariants.{CursorClose, WatchOn, WatchOff}
 use Rattle.wot_script.specs.declared.reply.Reply.{Reply}
 use Rattle.wot_script.specs.declared.reply.Reply.TheVariants as replies
 use Rattle.wot_script.specs.Grammar.{command_of}
@@ -25,7 +29,8 @@ use Rattle.wot_cache.specs.State.{State, with_held, rooting, timing, closing}
 use Rattle.wot_cache.specs.Views.{view_at, time_fault, root_fault}
 use Rattle.wot_machine.specs.Law.{is_refused}
 use Rattle.wot_machine.specs.Lines.{is_silent, longest}
-use Rattle.wot_machine.specs.Outcome.{Outcome, only, done, imports, import, load, remove, set_verdict, clear_verdict, time, root, close, unless, keys, export, dump}
+use Rattle.wot_machine.specs.Outcome.{Outcome, only, done, imports, import, load, remove, set_verdict, clear_verdict}
+use Rattle.wot_machine.specs.Outcome.{time, root, close, unless, keys, export, dump}
 use Rattle.wot_machine.specs.Listing.{explain, pending}
 use Rattle.wot_machine.specs.LineStep.{LineStep, Answers, Does, Gives, Obeys, Stays}
 use Rattle.wot_cache.specs.declared.view.View.{View}
@@ -35,7 +40,8 @@ use Rattle.wot_cursor.specs.declared.stamps.Age.{Age}
 use Rattle.wot_cursor.specs.declared.stamps.Age.TheVariants as ages
 use Rattle.wot_explain.specs.Piece.{piece_of}
 use Rattle.wot_machine.specs.Pacing as pacing
-use Rattle.wot_machine.specs.Pacing.{Begins, Ends, GivesPiece, Goes, GoesBy, GoesFrom, Paces, behind, is_pacing, piece, stamps_in}
+use Rattle.wot_machine.specs.Pacing.{Begins, Ends, GivesPiece, Goes, GoesBy, GoesFrom, Paces, behind, is_pacing, piece}
+use Rattle.wot_machine.specs.Pacing.{stamps_in}
 use Rattle.wot_machine.specs.Whole.{IsCounted, Whole}
 use Rattle.wot_machine.proofs.Paced.{paced_cases, plain_paces}
 use Rattle.wot_machine.specs.Watching.{is_watching}
@@ -59,7 +65,8 @@ unless_leaves : (s new : State) (fault : Option ViewFault) → Leaves s (unless 
 unless_leaves s new None = done_leaves s new
 unless_leaves s new (Some fault) = λ _. refl
 
-imports_leaves : (rows : PolicyRows) (s : State) (octets : List ℕ) (answer : Result Imported Refusal) → Leaves s (imports rows s octets answer)
+imports_leaves : (rows : PolicyRows) (s : State) (octets : List ℕ) (answer : Result Imported Refusal) →
+    Leaves s (imports rows s octets answer)
 imports_leaves rows s octets (Ok counts) e = absurd (cc e)
 imports_leaves rows s octets (Err fault) e = refl
 
@@ -67,34 +74,47 @@ load_leaves : (rows : PolicyRows) (s : State) (name : Name) (answer : Answer) �
 load_leaves rows s name Answer.fault e = refl
 load_leaves rows s name Answer.absent e = refl
 load_leaves rows s name Answer.long e = refl
-load_leaves rows s name (Answer.entry octets) e = imports_leaves rows s octets (answer_under (is_entry name) rows standard_limits s.held.certs octets) e
+load_leaves rows s name (Answer.entry octets) e =
+    imports_leaves rows s octets (answer_under (is_entry name) rows standard_limits s.held.certs octets) e
 
 set_verdict_leaves : (s : State) (number : SigNumber) (v : Verdict) → Leaves s (set_verdict s number v)
 set_verdict_leaves s number v =
-    either (is_over standard_limits s.held.verdicts number) s (only s (replies.Full words.Verdicts)) (done (with_held s (verdict_set number v s.held)))
+    either (is_over standard_limits s.held.verdicts number) s (only s (replies.Full words.Verdicts))
+    (done (with_held s (verdict_set number v s.held)))
     (λ _. refl) (done_leaves s (with_held s (verdict_set number v s.held)))
 
 -- what gives such an outcome leaves the state where it is refused
-given : (s : State) (outcome : Outcome) (r : Reply) (m : State) → Leaves s outcome → Gives outcome r m → is_refused r ≡ true → m ≡ s
+given : (s : State) (outcome : Outcome) (r : Reply) (m : State) → Leaves s outcome → Gives outcome r m →
+    is_refused r ≡ true → m ≡ s
 given s outcome r m leaves g e = g.1 ∙ leaves (ap is_refused (sym g.0) ∙ e)
 
-does : (rows : PolicyRows) (s : State) (command : Command) (answer : Served) (r : Reply) (m : State) → Does rows s command answer r m → is_refused r ≡ true → m ≡ s
-does rows s (Import octets) answer r m = given s (import rows s octets) r m (imports_leaves rows s octets (answer_to rows standard_limits s.held.certs octets))
+does : (rows : PolicyRows) (s : State) (command : Command) (answer : Served) (r : Reply) (m : State) →
+    Does rows s command answer r m → is_refused r ≡ true → m ≡ s
+does rows s (Import octets) answer r m =
+    given s (import rows s octets) r m
+    (imports_leaves rows s octets (answer_to rows standard_limits s.held.certs octets))
 does rows s (Load name) answer r m = given s (load rows s name answer.read) r m (load_leaves rows s name answer.read)
 does rows s (Store fpr) answer r m = given s (store s fpr answer) r m (λ _. refl)
 does rows s (Remove fpr) answer r m =
     given s (remove s fpr) r m
-    (either (is_some (cert_in s.held fpr)) s (done (with_held s (removing fpr s.held))) (only s replies.Absent) (done_leaves s (with_held s (removing fpr s.held))) (λ _. refl))
-does rows s (Good number fpr) answer r m = given s (set_verdict s number (verdicts.Good fpr)) r m (set_verdict_leaves s number (verdicts.Good fpr))
-does rows s (Bad number) answer r m = given s (set_verdict s number verdicts.Bad) r m (set_verdict_leaves s number verdicts.Bad)
+    (either (is_some (cert_in s.held fpr)) s (done (with_held s (removing fpr s.held))) (only s replies.Absent)
+    (done_leaves s (with_held s (removing fpr s.held))) (λ _. refl))
+does rows s (Good number fpr) answer r m = given s (set_verdict s number (verdicts.Good fpr)) r m
+    (set_verdict_leaves s number (verdicts.Good fpr))
+does rows s (Bad number) answer r m = given s (set_verdict s number verdicts.Bad) r m
+    (set_verdict_leaves s number verdicts.Bad)
 does rows s (Unjudge number) answer r m =
     given s (clear_verdict s number) r m
-    (either (is_some (verdict_at s.held.verdicts number)) s (done (with_held s (verdict_cleared number s.held))) (only s replies.Absent) (done_leaves s (with_held s (verdict_cleared number s.held))) (λ _. refl))
-does rows s (Time view t) answer r m = given s (time s view t) r m (unless_leaves s (timing view t s) (time_fault standard_limits s.views view))
+    (either (is_some (verdict_at s.held.verdicts number)) s (done (with_held s (verdict_cleared number s.held)))
+    (only s replies.Absent) (done_leaves s (with_held s (verdict_cleared number s.held))) (λ _. refl))
+does rows s (Time view t) answer r m =
+    given s (time s view t) r m (unless_leaves s (timing view t s) (time_fault standard_limits s.views view))
 does rows s (Root view fpr amount) answer r m =
-    given s (root s view fpr amount) r m (unless_leaves s (rooting view fpr amount s) (root_fault standard_limits (view_at s.views view) fpr amount))
+    given s (root s view fpr amount) r m (unless_leaves s (rooting view fpr amount s)
+    (root_fault standard_limits (view_at s.views view) fpr amount))
 does rows s (Close view) answer r m =
-    given s (close s view) r m (either (is_some (view_at s.views view)) s (done (closing view s)) (only s replies.View) (done_leaves s (closing view s)) (λ _. refl))
+    given s (close s view) r m (either (is_some (view_at s.views view)) s (done (closing view s)) (only s replies.View)
+    (done_leaves s (closing view s)) (λ _. refl))
 does rows s (Ask view target wanted uid) answer r m = λ g _. g.1
 does rows s (Command.List view wanted) answer r m = λ g _. g.1
 does rows s (Explain view fpr uid) answer r m = given s (explain s view fpr uid) r m (λ _. refl)
@@ -112,52 +132,69 @@ does rows s (WatchOff name) answer r m = λ g _. g
 
 -- ---- cursors
 
-left : (told reply : Reply) (old kept cursors : Cursors) → (is_refused told ≡ true → kept ≡ old) → pacing.Leaves told kept reply cursors → is_refused reply ≡ true → cursors ≡ old
+left : (told reply : Reply) (old kept cursors : Cursors) → (is_refused told ≡ true → kept ≡ old) →
+    pacing.Leaves told kept reply cursors → is_refused reply ≡ true → cursors ≡ old
 left told reply old kept cursors same l e = l.1 ∙ same (ap is_refused (sym l.0) ∙ e)
 
-if_left : (b : Bool) (P Q : Type 0) (reply : Reply) (old cursors : Cursors) → (P → is_refused reply ≡ true → cursors ≡ old) → (Q → is_refused reply ≡ true → cursors ≡ old)
+if_left : (b : Bool) (P Q : Type 0) (reply : Reply) (old cursors : Cursors) →
+    (P → is_refused reply ≡ true → cursors ≡ old) → (Q → is_refused reply ≡ true → cursors ≡ old)
     → MatchBool b P Q → is_refused reply ≡ true → cursors ≡ old
 if_left true P Q reply old cursors f g p = f p
 if_left false P Q reply old cursors f g q = g q
 
-begins_left : (s : Whole) (name view : List ℕ) (wanted : ℕ) (o : Option View) (reply : Reply) (cursors : Cursors) → Begins s name view wanted o reply cursors → is_refused reply ≡ true → cursors ≡ s.cursors
+begins_left : (s : Whole) (name view : List ℕ) (wanted : ℕ) (o : Option View) (reply : Reply) (cursors : Cursors) →
+    Begins s name view wanted o reply cursors → is_refused reply ≡ true → cursors ≡ s.cursors
 begins_left s name view wanted None reply cursors l = left replies.View reply s.cursors s.cursors cursors (λ e. refl) l
 begins_left s name view wanted (Some there) reply cursors l =
-    if_left (is_full s.cursors name) _ _ reply s.cursors cursors (left replies.FullCursors reply s.cursors s.cursors cursors (λ e. refl))
-    (left replies.Done reply s.cursors (with_cursor s.cursors name (begun view wanted (stamps_in s view))) cursors (λ e. absurd (cc e))) l
+    if_left (is_full s.cursors name) _ _ reply s.cursors cursors (left replies.FullCursors reply s.cursors s.cursors
+    cursors (λ e. refl))
+    (left replies.Done reply s.cursors (with_cursor s.cursors name (begun view wanted (stamps_in s view))) cursors
+    (λ e. absurd (cc e))) l
 
 gives_left : (s : Whole) (name : List ℕ) (count : ℕ) (cursor : Cursor) (view : View) (reply : Reply) (cursors : Cursors)
     → GivesPiece s name count cursor view reply cursors → is_refused reply ≡ true → cursors ≡ s.cursors
 gives_left s name count cursor view reply cursors g =
-    if_left (cursor.wanted == 0) _ _ reply s.cursors cursors (left (piece []) reply s.cursors s.cursors cursors (λ e. refl))
-    (λ p. left (piece (piece_of cursor.place count p.0)) reply s.cursors (behind s.cursors name (piece_of cursor.place count p.0)) cursors (λ e. absurd (cc e)) p.2) g
+    if_left (cursor.wanted == 0) _ _ reply s.cursors cursors (left (piece []) reply s.cursors s.cursors cursors
+    (λ e. refl))
+    (λ p. left (piece (piece_of cursor.place count p.0)) reply s.cursors
+    (behind s.cursors name (piece_of cursor.place count p.0)) cursors (λ e. absurd (cc e)) p.2) g
 
-by_left : (age : Age) (s : Whole) (name : List ℕ) (count : ℕ) (cursor : Cursor) (view : View) (reply : Reply) (cursors : Cursors)
+by_left : (age : Age) (s : Whole) (name : List ℕ) (count : ℕ) (cursor : Cursor) (view : View) (reply : Reply)
+    (cursors : Cursors)
     → GoesBy age s name count cursor view reply cursors → is_refused reply ≡ true → cursors ≡ s.cursors
 by_left ages.Same s name count cursor view reply cursors g = gives_left s name count cursor view reply cursors g
-by_left (ages.Keyring was now) s name count cursor view reply cursors g = left (replies.StaleKeyring was now) reply s.cursors s.cursors cursors (λ e. refl) g
-by_left (ages.View was now) s name count cursor view reply cursors g = left (replies.StaleView was now) reply s.cursors s.cursors cursors (λ e. refl) g
+by_left (ages.Keyring was now) s name count cursor view reply cursors g =
+    left (replies.StaleKeyring was now) reply s.cursors s.cursors cursors (λ e. refl) g
+by_left (ages.View was now) s name count cursor view reply cursors g = left (replies.StaleView was now) reply s.cursors
+    s.cursors cursors (λ e. refl) g
 
-from_left : (o : Option View) (s : Whole) (name : List ℕ) (count : ℕ) (cursor : Cursor) (reply : Reply) (cursors : Cursors)
+from_left : (o : Option View) (s : Whole) (name : List ℕ) (count : ℕ) (cursor : Cursor) (reply : Reply)
+    (cursors : Cursors)
     → GoesFrom o s name count cursor reply cursors → is_refused reply ≡ true → cursors ≡ s.cursors
 from_left None s name count cursor reply cursors g = left replies.View reply s.cursors s.cursors cursors (λ e. refl) g
-from_left (Some view) s name count cursor reply cursors g = by_left (age_of cursor.stamps (stamps_in s cursor.view)) s name count cursor view reply cursors g
+from_left (Some view) s name count cursor reply cursors g = by_left (age_of cursor.stamps (stamps_in s cursor.view)) s
+    name count cursor view reply cursors g
 
-goes_left : (o : Option Cursor) (s : Whole) (name : List ℕ) (count : ℕ) (reply : Reply) (cursors : Cursors) → Goes o s name count reply cursors → is_refused reply ≡ true → cursors ≡ s.cursors
+goes_left : (o : Option Cursor) (s : Whole) (name : List ℕ) (count : ℕ) (reply : Reply) (cursors : Cursors) →
+    Goes o s name count reply cursors → is_refused reply ≡ true → cursors ≡ s.cursors
 goes_left None s name count reply cursors g = left replies.NoCursor reply s.cursors s.cursors cursors (λ e. refl) g
-goes_left (Some cursor) s name count reply cursors g = from_left (view_at s.state.views cursor.view) s name count cursor reply cursors g
+goes_left (Some cursor) s name count reply cursors g = from_left (view_at s.state.views cursor.view) s name count cursor
+    reply cursors g
 
-ends_left : (s : Whole) (name : List ℕ) (reply : Reply) (cursors : Cursors) → Ends s name reply cursors → is_refused reply ≡ true → cursors ≡ s.cursors
+ends_left : (s : Whole) (name : List ℕ) (reply : Reply) (cursors : Cursors) → Ends s name reply cursors →
+    is_refused reply ≡ true → cursors ≡ s.cursors
 ends_left s name reply cursors l =
     if_left (is_some (cursor_at s.cursors name)) _ _ reply s.cursors cursors
     (left replies.Done reply s.cursors (without_cursor s.cursors name) cursors (λ e. absurd (cc e)))
     (left replies.NoCursor reply s.cursors s.cursors cursors (λ e. refl)) l
 
-paces_left : (s : Whole) (command : Command) (reply : Reply) (cursors : Cursors) → is_pacing command ≡ true → Paces s command reply cursors → is_refused reply ≡ true → cursors ≡ s.cursors
+paces_left : (s : Whole) (command : Command) (reply : Reply) (cursors : Cursors) → is_pacing command ≡ true →
+    Paces s command reply cursors → is_refused reply ≡ true → cursors ≡ s.cursors
 paces_left s command reply cursors e =
     paced_cases (λ (c : Command). Paces s c reply cursors → is_refused reply ≡ true → cursors ≡ s.cursors)
     (λ name view wanted. begins_left s name view wanted (view_at s.state.views view) reply cursors)
-    (λ name count. goes_left (cursor_at s.cursors name) s name count reply cursors) (λ name. ends_left s name reply cursors) command e
+    (λ name count. goes_left (cursor_at s.cursors name) s name count reply cursors)
+    (λ name. ends_left s name reply cursors) command e
 
 -- ---- all of it
 
@@ -165,11 +202,13 @@ uncounted : (s m : Whole) → m.state ≡ s.state → IsCounted s m → m.change
 uncounted s m same (inl p) = p.1
 uncounted s m same (inr p) = absurd (p.0 (ap (λ (x : State). x.held) same))
 
-obeys : (rows : PolicyRows) (s : Whole) (command : Command) (answer : Served) (r : Reply) (m : Whole) → Obeys rows s command answer r m → is_refused r ≡ true → m ≡ s
+obeys : (rows : PolicyRows) (s : Whole) (command : Command) (answer : Served) (r : Reply) (m : Whole) →
+    Obeys rows s command answer r m → is_refused r ≡ true → m ≡ s
 obeys rows s command answer r m o e =
     let same = does rows s.state command answer r m.state o.does e in
     whole_same m s same (uncounted s m same o.counted)
-    (turned_still command s.state.views m.state.views s.turns m.turns (ap (λ (x : State). x.views) same) o.turned) (by (is_pacing command) refl)
+    (turned_still command s.state.views m.state.views s.turns m.turns (ap (λ (x : State). x.views) same) o.turned)
+    (by (is_pacing command) refl)
     (watched (is_watching command) refl)
   where
     watched : (b : Bool) → is_watching command ≡ b → m.watches ≡ s.watches
@@ -180,17 +219,21 @@ obeys rows s command answer r m o e =
     by true k = paces_left s command r m.cursors k o.paces e
     by false k = plain_paces s command r m.cursors k o.paces
 
-answers : (rows : PolicyRows) (s : Whole) (command : Option Command) (answer : Served) (r : Reply) (m : Whole) → Answers rows s command answer r m → is_refused r ≡ true → m ≡ s
+answers : (rows : PolicyRows) (s : Whole) (command : Option Command) (answer : Served) (r : Reply) (m : Whole) →
+    Answers rows s command answer r m → is_refused r ≡ true → m ≡ s
 answers rows s None answer r m g e = g.1
 answers rows s (Some command) answer r m o e = obeys rows s command answer r m o e
 
-pub step_leaves : (rows : PolicyRows) (s : Whole) (line : List ℕ) (answer : Served) (r : Reply) (m : Whole) → LineStep rows s line answer (Some r) m → is_refused r ≡ true → m ≡ s
+pub step_leaves : (rows : PolicyRows) (s : Whole) (line : List ℕ) (answer : Served) (r : Reply) (m : Whole) →
+    LineStep rows s line answer (Some r) m → is_refused r ≡ true → m ≡ s
 step_leaves rows s line answer r m = long (nat_lt longest (length line))
   where
-    silent : (b : Bool) → MatchBool b ((Some r ≡ None) × (m ≡ s)) (Answers rows s (command_of line) answer r m) → is_refused r ≡ true → m ≡ s
+    silent : (b : Bool) → MatchBool b ((Some r ≡ None) × (m ≡ s)) (Answers rows s (command_of line) answer r m) →
+        is_refused r ≡ true → m ≡ s
     silent true g e = g.1
     silent false g e = answers rows s (command_of line) answer r m g e
 
-    long : (b : Bool) → MatchBool b (Stays s replies.Long r m) (MatchBool (is_silent line) ((Some r ≡ None) × (m ≡ s)) (Answers rows s (command_of line) answer r m)) → is_refused r ≡ true → m ≡ s
+    long : (b : Bool) → MatchBool b (Stays s replies.Long r m) (MatchBool (is_silent line) ((Some r ≡ None) × (m ≡ s))
+        (Answers rows s (command_of line) answer r m)) → is_refused r ≡ true → m ≡ s
     long true g e = g.1
     long false g e = silent (is_silent line) g e

@@ -25,32 +25,46 @@ if_ok (Ok a) P Q f p = f a p
 if_ok (Err e) P Q f p = tt
 
 pub view_gives : (s new changed : State) (o : Option ViewFault) (fault : ViewFault) (reply : Reply)
-    → TellsFault {T = Unit {0}} (Err fault) o → new ≡ s → (reply ≡ view_refusal fault) × (fault ≢ faults.Memory) → Gives (unless s o changed) reply new
+    → TellsFault {T = Unit {0}} (Err fault) o → new ≡ s → (reply ≡ view_refusal fault) × (fault ≢ faults.Memory) →
+    Gives (unless s o changed) reply new
 view_gives s new changed o faults.View reply tells same is = rw tells (is.0, same)
 view_gives s new changed o faults.Absent reply tells same is = rw tells (is.0, same)
 view_gives s new changed o (faults.Full limit) reply tells same is = rw tells (is.0, same)
 view_gives s new changed o faults.Memory reply tells same is = absurd (is.1 refl)
 
 -- the same of octets that were refused, with a demand on their certificates
-under_gives : (demand : Demand) (rows : PolicyRows) (old new : Engine) (octets : List ℕ) (told : Refusal) (reply : Reply) → old.keyring.limits ≡ standard_limits
-    → AnswersUnder demand (Err told) rows old.keyring octets → new ≡ old → (reply ≡ refusal told) × (told ≢ refusals.Memory)
-    → Gives (imports rows (state_of old) octets (answer_under demand rows standard_limits (state_of old).held.certs octets)) reply (state_of new)
+under_gives : (demand : Demand) (rows : PolicyRows) (old new : Engine) (octets : List ℕ) (told : Refusal)
+    (reply : Reply) → old.keyring.limits ≡ standard_limits
+    → AnswersUnder demand (Err told) rows old.keyring octets → new ≡ old →
+    (reply ≡ refusal told) × (told ≢ refusals.Memory)
+    → Gives (imports rows (state_of old) octets (answer_under demand rows standard_limits (state_of old).held.certs
+    octets)) reply (state_of new)
 under_gives demand rows old new octets told reply std (inl e) same is =
     let e' : Err told ≡ answer_under demand rows standard_limits (state_of old).held.certs octets = rw std at e in
     rw (← e', same) (is.0, refl)
-under_gives demand rows old new octets told reply std (inr e) same is = let m : told ≡ refusals.Memory = cc in absurd (is.1 m)
+under_gives demand rows old new octets told reply std (inr e) same is = let m : told ≡ refusals.Memory = cc in
+    absurd (is.1 m)
 
-pub import_gives : (rows : PolicyRows) (old new : Engine) (octets : List ℕ) (told : Refusal) (reply : Reply) → old.keyring.limits ≡ standard_limits
-    → Answers (Err told) rows old.keyring octets → new ≡ old → (reply ≡ refusal told) × (told ≢ refusals.Memory) → Gives (import rows (state_of old) octets) reply (state_of new)
-import_gives rows old new octets told reply std answers same is = under_gives any rows old new octets told reply std answers same is
+pub import_gives : (rows : PolicyRows) (old new : Engine) (octets : List ℕ) (told : Refusal) (reply : Reply) →
+    old.keyring.limits ≡ standard_limits
+    → Answers (Err told) rows old.keyring octets → new ≡ old → (reply ≡ refusal told) × (told ≢ refusals.Memory) →
+    Gives (import rows (state_of old) octets) reply (state_of new)
+import_gives rows old new octets told reply std answers same is = under_gives any rows old new octets told reply std
+    answers same is
 
-pub load_gives : (name : Name) (rows : PolicyRows) (old new : Engine) (octets : List ℕ) (told : Refusal) (reply : Reply) → old.keyring.limits ≡ standard_limits
-    → AnswersUnder (is_entry name) (Err told) rows old.keyring octets → new ≡ old → (reply ≡ refusal told) × (told ≢ refusals.Memory)
+pub load_gives : (name : Name) (rows : PolicyRows) (old new : Engine) (octets : List ℕ) (told : Refusal)
+    (reply : Reply) → old.keyring.limits ≡ standard_limits
+    → AnswersUnder (is_entry name) (Err told) rows old.keyring octets → new ≡ old →
+    (reply ≡ refusal told) × (told ≢ refusals.Memory)
     → Gives (load rows (state_of old) name (Answer.entry octets)) reply (state_of new)
-load_gives name rows old new octets told reply std answers same is = under_gives (is_entry name) rows old new octets told reply std answers same is
+load_gives name rows old new octets told reply std answers same is =
+    under_gives (is_entry name) rows old new octets told reply std answers same is
 
-pub judge_gives : (old new : Engine) (number : SigNumber) (v : Verdict) (told : Refusal) (reply : Reply) → old.keyring.limits ≡ standard_limits
-    → TellsFull {T = Unit {0}} (Err told) old.keyring number → new ≡ old → (reply ≡ refusal told) × (told ≢ refusals.Memory) → Gives (set_verdict (state_of old) number v) reply (state_of new)
+pub judge_gives : (old new : Engine) (number : SigNumber) (v : Verdict) (told : Refusal) (reply : Reply) →
+    old.keyring.limits ≡ standard_limits
+    → TellsFull {T = Unit {0}} (Err told) old.keyring number → new ≡ old →
+    (reply ≡ refusal told) × (told ≢ refusals.Memory) → Gives (set_verdict (state_of old) number v) reply
+    (state_of new)
 judge_gives old new number v (refusals.Full words.Verdicts) reply std tells same is =
     let over : is_over standard_limits old.keyring.verdicts number ≡ true = rw std at tells in
     rw (over, same) (is.0, refl)

@@ -81,7 +81,8 @@ abbrev pub HasOrder : Certificate → Type 0
 HasOrder c = IsRising part_cmp c.user_ids
 
 united_order : (a b : Certificate) → HasOrder a → HasOrder (unite a b)
-united_order a b r = rising_united part_cmp parts_total unite_part (λ y x z. refl) (λ y x z. refl) a.user_ids b.user_ids r
+united_order a b r = rising_united part_cmp parts_total unite_part (λ y x z. refl) (λ y x z. refl) a.user_ids b.user_ids
+    r
 
 parts_rise : (key : List ℕ) (type kind : ℕ) (sections : List Section)
     → IsRising part_cmp (parts_of key type kind sections)
@@ -136,7 +137,8 @@ module _ (rows : PolicyRows) where
       let new : Certificate = united_with (lookup (is_fpr fpr) certs) (judged rows c) in
       record {
         fprs = rising_put fpr_cmp fpr_total fpr new certs o.fprs;
-        user_ids = all_put HasOrder fpr_cmp fpr new certs (found_order (is_fpr fpr) certs (judged rows c) o.user_ids (judged_order rows c h)) o.user_ids;
+        user_ids = all_put HasOrder fpr_cmp fpr new certs (found_order (is_fpr fpr) certs (judged rows c) o.user_ids
+            (judged_order rows c h)) o.user_ids;
       }
 
   ordered_many : (certs : Certificates) (cs : List Certificate) → AllByRecursion HasOrder cs → AreOrdered certs
@@ -160,7 +162,8 @@ module _ (rows : PolicyRows) where
       → Run rows (opening world) lines told s
       → AreOrdered s.whole.state.held.certs
   reached_ordered world lines told s run =
-      run_stays rows AreOrdered ordered_all ordered_without lines (opening world) told s (record { fprs = tt; user_ids = tt }) run
+      run_stays rows AreOrdered ordered_all ordered_without lines (opening world) told s
+      (record { fprs = tt; user_ids = tt }) run
 
 -- ---- pairs
 
@@ -193,7 +196,8 @@ later_certs : (a : Pair) (certs : Certificates)
     → AllByRecursion (λ (e : Fpr × Certificate). fpr_cmp a.0 e.0 ≡ Less) certs → IsBelow pair_cmp a (pairs_in certs)
 later_certs a [] all = tt
 later_certs a (e ∷ certs) all =
-    below_append pair_cmp a (map (pair_of e.0) e.1.user_ids) (pairs_in certs) (later_fpr a e.0 e.1.user_ids all.0) (later_certs a certs all.1)
+    below_append pair_cmp a (map (pair_of e.0) e.1.user_ids) (pairs_in certs) (later_fpr a e.0 e.1.user_ids all.0)
+    (later_certs a certs all.1)
 
 each_later : (fpr : Fpr) (parts : List Component) (certs : Certificates)
     → AllByRecursion (λ (e : Fpr × Certificate). fpr_cmp fpr e.0 ≡ Less) certs
@@ -228,7 +232,8 @@ module _ (told : List ℕ → Record) (roots : List (Fpr × ℕ)) (wanted : ℕ)
       → IsListed told roots wanted pairs binds → IsPairBelow a binds
   below_listed a [] binds all l = subst (IsPairBelow a) (sym l) tt
   below_listed a (p ∷ pairs) binds all l =
-      subst (IsPairBelow a) (sym l.whole) (by (nat_le wanted (amount_of l.paths)) (below_listed a pairs l.others all.1 l.listed))
+      subst (IsPairBelow a) (sym l.whole) (by (nat_le wanted (amount_of l.paths))
+      (below_listed a pairs l.others all.1 l.listed))
     where
       by : (b : Bool) → IsPairBelow a l.others
           → IsPairBelow a (cond b (record { sum = amount_of l.paths; fpr = p.0; uid = p.1 } ∷ l.others) l.others)
@@ -240,7 +245,8 @@ module _ (told : List ℕ → Record) (roots : List (Fpr × ℕ)) (wanted : ℕ)
   rising_listed [] binds r l = subst (IsRising bind_cmp) (sym l) tt
   rising_listed (p ∷ pairs) binds r l =
       subst (IsRising bind_cmp) (sym l.whole)
-      (by (nat_le wanted (amount_of l.paths)) (below_listed p pairs l.others r.0 l.listed) (rising_listed pairs l.others r.1 l.listed))
+      (by (nat_le wanted (amount_of l.paths)) (below_listed p pairs l.others r.0 l.listed)
+      (rising_listed pairs l.others r.1 l.listed))
     where
       by : (b : Bool) → IsPairBelow p l.others → IsRising bind_cmp l.others
           → IsRising bind_cmp (cond b (record { sum = amount_of l.paths; fpr = p.0; uid = p.1 } ∷ l.others) l.others)

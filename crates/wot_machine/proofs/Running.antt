@@ -1,5 +1,6 @@
 -- Commands that were run, and the lines that hold them.
-use Rattle.std.proofs.Common.{◌≡◌, ℕ, ◌+◌, ◌<◌, ◌≤◌, Bool, true, false, List, ◌++◌, Option, Some, None, Result, Ok, Err, OnErr, length, refl, sym, ap, subst, ◌∙◌, inl, [], arith}
+use Rattle.std.proofs.Common.{◌≡◌, ℕ, ◌+◌, ◌<◌, ◌≤◌, Bool, true, false, List, ◌++◌, Option, Some, None, Result, Ok, Err}
+use Rattle.std.proofs.Common.{OnErr, length, refl, sym, ap, subst, ◌∙◌, inl, arith}
 use Rattle.std.specs.Prelude.{IfOk, IfSome, OnOk, is_ok, is_some, if◌then◌else◌, nat_le}
 use Rattle.std.specs.Result.{result_ok}
 use Rattle.std.proofs.lemmas.Bool.{leb-false, leb-true}
@@ -22,8 +23,6 @@ use Rattle.wot_certd.specs.Shelf as given_as
 use Rattle.wot_certd.specs.Shelf.{Becomes}
 use Rattle.wot_certd.specs.World.{Answer, World, after_replace, called, fails_next, read_answer}
 use Rattle.wot_cache.specs.State.{Engine, State, StaysButMarks, state_of}
-use Rattle.wot_cache.specs.Turns.{Turns}
-use Rattle.wot_cache.specs.Views.{Views}
 use Rattle.wot_keyring.specs.Keyring.{Keyring}
 use Rattle.wot_machine.specs.declared.told.Moved.{Moved}
 use Rattle.wot_machine.specs.declared.told.Told.{Told}
@@ -32,7 +31,8 @@ use Rattle.wot_watch.specs.Watches.{Watches}
 use Rattle.wot_keyring.specs.Import.{IsOneChange}
 use Rattle.wot_machine.specs.Watching.{AreLines, Tells, Watching, is_watching, told_all}
 use Rattle.wot_machine.specs.Whole.{IsTurnedBy, Whole, watched, whole_of}
-use Rattle.wot_machine.specs.Entry.{IsServed, IsWorldAfter, Use, WasGiven, has_failed, is_fault, put_for, unused, use_of, world_after}
+use Rattle.wot_machine.specs.Entry.{IsServed, IsWorldAfter, Use, WasGiven, has_failed, is_fault, put_for, unused}
+use Rattle.wot_machine.specs.Entry.{use_of, world_after}
 use Rattle.wot_machine.specs.Lines.{heard, is_silent, longest}
 use Rattle.wot_machine.specs.LineStep.{Answers, Does, Gives, LineStep, Obeys}
 use Rattle.wot_machine.specs.Outcome.{load}
@@ -42,11 +42,12 @@ use Rattle.wot_machine.specs.Stepped.{Replied, Stepped, TellsBehind}
 use Rattle.wot_machine.specs.Pacing.{Paces, is_pacing, settled}
 use Rattle.wot_machine.specs.Stored.{Puts, Stores, answer_of}
 use Rattle.wot_machine.specs.Storing.{put_from, stored, stored_from, writing}
-use Rattle.wot_machine.specs.Transcript.{listed, octets_of}
+use Rattle.wot_machine.specs.Transcript.{octets_of}
 use Rattle.wot_machine.proofs.Refusing.{if_ok}
 use Rattle.wot_machine.proofs.Making.{same_state}
 use Rattle.wot_machine.proofs.Paced.{paces_plain, paces_watched, state_paced, turns_paced, uncalled_paced}
-use Rattle.wot_machine.proofs.Watched.{paced_unwatched, state_watched, turns_watched, uncalled_watched, watched_unpaced, watching_plain}
+use Rattle.wot_machine.proofs.Watched.{paced_unwatched, state_watched, turns_watched, uncalled_watched, watched_unpaced}
+use Rattle.wot_machine.proofs.Watched.{watching_plain}
 use Rattle.wot_machine.proofs.Stepping.{heard_long, heard_silent, one_reply, passed_over, too_long}
 use Rattle.wot_machine.proofs.Wholes.{counted_by, same_few, turned_few, turned_still}
 
@@ -59,10 +60,13 @@ idle_by : (old : State) (use_ : Use) (world : Option World) → use_ ≡ unused 
 idle_by old use_ world e = subst (λ (u : Use). IsServed old u world unserved world) (sym e) (idle old world)
 
 -- nothing failed
-never_failed : (old : State) (use_ : Use) → use_ ≡ unused → has_failed (put_for old use_ Answer.absent) unserved ≡ true → ⊥
-never_failed old use_ e = subst (λ (u : Use). has_failed (put_for old u Answer.absent) unserved ≡ true → ⊥) (sym e) (λ f. cc f)
+never_failed : (old : State) (use_ : Use) → use_ ≡ unused →
+    has_failed (put_for old use_ Answer.absent) unserved ≡ true → ⊥
+never_failed old use_ e = subst (λ (u : Use). has_failed (put_for old u Answer.absent) unserved ≡ true → ⊥) (sym e)
+    (λ f. cc f)
 
-ran_uncalled : (rows : PolicyRows) (command : Option Command) (old : Whole) (seen : Seen) (reply : Reply) (new : Whole) → use_of command ≡ unused
+ran_uncalled : (rows : PolicyRows) (command : Option Command) (old : Whole) (seen : Seen) (reply : Reply)
+    (new : Whole) → use_of command ≡ unused
     → Answers rows old command unserved reply new → Ran rows command old seen reply new seen
 ran_uncalled rows command old seen reply new none answers = record {
   given = unserved;
@@ -71,8 +75,10 @@ ran_uncalled rows command old seen reply new none answers = record {
   cause = λ f. absurd (never_failed old.state (use_of command) none f);
 }
 
-pub uncalled : {E : Type 0} (r : Result Reply E) (rows : PolicyRows) (command : Command) (old : State) (seen : Seen) (new : State) → use_of (Some command) ≡ unused
-    → IfOk r (λ reply. Does rows old command unserved reply new) → IfOk r (λ reply. Did rows command old seen reply new seen)
+pub uncalled : {E : Type 0} (r : Result Reply E) (rows : PolicyRows) (command : Command) (old : State) (seen : Seen)
+    (new : State) → use_of (Some command) ≡ unused
+    → IfOk r (λ reply. Does rows old command unserved reply new) →
+    IfOk r (λ reply. Did rows command old seen reply new seen)
 uncalled r rows command old seen new none does = if_ok r _ _ (λ reply d. record {
   given = unserved;
   answers = d;
@@ -81,34 +87,45 @@ uncalled r rows command old seen new none does = if_ok r _ _ (λ reply d. record
 }) does
 
 -- a command that leaves the shelf alone, by all that is kept
-pub ran_alone : (rows : PolicyRows) (command : Command) (old : Whole) (seen : Seen) (reply : Reply) (new : Whole) → use_of (Some command) ≡ unused
+pub ran_alone : (rows : PolicyRows) (command : Command) (old : Whole) (seen : Seen) (reply : Reply) (new : Whole) →
+    use_of (Some command) ≡ unused
     → Obeys rows old command unserved reply new → Ran rows (Some command) old seen reply new seen
 ran_alone rows command old seen reply new none obeys = ran_uncalled rows (Some command) old seen reply new none obeys
 
 -- a command of a cursor, by all that is kept
-pub paced_ran : {E : Type 0} (r : Result Told E) (rows : PolicyRows) (command : Command) (old new : Engine) (before after : Cursors) (watches : Watches) (seen : Seen)
-    → is_pacing command ≡ true → StaysButMarks old new → IfOk r (λ (told : Told). Paces (whole_of old before) command told.reply (settled told.moved after))
-    → IfOk r (λ (told : Told). Ran rows (Some command) (watched (whole_of old before) watches) seen told.reply (watched (whole_of new (settled told.moved after)) watches) seen)
+pub paced_ran : {E : Type 0} (r : Result Told E) (rows : PolicyRows) (command : Command) (old new : Engine)
+    (before after : Cursors) (watches : Watches) (seen : Seen)
+    → is_pacing command ≡ true → StaysButMarks old new →
+    IfOk r (λ (told : Told). Paces (whole_of old before) command told.reply (settled told.moved after))
+    → IfOk r (λ (told : Told). Ran rows (Some command) (watched (whole_of old before) watches) seen told.reply
+    (watched (whole_of new (settled told.moved after)) watches) seen)
 paced_ran (Err e) rows command old new before after watches seen pacing stays paces = tt
 paced_ran (Ok told) rows command old new before after watches seen pacing stays paces =
     let same : state_of new ≡ state_of old = same_state old new stays in
-    ran_alone rows command (watched (whole_of old before) watches) seen told.reply (watched (whole_of new (settled told.moved after)) watches)
+    ran_alone rows command (watched (whole_of old before) watches) seen told.reply
+    (watched (whole_of new (settled told.moved after)) watches)
     (uncalled_paced command pacing) (record {
-      does = subst (λ (s : State). Does rows (state_of old) command unserved told.reply s) (sym same) (state_paced rows (state_of old) command unserved told.reply pacing);
+      does = subst (λ (s : State). Does rows (state_of old) command unserved told.reply s) (sym same)
+          (state_paced rows (state_of old) command unserved told.reply pacing);
       counted = inl (ap (λ (s : State). s.held) same, ap (λ (k : Keyring). k.changes) stays.keyring);
       turned = turns_paced command old.views new.views old.turns new.turns pacing stays.turns;
       paces = paces_watched (whole_of old before) watches command told.reply (settled told.moved after) pacing paces;
-      watching = watching_plain (watched (whole_of old before) watches) command told.reply (paced_unwatched command pacing);
+      watching = watching_plain (watched (whole_of old before) watches) command told.reply
+          (paced_unwatched command pacing);
     })
 
 -- a command of a watch, by all that is kept
-watched_ran : (rows : PolicyRows) (command : Command) (old new : Engine) (cursors : Cursors) (before after : Watches) (seen : Seen) (reply : Reply) → is_watching command ≡ true
+watched_ran : (rows : PolicyRows) (command : Command) (old new : Engine) (cursors : Cursors) (before after : Watches)
+    (seen : Seen) (reply : Reply) → is_watching command ≡ true
     → StaysButMarks old new → Watching (watched (whole_of old cursors) before) command reply after
-    → Ran rows (Some command) (watched (whole_of old cursors) before) seen reply (watched (whole_of new cursors) after) seen
+    → Ran rows (Some command) (watched (whole_of old cursors) before) seen reply (watched (whole_of new cursors) after)
+    seen
 watched_ran rows command old new cursors before after seen reply watching stays puts =
     let same : state_of new ≡ state_of old = same_state old new stays in
-    ran_alone rows command (watched (whole_of old cursors) before) seen reply (watched (whole_of new cursors) after) (uncalled_watched command watching) (record {
-      does = subst (λ (s : State). Does rows (state_of old) command unserved reply s) (sym same) (state_watched rows (state_of old) command unserved reply watching);
+    ran_alone rows command (watched (whole_of old cursors) before) seen reply (watched (whole_of new cursors) after)
+    (uncalled_watched command watching) (record {
+      does = subst (λ (s : State). Does rows (state_of old) command unserved reply s) (sym same)
+          (state_watched rows (state_of old) command unserved reply watching);
       counted = inl (ap (λ (s : State). s.held) same, ap (λ (k : Keyring). k.changes) stays.keyring);
       turned = turns_watched command old.views new.views old.turns new.turns watching stays.turns;
       paces = paces_plain (watched (whole_of old cursors) before) command reply (watched_unpaced command watching);
@@ -116,32 +133,43 @@ watched_ran rows command old new cursors before after seen reply watching stays 
     })
 
 -- the same of what is told by a reply
-pub watched_told : {E : Type 0} (r : Result Reply E) (t : Result Told E) (rows : PolicyRows) (command : Command) (old new : Engine) (cursors : Cursors) (before after : Watches)
-    (seen : Seen) → IfOk r (λ reply. t ≡ Ok (record { reply = reply; moved = None })) → is_ok t ≡ is_ok r → is_watching command ≡ true → StaysButMarks old new
+pub watched_told : {E : Type 0} (r : Result Reply E) (t : Result Told E) (rows : PolicyRows) (command : Command)
+    (old new : Engine) (cursors : Cursors) (before after : Watches)
+    (seen : Seen) → IfOk r (λ reply. t ≡ Ok (record { reply = reply; moved = None })) → is_ok t ≡ is_ok r →
+    is_watching command ≡ true → StaysButMarks old new
     → IfOk r (λ reply. Watching (watched (whole_of old cursors) before) command reply after)
     → IfOk t (λ (told : Told). Ran rows (Some command) (watched (whole_of old cursors) before) seen told.reply
     (watched (whole_of new (settled told.moved cursors)) after) seen)
 watched_told (Err e) (Err d) rows command old new cursors before after seen is ok watching stays puts = tt
-watched_told (Err e) (Ok told) rows command old new cursors before after seen is ok watching stays puts = let never : true ≡ false = ok in absurd cc
+watched_told (Err e) (Ok told) rows command old new cursors before after seen is ok watching stays puts =
+    let never : true ≡ false = ok in absurd cc
 watched_told (Ok reply) t rows command old new cursors before after seen is ok watching stays puts =
-    subst (λ (t : Result Told _). IfOk t (λ (told : Told). Ran rows (Some command) (watched (whole_of old cursors) before) seen told.reply
+    subst (λ (t : Result Told _). IfOk t (λ (told : Told). Ran rows (Some command)
+    (watched (whole_of old cursors) before) seen told.reply
     (watched (whole_of new (settled told.moved cursors)) after) seen))
     (sym is) (watched_ran rows command old new cursors before after seen reply watching stays puts)
 
 -- the same of a reply that moves no cursor
-pub watched_alone : (told : Told) (rows : PolicyRows) (command : Command) (engine : Engine) (cursors : Cursors) (before after : Watches) (seen : Seen) (reply : Reply)
-    → told.reply ≡ reply → told.moved ≡ None → is_watching command ≡ true → StaysButMarks engine engine → Watching (watched (whole_of engine cursors) before) command reply after
-    → Ran rows (Some command) (watched (whole_of engine cursors) before) seen told.reply (watched (whole_of engine (settled told.moved cursors)) after) seen
+pub watched_alone : (told : Told) (rows : PolicyRows) (command : Command) (engine : Engine) (cursors : Cursors)
+    (before after : Watches) (seen : Seen) (reply : Reply)
+    → told.reply ≡ reply → told.moved ≡ None → is_watching command ≡ true → StaysButMarks engine engine →
+    Watching (watched (whole_of engine cursors) before) command reply after
+    → Ran rows (Some command) (watched (whole_of engine cursors) before) seen told.reply
+    (watched (whole_of engine (settled told.moved cursors)) after) seen
 watched_alone told rows command engine cursors before after seen reply is none watching stays puts =
-    subst (λ (o : Option Moved). Ran rows (Some command) (watched (whole_of engine cursors) before) seen told.reply (watched (whole_of engine (settled o cursors)) after) seen)
+    subst (λ (o : Option Moved). Ran rows (Some command) (watched (whole_of engine cursors) before) seen told.reply
+    (watched (whole_of engine (settled o cursors)) after) seen)
     (sym none) (watched_ran rows command engine engine cursors before after seen told.reply watching stays
     (subst (λ (r : Reply). Watching (watched (whole_of engine cursors) before) command r after) (sym is) puts))
 
 -- what is done to the state, with all that is kept
-pub ran_plain : {E : Type 0} (r : Result Reply E) (rows : PolicyRows) (command : Command) (old new : Engine) (before after : Seen) (cursors : Cursors) (watches : Watches)
-    → is_pacing command ≡ false → is_watching command ≡ false → IsOneChange old.keyring new.keyring → OnOk r (IsTurnedBy command old.views old.turns new.views new.turns)
+pub ran_plain : {E : Type 0} (r : Result Reply E) (rows : PolicyRows) (command : Command) (old new : Engine)
+    (before after : Seen) (cursors : Cursors) (watches : Watches)
+    → is_pacing command ≡ false → is_watching command ≡ false → IsOneChange old.keyring new.keyring →
+    OnOk r (IsTurnedBy command old.views old.turns new.views new.turns)
     → IfOk r (λ reply. Did rows command (state_of old) before reply (state_of new) after)
-    → IfOk r (λ reply. Ran rows (Some command) (watched (whole_of old cursors) watches) before reply (watched (whole_of new cursors) watches) after)
+    → IfOk r (λ reply. Ran rows (Some command) (watched (whole_of old cursors) watches) before reply
+    (watched (whole_of new cursors) watches) after)
 ran_plain (Err e) rows command old new before after cursors watches plain still counted turned did = tt
 ran_plain (Ok reply) rows command old new before after cursors watches plain still counted turned did = record {
   given = did.given;
@@ -157,68 +185,85 @@ ran_plain (Ok reply) rows command old new before after cursors watches plain sti
 }
 
 module _ {E : Type 0} where
-  pub ran_told : (r : Result Reply E) (t : Result Told E) (rows : PolicyRows) (command : Command) (old new : Engine) (before after : Seen) (cursors : Cursors) (watches : Watches)
-      → IfOk r (λ reply. t ≡ Ok (record { reply = reply; moved = None })) → is_ok t ≡ is_ok r → is_pacing command ≡ false → is_watching command ≡ false
+  pub ran_told : (r : Result Reply E) (t : Result Told E) (rows : PolicyRows) (command : Command) (old new : Engine)
+      (before after : Seen) (cursors : Cursors) (watches : Watches)
+      → IfOk r (λ reply. t ≡ Ok (record { reply = reply; moved = None })) → is_ok t ≡ is_ok r →
+      is_pacing command ≡ false → is_watching command ≡ false
       → IsOneChange old.keyring new.keyring → OnOk r (IsTurnedBy command old.views old.turns new.views new.turns)
       → IfOk r (λ reply. Did rows command (state_of old) before reply (state_of new) after)
       → IfOk t (λ (told : Told). Ran rows (Some command) (watched (whole_of old cursors) watches) before told.reply
       (watched (whole_of new (settled told.moved cursors)) watches) after)
   ran_told (Err e) (Err d) rows command old new before after cursors watches is ok plain still counted turned did = tt
-  ran_told (Err e) (Ok told) rows command old new before after cursors watches is ok plain still counted turned did = let never : true ≡ false = ok in absurd cc
+  ran_told (Err e) (Ok told) rows command old new before after cursors watches is ok plain still counted turned did =
+      let never : true ≡ false = ok in absurd cc
   ran_told (Ok reply) t rows command old new before after cursors watches is ok plain still counted turned did =
-      let ran : Ran rows (Some command) (watched (whole_of old cursors) watches) before reply (watched (whole_of new cursors) watches) after =
+      let ran : Ran rows (Some command) (watched (whole_of old cursors) watches) before reply
+      (watched (whole_of new cursors) watches) after =
       ran_plain {E = E} (Ok reply) rows command old new before after cursors watches plain still counted turned did in
-      subst (λ (t : Result Told E). IfOk t (λ (told : Told). Ran rows (Some command) (watched (whole_of old cursors) watches) before told.reply
+      subst (λ (t : Result Told E). IfOk t (λ (told : Told). Ran rows (Some command)
+      (watched (whole_of old cursors) watches) before told.reply
       (watched (whole_of new (settled told.moved cursors)) watches) after)) (sym is) ran
 
 -- what holds of a reply, and of its being there, holds of what is told by it
-pub told_as : {E : Type 0} (r : Result Reply E) (t : Result Told E) (P : Reply → Type 0) → IfOk r (λ reply. t ≡ Ok (record { reply = reply; moved = None })) → is_ok t ≡ is_ok r
+pub told_as : {E : Type 0} (r : Result Reply E) (t : Result Told E) (P : Reply → Type 0) →
+    IfOk r (λ reply. t ≡ Ok (record { reply = reply; moved = None })) → is_ok t ≡ is_ok r
     → IfOk r P → IfOk t (λ (told : Told). P told.reply)
 told_as (Err e) (Err d) P is ok p = tt
 told_as (Err e) (Ok told) P is ok p = let never : true ≡ false = ok in absurd cc
 told_as (Ok reply) t P is ok p = subst (λ (t : Result Told _). IfOk t (λ (told : Told). P told.reply)) (sym is) p
 
-pub on_ok_told : {A B E F : Type 0} (r : Result A E) (t : Result B F) (P : Type 0) → is_ok t ≡ is_ok r → OnOk r P → OnOk t P
+pub on_ok_told : {A B E F : Type 0} (r : Result A E) (t : Result B F) (P : Type 0) → is_ok t ≡ is_ok r → OnOk r P →
+    OnOk t P
 on_ok_told (Ok a) (Ok b) P ok p = p
 on_ok_told (Err e) (Err d) P ok p = tt
 on_ok_told (Ok a) (Err d) P ok p = tt
 on_ok_told (Err e) (Ok b) P ok p = let never : true ≡ false = ok in absurd cc
 
-pub on_err_told : {A B E F : Type 0} (r : Result A E) (t : Result B F) (P : Type 0) → is_ok t ≡ is_ok r → OnErr r P → OnErr t P
+pub on_err_told : {A B E F : Type 0} (r : Result A E) (t : Result B F) (P : Type 0) → is_ok t ≡ is_ok r → OnErr r P →
+    OnErr t P
 on_err_told (Ok a) (Ok b) P ok p = tt
 on_err_told (Err e) (Err d) P ok p = p
 on_err_told (Ok a) (Err d) P ok p = let never : false ≡ true = ok in absurd cc
 on_err_told (Err e) (Ok b) P ok p = tt
 
-pub kept_told : {A B E F : Type 0} (r : Result A E) (t : Result B F) (old new : Engine) (cursors : Cursors) (watches : Watches) → is_ok t ≡ is_ok r
+pub kept_told : {A B E F : Type 0} (r : Result A E) (t : Result B F) (old new : Engine) (cursors : Cursors)
+    (watches : Watches) → is_ok t ≡ is_ok r
     → OnErr r (StaysButMarks old new) → OnErr t (StaysButMarks old new × (cursors ≡ cursors) × (watches ≡ watches))
 kept_told (Ok a) (Ok b) old new cursors watches ok p = tt
 kept_told (Err e) (Err d) old new cursors watches ok p = (p, refl, refl)
 kept_told (Ok a) (Err d) old new cursors watches ok p = let never : false ≡ true = ok in absurd cc
 kept_told (Err e) (Ok b) old new cursors watches ok p = tt
 
-pub ran_line : (rows : PolicyRows) (command : Option Command) (old : Whole) (seen : Seen) → command ≡ None → Ran rows command old seen replies.Line old seen
+pub ran_line : (rows : PolicyRows) (command : Option Command) (old : Whole) (seen : Seen) → command ≡ None →
+    Ran rows command old seen replies.Line old seen
 ran_line rows command old seen e =
-    subst (λ (c : Option Command). Ran rows c old seen replies.Line old seen) (sym e) (ran_uncalled rows None old seen replies.Line old refl (refl, refl))
+    subst (λ (c : Option Command). Ran rows c old seen replies.Line old seen) (sym e)
+    (ran_uncalled rows None old seen replies.Line old refl (refl, refl))
 
-pub ran_told_line : (told : Told) (rows : PolicyRows) (command : Option Command) (old : Engine) (cursors : Cursors) (watches : Watches) (seen : Seen)
+pub ran_told_line : (told : Told) (rows : PolicyRows) (command : Option Command) (old : Engine) (cursors : Cursors)
+    (watches : Watches) (seen : Seen)
     → told.reply ≡ replies.Line → told.moved ≡ None → command ≡ None
-    → Ran rows command (watched (whole_of old cursors) watches) seen told.reply (watched (whole_of old (settled told.moved cursors)) watches) seen
+    → Ran rows command (watched (whole_of old cursors) watches) seen told.reply
+    (watched (whole_of old (settled told.moved cursors)) watches) seen
 ran_told_line told rows command old cursors watches seen r m e =
     let whole : Whole = watched (whole_of old cursors) watches in
-    subst (λ (o : Option Moved). Ran rows command whole seen told.reply (watched (whole_of old (settled o cursors)) watches) seen) (sym m)
+    subst (λ (o : Option Moved). Ran rows command whole seen told.reply
+    (watched (whole_of old (settled o cursors)) watches) seen) (sym m)
     (subst (λ (x : Reply). Ran rows command whole seen x whole seen) (sym r) (ran_line rows command whole seen e))
 
 -- ---- turns
 
-pub few_turns : {T E : Type 0} (r : Result T E) (command : Command) (old new : Engine) → OnOk r (IsTurnedBy command old.views old.turns new.views new.turns)
+pub few_turns : {T E : Type 0} (r : Result T E) (command : Command) (old new : Engine) →
+    OnOk r (IsTurnedBy command old.views old.turns new.views new.turns)
     → OnErr r (StaysButMarks old new) → new.turns.count ≤ old.turns.count + 1
 few_turns (Ok a) command old new turned kept = turned_few command old.views new.views old.turns new.turns turned
 few_turns (Err e) command old new turned kept = same_few old.turns new.turns kept.turns
 
-pub still_turns : {T E : Type 0} (r : Result T E) (command : Command) (old new : Engine) → OnOk r (IsTurnedBy command old.views old.turns new.views new.turns)
+pub still_turns : {T E : Type 0} (r : Result T E) (command : Command) (old new : Engine) →
+    OnOk r (IsTurnedBy command old.views old.turns new.views new.turns)
     → OnErr r (StaysButMarks old new) → state_of new ≡ state_of old → new.turns ≡ old.turns
-still_turns (Ok a) command old new turned kept same = turned_still command old.views new.views old.turns new.turns (ap (λ (s : State). s.views) same) turned
+still_turns (Ok a) command old new turned kept same = turned_still command old.views new.views old.turns new.turns
+    (ap (λ (s : State). s.views) same) turned
 still_turns (Err e) command old new turned kept same = kept.turns
 
 -- ---- entries
@@ -229,19 +274,22 @@ read_alone None answer = record { read = answer; fails = false }
 read_alone (Some w) answer = record { read = answer; fails = fails_next (called w) }
 
 -- where the answer is known by a fact on it
-pub told_so : (world : Option World) (name : Name) (given : Answer) (P : Answer → Type 0) → ((a : Answer) → P a → given ≡ a)
+pub told_so : (world : Option World) (name : Name) (given : Answer) (P : Answer → Type 0) →
+    ((a : Answer) → P a → given ≡ a)
     → IfSome world (λ (w : World). P (read_answer w name)) → IfSome world (λ (w : World). given ≡ read_answer w name)
 told_so None name given P f p = tt
 told_so (Some w) name given P f p = f (read_answer w name) p
 
-asked_alone : (world : Option World) (name : Name) (answer : Answer) → IfSome world (λ (w : World). answer ≡ read_answer w name)
+asked_alone : (world : Option World) (name : Name) (answer : Answer) →
+    IfSome world (λ (w : World). answer ≡ read_answer w name)
     → WasGiven (Some name) world (read_alone world answer)
 asked_alone None name answer p = tt
 asked_alone (Some w) name answer p =
     let Gave : Answer → Served = λ a. record { read = a; fails = fails_next (called w) } in
     ap Gave p
 
-after_alone : (before after : Option World) (name : Name) → Becomes before called after → IsWorldAfter (Some name) None before after
+after_alone : (before after : Option World) (name : Name) → Becomes before called after →
+    IsWorldAfter (Some name) None before after
 after_alone None after name b = tt
 after_alone (Some w) after name b = b
 
@@ -250,10 +298,13 @@ read_is None answer = refl
 read_is (Some w) answer = refl
 
 -- an entry was read, and united or not
-pub ran_load : (rows : PolicyRows) (name : Name) (old : State) (before after : Option World) (faults later : ℕ) (reply : Reply) (new : State) (answer : Answer)
-    → Gives (load rows old name answer) reply new → IfSome before (λ (w : World). answer ≡ read_answer w name) → Becomes before called after
+pub ran_load : (rows : PolicyRows) (name : Name) (old : State) (before after : Option World) (faults later : ℕ)
+    (reply : Reply) (new : State) (answer : Answer)
+    → Gives (load rows old name answer) reply new → IfSome before (λ (w : World). answer ≡ read_answer w name) →
+    Becomes before called after
     → (is_fault answer ≡ true → Rose faults later)
-    → Did rows (Load name) old (record { world = before; faults = faults }) reply new (record { world = after; faults = later })
+    → Did rows (Load name) old (record { world = before; faults = faults }) reply new
+    (record { world = after; faults = later })
 ran_load rows name old before after faults later reply new answer gives told becomes cause =
     let e : answer ≡ (read_alone before answer).read = sym (read_is before answer) in
     record {
@@ -266,9 +317,11 @@ ran_load rows name old before after faults later reply new answer gives told bec
 -- ---- storing
 
 -- the certificate isn't kept
-pub ran_absent : (rows : PolicyRows) (fpr : Fpr) (old : State) (seen : Seen) → cert_in old.held fpr ≡ None → Did rows (Store fpr) old seen replies.Absent old seen
+pub ran_absent : (rows : PolicyRows) (fpr : Fpr) (old : State) (seen : Seen) → cert_in old.held fpr ≡ None →
+    Did rows (Store fpr) old seen replies.Absent old seen
 ran_absent rows fpr old seen none =
-    let All : Option Certificate → Type 0 = λ o. WasGiven (if is_some o then Some (Cert fpr) else None) seen.world unserved
+    let All : Option Certificate → Type 0 = λ o. WasGiven (if is_some o then Some (Cert fpr) else None) seen.world
+    unserved
     × IsWorldAfter (if is_some o then Some (Cert fpr) else None) (put_from o fpr Answer.absent) seen.world seen.world
     × (has_failed (put_from o fpr Answer.absent) unserved ≡ true → ⊥)
     × (replies.Absent ≡ stored_from o fpr unserved) in
@@ -285,10 +338,12 @@ none_kept None fpr e = refl
 none_kept (Some c) fpr e = absurd (cc e)
 
 -- it is kept
-pub ran_stored : (rows : PolicyRows) (fpr : Fpr) (kept : Certificate) (old : State) (before : Seen) (reply : Reply) (after : Seen) → cert_in old.held fpr ≡ Some kept
+pub ran_stored : (rows : PolicyRows) (fpr : Fpr) (kept : Certificate) (old : State) (before : Seen) (reply : Reply)
+    (after : Seen) → cert_in old.held fpr ≡ Some kept
     → Stores fpr kept before reply after → Did rows (Store fpr) old before reply old after
 ran_stored rows fpr kept old before reply after is s =
-    let All : Option Certificate → Type 0 = λ o. WasGiven (if is_some o then Some (Cert fpr) else None) before.world s.given
+    let All : Option Certificate → Type 0 = λ o. WasGiven (if is_some o then Some (Cert fpr) else None) before.world
+    s.given
     × IsWorldAfter (if is_some o then Some (Cert fpr) else None) (put_from o fpr s.given.read) before.world after.world
     × (has_failed (put_from o fpr s.given.read) s.given ≡ true → Rose before.faults after.faults)
     × (reply ≡ stored_from o fpr s.given) in
@@ -308,11 +363,15 @@ rose_later low mid high le less rose h = by (nat_le last_count mid) refl
     by false e = let risen : mid < high = rose (leb-false last_count mid e) in omega (arith, risen)
 
 -- something was put
-pub stores_put : (fpr : Fpr) (kept : Certificate) (answer : Answer) (octets : List ℕ) (before mid : Option World) (low high : ℕ) (reply : Reply) (after : Seen)
-    → writing fpr kept answer ≡ Ok octets → IfSome before (λ (w : World). answer ≡ read_answer w (Cert fpr)) → Becomes before called mid → low ≤ high → high ≤ after.faults
-    → Puts (Cert fpr) octets (record { world = mid; faults = high }) reply after → Stores fpr kept (record { world = before; faults = low }) reply after
+pub stores_put : (fpr : Fpr) (kept : Certificate) (answer : Answer) (octets : List ℕ) (before mid : Option World)
+    (low high : ℕ) (reply : Reply) (after : Seen)
+    → writing fpr kept answer ≡ Ok octets → IfSome before (λ (w : World). answer ≡ read_answer w (Cert fpr)) →
+    Becomes before called mid → low ≤ high → high ≤ after.faults
+    → Puts (Cert fpr) octets (record { world = mid; faults = high }) reply after →
+    Stores fpr kept (record { world = before; faults = low }) reply after
 stores_put fpr kept answer octets None mid low high reply after is told becomes le less p =
-    let Failed : Result (List ℕ) Reply → Type 0 = λ r. has_failed (result_ok r) (record { read = answer; fails = p.fails }) ≡ true → Rose low after.faults in
+    let Failed : Result (List ℕ) Reply → Type 0 =
+    λ r. has_failed (result_ok r) (record { read = answer; fails = p.fails }) ≡ true → Rose low after.faults in
     record {
       given = record { read = answer; fails = p.fails };
       reply_is = p.reply_is ∙ ap (stored p.fails) (sym is);
@@ -321,11 +380,15 @@ stores_put fpr kept answer octets None mid low high reply after is told becomes 
       cause = subst Failed (sym is) (λ f. rose_later low high after.faults le less (p.cause f));
     }
 stores_put fpr kept answer octets (Some w) mid low high reply after is told becomes le less p =
-    let Failed : Result (List ℕ) Reply → Type 0 = λ r. has_failed (result_ok r) (record { read = answer; fails = p.fails }) ≡ true → Rose low after.faults in
-    let by : p.fails ≡ fails_next (called w) = subst (λ (o : Option World). IfSome o (λ (w : World). p.fails ≡ fails_next w)) becomes p.fails_by in
+    let Failed : Result (List ℕ) Reply → Type 0 =
+    λ r. has_failed (result_ok r) (record { read = answer; fails = p.fails }) ≡ true → Rose low after.faults in
+    let by : p.fails ≡ fails_next (called w) =
+    subst (λ (o : Option World). IfSome o (λ (w : World). p.fails ≡ fails_next w)) becomes p.fails_by in
     let put : after.world ≡ Some (after_replace (called w) (Cert fpr) octets) =
-    subst (λ (o : Option World). Becomes o (λ (w : World). after_replace w (Cert fpr) octets) after.world) becomes p.world in
-    let Behind : Result (List ℕ) Reply → Type 0 = λ r. after.world ≡ Some (world_after w (Some (Cert fpr)) (result_ok r)) in
+    subst (λ (o : Option World). Becomes o (λ (w : World). after_replace w (Cert fpr) octets) after.world) becomes
+    p.world in
+    let Behind : Result (List ℕ) Reply → Type 0 =
+    λ r. after.world ≡ Some (world_after w (Some (Cert fpr)) (result_ok r)) in
     record {
       given = record { read = answer; fails = p.fails };
       reply_is = p.reply_is ∙ ap (stored p.fails) (sym is);
@@ -335,15 +398,18 @@ stores_put fpr kept answer octets (Some w) mid low high reply after is told beco
     }
 
 -- nothing was put
-pub stores_told : (fpr : Fpr) (kept : Certificate) (answer : Answer) (before after : Option World) (low high : ℕ) (reply : Reply)
-    → writing fpr kept answer ≡ Err reply → IfSome before (λ (w : World). answer ≡ read_answer w (Cert fpr)) → Becomes before called after
+pub stores_told : (fpr : Fpr) (kept : Certificate) (answer : Answer) (before after : Option World) (low high : ℕ)
+    (reply : Reply)
+    → writing fpr kept answer ≡ Err reply → IfSome before (λ (w : World). answer ≡ read_answer w (Cert fpr)) →
+    Becomes before called after
     → (is_fault answer ≡ true → Rose low high)
     → Stores fpr kept (record { world = before; faults = low }) reply (record { world = after; faults = high })
 stores_told fpr kept answer before after low high reply is told becomes cause =
     let e : answer ≡ (read_alone before answer).read = sym (read_is before answer) in
     let is' : writing fpr kept (read_alone before answer).read ≡ Err reply = ap (writing fpr kept) (sym e) ∙ is in
     let Behind : Result (List ℕ) Reply → Type 0 = λ r. IsWorldAfter (Some (Cert fpr)) (result_ok r) before after in
-    let Failed : Result (List ℕ) Reply → Type 0 = λ r. has_failed (result_ok r) (read_alone before answer) ≡ true → Rose low high in
+    let Failed : Result (List ℕ) Reply → Type 0 = λ r. has_failed (result_ok r) (read_alone before answer) ≡ true →
+    Rose low high in
     record {
       given = read_alone before answer;
       reply_is = ap (stored (read_alone before answer).fails) (sym is');
@@ -365,11 +431,15 @@ never_fault Long f = cc f
 
 -- ---- lines
 
-pub replied : (rows : PolicyRows) (line : List ℕ) (old : Whole) (before : Seen) (new : Whole) (after : Seen) (reply : Option Reply) (given : Served) (use_ : Use)
-    → use_of (heard line) ≡ use_ → LineStep rows old line given reply new → IsServed old.state use_ before.world given after.world
-    → (has_failed (put_for old.state use_ given.read) given ≡ true → Rose before.faults after.faults) → Replied rows line old before reply new after
+pub replied : (rows : PolicyRows) (line : List ℕ) (old : Whole) (before : Seen) (new : Whole) (after : Seen)
+    (reply : Option Reply) (given : Served) (use_ : Use)
+    → use_of (heard line) ≡ use_ → LineStep rows old line given reply new →
+    IsServed old.state use_ before.world given after.world
+    → (has_failed (put_for old.state use_ given.read) given ≡ true → Rose before.faults after.faults) →
+    Replied rows line old before reply new after
 replied rows line old before new after reply given use_ e step served cause =
-    let Cause : Use → Type 0 = λ u. has_failed (put_for old.state u given.read) given ≡ true → Rose before.faults after.faults in
+    let Cause : Use → Type 0 = λ u. has_failed (put_for old.state u given.read) given ≡ true →
+    Rose before.faults after.faults in
     record {
       given = given;
       step = step;
@@ -378,30 +448,40 @@ replied rows line old before new after reply given use_ e step served cause =
     }
 
 -- a line that leaves the shelf alone
-pub replied_alone : (rows : PolicyRows) (line : List ℕ) (old : Whole) (seen : Seen) (new : Whole) (reply : Option Reply) → use_of (heard line) ≡ unused
+pub replied_alone : (rows : PolicyRows) (line : List ℕ) (old : Whole) (seen : Seen) (new : Whole)
+    (reply : Option Reply) → use_of (heard line) ≡ unused
     → LineStep rows old line unserved reply new → Replied rows line old seen reply new seen
 replied_alone rows line old seen new reply e step =
-    replied rows line old seen new seen reply unserved unused e step (idle old.state seen.world) (λ f. absurd (never_failed old.state unused refl f))
+    replied rows line old seen new seen reply unserved unused e step (idle old.state seen.world)
+    (λ f. absurd (never_failed old.state unused refl f))
 
 -- a line that was too long
-pub replied_long : (rows : PolicyRows) (line : List ℕ) (engine : Engine) (cursors : Cursors) (watches : Watches) (seen : Seen) (told : Told) → longest < length line
+pub replied_long : (rows : PolicyRows) (line : List ℕ) (engine : Engine) (cursors : Cursors) (watches : Watches)
+    (seen : Seen) (told : Told) → longest < length line
     → told.reply ≡ replies.Long → told.moved ≡ None
-    → Replied rows line (watched (whole_of engine cursors) watches) seen (Some told.reply) (watched (whole_of engine (settled told.moved cursors)) watches) seen
+    → Replied rows line (watched (whole_of engine cursors) watches) seen (Some told.reply)
+    (watched (whole_of engine (settled told.moved cursors)) watches) seen
 replied_long rows line engine cursors watches seen told long r m =
     let whole : Whole = watched (whole_of engine cursors) watches in
-    subst (λ (o : Option Moved). Replied rows line whole seen (Some told.reply) (watched (whole_of engine (settled o cursors)) watches) seen) (sym m)
+    subst (λ (o : Option Moved). Replied rows line whole seen (Some told.reply)
+    (watched (whole_of engine (settled o cursors)) watches) seen) (sym m)
     (subst (λ (x : Reply). Replied rows line whole seen (Some x) whole seen) (sym r)
-    (replied_alone rows line whole seen whole (Some replies.Long) (ap use_of (heard_long line long)) (too_long rows whole line unserved long)))
+    (replied_alone rows line whole seen whole (Some replies.Long) (ap use_of (heard_long line long))
+    (too_long rows whole line unserved long)))
 
 -- a line that is passed over
-pub replied_silent : (rows : PolicyRows) (line : List ℕ) (old : Whole) (seen : Seen) → length line ≤ longest → is_silent line ≡ true
+pub replied_silent : (rows : PolicyRows) (line : List ℕ) (old : Whole) (seen : Seen) → length line ≤ longest →
+    is_silent line ≡ true
     → Replied rows line old seen None old seen
 replied_silent rows line old seen short silent =
-    replied_alone rows line old seen old None (ap use_of (heard_silent line silent)) (passed_over rows old line unserved short silent)
+    replied_alone rows line old seen old None (ap use_of (heard_silent line silent))
+    (passed_over rows old line unserved short silent)
 
 -- The octets of the reply were appended, where there is memory.
-pub stepped : {T E : Type 0} (r : Result T E) (rows : PolicyRows) (line : List ℕ) (old : Whole) (before : Seen) (new : Whole) (after : Seen) (had mid has : List ℕ) (reply : Reply)
-    → Replied rows line old before (Some reply) new after → mid ≡ had → OnOk r (has ≡ mid ++ reply_text reply) → OnOk r (Stepped rows line old before had new after has)
+pub stepped : {T E : Type 0} (r : Result T E) (rows : PolicyRows) (line : List ℕ) (old : Whole) (before : Seen)
+    (new : Whole) (after : Seen) (had mid has : List ℕ) (reply : Reply)
+    → Replied rows line old before (Some reply) new after → mid ≡ had → OnOk r (has ≡ mid ++ reply_text reply) →
+    OnOk r (Stepped rows line old before had new after has)
 stepped (Ok a) rows line old before new after had mid has reply p same f = record {
   given = p.given;
   reply = Some reply;
@@ -413,7 +493,8 @@ stepped (Ok a) rows line old before new after had mid has reply p same f = recor
 stepped (Err x) rows line old before new after had mid has reply p same f = tt
 
 -- A line that is passed over appends nothing.
-pub passed : (rows : PolicyRows) (line : List ℕ) (old : Whole) (before : Seen) (new : Whole) (after : Seen) (had has : List ℕ) → Replied rows line old before None new after
+pub passed : (rows : PolicyRows) (line : List ℕ) (old : Whole) (before : Seen) (new : Whole) (after : Seen)
+    (had has : List ℕ) → Replied rows line old before None new after
     → has ≡ had → Stepped rows line old before had new after has
 passed rows line old before new after had has p same = record {
   given = p.given;
@@ -426,31 +507,41 @@ passed rows line old before new after had has p same = record {
 
 -- A reply that was told, and the cursor that moved then.
 module _ {T E : Type 0} where
-  pub told_step : (r : Result T E) (rows : PolicyRows) (line : List ℕ) (old : Whole) (before : Seen) (mid : Engine) (at : Cursors) (watches : Watches) (new : Engine)
+  pub told_step : (r : Result T E) (rows : PolicyRows) (line : List ℕ) (old : Whole) (before : Seen) (mid : Engine)
+      (at : Cursors) (watches : Watches) (new : Engine)
       (cursors : Cursors) (left : Watches) (after : Seen) (had kept has : List ℕ) (told : Told)
-      → Replied rows line old before (Some told.reply) (watched (whole_of mid (settled told.moved at)) watches) after → new ≡ mid → left ≡ watches
+      → Replied rows line old before (Some told.reply) (watched (whole_of mid (settled told.moved at)) watches) after →
+      new ≡ mid → left ≡ watches
       → OnOk r (cursors ≡ settled told.moved at) → kept ≡ had → OnOk r (has ≡ kept ++ reply_text told.reply)
       → OnOk r (Stepped rows line old before had (watched (whole_of new cursors) left) after has)
   told_step (Err x) rows line old before mid at watches new cursors left after had kept has told p e w s same f = tt
   told_step (Ok a) rows line old before mid at watches new cursors left after had kept has told p e w s same f =
-      stepped {T = T} {E = E} (Ok a) rows line old before (watched (whole_of new cursors) left) after had kept has told.reply
-      (subst (λ (x : Whole). Replied rows line old before (Some told.reply) x after) (λ i. watched (whole_of (sym e i) (sym s i)) (sym w i)) p) same f
+      stepped {T = T} {E = E} (Ok a) rows line old before (watched (whole_of new cursors) left) after had kept has
+      told.reply
+      (subst (λ (x : Whole). Replied rows line old before (Some told.reply) x after)
+      (λ i. watched (whole_of (sym e i) (sym s i)) (sym w i)) p) same f
 
 -- the same of the reply alone
-pub told_settled : (rows : PolicyRows) (line : List ℕ) (old : Whole) (before : Seen) (mid : Engine) (at : Cursors) (watches : Watches) (new : Engine) (cursors : Cursors)
-    (left : Watches) (after : Seen) (told : Told) (reply : Reply) (moved : Option Moved) → told.reply ≡ reply → told.moved ≡ moved
-    → Replied rows line old before (Some told.reply) (watched (whole_of mid (settled told.moved at)) watches) after → new ≡ mid → cursors ≡ settled moved at → left ≡ watches
+pub told_settled : (rows : PolicyRows) (line : List ℕ) (old : Whole) (before : Seen) (mid : Engine) (at : Cursors)
+    (watches : Watches) (new : Engine) (cursors : Cursors)
+    (left : Watches) (after : Seen) (told : Told) (reply : Reply) (moved : Option Moved) → told.reply ≡ reply →
+    told.moved ≡ moved
+    → Replied rows line old before (Some told.reply) (watched (whole_of mid (settled told.moved at)) watches) after →
+    new ≡ mid → cursors ≡ settled moved at → left ≡ watches
     → Replied rows line old before (Some reply) (watched (whole_of new cursors) left) after
 told_settled rows line old before mid at watches new cursors left after told reply moved r m p e s w =
     let there : cursors ≡ settled told.moved at = s ∙ ap (λ (o : Option Moved). settled o at) (sym m) in
     subst (λ (x : Reply). Replied rows line old before (Some x) (watched (whole_of new cursors) left) after) r
-    (subst (λ (x : Whole). Replied rows line old before (Some told.reply) x after) (λ i. watched (whole_of (sym e i) (sym there i)) (sym w i)) p)
+    (subst (λ (x : Whole). Replied rows line old before (Some told.reply) x after)
+    (λ i. watched (whole_of (sym e i) (sym there i)) (sym w i)) p)
 
 -- ---- watch lines
 
 -- The watch lines were told.
-pub tells_of : (engine new : Engine) (cursors after : Cursors) (watches left : Watches) (lines : List Reply) → state_of new ≡ state_of engine
-    → new.keyring.changes ≡ engine.keyring.changes → new.turns ≡ engine.turns → after ≡ cursors → AreLines (state_of engine) watches lines → left ≡ told_all watches lines
+pub tells_of : (engine new : Engine) (cursors after : Cursors) (watches left : Watches) (lines : List Reply) →
+    state_of new ≡ state_of engine
+    → new.keyring.changes ≡ engine.keyring.changes → new.turns ≡ engine.turns → after ≡ cursors →
+    AreLines (state_of engine) watches lines → left ≡ told_all watches lines
     → Tells (watched (whole_of engine cursors) watches) lines (watched (whole_of new after) left)
 tells_of engine new cursors after watches left lines state changes turns same are told = record {
   lines_are = are;
@@ -458,8 +549,10 @@ tells_of engine new cursors after watches left lines state changes turns same ar
 }
 
 -- The watch lines were appended and told, where there is memory.
-pub tells_behind : {T E : Type 0} (r : Result T E) (engine new : Engine) (cursors after : Cursors) (watches left : Watches) (lines : List Reply) (had has : List ℕ)
-    → state_of new ≡ state_of engine → new.keyring.changes ≡ engine.keyring.changes → new.turns ≡ engine.turns → after ≡ cursors
+pub tells_behind : {T E : Type 0} (r : Result T E) (engine new : Engine) (cursors after : Cursors)
+    (watches left : Watches) (lines : List Reply) (had has : List ℕ)
+    → state_of new ≡ state_of engine → new.keyring.changes ≡ engine.keyring.changes → new.turns ≡ engine.turns →
+    after ≡ cursors
     → AreLines (state_of engine) watches lines → left ≡ told_all watches lines → OnOk r (has ≡ had ++ octets_of lines)
     → OnOk r (TellsBehind (watched (whole_of engine cursors) watches) had (watched (whole_of new after) left) has)
 tells_behind (Err e) engine new cursors after watches left lines had has state changes turns same are told f = tt

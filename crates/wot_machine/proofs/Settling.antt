@@ -1,5 +1,7 @@
--- Watches that are settled stay so, line by line, and behind a line that leaves their basis undisturbed nothing is told.
-use Rattle.std.proofs.Common.{◌≡◌, ◌≢◌, ◌⊎◌, inl, inr, ℕ, ◌≤◌, Bool, true, false, List, [], ◌∷◌, ◌++◌, Option, Some, None}
+-- Watches that are settled stay so, line by line, and behind a line that leaves their basis undisturbed nothing is
+-- told.
+use Rattle.std.proofs.Common.{◌≡◌, ◌≢◌, ◌⊎◌, inl, inr, ℕ, ◌≤◌, Bool, true, false, List, [], ◌∷◌, ◌++◌, Option, Some}
+use Rattle.std.proofs.Common.{None}
 use Rattle.std.proofs.Common.{refl, sym, ap, subst, ◌∙◌, arith}
 use Rattle.std.specs.Prelude.{◌==◌, IfSome, MatchBool, if◌then◌else◌, is_some, length}
 use Rattle.std.proofs.lemmas.Bool.{eqb-false, eqb-true}
@@ -14,7 +16,8 @@ use Rattle.wot_script.specs.declared.reply.Reply.{Reply}
 use Rattle.wot_script.specs.declared.reply.Reply.TheVariants as replies
 use Rattle.wot_cache.specs.declared.view.View.{View}
 use Rattle.wot_cache.specs.Basis as bases
-use Rattle.wot_cache.specs.Basis.{AreViewsOn, Basis, HasGrown, IsKeptOn, IsKeyringOn, IsUndisturbed, RestsOnLater, RestsOnMore, TurnGoesOn}
+use Rattle.wot_cache.specs.Basis.{AreViewsOn, Basis, HasGrown, IsKeptOn, IsKeyringOn, IsUndisturbed, RestsOnLater}
+use Rattle.wot_cache.specs.Basis.{RestsOnMore, TurnGoesOn}
 use Rattle.wot_cache.specs.Question.{question_in}
 use Rattle.wot_cache.specs.State.{Engine, State, StaysButMarks, closing, state_of}
 use Rattle.wot_cache.specs.Turns.{AreTurnsBy, Turns, without_turn}
@@ -26,7 +29,8 @@ use Rattle.wot_machine.specs.LineStep.{Answers, Does, Gives, Obeys}
 use Rattle.wot_machine.specs.Outcome.{close, done, only}
 use Rattle.wot_machine.specs.Settled.{AllSettled, AreOpen, AreSettled, IsNoAmount, IsSettled}
 use Rattle.wot_machine.specs.Stepped.{TellsBehind}
-use Rattle.wot_machine.specs.Watching.{AreLines, HasAmount, LeavesWatches, Opens, TakesOff, Watching, is_watching, line_by, opened}
+use Rattle.wot_machine.specs.Watching.{AreLines, HasAmount, LeavesWatches, Opens, TakesOff, Watching, is_watching}
+use Rattle.wot_machine.specs.Watching.{line_by, opened}
 use Rattle.wot_machine.specs.Whole.{IsCounted, IsTurnedBy, Whole, watched, whole_of}
 use Rattle.wot_machine.proofs.Entries.{all_weaker, all_without}
 use Rattle.wot_machine.proofs.Viewed.{does_views}
@@ -49,7 +53,8 @@ pub all_carried : (engine : Engine) (old new : Basis) (watches : Watches) → ba
     → AllSettled engine old watches → AllSettled engine new watches
 all_carried engine old new watches carries =
     all_weaker (IsSettled engine old) (IsSettled engine new)
-    (λ watch s. record { none = s.none; rests = λ some later on calm. s.rests some later on (carries later on calm) }) watches
+    (λ watch s. record { none = s.none; rests = λ some later on calm. s.rests some later on (carries later on calm) })
+    watches
 
 -- ---- nothing is told
 
@@ -67,7 +72,8 @@ settled_has engine None watch seen none now = absurd (cc seen)
 settled_has engine (Some view) watch seen none now = (watch.told, by (watch.wanted == 0) refl, refl)
   where
     by : (b : Bool) → (watch.wanted == 0) ≡ b
-        → MatchBool b (watch.told ≡ 0) (bases.HasAmount watch.wanted watch.told (question_in (state_of engine) view watch.target watch.uid))
+        → MatchBool b (watch.told ≡ 0) (bases.HasAmount watch.wanted watch.told
+        (question_in (state_of engine) view watch.target watch.uid))
     by true e = none (eqb-true watch.wanted 0 e)
     by false e = let some = eqb-false watch.wanted 0 e in now (omega (arith, some))
 
@@ -88,7 +94,8 @@ nothing_told engine basis (x ∷ xs) on calm all seen = (
   [],
   (
     Some x.1.told,
-    settled_has engine (view_at engine.views x.1.view) x.1 seen.0 all.0.none (λ some. now (view_at engine.views x.1.view) (all.0.rests some engine on calm)),
+    settled_has engine (view_at engine.views x.1.view) x.1 seen.0 all.0.none
+        (λ some. now (view_at engine.views x.1.view) (all.0.rests some engine on calm)),
     quiet_by x.0 x.1.told,
   ),
   nothing_told engine basis xs on calm all.1 seen.1,
@@ -96,7 +103,8 @@ nothing_told engine basis (x ∷ xs) on calm all seen = (
 )
   where
     now : (o : Option View)
-        → IfSome o (λ (v : View). bases.HasAmount x.1.wanted x.1.told (question_in (state_of engine) v x.1.target x.1.uid))
+        → IfSome o (λ (v : View). bases.HasAmount x.1.wanted x.1.told
+        (question_in (state_of engine) v x.1.target x.1.uid))
         → OfQ engine o x.1
     now None h = tt
     now (Some view) h = h
@@ -107,14 +115,16 @@ nothing_told engine basis (x ∷ xs) on calm all seen = (
 abbrev LeavesOrTakes : Watches → Watches → Type 0
 LeavesOrTakes old new = (new ≡ old) ⊎ ((name : List ℕ) × (new ≡ without_watch old name))
 
-opens_leaves : (s : Whole) (name view : List ℕ) (target : Fpr) (wanted : ℕ) (uid : List ℕ) (o : Option View) (reply : Reply) (watches : Watches)
+opens_leaves : (s : Whole) (name view : List ℕ) (target : Fpr) (wanted : ℕ) (uid : List ℕ) (o : Option View)
+    (reply : Reply) (watches : Watches)
     → IsNoAmount reply → Opens s name view target wanted uid o reply watches → LeavesOrTakes s.watches watches
 opens_leaves s name view target wanted uid None reply watches plain l = inl l.1
 opens_leaves s name view target wanted uid (Some there) reply watches plain p = by (is_full s.watches name) p.2
   where
     by : (b : Bool)
         → MatchBool b (LeavesWatches replies.FullWatches s.watches reply watches)
-        (LeavesWatches (replies.WatchAmount name p.0) (with_watch s.watches name (opened view target wanted uid p.0)) reply watches)
+        (LeavesWatches (replies.WatchAmount name p.0) (with_watch s.watches name (opened view target wanted uid p.0))
+        reply watches)
         → LeavesOrTakes s.watches watches
     by true l = inl l.1
     by false l = absurd (subst IsNoAmount l.0 plain)
@@ -124,7 +134,8 @@ takes_leaves : (s : Whole) (name : List ℕ) (reply : Reply) (watches : Watches)
 takes_leaves s name reply watches l = by (is_some (watch_at s.watches name)) l
   where
     by : (b : Bool)
-        → MatchBool b (LeavesWatches replies.Done (without_watch s.watches name) reply watches) (LeavesWatches replies.NoWatch s.watches reply watches)
+        → MatchBool b (LeavesWatches replies.Done (without_watch s.watches name) reply watches)
+        (LeavesWatches replies.NoWatch s.watches reply watches)
         → LeavesOrTakes s.watches watches
     by true l = inr (name, l.1)
     by false l = inl l.1
@@ -136,11 +147,13 @@ watching_leaves s command reply watches plain w = by (is_watching command) refl
     by : (b : Bool) → is_watching command ≡ b → LeavesOrTakes s.watches watches
     by true e =
         watched_cases (λ (c : Command). Watching s c reply watches → LeavesOrTakes s.watches watches)
-        (λ name view target wanted uid. opens_leaves s name view target wanted uid (view_at s.state.views view) reply watches plain)
+        (λ name view target wanted uid. opens_leaves s name view target wanted uid (view_at s.state.views view) reply
+        watches plain)
         (λ name. takes_leaves s name reply watches) command e w
     by false e = inl (plain_watching s command reply watches e w)
 
-pub all_left : (engine : Engine) (basis : Basis) (old new : Watches) → LeavesOrTakes old new → AllSettled engine basis old
+pub all_left : (engine : Engine) (basis : Basis) (old new : Watches) → LeavesOrTakes old new →
+    AllSettled engine basis old
     → AllSettled engine basis new
 all_left engine basis old new (inl same) all = subst (AllSettled engine basis) (sym same) all
 all_left engine basis old new (inr took) all =
@@ -201,7 +214,8 @@ module _ (rows : PolicyRows) (on : TurnGoesOn) where
       on view old.state.views new.state.views old.turns new.turns
       (does_views rows old.state (Root view fpr amount) given reply new.state d).others turned
   does_on old new command given reply d counted turned tells =
-      views_still old.state.views new.state.views old.turns new.turns (does_views rows old.state command given reply new.state d) turned
+      views_still old.state.views new.state.views old.turns new.turns
+      (does_views rows old.state command given reply new.state d) turned
 
   -- What a line left, by its reply and the counts, goes on from what was there.
   pub obeys_on : (old new : Whole) (command : Command) (given : Served) (reply : Reply)
@@ -213,34 +227,40 @@ module _ (rows : PolicyRows) (on : TurnGoesOn) where
       → Answers rows old command given reply new → (reply ≡ replies.Done → IsCountedOn old new)
       → AreViewsOn old.state.views old.turns new.state.views new.turns
   answers_on old new None given reply g tells =
-      views_still old.state.views new.state.views old.turns new.turns (ap (λ (w : Whole). w.state.views) g.1) (ap (λ (w : Whole). w.turns) g.1)
+      views_still old.state.views new.state.views old.turns new.turns (ap (λ (w : Whole). w.state.views) g.1)
+      (ap (λ (w : Whole). w.turns) g.1)
   answers_on old new (Some command) given reply g tells = obeys_on old new command given reply g tells
 
   answers_leaves : (old new : Whole) (command : Option Command) (given : Served) (reply : Reply)
       → Answers rows old command given reply new → IsNoAmount reply → LeavesOrTakes old.watches new.watches
   answers_leaves old new None given reply g plain = inl (ap (λ (w : Whole). w.watches) g.1)
-  answers_leaves old new (Some command) given reply g plain = watching_leaves old command reply new.watches plain g.watching
+  answers_leaves old new (Some command) given reply g plain = watching_leaves old command reply new.watches plain
+      g.watching
 
   -- The line that was answered, and what was settled before it.
   pub settled_behind : RestsOnLater → ChangedOn → (old new : Engine) (cursors after : Cursors) (watches left : Watches)
       (command : Option Command) (given : Served) (reply : Reply) (basis : Option Basis)
       → Answers rows (watched (whole_of old cursors) watches) command given reply (watched (whole_of new after) left)
       → IsOneChange old.keyring new.keyring → length old.keyring.certs ≤ length new.keyring.certs
-      → (reply ≡ replies.Done → IsCountedOn (watched (whole_of old cursors) watches) (watched (whole_of new after) left))
+      → (reply ≡ replies.Done → IsCountedOn (watched (whole_of old cursors) watches)
+      (watched (whole_of new after) left))
       → IsNoAmount reply → AreSettled old watches basis → AreSettled new left basis
   settled_behind later changed old new cursors after watches left command given reply None a one more tells plain s = tt
-  settled_behind later changed old new cursors after watches left command given reply (Some basis) a one more tells plain s =
+  settled_behind later changed old new cursors after watches left command given reply (Some basis) a one more tells
+      plain s =
       let was = watched (whole_of old cursors) watches in
       let now = watched (whole_of new after) left in
       let goes : IsKeptOn old new = record {
         keyring = changed old.keyring new.keyring one more;
         views = answers_on was now command given reply a tells;
       } in
-      all_left new basis watches left (answers_leaves was now command given reply a plain) (all_later later old new basis watches goes s)
+      all_left new basis watches left (answers_leaves was now command given reply a plain)
+      (all_later later old new basis watches goes s)
 
   -- The same, by the counts that were taken before it, of a basis that was kept or not.
   pub settled_told : RestsOnLater → ChangedOn → (old new : Engine) (cursors after : Cursors) (watches left : Watches)
-      (command : Option Command) (given : Served) (reply : Reply) (found taken : Option Basis) (certificates changes turns : ℕ)
+      (command : Option Command) (given : Served) (reply : Reply) (found taken : Option Basis)
+      (certificates changes turns : ℕ)
       → Answers rows (watched (whole_of old cursors) watches) command given reply (watched (whole_of new after) left)
       → IsOneChange old.keyring new.keyring
       → certificates ≡ length old.keyring.certs → changes ≡ old.keyring.changes → turns ≡ old.turns.count
@@ -249,8 +269,10 @@ module _ (rows : PolicyRows) (on : TurnGoesOn) where
       → IfSome taken (λ (b : Basis). IsNoAmount reply)
       → IfSome taken (λ (b : Basis). reply ≡ replies.Done → (new.keyring.changes ≢ changes) ⊎ (new.turns.count ≢ turns))
       → AreSettled old watches found → AreSettled new left taken
-  settled_told later changed old new cursors after watches left command given reply found None certificates changes turns a one here were turned same more plain tells s = tt
-  settled_told later changed old new cursors after watches left command given reply found (Some basis) certificates changes turns a one here were turned same more plain tells s =
+  settled_told later changed old new cursors after watches left command given reply found None certificates changes
+      turns a one here were turned same more plain tells s = tt
+  settled_told later changed old new cursors after watches left command given reply found (Some basis) certificates
+      changes turns a one here were turned same more plain tells s =
       settled_behind later changed old new cursors after watches left command given reply (Some basis) a one
       (subst (λ n. n ≤ length new.keyring.certs) here more)
       (λ done. subst (λ t. (new.keyring.changes ≢ old.keyring.changes) ⊎ (new.turns.count ≢ t)) turned
@@ -269,7 +291,8 @@ sum_has s (Some view) target wanted uid sum some seen is =
 -- ---- the loop that gathers watch lines
 
 -- seen from the engine as it was before marks were made
-pub settled_before : RestsOnLater → (old new : Engine) (basis : Basis) (watch : Watch) → IsKeptOn new old → IsSettled new basis watch
+pub settled_before : RestsOnLater → (old new : Engine) (basis : Basis) (watch : Watch) → IsKeptOn new old →
+    IsSettled new basis watch
     → IsSettled old basis watch
 settled_before later old new basis watch on s = record {
   none = s.none;
@@ -280,7 +303,8 @@ pub stays_back : (old new : Engine) → StaysButMarks old new → StaysButMarks 
 stays_back old new stays = record { keyring = sym stays.keyring; views = sym stays.views; turns = sym stays.turns }
 
 -- The counts of a basis that has grown are those that it had.
-pub present_grown : (engine : Engine) (old new : Basis) → HasGrown old new → bases.IsPresent engine old → bases.IsPresent engine new
+pub present_grown : (engine : Engine) (old new : Basis) → HasGrown old new → bases.IsPresent engine old →
+    bases.IsPresent engine new
 present_grown engine old new more p = record { changes = more.changes ∙ p.changes; turns = more.turns ∙ p.turns }
 
 pub grown_further : (old mid new : Basis) → HasGrown old mid → HasGrown mid new → HasGrown old new
@@ -300,14 +324,16 @@ SettlesSoFar engine basis all rest lines =
     lines ≡ [] → (more : Basis) → HasGrown basis more → AllSettled engine more rest → AllSettled engine more all
 
 -- a watch without a line
-pub settles_still : RestsOnMore → (engine : Engine) (old new : Basis) (all rest : Watches) (name : List ℕ) (watch : Watch) (lines : List Reply)
+pub settles_still : RestsOnMore → (engine : Engine) (old new : Basis) (all rest : Watches) (name : List ℕ)
+    (watch : Watch) (lines : List Reply)
     → SettlesSoFar engine old all ((name, watch) ∷ rest) lines → HasGrown old new → IsSettled engine new watch
     → SettlesSoFar engine new all rest lines
 settles_still grown engine old new all rest name watch lines f g s none more h others =
     f none more (grown_further old new more g h) (
       record {
         none = s.none;
-        rests = λ some. grown engine new more watch.view watch.target watch.wanted watch.uid watch.told h (s.rests some);
+        rests = λ some. grown engine new more watch.view watch.target watch.wanted watch.uid watch.told h
+            (s.rests some);
       },
       others,
     )
@@ -318,14 +344,17 @@ pub settles_not : (engine : Engine) (basis : Basis) (all rest : Watches) (said :
 settles_not engine basis all rest said [] none = absurd (cc none)
 settles_not engine basis all rest said (first ∷ lines) none = absurd (cc none)
 
-pub settles_all : (engine : Engine) (basis : Basis) (all rest : Watches) (lines : List Reply) → SettlesSoFar engine basis all rest lines
+pub settles_all : (engine : Engine) (basis : Basis) (all rest : Watches) (lines : List Reply) →
+    SettlesSoFar engine basis all rest lines
     → rest ≡ [] → lines ≡ [] → AllSettled engine basis all
-settles_all engine basis all rest lines f end none = f none basis (grown_not basis) (subst (AllSettled engine basis) (sym end) tt)
+settles_all engine basis all rest lines f end none =
+    f none basis (grown_not basis) (subst (AllSettled engine basis) (sym end) tt)
 
 -- ---- telling
 
 -- Where no watch has a line nothing is told.
-pub tells_nothing : (whole : Whole) (had : List ℕ) → AreLines whole.state whole.watches [] → TellsBehind whole had whole had
+pub tells_nothing : (whole : Whole) (had : List ℕ) → AreLines whole.state whole.watches [] →
+    TellsBehind whole had whole had
 tells_nothing whole had none = record {
   lines = [];
   tells = record { lines_are = none; left = refl };

@@ -7,11 +7,13 @@ use Rattle.wot_edge.specs.Path.{Question}
 use Rattle.wot_edge.specs.Answer.{EachNext, IsAnswer}
 use Rattle.wot_cache.specs.declared.view.View.{View}
 
-pub each_short : (q : Question) (earlier paths : List Path) → EachNext q earlier paths → AllByRecursion (λ (p : Path). length p.steps ≤ 255) paths
+pub each_short : (q : Question) (earlier paths : List Path) → EachNext q earlier paths →
+    AllByRecursion (λ (p : Path). length p.steps ≤ 255) paths
 each_short q earlier [] each = tt
 each_short q earlier (path ∷ paths) each = (each.0.steps.0.0.few, each_short q (earlier ++ path ∷ []) paths each.1)
 
 -- the same of an answer from a view that is open
-pub answer_short : (o : Option View) (q : View → Question) (wanted : ℕ) (paths : List Path) → is_some o ≡ true → IfSome o (λ (v : View). IsAnswer (q v) wanted paths) → AllByRecursion (λ (p : Path). length p.steps ≤ 255) paths
+pub answer_short : (o : Option View) (q : View → Question) (wanted : ℕ) (paths : List Path) → is_some o ≡ true →
+    IfSome o (λ (v : View). IsAnswer (q v) wanted paths) → AllByRecursion (λ (p : Path). length p.steps ≤ 255) paths
 answer_short None q wanted paths some answer = absurd cc
 answer_short (Some v) q wanted paths some answer = each_short (q v) [] paths answer.each

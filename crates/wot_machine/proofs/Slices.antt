@@ -1,5 +1,6 @@
 -- A question about a target has the same reply in states that share a slice.
-use Rattle.std.proofs.Common.{◌≡◌, inl, inr, ℕ, List, [], ◌∷◌, ◌++◌, length, map, Option, Some, None, refl, sym, ap, subst, ◌∙◌}
+use Rattle.std.proofs.Common.{◌≡◌, inl, inr, ℕ, List, [], ◌∷◌, ◌++◌, length, map, Option, Some, None, refl, sym, ap}
+use Rattle.std.proofs.Common.{subst, ◌∙◌}
 use Rattle.std.specs.List.{flat_map}
 use Rattle.std.specs.Option.{option_map, option_map_or}
 use Rattle.std.proofs.lemmas.Map.Made.{lookup-map_values}
@@ -40,16 +41,20 @@ use Rattle.wot_machine.proofs.Alike.{step_as}
 -- ---- marks
 
 module _ (rows : PolicyRows) (forgets : (c : Certificate) → judged rows (unmarked c) ≡ judged rows c) where
-  forgotten : (found : Option Certificate) → option_map (judged rows) (option_map unmarked found) ≡ option_map (judged rows) found
+  forgotten : (found : Option Certificate) → option_map (judged rows) (option_map unmarked found) ≡ option_map
+      (judged rows) found
   forgotten None = refl
   forgotten (Some c) = ap (λ (x : Certificate). Some x) (forgets c)
 
   -- Where each mark is the one that the rows give, what is held under a fingerprint is known without its marks.
-  anew_at : (held : Held) → judged_by rows held ≡ held → (fpr : Fpr) → option_map (judged rows) (option_map unmarked (cert_in held fpr)) ≡ cert_in held fpr
+  anew_at : (held : Held) → judged_by rows held ≡ held → (fpr : Fpr) →
+      option_map (judged rows) (option_map unmarked (cert_in held fpr)) ≡ cert_in held fpr
   anew_at held p fpr =
-      forgotten (cert_in held fpr) ∙ sym (lookup-map_values (judged rows) (is_fpr fpr) held.certs) ∙ ap (λ (h : Held). cert_in h fpr) p
+      forgotten (cert_in held fpr) ∙ sym (lookup-map_values (judged rows) (is_fpr fpr) held.certs)
+      ∙ ap (λ (h : Held). cert_in h fpr) p
 
-  pub same_at : (one other : Held) → judged_by rows one ≡ one → judged_by rows other ≡ other → (fpr : Fpr) → HoldAlike one other fpr → cert_in one fpr ≡ cert_in other fpr
+  pub same_at : (one other : Held) → judged_by rows one ≡ one → judged_by rows other ≡ other → (fpr : Fpr) →
+      HoldAlike one other fpr → cert_in one fpr ≡ cert_in other fpr
   same_at one other p q fpr a = sym (anew_at one p fpr) ∙ ap (option_map (judged rows)) a.same ∙ anew_at other q fpr
 
 -- ---- what the laws of the layers below say
@@ -58,8 +63,10 @@ pub record Laws : Type 0 where
   pub answers : DoSlicesAnswer
   pub within : AreWithinSlices
   pub trust : (certs : Certificates) (verdicts : Entries) (t : ℕ) (u : List ℕ) → RestsOnTrust certs verdicts t u
-  pub local : (certs : Certificates) (verdicts : Entries) (t : ℕ) → IsLocal certs verdicts t (record_of certs verdicts t)
-  pub lawful : (certs : Certificates) (verdicts : Entries) (t : ℕ) (u : List ℕ) → AreOwn certs → IsRecord (record_of certs verdicts t u)
+  pub local : (certs : Certificates) (verdicts : Entries) (t : ℕ) →
+      IsLocal certs verdicts t (record_of certs verdicts t)
+  pub lawful : (certs : Certificates) (verdicts : Entries) (t : ℕ) (u : List ℕ) → AreOwn certs →
+      IsRecord (record_of certs verdicts t u)
 
 -- ---- one question
 
@@ -69,7 +76,8 @@ pub record Both (view : View) (target : Fpr) (one other : State) : Type 0 where
   pub shares : SharesSlice view target one.held other.held set
   pub same : (fpr : Fpr) → Has (target ∷ set) fpr → cert_in one.held fpr ≡ cert_in other.held fpr
 
-slice_of : Laws → (s : State) (view : View) (target : Fpr) (uid : List ℕ) (set : List Fpr) → IsSlice s.held.certs s.held.verdicts view.roots set → IsSliceOf (question_in s view target uid) set
+slice_of : Laws → (s : State) (view : View) (target : Fpr) (uid : List ℕ) (set : List Fpr) →
+    IsSlice s.held.certs s.held.verdicts view.roots set → IsSliceOf (question_in s view target uid) set
 slice_of laws s view target uid set slice = record {
   roots = slice.roots;
   onward = λ fpr row h from deep. (
@@ -78,7 +86,8 @@ slice_of laws s view target uid set slice = record {
       );
 }
 
-module _ (laws : Laws) (view : View) (target : Fpr) (one other : State) (both : Both view target one other) (uid : List ℕ) where
+module _ (laws : Laws) (view : View) (target : Fpr) (one other : State) (both : Both view target one other)
+    (uid : List ℕ) where
   abbrev q : Question
   q = question_in one view target uid
 
@@ -86,7 +95,8 @@ module _ (laws : Laws) (view : View) (target : Fpr) (one other : State) (both : 
   shared = record {
     one = slice_of laws one view target uid both.set both.shares.first;
     second = slice_of laws other view target uid both.set both.shares.second;
-    agree = laws.local one.held.certs one.held.verdicts view.time other.held.certs other.held.verdicts uid view.roots view.roots target (target ∷ both.set)
+    agree = laws.local one.held.certs one.held.verdicts view.time other.held.certs other.held.verdicts uid view.roots
+        view.roots target (target ∷ both.set)
         (λ fpr h. record { same = both.same fpr h; said = (both.shares.held fpr h).said }) (λ fpr h. refl);
   }
 
@@ -99,61 +109,88 @@ module _ (laws : Laws) (view : View) (target : Fpr) (one other : State) (both : 
   module _ (own : IsRecord q.told) where
     -- a step leads to where the rest begins
     leads : (step : Step) (rest : List Step) → Stands q step rest → step.target ≡ start target rest
-    leads step rest stands = sym (ap (λ (z : Step). z.target) stands.shown) ∙ own.into (start target rest) stands.row stands.into
+    leads step rest stands = sym (ap (λ (z : Step). z.target) stands.shown) ∙ own.into (start target rest) stands.row
+        stands.into
 
     line_same : (step : Step) → Has (target ∷ both.set) step.target → step_line one step ≡ step_line other step
     line_same step h = ap (lines.Step step.issuer step.target step.depth step.amount) (uid_same step.target step.uid h)
 
-    steps_same : (steps : List Step) → Chain q steps → ((x : Step) → Has steps x → Has both.set x.issuer) → map (step_line one) steps ≡ map (step_line other) steps
+    steps_same : (steps : List Step) → Chain q steps → ((x : Step) → Has steps x → Has both.set x.issuer) →
+        map (step_line one) steps ≡ map (step_line other) steps
     steps_same [] c within = refl
     steps_same (step ∷ []) c within =
         ap (λ (x : AnswerLine). x ∷ []) (line_same step (inl (leads step [] c.0)))
     steps_same (step ∷ next ∷ rest) c within =
-        let member : Has both.set step.target = subst (Has both.set) (sym (leads step (next ∷ rest) c.0)) (within next (inr (inl refl))) in
+        let member : Has both.set step.target = subst (Has both.set) (sym (leads step (next ∷ rest) c.0))
+        (within next (inr (inl refl))) in
         ap (λ (x : AnswerLine). x ∷ map (step_line one) (next ∷ rest)) (line_same step (inr member))
-        ∙ ap (λ (xs : List AnswerLine). step_line other step ∷ xs) (steps_same (next ∷ rest) c.1 (λ x h. within x (inr h)))
+        ∙ ap (λ (xs : List AnswerLine). step_line other step ∷ xs)
+        (steps_same (next ∷ rest) c.1 (λ x h. within x (inr h)))
 
-    paths_same : (earlier paths : List Path) → EachNext q earlier paths → flat_map (path_lines one) paths ≡ flat_map (path_lines other) paths
+    paths_same : (earlier paths : List Path) → EachNext q earlier paths → flat_map (path_lines one) paths ≡ flat_map
+        (path_lines other) paths
     paths_same earlier [] e = refl
     paths_same earlier (path ∷ paths) e =
         let valid = e.0.steps.0.0 in
         let steps = steps_same path.steps valid.chain (laws.within q both.set shared.one path.steps valid) in
-        ap (λ (xs : List AnswerLine). (lines.Path path.amount (length path.steps) path.root ∷ xs) ++ flat_map (path_lines one) paths) steps
+        ap (λ (xs : List AnswerLine). (lines.Path path.amount (length path.steps) path.root ∷ xs) ++ flat_map
+        (path_lines one) paths) steps
         ∙ ap (λ (xs : List AnswerLine). path_lines other path ++ xs) (paths_same (earlier ++ path ∷ []) paths e.1)
 
     told_same : (wanted : ℕ) (paths : List Path) → IsAnswer q wanted paths → told one paths ≡ told other paths
     told_same wanted paths a = ap (replies.Amount (amount_of paths) (length paths)) (paths_same [] paths a.each)
 
-    pub asks_there : (wanted : ℕ) (reply : Reply) → Asks one (Some view) target wanted uid reply → Asks other (Some view) target wanted uid reply
-    asks_there wanted reply (paths, answer, e) = (paths, (alike.answer wanted paths).0 answer, e ∙ told_same wanted paths answer)
+    pub asks_there : (wanted : ℕ) (reply : Reply) → Asks one (Some view) target wanted uid reply →
+        Asks other (Some view) target wanted uid reply
+    asks_there wanted reply (paths, answer, e) =
+        (paths, (alike.answer wanted paths).0 answer, e ∙ told_same wanted paths answer)
 
 -- ---- one line
 
-module _ (laws : Laws) (rows : PolicyRows) (forgets : (c : Certificate) → judged rows (unmarked c) ≡ judged rows c) (name : List ℕ) (target : Fpr) (one other : State)
-    (judged_one : judged_by rows one.held ≡ one.held) (judged_other : judged_by rows other.held ≡ other.held) (alike_for : AreAlikeFor name target one other) where
+module _ (laws : Laws) (rows : PolicyRows) (forgets : (c : Certificate) → judged rows (unmarked c) ≡ judged rows c)
+    (name : List ℕ) (target : Fpr) (one other : State)
+    (judged_one : judged_by rows one.held ≡ one.held) (judged_other : judged_by rows other.held ≡ other.held)
+    (alike_for : AreAlikeFor name target one other) where
   pub both_of : (view : View) → view_at one.views name ≡ Some view → Both view target one other
   both_of view is_open =
       let (set, shares) = alike_for.slice view is_open in
-      record { set = set; shares = shares; same = λ fpr h. same_at rows forgets one.held other.held judged_one judged_other fpr (shares.held fpr h) }
+      record {
+        set = set;
+        shares = shares;
+        same = λ fpr h. same_at rows forgets one.held other.held judged_one
+            judged_other fpr (shares.held fpr h);
+      }
 
-  asks_same : AreOwn one.held.certs → (wanted : ℕ) (uid : List ℕ) (reply : Reply) → Asks one (view_at one.views name) target wanted uid reply → Asks other (view_at other.views name) target wanted uid reply
+  asks_same : AreOwn one.held.certs → (wanted : ℕ) (uid : List ℕ) (reply : Reply) →
+      Asks one (view_at one.views name) target wanted uid reply → Asks other (view_at other.views name) target wanted
+      uid reply
   asks_same own wanted uid reply asks =
-      subst (λ (o : Option View). Asks other o target wanted uid reply) alike_for.view (by (view_at one.views name) refl asks)
+      subst (λ (o : Option View). Asks other o target wanted uid reply) alike_for.view
+      (by (view_at one.views name) refl asks)
     where
-      by : (o : Option View) → view_at one.views name ≡ o → Asks one o target wanted uid reply → Asks other o target wanted uid reply
+      by : (o : Option View) → view_at one.views name ≡ o → Asks one o target wanted uid reply →
+          Asks other o target wanted uid reply
       by None e a = a
-      by (Some view) e a = asks_there laws view target one other (both_of view e) uid (laws.lawful one.held.certs one.held.verdicts view.time uid own) wanted reply a
+      by (Some view) e a = asks_there laws view target one other (both_of view e) uid
+          (laws.lawful one.held.certs one.held.verdicts view.time uid own) wanted reply a
 
-  pub does_same : AreOwn one.held.certs → (wanted : ℕ) (uid : List ℕ) (given told : Served) (reply : Reply) (new : State) → Does rows one (Ask name target wanted uid) given reply new
+  pub does_same : AreOwn one.held.certs → (wanted : ℕ) (uid : List ℕ) (given told : Served) (reply : Reply)
+      (new : State) → Does rows one (Ask name target wanted uid) given reply new
       → Does rows other (Ask name target wanted uid) told reply other
   does_same own wanted uid given told reply new does = (asks_same own wanted uid reply does.0, refl)
 
-pub replied_same : Laws → (rows : PolicyRows) → OneOutcome rows → (forgets : (c : Certificate) → judged rows (unmarked c) ≡ judged rows c)
+pub replied_same : Laws → (rows : PolicyRows) → OneOutcome rows →
+    (forgets : (c : Certificate) → judged rows (unmarked c) ≡ judged rows c)
     → (name : List ℕ) (target : Fpr) (one other : Whole) → AreOwn one.state.held.certs → AreOwn other.state.held.certs
-    → judged_by rows one.state.held ≡ one.state.held → judged_by rows other.state.held ≡ other.state.held → AreAlikeFor name target one.state other.state
-    → (line : List ℕ) → IsQuestion name target line → (given told : Served) (reply second : Option Reply) (new third : Whole)
+    → judged_by rows one.state.held ≡ one.state.held → judged_by rows other.state.held ≡ other.state.held →
+    AreAlikeFor name target one.state other.state
+    → (line : List ℕ) → IsQuestion name target line → (given told : Served) (reply second : Option Reply)
+    (new third : Whole)
     → LineStep rows one line given reply new → LineStep rows other line told second third → reply ≡ second
-replied_same laws rows law forgets name target one other own can p q alike_for line ask given told reply second new third step last =
-    let does = does_same laws rows forgets name target one.state other.state p q alike_for own ask.wanted ask.uid given told in
-    let there = step_as rows one other name line given told reply new (record { command = Ask name target ask.wanted ask.uid; asks = refl; read = ask.read }) does step in
+replied_same laws rows law forgets name target one other own can p q alike_for line ask given told reply second new
+    third step last =
+    let does = does_same laws rows forgets name target one.state other.state p q alike_for own ask.wanted ask.uid given
+    told in
+    let there = step_as rows one other name line given told reply new
+    (record { command = Ask name target ask.wanted ask.uid; asks = refl; read = ask.read }) does step in
     (law.one other line told reply second other third can there last).0

@@ -1,4 +1,5 @@
--- Where a reply says that something is stale, its two numbers differ; and only commands of watches are replied the amount
+-- Where a reply says that something is stale, its two numbers differ; and only commands of watches are replied the
+-- amount
 -- of a watch.
 use Rattle.std.proofs.Common.{◌≡◌, ℕ, Bool, true, false, cond, List, [], Option, Some, None, Result, Ok, Err, refl, sym}
 use Rattle.std.proofs.Common.{subst}
@@ -126,7 +127,8 @@ load_told : (rows : PolicyRows) (s : State) (name : Name) (answer : Answer) → 
 load_told rows s name Answer.fault = tt
 load_told rows s name Answer.absent = tt
 load_told rows s name Answer.long = tt
-load_told rows s name (Answer.entry octets) = imports_told rows s octets (answer_under (is_entry name) rows standard_limits s.held.certs octets)
+load_told rows s name (Answer.entry octets) =
+    imports_told rows s octets (answer_under (is_entry name) rows standard_limits s.held.certs octets)
 
 text_told : (r : Result Certificate Refusal) → IfErr (text_unless r) D
 text_told (Ok c) = tt
@@ -145,7 +147,8 @@ stored_told false (Ok octets) d = tt
 
 store_told : (kept : Option Certificate) (fpr : Fpr) (given : Served) → D (stored_from kept fpr given)
 store_told None fpr given = tt
-store_told (Some kept) fpr given = stored_told given.fails (writing fpr kept given.read) (writing_told fpr kept given.read)
+store_told (Some kept) fpr given = stored_told given.fails (writing fpr kept given.read)
+    (writing_told fpr kept given.read)
 
 explained_told : (told : Option Explained) → D (explained told)
 explained_told None = tt
@@ -166,7 +169,8 @@ set_told : (s : State) (number : SigNumber) (v : Verdict) (reply : Reply) (new :
     → Gives (set_verdict s number v) reply new → D reply
 set_told s number v reply new =
     given (set_verdict s number v) reply new
-    (either (is_over standard_limits s.held.verdicts number) (only s (replies.Full words.Verdicts)) (done (with_held s (verdict_set number v s.held))) tt tt)
+    (either (is_over standard_limits s.held.verdicts number) (only s (replies.Full words.Verdicts))
+    (done (with_held s (verdict_set number v s.held))) tt tt)
 
 -- ---- questions
 
@@ -186,14 +190,16 @@ absence_told false q paths reply t = subst D (sym t.3) tt
 misses_told : (s : State) (view : Option View) (target : Fpr) (wanted : ℕ) (uid : List ℕ) (reply : Reply)
     → Misses s view target wanted uid reply → D reply
 misses_told s None target wanted uid reply m = subst D (sym m) tt
-misses_told s (Some view) target wanted uid reply m = absence_told (nat_le wanted (amount_of m.0)) (question_in s view target uid) m.0 reply m.2
+misses_told s (Some view) target wanted uid reply m = absence_told (nat_le wanted (amount_of m.0))
+    (question_in s view target uid) m.0 reply m.2
 
 verdict_told : (claims : List ClaimLine) (checked : Checked) → D (verdict_on claims checked)
 verdict_told claims answers.Yes = tt
 verdict_told claims answers.BadPaths = tt
 verdict_told claims answers.BadTable = tt
 
-checks_told : (s : State) (view : Option View) (target : Fpr) (claims : List ClaimLine) (labels : List LabelLine) (uid : List ℕ) (reply : Reply)
+checks_told : (s : State) (view : Option View) (target : Fpr) (claims : List ClaimLine) (labels : List LabelLine)
+    (uid : List ℕ) (reply : Reply)
     → Checks s view target claims labels uid reply → D reply
 checks_told s None target claims labels uid reply c = subst D (sym c) tt
 checks_told s (Some view) target claims labels uid reply c = subst D (sym c.2) (verdict_told claims c.0)
@@ -204,33 +210,43 @@ does_told : (rows : PolicyRows) (s : State) (command : Command) (answer : Served
     → is_pacing command ≡ false → is_watching command ≡ false
     → Does rows s command answer reply new → D reply
 does_told rows s (Import octets) answer reply new plain still g =
-    given (import rows s octets) reply new (imports_told rows s octets (answer_to rows standard_limits s.held.certs octets)) g
-does_told rows s (Load name) answer reply new plain still g = given (load rows s name answer.read) reply new (load_told rows s name answer.read) g
-does_told rows s (Store fpr) answer reply new plain still g = given (store s fpr answer) reply new (store_told (cert_in s.held fpr) fpr answer) g
+    given (import rows s octets) reply new
+    (imports_told rows s octets (answer_to rows standard_limits s.held.certs octets)) g
+does_told rows s (Load name) answer reply new plain still g = given (load rows s name answer.read) reply new
+    (load_told rows s name answer.read) g
+does_told rows s (Store fpr) answer reply new plain still g = given (store s fpr answer) reply new
+    (store_told (cert_in s.held fpr) fpr answer) g
 does_told rows s (Remove fpr) answer reply new plain still g =
-    given (remove s fpr) reply new (either (is_some (cert_in s.held fpr)) (done (with_held s (removing fpr s.held))) (only s replies.Absent) tt tt) g
+    given (remove s fpr) reply new (either (is_some (cert_in s.held fpr)) (done (with_held s (removing fpr s.held)))
+    (only s replies.Absent) tt tt) g
 does_told rows s (Good number fpr) answer reply new plain still g = set_told s number (verdicts.Good fpr) reply new g
 does_told rows s (Bad number) answer reply new plain still g = set_told s number verdicts.Bad reply new g
 does_told rows s (Unjudge number) answer reply new plain still g =
     given (clear_verdict s number) reply new
-    (either (is_some (verdict_at s.held.verdicts number)) (done (with_held s (verdict_cleared number s.held))) (only s replies.Absent) tt tt) g
+    (either (is_some (verdict_at s.held.verdicts number)) (done (with_held s (verdict_cleared number s.held)))
+    (only s replies.Absent) tt tt) g
 does_told rows s (Time view t) answer reply new plain still g =
     given (time s view t) reply new (unless_told s (timing view t s) (time_fault standard_limits s.views view)) g
 does_told rows s (Root view fpr amount) answer reply new plain still g =
     given (root s view fpr amount) reply new
     (unless_told s (rooting view fpr amount s) (root_fault standard_limits (view_at s.views view) fpr amount)) g
 does_told rows s (Close view) answer reply new plain still g =
-    given (close s view) reply new (either (is_some (view_at s.views view)) (done (closing view s)) (only s replies.View) tt tt) g
-does_told rows s (Ask view target wanted uid) answer reply new plain still g = asks_told s (view_at s.views view) target wanted uid reply g.0
-does_told rows s (Command.List view wanted) answer reply new plain still g = lists_told s (view_at s.views view) wanted reply g.0
-does_told rows s (Absence view target wanted uid) answer reply new plain still g = misses_told s (view_at s.views view) target wanted uid reply g.0
+    given (close s view) reply new (either (is_some (view_at s.views view)) (done (closing view s))
+    (only s replies.View) tt tt) g
+does_told rows s (Ask view target wanted uid) answer reply new plain still g =
+    asks_told s (view_at s.views view) target wanted uid reply g.0
+does_told rows s (Command.List view wanted) answer reply new plain still g =
+    lists_told s (view_at s.views view) wanted reply g.0
+does_told rows s (Absence view target wanted uid) answer reply new plain still g =
+    misses_told s (view_at s.views view) target wanted uid reply g.0
 does_told rows s (Check view target claims labels uid) answer reply new plain still g =
     checks_told s (view_at s.views view) target claims labels uid reply g.0
 does_told rows s (Explain view fpr uid) answer reply new plain still g =
     given (explain s view fpr uid) reply new (explain_told s (view_at s.views view) fpr uid) g
 does_told rows s Pending answer reply new plain still g = given (pending s) reply new tt g
 does_told rows s Keys answer reply new plain still g = given (keys s) reply new tt g
-does_told rows s (Export fpr) answer reply new plain still g = given (export s fpr) reply new (export_told (cert_in s.held fpr)) g
+does_told rows s (Export fpr) answer reply new plain still g =
+    given (export s fpr) reply new (export_told (cert_in s.held fpr)) g
 does_told rows s Dump answer reply new plain still g = given (dump s) reply new tt g
 does_told rows s (CursorOver cursor view wanted) answer reply new plain still g = absurd (cc plain)
 does_told rows s (CursorNext cursor count) answer reply new plain still g = absurd (cc plain)
@@ -258,28 +274,36 @@ gives_told : (s : Whole) (name : List ℕ) (count : ℕ) (cursor : Cursor) (view
     → GivesPiece s name count cursor view reply cursors → D reply
 gives_told s name count cursor view reply cursors g =
     if_told (cursor.wanted == 0) _ _ reply (left (piece []) reply s.cursors cursors tt)
-    (λ p. left (piece (piece_of cursor.place count p.0)) reply (behind s.cursors name (piece_of cursor.place count p.0)) cursors tt p.2) g
+    (λ p. left (piece (piece_of cursor.place count p.0)) reply (behind s.cursors name (piece_of cursor.place count p.0))
+    cursors tt p.2) g
 
-goes_by : (s : Whole) (name : List ℕ) (count : ℕ) (cursor : Cursor) (view : View) (reply : Reply) (cursors : Cursors) (age : Age)
+goes_by : (s : Whole) (name : List ℕ) (count : ℕ) (cursor : Cursor) (view : View) (reply : Reply) (cursors : Cursors)
+    (age : Age)
     → Aged cursor.stamps (stamps_in s cursor.view) age → GoesBy age s name count cursor view reply cursors → D reply
 goes_by s name count cursor view reply cursors ages.Same a g = gives_told s name count cursor view reply cursors g
-goes_by s name count cursor view reply cursors (ages.Keyring was now) a g = left (replies.StaleKeyring was now) reply s.cursors cursors a.2 g
-goes_by s name count cursor view reply cursors (ages.View was now) a g = left (replies.StaleView was now) reply s.cursors cursors a.2 g
+goes_by s name count cursor view reply cursors (ages.Keyring was now) a g =
+    left (replies.StaleKeyring was now) reply s.cursors cursors a.2 g
+goes_by s name count cursor view reply cursors (ages.View was now) a g =
+    left (replies.StaleView was now) reply s.cursors cursors a.2 g
 
-goes_from : (s : Whole) (name : List ℕ) (count : ℕ) (cursor : Cursor) (o : Option View) (reply : Reply) (cursors : Cursors)
+goes_from : (s : Whole) (name : List ℕ) (count : ℕ) (cursor : Cursor) (o : Option View) (reply : Reply)
+    (cursors : Cursors)
     → GoesFrom o s name count cursor reply cursors → D reply
 goes_from s name count cursor None reply cursors g = left replies.View reply s.cursors cursors tt g
 goes_from s name count cursor (Some view) reply cursors g =
-    goes_by s name count cursor view reply cursors (age_of cursor.stamps (stamps_in s cursor.view)) (aged cursor.stamps (stamps_in s cursor.view)) g
+    goes_by s name count cursor view reply cursors (age_of cursor.stamps (stamps_in s cursor.view))
+    (aged cursor.stamps (stamps_in s cursor.view)) g
 
 goes_told : (s : Whole) (name : List ℕ) (count : ℕ) (o : Option Cursor) (reply : Reply) (cursors : Cursors)
     → Goes o s name count reply cursors → D reply
 goes_told s name count None reply cursors g = left replies.NoCursor reply s.cursors cursors tt g
-goes_told s name count (Some cursor) reply cursors g = goes_from s name count cursor (view_at s.state.views cursor.view) reply cursors g
+goes_told s name count (Some cursor) reply cursors g = goes_from s name count cursor (view_at s.state.views cursor.view)
+    reply cursors g
 
 ends_told : (s : Whole) (name : List ℕ) (reply : Reply) (cursors : Cursors) → Ends s name reply cursors → D reply
 ends_told s name reply cursors l =
-    if_told (is_some (cursor_at s.cursors name)) _ _ reply (left replies.Done reply (without_cursor s.cursors name) cursors tt)
+    if_told (is_some (cursor_at s.cursors name)) _ _ reply (left replies.Done reply (without_cursor s.cursors name)
+    cursors tt)
     (left replies.NoCursor reply s.cursors cursors tt) l
 
 paces_told : (s : Whole) (command : Command) (reply : Reply) (cursors : Cursors) → is_pacing command ≡ true
@@ -287,7 +311,8 @@ paces_told : (s : Whole) (command : Command) (reply : Reply) (cursors : Cursors)
 paces_told s command reply cursors e p =
     paced_cases (λ (c : Command). Paces s c reply cursors → D reply)
     (λ name view wanted. begins_told s name view wanted (view_at s.state.views view) reply cursors)
-    (λ name count. goes_told s name count (cursor_at s.cursors name) reply cursors) (λ name. ends_told s name reply cursors) command e p
+    (λ name count. goes_told s name count (cursor_at s.cursors name) reply cursors)
+    (λ name. ends_told s name reply cursors) command e p
 
 -- ---- watches
 
@@ -301,16 +326,19 @@ if_differ false P Q reply f g q = g q
 watched_left : (told reply : Reply) (left watches : Watches) → E told → LeavesWatches told left reply watches → E reply
 watched_left told reply left watches d l = subst E (sym l.0) d
 
-opens_told : (s : Whole) (name view : List ℕ) (target : Fpr) (wanted : ℕ) (uid : List ℕ) (o : Option View) (reply : Reply) (watches : Watches)
+opens_told : (s : Whole) (name view : List ℕ) (target : Fpr) (wanted : ℕ) (uid : List ℕ) (o : Option View)
+    (reply : Reply) (watches : Watches)
     → Opens s name view target wanted uid o reply watches → E reply
 opens_told s name view target wanted uid None reply watches l = watched_left replies.View reply s.watches watches tt l
 opens_told s name view target wanted uid (Some there) reply watches p =
     if_differ (watching.is_full s.watches name) _ _ reply (watched_left replies.FullWatches reply s.watches watches tt)
-    (watched_left (replies.WatchAmount name p.0) reply (with_watch s.watches name (opened view target wanted uid p.0)) watches tt) p.2
+    (watched_left (replies.WatchAmount name p.0) reply (with_watch s.watches name (opened view target wanted uid p.0))
+    watches tt) p.2
 
 off_told : (s : Whole) (name : List ℕ) (reply : Reply) (watches : Watches) → TakesOff s name reply watches → E reply
 off_told s name reply watches l =
-    if_differ (is_some (watch_at s.watches name)) _ _ reply (watched_left replies.Done reply (without_watch s.watches name) watches tt)
+    if_differ (is_some (watch_at s.watches name)) _ _ reply
+    (watched_left replies.Done reply (without_watch s.watches name) watches tt)
     (watched_left replies.NoWatch reply s.watches watches tt) l
 
 watching_told : (s : Whole) (command : Command) (reply : Reply) (watches : Watches) → is_watching command ≡ true
@@ -344,5 +372,7 @@ numbers_differ rows old line answer reply new step =
     told_by rows E tt tt old line answer reply new (λ command o. obeys_told rows old command answer reply new o) step
 
 pub untold : (rows : PolicyRows) (old : Whole) (command : Command) (answer : Served) (reply : Reply) (new : Whole)
-    → is_watching command ≡ false → Obeys rows old command answer reply new → (name : List ℕ) → amount_in name reply ≡ []
-untold rows old command answer reply new f o name = no_amount name reply (unwatched_told rows old command answer reply new f o)
+    → is_watching command ≡ false → Obeys rows old command answer reply new → (name : List ℕ) →
+    amount_in name reply ≡ []
+untold rows old command answer reply new f o name =
+    no_amount name reply (unwatched_told rows old command answer reply new f o)

@@ -1,5 +1,6 @@
 -- What stays true of the certificates, whatever a line does.
-use Rattle.std.proofs.Common.{◌≡◌, ℕ, Bool, true, false, cond, List, [], ◌∷◌, length, Option, Some, None, Result, Ok, Err, ap, sym, subst}
+use Rattle.std.proofs.Common.{◌≡◌, ℕ, Bool, true, false, cond, List, [], ◌∷◌, length, Option, Some, None, Result, Ok}
+use Rattle.std.proofs.Common.{Err, ap, sym, subst}
 use Rattle.std.specs.Prelude.{MatchBool, nat_lt, is_some}
 use Rattle.std.specs.List.{AllByRecursion}
 use Rattle.std.specs.Map.{remove_entry}
@@ -20,7 +21,10 @@ use Rattle.wot_keyring.specs.Held.{cert_in, is_said, verdict_set, removing, verd
 use Rattle.wot_keyring.specs.Import.{answer_to, answer_under, is_entry, spelled_in, with_certs}
 use Rattle.wot_keyring.specs.Verdict.{is_over}
 use Rattle.wot_script.specs.declared.command.Command.{Command}
-use Rattle.wot_script.specs.declared.command.Command.TheVariants.{Import, Load, Store, Remove, Good, Bad, Unjudge, Time, Root, Close, Ask, Explain, Pending, Keys, Export, Dump, Absence, Check, CursorOver, CursorNext, CursorClose, WatchOn, WatchOff}
+use Rattle.wot_script.specs.declared.command.Command.TheVariants.{Import, Load, Store, Remove, Good, Bad, Unjudge, Time}
+use Rattle.wot_script.specs.declared.command.Command.TheVariants.{Root, Close, Ask, Explain, Pending, Keys, Export}
+use Rattle.wot_script.specs.declared.command.Command.TheVariants.{Dump, Absence, Check, CursorOver, CursorNext}
+use Rattle.wot_script.specs.declared.command.Command.TheVariants.{CursorClose, WatchOn, WatchOff}
 use Rattle.wot_script.specs.declared.reply.Reply.{Reply}
 use Rattle.wot_script.specs.declared.reply.Reply.TheVariants as replies
 use Rattle.wot_script.specs.Grammar.{command_of}
@@ -29,18 +33,20 @@ use Rattle.wot_certd.specs.World.{Answer}
 use Rattle.wot_cache.specs.State.{State, with_held, rooting, timing, closing}
 use Rattle.wot_cache.specs.Views.{view_at, time_fault, root_fault}
 use Rattle.wot_machine.specs.Lines.{heard, is_silent, longest}
-use Rattle.wot_machine.specs.Outcome.{Outcome, only, done, imports, load, remove, set_verdict, clear_verdict, time, root, close, unless, keys, export, dump, import}
+use Rattle.wot_machine.specs.Outcome.{Outcome, only, done, imports, load, remove, set_verdict, clear_verdict, time}
+use Rattle.wot_machine.specs.Outcome.{root, close, unless, keys, export, dump, import}
 use Rattle.wot_machine.specs.Listing.{explain, pending}
 use Rattle.wot_machine.specs.Entry.{use_of}
 use Rattle.wot_machine.specs.LineStep.{LineStep, HasReply, Answers, Does, Gives, Stays}
-use Rattle.wot_machine.specs.Scene.{Scene, Step, served_in}
+use Rattle.wot_machine.specs.Scene.{Scene, served_in}
 use Rattle.wot_machine.specs.Served.{Served}
 use Rattle.wot_machine.specs.Storing.{store}
 use Rattle.wot_machine.specs.Whole.{Whole}
 use Rattle.wot_machine.specs.Transcript.{Run}
 
 -- what is true of all entries is true of those that are left
-pub all_without : (Q : Fpr × Certificate → Type 0) (test : Fpr → Bool) (certs : Certificates) → AllByRecursion Q certs → AllByRecursion Q (remove_entry test certs)
+pub all_without : (Q : Fpr × Certificate → Type 0) (test : Fpr → Bool) (certs : Certificates) → AllByRecursion Q certs →
+    AllByRecursion Q (remove_entry test certs)
 all_without Q test [] all = tt
 all_without Q test (e ∷ es) all =
     elim (test e.0) as (λ b. AllByRecursion Q (cond b es (e ∷ remove_entry test es))) [
@@ -67,7 +73,8 @@ module _
     unless_stays s new None p q = q
     unless_stays s new (Some fault) p q = p
 
-    imports_stays : (s : State) (octets : List ℕ) (answer : Result Imported Refusal) → Holds s → Holds (imports rows s octets answer).state
+    imports_stays : (s : State) (octets : List ℕ) (answer : Result Imported Refusal) → Holds s →
+        Holds (imports rows s octets answer).state
     imports_stays s octets (Ok counts) p = imported s.held.certs octets p
     imports_stays s octets (Err fault) p = p
 
@@ -75,34 +82,50 @@ module _
     load_stays s name Answer.fault p = p
     load_stays s name Answer.absent p = p
     load_stays s name Answer.long p = p
-    load_stays s name (Answer.entry octets) p = imports_stays s octets (answer_under (is_entry name) rows standard_limits s.held.certs octets) p
+    load_stays s name (Answer.entry octets) p =
+        imports_stays s octets (answer_under (is_entry name) rows standard_limits s.held.certs octets) p
 
-    verdict_set_stays : (s : State) (number : SigNumber) (v : Verdict) → Holds s → Holds (with_held s (verdict_set number v s.held))
+    verdict_set_stays : (s : State) (number : SigNumber) (v : Verdict) → Holds s →
+        Holds (with_held s (verdict_set number v s.held))
     verdict_set_stays s number v p = by (is_said s.held.verdicts number v)
       where
-        by : (b : Bool) → Holds (with_held s (cond b s.held (record s.held { verdicts = with_verdict s.held.verdicts number v })))
+        by : (b : Bool) → Holds
+            (with_held s (cond b s.held (record s.held { verdicts = with_verdict s.held.verdicts number v })))
         by true = p
         by false = p
 
-    set_verdict_stays : (s : State) (number : SigNumber) (v : Verdict) (r : Reply) (m : State) → Holds s → Gives (set_verdict s number v) r m → Holds m
+    set_verdict_stays : (s : State) (number : SigNumber) (v : Verdict) (r : Reply) (m : State) → Holds s →
+        Gives (set_verdict s number v) r m → Holds m
     set_verdict_stays s number v r m p =
         given (set_verdict s number v) r m
-        (either (is_over standard_limits s.held.verdicts number) (only s (replies.Full words.Verdicts)) (done (with_held s (verdict_set number v s.held))) p (verdict_set_stays s number v p))
+        (either (is_over standard_limits s.held.verdicts number) (only s (replies.Full words.Verdicts))
+        (done (with_held s (verdict_set number v s.held))) p (verdict_set_stays s number v p))
 
-    does_stays : (old : State) (command : Command) (answer : Served) (r : Reply) (m : State) → Holds old → Does rows old command answer r m → Holds m
-    does_stays old (Import octets) answer r m p = given (import rows old octets) r m (imports_stays old octets (answer_to rows standard_limits old.held.certs octets) p)
-    does_stays old (Load name) answer r m p = given (load rows old name answer.read) r m (load_stays old name answer.read p)
+    does_stays : (old : State) (command : Command) (answer : Served) (r : Reply) (m : State) → Holds old →
+        Does rows old command answer r m → Holds m
+    does_stays old (Import octets) answer r m p =
+        given (import rows old octets) r m
+        (imports_stays old octets (answer_to rows standard_limits old.held.certs octets) p)
+    does_stays old (Load name) answer r m p = given (load rows old name answer.read) r m
+        (load_stays old name answer.read p)
     does_stays old (Store fpr) answer r m p = given (store old fpr answer) r m p
     does_stays old (Remove fpr) answer r m p =
-        given (remove old fpr) r m (either (is_some (cert_in old.held fpr)) (done (with_held old (removing fpr old.held))) (only old replies.Absent) (removed fpr old.held.certs p) p)
+        given (remove old fpr) r m (either (is_some (cert_in old.held fpr))
+        (done (with_held old (removing fpr old.held))) (only old replies.Absent) (removed fpr old.held.certs p) p)
     does_stays old (Good number fpr) answer r m p = set_verdict_stays old number (verdicts.Good fpr) r m p
     does_stays old (Bad number) answer r m p = set_verdict_stays old number verdicts.Bad r m p
     does_stays old (Unjudge number) answer r m p =
-        given (clear_verdict old number) r m (either (is_some (verdict_at old.held.verdicts number)) (done (with_held old (verdict_cleared number old.held))) (only old replies.Absent) p p)
-    does_stays old (Time view t) answer r m p = given (time old view t) r m (unless_stays old (timing view t old) (time_fault standard_limits old.views view) p p)
+        given (clear_verdict old number) r m (either (is_some (verdict_at old.held.verdicts number))
+        (done (with_held old (verdict_cleared number old.held))) (only old replies.Absent) p p)
+    does_stays old (Time view t) answer r m p =
+        given (time old view t) r m (unless_stays old (timing view t old) (time_fault standard_limits old.views view) p
+        p)
     does_stays old (Root view fpr amount) answer r m p =
-        given (root old view fpr amount) r m (unless_stays old (rooting view fpr amount old) (root_fault standard_limits (view_at old.views view) fpr amount) p p)
-    does_stays old (Close view) answer r m p = given (close old view) r m (either (is_some (view_at old.views view)) (done (closing view old)) (only old replies.View) p p)
+        given (root old view fpr amount) r m (unless_stays old (rooting view fpr amount old)
+        (root_fault standard_limits (view_at old.views view) fpr amount) p p)
+    does_stays old (Close view) answer r m p =
+        given (close old view) r m (either (is_some (view_at old.views view)) (done (closing view old))
+        (only old replies.View) p p)
     does_stays old (Ask view target wanted uid) answer r m p = λ g. subst Holds (sym g.1) p
     does_stays old (Command.List view wanted) answer r m p = λ g. subst Holds (sym g.1) p
     does_stays old (Absence view target wanted uid) answer r m p = λ g. subst Holds (sym g.1) p
@@ -121,26 +144,34 @@ module _
     abbrev KeepsIt : Whole → Type 0
     KeepsIt w = Holds w.state
 
-    answers_stays : (old : Whole) (command : Option Command) (answer : Served) (r : Reply) (m : Whole) → KeepsIt old → Answers rows old command answer r m → KeepsIt m
+    answers_stays : (old : Whole) (command : Option Command) (answer : Served) (r : Reply) (m : Whole) → KeepsIt old →
+        Answers rows old command answer r m → KeepsIt m
     answers_stays old None answer r m p g = subst KeepsIt (sym g.1) p
     answers_stays old (Some command) answer r m p g = does_stays old.state command answer r m.state p g.does
 
-    replied : (Q : Reply → Whole → Type 0) (reply : Option Reply) (m : Whole) → ((r : Reply) → Q r m → KeepsIt m) → HasReply Q reply m → KeepsIt m
+    replied : (Q : Reply → Whole → Type 0) (reply : Option Reply) (m : Whole) → ((r : Reply) → Q r m → KeepsIt m) →
+        HasReply Q reply m → KeepsIt m
     replied Q None m f g = absurd g
     replied Q (Some r) m f g = f r g
 
-    pub step_stays : (old : Whole) (line : List ℕ) (answer : Served) (reply : Option Reply) (new : Whole) → P old.state.held.certs → LineStep rows old line answer reply new → P new.state.held.certs
+    pub step_stays : (old : Whole) (line : List ℕ) (answer : Served) (reply : Option Reply) (new : Whole) →
+        P old.state.held.certs → LineStep rows old line answer reply new → P new.state.held.certs
     step_stays old line answer reply new p = long (nat_lt longest (length line))
       where
-        silent : (b : Bool) → MatchBool b ((reply ≡ None) × (new ≡ old)) (HasReply (Answers rows old (command_of line) answer) reply new) → KeepsIt new
+        silent : (b : Bool) → MatchBool b ((reply ≡ None) × (new ≡ old))
+            (HasReply (Answers rows old (command_of line) answer) reply new) → KeepsIt new
         silent true g = subst KeepsIt (sym g.1) p
-        silent false g = replied (Answers rows old (command_of line) answer) reply new (λ r. answers_stays old (command_of line) answer r new p) g
+        silent false g = replied (Answers rows old (command_of line) answer) reply new
+            (λ r. answers_stays old (command_of line) answer r new p) g
 
-        long : (b : Bool) → MatchBool b (HasReply (Stays old replies.Long) reply new) (MatchBool (is_silent line) ((reply ≡ None) × (new ≡ old)) (HasReply (Answers rows old (command_of line) answer) reply new)) → KeepsIt new
+        long : (b : Bool) → MatchBool b (HasReply (Stays old replies.Long) reply new)
+            (MatchBool (is_silent line) ((reply ≡ None) × (new ≡ old))
+            (HasReply (Answers rows old (command_of line) answer) reply new)) → KeepsIt new
         long true g = replied (Stays old replies.Long) reply new (λ r h. subst KeepsIt (sym h.1) p) g
         long false g = silent (is_silent line) g
 
-    pub run_stays : (lines : List (List ℕ)) (old : Scene) (replies : List Reply) (new : Scene) → P old.whole.state.held.certs → Run rows old lines replies new → P new.whole.state.held.certs
+    pub run_stays : (lines : List (List ℕ)) (old : Scene) (replies : List Reply) (new : Scene) →
+        P old.whole.state.held.certs → Run rows old lines replies new → P new.whole.state.held.certs
     run_stays [] old replies new p r = subst (λ (s : Scene). P s.whole.state.held.certs) (sym r.1) p
     run_stays (line ∷ lines) old replies new p r =
         run_stays lines r.2 r.3 new

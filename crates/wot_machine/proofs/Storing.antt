@@ -1,5 +1,5 @@
 -- The union that is stored, and the reply where none is.
-use Rattle.std.proofs.Common.{◌≡◌, ◌≢◌, ℕ, Bool, true, false, List, length, Option, Result, Ok, Err, refl, sym, ap, subst, ◌∙◌}
+use Rattle.std.proofs.Common.{◌≡◌, ◌≢◌, ℕ, Bool, true, false, List, length, Result, Ok, Err, refl, sym, ap, subst, ◌∙◌}
 use Rattle.std.specs.Prelude.{if◌then◌else◌, nat_lt, IfErr}
 use Rattle.std.specs.Str.{bytes_eq}
 use Rattle.std.proofs.lemmas.Slice.Eq.{bytes_eq-Decides}
@@ -13,7 +13,7 @@ use Rattle.wot_keyring.specs.declared.refusal.Refusal.TheVariants as refusals
 use Rattle.wot_keyring.specs.Entry.{TellsEntry, entry_in}
 use Rattle.wot_script.specs.declared.reply.Reply.{Reply}
 use Rattle.wot_machine.specs.declared.store.Unwritten.{Unwritten}
-use Rattle.wot_machine.specs.declared.store.Unwritten.TheVariants.{Told, Memory}
+use Rattle.wot_machine.specs.declared.store.Unwritten.TheVariants.{Memory}
 use Rattle.wot_machine.specs.Outcome.{refusal}
 use Rattle.wot_machine.specs.Stored.{TellsCert, TellsUnwritten}
 use Rattle.wot_machine.specs.Storing.{text_unless, united, united_with, unless_great}
@@ -31,7 +31,8 @@ of_keys same kept c = if same then unless_great (unite kept c) else Err refusals
 of_one_key : (kept c : Certificate) → kept.key ≡ c.key → united kept c ≡ unless_great (unite kept c)
 of_one_key kept c e = ap (λ (b : Bool). of_keys b kept c) ((bytes_eq-Decides kept.key c.key).1 e)
 
-pub tells_union : ((c : Certificate) → text_of (unmarked c) ≡ text_of c) → (kept entry c : Certificate) (r : Result Certificate Refusal) → kept.key ≡ entry.key
+pub tells_union : ((c : Certificate) → text_of (unmarked c) ≡ text_of c) →
+    (kept entry c : Certificate) (r : Result Certificate Refusal) → kept.key ≡ entry.key
     → c ≡ unmarked (unite kept entry) → r ≡ unless_great c → TellsCert r (united kept entry)
 tells_union texts kept entry c r same is e = by (is_great c) refl r e
   where
@@ -44,11 +45,14 @@ tells_union texts kept entry c r same is e = by (is_great c) refl r e
         ∙ ap (λ (n : ℕ). unless_so (nat_lt standard_limits.certificate n) (unite kept entry)) (sym (ap length text))
         ∙ ap (λ (b : Bool). unless_so b (unite kept entry)) f
 
-    by : (b : Bool) → is_great c ≡ b → (r : Result Certificate Refusal) → r ≡ unless_so b c → TellsCert r (united kept entry)
-    by true f r e = subst (λ (r : Result Certificate Refusal). TellsCert r (united kept entry)) (sym e) (ap text_unless (told true f))
+    by : (b : Bool) → is_great c ≡ b → (r : Result Certificate Refusal) → r ≡ unless_so b c →
+        TellsCert r (united kept entry)
+    by true f r e = subst (λ (r : Result Certificate Refusal). TellsCert r (united kept entry)) (sym e)
+        (ap text_unless (told true f))
     by false f r e =
         let Text : List ℕ → Result (List ℕ) Reply = λ octets. Ok octets in
-        subst (λ (r : Result Certificate Refusal). TellsCert r (united kept entry)) (sym e) (ap text_unless (told false f) ∙ ap Text (sym text))
+        subst (λ (r : Result Certificate Refusal). TellsCert r (united kept entry)) (sym e)
+        (ap text_unless (told false f) ∙ ap Text (sym text))
 
 pub tells_clash : (kept entry : Certificate) → kept.key ≢ entry.key → TellsCert (Err refusals.Clash) (united kept entry)
 tells_clash kept entry apart = by (bytes_eq kept.key entry.key) refl
@@ -59,18 +63,25 @@ tells_clash kept entry apart = by (bytes_eq kept.key entry.key) refl
 
 -- ---- entries
 
-pub tells_entry : (kept c : Certificate) (name : Name) (octets : List ℕ) (r : Result Certificate Refusal) → entry_in name octets ≡ Ok c → TellsCert r (united kept c)
+pub tells_entry : (kept c : Certificate) (name : Name) (octets : List ℕ) (r : Result Certificate Refusal) →
+    entry_in name octets ≡ Ok c → TellsCert r (united kept c)
     → TellsCert r (united_with kept (entry_in name octets))
 tells_entry kept c name octets r e t =
     subst (λ (told : Result Certificate Refusal). TellsCert r (united_with kept told)) (sym e) t
 
-pub tells_refused : (kept : Certificate) (name : Name) (octets : List ℕ) (why : Refusal) → TellsEntry (Err why) name octets
+pub tells_refused : (kept : Certificate) (name : Name) (octets : List ℕ) (why : Refusal) →
+    TellsEntry (Err why) name octets
     → TellsCert (Err why) (united_with kept (entry_in name octets))
-tells_refused kept name octets (refusals.Packet fault) t = ap (λ (told : Result Certificate Refusal). text_unless (united_with kept told)) t
-tells_refused kept name octets (refusals.Cert fault) t = ap (λ (told : Result Certificate Refusal). text_unless (united_with kept told)) t
-tells_refused kept name octets refusals.Misfiled t = ap (λ (told : Result Certificate Refusal). text_unless (united_with kept told)) t
-tells_refused kept name octets refusals.Clash t = ap (λ (told : Result Certificate Refusal). text_unless (united_with kept told)) t
-tells_refused kept name octets (refusals.Full limit) t = ap (λ (told : Result Certificate Refusal). text_unless (united_with kept told)) t
+tells_refused kept name octets (refusals.Packet fault) t =
+    ap (λ (told : Result Certificate Refusal). text_unless (united_with kept told)) t
+tells_refused kept name octets (refusals.Cert fault) t =
+    ap (λ (told : Result Certificate Refusal). text_unless (united_with kept told)) t
+tells_refused kept name octets refusals.Misfiled t =
+    ap (λ (told : Result Certificate Refusal). text_unless (united_with kept told)) t
+tells_refused kept name octets refusals.Clash t =
+    ap (λ (told : Result Certificate Refusal). text_unless (united_with kept told)) t
+tells_refused kept name octets (refusals.Full limit) t =
+    ap (λ (told : Result Certificate Refusal). text_unless (united_with kept told)) t
 tells_refused kept name octets refusals.Memory t = tt
 
 -- ---- replies
@@ -78,7 +89,8 @@ tells_refused kept name octets refusals.Memory t = tt
 abbrev error : Reply → Result (List ℕ) Reply
 error reply = Err reply
 
-pub told_refused : (told : Result Certificate Refusal) (why : Refusal) (reply : Reply) → TellsCert (Err why) told → (reply ≡ refusal why) × (why ≢ refusals.Memory)
+pub told_refused : (told : Result Certificate Refusal) (why : Refusal) (reply : Reply) → TellsCert (Err why) told →
+    (reply ≡ refusal why) × (why ≢ refusals.Memory)
     → text_unless told ≡ Err reply
 told_refused told (refusals.Packet fault) reply t is = t ∙ ap error (sym is.0)
 told_refused told (refusals.Cert fault) reply t is = t ∙ ap error (sym is.0)

@@ -65,7 +65,8 @@ pub record IsOneView (name : List ℕ) (old new : Views) : Type 0 where
 
 abbrev pub AreViewsBy : Turning → Views → Views → Type 0
 AreViewsBy (Turning.turning name) old new = IsOneView name old new
-AreViewsBy (Turning.closing name) old new = IsOneView name old new × (AreViewsInOrder old → (new ≡ old) ⊎ (view_at new name ≡ None))
+AreViewsBy (Turning.closing name) old new = IsOneView name old new × (AreViewsInOrder old →
+    (new ≡ old) ⊎ (view_at new name ≡ None))
 AreViewsBy Turning.leaving old new = new ≡ old
 
 no_view : (name : List ℕ) (old : Views) → IsOneView name old old
@@ -74,19 +75,22 @@ no_view name old = record { order = λ r. r; others = λ other e. refl }
 put_view : (name : List ℕ) (view : View) (old : Views) → IsOneView name old (insert_entry view_name_cmp old name view)
 put_view name view old = record {
   order = rising_put view_name_cmp nat_list_cmp_total name view old;
-  others = λ other e. other_put view_name_cmp nat_list_cmp_total name other view old (apart view_name_cmp nat_list_cmp_total name other e);
+  others = λ other e. other_put view_name_cmp nat_list_cmp_total name other view old
+      (apart view_name_cmp nat_list_cmp_total name other e);
 }
 
 set_view : (name : List ℕ) (view : View) (old : Views) → IsOneView name old (set_value (is_name name) old view)
 set_view name view old = record {
   order = rising_set view_name_cmp (is_name name) view old;
-  others = λ other e. other_set view_name_cmp nat_list_cmp_total name other view old (apart view_name_cmp nat_list_cmp_total name other e);
+  others = λ other e. other_set view_name_cmp nat_list_cmp_total name other view old
+      (apart view_name_cmp nat_list_cmp_total name other e);
 }
 
 drop_view : (name : List ℕ) (old : Views) → IsOneView name old (without_view old name)
 drop_view name old = record {
   order = rising_without view_name_cmp nat_list_cmp_total (is_name name) old;
-  others = λ other e. other_without view_name_cmp nat_list_cmp_total name other old (apart view_name_cmp nat_list_cmp_total name other e);
+  others = λ other e. other_without view_name_cmp nat_list_cmp_total name other old
+      (apart view_name_cmp nat_list_cmp_total name other e);
 }
 
 time_view : (name : List ℕ) (t : ℕ) (old : Views) → IsOneView name old (with_time old name t)
@@ -133,11 +137,13 @@ load_keeps : (rows : PolicyRows) (s : State) (name : Name) (answer : Answer) →
 load_keeps rows s name Answer.fault = refl
 load_keeps rows s name Answer.absent = refl
 load_keeps rows s name Answer.long = refl
-load_keeps rows s name (Answer.entry octets) = imports_keeps rows s octets (answer_under (is_entry name) rows standard_limits s.held.certs octets)
+load_keeps rows s name (Answer.entry octets) =
+    imports_keeps rows s octets (answer_under (is_entry name) rows standard_limits s.held.certs octets)
 
 set_verdict_keeps : (s : State) (number : SigNumber) (v : Verdict) → Keeps s (set_verdict s number v)
 set_verdict_keeps s number v =
-    either (is_over standard_limits s.held.verdicts number) s (only s (replies.Full words.Verdicts)) (done (with_held s (verdict_set number v s.held))) refl refl
+    either (is_over standard_limits s.held.verdicts number) s (only s (replies.Full words.Verdicts))
+    (done (with_held s (verdict_set number v s.held))) refl refl
 
 given : (how : Turning) (s : State) (outcome : Outcome) (r : Reply) (m : State)
     → AreViewsBy how s.views outcome.state.views → Gives outcome r m
@@ -151,22 +157,30 @@ pub does_views : (rows : PolicyRows) (s : State) (command : Command) (answer : S
     → Does rows s command answer r m
     → AreViewsBy (turning_of command) s.views m.views
 does_views rows s (Import octets) answer r m =
-    given Turning.leaving s (import rows s octets) r m (imports_keeps rows s octets (answer_to rows standard_limits s.held.certs octets))
-does_views rows s (Load name) answer r m = given Turning.leaving s (load rows s name answer.read) r m (load_keeps rows s name answer.read)
+    given Turning.leaving s (import rows s octets) r m
+    (imports_keeps rows s octets (answer_to rows standard_limits s.held.certs octets))
+does_views rows s (Load name) answer r m = given Turning.leaving s (load rows s name answer.read) r m
+    (load_keeps rows s name answer.read)
 does_views rows s (Store fpr) answer r m = given Turning.leaving s (store s fpr answer) r m refl
 does_views rows s (Remove fpr) answer r m =
-    given Turning.leaving s (remove s fpr) r m (either (is_some (cert_in s.held fpr)) s (done (with_held s (removing fpr s.held))) (only s replies.Absent) refl refl)
+    given Turning.leaving s (remove s fpr) r m (either (is_some (cert_in s.held fpr)) s
+    (done (with_held s (removing fpr s.held))) (only s replies.Absent) refl refl)
 does_views rows s (Good number fpr) answer r m =
-    given Turning.leaving s (set_verdict s number (verdicts.Good fpr)) r m (set_verdict_keeps s number (verdicts.Good fpr))
-does_views rows s (Bad number) answer r m = given Turning.leaving s (set_verdict s number verdicts.Bad) r m (set_verdict_keeps s number verdicts.Bad)
+    given Turning.leaving s (set_verdict s number (verdicts.Good fpr)) r m
+    (set_verdict_keeps s number (verdicts.Good fpr))
+does_views rows s (Bad number) answer r m = given Turning.leaving s (set_verdict s number verdicts.Bad) r m
+    (set_verdict_keeps s number verdicts.Bad)
 does_views rows s (Unjudge number) answer r m =
     given Turning.leaving s (clear_verdict s number) r m
-    (either (is_some (verdict_at s.held.verdicts number)) s (done (with_held s (verdict_cleared number s.held))) (only s replies.Absent) refl refl)
+    (either (is_some (verdict_at s.held.verdicts number)) s (done (with_held s (verdict_cleared number s.held)))
+    (only s replies.Absent) refl refl)
 does_views rows s (Time view t) answer r m =
-    given (Turning.turning view) s (time s view t) r m (unless_view view s (timing view t s) (time_fault standard_limits s.views view) (time_view view t s.views))
+    given (Turning.turning view) s (time s view t) r m (unless_view view s (timing view t s)
+    (time_fault standard_limits s.views view) (time_view view t s.views))
 does_views rows s (Root view fpr amount) answer r m =
     given (Turning.turning view) s (root s view fpr amount) r m
-    (unless_view view s (rooting view fpr amount s) (root_fault standard_limits (view_at s.views view) fpr amount) (root_view view fpr amount s.views))
+    (unless_view view s (rooting view fpr amount s) (root_fault standard_limits (view_at s.views view) fpr amount)
+    (root_view view fpr amount s.views))
 does_views rows s (Close view) answer r m = given (Turning.closing view) s (close s view) r m (close_view view s)
 does_views rows s (Ask view target wanted uid) answer r m = λ g. same s m g.1
 does_views rows s (Command.List view wanted) answer r m = λ g. same s m g.1
@@ -199,12 +213,15 @@ other_turned name other before e = by (turn_at before name)
   where
     by : (o : Option ℕ)
         → lookup (is_name other) (with_turn before.each name (before.count + 1) o) ≡ turn_at before other
-    by None = other_put view_name_cmp nat_list_cmp_total name other (before.count + 1) before.each (apart view_name_cmp nat_list_cmp_total name other e)
-    by (Some turn) = other_set view_name_cmp nat_list_cmp_total name other (before.count + 1) before.each (apart view_name_cmp nat_list_cmp_total name other e)
+    by None = other_put view_name_cmp nat_list_cmp_total name other (before.count + 1) before.each
+        (apart view_name_cmp nat_list_cmp_total name other e)
+    by (Some turn) = other_set view_name_cmp nat_list_cmp_total name other (before.count + 1) before.each
+        (apart view_name_cmp nat_list_cmp_total name other e)
 
 other_gone : (name other : List ℕ) (before : Turns) → is_name name other ≡ false
     → turn_at (without_turn name before) other ≡ turn_at before other
-other_gone name other before e = other_without view_name_cmp nat_list_cmp_total name other before.each (apart view_name_cmp nat_list_cmp_total name other e)
+other_gone name other before e = other_without view_name_cmp nat_list_cmp_total name other before.each
+    (apart view_name_cmp nat_list_cmp_total name other e)
 
 by_others : (altered : Turns) (name other : List ℕ) (old : Views) (before : Turns) (new : Views) (after : Turns)
     → turn_at altered other ≡ turn_at before other
@@ -215,13 +232,17 @@ by_others altered name other old before new after e (inr p) = ap (λ (t : Turns)
 by_more : (altered : Turns) (name : List ℕ) (old : Views) (before : Turns) (new : Views) (after : Turns)
     → before.count ≤ altered.count
     → AreTurnsBy altered name old before new after → before.count ≤ after.count
-by_more altered name old before new after more (inl p) = let same = ap (λ (t : Turns). t.count) p.1 in omega (arith, same)
-by_more altered name old before new after more (inr p) = let same = ap (λ (t : Turns). t.count) p.1 in omega (arith, same, more)
+by_more altered name old before new after more (inl p) = let same = ap (λ (t : Turns). t.count) p.1 in
+    omega (arith, same)
+by_more altered name old before new after more (inr p) = let same = ap (λ (t : Turns). t.count) p.1 in
+    omega (arith, same, more)
 
 pub turns_more : (turning : Turning) (old : Views) (before : Turns) (new : Views) (after : Turns)
     → AreTurned turning old before new after → before.count ≤ after.count
-turns_more (Turning.turning name) old before new after p = by_more (turned name before) name old before new after (omega arith) p
-turns_more (Turning.closing name) old before new after p = by_more (without_turn name before) name old before new after (omega arith) p
+turns_more (Turning.turning name) old before new after p = by_more (turned name before) name old before new after
+    (omega arith) p
+turns_more (Turning.closing name) old before new after p = by_more (without_turn name before) name old before new after
+    (omega arith) p
 turns_more Turning.leaving old before new after p = let same = ap (λ (t : Turns). t.count) p in omega (arith, same)
 
 -- ---- a view since some state
@@ -244,16 +265,19 @@ module _ (view : List ℕ) (was : Views) (since : Turns) where
   shown_turned : (old : Views) (before : Turns) (new : Views) (after : Turns) → since.count ≤ before.count
       → AreTurnsBy (turned view before) view old before new after
       → IsShown view was since old before → IsShown view was since new after
-  shown_turned old before new after few (inl p) s = shown_same old before new after p.0 (ap (λ (t : Turns). turn_at t view) p.1) s
+  shown_turned old before new after few (inl p) s =
+      shown_same old before new after p.0 (ap (λ (t : Turns). turn_at t view) p.1) s
   shown_turned old before new after few (inr p) s =
       let turn : unwrap_or (turn_at after view) 0 ≡ before.count + 1 =
-      ap (λ (t : Turns). unwrap_or (turn_at t view) 0) p.1 ∙ ap (λ (o : Option ℕ). unwrap_or o 0) (own_turn view before) in
+      ap (λ (t : Turns). unwrap_or (turn_at t view) 0) p.1 ∙ ap (λ (o : Option ℕ). unwrap_or o 0)
+      (own_turn view before) in
       inr (inr (omega (arith, few, turn)))
 
   shown_closed : (old : Views) (before : Turns) (new : Views) (after : Turns) → (new ≡ old) ⊎ (view_at new view ≡ None)
       → AreTurnsBy (without_turn view before) view old before new after → IsShown view was since old before
       → IsShown view was since new after
-  shown_closed old before new after v (inl p) s = shown_same old before new after p.0 (ap (λ (t : Turns). turn_at t view) p.1) s
+  shown_closed old before new after v (inl p) s =
+      shown_same old before new after p.0 (ap (λ (t : Turns). turn_at t view) p.1) s
   shown_closed old before new after (inl e) (inr p) s = absurd (p.0 (ap (λ (vs : Views). view_at vs view) e))
   shown_closed old before new after (inr none) (inr p) s = inr (inl none)
 
@@ -267,9 +291,11 @@ module _ (view : List ℕ) (was : Views) (since : Turns) where
     where
       by : (b : Bool) → is_name name view ≡ b → IsShown view was since new after
       by true e =
-          shown_turned old before new after few (subst (λ (n : List ℕ). AreTurnsBy (turned n before) n old before new after) (same_name name view e) t) s
+          shown_turned old before new after few
+          (subst (λ (n : List ℕ). AreTurnsBy (turned n before) n old before new after) (same_name name view e) t) s
       by false e =
-          shown_same old before new after (v.others view e) (by_others (turned name before) name view old before new after (other_turned name view before e) t) s
+          shown_same old before new after (v.others view e) (by_others (turned name before) name view old before new
+          after (other_turned name view before e) t) s
   shown_by (Turning.closing name) old before new after r few v t s = by (is_name name view) refl
     where
       by : (b : Bool) → is_name name view ≡ b → IsShown view was since new after
@@ -278,7 +304,8 @@ module _ (view : List ℕ) (was : Views) (since : Turns) where
           shown_closed old before new after (subst (λ (n : List ℕ). (new ≡ old) ⊎ (view_at new n ≡ None)) same (v.1 r))
           (subst (λ (n : List ℕ). AreTurnsBy (without_turn n before) n old before new after) same t) s
       by false e =
-          shown_same old before new after (v.0.others view e) (by_others (without_turn name before) name view old before new after (other_gone name view before e) t) s
+          shown_same old before new after (v.0.others view e) (by_others (without_turn name before) name view old before
+          new after (other_gone name view before e) t) s
 
 -- ---- views and turns that are reached
 
@@ -291,12 +318,15 @@ few_turned : (name : List ℕ) (before : Turns) → AllValues (λ (turn : ℕ). 
 few_turned name before all = by (turn_at before name)
   where
     more : AllValues (λ (turn : ℕ). turn ≤ before.count + 1) before.each
-    more = all_weaker (λ (turn : ℕ). turn ≤ before.count) (λ (turn : ℕ). turn ≤ before.count + 1) (λ turn few. omega (arith, few)) before.each all
+    more = all_weaker (λ (turn : ℕ). turn ≤ before.count) (λ (turn : ℕ). turn ≤ before.count + 1)
+        (λ turn few. omega (arith, few)) before.each all
 
     by : (o : Option ℕ)
         → AllValues (λ (turn : ℕ). turn ≤ before.count + 1) (with_turn before.each name (before.count + 1) o)
-    by None = all_put (λ (turn : ℕ). turn ≤ before.count + 1) view_name_cmp name (before.count + 1) before.each (omega arith) more
-    by (Some turn) = all_set (λ (turn : ℕ). turn ≤ before.count + 1) (is_name name) (before.count + 1) before.each (omega arith) more
+    by None = all_put (λ (turn : ℕ). turn ≤ before.count + 1) view_name_cmp name (before.count + 1) before.each
+        (omega arith) more
+    by (Some turn) = all_set (λ (turn : ℕ). turn ≤ before.count + 1) (is_name name) (before.count + 1) before.each
+        (omega arith) more
 
 abbrev FewIn : Turns → Type 0
 FewIn turns = AllValues (λ (turn : ℕ). turn ≤ turns.count) turns.each
@@ -320,7 +350,11 @@ sound_by (Turning.closing name) old before new after v t s = record {
       few_by (without_turn name before) name old before new after s.few
       (all_without (λ (turn : ℕ). turn ≤ before.count) (is_name name) before.each s.few) t;
 }
-sound_by Turning.leaving old before new after v t s = record { order = subst AreViewsInOrder (sym v) s.order; few = subst FewIn (sym t) s.few }
+sound_by Turning.leaving old before new after v t s = record {
+  order = subst AreViewsInOrder (sym v) s.order;
+  few =
+      subst FewIn (sym t) s.few;
+}
 
 -- no turn is later than the last
 pub turn_few : (views : Views) (turns : Turns) (name : List ℕ) → AreSound views turns

@@ -1,5 +1,6 @@
 -- The commands of watches and the watch lines: what they reply has words, and there is one reply.
-use Rattle.std.proofs.Common.{◌≡◌, inl, inr, ℕ, ◌≤◌, ◌==◌, Bool, true, false, List, [], ◌∷◌, ◌++◌, Option, Some, None, refl, sym, ap, subst, ◌∙◌, append_assoc, arith, length}
+use Rattle.std.proofs.Common.{◌≡◌, inl, inr, ℕ, ◌≤◌, ◌==◌, Bool, true, false, List, [], ◌∷◌, ◌++◌, Option, Some, None}
+use Rattle.std.proofs.Common.{refl, sym, ap, subst, ◌∙◌, append_assoc, arith, length}
 use Rattle.std.specs.Prelude.{IfSome, MatchBool, if◌then◌else◌, is_some}
 use Rattle.std.specs.List.{AllByRecursion}
 use Rattle.std.proofs.lemmas.Bool.{eqb-false, eqb-true}
@@ -16,7 +17,10 @@ use Rattle.wot_keyring.specs.Keyring.{Certificates}
 use Rattle.wot_network.specs.Told.{record_of}
 use Rattle.wot_policy.specs.declared.rows.PolicyRows.{PolicyRows}
 use Rattle.wot_script.specs.declared.command.Command.{Command}
-use Rattle.wot_script.specs.declared.command.Command.TheVariants.{Import, Load, Store, Remove, Good, Bad, Unjudge, Time, Root, Close, Ask, Explain, Absence, Check, Pending, Keys, Export, Dump, CursorOver, CursorNext, CursorClose, WatchOn, WatchOff}
+use Rattle.wot_script.specs.declared.command.Command.TheVariants.{Import, Load, Store, Remove, Good, Bad, Unjudge, Time}
+use Rattle.wot_script.specs.declared.command.Command.TheVariants.{Root, Close, Ask, Explain, Absence, Check, Pending}
+use Rattle.wot_script.specs.declared.command.Command.TheVariants.{Keys, Export, Dump, CursorOver, CursorNext}
+use Rattle.wot_script.specs.declared.command.Command.TheVariants.{CursorClose, WatchOn, WatchOff}
 use Rattle.wot_script.specs.declared.reply.Reply.{Reply}
 use Rattle.wot_script.specs.declared.reply.Reply.TheVariants as replies
 use Rattle.wot_script.specs.Replies.{HasWords, reply_text}
@@ -33,13 +37,16 @@ use Rattle.wot_machine.specs.LineStep.{Does}
 use Rattle.wot_machine.specs.Pacing.{is_pacing}
 use Rattle.wot_machine.specs.Served.{Served}
 use Rattle.wot_machine.specs.Transcript.{octets_of}
-use Rattle.wot_machine.specs.Watching.{AreLines, BeginsWatch, HasAmount, IsAmount, IsLine, IsWatchLine, LeavesWatches, Opens, TakesOff, Tells, Watching, is_watching, line_by, opened, told_all, told_by, with_line}
+use Rattle.wot_machine.specs.Watching.{AreLines, BeginsWatch, HasAmount, IsAmount, IsLine, IsWatchLine, LeavesWatches}
+use Rattle.wot_machine.specs.Watching.{Opens, TakesOff, Tells, Watching, is_watching, line_by, opened, told_all}
+use Rattle.wot_machine.specs.Watching.{told_by, with_line}
 use Rattle.wot_machine.specs.Whole.{IsTurnedBy, Whole}
 
 -- ---- commands that aren't of watches
 
 -- What holds of each command of a watch.
-pub watched_cases : (P : Command → Type 0) → ((name view : List ℕ) (target : Fpr) (wanted : ℕ) (uid : List ℕ) → P (WatchOn name view target wanted uid))
+pub watched_cases : (P : Command → Type 0) → ((name view : List ℕ) (target : Fpr) (wanted : ℕ) (uid : List ℕ) →
+    P (WatchOn name view target wanted uid))
     → ((name : List ℕ) → P (WatchOff name)) → (command : Command) → is_watching command ≡ true → P command
 watched_cases P on off (WatchOn name view target wanted uid) e = on name view target wanted uid
 watched_cases P on off (WatchOff name) e = off name
@@ -67,7 +74,8 @@ watched_cases P on off (CursorNext name count) e = absurd (cc e)
 watched_cases P on off (CursorClose name) e = absurd (cc e)
 
 -- the other commands leave the watches
-unwatched_is : (s : Whole) (command : Command) (reply : Reply) (watches : Watches) → is_watching command ≡ false → Watching s command reply watches ≡ (watches ≡ s.watches)
+unwatched_is : (s : Whole) (command : Command) (reply : Reply) (watches : Watches) → is_watching command ≡ false →
+    Watching s command reply watches ≡ (watches ≡ s.watches)
 unwatched_is s (Import octets) reply watches e = refl
 unwatched_is s (Load name) reply watches e = refl
 unwatched_is s (Store fpr) reply watches e = refl
@@ -93,17 +101,20 @@ unwatched_is s (CursorClose name) reply watches e = refl
 unwatched_is s (WatchOn name view target wanted uid) reply watches e = absurd (cc e)
 unwatched_is s (WatchOff name) reply watches e = absurd (cc e)
 
-pub watching_plain : (s : Whole) (command : Command) (reply : Reply) → is_watching command ≡ false → Watching s command reply s.watches
+pub watching_plain : (s : Whole) (command : Command) (reply : Reply) → is_watching command ≡ false →
+    Watching s command reply s.watches
 watching_plain s command reply e = subst (λ (P : Type 0). P) (sym (unwatched_is s command reply s.watches e)) refl
 
-pub plain_watching : (s : Whole) (command : Command) (reply : Reply) (watches : Watches) → is_watching command ≡ false → Watching s command reply watches → watches ≡ s.watches
+pub plain_watching : (s : Whole) (command : Command) (reply : Reply) (watches : Watches) → is_watching command ≡ false →
+    Watching s command reply watches → watches ≡ s.watches
 plain_watching s command reply watches e p = subst (λ (P : Type 0). P) (unwatched_is s command reply watches e) p
 
 -- ---- they leave the state, the cursors, the turns and the shelf
 
 -- A command of a cursor is none of a watch, and the other way round.
 pub watched_unpaced : (command : Command) → is_watching command ≡ true → is_pacing command ≡ false
-watched_unpaced command e = watched_cases (λ (c : Command). is_pacing c ≡ false) (λ name view target wanted uid. refl) (λ name. refl) command e
+watched_unpaced command e = watched_cases (λ (c : Command). is_pacing c ≡ false) (λ name view target wanted uid. refl)
+    (λ name. refl) command e
 
 pub paced_unwatched : (command : Command) → is_pacing command ≡ true → is_watching command ≡ false
 paced_unwatched command e = by (is_watching command) refl
@@ -112,48 +123,63 @@ paced_unwatched command e = by (is_watching command) refl
     by false w = w
     by true w = let none = watched_unpaced command w in let never : true ≡ false = sym e ∙ none in absurd cc
 
-pub state_watched : (rows : PolicyRows) (old : State) (command : Command) (given : Served) (reply : Reply) → is_watching command ≡ true → Does rows old command given reply old
+pub state_watched : (rows : PolicyRows) (old : State) (command : Command) (given : Served) (reply : Reply) →
+    is_watching command ≡ true → Does rows old command given reply old
 state_watched rows old command given reply e =
-    watched_cases (λ (c : Command). Does rows old c given reply old) (λ name view target wanted uid. refl) (λ name. refl) command e
+    watched_cases (λ (c : Command). Does rows old c given reply old) (λ name view target wanted uid. refl)
+    (λ name. refl) command e
 
-pub watched_state : (rows : PolicyRows) (old : State) (command : Command) (given : Served) (reply : Reply) (new : State) → is_watching command ≡ true
+pub watched_state : (rows : PolicyRows) (old : State) (command : Command) (given : Served) (reply : Reply)
+    (new : State) → is_watching command ≡ true
     → Does rows old command given reply new → new ≡ old
 watched_state rows old command given reply new e d =
-    watched_cases (λ (c : Command). Does rows old c given reply new → new ≡ old) (λ name view target wanted uid p. p) (λ name p. p) command e d
+    watched_cases (λ (c : Command). Does rows old c given reply new → new ≡ old) (λ name view target wanted uid p. p)
+    (λ name p. p) command e d
 
-pub turns_watched : (command : Command) (old new : Views) (before after : Turns) → is_watching command ≡ true → after ≡ before → IsTurnedBy command old before new after
+pub turns_watched : (command : Command) (old new : Views) (before after : Turns) → is_watching command ≡ true →
+    after ≡ before → IsTurnedBy command old before new after
 turns_watched command old new before after e same =
-    watched_cases (λ (c : Command). IsTurnedBy c old before new after) (λ name view target wanted uid. same) (λ name. same) command e
+    watched_cases (λ (c : Command). IsTurnedBy c old before new after) (λ name view target wanted uid. same)
+    (λ name. same) command e
 
 pub uncalled_watched : (command : Command) → is_watching command ≡ true → use_of (Some command) ≡ unused
 uncalled_watched command e =
-    watched_cases (λ (c : Command). use_of (Some c) ≡ unused) (λ name view target wanted uid. refl) (λ name. refl) command e
+    watched_cases (λ (c : Command). use_of (Some c) ≡ unused) (λ name view target wanted uid. refl) (λ name. refl)
+    command e
 
 -- ---- words
 
-left_worded : (told reply : Reply) (left watches : Watches) → HasWords told → LeavesWatches told left reply watches → HasWords reply
+left_worded : (told reply : Reply) (left watches : Watches) → HasWords told → LeavesWatches told left reply watches →
+    HasWords reply
 left_worded told reply left watches words l = subst HasWords (sym l.0) words
 
-if_worded : (b : Bool) (P Q : Type 0) (reply : Reply) → (P → HasWords reply) → (Q → HasWords reply) → MatchBool b P Q → HasWords reply
+if_worded : (b : Bool) (P Q : Type 0) (reply : Reply) → (P → HasWords reply) → (Q → HasWords reply) → MatchBool b P Q →
+    HasWords reply
 if_worded true P Q reply f g p = f p
 if_worded false P Q reply f g q = g q
 
-opens_worded : (s : Whole) (name view : List ℕ) (target : Fpr) (wanted : ℕ) (uid : List ℕ) (o : Option View) (reply : Reply) (watches : Watches)
+opens_worded : (s : Whole) (name view : List ℕ) (target : Fpr) (wanted : ℕ) (uid : List ℕ) (o : Option View)
+    (reply : Reply) (watches : Watches)
     → Opens s name view target wanted uid o reply watches → HasWords reply
 opens_worded s name view target wanted uid None reply watches l = left_worded replies.View reply s.watches watches tt l
 opens_worded s name view target wanted uid (Some there) reply watches p =
     if_worded (is_full s.watches name) _ _ reply (left_worded replies.FullWatches reply s.watches watches tt)
-    (left_worded (replies.WatchAmount name p.0) reply (with_watch s.watches name (opened view target wanted uid p.0)) watches tt) p.2
+    (left_worded (replies.WatchAmount name p.0) reply (with_watch s.watches name (opened view target wanted uid p.0))
+    watches tt) p.2
 
-off_worded : (s : Whole) (name : List ℕ) (reply : Reply) (watches : Watches) → TakesOff s name reply watches → HasWords reply
+off_worded : (s : Whole) (name : List ℕ) (reply : Reply) (watches : Watches) → TakesOff s name reply watches →
+    HasWords reply
 off_worded s name reply watches l =
-    if_worded (is_some (watch_at s.watches name)) _ _ reply (left_worded replies.Done reply (without_watch s.watches name) watches tt)
+    if_worded (is_some (watch_at s.watches name)) _ _ reply
+    (left_worded replies.Done reply (without_watch s.watches name) watches tt)
     (left_worded replies.NoWatch reply s.watches watches tt) l
 
-pub watching_worded : (s : Whole) (command : Command) (reply : Reply) (watches : Watches) → is_watching command ≡ true → Watching s command reply watches → HasWords reply
+pub watching_worded : (s : Whole) (command : Command) (reply : Reply) (watches : Watches) → is_watching command ≡ true →
+    Watching s command reply watches → HasWords reply
 watching_worded s command reply watches e p =
     watched_cases (λ (c : Command). Watching s c reply watches → HasWords reply)
-    (λ name view target wanted uid. opens_worded s name view target wanted uid (view_at s.state.views view) reply watches)
+    (λ name view target wanted uid. opens_worded s name view target wanted uid (view_at s.state.views view) reply
+    watches)
     (λ name. off_worded s name reply watches) command e p
 
 pub line_worded : (line : Reply) → IsWatchLine line → HasWords line
@@ -165,26 +191,31 @@ line_worded said (inr is) = subst HasWords (sym is.1) tt
 refused_not : (told reply : Reply) (P : Type 0) → reply ≡ told → is_refused told ≡ false → is_refused reply ≡ true → P
 refused_not told reply P e not is = let never : false ≡ true = sym not ∙ sym (ap is_refused e) ∙ is in absurd cc
 
-opens_left : (s : Whole) (name view : List ℕ) (target : Fpr) (wanted : ℕ) (uid : List ℕ) (o : Option View) (reply : Reply) (watches : Watches)
+opens_left : (s : Whole) (name view : List ℕ) (target : Fpr) (wanted : ℕ) (uid : List ℕ) (o : Option View)
+    (reply : Reply) (watches : Watches)
     → Opens s name view target wanted uid o reply watches → is_refused reply ≡ true → watches ≡ s.watches
 opens_left s name view target wanted uid None reply watches l e = l.1
 opens_left s name view target wanted uid (Some there) reply watches p e = by (is_full s.watches name) p.2
   where
     by : (b : Bool)
         → MatchBool b (LeavesWatches replies.FullWatches s.watches reply watches)
-        (LeavesWatches (replies.WatchAmount name p.0) (with_watch s.watches name (opened view target wanted uid p.0)) reply watches) → watches ≡ s.watches
+        (LeavesWatches (replies.WatchAmount name p.0) (with_watch s.watches name (opened view target wanted uid p.0))
+        reply watches) → watches ≡ s.watches
     by true l = l.1
     by false l = refused_not (replies.WatchAmount name p.0) reply (watches ≡ s.watches) l.0 refl e
 
-off_left : (s : Whole) (name : List ℕ) (reply : Reply) (watches : Watches) → TakesOff s name reply watches → is_refused reply ≡ true → watches ≡ s.watches
+off_left : (s : Whole) (name : List ℕ) (reply : Reply) (watches : Watches) → TakesOff s name reply watches →
+    is_refused reply ≡ true → watches ≡ s.watches
 off_left s name reply watches l e = by (is_some (watch_at s.watches name)) l
   where
-    by : (b : Bool) → MatchBool b (LeavesWatches replies.Done (without_watch s.watches name) reply watches) (LeavesWatches replies.NoWatch s.watches reply watches)
+    by : (b : Bool) → MatchBool b (LeavesWatches replies.Done (without_watch s.watches name) reply watches)
+        (LeavesWatches replies.NoWatch s.watches reply watches)
         → watches ≡ s.watches
     by true l = refused_not replies.Done reply (watches ≡ s.watches) l.0 refl e
     by false l = l.1
 
-pub watching_left : (s : Whole) (command : Command) (reply : Reply) (watches : Watches) → is_watching command ≡ true → Watching s command reply watches
+pub watching_left : (s : Whole) (command : Command) (reply : Reply) (watches : Watches) → is_watching command ≡ true →
+    Watching s command reply watches
     → is_refused reply ≡ true → watches ≡ s.watches
 watching_left s command reply watches e =
     watched_cases (λ (c : Command). Watching s c reply watches → is_refused reply ≡ true → watches ≡ s.watches)
@@ -197,11 +228,13 @@ abbrev AnswerSome : Type 0
 AnswerSome = (q : Question) (wanted : ℕ) → 1 ≤ wanted → (paths : List Path) × IsAnswer q wanted paths
 
 abbrev pub AnswerOne : Type 0
-AnswerOne = (q : Question) (wanted : ℕ) (a b : List Path) → IsRecord q.told → IsAnswer q wanted a → IsAnswer q wanted b → a ≡ b
+AnswerOne = (q : Question) (wanted : ℕ) (a b : List Path) → IsRecord q.told → IsAnswer q wanted a →
+    IsAnswer q wanted b → a ≡ b
 
 abbrev pub Lawful : Type 0
 Lawful =
-    (certs : Certificates) (entries : Entries) (t : ℕ) (u : List ℕ) → AllByRecursion (λ (e : Fpr × Certificate). e.0 ≡ fpr_of e.1.key) certs
+    (certs : Certificates) (entries : Entries) (t : ℕ) (u : List ℕ) →
+    AllByRecursion (λ (e : Fpr × Certificate). e.0 ≡ fpr_of e.1.key) certs
     → IsRecord (record_of certs entries t u)
 
 -- the sum of the paths of an answer
@@ -209,7 +242,8 @@ abbrev Sums : State → View → Fpr → ℕ → List ℕ → ℕ → Type 0
 Sums s view target wanted uid n =
     (paths : List Path) × IsAnswer (question_in s view target uid) wanted paths × (n ≡ amount_of paths)
 
-amount_one : AnswerOne → Lawful → (s : State) (view : View) (target : Fpr) (wanted : ℕ) (uid : List ℕ) (a b : ℕ) → IsState s
+amount_one : AnswerOne → Lawful → (s : State) (view : View) (target : Fpr) (wanted : ℕ) (uid : List ℕ) (a b : ℕ) →
+    IsState s
     → IsAmount s view target wanted uid a → IsAmount s view target wanted uid b → a ≡ b
 amount_one one lawful s view target wanted uid a b can = by (wanted == 0)
   where
@@ -217,42 +251,51 @@ amount_one one lawful s view target wanted uid a b can = by (wanted == 0)
         → MatchBool z (b ≡ 0) (Sums s view target wanted uid b) → a ≡ b
     by true p q = p ∙ sym q
     by false p q =
-        let same = one (question_in s view target uid) wanted p.0 q.0 (lawful s.held.certs s.held.verdicts view.time uid can) p.1 q.1 in
+        let same = one (question_in s view target uid) wanted p.0 q.0 (lawful s.held.certs s.held.verdicts view.time uid
+        can) p.1 q.1 in
         p.2 ∙ ap amount_of same ∙ sym q.2
 
-amount_some : AnswerSome → (s : State) (view : View) (target : Fpr) (wanted : ℕ) (uid : List ℕ) → (n : ℕ) × IsAmount s view target wanted uid n
+amount_some : AnswerSome → (s : State) (view : View) (target : Fpr) (wanted : ℕ) (uid : List ℕ) →
+    (n : ℕ) × IsAmount s view target wanted uid n
 amount_some some s view target wanted uid = by (wanted == 0) refl
   where
     by : (z : Bool) → (wanted == 0) ≡ z
-        → (n : ℕ) × MatchBool z (n ≡ 0) ((paths : List Path) × IsAnswer (question_in s view target uid) wanted paths × (n ≡ amount_of paths))
+        → (n : ℕ) × MatchBool z (n ≡ 0) ((paths : List Path) × IsAnswer (question_in s view target uid) wanted
+        paths × (n ≡ amount_of paths))
     by true e = (0, refl)
     by false e =
         let other = eqb-false wanted 0 e in
         let paths = some (question_in s view target uid) wanted (omega (arith, other)) in
         (amount_of paths.0, (paths.0, paths.1, refl))
 
-has_one : AnswerOne → Lawful → (s : State) (o : Option View) (target : Fpr) (wanted : ℕ) (uid : List ℕ) (a b : Option ℕ) → IsState s
+has_one : AnswerOne → Lawful → (s : State) (o : Option View) (target : Fpr) (wanted : ℕ) (uid : List ℕ)
+    (a b : Option ℕ) → IsState s
     → HasAmount s o target wanted uid a → HasAmount s o target wanted uid b → a ≡ b
 has_one one lawful s None target wanted uid a b can p q = p ∙ sym q
 has_one one lawful s (Some view) target wanted uid a b can p q =
     p.2 ∙ ap (λ (n : ℕ). Some n) (amount_one one lawful s view target wanted uid p.0 q.0 can p.1 q.1) ∙ sym q.2
 
-has_some : AnswerSome → (s : State) (o : Option View) (target : Fpr) (wanted : ℕ) (uid : List ℕ) → (a : Option ℕ) × HasAmount s o target wanted uid a
+has_some : AnswerSome → (s : State) (o : Option View) (target : Fpr) (wanted : ℕ) (uid : List ℕ) →
+    (a : Option ℕ) × HasAmount s o target wanted uid a
 has_some some s None target wanted uid = (None, refl)
-has_some some s (Some view) target wanted uid = let n = amount_some some s view target wanted uid in (Some n.0, (n.0, n.1, refl))
+has_some some s (Some view) target wanted uid = let n = amount_some some s view target wanted uid in
+    (Some n.0, (n.0, n.1, refl))
 
 -- ---- watch lines
 
-line_one : AnswerOne → Lawful → (s : State) (name : List ℕ) (watch : Watch) (a b : Option Reply) → IsState s → IsLine s name watch a → IsLine s name watch b → a ≡ b
+line_one : AnswerOne → Lawful → (s : State) (name : List ℕ) (watch : Watch) (a b : Option Reply) → IsState s →
+    IsLine s name watch a → IsLine s name watch b → a ≡ b
 line_one one lawful s name watch a b can p q =
-    p.2 ∙ ap (line_by name watch.told) (has_one one lawful s (view_at s.views watch.view) watch.target watch.wanted watch.uid p.0 q.0 can p.1 q.1) ∙ sym q.2
+    p.2 ∙ ap (line_by name watch.told) (has_one one lawful s (view_at s.views watch.view) watch.target watch.wanted
+    watch.uid p.0 q.0 can p.1 q.1) ∙ sym q.2
 
 line_some : AnswerSome → (s : State) (name : List ℕ) (watch : Watch) → (line : Option Reply) × IsLine s name watch line
 line_some some s name watch =
     let a = has_some some s (view_at s.views watch.view) watch.target watch.wanted watch.uid in
     (line_by name watch.told a.0, (a.0, a.1, refl))
 
-lines_one : AnswerOne → Lawful → (s : State) (watches : Watches) (a b : List Reply) → IsState s → AreLines s watches a → AreLines s watches b → a ≡ b
+lines_one : AnswerOne → Lawful → (s : State) (watches : Watches) (a b : List Reply) → IsState s → AreLines s watches a →
+    AreLines s watches b → a ≡ b
 lines_one one lawful s [] a b can p q = p ∙ sym q
 lines_one one lawful s (entry ∷ watches) a b can p q =
     p.4 ∙ ap (λ (l : Option Reply). with_line l p.1) (line_one one lawful s entry.0 entry.1 p.0 q.0 can p.2 q.2)
@@ -265,7 +308,8 @@ lines_some some s (entry ∷ watches) =
     let others = lines_some some s watches in
     (with_line first.0 others.0, (first.0, others.0, first.1, others.1, refl))
 
-pub Tells-one : AnswerOne → Lawful → (old : Whole) (told others : List Reply) (new third : Whole) → IsState old.state → Tells old told new → Tells old others third
+pub Tells-one : AnswerOne → Lawful → (old : Whole) (told others : List Reply) (new third : Whole) → IsState old.state →
+    Tells old told new → Tells old others third
     → (told ≡ others) × (new ≡ third)
 Tells-one one lawful old told others new third can p q =
     let same = lines_one one lawful old.state old.watches told others can p.lines_are q.lines_are in
@@ -292,14 +336,17 @@ line_is name told (Some amount) = by (amount == told)
     by true = tt
     by false = inl (name, amount, refl)
 
-with_is : (line : Option Reply) (others : List Reply) → IfSome line IsWatchLine → AllByRecursion IsWatchLine others → AllByRecursion IsWatchLine (with_line line others)
+with_is : (line : Option Reply) (others : List Reply) → IfSome line IsWatchLine → AllByRecursion IsWatchLine others →
+    AllByRecursion IsWatchLine (with_line line others)
 with_is None others a b = b
 with_is (Some said) others a b = (a, b)
 
-pub lines_are_watch : (s : State) (watches : Watches) (lines : List Reply) → AreLines s watches lines → AllByRecursion IsWatchLine lines
+pub lines_are_watch : (s : State) (watches : Watches) (lines : List Reply) → AreLines s watches lines →
+    AllByRecursion IsWatchLine lines
 lines_are_watch s [] lines e = subst (AllByRecursion IsWatchLine) (sym e) tt
 lines_are_watch s (entry ∷ watches) lines p =
-    let one : IfSome p.0 IsWatchLine = subst (λ (o : Option Reply). IfSome o IsWatchLine) (sym p.2.2) (line_is entry.0 entry.1.told p.2.0) in
+    let one : IfSome p.0 IsWatchLine = subst (λ (o : Option Reply). IfSome o IsWatchLine) (sym p.2.2)
+    (line_is entry.0 entry.1.told p.2.0) in
     subst (AllByRecursion IsWatchLine) (sym p.4) (with_is p.0 p.1 one (lines_are_watch s watches p.1 p.3))
 
 -- ---- one reply
@@ -316,33 +363,40 @@ leaves_one told left r t m n p q = (p.0 ∙ sym q.0, p.1 ∙ sym q.1)
 leaves_some : (told : Reply) (left : Watches) → IsSomeOf (LeavesWatches told left)
 leaves_some told left = (told, left, (refl, refl))
 
-if_one : (b : Bool) (P Q : Reply → Watches → Type 0) → IsOneOf P → IsOneOf Q → IsOneOf (λ r m. MatchBool b (P r m) (Q r m))
+if_one : (b : Bool) (P Q : Reply → Watches → Type 0) → IsOneOf P → IsOneOf Q →
+    IsOneOf (λ r m. MatchBool b (P r m) (Q r m))
 if_one true P Q p q = p
 if_one false P Q p q = q
 
-if_some : (b : Bool) (P Q : Reply → Watches → Type 0) → IsSomeOf P → IsSomeOf Q → IsSomeOf (λ r m. MatchBool b (P r m) (Q r m))
+if_some : (b : Bool) (P Q : Reply → Watches → Type 0) → IsSomeOf P → IsSomeOf Q →
+    IsSomeOf (λ r m. MatchBool b (P r m) (Q r m))
 if_some true P Q p q = p
 if_some false P Q p q = q
 
-begins_one : (old : Watches) (name view : List ℕ) (target : Fpr) (wanted : ℕ) (uid : List ℕ) (amount : ℕ) → IsOneOf (BeginsWatch old name view target wanted uid amount)
+begins_one : (old : Watches) (name view : List ℕ) (target : Fpr) (wanted : ℕ) (uid : List ℕ) (amount : ℕ) →
+    IsOneOf (BeginsWatch old name view target wanted uid amount)
 begins_one old name view target wanted uid amount =
     if_one (is_full old name) (LeavesWatches replies.FullWatches old) _ (leaves_one replies.FullWatches old)
     (leaves_one (replies.WatchAmount name amount) (with_watch old name (opened view target wanted uid amount)))
 
-begins_some : (old : Watches) (name view : List ℕ) (target : Fpr) (wanted : ℕ) (uid : List ℕ) (amount : ℕ) → IsSomeOf (BeginsWatch old name view target wanted uid amount)
+begins_some : (old : Watches) (name view : List ℕ) (target : Fpr) (wanted : ℕ) (uid : List ℕ) (amount : ℕ) →
+    IsSomeOf (BeginsWatch old name view target wanted uid amount)
 begins_some old name view target wanted uid amount =
     if_some (is_full old name) (LeavesWatches replies.FullWatches old) _ (leaves_some replies.FullWatches old)
     (leaves_some (replies.WatchAmount name amount) (with_watch old name (opened view target wanted uid amount)))
 
-opens_one : AnswerOne → Lawful → (s : Whole) (name view : List ℕ) (target : Fpr) (wanted : ℕ) (uid : List ℕ) (o : Option View) → IsState s.state
+opens_one : AnswerOne → Lawful → (s : Whole) (name view : List ℕ) (target : Fpr) (wanted : ℕ) (uid : List ℕ)
+    (o : Option View) → IsState s.state
     → IsOneOf (Opens s name view target wanted uid o)
 opens_one one lawful s name view target wanted uid None can r t m n p q = leaves_one replies.View s.watches r t m n p q
 opens_one one lawful s name view target wanted uid (Some there) can r t m n p q =
     let same = amount_one one lawful s.state there target wanted uid p.0 q.0 can p.1 q.1 in
-    let q' : BeginsWatch s.watches name view target wanted uid p.0 t n = subst (λ (a : ℕ). BeginsWatch s.watches name view target wanted uid a t n) (sym same) q.2 in
+    let q' : BeginsWatch s.watches name view target wanted uid p.0 t n =
+    subst (λ (a : ℕ). BeginsWatch s.watches name view target wanted uid a t n) (sym same) q.2 in
     begins_one s.watches name view target wanted uid p.0 r t m n p.2 q'
 
-opens_some : AnswerSome → (s : Whole) (name view : List ℕ) (target : Fpr) (wanted : ℕ) (uid : List ℕ) (o : Option View) → IsSomeOf (Opens s name view target wanted uid o)
+opens_some : AnswerSome → (s : Whole) (name view : List ℕ) (target : Fpr) (wanted : ℕ) (uid : List ℕ)
+    (o : Option View) → IsSomeOf (Opens s name view target wanted uid o)
 opens_some some s name view target wanted uid None = leaves_some replies.View s.watches
 opens_some some s name view target wanted uid (Some there) =
     let amount = amount_some some s.state there target wanted uid in
@@ -359,15 +413,19 @@ off_some s name =
     if_some (is_some (watch_at s.watches name)) (LeavesWatches replies.Done (without_watch s.watches name)) _
     (leaves_some replies.Done (without_watch s.watches name)) (leaves_some replies.NoWatch s.watches)
 
-pub watching_one : AnswerOne → Lawful → (s : Whole) (command : Command) → is_watching command ≡ true → IsState s.state → IsOneOf (Watching s command)
+pub watching_one : AnswerOne → Lawful → (s : Whole) (command : Command) → is_watching command ≡ true → IsState s.state →
+    IsOneOf (Watching s command)
 watching_one one lawful s command e can =
     watched_cases (λ (c : Command). IsOneOf (Watching s c))
-    (λ name view target wanted uid. opens_one one lawful s name view target wanted uid (view_at s.state.views view) can) (λ name. off_one s name) command e
+    (λ name view target wanted uid. opens_one one lawful s name view target wanted uid (view_at s.state.views view) can)
+    (λ name. off_one s name) command e
 
-pub watching_some : AnswerSome → (s : Whole) (command : Command) → is_watching command ≡ true → IsSomeOf (Watching s command)
+pub watching_some : AnswerSome → (s : Whole) (command : Command) → is_watching command ≡ true →
+    IsSomeOf (Watching s command)
 watching_some some s command e =
     watched_cases (λ (c : Command). IsSomeOf (Watching s c))
-    (λ name view target wanted uid. opens_some some s name view target wanted uid (view_at s.state.views view)) (λ name. off_some s name) command e
+    (λ name view target wanted uid. opens_some some s name view target wanted uid (view_at s.state.views view))
+    (λ name. off_some s name) command e
 
 -- ---- the loop that gathers watch lines
 
@@ -376,20 +434,25 @@ abbrev pub AreSoFar : State → Watches → Watches → List Reply → Type 0
 AreSoFar s all rest lines = (others : List Reply) → AreLines s rest others → AreLines s all (lines ++ others)
 
 -- a watch without a line
-pub so_far_still : (s : State) (all rest : Watches) (name : List ℕ) (watch : Watch) (lines : List Reply) → AreSoFar s all ((name, watch) ∷ rest) lines
+pub so_far_still : (s : State) (all rest : Watches) (name : List ℕ) (watch : Watch) (lines : List Reply) →
+    AreSoFar s all ((name, watch) ∷ rest) lines
     → IsLine s name watch None → AreSoFar s all rest lines
 so_far_still s all rest name watch lines f is others p = f others (None, others, is, p, refl)
 
 -- a watch with one
-pub so_far_line : (s : State) (all rest : Watches) (name : List ℕ) (watch : Watch) (line : Reply) (lines : List Reply) → AreSoFar s all ((name, watch) ∷ rest) lines
+pub so_far_line : (s : State) (all rest : Watches) (name : List ℕ) (watch : Watch) (line : Reply) (lines : List Reply) →
+    AreSoFar s all ((name, watch) ∷ rest) lines
     → IsLine s name watch (Some line) → AreSoFar s all rest (lines ++ line ∷ [])
 so_far_line s all rest name watch line lines f is others p =
-    subst (λ (ls : List Reply). AreLines s all ls) (sym (append_assoc lines (line ∷ []) others)) (f (line ∷ others) (Some line, others, is, p, refl))
+    subst (λ (ls : List Reply). AreLines s all ls) (sym (append_assoc lines (line ∷ []) others))
+    (f (line ∷ others) (Some line, others, is, p, refl))
 
 -- the end
-pub so_far_all : (s : State) (all rest : Watches) (lines : List Reply) → AreSoFar s all rest lines → rest ≡ [] → AreLines s all lines
+pub so_far_all : (s : State) (all rest : Watches) (lines : List Reply) → AreSoFar s all rest lines → rest ≡ [] →
+    AreLines s all lines
 so_far_all s all rest lines f none =
-    subst (λ (ls : List Reply). AreLines s all ls) (append-nil lines) (f [] (subst (λ (ws : Watches). AreLines s ws []) (sym none) refl))
+    subst (λ (ls : List Reply). AreLines s all ls) (append-nil lines)
+    (f [] (subst (λ (ws : Watches). AreLines s ws []) (sym none) refl))
 
 -- one more
 pub all_more : (P : Reply → Type 0) (lines : List Reply) (line : Reply) → AllByRecursion P lines → P line
@@ -398,7 +461,8 @@ all_more P [] said all p = (p, tt)
 all_more P (first ∷ lines) said all p = (all.0, all_more P lines said all.1 p)
 
 -- a line that is there is a watch line
-pub line_is_watch : (s : State) (name : List ℕ) (watch : Watch) (line : Reply) → IsLine s name watch (Some line) → IsWatchLine line
+pub line_is_watch : (s : State) (name : List ℕ) (watch : Watch) (line : Reply) → IsLine s name watch (Some line) →
+    IsWatchLine line
 line_is_watch s name watch line is = by (line_by name watch.told is.0) is.2 (line_is name watch.told is.0)
   where
     by : (o : Option Reply) → Some line ≡ o → IfSome o IsWatchLine → IsWatchLine line
@@ -407,69 +471,89 @@ line_is_watch s name watch line is = by (line_by name watch.told is.0) is.2 (lin
 
 -- ---- what a question tells a watch
 
-pub amount_has : (s : State) (o : Option View) (target : Fpr) (wanted : ℕ) (uid : List ℕ) (paths : List Path) (sum : ℕ) → 1 ≤ wanted → is_some o ≡ true
-    → IfSome o (λ view. IsAnswer (question_in s view target uid) wanted paths) → sum ≡ amount_of paths → HasAmount s o target wanted uid (Some sum)
+pub amount_has : (s : State) (o : Option View) (target : Fpr) (wanted : ℕ) (uid : List ℕ) (paths : List Path)
+    (sum : ℕ) → 1 ≤ wanted → is_some o ≡ true
+    → IfSome o (λ view. IsAnswer (question_in s view target uid) wanted paths) → sum ≡ amount_of paths →
+    HasAmount s o target wanted uid (Some sum)
 amount_has s None target wanted uid paths sum some seen answer is = absurd (cc seen)
 amount_has s (Some view) target wanted uid paths sum some seen answer is = (sum, by (wanted == 0) refl, refl)
   where
     by : (z : Bool) → (wanted == 0) ≡ z
-        → MatchBool z (sum ≡ 0) ((paths : List Path) × IsAnswer (question_in s view target uid) wanted paths × (sum ≡ amount_of paths))
+        → MatchBool z (sum ≡ 0) ((paths : List Path) × IsAnswer (question_in s view target uid) wanted
+        paths × (sum ≡ amount_of paths))
     by true e = let none : wanted ≡ 0 = eqb-true wanted 0 e in absurd (omega (arith, none, some))
     by false e = (paths, answer, is)
 
 -- ---- loops over watch lines
 
 -- the first of what is left
-pub first_is : (P : Reply → Type 0) (line : Reply) (rest others : List Reply) → rest ≡ line ∷ others → AllByRecursion P rest → P line × AllByRecursion P others
+pub first_is : (P : Reply → Type 0) (line : Reply) (rest others : List Reply) → rest ≡ line ∷ others →
+    AllByRecursion P rest → P line × AllByRecursion P others
 first_is P said rest others e all = subst (AllByRecursion P) e all
 
 -- their octets
-pub text_on : (text next : List ℕ) (line : Reply) (rest others all : List Reply) → text ++ octets_of rest ≡ octets_of all → rest ≡ line ∷ others
+pub text_on : (text next : List ℕ) (line : Reply) (rest others all : List Reply) →
+    text ++ octets_of rest ≡ octets_of all → rest ≡ line ∷ others
     → next ≡ text ++ reply_text line → next ++ octets_of others ≡ octets_of all
 text_on text next line rest others all so e f =
     ap (λ (x : List ℕ). x ++ octets_of others) f ∙ append_assoc text (reply_text line) (octets_of others)
     ∙ ap (λ (ls : List Reply). text ++ octets_of ls) (sym e) ∙ so
 
-pub text_all : (text : List ℕ) (rest all : List Reply) → length rest ≡ 0 → text ++ octets_of rest ≡ octets_of all → text ≡ octets_of all
-text_all text rest all none so = sym (append-nil text) ∙ ap (λ (ls : List Reply). text ++ octets_of ls) (sym (nil_from_length rest none)) ∙ so
+pub text_all : (text : List ℕ) (rest all : List Reply) → length rest ≡ 0 → text ++ octets_of rest ≡ octets_of all →
+    text ≡ octets_of all
+text_all text rest all none so = sym (append-nil text) ∙ ap (λ (ls : List Reply). text ++ octets_of ls)
+    (sym (nil_from_length rest none)) ∙ so
 
 -- the watches once they are told
-pub told_on : (now next first : Watches) (line : Reply) (rest others all : List Reply) → told_all now rest ≡ told_all first all → rest ≡ line ∷ others
+pub told_on : (now next first : Watches) (line : Reply) (rest others all : List Reply) →
+    told_all now rest ≡ told_all first all → rest ≡ line ∷ others
     → next ≡ told_by now line → told_all next others ≡ told_all first all
-told_on now next first said rest others all so e f = ap (λ (ws : Watches). told_all ws others) f ∙ ap (told_all now) (sym e) ∙ so
+told_on now next first said rest others all so e f = ap (λ (ws : Watches). told_all ws others) f
+    ∙ ap (told_all now) (sym e) ∙ so
 
-pub told_end : (now first : Watches) (rest all : List Reply) → length rest ≡ 0 → told_all now rest ≡ told_all first all → now ≡ told_all first all
+pub told_end : (now first : Watches) (rest all : List Reply) → length rest ≡ 0 →
+    told_all now rest ≡ told_all first all → now ≡ told_all first all
 told_end now first rest all none so = ap (told_all now) (sym (nil_from_length rest none)) ∙ so
 
 -- ---- how a watch begins
 
-pub begins_new : (old : Watches) (name view : List ℕ) (target : Fpr) (wanted : ℕ) (uid : List ℕ) (amount : ℕ) (reply : Reply) (watches : Watches) → is_full old name ≡ false
+pub begins_new : (old : Watches) (name view : List ℕ) (target : Fpr) (wanted : ℕ) (uid : List ℕ) (amount : ℕ)
+    (reply : Reply) (watches : Watches) → is_full old name ≡ false
     → reply ≡ replies.WatchAmount name amount → watches ≡ with_watch old name (opened view target wanted uid amount)
     → BeginsWatch old name view target wanted uid amount reply watches
 begins_new old name view target wanted uid amount reply watches few r w =
     subst (λ (b : Bool). MatchBool b (LeavesWatches replies.FullWatches old reply watches)
-    (LeavesWatches (replies.WatchAmount name amount) (with_watch old name (opened view target wanted uid amount)) reply watches)) (sym few) (r, w)
+    (LeavesWatches (replies.WatchAmount name amount) (with_watch old name (opened view target wanted uid amount)) reply
+    watches)) (sym few) (r, w)
 
-pub begins_full : (old : Watches) (name view : List ℕ) (target : Fpr) (wanted : ℕ) (uid : List ℕ) (amount : ℕ) (watches : Watches) → is_full old name ≡ true → watches ≡ old
+pub begins_full : (old : Watches) (name view : List ℕ) (target : Fpr) (wanted : ℕ) (uid : List ℕ) (amount : ℕ)
+    (watches : Watches) → is_full old name ≡ true → watches ≡ old
     → BeginsWatch old name view target wanted uid amount replies.FullWatches watches
 begins_full old name view target wanted uid amount watches full w =
     subst (λ (b : Bool). MatchBool b (LeavesWatches replies.FullWatches old replies.FullWatches watches)
-    (LeavesWatches (replies.WatchAmount name amount) (with_watch old name (opened view target wanted uid amount)) replies.FullWatches watches)) (sym full) (refl, w)
+    (LeavesWatches (replies.WatchAmount name amount) (with_watch old name (opened view target wanted uid amount))
+    replies.FullWatches watches)) (sym full) (refl, w)
 
 -- where the question was answered
-pub opens_answered : (s : Whole) (name view : List ℕ) (target : Fpr) (wanted : ℕ) (uid : List ℕ) (o : Option View) (paths : List Path) (sum : ℕ) (reply : Reply) (watches : Watches)
-    → 1 ≤ wanted → is_some o ≡ true → IfSome o (λ there. IsAnswer (question_in s.state there target uid) wanted paths) → sum ≡ amount_of paths
-    → BeginsWatch s.watches name view target wanted uid sum reply watches → Opens s name view target wanted uid o reply watches
+pub opens_answered : (s : Whole) (name view : List ℕ) (target : Fpr) (wanted : ℕ) (uid : List ℕ) (o : Option View)
+    (paths : List Path) (sum : ℕ) (reply : Reply) (watches : Watches)
+    → 1 ≤ wanted → is_some o ≡ true → IfSome o (λ there. IsAnswer (question_in s.state there target uid) wanted paths) →
+    sum ≡ amount_of paths
+    → BeginsWatch s.watches name view target wanted uid sum reply watches →
+    Opens s name view target wanted uid o reply watches
 opens_answered s name view target wanted uid None paths sum reply watches some seen answer is begins = absurd (cc seen)
-opens_answered s name view target wanted uid (Some there) paths sum reply watches some seen answer is begins = (sum, by (wanted == 0) refl, begins)
+opens_answered s name view target wanted uid (Some there) paths sum reply watches some seen answer is begins =
+    (sum, by (wanted == 0) refl, begins)
   where
     by : (z : Bool) → (wanted == 0) ≡ z
-        → MatchBool z (sum ≡ 0) ((paths : List Path) × IsAnswer (question_in s.state there target uid) wanted paths × (sum ≡ amount_of paths))
+        → MatchBool z (sum ≡ 0) ((paths : List Path) × IsAnswer (question_in s.state there target uid) wanted
+        paths × (sum ≡ amount_of paths))
     by true e = let none : wanted ≡ 0 = eqb-true wanted 0 e in absurd (omega (arith, none, some))
     by false e = (paths, answer, is)
 
 -- where the view isn't open
-pub opens_unopened : (s : Whole) (name view : List ℕ) (target : Fpr) (wanted : ℕ) (uid : List ℕ) (o : Option View) → o ≡ None
+pub opens_unopened : (s : Whole) (name view : List ℕ) (target : Fpr) (wanted : ℕ) (uid : List ℕ) (o : Option View) →
+    o ≡ None
     → Opens s name view target wanted uid o replies.View s.watches
 opens_unopened s name view target wanted uid o none =
     subst (λ (o : Option View). Opens s name view target wanted uid o replies.View s.watches) (sym none) (refl, refl)

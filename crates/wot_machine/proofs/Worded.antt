@@ -1,5 +1,6 @@
 -- Each word of an explanation is in its table.
-use Rattle.std.proofs.Common.{ℕ, ◌<◌, Bool, true, false, cond, List, [], ◌∷◌, map, Option, Some, None, Result, Ok, Err, sym, subst, arith, ◌≡◌, refl}
+use Rattle.std.proofs.Common.{ℕ, ◌<◌, Bool, true, false, cond, List, [], ◌∷◌, map, Option, Some, None, Result, Ok, Err}
+use Rattle.std.proofs.Common.{sym, subst, arith, ◌≡◌, refl}
 use Rattle.std.specs.Prelude.{IfErr, filter, is_some, nat_le}
 use Rattle.std.specs.List.{AllByRecursion, slice_get}
 use Rattle.std.specs.Map.{lookup}
@@ -33,7 +34,10 @@ use Rattle.wot_standing.specs.Kinds.{is_certification}
 use Rattle.wot_standing.specs.Own.{is_own_revoked}
 use Rattle.wot_standing.specs.Standing.{own, standing_of}
 use Rattle.wot_script.specs.declared.command.Command.{Command}
-use Rattle.wot_script.specs.declared.command.Command.TheVariants.{Import, Load, Store, Remove, Good, Bad, Unjudge, Time, Root, Close, Ask, Explain, Pending, Keys, Export, Dump, Absence, Check, CursorOver, CursorNext, CursorClose, WatchOn, WatchOff}
+use Rattle.wot_script.specs.declared.command.Command.TheVariants.{Import, Load, Store, Remove, Good, Bad, Unjudge, Time}
+use Rattle.wot_script.specs.declared.command.Command.TheVariants.{Root, Close, Ask, Explain, Pending, Keys, Export}
+use Rattle.wot_script.specs.declared.command.Command.TheVariants.{Dump, Absence, Check, CursorOver, CursorNext}
+use Rattle.wot_script.specs.declared.command.Command.TheVariants.{CursorClose, WatchOn, WatchOff}
 use Rattle.wot_script.specs.declared.reply.ClaimLine.{ClaimLine}
 use Rattle.wot_script.specs.declared.reply.LabelLine.{LabelLine}
 use Rattle.wot_script.specs.declared.reply.Reply.{Reply}
@@ -59,7 +63,9 @@ use Rattle.wot_machine.specs.Watching.{is_watching}
 use Rattle.wot_machine.proofs.Paced.{paces_worded}
 use Rattle.wot_machine.proofs.Watched.{watching_worded}
 use Rattle.wot_machine.specs.LineStep.{Obeys, Does, Gives}
-use Rattle.wot_machine.specs.Outcome.{Outcome, cert_refusal, clear_verdict, close, done, dump, export, exported, import, imports, keys, load, only, refusal, remove, root, set_verdict, time, unless, view_refusal}
+use Rattle.wot_machine.specs.Outcome.{Outcome, cert_refusal, clear_verdict, close, done, dump, export, exported, import}
+use Rattle.wot_machine.specs.Outcome.{imports, keys, load, only, refusal, remove, root, set_verdict, time, unless}
+use Rattle.wot_machine.specs.Outcome.{view_refusal}
 use Rattle.wot_machine.specs.Served.{Served}
 use Rattle.wot_machine.specs.Storing.{store, stored, stored_from, text_unless, united_with, writing}
 use Rattle.wot_machine.proofs.Absences.{tells_worded, verdicts_worded}
@@ -67,7 +73,8 @@ use Rattle.wot_machine.proofs.Absences.{tells_worded, verdicts_worded}
 -- ---- explanations
 
 -- the first word that applies is one of the table, or 0
-first_below : (n : ℕ) (words : List Word) → 0 < n → AllByRecursion (λ (word : Word). word.0 < n) words → first_word words < n
+first_below : (n : ℕ) (words : List Word) → 0 < n → AllByRecursion (λ (word : Word). word.0 < n) words →
+    first_word words < n
 first_below n [] zero all = zero
 first_below n (word ∷ words) zero all = by (first_below n words zero all.1) word.1
   where
@@ -77,9 +84,13 @@ first_below n (word ∷ words) zero all = by (first_below n words zero all.1) wo
 
 target_below : (target : Standing) (t : ℕ) (revoked : Bool) → target_word target t revoked < 7
 target_below target t revoked =
-    first_below 7 (target_words target t revoked) (omega arith) (omega arith, (omega arith, (omega arith, (omega arith, (omega arith, (omega arith, tt))))))
+    first_below 7 (target_words target t revoked) (omega arith) (
+      omega arith,
+      (omega arith, (omega arith, (omega arith, (omega arith, (omega arith, tt))))),
+    )
 
-words_below : (entries : Entries) (t : ℕ) (uid : Component) (s : Signature) (said : Option Verdict) (issuer : Option Standing)
+words_below : (entries : Entries) (t : ℕ) (uid : Component) (s : Signature) (said : Option Verdict)
+    (issuer : Option Standing)
     → first_word (reason_words entries t uid s said issuer) < 16
 words_below entries t uid s said issuer =
     first_below 16 (reason_words entries t uid s said issuer) (omega arith) (
@@ -98,7 +109,13 @@ words_below entries t uid s said issuer =
                   omega arith,
                   (
                     omega arith,
-                    (omega arith, (omega arith, (omega arith, (omega arith, (omega arith, (omega arith, (omega arith, tt))))))),
+                    (
+                      omega arith,
+                      (
+                        omega arith,
+                        (omega arith, (omega arith, (omega arith, (omega arith, (omega arith, tt))))),
+                      ),
+                    ),
                   ),
                 ),
               ),
@@ -112,12 +129,14 @@ line_worded : (number : SigNumber) (word : ℕ) (step : Option Step) → word < 
 line_worded number word None below = below
 line_worded number word (Some step) below = tt
 
-lines_worded : (entries : Entries) (certs : Certificates) (t : ℕ) (target : Fpr) (place : ℕ) (uid : Component) (sigs : List Signature)
+lines_worded : (entries : Entries) (certs : Certificates) (t : ℕ) (target : Fpr) (place : ℕ) (uid : Component)
+    (sigs : List Signature)
     → AllByRecursion HasReason (map reason_line (map (reason_of entries certs t target place uid) sigs))
 lines_worded entries certs t target place uid [] = tt
 lines_worded entries certs t target place uid (s ∷ sigs) =
     let r : Reason = reason_of entries certs t target place uid s in (
-      line_worded r.0 r.1 r.2 (words_below entries t uid s (verdict_at entries s.number) (issuer_standing entries certs t (verdict_at entries s.number))),
+      line_worded r.0 r.1 r.2 (words_below entries t uid s (verdict_at entries s.number)
+          (issuer_standing entries certs t (verdict_at entries s.number))),
       lines_worded entries certs t target place uid sigs,
     )
 
@@ -135,13 +154,15 @@ placed_worded entries certs t c None = tt
 placed_worded entries certs t c (Some place) = there_worded entries certs t c place (slice_get c.user_ids place)
 
 kept_worded : (entries : Entries) (certs : Certificates) (t : ℕ) (u : List ℕ) (c : Option Certificate)
-    → HasWords (explained (option_and_then (λ (c : Certificate). option_and_then (explained_at entries certs t c) (place_of u c.user_ids)) c))
+    → HasWords (explained (option_and_then (λ (c : Certificate). option_and_then (explained_at entries certs t c)
+    (place_of u c.user_ids)) c))
 kept_worded entries certs t u None = tt
 kept_worded entries certs t u (Some c) = placed_worded entries certs t c (place_of u c.user_ids)
 
 explain_worded : (s : State) (view : Option View) (fpr : Fpr) (u : List ℕ) → HasWords (explained_from s view fpr u)
 explain_worded s None fpr u = tt
-explain_worded s (Some view) fpr u = kept_worded s.held.verdicts s.held.certs view.time u (lookup (is_fpr fpr) s.held.certs)
+explain_worded s (Some view) fpr u = kept_worded s.held.verdicts s.held.certs view.time u
+    (lookup (is_fpr fpr) s.held.certs)
 
 -- ---- other replies
 
@@ -161,7 +182,8 @@ refused_worded refusals.Clash = tt
 refused_worded (refusals.Full limit) = tt
 refused_worded refusals.Memory = tt
 
-imports_worded : (rows : PolicyRows) (s : State) (octets : List ℕ) (answer : Result Imported Refusal) → HasWords (imports rows s octets answer).reply
+imports_worded : (rows : PolicyRows) (s : State) (octets : List ℕ) (answer : Result Imported Refusal) →
+    HasWords (imports rows s octets answer).reply
 imports_worded rows s octets (Ok counts) = tt
 imports_worded rows s octets (Err told) = refused_worded told
 
@@ -169,7 +191,8 @@ load_worded : (rows : PolicyRows) (s : State) (name : Name) (answer : Answer) �
 load_worded rows s name Answer.fault = tt
 load_worded rows s name Answer.absent = tt
 load_worded rows s name Answer.long = tt
-load_worded rows s name (Answer.entry octets) = imports_worded rows s octets (answer_under (is_entry name) rows standard_limits s.held.certs octets)
+load_worded rows s name (Answer.entry octets) =
+    imports_worded rows s octets (answer_under (is_entry name) rows standard_limits s.held.certs octets)
 
 stored_worded : (fails : Bool) (r : Result (List ℕ) Reply) → IfErr r HasWords → HasWords (stored fails r)
 stored_worded fails (Err reply) h = h
@@ -188,7 +211,8 @@ writing_worded fpr kept (Answer.entry octets) = text_worded (united_with kept (e
 
 store_worded : (kept : Option Certificate) (fpr : Fpr) (given : Served) → HasWords (stored_from kept fpr given)
 store_worded None fpr given = tt
-store_worded (Some kept) fpr given = stored_worded given.fails (writing fpr kept given.read) (writing_worded fpr kept given.read)
+store_worded (Some kept) fpr given = stored_worded given.fails (writing fpr kept given.read)
+    (writing_worded fpr kept given.read)
 
 either : (b : Bool) (a c : Outcome) → HasWords a.reply → HasWords c.reply → HasWords (cond b a c).reply
 either true a c p q = p
@@ -208,15 +232,19 @@ export_worded : (c : Option Certificate) → HasWords (exported c)
 export_worded None = tt
 export_worded (Some c) = tt
 
-given : (outcome : Outcome) (reply : Reply) (new : State) → HasWords outcome.reply → Gives outcome reply new → HasWords reply
+given : (outcome : Outcome) (reply : Reply) (new : State) → HasWords outcome.reply → Gives outcome reply new →
+    HasWords reply
 given outcome reply new h g = subst HasWords (sym g.0) h
 
-set_worded : (s : State) (number : SigNumber) (v : Verdict) (reply : Reply) (new : State) → Gives (set_verdict s number v) reply new → HasWords reply
+set_worded : (s : State) (number : SigNumber) (v : Verdict) (reply : Reply) (new : State) →
+    Gives (set_verdict s number v) reply new → HasWords reply
 set_worded s number v reply new =
     given (set_verdict s number v) reply new
-    (either (is_over standard_limits s.held.verdicts number) (only s (replies.Full limits.Verdicts)) (done (with_held s (verdict_set number v s.held))) tt tt)
+    (either (is_over standard_limits s.held.verdicts number) (only s (replies.Full limits.Verdicts))
+    (done (with_held s (verdict_set number v s.held))) tt tt)
 
-ask_worded : (s : State) (view : Option View) (target : Fpr) (wanted : ℕ) (uid : List ℕ) (reply : Reply) → Asks s view target wanted uid reply → HasWords reply
+ask_worded : (s : State) (view : Option View) (target : Fpr) (wanted : ℕ) (uid : List ℕ) (reply : Reply) →
+    Asks s view target wanted uid reply → HasWords reply
 ask_worded s None target wanted uid reply asks = subst HasWords (sym asks) tt
 ask_worded s (Some view) target wanted uid reply asks = subst HasWords (sym asks.2) tt
 
@@ -224,43 +252,62 @@ list_worded : (s : State) (view : Option View) (wanted : ℕ) (reply : Reply) �
 list_worded s None wanted reply lists = subst HasWords (sym lists) tt
 list_worded s (Some view) wanted reply lists = subst HasWords (sym lists.2) tt
 
-absence_worded : (s : State) (view : Option View) (target : Fpr) (wanted : ℕ) (uid : List ℕ) (reply : Reply) → Misses s view target wanted uid reply → HasWords reply
+absence_worded : (s : State) (view : Option View) (target : Fpr) (wanted : ℕ) (uid : List ℕ) (reply : Reply) →
+    Misses s view target wanted uid reply → HasWords reply
 absence_worded s None target wanted uid reply misses = subst HasWords (sym misses) tt
 absence_worded s (Some view) target wanted uid reply misses =
     tells_worded (nat_le wanted (amount_of misses.0)) (question_in s view target uid) misses.0 reply misses.2
 
-check_worded : (s : State) (view : Option View) (target : Fpr) (claims : List ClaimLine) (labels : List LabelLine) (uid : List ℕ) (reply : Reply)
+check_worded : (s : State) (view : Option View) (target : Fpr) (claims : List ClaimLine) (labels : List LabelLine)
+    (uid : List ℕ) (reply : Reply)
     → Checks s view target claims labels uid reply → HasWords reply
 check_worded s None target claims labels uid reply checks = subst HasWords (sym checks) tt
-check_worded s (Some view) target claims labels uid reply checks = subst HasWords (sym checks.2) (verdicts_worded claims checks.0)
+check_worded s (Some view) target claims labels uid reply checks =
+    subst HasWords (sym checks.2) (verdicts_worded claims checks.0)
 
-does_worded : (rows : PolicyRows) (old : State) (command : Command) (answer : Served) (reply : Reply) (new : State) → is_pacing command ≡ false → is_watching command ≡ false
+does_worded : (rows : PolicyRows) (old : State) (command : Command) (answer : Served) (reply : Reply) (new : State) →
+    is_pacing command ≡ false → is_watching command ≡ false
     → Does rows old command answer reply new → HasWords reply
 does_worded rows old (Import octets) answer reply new plain still g =
-    given (import rows old octets) reply new (imports_worded rows old octets (answer_to rows standard_limits old.held.certs octets)) g
-does_worded rows old (Load name) answer reply new plain still g = given (load rows old name answer.read) reply new (load_worded rows old name answer.read) g
-does_worded rows old (Store fpr) answer reply new plain still g = given (store old fpr answer) reply new (store_worded (cert_in old.held fpr) fpr answer) g
+    given (import rows old octets) reply new
+    (imports_worded rows old octets (answer_to rows standard_limits old.held.certs octets)) g
+does_worded rows old (Load name) answer reply new plain still g = given (load rows old name answer.read) reply new
+    (load_worded rows old name answer.read) g
+does_worded rows old (Store fpr) answer reply new plain still g = given (store old fpr answer) reply new
+    (store_worded (cert_in old.held fpr) fpr answer) g
 does_worded rows old (Remove fpr) answer reply new plain still g =
-    given (remove old fpr) reply new (either (is_some (cert_in old.held fpr)) (done (with_held old (removing fpr old.held))) (only old replies.Absent) tt tt) g
-does_worded rows old (Good number fpr) answer reply new plain still g = set_worded old number (verdicts.Good fpr) reply new g
+    given (remove old fpr) reply new (either (is_some (cert_in old.held fpr))
+    (done (with_held old (removing fpr old.held))) (only old replies.Absent) tt tt) g
+does_worded rows old (Good number fpr) answer reply new plain still g =
+    set_worded old number (verdicts.Good fpr) reply new g
 does_worded rows old (Bad number) answer reply new plain still g = set_worded old number verdicts.Bad reply new g
 does_worded rows old (Unjudge number) answer reply new plain still g =
     given (clear_verdict old number) reply new
-    (either (is_some (verdict_at old.held.verdicts number)) (done (with_held old (verdict_cleared number old.held))) (only old replies.Absent) tt tt) g
+    (either (is_some (verdict_at old.held.verdicts number)) (done (with_held old (verdict_cleared number old.held)))
+    (only old replies.Absent) tt tt) g
 does_worded rows old (Time view t) answer reply new plain still g =
-    given (time old view t) reply new (unless_worded old (timing view t old) (time_fault standard_limits old.views view)) g
+    given (time old view t) reply new (unless_worded old (timing view t old)
+    (time_fault standard_limits old.views view)) g
 does_worded rows old (Root view fpr amount) answer reply new plain still g =
-    given (root old view fpr amount) reply new (unless_worded old (rooting view fpr amount old) (root_fault standard_limits (view_at old.views view) fpr amount)) g
+    given (root old view fpr amount) reply new (unless_worded old (rooting view fpr amount old)
+    (root_fault standard_limits (view_at old.views view) fpr amount)) g
 does_worded rows old (Close view) answer reply new plain still g =
-    given (close old view) reply new (either (is_some (view_at old.views view)) (done (closing view old)) (only old replies.View) tt tt) g
-does_worded rows old (Ask view target wanted uid) answer reply new plain still g = ask_worded old (view_at old.views view) target wanted uid reply g.0
-does_worded rows old (Command.List view wanted) answer reply new plain still g = list_worded old (view_at old.views view) wanted reply g.0
-does_worded rows old (Explain view fpr uid) answer reply new plain still g = given (explain old view fpr uid) reply new (explain_worded old (view_at old.views view) fpr uid) g
-does_worded rows old (Absence view target wanted uid) answer reply new plain still g = absence_worded old (view_at old.views view) target wanted uid reply g.0
-does_worded rows old (Check view target claims labels uid) answer reply new plain still g = check_worded old (view_at old.views view) target claims labels uid reply g.0
+    given (close old view) reply new (either (is_some (view_at old.views view)) (done (closing view old))
+    (only old replies.View) tt tt) g
+does_worded rows old (Ask view target wanted uid) answer reply new plain still g =
+    ask_worded old (view_at old.views view) target wanted uid reply g.0
+does_worded rows old (Command.List view wanted) answer reply new plain still g =
+    list_worded old (view_at old.views view) wanted reply g.0
+does_worded rows old (Explain view fpr uid) answer reply new plain still g = given (explain old view fpr uid) reply new
+    (explain_worded old (view_at old.views view) fpr uid) g
+does_worded rows old (Absence view target wanted uid) answer reply new plain still g =
+    absence_worded old (view_at old.views view) target wanted uid reply g.0
+does_worded rows old (Check view target claims labels uid) answer reply new plain still g =
+    check_worded old (view_at old.views view) target claims labels uid reply g.0
 does_worded rows old Pending answer reply new plain still g = given (pending old) reply new tt g
 does_worded rows old Keys answer reply new plain still g = given (keys old) reply new tt g
-does_worded rows old (Export fpr) answer reply new plain still g = given (export old fpr) reply new (export_worded (cert_in old.held fpr)) g
+does_worded rows old (Export fpr) answer reply new plain still g =
+    given (export old fpr) reply new (export_worded (cert_in old.held fpr)) g
 does_worded rows old Dump answer reply new plain still g = given (dump old) reply new tt g
 does_worded rows old (CursorOver cursor view wanted) answer reply new plain still g = absurd (cc plain)
 does_worded rows old (CursorNext cursor count) answer reply new plain still g = absurd (cc plain)
@@ -268,7 +315,8 @@ does_worded rows old (CursorClose cursor) answer reply new plain still g = absur
 does_worded rows old (WatchOn watch view target wanted uid) answer reply new plain still g = absurd (cc still)
 does_worded rows old (WatchOff watch) answer reply new plain still g = absurd (cc still)
 
-pub obeys_worded : (rows : PolicyRows) (old : Whole) (command : Command) (answer : Served) (reply : Reply) (new : Whole) → Obeys rows old command answer reply new → HasWords reply
+pub obeys_worded : (rows : PolicyRows) (old : Whole) (command : Command) (answer : Served) (reply : Reply)
+    (new : Whole) → Obeys rows old command answer reply new → HasWords reply
 obeys_worded rows old command answer reply new o = by (is_pacing command) refl (is_watching command) refl
   where
     by : (b : Bool) → is_pacing command ≡ b → (w : Bool) → is_watching command ≡ w → HasWords reply

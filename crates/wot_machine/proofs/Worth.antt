@@ -32,7 +32,8 @@ use Rattle.wot_machine.specs.LineStep.{Answers, HasReply, LineStep, Obeys, Stays
 use Rattle.wot_machine.specs.Scene.{Scene, Step, opening, served_in}
 use Rattle.wot_machine.specs.Served.{Served}
 use Rattle.wot_machine.specs.Transcript.{Run, listed}
-use Rattle.wot_machine.specs.Watching.{AreLines, HasAmount, IsWatchLine, LeavesWatches, Opens, TakesOff, Tells, Watching}
+use Rattle.wot_machine.specs.Watching.{AreLines, HasAmount, IsWatchLine, LeavesWatches, Opens, TakesOff, Tells}
+use Rattle.wot_machine.specs.Watching.{Watching}
 use Rattle.wot_machine.specs.Watching.{is_watching, line_by, opened, with_line}
 use Rattle.wot_machine.specs.Whole.{Whole}
 use Rattle.wot_machine.specs.Worth.{IsAmountOf, IsLast, IsNews, QuietLinesTellNothing}

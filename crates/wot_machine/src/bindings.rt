@@ -1,4 +1,5 @@
-//! The reply to `list`.
+//! The reply to `list`: the bindings that are authenticated to an amount, as a view sees them. It stands on
+//! wot_explain; `pacing` prints the same lines in pieces.
 ghost use Rattle.std.specs.Prelude.{◌≡◌, ◌≤◌, length, map, IfOk};
 ghost use Rattle.wot_network.specs.Net.{told_of};
 ghost use Rattle.wot_network.specs.Roads.{present_of};

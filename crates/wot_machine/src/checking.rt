@@ -1,4 +1,5 @@
-//! The reply to `check`.
+//! The reply to `check`: whether claimed paths and a table show that the amount isn't higher. It reads the claims and
+//! asks wot_check. Nothing is searched.
 ghost use Rattle.std.specs.Prelude.{◌≡◌, ◌<◌, ◌^◌, length, map, IfOk};
 ghost use Rattle.wot_check.specs.Table.{IsTable};
 ghost use Rattle.wot_script.specs.Claims.{IsClaimSpelled};

@@ -1,5 +1,6 @@
-//! What each changing command does to the engine, with its reply.
-ghost use Rattle.std.specs.Prelude.{◌≡◌, ◌≤◌, ◌<◌, ◌+◌, ◌-◌, ◌^◌, [], length, None, true, IfOk, OnErr};
+//! What each command that changes something does to the engine, and its reply: imports, removals, verdicts and views.
+//! It stands on wot_cache's calls and on `refusal` for their errors.
+ghost use Rattle.std.specs.Prelude.{◌≡◌, ◌<◌, ◌-◌, ◌^◌, [], length, None, true, IfOk, OnErr};
 ghost use Rattle.wot_types.specs.Limits.{standard_limits};
 ghost use Rattle.wot_policy.specs.Kept.{IsFaithful, rows_of};
 ghost use Rattle.wot_keyring.specs.Kept.{IsJudgedBy, StaysJudged};

@@ -1,3 +1,5 @@
+//! The law that a dump restores the state, line by line. It carries the promise of `Engine::dump` to whole lines, and
+//! `laws` uses it.
 ghost use Rattle.wot_policy.specs.declared.rows.PolicyRows.{PolicyRows};
 ghost use Rattle.wot_cache.specs.State.{Engine};
 ghost use Rattle.wot_machine.specs.Fresh.{DumpMakesAnew};

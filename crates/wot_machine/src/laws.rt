@@ -1,4 +1,5 @@
-//! Laws of the machine. Each function does nothing: its contract is the law.
+//! Laws of the machine. Each function does nothing: its contract is the law. They are what the program promises about
+//! any sequence of lines, and wot_engine hands them on. docs/PROOF.md explains each.
 ghost use Rattle.std.specs.Prelude.{ℕ, List};
 ghost use Rattle.wot_policy.specs.declared.rows.PolicyRows.{PolicyRows};
 ghost use Rattle.wot_script.specs.declared.reply.Reply.{Reply};

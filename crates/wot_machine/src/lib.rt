@@ -1,4 +1,6 @@
-//! The machine that answers lines.
+//! The machine that answers lines: parse, run, reply, and the watch lines after it. It joins all layers below, one file
+//! for each family of commands. wot_engine gives it the lines of an input; its laws are what the program promises about
+//! any sequence of lines.
 #![tactic(auto)]
 
 mod absence;

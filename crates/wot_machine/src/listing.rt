@@ -1,4 +1,5 @@
-//! Replies that list: certificates, an exported one, the dump.
+//! Replies with one line for each certificate or command: `keys`, `export` and `dump`. It stands on the iterators of
+//! wot_keyring and on `Engine::dump`.
 ghost use Rattle.std.specs.Prelude.{◌≡◌, ◌≤◌, map, IfOk, OnOk};
 ghost use Rattle.std.specs.List.{AllByRecursion};
 ghost use Rattle.std.specs.Option.{option_copied};

@@ -1,4 +1,5 @@
-//! `load NAME`.
+//! The reply to `load NAME`: an entry of the certificate directory is read and merged with what is held. It stands on
+//! wot_certd for the entry and on `Keyring::load` for the rest.
 ghost use Rattle.std.specs.Prelude.{◌≡◌, ◌≤◌, ◌<◌, ◌-◌, ◌^◌, length, true, IfOk, OnErr};
 ghost use Rattle.wot_types.specs.Limits.{standard_limits};
 ghost use Rattle.wot_policy.specs.Kept.{IsFaithful, rows_of};

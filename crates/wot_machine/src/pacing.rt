@@ -1,4 +1,6 @@
-//! `cursor C over V N`, `cursor C next K`, `cursor C close`.
+//! The `cursor` commands: `over`, `next` and `close`. A piece is listed from the cursor's place, and the cursor moves
+//! only once the piece was written. It stands on wot_cursor and wot_explain; the law that pieces join to the list is in
+//! `laws`.
 ghost use Rattle.std.specs.Prelude.{◌≡◌, ◌≤◌, Some, true, length, IfOk, OnErr, is_some};
 ghost use Rattle.wot_script.specs.declared.command.Command.TheVariants.{CursorOver, CursorNext, CursorClose};
 ghost use Rattle.wot_script.specs.Replies.{is_short};

@@ -1,4 +1,4 @@
-//! The reply to `pending`.
+//! The reply to `pending`: a line for each valid signature without a verdict. The verifier reads these lines.
 ghost use Rattle.std.specs.Prelude.{◌≡◌, map, IfOk};
 ghost use Rattle.wot_cache.specs.State.{state_of};
 ghost use Rattle.wot_machine.specs.Listing.{hint_of, pending as pending_of, pending_line as pending_line_of};

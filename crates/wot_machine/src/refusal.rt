@@ -1,4 +1,5 @@
-//! What the layers below refuse, joined into one error, and the reply to each. Want of memory is no reply.
+//! The errors of the layers below, joined into one type, and the reply to each. Out of memory has no reply: it ends the
+//! run. A further refusal gets its reply here.
 ghost use Rattle.std.specs.Prelude.{◌≡◌, true, IfOk, OnErr};
 ghost use Rattle.wot_script.specs.Replies.{is_short};
 ghost use Rattle.wot_machine.specs.Outcome.{cert_refusal};

@@ -1,4 +1,5 @@
-//! `store FPR`.
+//! The reply to `store FPR`: a kept certificate is merged with its entry of the certificate directory, and written
+//! back. The keyring doesn't change. It stands on wot_certd, and reads an entry by the rules of `load`.
 ghost use Rattle.std.specs.Prelude.{◌≡◌, ◌≤◌, ◌<◌, ◌^◌, None, Ok, Some, length, true, IfErr, IfOk, OnErr};
 ghost use Rattle.wot_policy.specs.declared.rows.PolicyRows.{PolicyRows};
 ghost use Rattle.wot_types.specs.declared.name.Name.TheVariants.{Cert as CertName};

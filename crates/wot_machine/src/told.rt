@@ -1,4 +1,5 @@
-//! What comes of a line: its reply, and where a cursor stands once that was told.
+//! The outcome of a line before it is written: its reply, and where a cursor is once that was written. `machine`
+//! applies the move only after writing.
 ghost use Rattle.std.specs.Prelude.{◌≡◌, None, Ok, IfOk, is_ok};
 ghost use Rattle.wot_machine.specs.Pacing.{settled};
 

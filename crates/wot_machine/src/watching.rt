@@ -1,4 +1,5 @@
-//! `watch W on V FPR N UID`, `watch W off`, and the watch lines behind each line.
+//! The `watch` commands, and the watch lines after each line. A watch's question is asked again only if what its answer
+//! depends on may have changed: `wot_cache`'s `Basis` says so. Watches are kept by wot_watch.
 ghost use Rattle.std.specs.Prelude.{◌≡◌, ◌≤◌, [], None, true, IfOk, IfSome, OnErr};
 ghost use Rattle.std.specs.List.{AllByRecursion};
 ghost use Rattle.wot_script.specs.declared.command.Command.TheVariants.{WatchOff};

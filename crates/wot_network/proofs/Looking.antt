@@ -44,7 +44,7 @@ module _ (certs : Certificates) (verdicts : Entries) (t : ℕ) where
       (sym (ap (λ (r : Row). r.edge) e))
   row_kept u c (edge ∷ edges) row (inr h) = row_kept u c edges row h
 
-  -- ---- what is told of a fingerprint
+  -- ---- what is known of a fingerprint
 
   entry_told : (u : List ℕ) (fpr : Fpr) → entry_at (record_of certs verdicts t u) fpr ≡ unwrap_or
       (option_map (entry_of verdicts certs t u) (lookup (is_fpr fpr) certs)) blank

@@ -22,7 +22,7 @@ use Rattle.wot_live.specs.Rows.{edges_of}
 
 -- ---- usable
 
--- An edge is usable if its issuer is kept, and its standing allows to rely on what it created then.
+-- An edge is usable if its issuer is kept, and the issuer's standing vouches for what it created then.
 abbrev pub is_usable_by : Entries → Certificates → ℕ → Fpr → ℕ → Bool
 is_usable_by verdicts certs t issuer made =
     option_map_or (λ (c : Certificate). is_usable (standing_of verdicts c t) made) (lookup (is_fpr issuer) certs) false

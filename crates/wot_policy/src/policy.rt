@@ -1,7 +1,7 @@
 //! A policy: a closure that says which signatures count, and how often it was asked.
 //!
-//! It stands on `rows` and on `specs/Kept.antt`. `wot_cert` asks it once for each new signature, so a change here
-//! proves everything that imports again.
+//! It stands on `rows` and on `specs/Kept.antt`. `wot_cert` asks it once about each new signature that is sound, so
+//! a change here proves everything that imports again.
 ghost use Rattle.std.specs.Prelude.{◌≡◌};
 ghost use Rattle.wot_policy.specs.Admits.{admits};
 ghost use Rattle.wot_policy.specs.Kept.{AnswersBy, IsFaithful, rows_of, asked_of, asked_more};

@@ -10,7 +10,8 @@ find-found-requires-clause-right c =
     let of_view = c.new-of_view.result in
     record {
       each = subst (λ (es : Entries). AreRight k of_view.roots of_view.turn es) (sym c.new-of_view.ensures.none) tt;
-      reach = subst (λ (o : Option KeptReach). IfSome o (IsReaching k of_view.roots of_view.turn)) (sym c.new-of_view.ensures.no_reach) tt;
+      reach = subst (λ (o : Option KeptReach). IfSome o (IsReaching k of_view.roots of_view.turn))
+          (sym c.new-of_view.ensures.no_reach) tt;
     }
 
 pub returns-clause-right : goal.returns-clause-right

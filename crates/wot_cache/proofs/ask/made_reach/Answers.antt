@@ -6,6 +6,7 @@ use Rattle.wot_cache.proofs.ask.made_reach.Goals as goal
 
 pub returns : goal.returns
 returns c = record {
-  reach = subst (λ (present : Present). IfOk c.make_reach.result (λ (reach : Table). IsReach (told_of present) c.args.parts.now.roots.now reach))
+  reach = subst (λ (present : Present). IfOk c.make_reach.result
+      (λ (reach : Table). IsReach (told_of present) c.args.parts.now.roots.now reach))
       c.requires.present c.make_reach.ensures.reach;
 }

@@ -5,4 +5,5 @@ use Rattle.wot_cache.proofs.ask.search_within.Goals as goal
 
 pub authenticate_within-requires-clause-reach : goal.authenticate_within-requires-clause-reach
 authenticate_within-requires-clause-reach c =
-    subst (λ (present : Present). IsReach (told_of present) c.args.parts.now.roots.now c.args.reach.now) (sym c.requires.present) c.requires.reach
+    subst (λ (present : Present). IsReach (told_of present) c.args.parts.now.roots.now c.args.reach.now)
+    (sym c.requires.present) c.requires.reach

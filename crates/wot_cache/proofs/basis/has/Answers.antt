@@ -7,5 +7,6 @@ use Rattle.wot_cache.proofs.basis.has.Goals as goal
 
 pub returns : goal.returns
 returns c =
-    let P : (Fpr → Fpr → Ordering) → Type 0 = λ cmp. c.contains.result ≡ list_any (is_at (cmp c.args.fpr.now)) c.args.set.now.keys in
+    let P : (Fpr → Fpr → Ordering) → Type 0 = λ cmp. c.contains.result ≡ list_any (is_at (cmp c.args.fpr.now))
+    c.args.set.now.keys in
     record { has = subst P same_cmp c.contains.ensures }

@@ -5,5 +5,6 @@ use Rattle.wot_cache.proofs.recall.begin.Goals as goal
 pub returns-in-Ok : goal.returns-in-Ok
 returns-in-Ok c = record {
   right = λ k all right. c.put.ensures.right k all right;
-  others = subst (λ (name : List ℕ). KeepsFor name c.args.answers.now.entries c.put.new.answers.entries) c.in-Ok.ensures.equal c.put.ensures.others;
+  others = subst (λ (name : List ℕ). KeepsFor name c.args.answers.now.entries c.put.new.answers.entries)
+      c.in-Ok.ensures.equal c.put.ensures.others;
 }

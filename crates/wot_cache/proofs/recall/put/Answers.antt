@@ -5,6 +5,8 @@ use Rattle.wot_cache.proofs.recall.put.Goals as goal
 pub returns : goal.returns
 returns c = record {
   right = λ k all right.
-      all_right_inserted k c.args.answers.now.entries c.insert.new.self.entries c.args.view c.args.of_view c.insert.result c.insert.ensures.entries c.insert.ensures.err all right;
-  others = keeps_inserted c.args.answers.now.entries c.insert.new.self.entries c.args.view c.args.of_view c.insert.result c.insert.ensures.entries c.insert.ensures.err;
+      all_right_inserted k c.args.answers.now.entries c.insert.new.self.entries c.args.view c.args.of_view
+      c.insert.result c.insert.ensures.entries c.insert.ensures.err all right;
+  others = keeps_inserted c.args.answers.now.entries c.insert.new.self.entries c.args.view c.args.of_view
+      c.insert.result c.insert.ensures.entries c.insert.ensures.err;
 }

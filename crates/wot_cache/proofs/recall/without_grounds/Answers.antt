@@ -20,8 +20,10 @@ returns c =
       count = c.changes.result;
       turn = 0;
     } in
-    let here = subst (λ (a : Answer). IsAnswer (asked_of p c.args.target.now c.in_ok-uid.uid) c.args.wanted a.paths) (sym c.in_ok-answer.ensures.same)
-    (subst (λ (u : List ℕ). IsAnswer (asked_of p c.args.target.now u) c.args.wanted c.args.answer.now.paths) (sym c.in_ok-uid.ensures.copied) c.requires.answer) in
+    let here = subst (λ (a : Answer). IsAnswer (asked_of p c.args.target.now c.in_ok-uid.uid) c.args.wanted a.paths)
+    (sym c.in_ok-answer.ensures.same)
+    (subst (λ (u : List ℕ). IsAnswer (asked_of p c.args.target.now u) c.args.wanted c.args.answer.now.paths)
+    (sym c.in_ok-uid.ensures.copied) c.requires.answer) in
     let sum = subst (λ (a : Answer). a.sum ≡ amount_of a.paths) (sym c.in_ok-answer.ensures.same) c.requires.sum in
     record {
       right = right_of_all p.keyring.now kept refl sum;

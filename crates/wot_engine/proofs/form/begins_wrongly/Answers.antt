@@ -6,7 +6,8 @@ pub returns-in-len1-clause-wrong : goal.returns-in-len1-clause-wrong
 returns-in-len1-clause-wrong c e = leading_plus c.args.digits.now c.in-len1.len_at_least (eqb-true _ _ e)
 
 pub returns-then-first-eq43-clause-wrong : goal.returns-then-first-eq43-clause-wrong
-returns-then-first-eq43-clause-wrong c e = leading_plus c.args.digits.now (omega (arith, c.in-len2-up.len_at_least)) (eqb-true _ _ e)
+returns-then-first-eq43-clause-wrong c e = leading_plus c.args.digits.now (omega (arith, c.in-len2-up.len_at_least))
+    (eqb-true _ _ e)
 
 pub returns-else-first-eq43-clause-wrong : goal.returns-else-first-eq43-clause-wrong
 returns-else-first-eq43-clause-wrong c e = leading_zero c.args.digits.now c.in-len2-up.len_at_least (eqb-true _ _ e)

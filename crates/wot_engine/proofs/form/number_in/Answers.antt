@@ -11,6 +11,7 @@ returns c =
       number = c.ok.ensures.value
           ∙ parsed c.as_str-digits.result.now c.parse.result c.parse.ensures.value.0
           (λ e. c.begins_wrongly.ensures.sign c.if-begins_wrongly.false (first ∙ e))
-          (λ two e. c.begins_wrongly.ensures.zero c.if-begins_wrongly.false (omega (arith, two, ap length same)) (first ∙ e))
+          (λ two e. c.begins_wrongly.ensures.zero c.if-begins_wrongly.false (omega (arith, two, ap length same))
+          (first ∙ e))
           ∙ ap (decimal_up_to 18446744073709551615) c.as_str-digits.ensures.value;
     }

@@ -18,14 +18,17 @@ lines-preserved g c =
     let old : Scene = over (kept c.lines.machine) c.lines.shelf.world in
     let new : Scene = over (kept c.add_line.new.machine) c.add_line.new.shelf.world in
     let adds : Adds rows c.first_line.result.0.now old c.lines.tally new c.add_line.new.tally =
-    subst (λ (r : PolicyRows). Adds r c.first_line.result.0.now old c.lines.tally new c.add_line.new.tally) c.lines.invariant.rows c.in_ok-add_line.ensures.added in
+    subst (λ (r : PolicyRows). Adds r c.first_line.result.0.now old c.lines.tally new c.add_line.new.tally)
+    c.lines.invariant.rows c.in_ok-add_line.ensures.added in
     record {
-      plays = goes_on rows c.args.text.now c.lines.rest.now c.first_line.result.1.now c.first_line.result.0.now old new c.lines.tally c.add_line.new.tally
+      plays = goes_on rows c.args.text.now c.lines.rest.now c.first_line.result.1.now c.first_line.result.0.now old new
+          c.lines.tally c.add_line.new.tally
           c.lines.invariant.plays c.first_line.ensures.first adds;
       changes = omega (arith, c.add_line.ensures.counted, c.first_line.ensures.shorter, c.lines.invariant.changes);
       turns = omega (arith, c.add_line.ensures.turned, c.first_line.ensures.shorter, c.lines.invariant.turns);
       amounts = omega (arith, c.add_line.ensures.amounts, c.first_line.ensures.shorter, c.lines.invariant.amounts);
-      judged = subst (λ (r : PolicyRows). IsJudgedBy r c.add_line.new.machine.engine.keyring) c.lines.invariant.rows c.add_line.ensures.judged;
+      judged = subst (λ (r : PolicyRows). IsJudgedBy r c.add_line.new.machine.engine.keyring) c.lines.invariant.rows
+          c.add_line.ensures.judged;
       rows = c.add_line.ensures.rows ∙ c.lines.invariant.rows;
       faithful = c.add_line.ensures.faithful;
     }
@@ -44,7 +47,8 @@ add_line-requires-clause-turnable g c = omega (arith, c.lines.invariant.turns)
 
 pub add_line-requires-clause-judged : goal.add_line-requires-clause-judged
 add_line-requires-clause-judged g c =
-    subst (λ (r : PolicyRows). IsJudgedBy r c.lines.machine.engine.keyring) (sym c.lines.invariant.rows) c.lines.invariant.judged
+    subst (λ (r : PolicyRows). IsJudgedBy r c.lines.machine.engine.keyring) (sym c.lines.invariant.rows)
+    c.lines.invariant.judged
 
 pub add_line-requires-clause-faithful : goal.add_line-requires-clause-faithful
 add_line-requires-clause-faithful g c = c.lines.invariant.faithful
@@ -67,7 +71,8 @@ returns-clause-rows g c = c.lines.invariant.rows
 pub lines-init : goal.lines-init
 lines-init g c =
     let rows = rows_of c.args.policy.now in
-    let none : c.args.machine.now.engine.keyring.changes ≡ 0 = ap (λ (x : Engine). x.keyring.changes) c.requires.engine in
+    let none : c.args.machine.now.engine.keyring.changes ≡ 0 =
+    ap (λ (x : Engine). x.keyring.changes) c.requires.engine in
     let never : c.args.machine.now.engine.turns.count ≡ 0 = ap (λ (x : Engine). x.turns.count) c.requires.engine in
     record {
       plays = starts_with rows c.args.text.now c.args.machine.now c.args.shelf.now.world c.args.tally.now

@@ -9,7 +9,8 @@ pub returns-clause-summary : goal.returns-clause-summary
 returns-clause-summary g c =
     let text = text_of (commands_of c.args.start c.args.count) in
     let told = summary c.args.start c.args.count c.in_ok-lines.lines c.play.new.tally.amounts c.digest-digest.result in
-    summed (rows_of c.args.policy.now) c.args.start c.args.count c.in_ok-lines.lines c.play.new.tally.amounts c.digest-digest.result c.put_summary.new.out.items c.deref.result.now
+    summed (rows_of c.args.policy.now) c.args.start c.args.count c.in_ok-lines.lines c.play.new.tally.amounts
+    c.digest-digest.result c.put_summary.new.out.items c.deref.result.now
     c.play.new.tally c.in_ok-lines.ensures.read_back
     (c.deref.ensures.value ∙ c.in_ok-lines.ensures.appended ∙ ap (λ (x : List ℕ). x ++ text) c.new-text.ensures.items)
     c.in_ok-lines.ensures.lines c.in_ok-play.ensures.played refl c.digest-digest.ensures

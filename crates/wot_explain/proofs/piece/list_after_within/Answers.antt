@@ -1,4 +1,4 @@
-use Rattle.std.proofs.Common.{List, Option, map, sym, ap, ◌∙◌}
+use Rattle.std.proofs.Common.{Option, map, sym, ap, ◌∙◌}
 use Rattle.std.specs.Option.{option_copied}
 use Rattle.wot_types.specs.declared.fpr.Fpr.{Fpr}
 use Rattle.wot_keyring.specs.From.{entries_from}
@@ -13,16 +13,22 @@ use Rattle.wot_explain.proofs.piece.list_after_within.Goals as goal
 pub returns-clause-piece : goal.returns-clause-piece
 returns-clause-piece g c =
     let entries = c.args.keyring.now.certs in
-    let there = c.certs_from-certs.ensures.certs ∙ ap (λ (from : Option Fpr). map (λ (e : Fpr × Kept). e.1.cert) (entries_from from entries)) c.start.ensures in
-    the_piece (g.R.Roads.told c.args.roads.now) c.args.roots.now c.args.wanted (option_copied c.args.after) c.args.count entries c.certs_from-certs.ensures.named c.certs_from-certs.result
+    let there = c.certs_from-certs.ensures.certs ∙ ap (λ (from : Option Fpr). map (λ (e : Fpr × Kept). e.1.cert)
+    (entries_from from entries)) c.start.ensures in
+    the_piece (g.R.Roads.told c.args.roads.now) c.args.roots.now c.args.wanted (option_copied c.args.after) c.args.count
+    entries c.certs_from-certs.ensures.named c.certs_from-certs.result
     there c.new-binds.result.items c.piece_certs.new.out.items c.new-binds.ensures.items c.in_ok-piece_certs.ensures
 
 pub returns-clause-list : goal.returns-clause-list
 returns-clause-list g c t present all h =
     let told = g.R.Roads.told c.args.roads.now in
     let entries = c.args.keyring.now.certs in
-    let there = c.certs_from-certs.ensures.certs ∙ ap (λ (from : Option Fpr). map (λ (e : Fpr × Kept). e.1.cert) (entries_from from entries)) c.start.ensures in
-    let same = listed_same (record_of (certificates_in c.args.keyring.now) c.args.keyring.now.verdicts t) told c.args.roots.now c.args.wanted (λ u. sym (present u))
+    let there = c.certs_from-certs.ensures.certs ∙ ap (λ (from : Option Fpr). map (λ (e : Fpr × Kept). e.1.cert)
+    (entries_from from entries)) c.start.ensures in
+    let same = listed_same (record_of (certificates_in c.args.keyring.now) c.args.keyring.now.verdicts t) told
+    c.args.roots.now c.args.wanted (λ u. sym (present u))
     (pairs_in (certificates_in c.args.keyring.now)) all h in
-    the_piece told c.args.roots.now c.args.wanted (option_copied c.args.after) c.args.count entries c.certs_from-certs.ensures.named c.certs_from-certs.result
-    there c.new-binds.result.items c.piece_certs.new.out.items c.new-binds.ensures.items c.in_ok-piece_certs.ensures all same
+    the_piece told c.args.roots.now c.args.wanted (option_copied c.args.after) c.args.count entries
+    c.certs_from-certs.ensures.named c.certs_from-certs.result
+    there c.new-binds.result.items c.piece_certs.new.out.items c.new-binds.ensures.items c.in_ok-piece_certs.ensures all
+    same

@@ -8,7 +8,8 @@ use Rattle.wot_explain.proofs.piece.piece_certs.Goals as goal
 
 pub certs-preserved : goal.certs-preserved
 certs-preserved g c end h =
-    c.certs.invariant end (cert_piece (g.R.Roads.told c.args.roads.now) c.args.sought.now.roots.now c.args.sought.now.wanted (option_copied c.args.after) c.args.count
+    c.certs.invariant end (cert_piece (g.R.Roads.told c.args.roads.now) c.args.sought.now.roots.now
+    c.args.sought.now.wanted (option_copied c.args.after) c.args.count
     c.in-Some.cert.now c.next.new.self c.certs.cert-iterator
     c.certs.out.items c.piece_cert.new.out.items end c.in-Some.ensures.steps c.in_ok-piece_cert.ensures h)
 
@@ -19,10 +20,17 @@ returns g c =
     let out = c.certs.out.items in
     let none : c.certs.cert-iterator ≡ [] = c.in-None.ensures.steps.0 in
     c.certs.invariant out
-    (subst (λ (cs : List Certificate). AddsPiece told sought.roots.now sought.wanted (option_copied c.args.after) c.args.count (pairs_of_all cs) out out) (sym none)
+    (subst (λ (cs : List Certificate). AddsPiece told sought.roots.now sought.wanted (option_copied c.args.after)
+    c.args.count (pairs_of_all cs) out out) (sym none)
     (none_piece told sought.roots.now sought.wanted (option_copied c.args.after) c.args.count out))
 
 pub returns-then-len-count : goal.returns-then-len-count
 returns-then-len-count g c =
-    c.certs.invariant c.certs.out.items (full_piece (g.R.Roads.told c.args.roads.now) c.args.sought.now.roots.now c.args.sought.now.wanted (option_copied c.args.after) c.args.count
-    (pairs_of_all c.certs.cert-iterator) c.certs.out.items (omega (arith, c.if-len-count.true, c.len.ensures, c.certs.out.ok.0)))
+    c.certs.invariant c.certs.out.items (full_piece (g.R.Roads.told c.args.roads.now) c.args.sought.now.roots.now
+    c.args.sought.now.wanted (option_copied c.args.after) c.args.count
+    (pairs_of_all c.certs.cert-iterator) c.certs.out.items (omega (
+      arith,
+      c.if-len-count.true,
+      c.len.ensures,
+      c.certs.out.ok.0,
+    )))

@@ -8,7 +8,8 @@ use Rattle.wot_explain.proofs.reasons.reasons.Given as goal
 
 abbrev pub invariant-rest : goal.invariant-rest
 invariant-rest l =
-    l.items.items ++ map (reason_of l.keyring.verdicts (certificates_in l.keyring) l.t l.target l.place l.uid) (filter is_certification l.rest)
+    l.items.items ++ map (reason_of l.keyring.verdicts (certificates_in l.keyring) l.t l.target l.place l.uid)
+    (filter is_certification l.rest)
     ≡ reasons_on l.keyring.verdicts (certificates_in l.keyring) l.t l.target l.place l.uid
 
 abbrev pub decreases-rest : goal.decreases-rest

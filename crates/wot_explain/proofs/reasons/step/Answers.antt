@@ -15,4 +15,5 @@ returns-in-Some-Good c =
     let said : Some (Good c.in-Some-Good.issuer) ≡ verdict_at a.verdicts.now a.sig.now.number =
     cc (c.in-Some-Good.ensures.found, c.in-Some-Good.field-0-is, c.number.ensures.number) in
     c.step_of.ensures a.uid.now.sigs
-    ∙ ap (λ (o : Option Verdict). option_map step_of (option_and_then (λ (by : Fpr). edge_by by a.target a.place a.uid.now.sigs a.sig.now) (good_by o))) said
+    ∙ ap (λ (o : Option Verdict). option_map step_of
+    (option_and_then (λ (by : Fpr). edge_by by a.target a.place a.uid.now.sigs a.sig.now) (good_by o))) said

@@ -9,4 +9,5 @@ pub returns-in-Some : goal.returns-in-Some
 returns-in-Some c sigs =
     let a = c.args in
     ap Some (c.step_said.ensures (place_of a.sig.now sigs))
-    ∙ ap (λ (o : Option SigFacts). option_map step_of (option_map (edge_facts a.issuer a.target a.place (place_of a.sig.now sigs)) o)) c.in-Some.ensures.said
+    ∙ ap (λ (o : Option SigFacts). option_map step_of
+    (option_map (edge_facts a.issuer a.target a.place (place_of a.sig.now sigs)) o)) c.in-Some.ensures.said

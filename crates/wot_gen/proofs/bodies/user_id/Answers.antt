@@ -9,9 +9,11 @@ use Rattle.wot_gen.proofs.bodies.user_id.Goals as goal
 pub returns-clause-uid : goal.returns-clause-uid
 returns-clause-uid c =
     let index = c.args.index in
-    let made : string_bytes c.in_ok-text.text ≡ codes "user " ++ (decimal index ++ (codes " <u" ++ (decimal index ++ codes "@example.org>"))) =
+    let made : string_bytes c.in_ok-text.text ≡ codes
+    "user " ++ (decimal index ++ (codes " <u" ++ (decimal index ++ codes "@example.org>"))) =
     c.in_ok-text.ensures.ok in
-    IfOk-weaker c.new.result _ _ (λ uid e. e ∙ c.as_bytes.ensures.value ∙ made ∙ user_id_spelled index) c.new.ensures.copied
+    IfOk-weaker c.new.result _ _ (λ uid e. e ∙ c.as_bytes.ensures.value ∙ made ∙ user_id_spelled index)
+    c.new.ensures.copied
 
 pub returns-clause-short : goal.returns-clause-short
 returns-clause-short c =

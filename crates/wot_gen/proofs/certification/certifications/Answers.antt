@@ -15,9 +15,11 @@ returns-clause-made c =
     let third : c.certify-2.new.words.drawn ≡ drawn + 4 =
     omega (arith, c.certify-2.ensures.drawn, c.certify.ensures.drawn, c.requires.drawn) in
     let three = c.in_ok-certify-3.ensures.made
-    ∙ ap (λ s. certification_by s c.certify-2.new.words.drawn index 3) (c.certify-2.ensures.start ∙ c.certify.ensures.start)
+    ∙ ap (λ s. certification_by s c.certify-2.new.words.drawn index 3) (c.certify-2.ensures.start
+    ∙ c.certify.ensures.start)
     ∙ ap (λ d. certification_by start d index 3) third in
-    let all = three_made start (length c.args.identities.now) index _ _ _ (omega (arith, c.if-index-eq0.false)) one two three in
+    let all = three_made start (length c.args.identities.now) index _ _ _ (omega (arith, c.if-index-eq0.false)) one two
+    three in
     let first : c.push.new.self.items ≡ [] ++ c.in_ok-certify.field-0 ∷ [] =
     c.in_ok-push.ensures.items ∙ ap (λ made. made ++ c.in_ok-certify.field-0 ∷ []) c.new-made.ensures.items in
     let second = c.in_ok-push-2.ensures.items ∙ ap (λ made. made ++ c.in_ok-certify-2.field-0 ∷ []) first in

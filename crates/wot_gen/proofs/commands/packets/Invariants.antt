@@ -5,4 +5,5 @@ use Rattle.wot_gen.proofs.commands.packets.Given as goal
 
 abbrev pub invariant-loop-made : goal.invariant-loop-made
 invariant-loop-made l =
-    l.text.items ≡ l.initial.text.items ++ flat_map (λ (made : Certification). made.packet) (take l.made-index l.certifications)
+    l.text.items ≡ l.initial.text.items ++ flat_map (λ (made : Certification). made.packet)
+    (take l.made-index l.certifications)

@@ -11,7 +11,8 @@ loop-index-preserved c =
     let count = length all in
     let index = c.loop-index.index in
     let before = c.loop-index.invariant in
-    let is = identity_read start count all index c.index-identities-index.result c.requires.identities (omega (arith, c.loop-index-test.true)) c.index-identities-index.is in
+    let is = identity_read start count all index c.index-identities-index.result c.requires.identities
+    (omega (arith, c.loop-index-test.true)) c.index-identities-index.is in
     let made : c.deref.result.now ≡ certifications_at start count index =
     c.deref.ensures.value ∙ c.in_ok-made.ensures.made ∙ ap (λ s. certifications_at s count index) before.start_kept in
     record {

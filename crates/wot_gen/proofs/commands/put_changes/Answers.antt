@@ -16,12 +16,15 @@ loop-turn-preserved c =
     c.draw.ensures.word ∙ ap (λ s. word s c.loop-turn.words.drawn) before.start_kept in
     let changed : c.draw.result % count ≡ changed_at start count turn =
     ap (λ w. w % count) (drawn ∙ ap (word start) before.drawn_all) in
-    let first = identity_read start count all (c.draw.result % count) c.index-identities-changed.result c.requires.identities (omega (arith, c.requires.some)) c.index-identities-changed.is in
-    let second = identity_read start count all (10 * (turn + 1)) c.index-identities-turn.result c.requires.identities (omega (arith, c.loop-turn-test.true)) c.index-identities-turn.is in
+    let first = identity_read start count all (c.draw.result % count) c.index-identities-changed.result
+    c.requires.identities (omega (arith, c.requires.some)) c.index-identities-changed.is in
+    let second = identity_read start count all (10 * (turn + 1)) c.index-identities-turn.result c.requires.identities
+    (omega (arith, c.loop-turn-test.true)) c.index-identities-turn.is in
     record {
       start_kept = c.draw.ensures.start ∙ before.start_kept;
       drawn_all = omega (arith, c.draw.ensures.drawn, before.drawn_all);
-      put = step_more (changes start count) turn c.args.commands.now.items c.loop-turn.commands.items c.put_change.new.commands.items before.put
+      put = step_more (changes start count) turn c.args.commands.now.items c.loop-turn.commands.items
+          c.put_change.new.commands.items before.put
           (c.in_ok-put_change.ensures.put start (changed_at start count turn) (10 * (turn + 1))
           (subst (λ i. IsIdentity start i c.index-identities-changed.result) changed first) second);
     }

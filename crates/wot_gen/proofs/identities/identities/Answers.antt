@@ -9,7 +9,8 @@ loop-index-preserved c =
     let index = c.loop-index.index in
     let before = c.loop-index.invariant in
     let one = c.in_ok-make_identity.field-0 in
-    let is : IsIdentity start index one = subst (λ s. IsIdentity s index one) before.start_kept c.in_ok-make_identity.ensures.made in
+    let is : IsIdentity start index one = subst (λ s. IsIdentity s index one) before.start_kept
+    c.in_ok-make_identity.ensures.made in
     let all = more_identities start index c.loop-index.made.items one before.made_all is in
     record {
       start_kept = c.make_identity.ensures.start ∙ before.start_kept;

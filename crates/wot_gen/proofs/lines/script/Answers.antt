@@ -9,7 +9,8 @@ use Rattle.wot_gen.proofs.lines.script.Goals as goal
 
 pub text-requires : goal.text-requires
 text-requires c =
-    subst (AllByRecursion HasSpelling) (sym (c.deref.ensures.value ∙ c.in_ok-commands.ensures.made)) (commands-spelled c.args.start c.args.count)
+    subst (AllByRecursion HasSpelling) (sym (c.deref.ensures.value ∙ c.in_ok-commands.ensures.made))
+    (commands-spelled c.args.start c.args.count)
 
 pub returns-clause-counted : goal.returns-clause-counted
 returns-clause-counted c =
@@ -20,4 +21,5 @@ returns-clause-counted c =
 pub returns-clause-small : goal.returns-clause-small
 returns-clause-small c =
     script_fits c.args.start c.args.count c.requires.few
-    (subst (AllByRecursion IsReadBack) (c.deref.ensures.value ∙ c.in_ok-commands.ensures.made) c.in_ok-text.ensures.read_back)
+    (subst (AllByRecursion IsReadBack) (c.deref.ensures.value ∙ c.in_ok-commands.ensures.made)
+    c.in_ok-text.ensures.read_back)

@@ -5,4 +5,5 @@ use Rattle.wot_gen.proofs.lines.text.Given as goal
 
 abbrev pub invariant-loop-command : goal.invariant-loop-command
 invariant-loop-command l =
-    (l.text.items ≡ text_of (take l.command-index l.commands)) × AllByRecursion IsReadBack (take l.command-index l.commands)
+    (l.text.items ≡ text_of (take l.command-index l.commands)) × AllByRecursion IsReadBack
+    (take l.command-index l.commands)

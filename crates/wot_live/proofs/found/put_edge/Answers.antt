@@ -9,7 +9,8 @@ use Rattle.wot_live.proofs.found.put_edge.Goals as goal
 
 pub returns : goal.returns
 returns c edges e =
-    let P : (EdgePlace → EdgePlace → Ordering) → Type 0 = λ cmp. c.insert.new.self.entries ≡ insert_entry cmp c.args.found.now.entries (edge_place c.args.edge) c.args.edge in
+    let P : (EdgePlace → EdgePlace → Ordering) → Type 0 = λ cmp. c.insert.new.self.entries ≡ insert_entry cmp
+    c.args.found.now.entries (edge_place c.args.edge) c.args.edge in
     subst P same_place_cmp c.in_ok-insert.ensures.entries
     ∙ ap (λ (es : List (EdgePlace × EdgeFacts)). insert_entry place_cmp es (edge_place c.args.edge) c.args.edge) e
     ∙ inserted c.args.edge edges

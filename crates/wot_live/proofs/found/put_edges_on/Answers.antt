@@ -15,10 +15,12 @@ use Rattle.wot_live.proofs.Putting.{with_edges-option}
 use Rattle.wot_live.proofs.found.put_edges_on.Goals as goal
 
 -- the edge by the places that are kept is that by the newest certification
-kept_is : (verdicts : Entries) (target : Fpr) (t uid : ℕ) (p : Component) (places : List (Fpr × ℕ)) (s : Signature) → KeepsNewest verdicts t p places
+kept_is : (verdicts : Entries) (target : Fpr) (t uid : ℕ) (p : Component) (places : List (Fpr × ℕ)) (s : Signature) →
+    KeepsNewest verdicts t p places
     → edge_kept verdicts target uid p places s ≡ edge_with verdicts target t uid p s
 kept_is verdicts target t uid p places s keeps =
-    λ i. option_and_then (λ issuer. option_and_then (edge_by issuer target uid p.sigs) (keeps issuer i)) (issuer_of verdicts s)
+    λ i. option_and_then (λ issuer. option_and_then (edge_by issuer target uid p.sigs) (keeps issuer i))
+    (issuer_of verdicts s)
 
 pub back-preserved : goal.back-preserved
 back-preserved c =
@@ -28,10 +30,12 @@ back-preserved c =
     let edge : Signature → Option EdgeFacts = edge_with a.verdicts.now a.target a.t a.uid a.part.now in
     record {
       seen = sig ∷ seen;
-      all = seam a.part.now.sigs c.back.rest.now c.in-Some.prefix.now seen sig c.back.invariant.all c.in-Some.ensures.cases.0;
+      all = seam a.part.now.sigs c.back.rest.now c.in-Some.prefix.now seen sig c.back.invariant.all
+          c.in-Some.ensures.cases.0;
       found = λ edges e.
           let before : List EdgeFacts = with_edges edges (filter_map edge seen) in
           c.in_ok-put_some.ensures before (c.back.invariant.found edges e)
-          ∙ ap (λ (o : Option EdgeFacts). by_place (with_edges before (cons_option o []))) (c.edge_with-edge.ensures ∙ kept_is a.verdicts.now a.target a.t a.uid a.part.now _ sig c.in_ok-certifiers.ensures.newest)
+          ∙ ap (λ (o : Option EdgeFacts). by_place (with_edges before (cons_option o []))) (c.edge_with-edge.ensures
+          ∙ kept_is a.verdicts.now a.target a.t a.uid a.part.now _ sig c.in_ok-certifiers.ensures.newest)
           ∙ ap by_place (sym (with_edges-option edges (filter_map edge seen) (edge sig)));
     }

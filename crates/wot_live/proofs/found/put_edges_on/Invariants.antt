@@ -10,7 +10,8 @@ abbrev pub invariant-back : goal.invariant-back
 invariant-back l = record {
   seen : List Signature;
   all : l.part.sigs ≡ l.rest ++ seen;
-  found : (edges : List EdgeFacts) → l.fn.found.entries ≡ by_place edges → l.found.entries ≡ by_place (with_edges edges (filter_map (edge_with l.verdicts l.target l.t l.uid l.part) seen));
+  found : (edges : List EdgeFacts) → l.fn.found.entries ≡ by_place edges →
+      l.found.entries ≡ by_place (with_edges edges (filter_map (edge_with l.verdicts l.target l.t l.uid l.part) seen));
 }
 
 abbrev pub decreases-back : goal.decreases-back

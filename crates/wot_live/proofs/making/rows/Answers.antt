@@ -20,40 +20,50 @@ revoked_places-requires c = record { count = few_user_ids c.args.cert.now c.requ
 
 pub returns-in_err-edges-clause-made_most : goal.returns-in_err-edges-clause-made_most
 returns-in_err-edges-clause-made_most c =
-    made_within c.args.verdicts.now c.args.cert.now c.args.t c.args.steps.now.made c.make_edges.new.steps.made c.in_ok-found.found.entries c.in_ok-found.ensures c.make_edges.ensures.made_most
+    made_within c.args.verdicts.now c.args.cert.now c.args.t c.args.steps.now.made c.make_edges.new.steps.made
+    c.in_ok-found.found.entries c.in_ok-found.ensures c.make_edges.ensures.made_most
 
 pub returns-clause-edges : goal.returns-clause-edges
-returns-clause-edges c = c.in_ok-edges.ensures.edges ∙ ap values_of c.in_ok-found.ensures ∙ values_by_place (edges_of c.args.verdicts.now c.args.cert.now c.args.t)
+returns-clause-edges c = c.in_ok-edges.ensures.edges ∙ ap values_of c.in_ok-found.ensures
+    ∙ values_by_place (edges_of c.args.verdicts.now c.args.cert.now c.args.t)
 
 pub returns-clause-exact : goal.returns-clause-exact
 returns-clause-exact c =
     let a = c.args in
-    let same = c.in_ok-edges.ensures.edges ∙ ap values_of c.in_ok-found.ensures ∙ values_by_place (edges_of a.verdicts.now a.cert.now a.t) in
-    subst (AreRows a.verdicts.now a.cert.now a.t) (sym same) (c.edges_are_rows.ensures.rows a.verdicts.now a.cert.now a.t)
+    let same = c.in_ok-edges.ensures.edges ∙ ap values_of c.in_ok-found.ensures
+    ∙ values_by_place (edges_of a.verdicts.now a.cert.now a.t) in
+    subst (AreRows a.verdicts.now a.cert.now a.t) (sym same) (c.edges_are_rows.ensures.rows a.verdicts.now a.cert.now
+    a.t)
 
 pub returns-clause-order : goal.returns-clause-order
 returns-clause-order c =
     let a = c.args in
-    let same = c.in_ok-edges.ensures.edges ∙ ap values_of c.in_ok-found.ensures ∙ values_by_place (edges_of a.verdicts.now a.cert.now a.t) in
+    let same = c.in_ok-edges.ensures.edges ∙ ap values_of c.in_ok-found.ensures
+    ∙ values_by_place (edges_of a.verdicts.now a.cert.now a.t) in
     subst (IsStrictlySortedBy edge_cmp) (sym same) (c.edges_are_rows.ensures.rows a.verdicts.now a.cert.now a.t).sorted
 
 pub returns-clause-into : goal.returns-clause-into
 returns-clause-into c =
     let a = c.args in
-    let same = c.in_ok-edges.ensures.edges ∙ ap values_of c.in_ok-found.ensures ∙ values_by_place (edges_of a.verdicts.now a.cert.now a.t) in
+    let same = c.in_ok-edges.ensures.edges ∙ ap values_of c.in_ok-found.ensures
+    ∙ values_by_place (edges_of a.verdicts.now a.cert.now a.t) in
     subst (AreInto (own a.cert.now)) (sym same) (c.edges_are_rows.ensures.into a.verdicts.now a.cert.now a.t)
 
 pub returns-clause-throughout : goal.returns-clause-throughout
 returns-clause-throughout c =
     let a = c.args in
-    let same = c.in_ok-edges.ensures.edges ∙ ap values_of c.in_ok-found.ensures ∙ values_by_place (edges_of a.verdicts.now a.cert.now a.t) in
-    λ u h. sym (edges_same a.verdicts.now a.cert.now a.t u (c.steady_span.ensures.certifications u h a.verdicts.now)) ∙ sym same
+    let same = c.in_ok-edges.ensures.edges ∙ ap values_of c.in_ok-found.ensures
+    ∙ values_by_place (edges_of a.verdicts.now a.cert.now a.t) in
+    λ u h. sym (edges_same a.verdicts.now a.cert.now a.t u (c.steady_span.ensures.certifications u h a.verdicts.now))
+    ∙ sym same
 
 pub returns-clause-revoked_throughout : goal.returns-clause-revoked_throughout
 returns-clause-revoked_throughout c =
     let a = c.args in
-    λ u h. sym (revoked_same a.verdicts.now a.cert.now a.t u (c.steady_span.ensures.certifications u h a.verdicts.now (own a.cert.now))) ∙ sym c.in_ok-revoked.ensures
+    λ u h. sym (revoked_same a.verdicts.now a.cert.now a.t u (c.steady_span.ensures.certifications u h a.verdicts.now
+    (own a.cert.now))) ∙ sym c.in_ok-revoked.ensures
 
 pub returns-clause-made_most : goal.returns-clause-made_most
 returns-clause-made_most c =
-    made_within c.args.verdicts.now c.args.cert.now c.args.t c.args.steps.now.made c.make_edges.new.steps.made c.in_ok-found.found.entries c.in_ok-found.ensures c.make_edges.ensures.made_most
+    made_within c.args.verdicts.now c.args.cert.now c.args.t c.args.steps.now.made c.make_edges.new.steps.made
+    c.in_ok-found.found.entries c.in_ok-found.ensures c.make_edges.ensures.made_most

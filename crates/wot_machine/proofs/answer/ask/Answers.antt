@@ -10,7 +10,9 @@ use Rattle.wot_machine.proofs.answer.ask.Goals as goal
 
 pub told-requires-clause-few : goal.told-requires-clause-few
 told-requires-clause-few c =
-    answer_short (view_at c.args.engine.now.views c.args.view.now) (λ (v : View). question_in (state_of c.args.engine.now) v c.args.target.now c.args.uid.now) c.args.wanted c.in-Ok.answer.paths c.in-Ok.ensures.open c.in-Ok.ensures.answer
+    answer_short (view_at c.args.engine.now.views c.args.view.now)
+    (λ (v : View). question_in (state_of c.args.engine.now) v c.args.target.now c.args.uid.now) c.args.wanted
+    c.in-Ok.answer.paths c.in-Ok.ensures.open c.in-Ok.ensures.answer
 
 pub returns-in-Ok-clause-keyring : goal.returns-in-Ok-clause-keyring
 returns-in-Ok-clause-keyring c = c.ask.ensures.refreshed.stays.keyring
@@ -20,7 +22,8 @@ returns-in-Ok-clause-views c = c.ask.ensures.refreshed.stays.views
 
 pub returns-in-Ok-clause-refreshed : goal.returns-in-Ok-clause-refreshed
 returns-in-Ok-clause-refreshed c =
-    refreshed_as c.ask.result c.told.result (λ ok. ap is_ok c.in-Ok.is) c.args.view.now c.args.engine.now c.ask.new.self c.args.steps.now.made
+    refreshed_as c.ask.result c.told.result (λ ok. ap is_ok c.in-Ok.is) c.args.view.now c.args.engine.now c.ask.new.self
+    c.args.steps.now.made
     c.ask.new.steps.made c.ask.ensures.refreshed
 
 pub returns-in-Err-View-clause-keyring : goal.returns-in-Err-View-clause-keyring
@@ -31,7 +34,8 @@ returns-in-Err-View-clause-views c = c.ask.ensures.refreshed.stays.views
 
 pub returns-in-Err-View-clause-refreshed : goal.returns-in-Err-View-clause-refreshed
 returns-in-Err-View-clause-refreshed c =
-    refreshed_unopened c.ask.result _ c.args.view.now c.args.engine.now c.ask.new.self c.args.steps.now.made c.ask.new.steps.made
+    refreshed_unopened c.ask.result _ c.args.view.now c.args.engine.now c.ask.new.self c.args.steps.now.made
+    c.ask.new.steps.made
     (rw c.in-Err-View.field-0-is at c.in-Err-View.ensures.open) c.ask.ensures.refreshed
 
 pub returns-in-Err-Memory-clause-keyring : goal.returns-in-Err-Memory-clause-keyring
@@ -42,4 +46,5 @@ returns-in-Err-Memory-clause-views c = c.ask.ensures.refreshed.stays.views
 
 pub returns-in-Err-Memory-clause-refreshed : goal.returns-in-Err-Memory-clause-refreshed
 returns-in-Err-Memory-clause-refreshed c =
-    refreshed_fault c.ask.result _ c.args.view.now c.args.engine.now c.ask.new.self c.args.steps.now.made c.ask.new.steps.made c.ask.ensures.refreshed
+    refreshed_fault c.ask.result _ c.args.view.now c.args.engine.now c.ask.new.self c.args.steps.now.made
+    c.ask.new.steps.made c.ask.ensures.refreshed

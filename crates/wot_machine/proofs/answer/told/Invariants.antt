@@ -7,7 +7,8 @@ use Rattle.wot_machine.proofs.answer.told.Given as goal
 
 abbrev pub invariant-paths : goal.invariant-paths
 invariant-paths l =
-    (l.lines ++ flat_map (path_lines (state_of l.fn.engine)) l.left ≡ flat_map (path_lines (state_of l.fn.engine)) l.fn.answer.paths)
+    (l.lines ++ flat_map (path_lines (state_of l.fn.engine)) l.left ≡ flat_map (path_lines (state_of l.fn.engine))
+    l.fn.answer.paths)
     × AllByRecursion (λ (p : Path). length p.steps ≤ 255) l.left
 
 abbrev pub decreases-paths : goal.decreases-paths

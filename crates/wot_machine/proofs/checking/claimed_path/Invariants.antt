@@ -3,7 +3,8 @@ use Rattle.wot_machine.specs.Absent.{claimed_step}
 use Rattle.wot_machine.proofs.checking.claimed_path.Given as goal
 
 abbrev pub invariant-steps : goal.invariant-steps
-invariant-steps l = (l.path.amount ≡ l.fn.claim.0) × (l.path.steps ++ map claimed_step l.left ≡ map claimed_step l.fn.claim.1)
+invariant-steps l = (l.path.amount ≡ l.fn.claim.0) × (l.path.steps ++ map claimed_step l.left ≡ map claimed_step
+    l.fn.claim.1)
 
 abbrev pub decreases-steps : goal.decreases-steps
 decreases-steps l = length l.left

@@ -12,9 +12,12 @@ returns c = record {
         tells = c.each_line_has_one_outcome.ensures.tells;
         tells_one = c.each_line_has_one_outcome.ensures.tells_one;
       })
-      one other name line (reached_can_be rows second.world second.lines second.replies (record { whole = other; world = second.after }) second.run)
+      one other name line (reached_can_be rows second.world second.lines second.replies
+      (record { whole = other; world = second.after }) second.run)
       (same_certs rows (c.judging.ensures.unmarked rows) one.state other.state
-      (c.reached_states_are_judged.ensures rows first.world first.lines first.replies (record { whole = one; world = first.after }) first.run)
-      (c.reached_states_are_judged.ensures rows second.world second.lines second.replies (record { whole = other; world = second.after }) second.run) alike.certs)
+      (c.reached_states_are_judged.ensures rows first.world first.lines first.replies
+      (record { whole = one; world = first.after }) first.run)
+      (c.reached_states_are_judged.ensures rows second.world second.lines second.replies
+      (record { whole = other; world = second.after }) second.run) alike.certs)
       alike.verdicts alike.view ask;
 }

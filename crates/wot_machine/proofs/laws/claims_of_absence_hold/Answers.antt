@@ -4,7 +4,8 @@ use Rattle.wot_machine.proofs.laws.claims_of_absence_hold.Goals as goal
 
 pub returns-clause-accepted : goal.returns-clause-accepted
 returns-clause-accepted c s view target wanted uid sum claims labels misses =
-    told_accepted c.least_tables_are_accepted.ensures.accepted (question_in s view target uid) wanted sum claims labels misses.0 misses.1 misses.2
+    told_accepted c.least_tables_are_accepted.ensures.accepted (question_in s view target uid) wanted sum claims labels
+    misses.0 misses.1 misses.2
 
 pub returns-clause-nothing : goal.returns-clause-nothing
 returns-clause-nothing c s view target uid sum claims labels can checks =

@@ -17,4 +17,5 @@ pub returns-clause-some : goal.returns-clause-some
 returns-clause-some c rows world input = RepliesTo-some rows (law c rows) world (lines_of input)
 
 pub returns-clause-one : goal.returns-clause-one
-returns-clause-one c rows world input replies others p q = RepliesTo-one rows (law c rows) world (lines_of input) replies others p q
+returns-clause-one c rows world input replies others p q = RepliesTo-one rows (law c rows) world (lines_of input)
+    replies others p q

@@ -4,11 +4,17 @@ use Rattle.wot_machine.proofs.laws.each_line_has_one_outcome.Goals as goal
 
 pub returns-clause-some : goal.returns-clause-some
 returns-clause-some c rows old line given =
-    LineStep-some c.answer_is_one.ensures.some c.answer_is_one.ensures.one c.record_is_lawful.ensures.lawful c.list_is_one.ensures.some c.list_is_one.ensures.one c.least_table_is_one.ensures.some c.least_table_is_one.ensures.one c.check_is_one.ensures.some c.check_is_one.ensures.one c.lines_spell_commands.ensures.spelled rows old line given
+    LineStep-some c.answer_is_one.ensures.some c.answer_is_one.ensures.one c.record_is_lawful.ensures.lawful
+    c.list_is_one.ensures.some c.list_is_one.ensures.one c.least_table_is_one.ensures.some
+    c.least_table_is_one.ensures.one c.check_is_one.ensures.some c.check_is_one.ensures.one
+    c.lines_spell_commands.ensures.spelled rows old line given
 
 pub returns-clause-one : goal.returns-clause-one
 returns-clause-one c rows old line given reply other new third can p q =
-    LineStep-one c.answer_is_one.ensures.some c.answer_is_one.ensures.one c.record_is_lawful.ensures.lawful c.list_is_one.ensures.some c.list_is_one.ensures.one c.least_table_is_one.ensures.some c.least_table_is_one.ensures.one c.check_is_one.ensures.some c.check_is_one.ensures.one c.lines_spell_commands.ensures.spelled rows old line given can reply other new third p q
+    LineStep-one c.answer_is_one.ensures.some c.answer_is_one.ensures.one c.record_is_lawful.ensures.lawful
+    c.list_is_one.ensures.some c.list_is_one.ensures.one c.least_table_is_one.ensures.some
+    c.least_table_is_one.ensures.one c.check_is_one.ensures.some c.check_is_one.ensures.one
+    c.lines_spell_commands.ensures.spelled rows old line given can reply other new third p q
 
 pub returns-clause-stays : goal.returns-clause-stays
 returns-clause-stays c rows old line given reply new can p = LineStep-stays rows old line given reply new can p

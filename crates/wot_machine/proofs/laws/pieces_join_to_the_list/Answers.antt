@@ -8,12 +8,14 @@ returns-clause-runs c rows = runs_told rows
 
 pub returns-clause-join : goal.returns-clause-join
 returns-clause-join c rows name view wanted begun exchanges last since =
-    join rows c.lines_spell_commands.ensures.spelled c.record_is_lawful.ensures.lawful c.list_is_one.ensures.some c.list_is_one.ensures.one
+    join rows c.lines_spell_commands.ensures.spelled c.record_is_lawful.ensures.lawful c.list_is_one.ensures.some
+    c.list_is_one.ensures.one
     name view wanted begun exchanges last since
 
 pub returns-clause-next : goal.returns-clause-next
 returns-clause-next c rows name view wanted begun exchanges last since =
-    next rows c.lines_spell_commands.ensures.spelled c.record_is_lawful.ensures.lawful c.list_is_one.ensures.some c.list_is_one.ensures.one
+    next rows c.lines_spell_commands.ensures.spelled c.record_is_lawful.ensures.lawful c.list_is_one.ensures.some
+    c.list_is_one.ensures.one
     name view wanted begun exchanges last since
 
 pub returns-clause-differ : goal.returns-clause-differ

@@ -22,16 +22,22 @@ returns c =
             tells_one = c.each_line_has_one_outcome.ensures.tells_one;
           })
           (c.judging.ensures.unmarked rows) name target one other
-          (reached_can_be rows first.world first.lines first.replies (record { whole = one; world = first.after }) first.run)
-          (reached_can_be rows second.world second.lines second.replies (record { whole = other; world = second.after }) second.run)
-          (c.reached_states_are_judged.ensures rows first.world first.lines first.replies (record { whole = one; world = first.after }) first.run)
-          (c.reached_states_are_judged.ensures rows second.world second.lines second.replies (record { whole = other; world = second.after }) second.run)
+          (reached_can_be rows first.world first.lines first.replies (record { whole = one; world = first.after })
+          first.run)
+          (reached_can_be rows second.world second.lines second.replies (record { whole = other; world = second.after })
+          second.run)
+          (c.reached_states_are_judged.ensures rows first.world first.lines first.replies
+          (record { whole = one; world = first.after }) first.run)
+          (c.reached_states_are_judged.ensures rows second.world second.lines second.replies
+          (record { whole = other; world = second.after }) second.run)
           alike_for line ask;
       answers = λ rows name target one other first second alike_for view is_open uid wanted paths.
           (alike laws view target one.state other.state
           (both_of laws rows (c.judging.ensures.unmarked rows) name target one.state other.state
-          (c.reached_states_are_judged.ensures rows first.world first.lines first.replies (record { whole = one; world = first.after }) first.run)
-          (c.reached_states_are_judged.ensures rows second.world second.lines second.replies (record { whole = other; world = second.after }) second.run)
+          (c.reached_states_are_judged.ensures rows first.world first.lines first.replies
+          (record { whole = one; world = first.after }) first.run)
+          (c.reached_states_are_judged.ensures rows second.world second.lines second.replies
+          (record { whole = other; world = second.after }) second.run)
           alike_for view is_open)
           uid).answer wanted paths;
     }

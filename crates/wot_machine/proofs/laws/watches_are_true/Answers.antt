@@ -9,4 +9,5 @@ returns-clause-news c rows = lines_news rows c.lines_spell_commands.ensures.spel
 
 pub returns-clause-quiet : goal.returns-clause-quiet
 returns-clause-quiet c rows =
-    lines_quiet rows c.lines_spell_commands.ensures.spelled c.answer_is_one.ensures.one c.record_is_lawful.ensures.lawful
+    lines_quiet rows c.lines_spell_commands.ensures.spelled c.answer_is_one.ensures.one
+    c.record_is_lawful.ensures.lawful

@@ -14,42 +14,56 @@ pub returns-in-Ok-Bytes-clause-did : goal.returns-in-Ok-Bytes-clause-did
 returns-in-Ok-Bytes-clause-did g c =
     let answer : Answer = Answer.entry c.in-Ok-Bytes.octets.items in
     if_ok c.enter.result _ _ (λ reply gives.
-    ran_load (rows_of c.args.policy.now) c.args.name.now (state_of c.args.engine.now) (g.D.Shelf.world c.args.shelf.now) (g.D.Shelf.world c.read.new.self)
-    (g.D.Shelf.faults c.args.shelf.now) (g.D.Shelf.faults c.read.new.self) reply (state_of c.enter.new.engine) answer gives
-    (told_so (g.D.Shelf.world c.args.shelf.now) c.args.name.now answer _ (λ a p. sym p) (rw c.in-Ok-Bytes.field-0-is at c.in-Ok-Bytes.ensures.answers))
+    ran_load (rows_of c.args.policy.now) c.args.name.now (state_of c.args.engine.now) (g.D.Shelf.world c.args.shelf.now)
+    (g.D.Shelf.world c.read.new.self)
+    (g.D.Shelf.faults c.args.shelf.now) (g.D.Shelf.faults c.read.new.self) reply (state_of c.enter.new.engine) answer
+    gives
+    (told_so (g.D.Shelf.world c.args.shelf.now) c.args.name.now answer _ (λ a p. sym p)
+    (rw c.in-Ok-Bytes.field-0-is at c.in-Ok-Bytes.ensures.answers))
     c.read.ensures.after (λ e. absurd (cc e))) (rw c.deref.ensures.value at c.enter.ensures.gives)
 
 pub returns-in-Ok-Absent-clause-did : goal.returns-in-Ok-Absent-clause-did
 returns-in-Ok-Absent-clause-did g c =
-    ran_load (rows_of c.args.policy.now) c.args.name.now (state_of c.args.engine.now) (g.D.Shelf.world c.args.shelf.now) (g.D.Shelf.world c.read.new.self)
-    (g.D.Shelf.faults c.args.shelf.now) (g.D.Shelf.faults c.read.new.self) replies.Absent (state_of c.args.engine.now) Answer.absent (refl, refl)
-    (told_so (g.D.Shelf.world c.args.shelf.now) c.args.name.now Answer.absent _ (λ a p. sym p) (rw c.in-Ok-Absent.field-0-is at c.in-Ok-Absent.ensures.answers))
+    ran_load (rows_of c.args.policy.now) c.args.name.now (state_of c.args.engine.now) (g.D.Shelf.world c.args.shelf.now)
+    (g.D.Shelf.world c.read.new.self)
+    (g.D.Shelf.faults c.args.shelf.now) (g.D.Shelf.faults c.read.new.self) replies.Absent (state_of c.args.engine.now)
+    Answer.absent (refl, refl)
+    (told_so (g.D.Shelf.world c.args.shelf.now) c.args.name.now Answer.absent _ (λ a p. sym p)
+    (rw c.in-Ok-Absent.field-0-is at c.in-Ok-Absent.ensures.answers))
     c.read.ensures.after (λ e. absurd (cc e))
 
 pub returns-in-Ok-Long-clause-did : goal.returns-in-Ok-Long-clause-did
 returns-in-Ok-Long-clause-did g c =
-    ran_load (rows_of c.args.policy.now) c.args.name.now (state_of c.args.engine.now) (g.D.Shelf.world c.args.shelf.now) (g.D.Shelf.world c.read.new.self)
-    (g.D.Shelf.faults c.args.shelf.now) (g.D.Shelf.faults c.read.new.self) replies.Long (state_of c.args.engine.now) Answer.long (refl, refl)
-    (told_so (g.D.Shelf.world c.args.shelf.now) c.args.name.now Answer.long _ (λ a p. sym p) (rw c.in-Ok-Long.field-0-is at c.in-Ok-Long.ensures.answers))
+    ran_load (rows_of c.args.policy.now) c.args.name.now (state_of c.args.engine.now) (g.D.Shelf.world c.args.shelf.now)
+    (g.D.Shelf.world c.read.new.self)
+    (g.D.Shelf.faults c.args.shelf.now) (g.D.Shelf.faults c.read.new.self) replies.Long (state_of c.args.engine.now)
+    Answer.long (refl, refl)
+    (told_so (g.D.Shelf.world c.args.shelf.now) c.args.name.now Answer.long _ (λ a p. sym p)
+    (rw c.in-Ok-Long.field-0-is at c.in-Ok-Long.ensures.answers))
     c.read.ensures.after (λ e. absurd (cc e))
 
 pub returns-in-Err-Failed-clause-did : goal.returns-in-Err-Failed-clause-did
 returns-in-Err-Failed-clause-did g c =
-    ran_load (rows_of c.args.policy.now) c.args.name.now (state_of c.args.engine.now) (g.D.Shelf.world c.args.shelf.now) (g.D.Shelf.world c.read.new.self)
-    (g.D.Shelf.faults c.args.shelf.now) (g.D.Shelf.faults c.read.new.self) replies.Shelf (state_of c.args.engine.now) Answer.fault (refl, refl)
-    (told_so (g.D.Shelf.world c.args.shelf.now) c.args.name.now Answer.fault _ (λ a p. sym p) (rw c.in-Err-Failed.field-0-is at c.in-Err-Failed.ensures.answers))
+    ran_load (rows_of c.args.policy.now) c.args.name.now (state_of c.args.engine.now) (g.D.Shelf.world c.args.shelf.now)
+    (g.D.Shelf.world c.read.new.self)
+    (g.D.Shelf.faults c.args.shelf.now) (g.D.Shelf.faults c.read.new.self) replies.Shelf (state_of c.args.engine.now)
+    Answer.fault (refl, refl)
+    (told_so (g.D.Shelf.world c.args.shelf.now) c.args.name.now Answer.fault _ (λ a p. sym p)
+    (rw c.in-Err-Failed.field-0-is at c.in-Err-Failed.ensures.answers))
     c.read.ensures.after (λ e. (rw c.in-Err-Failed.field-0-is at c.in-Err-Failed.ensures.cause) refl)
 
 -- ---- for want of memory
 
 pub returns-in-Ok-Bytes-clause-entries : goal.returns-in-Ok-Bytes-clause-entries
 returns-in-Ok-Bytes-clause-entries g c =
-    any_err c.enter.result _ (puts_none (state_of c.args.engine.now) (loads c.args.name.now) (g.D.Shelf.world c.args.shelf.now) (g.D.Shelf.world c.read.new.self)
+    any_err c.enter.result _ (puts_none (state_of c.args.engine.now) (loads c.args.name.now)
+    (g.D.Shelf.world c.args.shelf.now) (g.D.Shelf.world c.read.new.self)
     c.read.ensures.after)
 
 pub returns-in-Err-Memory-clause-entries : goal.returns-in-Err-Memory-clause-entries
 returns-in-Err-Memory-clause-entries g c =
-    puts_none (state_of c.args.engine.now) (loads c.args.name.now) (g.D.Shelf.world c.args.shelf.now) (g.D.Shelf.world c.read.new.self) c.read.ensures.after
+    puts_none (state_of c.args.engine.now) (loads c.args.name.now) (g.D.Shelf.world c.args.shelf.now)
+    (g.D.Shelf.world c.read.new.self) c.read.ensures.after
 
 -- ---- the policy
 

@@ -13,7 +13,8 @@ returns-in-Store-clause-did g c = rw c.in-Store.is (c.store.ensures.did (rows_of
 pub returns-in-Store-clause-untouched : goal.returns-in-Store-clause-untouched
 returns-in-Store-clause-untouched g c =
     rw c.in-Store.is (λ none.
-    c.store.ensures.untouched (none_kept (cert_in (state_of c.args.engine.now).held c.in-Store.fpr) c.in-Store.fpr none))
+    c.store.ensures.untouched (none_kept (cert_in (state_of c.args.engine.now).held c.in-Store.fpr) c.in-Store.fpr
+    none))
 
 -- ---- for want of memory
 
@@ -25,4 +26,5 @@ returns-in-Store-clause-entries g c = rw c.in-Store.is c.store.ensures.entries
 
 pub returns-in_default-clause-entries : goal.returns-in_default-clause-entries
 returns-in_default-clause-entries g c =
-    any_err c.run.result _ (puts_still (state_of c.args.engine.now) (use_of (Some c.args.command.now)) (g.D.Shelf.world c.args.shelf.now))
+    any_err c.run.result _ (puts_still (state_of c.args.engine.now) (use_of (Some c.args.command.now))
+    (g.D.Shelf.world c.args.shelf.now))

@@ -20,7 +20,8 @@ returns-in-Ok-text_for-clause-stores g c =
     let after : Seen = record { world = g.D.Shelf.world c.put.new.shelf; faults = g.D.Shelf.faults c.put.new.shelf } in
     if_ok c.put.result _ _ (λ reply puts.
     stores_put c.args.fpr.now c.args.kept.now answer c.in-Ok-text_for.text.items world (g.D.Shelf.world c.read.new.self)
-    (g.D.Shelf.faults c.args.shelf.now) (g.D.Shelf.faults c.read.new.self) reply after c.in-Ok-text_for.ensures.text told c.read.ensures.after
+    (g.D.Shelf.faults c.args.shelf.now) (g.D.Shelf.faults c.read.new.self) reply after c.in-Ok-text_for.ensures.text
+    told c.read.ensures.after
     c.read.ensures.later c.put.ensures.later puts) (rw c.deref.ensures.value at c.put.ensures.puts)
 
 pub returns-in-Err-Told-clause-stores : goal.returns-in-Err-Told-clause-stores
@@ -28,17 +29,21 @@ returns-in-Err-Told-clause-stores g c =
     let answer : Answer = answer_of c.in-Ok.given in
     let world = g.D.Shelf.world c.args.shelf.now in
     rw c.in-Err-Told.field-0-is
-    (stores_told c.args.fpr.now c.args.kept.now answer world (g.D.Shelf.world c.read.new.self) (g.D.Shelf.faults c.args.shelf.now)
+    (stores_told c.args.fpr.now c.args.kept.now answer world (g.D.Shelf.world c.read.new.self)
+    (g.D.Shelf.faults c.args.shelf.now)
     (g.D.Shelf.faults c.read.new.self) c.in-Err-Told.reply (rw c.in-Err-Told.field-0-is at c.in-Err-Told.ensures.told)
-    (told_so world (Cert c.args.fpr.now) answer _ (λ a p. given_is c.in-Ok.given a p) c.in-Ok.ensures.answers) c.read.ensures.after
+    (told_so world (Cert c.args.fpr.now) answer _ (λ a p. given_is c.in-Ok.given a p) c.in-Ok.ensures.answers)
+    c.read.ensures.after
     (λ f. absurd (never_fault c.in-Ok.given f)))
 
 pub returns-in-Err-Failed-clause-stores : goal.returns-in-Err-Failed-clause-stores
 returns-in-Err-Failed-clause-stores g c =
     let world = g.D.Shelf.world c.args.shelf.now in
-    stores_told c.args.fpr.now c.args.kept.now Answer.fault world (g.D.Shelf.world c.read.new.self) (g.D.Shelf.faults c.args.shelf.now)
+    stores_told c.args.fpr.now c.args.kept.now Answer.fault world (g.D.Shelf.world c.read.new.self)
+    (g.D.Shelf.faults c.args.shelf.now)
     (g.D.Shelf.faults c.read.new.self) replies.Shelf refl
-    (told_so world (Cert c.args.fpr.now) Answer.fault _ (λ a p. sym p) (rw c.in-Err-Failed.field-0-is at c.in-Err-Failed.ensures.answers))
+    (told_so world (Cert c.args.fpr.now) Answer.fault _ (λ a p. sym p)
+    (rw c.in-Err-Failed.field-0-is at c.in-Err-Failed.ensures.answers))
     c.read.ensures.after (λ f. (rw c.in-Err-Failed.field-0-is at c.in-Err-Failed.ensures.cause) refl)
 
 -- ---- for want of memory
@@ -48,14 +53,18 @@ returns-in-Ok-text_for-clause-entries g c s kept =
     let answer : Answer = answer_of c.in-Ok.given in
     let world = g.D.Shelf.world c.args.shelf.now in
     on_err_as c.put.result _ _ (λ may.
-    stored_may s c.args.fpr.now c.args.kept.now answer c.in-Ok-text_for.text.items world (g.D.Shelf.world c.read.new.self) (g.D.Shelf.world c.put.new.shelf) kept
-    c.in-Ok-text_for.ensures.text (told_so world (Cert c.args.fpr.now) answer _ (λ a p. given_is c.in-Ok.given a p) c.in-Ok.ensures.answers) c.read.ensures.after may)
+    stored_may s c.args.fpr.now c.args.kept.now answer c.in-Ok-text_for.text.items world
+    (g.D.Shelf.world c.read.new.self) (g.D.Shelf.world c.put.new.shelf) kept
+    c.in-Ok-text_for.ensures.text (told_so world (Cert c.args.fpr.now) answer _ (λ a p. given_is c.in-Ok.given a p)
+    c.in-Ok.ensures.answers) c.read.ensures.after may)
     (rw c.deref.ensures.value at c.put.ensures.entries)
 
 pub returns-in-Err-Memory-clause-entries : goal.returns-in-Err-Memory-clause-entries
 returns-in-Err-Memory-clause-entries g c s kept =
-    puts_none s (stores c.args.fpr.now) (g.D.Shelf.world c.args.shelf.now) (g.D.Shelf.world c.read.new.self) c.read.ensures.after
+    puts_none s (stores c.args.fpr.now) (g.D.Shelf.world c.args.shelf.now) (g.D.Shelf.world c.read.new.self)
+    c.read.ensures.after
 
 pub returns-in-Err-Memory-text_for-clause-entries : goal.returns-in-Err-Memory-text_for-clause-entries
 returns-in-Err-Memory-text_for-clause-entries g c s kept =
-    puts_none s (stores c.args.fpr.now) (g.D.Shelf.world c.args.shelf.now) (g.D.Shelf.world c.read.new.self) c.read.ensures.after
+    puts_none s (stores c.args.fpr.now) (g.D.Shelf.world c.args.shelf.now) (g.D.Shelf.world c.read.new.self)
+    c.read.ensures.after

@@ -16,4 +16,5 @@ returns-in-Absent-clause-text c =
     rw c.in-Absent.is (if_ok c.cert_text.result _ _ (λ text e. ap Text (sym e)) c.cert_text.ensures.text)
 
 pub returns-in-Absent-clause-told : goal.returns-in-Absent-clause-told
-returns-in-Absent-clause-told c = if_err c.cert_text.result _ _ (λ why e. nothing_told _ why e) c.cert_text.ensures.memory
+returns-in-Absent-clause-told c = if_err c.cert_text.result _ _ (λ why e. nothing_told _ why e)
+    c.cert_text.ensures.memory

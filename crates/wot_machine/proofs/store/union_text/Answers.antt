@@ -17,5 +17,6 @@ returns-in-Ok-clause-told c = if_err c.cert_text.result _ _ (λ why e. nothing_t
 
 pub returns-in-Ok-reply_to-clause-told : goal.returns-in-Ok-reply_to-clause-told
 returns-in-Ok-reply_to-clause-told c =
-    told_refused (united_with c.args.kept.now (entry_in (Cert c.args.fpr.now) c.args.octets.now)) c.in-Err.refusal c.in-Ok-reply_to.reply
+    told_refused (united_with c.args.kept.now (entry_in (Cert c.args.fpr.now) c.args.octets.now)) c.in-Err.refusal
+    c.in-Ok-reply_to.reply
     c.in-Err.ensures.union c.in-Ok-reply_to.ensures.reply

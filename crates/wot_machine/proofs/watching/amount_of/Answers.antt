@@ -32,16 +32,19 @@ returns-in-Err-Memory-clause-stays c = c.sum.ensures.refreshed.stays
 
 pub returns-in-Ok-clause-asked : goal.returns-in-Ok-clause-asked
 returns-in-Ok-clause-asked c = λ some.
-    refreshed_as c.sum.result _ (λ ok. ap is_ok c.in-Ok.is) c.args.view.now c.args.engine.now c.sum.new.self c.args.steps.now.made c.sum.new.steps.made c.sum.ensures.refreshed
+    refreshed_as c.sum.result _ (λ ok. ap is_ok c.in-Ok.is) c.args.view.now c.args.engine.now c.sum.new.self
+    c.args.steps.now.made c.sum.new.steps.made c.sum.ensures.refreshed
 
 pub returns-in-Err-View-clause-asked : goal.returns-in-Err-View-clause-asked
 returns-in-Err-View-clause-asked c = λ some.
-    refreshed_unopened c.sum.result _ c.args.view.now c.args.engine.now c.sum.new.self c.args.steps.now.made c.sum.new.steps.made
+    refreshed_unopened c.sum.result _ c.args.view.now c.args.engine.now c.sum.new.self c.args.steps.now.made
+    c.sum.new.steps.made
     (rw c.in-Err-View.field-0-is at c.in-Err-View.ensures.open) c.sum.ensures.refreshed
 
 pub returns-in-Err-Memory-clause-asked : goal.returns-in-Err-Memory-clause-asked
 returns-in-Err-Memory-clause-asked c = λ some.
-    refreshed_fault c.sum.result _ c.args.view.now c.args.engine.now c.sum.new.self c.args.steps.now.made c.sum.new.steps.made c.sum.ensures.refreshed
+    refreshed_fault c.sum.result _ c.args.view.now c.args.engine.now c.sum.new.self c.args.steps.now.made
+    c.sum.new.steps.made c.sum.ensures.refreshed
 
 pub returns-in-Ok-clause-unasked : goal.returns-in-Ok-clause-unasked
 returns-in-Ok-clause-unasked c = λ none. let some = c.if-wanted-eq0.false in absurd (omega (arith, none, some))

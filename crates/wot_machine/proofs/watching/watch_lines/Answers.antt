@@ -8,7 +8,8 @@ use Rattle.wot_machine.specs.Settled.{IsSettled}
 use Rattle.wot_machine.specs.Watching.{IsLine, IsWatchLine}
 use Rattle.wot_machine.proofs.Asking.{MakesSoFar, never_ok, so_far_done, so_far_failed, so_far_more}
 use Rattle.wot_machine.proofs.Making.{same_state}
-use Rattle.wot_machine.proofs.Settling.{SettlesSoFar, all_later, present_grown, settled_before, settles_all, settles_not, settles_still, stays_back}
+use Rattle.wot_machine.proofs.Settling.{SettlesSoFar, all_later, present_grown, settled_before, settles_all}
+use Rattle.wot_machine.proofs.Settling.{settles_not, settles_still, stays_back}
 use Rattle.wot_machine.proofs.Watched.{AreSoFar, all_more, line_is_watch, so_far_all, so_far_line, so_far_still}
 use Rattle.wot_machine.proofs.watching.watch_lines.Goals as goal
 
@@ -38,11 +39,15 @@ rest-preserved-in-Continue-branch-3 c =
       },
       omega (arith, kept.5, c.watch_line.ensures.never_less),
       present_grown c.args.engine.now c.rest.basis c.watch_line.new.basis c.watch_line.ensures.grown kept.6,
-      subst (λ (ls : List Reply). SettlesSoFar c.args.engine.now c.watch_line.new.basis all c.next.new.self ls) (sym pushed)
-          (settles_not c.args.engine.now c.watch_line.new.basis all c.next.new.self c.in-Some-2.line c.rest.lines.items),
-      so_far_more c.args.engine.now c.args.steps.now.made all c.next.new.self c.in-Some.name.now c.in-Some.watch.now c.rest.engine c.watch_line.new.engine
+      subst (λ (ls : List Reply). SettlesSoFar c.args.engine.now c.watch_line.new.basis all c.next.new.self ls)
+          (sym pushed)
+          (settles_not c.args.engine.now c.watch_line.new.basis all c.next.new.self c.in-Some-2.line
+          c.rest.lines.items),
+      so_far_more c.args.engine.now c.args.steps.now.made all c.next.new.self c.in-Some.name.now c.in-Some.watch.now
+          c.rest.engine c.watch_line.new.engine
           c.rest.steps.made c.watch_line.new.steps.made _ refl
-          (subst (λ (ws : Watches). MakesSoFar c.args.engine.now c.args.steps.now.made all ws c.rest.engine c.rest.steps.made) c.in-Some.ensures.steps kept.8)
+          (subst (λ (ws : Watches). MakesSoFar c.args.engine.now c.args.steps.now.made all ws c.rest.engine
+          c.rest.steps.made) c.in-Some.ensures.steps kept.8)
           c.in_ok-line.ensures.makes,
     )
 
@@ -63,7 +68,8 @@ rest-preserved c =
     let settles : SettlesSoFar engine old all ((name, watch) ∷ c.next.new.self) c.rest.lines.items =
     subst (λ (ws : Watches). SettlesSoFar engine old all ws c.rest.lines.items) c.in-Some.ensures.steps kept.7 in
     let is : IsLine s name watch None =
-    subst (λ (st : State). IsLine st name watch None) (same_state engine c.rest.engine kept.4) (rw none at c.in_ok-line.ensures.line) in
+    subst (λ (st : State). IsLine st name watch None) (same_state engine c.rest.engine kept.4)
+    (rw none at c.in_ok-line.ensures.line) in
     let settled : IsSettled engine new watch =
     settled_before c.rests_on.ensures.later engine c.rest.engine new watch back (c.in_ok-line.ensures.settled none) in (
       tt,
@@ -79,9 +85,11 @@ rest-preserved c =
       present_grown engine old new c.watch_line.ensures.grown kept.6,
       settles_still c.rests_on.ensures.grown engine old new all c.next.new.self name watch c.rest.lines.items settles
           c.watch_line.ensures.grown settled,
-      so_far_more engine c.args.steps.now.made all c.next.new.self c.in-Some.name.now c.in-Some.watch.now c.rest.engine c.watch_line.new.engine
+      so_far_more engine c.args.steps.now.made all c.next.new.self c.in-Some.name.now c.in-Some.watch.now c.rest.engine
+          c.watch_line.new.engine
           c.rest.steps.made c.watch_line.new.steps.made _ refl
-          (subst (λ (ws : Watches). MakesSoFar engine c.args.steps.now.made all ws c.rest.engine c.rest.steps.made) c.in-Some.ensures.steps kept.8)
+          (subst (λ (ws : Watches). MakesSoFar engine c.args.steps.now.made all ws c.rest.engine c.rest.steps.made)
+          c.in-Some.ensures.steps kept.8)
           c.in_ok-line.ensures.makes,
     )
 
@@ -106,14 +114,20 @@ returns-clause-makes c =
 
 pub returns-in_err-line-clause-makes : goal.returns-in_err-line-clause-makes
 returns-in_err-line-clause-makes c =
-    so_far_failed c.args.engine.now c.args.steps.now.made c.args.watches.now c.next.new.self c.in-Some.name.now c.in-Some.watch.now c.rest.engine c.watch_line.new.engine
-    c.rest.steps.made c.watch_line.new.steps.made _ c.from_residual.result (λ ok. never_ok c.from_residual.result _ c.from_residual.ensures.1 ok)
-    (subst (λ (ws : Watches). MakesSoFar c.args.engine.now c.args.steps.now.made c.args.watches.now ws c.rest.engine c.rest.steps.made) c.in-Some.ensures.steps c.rest.invariant.8)
+    so_far_failed c.args.engine.now c.args.steps.now.made c.args.watches.now c.next.new.self c.in-Some.name.now
+    c.in-Some.watch.now c.rest.engine c.watch_line.new.engine
+    c.rest.steps.made c.watch_line.new.steps.made _ c.from_residual.result
+    (λ ok. never_ok c.from_residual.result _ c.from_residual.ensures.1 ok)
+    (subst (λ (ws : Watches). MakesSoFar c.args.engine.now c.args.steps.now.made c.args.watches.now ws c.rest.engine
+    c.rest.steps.made) c.in-Some.ensures.steps c.rest.invariant.8)
     c.watch_line.ensures.makes
 
 pub returns-in_err-push-clause-makes : goal.returns-in_err-push-clause-makes
 returns-in_err-push-clause-makes c =
-    so_far_failed c.args.engine.now c.args.steps.now.made c.args.watches.now c.next.new.self c.in-Some.name.now c.in-Some.watch.now c.rest.engine c.watch_line.new.engine
-    c.rest.steps.made c.watch_line.new.steps.made _ c.from_residual-in_err-push.result (λ ok. never_ok c.from_residual-in_err-push.result _ c.from_residual-in_err-push.ensures.1 ok)
-    (subst (λ (ws : Watches). MakesSoFar c.args.engine.now c.args.steps.now.made c.args.watches.now ws c.rest.engine c.rest.steps.made) c.in-Some.ensures.steps c.rest.invariant.8)
+    so_far_failed c.args.engine.now c.args.steps.now.made c.args.watches.now c.next.new.self c.in-Some.name.now
+    c.in-Some.watch.now c.rest.engine c.watch_line.new.engine
+    c.rest.steps.made c.watch_line.new.steps.made _ c.from_residual-in_err-push.result
+    (λ ok. never_ok c.from_residual-in_err-push.result _ c.from_residual-in_err-push.ensures.1 ok)
+    (subst (λ (ws : Watches). MakesSoFar c.args.engine.now c.args.steps.now.made c.args.watches.now ws c.rest.engine
+    c.rest.steps.made) c.in-Some.ensures.steps c.rest.invariant.8)
     c.watch_line.ensures.makes

@@ -12,7 +12,8 @@ returns-clause-right c k all right found =
     let here = subst (λ (amounts : Amounts). IsFound k amounts c.args.answer) (sym same) found in
     let before = subst (λ (v : OfView). AreRightIn k v) (sym c.self.view_is) all in
     record {
-      each = c.add-self-inside.ensures.right k roots turn (c.make_room-self-inside.ensures.right k roots turn before.each)
+      each = c.add-self-inside.ensures.right k roots turn (c.make_room-self-inside.ensures.right k roots turn
+          before.each)
           (right_again k c.args.answer answer refl right) (good_at k roots turn c.args.answer here);
       reach = before.reach;
     }

@@ -7,5 +7,6 @@ returns-clause-right c =
     let k = c.args.parts.now.keyring.now in
     let before = subst (λ (v : OfView). AreRightIn k v) (sym c.self.view_is) c.requires.right in
     let same = ap (λ (v : OfView). v.roots) c.self.view_is ∙ c.requires.settled in
-    let reaching = subst (λ (roots : Amounts). IsReaching k roots c.self.inside.turn c.new.result) (sym same) c.new.ensures.reaching in
+    let reaching = subst (λ (roots : Amounts). IsReaching k roots c.self.inside.turn c.new.result)
+    (sym same) c.new.ensures.reaching in
     record { each = before.each; reach = reaching }

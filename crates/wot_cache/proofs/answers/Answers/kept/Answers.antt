@@ -7,5 +7,6 @@ pub returns-in-Some : goal.returns-in-Some
 returns-in-Some c = record {
   right = λ k all.
       let before = subst (λ (v : OfView). AreRightIn k v) (sym c.self.view_is) all in
-      (answer_found k c.self.inside.roots.items c.self.inside.turn c.self.inside.table.entries c.key_of.result c.in-Some.kept.now before.each (sym c.in-Some.ensures.value)).0;
+      (answer_found k c.self.inside.roots.items c.self.inside.turn c.self.inside.table.entries c.key_of.result
+      c.in-Some.kept.now before.each (sym c.in-Some.ensures.value)).0;
 }

@@ -10,5 +10,6 @@ give-requires c =
     let turn = c.self.inside.turn in
     let before = subst (λ (v : OfView). AreRightIn k v) (sym c.self.view_is) c.requires.right in
     let same = ap (λ (v : OfView). v.roots) c.self.view_is ∙ c.requires.settled in
-    let there = subst (λ (o : Option KeptReach). IfSome o (IsReaching k c.self.inside.roots.items turn)) c.in-Some.is before.reach in
+    let there = subst (λ (o : Option KeptReach). IfSome o (IsReaching k c.self.inside.roots.items turn)) c.in-Some.is
+    before.reach in
     record { reaching = subst (λ (roots : Amounts). IsReaching k roots turn c.in-Some.kept) same there }

@@ -8,6 +8,8 @@ returns-clause-right c k all =
     let more : c.self.inside.turn < c.in-Some.turn = omega (arith, c.in-Some.ensures) in
     let before = subst (λ (v : OfView). AreRightIn k v) (sym c.self.view_is) all in
     record {
-      each = right_turned k c.self.inside.roots.items c.in-Ok.roots.items c.self.inside.turn c.in-Some.turn c.self.inside.table.entries more before.each;
-      reach = reaching_turned k c.self.inside.roots.items c.in-Ok.roots.items c.self.inside.turn c.in-Some.turn c.self.inside.reach more before.reach;
+      each = right_turned k c.self.inside.roots.items c.in-Ok.roots.items c.self.inside.turn c.in-Some.turn
+          c.self.inside.table.entries more before.each;
+      reach = reaching_turned k c.self.inside.roots.items c.in-Ok.roots.items c.self.inside.turn c.in-Some.turn
+          c.self.inside.reach more before.reach;
     }

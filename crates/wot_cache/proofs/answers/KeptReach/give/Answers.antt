@@ -5,4 +5,6 @@ use Rattle.wot_cache.proofs.answers.KeptReach.give.Goals as goal
 pub returns-then-is_now : goal.returns-then-is_now
 returns-then-is_now c =
     let p = c.args.parts.now in
-    record { reach = c.reach.ensures.reach (told_of (present_in p)) p.roots.now (c.is_now.ensures.now c.if-is_now.true) }
+    record {
+      reach = c.reach.ensures.reach (told_of (present_in p)) p.roots.now (c.is_now.ensures.now c.if-is_now.true);
+    }

@@ -1,4 +1,4 @@
-use Rattle.std.proofs.Common.{refl, sym, ◌∙◌}
+use Rattle.std.proofs.Common.{refl, ◌∙◌}
 use Rattle.std.proofs.lemmas.Bool.{eqb-true}
 use Rattle.wot_cache.proofs.Grounds.{reaching_now}
 use Rattle.wot_cache.proofs.answers.KeptReach.is_now.Goals as goal
@@ -7,6 +7,7 @@ pub returns : goal.returns
 returns c =
     let p = c.args.parts.now in
     record {
-      now = λ yes. reaching_now p.keyring.now p.roots.now p.roots.now c.args.turn p.t c.args.self.now c.requires.reaching (c.if-self-changes.false ∙ c.changes.ensures.changes)
+      now = λ yes. reaching_now p.keyring.now p.roots.now p.roots.now c.args.turn p.t c.args.self.now
+          c.requires.reaching (c.if-self-changes.false ∙ c.changes.ensures.changes)
           c.if-self-turn.false (eqb-true c.args.self.now.time p.t yes) refl;
     }

@@ -6,5 +6,14 @@ use Rattle.wot_cache.proofs.answers.KeptReach.new.Goals as goal
 pub returns : goal.returns
 returns c =
     let p = c.args.parts.now in
-    let made : KeptReach = record { count = c.changes.result; turn = c.args.turn; time = p.t; making = c.args.making } in
-    record { reaching = reaching_made p.keyring.now p.roots.now c.args.turn made c.changes.ensures.changes refl c.requires.making }
+    let made : KeptReach = record {
+      count = c.changes.result;
+      turn = c.args.turn;
+      time = p.t;
+      making =
+          c.args.making;
+    } in
+    record {
+      reaching = reaching_made p.keyring.now p.roots.now c.args.turn made c.changes.ensures.changes refl
+          c.requires.making;
+    }

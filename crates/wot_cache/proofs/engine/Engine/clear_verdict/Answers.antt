@@ -12,9 +12,13 @@ returns-clause-judged c rows judged =
 
 pub returns-clause-state : goal.returns-clause-state
 returns-clause-state c =
-    held_state c.clear_verdict.result c.args.self.now c.self.inside.networked.keyring c.clear_verdict.new.self c.self.inside.networked.views.entries
+    held_state c.clear_verdict.result c.args.self.now c.self.inside.networked.keyring c.clear_verdict.new.self
+    c.self.inside.networked.views.entries
     (verdict_cleared c.args.number.now) c.self.view_is c.clear_verdict.ensures.held
 
 pub invariant_of-self : goal.invariant_of-self
 invariant_of-self c =
-    engine_on c.fits_later.ensures.later c.later_is_order.ensures.further c.self.inside.networked.keyring c.clear_verdict.new.self c.self.inside.networked.views.entries c.self.inside.networked.networks.entries c.self.inside.answers.entries c.clear_verdict.ensures.limits c.clear_verdict.ensures.later c.clear_verdict.ensures.counted c.self.invariant
+    engine_on c.fits_later.ensures.later c.later_is_order.ensures.further c.self.inside.networked.keyring
+    c.clear_verdict.new.self c.self.inside.networked.views.entries c.self.inside.networked.networks.entries
+    c.self.inside.answers.entries c.clear_verdict.ensures.limits c.clear_verdict.ensures.later
+    c.clear_verdict.ensures.counted c.self.invariant

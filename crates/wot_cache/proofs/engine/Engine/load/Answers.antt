@@ -6,9 +6,12 @@ use Rattle.wot_cache.proofs.engine.Engine.load.Goals as goal
 
 pub returns-clause-state : goal.returns-clause-state
 returns-clause-state g c =
-    held_state c.load.result c.args.self.now c.self.inside.networked.keyring c.load.new.self c.self.inside.networked.views.entries
+    held_state c.load.result c.args.self.now c.self.inside.networked.keyring c.load.new.self
+    c.self.inside.networked.views.entries
     (importing (rows_of c.args.policy.now) c.args.bytes.now) c.self.view_is c.load.ensures.held
 
 pub invariant_of-self : goal.invariant_of-self
 invariant_of-self g c =
-    engine_on c.fits_later.ensures.later c.later_is_order.ensures.further c.self.inside.networked.keyring c.load.new.self c.self.inside.networked.views.entries c.self.inside.networked.networks.entries c.self.inside.answers.entries c.load.ensures.limits c.load.ensures.later c.load.ensures.counted c.self.invariant
+    engine_on c.fits_later.ensures.later c.later_is_order.ensures.further c.self.inside.networked.keyring
+    c.load.new.self c.self.inside.networked.views.entries c.self.inside.networked.networks.entries
+    c.self.inside.answers.entries c.load.ensures.limits c.load.ensures.later c.load.ensures.counted c.self.invariant

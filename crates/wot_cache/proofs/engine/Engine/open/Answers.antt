@@ -14,13 +14,16 @@ pub invariant_of-self-in-Ok : goal.invariant_of-self-in-Ok
 invariant_of-self-in-Ok c =
     let views = c.self.inside.networked.views.entries in
     let name = c.args.view.now in
-    let none : view_at views name ≡ None = subst (λ (e : Engine). view_at e.views name ≡ None) (sym c.self.view_is) c.requires.closed in
+    let none : view_at views name ≡ None = subst (λ (e : Engine). view_at e.views name ≡ None) (sym c.self.view_is)
+    c.requires.closed in
     let view : View = record { time = c.args.t; roots = c.new.result } in
     let more : Views = insert_entry view_name_cmp views name view in
     record {
       small = c.self.invariant.small;
-      within = opened_within c.self.inside.networked.keyring.limits views c.open.new.views.entries name c.args.t c.open.result
-          (subst (λ (e : Engine). length e.views < e.keyring.limits.views) (sym c.self.view_is) c.requires.room) (rw c.new.ensures.none at c.open.ensures.opened) c.open.ensures.kept c.self.invariant.within;
+      within = opened_within c.self.inside.networked.keyring.limits views c.open.new.views.entries name c.args.t
+          c.open.result
+          (subst (λ (e : Engine). length e.views < e.keyring.limits.views) (sym c.self.view_is) c.requires.room)
+          (rw c.new.ensures.none at c.open.ensures.opened) c.open.ensures.kept c.self.invariant.within;
       fit = c.self.invariant.fit;
       right = c.self.invariant.right;
       of_open = opened_open views c.open.new.views.entries c.self.inside.networked.networks.entries name _ c.open.result
@@ -28,7 +31,10 @@ invariant_of-self-in-Ok c =
       answered = opened_open views c.open.new.views.entries c.self.inside.answers.entries name _ c.open.result
           c.open.ensures.opened c.open.ensures.kept c.self.invariant.answered;
       turned = subst (λ (vs : Views). AreTurnsOf vs c.begin.new.self) (sym c.in-Ok.ensures.opened)
-          (subst (λ (ts : Turns). AreTurnsOf more ts) (sym (c.in_ok-begin.ensures.begun ∙ ap (λ (n : List ℕ). turned n c.self.inside.turns) c.in_ok-duplicate.ensures.equal)) (opened_turns views c.self.inside.turns name view none c.self.invariant.turned));
+          (subst (λ (ts : Turns). AreTurnsOf more ts)
+          (sym (c.in_ok-begin.ensures.begun ∙ ap (λ (n : List ℕ). turned n c.self.inside.turns)
+          c.in_ok-duplicate.ensures.equal)) (opened_turns views c.self.inside.turns name view none
+          c.self.invariant.turned));
     }
 
 pub returns-in-Ok-clause-turned : goal.returns-in-Ok-clause-turned
@@ -36,7 +42,8 @@ returns-in-Ok-clause-turned c =
     let views = c.self.inside.networked.views.entries in
     let turns = c.self.inside.turns in
     let name = c.args.view.now in
-    let none : view_at views name ≡ None = subst (λ (e : Engine). view_at e.views name ≡ None) (sym c.self.view_is) c.requires.closed in
+    let none : view_at views name ≡ None = subst (λ (e : Engine). view_at e.views name ≡ None) (sym c.self.view_is)
+    c.requires.closed in
     let view : View = record { time = c.args.t; roots = c.new.result } in
     let more : Views = insert_entry view_name_cmp views name view in
     let begun : c.begin.new.self ≡ turned name turns =

@@ -12,7 +12,8 @@ returns-clause-judged c rows judged =
 
 pub returns-clause-state : goal.returns-clause-state
 returns-clause-state c =
-    held_state c.remove.result c.args.self.now c.self.inside.networked.keyring c.remove.new.self c.self.inside.networked.views.entries
+    held_state c.remove.result c.args.self.now c.self.inside.networked.keyring c.remove.new.self
+    c.self.inside.networked.views.entries
     (removing c.args.fpr.now) c.self.view_is c.remove.ensures.held
 
 pub returns-clause-absent : goal.returns-clause-absent
@@ -20,4 +21,7 @@ returns-clause-absent c = search (rules, found)
 
 pub invariant_of-self : goal.invariant_of-self
 invariant_of-self c =
-    engine_on c.fits_later.ensures.later c.later_is_order.ensures.further c.self.inside.networked.keyring c.remove.new.self c.self.inside.networked.views.entries c.self.inside.networked.networks.entries c.self.inside.answers.entries c.remove.ensures.limits c.remove.ensures.later c.remove.ensures.counted c.self.invariant
+    engine_on c.fits_later.ensures.later c.later_is_order.ensures.further c.self.inside.networked.keyring
+    c.remove.new.self c.self.inside.networked.views.entries c.self.inside.networked.networks.entries
+    c.self.inside.answers.entries c.remove.ensures.limits c.remove.ensures.later c.remove.ensures.counted
+    c.self.invariant

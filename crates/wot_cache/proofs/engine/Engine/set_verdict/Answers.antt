@@ -14,14 +14,19 @@ returns-clause-judged c rows judged =
 
 pub returns-clause-set : goal.returns-clause-set
 returns-clause-set c =
-    subst (λ (e : Engine). OnOk c.set_verdict.result (verdict_on e.keyring c.args.number ≢ Some c.args.verdict → c.set_verdict.new.self ≡ with_verdict_on c.args.number c.args.verdict e.keyring))
+    subst (λ (e : Engine). OnOk c.set_verdict.result (verdict_on e.keyring c.args.number ≢ Some c.args.verdict →
+    c.set_verdict.new.self ≡ with_verdict_on c.args.number c.args.verdict e.keyring))
     c.self.view_is c.set_verdict.ensures.set
 
 pub returns-clause-state : goal.returns-clause-state
 returns-clause-state c =
-    held_state c.set_verdict.result c.args.self.now c.self.inside.networked.keyring c.set_verdict.new.self c.self.inside.networked.views.entries
+    held_state c.set_verdict.result c.args.self.now c.self.inside.networked.keyring c.set_verdict.new.self
+    c.self.inside.networked.views.entries
     (verdict_set c.args.number c.args.verdict) c.self.view_is c.set_verdict.ensures.held
 
 pub invariant_of-self : goal.invariant_of-self
 invariant_of-self c =
-    engine_on c.fits_later.ensures.later c.later_is_order.ensures.further c.self.inside.networked.keyring c.set_verdict.new.self c.self.inside.networked.views.entries c.self.inside.networked.networks.entries c.self.inside.answers.entries c.set_verdict.ensures.limits c.set_verdict.ensures.later c.set_verdict.ensures.counted c.self.invariant
+    engine_on c.fits_later.ensures.later c.later_is_order.ensures.further c.self.inside.networked.keyring
+    c.set_verdict.new.self c.self.inside.networked.views.entries c.self.inside.networked.networks.entries
+    c.self.inside.answers.entries c.set_verdict.ensures.limits c.set_verdict.ensures.later
+    c.set_verdict.ensures.counted c.self.invariant

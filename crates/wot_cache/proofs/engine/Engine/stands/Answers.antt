@@ -12,12 +12,16 @@ returns c =
     let new = c.stands.new.self in
     record {
       stands = λ is.
-          stands_now c.args.self.now k views networks turns c.self.view_is old new (c.stands.ensures.turns is ∙ c.count.ensures.count)
+          stands_now c.args.self.now k views networks turns c.self.view_is old new (c.stands.ensures.turns is
+          ∙ c.count.ensures.count)
           (c.stands.ensures.calm is) (c.stands.ensures.whole is);
       present = λ is.
-          moved_now c.args.self.now k views networks turns c.self.view_is old new (c.stands.ensures.turns is ∙ c.count.ensures.count) (c.stands.ensures.moved is);
-      still = still_now c.args.self.now k views networks turns c.self.view_is old new c.stands.result c.count.result c.stands.ensures.still c.count.ensures.count;
-      carries_on = carried_on c.args.self.now k views networks turns c.self.view_is old new c.stands.result c.stands.ensures.calm c.stands.ensures.whole
+          moved_now c.args.self.now k views networks turns c.self.view_is old new (c.stands.ensures.turns is
+          ∙ c.count.ensures.count) (c.stands.ensures.moved is);
+      still = still_now c.args.self.now k views networks turns c.self.view_is old new c.stands.result c.count.result
+          c.stands.ensures.still c.count.ensures.count;
+      carries_on = carried_on c.args.self.now k views networks turns c.self.view_is old new c.stands.result
+          c.stands.ensures.calm c.stands.ensures.whole
           c.stands.ensures.moved c.stands.ensures.kept;
       kept = c.stands.ensures.kept;
     }

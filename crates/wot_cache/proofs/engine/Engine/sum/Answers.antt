@@ -3,7 +3,8 @@ use Rattle.wot_auth.specs.declared.answer.Answer.{Answer}
 use Rattle.wot_edge.specs.Answer.{IsAnswer}
 use Rattle.wot_cache.specs.Basis.{HasAmount}
 use Rattle.wot_cache.specs.Views.{view_at}
-use Rattle.wot_cache.proofs.Resting.{grown_itself, open_as, present_still, question_before, refreshed_as, rests_before, stays_back}
+use Rattle.wot_cache.proofs.Resting.{grown_itself, open_as, present_still, question_before, refreshed_as, rests_before}
+use Rattle.wot_cache.proofs.Resting.{stays_back}
 use Rattle.wot_cache.proofs.engine.Engine.sum.Goals as goal
 
 pub rested-requires : goal.rested-requires
@@ -12,33 +13,39 @@ rested-requires c =
     let mid = c.ask.new.self in
     record {
       present = present_still old mid c.args.basis.now c.ask.ensures.refreshed.stays c.requires.present;
-      answer = question_before (λ q. IsAnswer q c.args.wanted c.in-Ok.answer.paths) mid old c.args.view.now c.args.target.now c.args.uid.now
+      answer = question_before (λ q. IsAnswer q c.args.wanted c.in-Ok.answer.paths) mid old c.args.view.now
+          c.args.target.now c.args.uid.now
           (stays_back old mid c.ask.ensures.refreshed.stays) c.in-Ok.ensures.answer;
       sum = c.in-Ok.ensures.sum;
     }
 
 pub returns-in-Ok-clause-sum : goal.returns-in-Ok-clause-sum
 returns-in-Ok-clause-sum c =
-    question_before (HasAmount c.args.wanted c.rested.result) c.args.self.now c.ask.new.self c.args.view.now c.args.target.now c.args.uid.now
+    question_before (HasAmount c.args.wanted c.rested.result) c.args.self.now c.ask.new.self c.args.view.now
+    c.args.target.now c.args.uid.now
     c.ask.ensures.refreshed.stays c.rested.ensures.sum
 
 pub returns-in-Ok-clause-rests : goal.returns-in-Ok-clause-rests
 returns-in-Ok-clause-rests c =
-    rests_before c.args.self.now c.ask.new.self c.rested.new.basis c.args.view.now c.args.target.now c.args.wanted c.args.uid.now c.rested.result
+    rests_before c.args.self.now c.ask.new.self c.rested.new.basis c.args.view.now c.args.target.now c.args.wanted
+    c.args.uid.now c.rested.result
     c.ask.ensures.refreshed.stays c.rested.ensures.rests
 
 pub returns-in-Ok-clause-refreshed : goal.returns-in-Ok-clause-refreshed
 returns-in-Ok-clause-refreshed c =
-    refreshed_as (Ok c.in-Ok.answer) (Ok c.rested.result) c.args.view.now c.args.self.now c.ask.new.self c.args.steps.now.made c.ask.new.steps.made (λ ok. refl)
+    refreshed_as (Ok c.in-Ok.answer) (Ok c.rested.result) c.args.view.now c.args.self.now c.ask.new.self
+    c.args.steps.now.made c.ask.new.steps.made (λ ok. refl)
     c.in-Ok.ensures.refreshed
 
 pub returns-in-Err-clause-refreshed : goal.returns-in-Err-clause-refreshed
 returns-in-Err-clause-refreshed c =
-    refreshed_as (Err c.in-Err.fault) (Err c.in-Err.fault) c.args.view.now c.args.self.now c.ask.new.self c.args.steps.now.made c.ask.new.steps.made (λ ok. ok)
+    refreshed_as (Err c.in-Err.fault) (Err c.in-Err.fault) c.args.view.now c.args.self.now c.ask.new.self
+    c.args.steps.now.made c.ask.new.steps.made (λ ok. ok)
     c.in-Err.ensures.refreshed
 
 pub returns-in-Err-clause-open : goal.returns-in-Err-clause-open
-returns-in-Err-clause-open c = open_as Answer ℕ c.in-Err.fault (view_at c.args.self.now.views c.args.view.now) c.in-Err.ensures.open
+returns-in-Err-clause-open c = open_as Answer ℕ c.in-Err.fault (view_at c.args.self.now.views c.args.view.now)
+    c.in-Err.ensures.open
 
 pub returns-in-Err-clause-grown : goal.returns-in-Err-clause-grown
 returns-in-Err-clause-grown c = grown_itself c.args.basis.now

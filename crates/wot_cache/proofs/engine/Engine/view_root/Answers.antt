@@ -13,18 +13,24 @@ use Rattle.wot_cache.proofs.engine.Engine.view_root.Goals as goal
 pub invariant_of-self-2 : goal.invariant_of-self-2
 invariant_of-self-2 c = record {
   small = c.self.invariant.small;
-  within = set_within c.self.inside.networked.keyring.limits c.self.inside.networked.views.entries c.set_amount.new.views.entries c.args.view.now c.args.fpr.now c.args.amount c.set_amount.result
-      (subst (λ (e : Engine). IfSome (view_at e.views c.args.view.now) (λ (v : View). IsRoots v.roots)) (sym c.self.view_is) c.root_fault.ensures.roots)
-      (subst (λ (e : Engine). root_fault e.keyring.limits (view_at e.views c.args.view.now) c.args.fpr.now c.args.amount ≡ None) (sym c.self.view_is) (sym c.root_fault.ensures.fault ∙ c.in_default.is))
+  within = set_within c.self.inside.networked.keyring.limits c.self.inside.networked.views.entries
+      c.set_amount.new.views.entries c.args.view.now c.args.fpr.now c.args.amount c.set_amount.result
+      (subst (λ (e : Engine). IfSome (view_at e.views c.args.view.now) (λ (v : View). IsRoots v.roots))
+      (sym c.self.view_is) c.root_fault.ensures.roots)
+      (subst (λ (e : Engine). root_fault e.keyring.limits (view_at e.views c.args.view.now) c.args.fpr.now
+      c.args.amount ≡ None) (sym c.self.view_is) (sym c.root_fault.ensures.fault ∙ c.in_default.is))
       c.set_amount.ensures.set c.set_amount.ensures.kept c.self.invariant.within;
   fit = c.self.invariant.fit;
   right = c.self.invariant.right;
-  of_open = set_open c.self.inside.networked.views.entries c.set_amount.new.views.entries c.self.inside.networked.networks.entries c.args.view.now c.args.fpr.now
+  of_open = set_open c.self.inside.networked.views.entries c.set_amount.new.views.entries
+      c.self.inside.networked.networks.entries c.args.view.now c.args.fpr.now
       c.args.amount c.set_amount.result c.set_amount.ensures.set c.set_amount.ensures.kept c.self.invariant.of_open;
-  answered = set_open c.self.inside.networked.views.entries c.set_amount.new.views.entries c.self.inside.answers.entries c.args.view.now c.args.fpr.now
+  answered = set_open c.self.inside.networked.views.entries c.set_amount.new.views.entries c.self.inside.answers.entries
+      c.args.view.now c.args.fpr.now
       c.args.amount c.set_amount.result c.set_amount.ensures.set c.set_amount.ensures.kept c.self.invariant.answered;
   turned = subst (λ (ts : Turns). AreTurnsOf c.set_amount.new.views.entries ts) (sym c.raise.ensures.raised)
-      (rooted_turns c.self.inside.networked.views.entries c.set_amount.new.views.entries c.self.inside.turns c.args.view.now c.args.fpr.now c.args.amount
+      (rooted_turns c.self.inside.networked.views.entries c.set_amount.new.views.entries c.self.inside.turns
+      c.args.view.now c.args.fpr.now c.args.amount
       c.in_ok-set_amount.ensures.set c.self.invariant.turned);
 }
 
@@ -33,10 +39,13 @@ returns-clause-turned c =
     let views = c.self.inside.networked.views.entries in
     let turns = c.self.inside.turns in
     let name = c.args.view.now in
-    subst (λ (e : Engine). IsOneTurn name e.views e.turns c.set_amount.new.views.entries c.raise.new.self) c.self.view_is
+    subst (λ (e : Engine). IsOneTurn name e.views e.turns c.set_amount.new.views.entries c.raise.new.self)
+    c.self.view_is
     (subst (λ (ts : Turns). IsOneTurn name views turns c.set_amount.new.views.entries ts) (sym c.raise.ensures.raised)
     (rooting views c.set_amount.new.views.entries turns name c.args.fpr.now c.args.amount
-    (subst (λ (e : Engine). IfSome (view_at e.views name) (λ (v : View). IsRoots v.roots)) (sym c.self.view_is) c.root_fault.ensures.roots)
-    (subst (λ (e : Engine). IfSome (view_at e.views name) (λ (v : View). root_amount v.roots c.args.fpr.now ≢ c.args.amount)) (sym c.self.view_is)
+    (subst (λ (e : Engine). IfSome (view_at e.views name) (λ (v : View). IsRoots v.roots)) (sym c.self.view_is)
+    c.root_fault.ensures.roots)
+    (subst (λ (e : Engine). IfSome (view_at e.views name)
+    (λ (v : View). root_amount v.roots c.args.fpr.now ≢ c.args.amount)) (sym c.self.view_is)
     (c.has_root.ensures.other c.if-has_root.false))
     c.in_ok-set_amount.ensures.set))

@@ -4,5 +4,6 @@ use Rattle.wot_cache.proofs.turns.Turns.take_back.Goals as goal
 
 pub returns : goal.returns
 returns c = record {
-  back = λ before none was. taken_back c.args.view.now before c.self.inside.count c.self.inside.each.entries c.remove.new.self.entries none (c.self.view_is ∙ was) c.remove.ensures.entries;
+  back = λ before none was. taken_back c.args.view.now before c.self.inside.count c.self.inside.each.entries
+      c.remove.new.self.entries none (c.self.view_is ∙ was) c.remove.ensures.entries;
 }

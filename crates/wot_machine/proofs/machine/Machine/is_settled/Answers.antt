@@ -6,4 +6,5 @@ use Rattle.wot_machine.proofs.machine.Machine.is_settled.Goals as goal
 
 pub returns-clause-settled : goal.returns-clause-settled
 returns-clause-settled c = λ quiet.
-    subst (λ (m : Machine). AreLines (state_of m.engine) m.watches []) c.self.view_is (c.are_settled.ensures.quiet quiet)
+    subst (λ (m : Machine). AreLines (state_of m.engine) m.watches []) c.self.view_is
+    (c.are_settled.ensures.quiet quiet)

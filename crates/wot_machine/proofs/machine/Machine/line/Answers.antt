@@ -1,4 +1,4 @@
-use Rattle.std.proofs.Common.{◌≡◌, ℕ, Option, Result, Ok, refl, subst, sym}
+use Rattle.std.proofs.Common.{ℕ, Option, Result, Ok, refl, subst, sym}
 use Rattle.wot_types.specs.declared.memory.Memory.{Memory}
 use Rattle.wot_policy.specs.Kept.{rows_of}
 use Rattle.wot_machine.specs.Machine.{kept}
@@ -17,38 +17,64 @@ use Rattle.wot_machine.proofs.machine.Machine.line.Goals as goal
 
 pub returns-in-Some-clause-step : goal.returns-in-Some-clause-step
 returns-in-Some-clause-step g c =
-    let before : Seen = record { world = g.D.Shelf.world c.args.shelf.now; faults = g.D.Shelf.faults c.args.shelf.now } in
-    let after : Seen = record { world = g.D.Shelf.world c.reply.new.shelf; faults = g.D.Shelf.faults c.reply.new.shelf } in
-    told_step c.put.result (rows_of c.args.policy.now) c.args.line.now (kept c.args.self.now) before c.reply.new.self.engine c.reply.new.self.cursors
-    c.reply.new.self.watches c.put.new.self.engine c.put.new.self.cursors c.put.new.self.watches after c.args.out.now.items c.reserve.new.self.items c.put.new.out.items c.in-Some.told
-    (rw c.in-Some.is at c.in_ok-told.ensures.replied) c.put.ensures.engine c.put.ensures.watches c.put.ensures.settled c.reserve.ensures.items c.put.ensures.appended
+    let before : Seen = record {
+      world = g.D.Shelf.world c.args.shelf.now;
+      faults =
+          g.D.Shelf.faults c.args.shelf.now;
+    } in
+    let after : Seen = record {
+      world = g.D.Shelf.world c.reply.new.shelf;
+      faults =
+          g.D.Shelf.faults c.reply.new.shelf;
+    } in
+    told_step c.put.result (rows_of c.args.policy.now) c.args.line.now (kept c.args.self.now) before
+    c.reply.new.self.engine c.reply.new.self.cursors
+    c.reply.new.self.watches c.put.new.self.engine c.put.new.self.cursors c.put.new.self.watches after
+    c.args.out.now.items c.reserve.new.self.items c.put.new.out.items c.in-Some.told
+    (rw c.in-Some.is at c.in_ok-told.ensures.replied) c.put.ensures.engine c.put.ensures.watches c.put.ensures.settled
+    c.reserve.ensures.items c.put.ensures.appended
 
 pub returns-in-None-clause-step : goal.returns-in-None-clause-step
 returns-in-None-clause-step g c =
-    let before : Seen = record { world = g.D.Shelf.world c.args.shelf.now; faults = g.D.Shelf.faults c.args.shelf.now } in
-    let after : Seen = record { world = g.D.Shelf.world c.reply.new.shelf; faults = g.D.Shelf.faults c.reply.new.shelf } in
+    let before : Seen = record {
+      world = g.D.Shelf.world c.args.shelf.now;
+      faults =
+          g.D.Shelf.faults c.args.shelf.now;
+    } in
+    let after : Seen = record {
+      world = g.D.Shelf.world c.reply.new.shelf;
+      faults =
+          g.D.Shelf.faults c.reply.new.shelf;
+    } in
     passed (rows_of c.args.policy.now) c.args.line.now (kept c.args.self.now) before (kept c.reply.new.self) after
-    c.args.out.now.items c.reserve.new.self.items (rw c.in-None.is at c.in_ok-told.ensures.replied) c.reserve.ensures.items
+    c.args.out.now.items c.reserve.new.self.items (rw c.in-None.is at c.in_ok-told.ensures.replied)
+    c.reserve.ensures.items
 
 pub returns-in-Some-clause-makes : goal.returns-in-Some-clause-makes
 returns-in-Some-clause-makes g c =
     let done : Result (Option Told) Memory = Ok c.in_ok-told.field-0 in
     let line = heard c.args.line.now in
-    let made : LineMakes done line c.args.self.now.cursors c.args.self.now.engine c.put.new.self.engine c.args.self.now.made c.put.new.self.made =
-    subst (λ (e : Engine). LineMakes done line c.args.self.now.cursors c.args.self.now.engine e c.args.self.now.made c.put.new.self.made) (sym c.put.ensures.engine)
-    (subst (λ (n : ℕ). LineMakes done line c.args.self.now.cursors c.args.self.now.engine c.reply.new.self.engine c.args.self.now.made n) (sym c.put.ensures.made) c.in_ok-told.ensures.makes) in
-    line_makes_as done c.put.result (λ ok. refl) line c.args.self.now.cursors c.args.self.now.engine c.put.new.self.engine c.args.self.now.made c.put.new.self.made made
+    let made : LineMakes done line c.args.self.now.cursors c.args.self.now.engine c.put.new.self.engine
+    c.args.self.now.made c.put.new.self.made =
+    subst (λ (e : Engine). LineMakes done line c.args.self.now.cursors c.args.self.now.engine e c.args.self.now.made
+    c.put.new.self.made) (sym c.put.ensures.engine)
+    (subst (λ (n : ℕ). LineMakes done line c.args.self.now.cursors c.args.self.now.engine c.reply.new.self.engine
+    c.args.self.now.made n) (sym c.put.ensures.made) c.in_ok-told.ensures.makes) in
+    line_makes_as done c.put.result (λ ok. refl) line c.args.self.now.cursors c.args.self.now.engine
+    c.put.new.self.engine c.args.self.now.made c.put.new.self.made made
 
 -- ---- for want of memory
 
 pub returns-in_err-reserve-clause-entries : goal.returns-in_err-reserve-clause-entries
 returns-in_err-reserve-clause-entries g c =
-    any_err c.from_residual.result _ (puts_still (state_of c.args.self.now.engine) (use_of (heard c.args.line.now)) (g.D.Shelf.world c.args.shelf.now))
+    any_err c.from_residual.result _ (puts_still (state_of c.args.self.now.engine) (use_of (heard c.args.line.now))
+    (g.D.Shelf.world c.args.shelf.now))
 
 pub returns-in-Some-clause-entries : goal.returns-in-Some-clause-entries
 returns-in-Some-clause-entries g c =
     let replied = rw c.in-Some.is at c.in_ok-told.ensures.replied in
-    any_err c.put.result _ (served_puts (state_of c.args.self.now.engine) (use_of (heard c.args.line.now)) (g.D.Shelf.world c.args.shelf.now) replied.given
+    any_err c.put.result _ (served_puts (state_of c.args.self.now.engine) (use_of (heard c.args.line.now))
+    (g.D.Shelf.world c.args.shelf.now) replied.given
     (g.D.Shelf.world c.reply.new.shelf) replied.served)
 
 -- ---- the policy
@@ -57,16 +83,21 @@ pub returns-in-Some-clause-asked : goal.returns-in-Some-clause-asked
 returns-in-Some-clause-asked g c =
     let done : Result (Option Told) Memory = Ok c.in_ok-told.field-0 in
     let line = heard c.args.line.now in
-    let asked : LineAsks done line (state_of c.args.self.now.engine) (state_of c.put.new.self.engine) c.args.policy.now c.reply.new.policy =
-    subst (λ (e : Engine). LineAsks done line (state_of c.args.self.now.engine) (state_of e) c.args.policy.now c.reply.new.policy) (sym c.put.ensures.engine)
+    let asked : LineAsks done line (state_of c.args.self.now.engine) (state_of c.put.new.self.engine) c.args.policy.now
+    c.reply.new.policy =
+    subst (λ (e : Engine). LineAsks done line (state_of c.args.self.now.engine) (state_of e) c.args.policy.now
+    c.reply.new.policy) (sym c.put.ensures.engine)
     c.in_ok-told.ensures.asked in
-    asks_as done c.put.result (λ ok. refl) line (state_of c.args.self.now.engine) (state_of c.put.new.self.engine) c.args.policy.now c.reply.new.policy asked
+    asks_as done c.put.result (λ ok. refl) line (state_of c.args.self.now.engine) (state_of c.put.new.self.engine)
+    c.args.policy.now c.reply.new.policy asked
 
 pub returns-in-None-clause-asked : goal.returns-in-None-clause-asked
 returns-in-None-clause-asked g c =
     let done : Result (Option Told) Memory = Ok c.in_ok-told.field-0 in
-    asks_as done _ (λ ok. refl) (heard c.args.line.now) (state_of c.args.self.now.engine) (state_of c.reply.new.self.engine) c.args.policy.now c.reply.new.policy
+    asks_as done _ (λ ok. refl) (heard c.args.line.now) (state_of c.args.self.now.engine)
+    (state_of c.reply.new.self.engine) c.args.policy.now c.reply.new.policy
     c.in_ok-told.ensures.asked
 
 pub returns-in_err-reserve-clause-asked : goal.returns-in_err-reserve-clause-asked
-returns-in_err-reserve-clause-asked g c = asks_not c.from_residual.result (heard c.args.line.now) (state_of c.args.self.now.engine) c.args.policy.now
+returns-in_err-reserve-clause-asked g c = asks_not c.from_residual.result (heard c.args.line.now)
+    (state_of c.args.self.now.engine) c.args.policy.now

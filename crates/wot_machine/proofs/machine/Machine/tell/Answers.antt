@@ -46,7 +46,8 @@ returns-then-is_settled-clause-tells c =
 pub returns-clause-makes : goal.returns-clause-makes
 returns-clause-makes c =
     let done : Result (Unit {0}) Memory = Ok tt in
-    telling_made (Ok c.in_ok-lines.lines) done (λ ok. refl) c.args.self.now c.is_settled.new.self c.watch_lines.new.self c.told.new.self
+    telling_made (Ok c.in_ok-lines.lines) done (λ ok. refl) c.args.self.now c.is_settled.new.self c.watch_lines.new.self
+    c.told.new.self
     c.is_settled.ensures.same c.in_ok-lines.ensures.makes c.told.ensures.engine c.told.ensures.made
 
 pub returns-then-is_settled-clause-makes : goal.returns-then-is_settled-clause-makes
@@ -56,16 +57,23 @@ returns-then-is_settled-clause-makes c =
 
 pub returns-in_err-lines-clause-makes : goal.returns-in_err-lines-clause-makes
 returns-in_err-lines-clause-makes c =
-    telling_made c.watch_lines.result c.from_residual.result (λ ok. absurd (never_ok c.from_residual.result _ c.from_residual.ensures.1 ok)) c.args.self.now
-    c.is_settled.new.self c.watch_lines.new.self c.watch_lines.new.self c.is_settled.ensures.same c.watch_lines.ensures.makes refl refl
+    telling_made c.watch_lines.result c.from_residual.result
+    (λ ok. absurd (never_ok c.from_residual.result _ c.from_residual.ensures.1 ok)) c.args.self.now
+    c.is_settled.new.self c.watch_lines.new.self c.watch_lines.new.self c.is_settled.ensures.same
+    c.watch_lines.ensures.makes refl refl
 
 pub returns-in_err-text-clause-makes : goal.returns-in_err-text-clause-makes
 returns-in_err-text-clause-makes c =
-    telling_made c.watch_lines.result c.from_residual-in_err-text.result (λ ok. absurd (never_ok c.from_residual-in_err-text.result _ c.from_residual-in_err-text.ensures.1 ok)) c.args.self.now
-    c.is_settled.new.self c.watch_lines.new.self c.watch_lines.new.self c.is_settled.ensures.same c.watch_lines.ensures.makes refl refl
+    telling_made c.watch_lines.result c.from_residual-in_err-text.result
+    (λ ok. absurd (never_ok c.from_residual-in_err-text.result _ c.from_residual-in_err-text.ensures.1 ok))
+    c.args.self.now
+    c.is_settled.new.self c.watch_lines.new.self c.watch_lines.new.self c.is_settled.ensures.same
+    c.watch_lines.ensures.makes refl refl
 
 pub returns-in_err-extend_from_slice-clause-makes : goal.returns-in_err-extend_from_slice-clause-makes
 returns-in_err-extend_from_slice-clause-makes c =
     telling_made c.watch_lines.result c.from_residual-in_err-extend_from_slice.result
-    (λ ok. absurd (never_ok c.from_residual-in_err-extend_from_slice.result _ c.from_residual-in_err-extend_from_slice.ensures.1 ok)) c.args.self.now
-    c.is_settled.new.self c.watch_lines.new.self c.watch_lines.new.self c.is_settled.ensures.same c.watch_lines.ensures.makes refl refl
+    (λ ok. absurd (never_ok c.from_residual-in_err-extend_from_slice.result _
+    c.from_residual-in_err-extend_from_slice.ensures.1 ok)) c.args.self.now
+    c.is_settled.new.self c.watch_lines.new.self c.watch_lines.new.self c.is_settled.ensures.same
+    c.watch_lines.ensures.makes refl refl
