@@ -1,6 +1,6 @@
 //! A search that may look so often and no oftener: what it looks at is noted, and one look too many has an error of its
 //! own. Searches are generic over `Notes`; a caller reads from `left` why one ended.
-ghost use Rattle.std.specs.Prelude.{◌≡◌, ◌⊎◌, Some, OnOk};
+ghost use Rattle.std.specs.Prelude.{◌≡◌, ◌⊎◌, [], Some, OnOk};
 ghost use Rattle.wot_types.specs.declared.fpr.Fpr.{Fpr as Print};
 ghost use Rattle.wot_edge.specs.Record.{Has};
 ghost use Rattle.wot_search.specs.Looked.{Widens};
@@ -31,6 +31,7 @@ pub struct Metered {
 impl Metered {
     /// Nothing was looked at yet.
     pub fn new(alloc: Global, left: u64) -> Metered
+        ensures none { result.consulted ≡ [] }
         ensures left { result.left ≡ Some left }
     {
         Metered {
