@@ -12,7 +12,8 @@ use Rattle.wot_cert.specs.Certificate.{Certificate}
 use Rattle.wot_cert.specs.Counts.{all_sigs}
 use Rattle.wot_edge.specs.Answer.{IsAnswer, amount_of}
 use Rattle.wot_edge.specs.Path.{asks}
-use Rattle.wot_edge.specs.Record.{Has}
+use Rattle.wot_edge.specs.Leads.{Leads}
+use Rattle.wot_edge.specs.Record.{Has, Record}
 use Rattle.wot_keyring.specs.declared.kept.Kept.{Kept}
 use Rattle.wot_keyring.specs.Keyring.{Certificates, Keyring, certificates_in, is_fpr, kept_at, stamp_at}
 use Rattle.wot_keyring.specs.Kept.{AreStamped}
@@ -23,7 +24,7 @@ use Rattle.wot_network.specs.Told.{record_of}
 use Rattle.wot_cache.specs.declared.answers.KeptAnswer.{KeptAnswer}
 use Rattle.wot_cache.specs.declared.answers.KeptReach.{KeptReach}
 use Rattle.wot_cache.specs.declared.answers.Looked.{Looked}
-use Rattle.wot_cache.specs.Answers.{AllStill, Amounts, Answers, AreRight, AreStill, Entries, IsFound, IsGood, IsOf, IsReaching, IsRight, IsSameBut, IsStill, look, question_at}
+use Rattle.wot_cache.specs.Answers.{AllLead, AllLed, AllStill, Amounts, Answers, AreRight, AreStill, Entries, IsFound, IsGood, IsOf, IsReaching, IsRight, IsSameBut, IsStill, look, question_at}
 use Rattle.wot_cache.specs.Question.{IsAnswerAround}
 use Rattle.wot_cache.proofs.Inside.{each_found}
 
@@ -93,15 +94,38 @@ still_at k later roots amounts [] fpr has still = absurd has
 still_at k later roots amounts (x ∷ xs) fpr (inl e) still = subst (λ (y : Fpr). IsStill later amounts (look k roots y)) (sym e) still.0
 still_at k later roots amounts (x ∷ xs) fpr (inr has) still = still_at k later roots amounts xs fpr has still.1
 
+-- what is noted of each of them is its stamp
+same_stamps : (k : Keyring) (roots : Amounts) (set : List Fpr) → AllByRecursion (λ (l : Looked). stamp_at k l.fpr ≡ l.stamp) (map (look k roots) set)
+same_stamps k roots [] = tt
+same_stamps k roots (x ∷ xs) = (refl, same_stamps k roots xs)
+
+each_leads : (k : Keyring) (roots : Amounts) (told : Record) (target : Fpr) (set : List Fpr) → AllLead told target set
+    → AllByRecursion (λ (l : Looked). Leads told target l.fpr) (map (look k roots) set)
+each_leads k roots told target [] leads = tt
+each_leads k roots told target (x ∷ xs) leads = (leads x (inl refl), each_leads k roots told target xs (λ fpr h. leads fpr (inr h)))
+
+-- they lead to the target in the keyring in which they are looked at
+led_here : (k : Keyring) (roots : Amounts) (t : ℕ) (uid : List ℕ) (target : Fpr) (set : List Fpr) → IsLater k k
+    → AllLead (record_of (certificates_in k) k.verdicts t uid) target set → AllLed k t uid target (map (look k roots) set)
+led_here k roots t uid target set itself leads = record {
+  before = k;
+  later = itself;
+  stamps = same_stamps k roots set;
+  each = each_leads k roots (record_of (certificates_in k) k.verdicts t uid) target set leads;
+}
+
 -- by the law that what certificates and verdicts tell of a set rests on those of the set alone
 abbrev pub RecordsAgree : Type 0
 RecordsAgree = (certs : Certificates) (said : verdicts.Entries) (t : ℕ) → IsLocal certs said t (record_of certs said t)
 
 pub right_made : RecordsAgree → (k : Keyring) (roots : List (Fpr × ℕ)) (a : KeptAnswer) (set : List Fpr) → AreStamped k.changes k.certs
     → (kept : Vec Looked Global) → a.looked ≡ Some kept → kept.items ≡ map (look k roots) set → a.answer.sum ≡ amount_of a.answer.paths
-    → IsAnswerAround (question_at k roots a) a.wanted a.answer.paths set → IsRight k a
-right_made law k roots a set stamped kept there looked sum around = record {
+    → IsAnswerAround (question_at k roots a) a.wanted a.answer.paths set → IsLater k k
+    → AllLead (record_of (certificates_in k) k.verdicts a.time a.uid) a.target set → IsRight k a
+right_made law k roots a set stamped kept there looked sum around itself leads = record {
   sum = sum;
+  leads = subst (λ (o : Option (Vec Looked Global)). IfSome o (λ (ls : Vec Looked Global). AllLed k a.time a.uid a.target ls.items)) (sym there)
+      (subst (λ (ls : List Looked). AllLed k a.time a.uid a.target ls) (sym looked) (led_here k roots a.time a.uid a.target set itself leads));
   answer = λ later amounts is still.
       let these : AllStill later amounts (Some kept) = subst (AllStill later amounts) there still in
       let found : AreStill later amounts (map (look k roots) set) = subst (AreStill later amounts) looked these in
@@ -112,7 +136,11 @@ right_made law k roots a set stamped kept there looked sum around = record {
 
 -- one that rests on all that there is
 pub right_of_all : (k : Keyring) (a : KeptAnswer) → a.looked ≡ None → a.answer.sum ≡ amount_of a.answer.paths → IsRight k a
-right_of_all k a none sum = record { sum = sum; answer = λ later amounts is still. absurd (subst (AllStill later amounts) none still) }
+right_of_all k a none sum = record {
+  sum = sum;
+  answer = λ later amounts is still. absurd (subst (AllStill later amounts) none still);
+  leads = subst (λ (o : Option (Vec Looked Global)). IfSome o (λ (ls : Vec Looked Global). AllLed k a.time a.uid a.target ls.items)) (sym none) tt;
+}
 
 -- A right answer is the answer to its question now, where what it rests on is found as it was.
 pub right_now : ((k : Keyring) → IsLater k k) → (k : Keyring) (roots : Amounts) (a : KeptAnswer) → IsRight k a → AllStill k roots a.looked → Answers k roots a
@@ -146,7 +174,7 @@ good_at k roots turn a found = record { counted = found.counted; turned = omega 
 
 -- what is right stays so, whenever it was found good
 pub right_again : (k : Keyring) (old new : KeptAnswer) → IsSameBut old new → IsRight k old → IsRight k new
-right_again k old new same right = subst (IsRight k) (sym same) (record { sum = right.sum; answer = λ later roots is still. right.answer later roots is still })
+right_again k old new same right = subst (IsRight k) (sym same) (record { sum = right.sum; answer = λ later roots is still. right.answer later roots is still; leads = right.leads })
 
 -- at another turn of the roots nothing was found good yet
 pub right_turned : (k : Keyring) (roots others : Amounts) (turn next : ℕ) (entries : Entries) → turn < next → AreRight k roots turn entries

@@ -1,6 +1,7 @@
 -- Views stay within the limits, and networks go on to fit.
 use Rattle.std.proofs.Common.{◌≡◌, inl, inr, ℕ, ◌+◌, ◌<◌, ◌≤◌, Bool, true, false, cond, List, [], ◌∷◌, length, Option, Some, None, Result, Ok, Err, OnOk, OnErr, refl, sym, subst, arith}
-use Rattle.std.specs.Prelude.{nat_lt, nat_le, ◌==◌}
+use Rattle.std.specs.Prelude.{nat_lt, nat_le, ◌==◌, Vec}
+use Rattle.std.specs.declared.alloc.Global.{Global}
 use Rattle.std.specs.declared.cmp.Ordering.{Ordering}
 use Rattle.std.specs.declared.cmp.Ordering.TheVariants.{Less, Equal, Greater}
 use Rattle.std.specs.Ordering.{match_ordering, nat_cmp}
@@ -27,7 +28,8 @@ use Rattle.wot_network.specs.Net.{Net, Fits}
 use Rattle.wot_cache.specs.declared.view.View.{View}
 use Rattle.wot_cache.specs.declared.answers.KeptAnswer.{KeptAnswer}
 use Rattle.wot_cache.specs.declared.answers.KeptReach.{KeptReach}
-use Rattle.wot_cache.specs.Answers.{AllAnswers, Amounts, AreAllRight, AreRight, AreRightIn, Entries, IsGood, IsReaching, IsRight, OfView}
+use Rattle.wot_cache.specs.declared.answers.Looked.{Looked}
+use Rattle.wot_cache.specs.Answers.{AllAnswers, AllLed, Amounts, AreAllRight, AreRight, AreRightIn, Entries, IsGood, IsReaching, IsRight, OfView}
 use Rattle.wot_cache.specs.Inside.{IsEngine, AllFit, Networks}
 use Rattle.wot_cache.specs.Turns.{Turns}
 use Rattle.wot_cache.specs.Views.{Views, IsWithin, is_name, view_at, with_amount, amount_fault, root_fault, without_view}
@@ -165,9 +167,24 @@ all_fit law (e ∷ es) old new later all = (law e.1 old new all.0 later, all_fit
 abbrev pub LaterStill : Type 0
 LaterStill = (old mid new : Keyring) → IsLater old mid → IsLater mid new → IsLater old new
 
+-- what led to the target before a keyring did so before each later one
+led_later : LaterStill → (old new : Keyring) (t : ℕ) (uid : List ℕ) (target : Fpr) (o : Option (Vec Looked Global)) → IsLater old new
+    → IfSome o (λ (ls : Vec Looked Global). AllLed old t uid target ls.items) → IfSome o (λ (ls : Vec Looked Global). AllLed new t uid target ls.items)
+led_later further old new t uid target None later led = tt
+led_later further old new t uid target (Some ls) later led = record {
+  before = led.before;
+  later = further led.before old new led.later later;
+  stamps = led.stamps;
+  each = led.each;
+}
+
 -- what is right from a keyring on is right from each later one on
 right_later : LaterStill → (old new : Keyring) (a : KeptAnswer) → IsLater old new → IsRight old a → IsRight new a
-right_later further old new a later right = record { sum = right.sum; answer = λ last roots is. right.answer last roots (further old new last later is) }
+right_later further old new a later right = record {
+  sum = right.sum;
+  answer = λ last roots is. right.answer last roots (further old new last later is);
+  leads = led_later further old new a.time a.uid a.target a.looked later right.leads;
+}
 
 -- a change is counted, so that what was found good before it isn't taken as good after it
 good_later : (old new : Keyring) (roots : Amounts) (turn : ℕ) (a : KeptAnswer) → IsOneChange old new → IsGood old roots turn a → IsGood new roots turn a

@@ -6,7 +6,9 @@ use Rattle.std.specs.Map.{lookup, values_of}
 use Rattle.std.specs.Option.{option_map_or}
 use Rattle.wot_types.specs.declared.fpr.Fpr.{Fpr}
 use Rattle.wot_edge.specs.Answer.{IsAnswer, amount_of}
+use Rattle.wot_edge.specs.Leads.{Leads}
 use Rattle.wot_edge.specs.Path.{Question, asks}
+use Rattle.wot_edge.specs.Record.{Has, Record}
 use Rattle.wot_edge.specs.Roots.{root_amount}
 use Rattle.wot_keyring.specs.Keyring.{Keyring, certificates_in, stamp_at}
 use Rattle.wot_keyring.specs.Later.{IsLater}
@@ -43,6 +45,19 @@ Grounds = Option (Vec Looked Global)
 abbrev pub AllStill : Keyring → Amounts → Grounds → Type 0
 AllStill k roots grounds = IsSomeAnd grounds (λ (looked : Vec Looked Global). AreStill k roots looked.items)
 
+-- Each of these leads to the target.
+abbrev pub AllLead : Record → Fpr → List Fpr → Type 0
+AllLead told target set = (fpr : Fpr) → Has set fpr → Leads told target fpr
+
+-- Each of these led to the target when it was looked at: in the certification network of the keyring of that moment, of
+-- which this one is a later one, and in which it had the stamp that is noted.
+pub record AllLed (k : Keyring) (t : ℕ) (uid : List ℕ) (target : Fpr) (looked : List Looked) : Type 0 where
+  pub before : Keyring
+  pub later : IsLater before k
+  pub stamps : AllByRecursion (λ (l : Looked). stamp_at before l.fpr ≡ l.stamp) looked
+  pub each : AllByRecursion
+      (λ (l : Looked). Leads (record_of (certificates_in before) before.verdicts t uid) target l.fpr) looked
+
 -- ---- one answer
 
 -- This is its question.
@@ -60,12 +75,17 @@ question_at k roots a = asks (record_of (certificates_in k) k.verdicts a.time a.
 abbrev pub Answers : Keyring → Amounts → KeptAnswer → Type 0
 Answers k roots a = IsAnswer (question_at k roots a) a.wanted a.answer.paths
 
+-- The few fingerprints that it rests on are no more than its search had to look at: each led to the target.
+abbrev pub RestsOnLeads : Keyring → KeptAnswer → Type 0
+RestsOnLeads k a = IfSome a.looked (λ (looked : Vec Looked Global). AllLed k a.time a.uid a.target looked.items)
+
 -- It is the answer in this keyring and in every later one, from whatever roots, where the few that it rests on are
--- found as they were.
+-- found as they were, and these led to the target.
 pub record IsRight (k : Keyring) (a : KeptAnswer) : Type 0 where
   pub sum : a.answer.sum ≡ amount_of a.answer.paths
   pub answer : (later : Keyring) (roots : Amounts) → IsLater k later → AllStill later roots a.looked
       → Answers later roots a
+  pub leads : RestsOnLeads k a
 
 -- Where it was last found good at the count of changes and by the roots that there are now, it is the answer now.
 pub record IsGood (k : Keyring) (roots : Amounts) (turn : ℕ) (a : KeptAnswer) : Type 0 where

@@ -21,6 +21,7 @@ mod turns;
 mod view;
 mod views;
 
+pub use answers::{KeptAnswer, Looked};
 pub use basis::Basis;
 pub use engine::Engine;
 pub use parts::Parts;

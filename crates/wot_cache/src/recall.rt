@@ -4,9 +4,10 @@ ghost use Rattle.std.specs.Prelude.{◌≡◌, IfOk};
 ghost use Rattle.std.specs.Map.{remove_entry};
 ghost use Rattle.wot_edge.specs.Answer.{IsAnswer, amount_of};
 ghost use Rattle.wot_keyring.specs.Keyring.{Keyring as Held};
-ghost use Rattle.wot_cache.specs.Answers.{AreAllRight, AreRightIn, IsFound, IsRight, KeepsFor};
+ghost use Rattle.wot_network.specs.Net.{told_of};
+ghost use Rattle.wot_cache.specs.Answers.{AllLead, AreAllRight, AreRightIn, IsFound, IsRight, KeepsFor};
 ghost use Rattle.wot_cache.specs.Marks.{IsForgotten};
-ghost use Rattle.wot_cache.specs.Question.{asked_of, IsAnswerAround};
+ghost use Rattle.wot_cache.specs.Question.{asked_of, present_in, IsAnswerAround};
 ghost use Rattle.wot_cache.specs.Views.{is_name};
 
 use crate::answers::{Answers, KeptAnswer, look_at};
@@ -15,6 +16,7 @@ use crate::parts::Parts;
 use std::alloc::Global;
 use std::collections::BTreeMap;
 use wot_auth::Answer;
+use wot_keyring::laws::later_is_order;
 use wot_network::laws::records_agree;
 use wot_search::Consulted;
 use wot_types::{Fpr, Memory, UserId, ViewName};
@@ -34,10 +36,12 @@ fn with_grounds(
     requires sum { answer.now.sum ≡ amount_of answer.now.paths }
     requires answer { IsAnswer (asked_of parts.now target.now uid.now) wanted answer.now.paths }
     requires local { IsAnswerAround (asked_of parts.now target.now uid.now) wanted answer.now.paths consulted.now }
+    requires leads { AllLead (told_of (present_in parts.now) uid.now) target.now consulted.now }
     ensures right { IfOk result (λ kept. IsRight parts.now.keyring.now kept) }
     ensures found { IfOk result (λ kept. IsFound parts.now.keyring.now parts.now.roots.now kept) }
 {
     records_agree();
+    later_is_order();
     // That stamps are counts of changes.
     let _count = parts.keyring.len();
     let looked = look_at(alloc, consulted, parts.keyring, parts.roots)?;
@@ -101,6 +105,7 @@ pub fn remember(
     requires sum { answer.now.sum ≡ amount_of answer.now.paths }
     requires answer { IsAnswer (asked_of parts.now target.now uid.now) wanted answer.now.paths }
     requires local { IsAnswerAround (asked_of parts.now target.now uid.now) wanted answer.now.paths consulted.now }
+    requires leads { AllLead (told_of (present_in parts.now) uid.now) target.now consulted.now }
     requires right { AreRightIn parts.now.keyring.now of_view.old }
     requires settled { of_view.old.roots ≡ parts.now.roots.now }
     ensures right { AreRightIn parts.now.keyring.now of_view.new }

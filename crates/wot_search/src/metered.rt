@@ -2,7 +2,7 @@
 //!
 //! Searches are generic over `Notes`; a caller reads from `left` why one ended. `wot_auth` bounds the cost of a
 //! question by it.
-ghost use Rattle.std.specs.Prelude.{◌≡◌, ◌⊎◌, Some, OnOk};
+ghost use Rattle.std.specs.Prelude.{◌≡◌, ◌⊎◌, [], Some, OnOk};
 ghost use Rattle.wot_types.specs.declared.fpr.Fpr.{Fpr as Print};
 ghost use Rattle.wot_edge.specs.Record.{Has};
 ghost use Rattle.wot_search.specs.Looked.{Widens};
@@ -33,6 +33,7 @@ pub struct Metered {
 impl Metered {
     /// No look yet.
     pub fn new(alloc: Global, left: u64) -> Metered
+        ensures none { result.consulted ≡ [] }
         ensures left { result.left ≡ Some left }
     {
         Metered {

@@ -2,7 +2,9 @@ use Rattle.std.proofs.Common.{◌≡◌, ℕ, List, Some, refl, sym, subst}
 use Rattle.wot_edge.specs.Answer.{IsAnswer, amount_of}
 use Rattle.wot_auth.specs.declared.answer.Answer.{Answer}
 use Rattle.wot_cache.specs.declared.answers.KeptAnswer.{KeptAnswer}
-use Rattle.wot_cache.specs.Question.{IsAnswerAround, asked_of}
+use Rattle.wot_network.specs.Net.{told_of}
+use Rattle.wot_cache.specs.Answers.{AllLead}
+use Rattle.wot_cache.specs.Question.{IsAnswerAround, asked_of, present_in}
 use Rattle.wot_cache.proofs.Grounds.{found_made, right_made}
 use Rattle.wot_cache.proofs.recall.with_grounds.Goals as goal
 
@@ -27,6 +29,7 @@ returns c =
     (subst (λ (u : List ℕ). IsAnswer (asked_of p c.args.target.now u) c.args.wanted c.args.answer.now.paths) (sym c.in_ok-uid.ensures.copied) c.requires.answer) in
     let sum = subst (λ (a : Answer). a.sum ≡ amount_of a.paths) (sym c.in_ok-answer.ensures.same) c.requires.sum in
     record {
-      right = right_made c.records_agree.ensures.local p.keyring.now p.roots.now kept set c.len-count.ensures.stamped c.in_ok-looked.looked refl c.in_ok-looked.ensures.looked sum around;
+      right = right_made c.records_agree.ensures.local p.keyring.now p.roots.now kept set c.len-count.ensures.stamped c.in_ok-looked.looked refl c.in_ok-looked.ensures.looked sum around
+          (c.later_is_order.ensures.itself p.keyring.now) (subst (λ (u : List ℕ). AllLead (told_of (present_in p) u) c.args.target.now set) (sym c.in_ok-uid.ensures.copied) c.requires.leads);
       found = found_made p.keyring.now p.roots.now kept c.changes.ensures.changes here;
     }

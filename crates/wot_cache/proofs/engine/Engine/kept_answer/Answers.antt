@@ -1,0 +1,16 @@
+use Rattle.std.specs.Prelude.{IfSome}
+use Rattle.std.proofs.Common.{sym, subst}
+use Rattle.wot_cache.specs.Answers.{RestsOnLeads}
+use Rattle.wot_cache.specs.State.{Engine}
+use Rattle.wot_cache.proofs.Asking.{if_some}
+use Rattle.wot_cache.proofs.Inside.{right_found}
+use Rattle.wot_cache.proofs.engine.Engine.kept_answer.Goals as goal
+
+pub returns-in-Some : goal.returns-in-Some
+returns-in-Some c =
+    let k = c.self.inside.networked.keyring in
+    let right = c.kept.ensures.right k (right_found k c.self.inside.answers.entries c.args.view.now c.in-Some.of_view.now c.self.invariant.right (sym c.in-Some.ensures.value)) in
+    record {
+      leads = subst (λ (e : Engine). IfSome c.kept.result (λ kept. RestsOnLeads e.keyring kept.now)) c.self.view_is
+          (if_some c.kept.result _ _ (λ kept is. is.leads) right);
+    }
