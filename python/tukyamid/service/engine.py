@@ -122,6 +122,9 @@ class Engine:
             except OSError as error:
                 status = f"{self._program[0]}: {error.strerror or error}"
                 self._fail(OSError(status))
+            except Exception as error:  # The database can't be read, say: it is tried again as where a program ends.
+                status = f"none, for {error!r}"
+                self._fail(error)
             if self._closing.is_set():
                 return
             if self._is_rolled_back:

@@ -149,8 +149,9 @@ class Hub:
             self._committer.advance()
 
     def _exported(self, change: Change, fpr: bytes, reply: bytes | None, _: int) -> None:
-        is_there = reply is not None and reply.startswith(b"export ")
-        change.puts[fpr] = PutCertificate(fpr, bytes.fromhex(reply[7:-1].decode())) if reply and is_there else None
+        if change.count is not None:
+            return  # It was refused meanwhile.
+        change.puts[fpr] = _exported_as(fpr, reply or b"")
         if change.is_settled:
             self._committer.advance()
 
@@ -174,14 +175,22 @@ class Hub:
             self._journal.offer(point, snapshot)
             self._settle()
 
-    def _roll_back(self, failed: list[Change]) -> None:
+    def _roll_back(self, failed: list[Change], why: str) -> None:
         """These changes couldn't be committed: all engines go back to where they stood before them."""
         assert self._journal is not None
-        self.tell(f"{len(failed)} changes were refused, since they can't be kept: {self.fault}")
+        self.tell(f"{len(failed)} changes were refused, since they can't be kept: {why}")
         for change in failed:
             self._journal.forget(change)
         for engine in self.engines:
             engine.roll_back(failed[-1])
+
+
+def _exported_as(fpr: bytes, reply: bytes) -> PutCertificate | None:
+    """The certificate that an engine exports; None where it has none."""
+    try:
+        return PutCertificate(fpr, bytes.fromhex(reply[7:-1].decode())) if reply.startswith(b"export ") else None
+    except ValueError:
+        return None
 
 
 def _brought(line: bytes) -> tuple[bytes, ...]:

@@ -13,8 +13,9 @@ from .database import Actor, PutCertificate
 if TYPE_CHECKING:
     from .engine import Engine
 
-MOST_OCTETS = 4 << 20
-MOST_CHANGES = 20_000
+# A snapshot is cheap to open, and what it stands for needn't be held in memory.
+MOST_OCTETS = 1 << 20
+MOST_CHANGES = 2_000
 
 # A reply, or None where the line was given up; and the number of the last change before it.
 Done = Callable[["bytes | None", int], None]
@@ -41,11 +42,19 @@ class Change(Point):
         self.line: bytes | None = line
         self.left = left
         self.reply: bytes | None = None
-        self.done = done
+        self.done: Done | None = done
         self.actor = actor
         self.fprs = fprs
         self.puts: dict[bytes, PutCertificate | None] = {}
         self.is_over = False
+
+    def finish(self, reply: bytes | None, count: int) -> None:
+        """Hands on its reply; `count` is the number of the last change of the database by now. The journal keeps the
+        line for long, and so nothing else is left of it: what waits for a reply holds a whole client."""
+        done, self.done, self.count = self.done, None, count
+        self.puts.clear()
+        if done is not None:
+            done(reply, count)
 
     @property
     def is_settled(self) -> bool:

@@ -1,10 +1,12 @@
 """Several engines behind one service: all hold the same, whatever ends them."""
 
 import asyncio
+import gc
 import os
 import random
 import tempfile
 import unittest
+import weakref
 from contextlib import closing
 from pathlib import Path
 
@@ -75,6 +77,27 @@ class SameState(unittest.TestCase):
         lines = self.changes(11, 150)
         replies, dumps, _ = self.change_all(lines)
         self.check(lines, replies, dumps)
+
+    def test_an_answered_change_holds_no_client(self):
+        """The journal keeps changes for long after they were answered, and their clients are gone by then."""
+        heard = []
+
+        class Hearing:
+            def hear(self, reply, count):
+                heard.append(reply)
+
+        def disturb(hub, place):
+            hearing = Hearing()
+            held.append(weakref.ref(hearing))
+            hub.change(b"verdict %064x bad" % place, Actor(0, 0), hearing.hear)
+
+        held = []
+        lines = self.changes(13, 40)
+        _, _, hub = self.change_all(lines, disturb)
+        self.assertEqual(heard, [b"ok\n"] * len(lines))
+        self.assertGreater(len(hub._journal._changes), len(lines))
+        gc.collect()
+        self.assertEqual([one() for one in held if one() is not None], [])
 
     def test_and_so_where_they_are_killed_and_the_journal_is_renewed(self):
         draw, killed = random.Random(12), set()
