@@ -27,7 +27,7 @@ class Hub:
     def __init__(self, program: Sequence[str], most_engines: int, database: Database,
                  order: BinaryIO | None = None) -> None:
         self.engines: list[Engine] = []
-        self.seats = Seats(self._least_busy, self.engines)
+        self.seats = Seats(self._least_busy, self._another, self.engines)
         self.database = database
         self._program = program
         self._most_engines = most_engines
@@ -128,6 +128,10 @@ class Hub:
         if len(ready) == len(self.engines) < self._most_engines and engine.lag() > _BUSY_SECONDS:
             self._start_engine()
         return engine
+
+    def _another(self) -> Engine | None:
+        """Starts another engine; None where there are as many as there may be."""
+        return self._start_engine() if len(self.engines) < self._most_engines else None
 
     def _start_engine(self) -> Engine:
         assert self._journal is not None

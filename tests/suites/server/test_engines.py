@@ -167,6 +167,27 @@ class ManyViews(unittest.TestCase):
 
 
 @needs_engine
+class ManyCursors(unittest.TestCase):
+    def test_another_engine_is_started_for_them(self):
+        """An engine has sixteen cursors, and so has a client: two clients fill two engines, though nobody is busy."""
+        with Server("--engines", "2") as server, Client(server.path) as one, Client(server.path) as two, \
+                Client(server.path) as three:
+            over = [b"cursor c%d over p 120" % place for place in range(16)]
+            for client in (one, two, three):
+                self.assertEqual(client.tell(b"view p time 5000"), b"ok")
+            for client in (one, two):
+                self.assertEqual([client.tell(line) for line in over], [b"ok"] * 16)
+                self.assertEqual(client.tell(b"cursor more over p 120"), b"refused full cursors")
+                self.assertEqual(client.tell(over[3]), b"ok")
+            self.assertEqual(len(server.engines()), 2)
+            self.assertEqual(three.tell(over[0]), b"refused full cursors")
+            self.assertEqual(two.tell(b"cursor c7 close"), b"ok")
+            self.assertEqual(three.tell(over[0]), b"ok")
+            one.end()
+            self.assertEqual([three.tell(line) for line in over[1:]], [b"ok"] * 15)
+
+
+@needs_engine
 class LinesThatEndAnEngine(unittest.TestCase):
     """A line at which each program ends is given up, and its sender dropped; nothing else is changed by it."""
 
