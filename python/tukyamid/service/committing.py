@@ -19,8 +19,10 @@ _PROBE_SECONDS = 1.0
 
 @dataclass
 class Barrier:
-    """Asks for a snapshot behind the changes that were handed in before it. `done` gets None where there is none."""
+    """Asks for a snapshot behind the changes that were handed in before it, in the place of the one that `before` gives
+    then. `done` gets None where there is none."""
     done: Callable[[Snapshot | None], None]
+    before: Callable[[], Snapshot | None] = lambda: None
 
 
 class Committer:
@@ -153,7 +155,7 @@ class Committer:
     async def _open_snapshot(self, barrier: Barrier) -> None:
         loop = asyncio.get_running_loop()
         try:
-            snapshot = await loop.run_in_executor(self._executor, self._database.snapshot)
+            snapshot = await loop.run_in_executor(self._executor, self._database.snapshot, barrier.before())
         except Exception as error:
             self.fault = str(error) or repr(error)
             snapshot = None

@@ -17,6 +17,7 @@ from .reading import fingerprints
 from .seats import Seats
 
 _BUSY_SECONDS = 0.05
+_RENEWING_SECONDS = 1.0
 _R = TypeVar("_R")
 
 
@@ -165,8 +166,13 @@ class Hub:
             engine.release()
         self._settle()
         if self._journal.is_long() and not self._is_renewing:
-            self._is_renewing = True
-            self._committer.add(Barrier(partial(self._renewed, self._journal.last)))
+            self._renew()
+
+    def _renew(self) -> None:
+        """Has a newer snapshot made behind the changes so far. By then all engines have answered these."""
+        assert self._journal is not None
+        self._is_renewing = True
+        self._committer.add(Barrier(partial(self._renewed, self._journal.last), self._journal.lend))
 
     def _settle(self) -> None:
         assert self._journal is not None
@@ -178,6 +184,9 @@ class Hub:
         if snapshot is not None:
             self._journal.offer(point, snapshot)
             self._settle()
+        elif not self._journal.is_there:  # It was lent, and engines may wait for it.
+            self._is_renewing = True
+            asyncio.get_running_loop().call_later(_RENEWING_SECONDS, self._renew)
 
     def _roll_back(self, failed: list[Change], why: str) -> None:
         """These changes couldn't be committed: all engines go back to where they stood before them."""

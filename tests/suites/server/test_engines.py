@@ -99,6 +99,29 @@ class SameState(unittest.TestCase):
         gc.collect()
         self.assertEqual([one() for one in held if one() is not None], [])
 
+    def test_the_log_of_the_database_begins_anew(self):
+        """However many changes there were, the write-ahead log has no more of them than the journal."""
+        sizes = []
+
+        async def run(database):
+            hub = Hub([PROGRAM, "run"], 1, database)
+            await hub.start()
+            for number in range(600):
+                answered = asyncio.get_running_loop().create_future()
+                hub.change(b"verdict %064x bad" % number, Actor(0, 0), lambda reply, _: answered.set_result(reply))
+                self.assertEqual(await answered, b"ok\n")
+                sizes.append(Path(f"{database.path}-wal").stat().st_size)
+            await hub.close()
+
+        before, journal.MOST_CHANGES = journal.MOST_CHANGES, 20
+        try:
+            with tempfile.TemporaryDirectory(prefix="tukyamid-") as folder:
+                with closing(Sqlite(Path(folder) / "keyring.db")) as database:
+                    asyncio.run(run(database))
+        finally:
+            journal.MOST_CHANGES = before
+        self.assertLess(max(sizes), 2 * max(sizes[:100]))
+
     def test_and_so_where_they_are_killed_and_the_journal_is_renewed(self):
         draw, killed = random.Random(12), set()
 
