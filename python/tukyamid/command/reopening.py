@@ -7,12 +7,13 @@ import time
 from collections.abc import Callable
 from typing import TYPE_CHECKING
 
-from ..client import Client, connect
+from ..client import Client
 from ..keyring import Keyring
 from ..refusals import ServiceMissing, TukyamidError
 from ..served import served_keyring
 from .held import find_record, held_file, keep_record
 from .parser import Given
+from .served import answering
 from .sources import Source, Stamp
 
 if TYPE_CHECKING:
@@ -99,7 +100,7 @@ class Reopening:
 
     def _connect(self) -> Client | None:
         try:
-            return connect(self._socket())
+            return answering(self._socket())
         except ServiceMissing:
             return None
 
@@ -109,7 +110,7 @@ class Reopening:
         if entry is None:
             return None
         from .holding import is_ready, start
-        return connect(start(str(entry.folder), self._socket())) if is_ready(str(entry.folder)) else None
+        return answering(start(str(entry.folder), self._socket())) if is_ready(str(entry.folder)) else None
 
     def _entry(self) -> Entry | None:
         """What was kept of the inputs. TukyamidError if the folder isn't safe."""
