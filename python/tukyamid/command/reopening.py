@@ -44,6 +44,26 @@ class Reopening:
             begin(str(entry.folder), self._socket())
         return keyring
 
+    def ensure(self, verify: Callable[[], Keyring]) -> Callable[[], str]:
+        """What starts their service unless it runs, and returns its socket. `verify` verifies and keeps them, if that
+        wasn't done before."""
+        served = self.served()
+        if served is not None:
+            served.close()
+        else:
+            verify().close()
+        entry = self._entry()
+        if entry is None:
+            from ..verifier import VerifierFailed
+            raise VerifierFailed("what was verified of the inputs couldn't be kept, and the page needs that")
+        from .holding import main
+        folder, socket = str(entry.folder), self._socket()
+
+        def start() -> str:
+            main([folder, socket])
+            return socket
+        return start
+
     def _stamp(self) -> Stamp | None:
         """The stamp of all inputs, and of how the verifier is found; None if one has none."""
         parts, newest = [], 0
