@@ -55,6 +55,18 @@ class Engine:
     def pid(self) -> int | None:
         return None if self._running is None else self._running.pid
 
+    @property
+    def is_busy(self) -> bool:
+        """Whether a line waits for its reply, or a reply for a commit."""
+        return bool(self.waiting or self._held)
+
+    def watch_of(self, name: bytes) -> Watch | None:
+        return self._standing.watches.get(name)
+
+    def cursor_of(self, name: bytes) -> tuple[bytes, int] | None:
+        """The line that began a cursor, and how many bindings were taken from it."""
+        return self._standing.cursors.get(name)
+
     def lag(self) -> float:
         """How long the first waiting line has waited, in seconds."""
         return self._now() - self.waiting[0].since if self.waiting else 0.0
