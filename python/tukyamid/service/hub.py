@@ -15,6 +15,7 @@ from .reading import brought
 from .seats import Seats
 
 _BUSY_SECONDS = 0.05
+_RENEWING_SECONDS = 1.0
 
 
 class Hub:
@@ -24,7 +25,7 @@ class Hub:
     def __init__(self, program: Sequence[str], most_engines: int, database: Database,
                  access: Access | None = None) -> None:
         self.engines: list[Engine] = []
-        self.seats = Seats(self._least_busy, self.engines)
+        self.seats = Seats(self._least_busy, self._another, self.engines)
         self.access = access or Access(database)
         self._owns_access = access is None
         self._program = program
@@ -112,6 +113,10 @@ class Hub:
             self._start_engine()
         return engine
 
+    def _another(self) -> Engine | None:
+        """Starts another engine; None where there are as many as there may be."""
+        return self._start_engine() if len(self.engines) < self._most_engines else None
+
     def _start_engine(self) -> Engine:
         assert self._journal is not None
         engine = Engine(self._program, self._journal, self, self._journal.last)
@@ -132,8 +137,9 @@ class Hub:
             self._committer.advance()
 
     def _exported(self, change: Change, fpr: bytes, reply: bytes | None, _: int) -> None:
-        is_there = reply is not None and reply.startswith(b"export ")
-        change.puts[fpr] = PutCertificate(fpr, bytes.fromhex(reply[7:-1].decode())) if reply and is_there else None
+        if change.count is not None:
+            return  # It was refused meanwhile.
+        change.puts[fpr] = _exported_as(fpr, reply or b"")
         if change.is_settled:
             self._committer.advance()
 
@@ -143,8 +149,13 @@ class Hub:
             engine.release()
         self._settle()
         if self._journal.is_long() and not self._is_renewing:
-            self._is_renewing = True
-            self._committer.add(Barrier(partial(self._renewed, self._journal.last)))
+            self._renew()
+
+    def _renew(self) -> None:
+        """Has a newer snapshot made behind the changes so far. By then all engines have answered these."""
+        assert self._journal is not None
+        self._is_renewing = True
+        self._committer.add(Barrier(partial(self._renewed, self._journal.last), self._journal.lend))
 
     def _settle(self) -> None:
         assert self._journal is not None
@@ -156,12 +167,23 @@ class Hub:
         if snapshot is not None:
             self._journal.offer(point, snapshot)
             self._settle()
+        elif not self._journal.is_there:  # It was lent, and engines may wait for it.
+            self._is_renewing = True
+            asyncio.get_running_loop().call_later(_RENEWING_SECONDS, self._renew)
 
-    def _roll_back(self, failed: list[Change]) -> None:
+    def _roll_back(self, failed: list[Change], why: str) -> None:
         """These changes couldn't be committed: all engines go back to where they stood before them."""
         assert self._journal is not None
-        self.tell(f"{len(failed)} changes were refused, since they can't be kept: {self.fault}")
+        self.tell(f"{len(failed)} changes were refused, since they can't be kept: {why}")
         for change in failed:
             self._journal.forget(change)
         for engine in self.engines:
             engine.roll_back(failed[-1])
+
+
+def _exported_as(fpr: bytes, reply: bytes) -> PutCertificate | None:
+    """The certificate that an engine exports; None where it has none."""
+    try:
+        return PutCertificate(fpr, bytes.fromhex(reply[7:-1].decode())) if reply.startswith(b"export ") else None
+    except ValueError:
+        return None

@@ -12,6 +12,7 @@ from typing import Protocol, cast
 from tukyamid.engine import has_reply
 
 from .committing import FAULT
+from .cursors import Cursors
 from .database import Actor, Snapshot
 from .framing import LineCutter
 from .long_replies import dump_of
@@ -19,9 +20,8 @@ from .desk import Desk
 from .outbox import Outbox, Pieces, Slot
 from .peers import NOBODY, actor_of
 from .sliced import Sliced
-from .sliced_cursors import SlicedCursors
-from .sliced_watches import SlicedWatches
 from .views import Views, is_name
+from .watches import Watches
 
 # A command is added here. One that the service doesn't know is refused, as by an engine that doesn't: so none is passed
 # on that changes an engine, or names what is another client's, behind the service's back.
@@ -79,7 +79,7 @@ class Session(asyncio.Protocol):
         self._transport = cast(asyncio.Transport, transport)  # uvloop's is one by what it does, not by its class.
         self._transport.set_write_buffer_limits(high=_UNREAD_OCTETS)
         self.actor = actor_of(transport.get_extra_info("socket").fileno())
-        self.outbox = Outbox(self._transport, self._begin_lines)
+        self.outbox = Outbox(self._transport, self._begin_lines, self._give_up)
         self.watches = self.hub.watches(self.number, self.outbox, self._views)
         self.cursors = self.hub.cursors(self._views)
         self.hub.sitting.add(self)
@@ -114,10 +114,8 @@ class Session(asyncio.Protocol):
 
     def turn(self, sliced: Sliced) -> None:
         """The keyring is sliced from now on."""
-        if not isinstance(self.watches, SlicedWatches):
-            self.watches = self.watches.turned(sliced)
-        if not isinstance(self.cursors, SlicedCursors):
-            self.cursors = self.cursors.turned(sliced)
+        assert isinstance(self.watches, Watches) and isinstance(self.cursors, Cursors)
+        self.watches, self.cursors = self.watches.turned(sliced), self.cursors.turned(sliced)
 
     def resume(self) -> None:
         self._begin_lines()
@@ -197,11 +195,14 @@ class Session(asyncio.Protocol):
             self.outbox.answer(slot, REFUSED_LINE)
 
     def _answered(self, slot: Slot, reply: bytes | Pieces | None, count: int) -> None:
-        if reply is None:
-            self.hub.tell(f"client {self.number} is dropped: its line ended the engine several times")
-        elif slot.finish is not None and isinstance(reply, bytes):
-            reply = slot.finish(reply, count)
-        self.outbox.answer(slot, reply)
+        try:
+            if reply is None:
+                self.hub.tell(f"client {self.number} is dropped: its line ended the engine several times")
+            elif slot.finish is not None and isinstance(reply, bytes):
+                reply = slot.finish(reply, count)
+            self.outbox.answer(slot, reply)
+        except Exception as error:  # What calls this has others to answer.
+            self._give_up(error)
 
     def _ask_view(self, slot: Slot, line: bytes) -> None:
         word, space, rest = line.partition(b" ")
@@ -227,12 +228,15 @@ class Session(asyncio.Protocol):
         self.hub.snapshot(lambda snapshot: self._dumped(slot, snapshot, views))
 
     def _dumped(self, slot: Slot, snapshot: Snapshot | None, views: list[bytes]) -> None:
-        if snapshot is None:
-            self.outbox.answer(slot, FAULT)
-        elif self._transport.is_closing():
-            snapshot.close()
-        else:
-            self.outbox.answer(slot, dump_of(snapshot, views))
+        try:
+            if snapshot is None:
+                self.outbox.answer(slot, FAULT)
+            elif self._transport.is_closing():
+                snapshot.close()
+            else:
+                self.outbox.answer(slot, dump_of(snapshot, views))
+        except Exception as error:
+            self._give_up(error)
 
     async def _help(self, slot: Slot, line: bytes) -> None:
         try:

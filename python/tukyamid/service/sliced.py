@@ -46,8 +46,9 @@ class Sliced:
         self._asker = Asker(Loader(program, budget), self.read)
         self._merging = Merging(program, budget)
         self._errands = Errands(program, budget, database, self.answer)
-        self._committer = Committer(access.database, access.writing, self._settle, lambda failed: self._settle())
-        self._over: asyncio.Future[None] | None = None
+        self._committer = Committer(access.database, access.writing, self._settle, self._refused)
+        self._making: list[Change] = []
+        self._over = asyncio.Event()
         self._lane = Lane(self._make)
 
     @property
@@ -194,21 +195,26 @@ class Sliced:
         except DatabaseFault as fault:
             self.access.tell(str(fault))
             for change in changes:
-                change.done(FAULT, self.count)
+                change.finish(FAULT, self.count)
             return
-        self._over = asyncio.get_running_loop().create_future()
+        self._making = changes
+        self._over.clear()
         for change in changes:
             change.is_over = change.reply is None or not change.reply.startswith(b"ok")
             self._committer.add(change)
         made, before = [change for change in changes if change.is_made], self.count
         self._committer.advance()
-        await self._over
+        await self._over.wait()
         if self.count != before:
             await self._follow(made)
 
     def _settle(self) -> None:
-        if self._over is not None and not self._over.done():
-            self._over.set_result(None)
+        if all(change.count is not None for change in self._making):
+            self._over.set()
+
+    def _refused(self, failed: list[Change], why: str) -> None:
+        self.access.tell(f"{len(failed)} changes were refused, since they can't be kept: {why}")
+        self._settle()
 
     async def _follow(self, made: list[Change]) -> None:
         """Behind a commit: what has changed is loaded anew when it is needed, and watches that rest on it are told."""
