@@ -13,7 +13,7 @@ from tukyamid.spelling import write_user_id
 from .loading import BudgetPassed, Loader
 from .merging import REFUSED_BUDGET
 from .parts import Part, Parts
-from .resting import Rest, rest_of, slice_of
+from .resting import Rest, rest_of, roots_of, slice_of, target_of
 from .slices import Slices
 from .views import Value
 
@@ -41,13 +41,25 @@ class Asker:
 
     async def ask(self, word: bytes, value: Value, rest: bytes) -> bytes:
         """The reply to a line that asks about one certificate; `rest` is what stands behind its view."""
+        if word == b"ask" and self._has_at_hand(value, rest):
+            return await self._say(word, value, rest)
         try:
             needed, ready = await self._read(partial(self._gather, word, value, rest))
             await self.loader.load(needed.base, needed.beside, partial(self._fetch, ready))
         except BudgetPassed:
             reply = await self.say(b"%s -%s" % (word, rest))
             return reply if reply == _REFUSED_LINE else REFUSED_BUDGET
+        return await self._say(word, value, rest)
+
+    async def _say(self, word: bytes, value: Value, rest: bytes) -> bytes:
         return (await self.loader.ask(value, lambda name: [b"%s %s%s" % (word, name, rest)]))[0]
+
+    def _has_at_hand(self, value: Value, rest: bytes) -> bool:
+        """Whether all that the reply to a line `ask` rests on is loaded. What was looked up before tells that, with no
+        look into the database."""
+        target, found = target_of(rest[1:]), self.slices.kept(roots_of(value))
+        return (target is not None and found is not None and found.is_whole
+                and self.loader.has_at_hand(found.members, target))
 
     def _gather(self, word: bytes, value: Value, rest: bytes, parts: Parts) -> tuple[Rest, list[Part]]:
         """What the reply rests on, and what isn't loaded of it beside the slice, if that isn't much."""

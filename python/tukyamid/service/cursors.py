@@ -100,7 +100,7 @@ class Cursors:
         """The client's cursors, over a keyring that is sliced from now on."""
         turned = SlicedCursors(sliced, self._views)
         for name, cursor in self._cursors.items():
-            begun = cursor.seat.engine.cursor_of(cursor.name)
+            begun = cursor.seat.engine.standing.cursors.get(cursor.name)
             if begun is not None and cursor.seat.value is not None:
                 line, taken = begun
                 turned.take(name, SlicedCursor(cursor.view, cursor.turn, cursor.seat.value, int(line.split(b" ")[4])),

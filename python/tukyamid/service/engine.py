@@ -61,12 +61,9 @@ class Engine:
         """Whether a line waits for its reply, or a reply for a commit."""
         return bool(self.waiting or self._held)
 
-    def watch_of(self, name: bytes) -> Watch | None:
-        return self._standing.watches.get(name)
-
-    def cursor_of(self, name: bytes) -> tuple[bytes, int] | None:
-        """The line that began a cursor, and how many bindings were taken from it."""
-        return self._standing.cursors.get(name)
+    @property
+    def standing(self) -> Standing:
+        return self._standing
 
     def lag(self) -> float:
         """How long the first waiting line has waited, in seconds."""

@@ -45,6 +45,13 @@ class Loader:
     def holds(self, fpr: bytes) -> bool:
         return fpr in self._loaded
 
+    def has_at_hand(self, base: Collection[bytes], fpr: bytes) -> bool:
+        """Whether the engine holds all that is kept of `base`, and this certificate."""
+        if base is not self._base or fpr not in self._loaded:
+            return False
+        self._loaded.move_to_end(fpr)
+        return True
+
     async def load(self, base: Collection[bytes], beside: Collection[bytes], fetch: Fetch) -> None:
         """Has the engine hold these certificates, as far as they are kept. `base` is the same object again and again
         as long as it has the same members. BudgetPassed if they aren't all held at once."""

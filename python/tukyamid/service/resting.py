@@ -36,13 +36,18 @@ def slice_of(value: Value, slices: Slices, parts: Parts) -> Collection[bytes]:
     return found.members
 
 
+def target_of(rest: bytes) -> bytes | None:
+    """The certificate that a line asks about, `rest` of which stands behind its view; None if it is malformed."""
+    match = _TARGET.fullmatch(rest)
+    return bytes.fromhex(match[1].decode()) if match else None
+
+
 def rest_of(word: bytes, value: Value, rest: bytes, slices: Slices, parts: Parts, most: int) -> Rest:
     """What a line `ask`, `explain`, `absence` or `check` rests on, `rest` of which stands behind its view; nothing if
     it is malformed. BudgetPassed if that is more than `most`."""
-    match = _TARGET.fullmatch(rest)
-    if match is None:
+    target = target_of(rest)
+    if target is None:
         return Rest(_NOTHING, _NOTHING)
-    target = bytes.fromhex(match[1].decode())
     if word == b"explain":
         return Rest(_NOTHING, frozenset(parts.issuers(target, most) | {target}))
     if word == b"check":

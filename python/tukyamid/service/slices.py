@@ -33,6 +33,10 @@ class Slices:
         self._kept: OrderedDict[Roots, Slice] = OrderedDict()
         self._introducers: dict[bytes, frozenset[bytes]] = {}
 
+    def kept(self, roots: Roots) -> Slice | None:
+        """The slice of these roots, if it was asked for before."""
+        return self._kept.get(roots)
+
     def of(self, roots: Roots, parts: Parts) -> Slice:
         found = self._kept.get(roots)
         if found is None:

@@ -25,6 +25,7 @@ class Standing:
     def __init__(self) -> None:
         self.watches: dict[bytes, Watch] = {}
         self._views = Views()
+        # The line that began a cursor, and how many bindings were taken from it.
         self.cursors: dict[bytes, tuple[bytes, int]] = {}
 
     def take(self, line: bytes, reply: bytes) -> None:

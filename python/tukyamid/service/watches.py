@@ -127,7 +127,7 @@ class Watches:
         turned, names = SlicedWatches(sliced, self._outbox, self._views), {
             seat.name: name for name, seat in self.seats.items()}
         for watch, watching in self._watches.items():
-            known = watching.engine.watch_of(watching.name)
+            known = watching.engine.standing.watches.get(watching.name)
             if known is None:
                 continue
             _, _, _, seat, question = known.line.split(b" ", 4)
