@@ -13,7 +13,7 @@ from tukyamid.engine import LONGEST_LINE
 from tukyamid.spelling import write_user_id
 
 from .database import Actor, DatabaseFault, Snapshot, Source
-from .hub import Hub
+from .desk import Desk
 from .sources import Contents, Stamp, Unreadable, read, stamp_of
 
 _AHEAD = 64
@@ -47,7 +47,7 @@ class Progress:
 class Keyrings:
     """Reads one keyring at a time. `verifier` are the words that start the verifier."""
 
-    def __init__(self, hub: Hub, verifier: Callable[[], Sequence[str]]) -> None:
+    def __init__(self, hub: Desk, verifier: Callable[[], Sequence[str]]) -> None:
         self._hub = hub
         self._verifier = verifier
         self._lock = asyncio.Lock()
