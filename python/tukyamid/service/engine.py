@@ -16,6 +16,7 @@ from .standing import Hear, Standing, Watch
 
 _TRIES = 3
 _LONGEST_PAUSE = 5.0
+_SHORT_PAUSE = 0.01
 _LONGEST_WAIT = 10.0
 
 
@@ -54,6 +55,15 @@ class Engine:
     @property
     def pid(self) -> int | None:
         return None if self._running is None else self._running.pid
+
+    @property
+    def is_busy(self) -> bool:
+        """Whether a line waits for its reply, or a reply for a commit."""
+        return bool(self.waiting or self._held)
+
+    @property
+    def standing(self) -> Standing:
+        return self._standing
 
     def lag(self) -> float:
         """How long the first waiting line has waited, in seconds."""
@@ -122,6 +132,9 @@ class Engine:
             except OSError as error:
                 status = f"{self._program[0]}: {error.strerror or error}"
                 self._fail(OSError(status))
+            except Exception as error:  # The database can't be read, say: it is tried again as where a program ends.
+                status = f"none, for {error!r}"
+                self._fail(error)
             if self._closing.is_set():
                 return
             if self._is_rolled_back:
@@ -145,6 +158,8 @@ class Engine:
 
     async def _run(self) -> object:
         """Runs one program to its end, and gives its status."""
+        while not self._journal.is_there and not self._closing.is_set():
+            await asyncio.sleep(_SHORT_PAUSE)
         count, lines = self._journal.lines(self.point.place)
         feed = self._feed = Feed(count, list(self._standing.lines()), self._standing.watches)
         running = self._running = Program(self._take, self._home.tell)

@@ -3,21 +3,19 @@
 from __future__ import annotations
 
 import asyncio
-import sys
 from collections.abc import Callable, Sequence
-from concurrent.futures import ThreadPoolExecutor
 from functools import partial
-from typing import BinaryIO, TypeVar
 
+from .access import Access
 from .committing import FAULT, Barrier, Committer
-from .database import Actor, Database, Finder, PutCertificate, Snapshot
+from .database import Actor, Database, PutCertificate, Snapshot
 from .engine import Engine
 from .journal import Change, Done, Journal, Point
-from .reading import fingerprints
+from .reading import brought
 from .seats import Seats
 
 _BUSY_SECONDS = 0.05
-_R = TypeVar("_R")
+_RENEWING_SECONDS = 1.0
 
 
 class Hub:
@@ -25,17 +23,14 @@ class Hub:
     in the order is the moment at which it is handed in."""
 
     def __init__(self, program: Sequence[str], most_engines: int, database: Database,
-                 order: BinaryIO | None = None) -> None:
+                 access: Access | None = None) -> None:
         self.engines: list[Engine] = []
-        self.seats = Seats(self._least_busy, self.engines)
-        self.database = database
+        self.seats = Seats(self._least_busy, self._another, self.engines)
+        self.access = access or Access(database)
+        self._owns_access = access is None
         self._program = program
         self._most_engines = most_engines
-        self._order = order
-        self._writing = ThreadPoolExecutor(1, "writing")
-        self._reading = ThreadPoolExecutor(1, "reading")
-        self._finder: Finder | None = None
-        self._committer = Committer(database, self._writing, self._release, self._roll_back)
+        self._committer = Committer(database, self.access.writing, self._release, self._roll_back)
         self._journal: Journal | None = None
         self._is_renewing = False
 
@@ -49,10 +44,14 @@ class Hub:
         """The number of the last change that is committed."""
         return self._committer.count
 
+    @property
+    def pids(self) -> list[int]:
+        return [engine.pid for engine in self.engines if engine.pid is not None]
+
     async def start(self) -> None:
         """Starts the first engine, and waits until it has taken the database; OSError, ValueError or DatabaseFault
         where it can't."""
-        snapshot = await self.write(self.database.snapshot)
+        snapshot = await self.access.write(self.access.database.snapshot)
         self._committer.count = snapshot.change
         self._journal = Journal(snapshot)
         await self._start_engine().ready
@@ -62,33 +61,18 @@ class Hub:
         await asyncio.gather(*(engine.close() for engine in self.engines))
         while self._committer.is_busy:
             await asyncio.sleep(0.01)
-        if self._finder is not None:
-            self._finder.close()
         if self._journal is not None:
             self._journal.close()
-        self._writing.shutdown()
-        self._reading.shutdown()
+        if self._owns_access:
+            self.access.close()
+
+    async def settle(self) -> None:
+        """Comes back when all that was handed in is answered, and committed."""
+        while self._committer.is_busy or any(engine.is_busy for engine in self.engines):
+            await asyncio.sleep(0.002)
 
     def tell(self, text: str) -> None:
-        print(f"tukyamid-server: {text}", file=sys.stderr, flush=True)
-
-    def note(self, session: int, line: bytes) -> None:
-        """Writes down the order of lines, for those who check it."""
-        if self._order is not None:
-            self._order.write(b"%d %s\n" % (session, line))
-
-    async def write(self, call: Callable[[], _R]) -> _R:
-        """Calls what writes to the database, between commits."""
-        return await asyncio.get_running_loop().run_in_executor(self._writing, call)
-
-    async def find(self, look: Callable[[Finder], _R]) -> _R:
-        """Looks something up in the database, beside commits."""
-        return await asyncio.get_running_loop().run_in_executor(self._reading, self._find, look)
-
-    def _find(self, look: Callable[[Finder], _R]) -> _R:
-        if self._finder is None:
-            self._finder = self.database.finder()
-        return look(self._finder)
+        self.access.tell(text)
 
     def change(self, line: bytes, actor: Actor, done: Done) -> None:
         """Sends a change to all engines; `done` gets its reply once all have answered and it is committed."""
@@ -96,7 +80,7 @@ class Hub:
         if self._committer.refuses():
             done(FAULT, self.count)
             return
-        change = self._journal.add(line, set(self.engines), actor, _brought(line), done)
+        change = self._journal.add(line, set(self.engines), actor, brought(line), done)
         self._committer.add(change)
         for engine in self.engines:
             engine.send(line, partial(self._changed, change, engine), change)
@@ -129,6 +113,10 @@ class Hub:
             self._start_engine()
         return engine
 
+    def _another(self) -> Engine | None:
+        """Starts another engine; None where there are as many as there may be."""
+        return self._start_engine() if len(self.engines) < self._most_engines else None
+
     def _start_engine(self) -> Engine:
         assert self._journal is not None
         engine = Engine(self._program, self._journal, self, self._journal.last)
@@ -149,8 +137,9 @@ class Hub:
             self._committer.advance()
 
     def _exported(self, change: Change, fpr: bytes, reply: bytes | None, _: int) -> None:
-        is_there = reply is not None and reply.startswith(b"export ")
-        change.puts[fpr] = PutCertificate(fpr, bytes.fromhex(reply[7:-1].decode())) if reply and is_there else None
+        if change.count is not None:
+            return  # It was refused meanwhile.
+        change.puts[fpr] = _exported_as(fpr, reply or b"")
         if change.is_settled:
             self._committer.advance()
 
@@ -160,8 +149,13 @@ class Hub:
             engine.release()
         self._settle()
         if self._journal.is_long() and not self._is_renewing:
-            self._is_renewing = True
-            self._committer.add(Barrier(partial(self._renewed, self._journal.last)))
+            self._renew()
+
+    def _renew(self) -> None:
+        """Has a newer snapshot made behind the changes so far. By then all engines have answered these."""
+        assert self._journal is not None
+        self._is_renewing = True
+        self._committer.add(Barrier(partial(self._renewed, self._journal.last), self._journal.lend))
 
     def _settle(self) -> None:
         assert self._journal is not None
@@ -173,22 +167,23 @@ class Hub:
         if snapshot is not None:
             self._journal.offer(point, snapshot)
             self._settle()
+        elif not self._journal.is_there:  # It was lent, and engines may wait for it.
+            self._is_renewing = True
+            asyncio.get_running_loop().call_later(_RENEWING_SECONDS, self._renew)
 
-    def _roll_back(self, failed: list[Change]) -> None:
+    def _roll_back(self, failed: list[Change], why: str) -> None:
         """These changes couldn't be committed: all engines go back to where they stood before them."""
         assert self._journal is not None
-        self.tell(f"{len(failed)} changes were refused, since they can't be kept: {self.fault}")
+        self.tell(f"{len(failed)} changes were refused, since they can't be kept: {why}")
         for change in failed:
             self._journal.forget(change)
         for engine in self.engines:
             engine.roll_back(failed[-1])
 
 
-def _brought(line: bytes) -> tuple[bytes, ...]:
-    """The fingerprints of the certificates that a line imports."""
-    if not line.startswith(b"import "):
-        return ()
+def _exported_as(fpr: bytes, reply: bytes) -> PutCertificate | None:
+    """The certificate that an engine exports; None where it has none."""
     try:
-        return tuple(fingerprints(bytes.fromhex(line[7:].decode())))
-    except (ValueError, IndexError):
-        return ()  # The engine refuses such a line.
+        return PutCertificate(fpr, bytes.fromhex(reply[7:-1].decode())) if reply.startswith(b"export ") else None
+    except ValueError:
+        return None

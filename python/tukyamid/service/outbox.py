@@ -42,12 +42,15 @@ def spooled(reply: bytes) -> Pieces:
 class Outbox:
     """Slots in order. A reply that is long, or that comes in pieces, is written piece by piece as it is read."""
 
-    def __init__(self, transport: asyncio.Transport, more: Callable[[], None]) -> None:
+    def __init__(self, transport: asyncio.Transport, more: Callable[[], None],
+                 give_up: Callable[[Exception], None]) -> None:
+        """`more` is called when there is room, and `give_up` when a reply breaks off."""
         self.slots: deque[Slot] = deque()
         self.octets = 0
         self.can_write = True
         self._transport = transport
         self._more = more
+        self._give_up = give_up
         self._loop = asyncio.get_running_loop()
         self._buffer: list[bytes] = []
         self._pump: Pieces | None = None
@@ -58,7 +61,12 @@ class Outbox:
         self.slots.append(slot)
         self.octets += slot.size
 
-    def insert(self, slot: Slot, place: int) -> None:
+    def tell(self, watch: bytes, reply: bytes) -> None:
+        """What a watch is told stands behind the replies so far; but before that to a line of the same watch."""
+        slot = Slot(b"watch", 0)
+        slot.reply, slot.is_answered = reply, True
+        place = next((at for at, other in enumerate(self.slots) if other.watch == watch and not other.is_answered),
+                     len(self.slots))
         self.slots.insert(place, slot)
         self.deliver()
 
@@ -142,7 +150,11 @@ class Outbox:
         """Writes one piece; then it is the turn of others."""
         if self._pump is None or not self.can_write or self._transport.is_closing():
             return
-        piece = next(self._pump, None)
+        try:
+            piece = next(self._pump, None)
+        except Exception as error:
+            self._give_up(error)
+            return
         if piece is None:
             self._end_pump()
             self.deliver()

@@ -9,10 +9,11 @@ from collections.abc import Sequence
 from dataclasses import dataclass
 from functools import partial
 from pathlib import Path
+from typing import Any
 
 from .answering import Answering
 from .directory import Directory
-from .hub import Hub
+from .desk import Desk
 from .keyrings import Keyrings
 from .session import Rights, Session
 from .sockets import BACKLOG, Listening, Passed, notify
@@ -37,7 +38,7 @@ class Door:
 
 
 class Service:
-    def __init__(self, hub: Hub, keyrings: Keyrings, directory: Directory, settings: Settings) -> None:
+    def __init__(self, hub: Desk, keyrings: Keyrings, directory: Directory, settings: Settings) -> None:
         self._hub = hub
         self._keyrings = keyrings
         self._directory = directory
@@ -52,6 +53,7 @@ class Service:
     async def serve(self, doors: Sequence[Door]) -> None:
         """Serves clients of these sockets until SIGTERM, SIGINT, or until nobody has used it for long."""
         loop = asyncio.get_running_loop()
+        loop.set_exception_handler(self._tell_exception)
         for number in (signal.SIGTERM, signal.SIGINT):
             loop.add_signal_handler(number, self._end.set)
         self._doors = doors
@@ -74,6 +76,10 @@ class Service:
         finally:
             await self._directory.close()
             await self._hub.close()
+
+    def _tell_exception(self, loop: asyncio.AbstractEventLoop, context: dict[str, Any]) -> None:
+        """What nobody has caught is one line for people, and no end of the service."""
+        self._hub.tell(f"{context['message']}: {context.get('exception')!r}")
 
     def _new_session(self, rights: Rights) -> Session:
         self._count += 1
@@ -127,8 +133,9 @@ class Service:
         await asyncio.sleep(0)
 
     def _status(self) -> list[tuple[str, object]]:
-        pids = [engine.pid for engine in self._hub.engines if engine.pid is not None]
-        return [("engines", len(pids)), ("memory", sum(map(_resident, [os.getpid(), *pids]))),
+        pids, loaded = self._hub.pids, self._hub.loaded
+        return [("budget", self._hub.budget), ("loaded", "all" if loaded is None else loaded),
+                ("engines", len(pids)), ("memory", sum(map(_resident, [os.getpid(), *pids]))),
                 ("clients", len(self._sessions)), ("process", os.getpid()),
                 ("database", self._hub.database.name), ("state", self._hub.fault or "ok")]
 

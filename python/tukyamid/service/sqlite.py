@@ -9,8 +9,9 @@ from pathlib import Path
 from typing import Concatenate, ParamSpec, TypeVar
 
 from . import schema
-from .database import Actor, Change, DatabaseFault, Source
+from .database import Actor, Change, DatabaseFault, Snapshot, Source
 from .looking import SqliteFinder, SqliteSnapshot
+from .sqlite_parts import SqliteParts
 from .whole import sync_folder
 from .writing import Writing, compare
 
@@ -134,12 +135,21 @@ class Sqlite:
         return number
 
     @faults
-    def snapshot(self) -> SqliteSnapshot:
-        return SqliteSnapshot(connect(self.path))
+    def snapshot(self, before: Snapshot | None = None) -> SqliteSnapshot:
+        if not isinstance(before, SqliteSnapshot):
+            return SqliteSnapshot(connect(self.path))
+        # The log begins anew only if all of it is in the file, and nobody reads what it had. Where each snapshot
+        # overlapped the one before it, the log would grow for ever.
+        before.renew(lambda: self._connection.execute("PRAGMA wal_checkpoint").fetchall())
+        return before
 
     @faults
     def finder(self) -> SqliteFinder:
         return SqliteFinder(connect(self.path), self.path)
+
+    @faults
+    def parts(self, is_frozen: bool = False) -> SqliteParts:
+        return SqliteParts(connect(self.path), self.path, is_frozen)
 
     @faults
     def put_source(self, source: Source) -> None:
