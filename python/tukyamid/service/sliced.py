@@ -234,4 +234,5 @@ class Sliced:
         for change in made:
             number = judged(change)
             touched.update(fpr for fpr in (dropped(change), number and parts.certificate_of(number)) if fpr)
-        return touched, set(self._asker.slices.change(touched, parts))
+        unknown = {roots for roots in self.watched.roots() if self._asker.slices.kept(roots) is None}
+        return touched, unknown | set(self._asker.slices.change(touched, parts))
