@@ -1,9 +1,9 @@
 -- How many octets the lines of a dump have in all.
-use Rattle.std.proofs.Common.{◌≡◌, ℕ, ◌+◌, ◌*◌, ◌≤◌, ◌<◌, ◌^◌, List, [], ◌∷◌, ◌++◌, length, map, arith, length-append, ap, ◌∙◌}
+use Rattle.std.proofs.Common.{ℕ, ◌+◌, ◌*◌, ◌≤◌, ◌<◌, ◌^◌, List, [], ◌∷◌, ◌++◌, length, map, arith, length-append, ap}
+use Rattle.std.proofs.Common.{◌∙◌}
 use Rattle.std.proofs.lemmas.Grind.{flat_map-append}
 use Rattle.std.specs.List.{AllByRecursion, flat_map}
 use Rattle.wot_types.specs.declared.fpr.Fpr.{Fpr}
-use Rattle.wot_types.specs.declared.limits.Limits.{Limits}
 use Rattle.wot_script.specs.declared.command.Command.{Command}
 use Rattle.wot_script.specs.Spelling.{most_octets, spelling}
 use Rattle.wot_keyring.specs.Dump as keyrings
@@ -11,7 +11,6 @@ use Rattle.wot_keyring.specs.Dump.{AreLines, command_line_of, lines_of, most_dum
 use Rattle.wot_keyring.specs.Held.{held_of}
 use Rattle.wot_keyring.specs.Kept.{AreSmall}
 use Rattle.wot_cache.specs.Views.{Views, IsWithin}
-use Rattle.wot_cache.specs.declared.view.View.{View}
 use Rattle.wot_cache.specs.State.{Engine, state_of}
 use Rattle.wot_cache.specs.Dump.{commands_of, root_of, view_commands}
 use Rattle.wot_cache.proofs.Lines.{few_commands}
@@ -47,7 +46,8 @@ roots_short view (r ∷ roots) = (omega arith, roots_short view roots)
 views_short : (views : Views) → AreShort (flat_map view_commands views)
 views_short [] = tt
 views_short (e ∷ views) =
-    both_short (view_commands e) (flat_map view_commands views) (omega arith, roots_short e.0 e.1.roots) (views_short views)
+    both_short (view_commands e) (flat_map view_commands views) (omega arith, roots_short e.0 e.1.roots)
+    (views_short views)
 
 last_lines : (first last : List Command) → AreLines (first ++ last) → AreLines last
 last_lines [] last lines = lines
@@ -59,7 +59,19 @@ pub dump_fits : (engine : Engine) → AreSmall engine.keyring.limits → IsWithi
 dump_fits engine small within held_fits lines =
     let held : List Command = keyrings.commands_of (held_of engine.keyring) in
     let opened : List Command = flat_map view_commands engine.views in
-    let split = ap length (flat_map-append command_line_of held opened) ∙ length-append (lines_of held) (lines_of opened) in
+    let split = ap length (flat_map-append command_line_of held opened) ∙ length-append (lines_of held)
+    (lines_of opened) in
     let views_fit = short_fit opened (views_short engine.views) (last_lines held opened lines) in
     let few = few_commands engine.keyring.limits engine.views small.roots within.few_roots in
-    omega (arith, split, views_fit, few, within.few, held_fits, small.views, small.certificates, small.octets, small.verdicts)
+    omega (
+      arith,
+      split,
+      views_fit,
+      few,
+      within.few,
+      held_fits,
+      small.views,
+      small.certificates,
+      small.octets,
+      small.verdicts,
+    )

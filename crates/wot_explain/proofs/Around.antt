@@ -1,5 +1,6 @@
 -- What agrees at a certificate and at those who certified it is explained alike.
-use Rattle.std.proofs.Common.{◌≡◌, ℕ, Bool, true, false, List, [], ◌∷◌, ◌++◌, map, Option, Some, None, refl, sym, ap, subst, ◌∙◌, zero, suc}
+use Rattle.std.proofs.Common.{◌≡◌, ℕ, Bool, true, false, List, [], ◌∷◌, ◌++◌, map, Option, Some, None, refl, ap, subst}
+use Rattle.std.proofs.Common.{◌∙◌, zero, suc}
 use Rattle.std.specs.Prelude.{not, filter}
 use Rattle.std.specs.List.{AllByRecursion, slice_get}
 use Rattle.std.specs.Map.{lookup}
@@ -12,22 +13,24 @@ use Rattle.wot_verdict.specs.declared.verdict.Verdict.{Verdict}
 use Rattle.wot_cert.specs.Certificate.{Certificate, Component, Signature, sig_cmp}
 use Rattle.wot_cert.specs.Counts.{all_sigs, parts_in, sigs_on}
 use Rattle.wot_cert.specs.Issuer.{good_by}
-use Rattle.wot_cert.specs.Time.{is_live, made_of}
+use Rattle.wot_cert.specs.Time.{made_of}
 use Rattle.wot_edge.specs.Path.{step_of}
 use Rattle.wot_edge.specs.declared.path.Step.{Step}
 use Rattle.wot_keyring.specs.Keyring.{Certificates, is_fpr}
 use Rattle.wot_keyring.specs.Later.{SaysSame}
 use Rattle.wot_live.specs.Edge.{edge_by}
 use Rattle.wot_network.specs.Local.{AgreeAt}
-use Rattle.wot_network.specs.Standings.{DecideStandings, DecideUserIds, GiveSame}
+use Rattle.wot_network.specs.Standings.{DecideStandings, DecideUserIds}
 use Rattle.wot_network.specs.Told.{place_of}
 use Rattle.wot_standing.specs.Kinds.{is_certification}
 use Rattle.wot_standing.specs.Own.{is_own_revoked}
-use Rattle.wot_standing.specs.Standing.{newest_certification, own, standing_of}
+use Rattle.wot_standing.specs.Standing.{own, standing_of}
 use Rattle.wot_standing.specs.declared.status.Standing.{Standing}
 use Rattle.wot_explain.specs.Around.{AgreeAround, AgreeAtIssuer}
 use Rattle.wot_explain.specs.Explaining.{explained_at, explained_on, explanation, reasons_on}
-use Rattle.wot_explain.specs.Reasons.{Reason, issuer_standing, issuer_words, is_revoked_by, is_older_by, reason_of, reason_with, reason_word, reason_words, standing_by, step_by, time_words, verdict_words, counting_words}
+use Rattle.wot_explain.specs.Reasons.{Reason, issuer_standing, issuer_words, is_revoked_by, is_older_by, reason_of}
+use Rattle.wot_explain.specs.Reasons.{reason_with, reason_word, reason_words, standing_by, step_by, time_words}
+use Rattle.wot_explain.specs.Reasons.{verdict_words, counting_words}
 use Rattle.wot_explain.specs.Target.{target_word}
 use Rattle.wot_explain.specs.Words.{Word, first_word, is_so}
 use Rattle.wot_explain.specs.declared.explained.Explained.{Explained}
@@ -100,9 +103,11 @@ module _ (standings : DecideStandings) (user_ids : DecideUserIds)
     word_same : (s : Signature) → AgreesOf s
         → reason_word verdicts certs t uid s ≡ reason_word other others t uid s
     word_same s agree =
-        ap (λ (standing : Option Standing). first_word (reason_words verdicts t uid s (verdict_at verdicts s.number) standing))
+        ap (λ (standing : Option Standing). first_word (reason_words verdicts t uid s (verdict_at verdicts s.number)
+        standing))
         (issuer_same s agree.1)
-        ∙ ap (λ (said : Option Verdict). first_word (reason_words verdicts t uid s said (issuer_standing other others t said)))
+        ∙ ap (λ (said : Option Verdict). first_word
+        (reason_words verdicts t uid s said (issuer_standing other others t said)))
         agree.0
         ∙ ap (λ (words : List Word). first_word (verdict_words s (verdict_at other s.number)
         ++ counting_words s (good_by (verdict_at other s.number)) ++ words
@@ -119,11 +124,13 @@ module _ (standings : DecideStandings) (user_ids : DecideUserIds)
         → reason_of verdicts certs t target place uid s ≡ reason_of other others t target place uid s
     reason_same target place s agree =
         ap (λ (word : ℕ). reason_with s word (step_by verdicts target place uid s)) (word_same s agree)
-        ∙ ap (λ (step : Option Step). reason_with s (reason_word other others t uid s) step) (step_same target place s agree)
+        ∙ ap (λ (step : Option Step). reason_with s (reason_word other others t uid s) step)
+        (step_same target place s agree)
 
   -- ---- one user ID
 
-  explained_same : (c : Certificate) (place : ℕ) (uid : Component) → AllByRecursion (SaysSame verdicts other) (all_sigs c)
+  explained_same : (c : Certificate) (place : ℕ) (uid : Component) → AllByRecursion (SaysSame verdicts other)
+      (all_sigs c)
       → AllByRecursion (SaysSame verdicts other) uid.sigs → AllByRecursion AgreesOf uid.sigs
       → explained_on verdicts certs t c place uid ≡ explained_on other others t c place uid
   explained_same c place uid all on agree =
@@ -132,9 +139,12 @@ module _ (standings : DecideStandings) (user_ids : DecideUserIds)
       let reasons : reasons_on verdicts certs t (own c) place uid ≡ reasons_on other others t (own c) place uid =
       map_filter_same AgreesOf is_certification (reason_of verdicts certs t (own c) place uid)
       (reason_of other others t (own c) place uid) (reason_same uid on (own c) place) uid.sigs agree in
-      ap (λ (s : Standing). with_parts (target_word s t (is_own_revoked verdicts (own c) t uid)) (reasons_on verdicts certs t (own c) place uid)) standing
-      ∙ ap (λ (b : Bool). with_parts (target_word (standing_of other c t) t b) (reasons_on verdicts certs t (own c) place uid)) revoked
-      ∙ ap (λ (rs : List Reason). with_parts (target_word (standing_of other c t) t (is_own_revoked other (own c) t uid)) rs) reasons
+      ap (λ (s : Standing). with_parts (target_word s t (is_own_revoked verdicts (own c) t uid))
+      (reasons_on verdicts certs t (own c) place uid)) standing
+      ∙ ap (λ (b : Bool). with_parts (target_word (standing_of other c t) t b)
+      (reasons_on verdicts certs t (own c) place uid)) revoked
+      ∙ ap (λ (rs : List Reason). with_parts (target_word (standing_of other c t) t
+      (is_own_revoked other (own c) t uid)) rs) reasons
     where
       with_parts : ℕ → List Reason → Explained
       with_parts word reasons = record { target = word; certs = reasons }
@@ -160,23 +170,28 @@ module _ (standings : DecideStandings) (user_ids : DecideUserIds)
           let on = at_place (λ (p : Component). AllByRecursion (SaysSame verdicts other) p.sigs) uid c.user_ids
           (uids_of (SaysSame verdicts other) c said) place e in
           let agree = at_place (λ (p : Component). AllByRecursion AgreesOf p.sigs) uid c.user_ids
-          (uids_of AgreesOf c (all_both (SaysSame verdicts other) (AgreeAtIssuer certs verdicts others other) (all_sigs c) said issuers)) place e in
+          (uids_of AgreesOf c (all_both (SaysSame verdicts other) (AgreeAtIssuer certs verdicts others other)
+          (all_sigs c) said issuers)) place e in
           ap (λ (x : Explained). Some x) (explained_same c place uid said on agree)
 
   found_same : (fpr : Fpr) (u : List ℕ) → AgreeAround certs verdicts others other fpr
       → explanation certs verdicts t fpr u ≡ explanation others other t fpr u
   found_same fpr u agree =
       by (lookup (is_fpr fpr) certs) refl
-      ∙ ap (option_and_then (λ (c : Certificate). option_and_then (explained_at other others t c) (place_of u c.user_ids)))
+      ∙ ap (option_and_then (λ (c : Certificate). option_and_then (explained_at other others t c)
+      (place_of u c.user_ids)))
       agree.here.same
     where
       by : (o : Option Certificate) → lookup (is_fpr fpr) certs ≡ o
-          → option_and_then (λ (c : Certificate). option_and_then (explained_at verdicts certs t c) (place_of u c.user_ids)) o
-          ≡ option_and_then (λ (c : Certificate). option_and_then (explained_at other others t c) (place_of u c.user_ids)) o
+          → option_and_then (λ (c : Certificate). option_and_then (explained_at verdicts certs t c)
+          (place_of u c.user_ids)) o
+          ≡ option_and_then (λ (c : Certificate). option_and_then (explained_at other others t c)
+          (place_of u c.user_ids)) o
       by None e = refl
       by (Some c) e = placed (place_of u c.user_ids)
         where
-          placed : (o : Option ℕ) → option_and_then (explained_at verdicts certs t c) o ≡ option_and_then (explained_at other others t c) o
+          placed : (o : Option ℕ) → option_and_then (explained_at verdicts certs t c) o ≡ option_and_then
+              (explained_at other others t c) o
           placed None = refl
           placed (Some place) = at_same c (agree.here.said c e) (agree.issuers c e) place
 

@@ -15,7 +15,8 @@ use Rattle.wot_keyring.specs.Keyring.{Certificates, Keyring, certificates_in}
 use Rattle.wot_keyring.specs.Held.{held_of}
 use Rattle.wot_keyring.specs.Import.{weigh}
 use Rattle.wot_keyring.specs.Kept.{IsKeyring}
-use Rattle.wot_keyring.specs.Dump.{AreLines, command_line_of, commands_of, import_of, lines_of, most_dumped, setting, setting_of}
+use Rattle.wot_keyring.specs.Dump.{AreLines, command_line_of, commands_of, import_of, lines_of, most_dumped, setting}
+use Rattle.wot_keyring.specs.Dump.{setting_of}
 
 -- the longest line of a command, with its line feed
 abbrev line_most : Command → ℕ

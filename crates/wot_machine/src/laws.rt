@@ -106,9 +106,9 @@ pub fn questions_rest_on_slices()
     each_line_has_one_outcome();
 }
 
-/// The reply to `explain` rests on the certificate that is explained, on those of the issuers of its signatures by their
-/// verdicts, and on the verdicts on all their signatures. Two states that hold the same there, and in which the asking
-/// view is the same, have the same reply.
+/// The reply to `explain` rests on the certificate that is explained, on those of the issuers of its signatures by the
+/// verdicts on these, and on the verdicts on all their signatures. Two states that hold the same there, and in which
+/// the asking view is the same, have the same reply.
 pub fn explanations_rest_on_slices()
     ensures { (rows : PolicyRows) → DoExplanationsRestOnIssuers rows }
 {

@@ -19,16 +19,22 @@ _PROBE_SECONDS = 1.0
 
 @dataclass
 class Barrier:
-    """Asks for a snapshot behind the changes that were handed in before it. `done` gets None where there is none."""
+    """Asks for a snapshot behind the changes that were handed in before it, in the place of the one that `before` gives
+    then. `done` gets None where there is none."""
     done: Callable[[Snapshot | None], None]
+    before: Callable[[], Snapshot | None] = lambda: None
 
 
 class Committer:
     """Commits changes. `released` is called when replies that rest on them may be sent, and `failed` with the changes
-    that couldn't be committed: nothing may rest on them."""
+    that couldn't be committed, and why: nothing may rest on them.
+
+    Whatever the database raises, the changes are answered. A DatabaseFault is of the database, so changes are refused
+    until it is mended. Anything else is taken as the doing of one change: those of its batch are committed one by one,
+    so that this one alone fails, with what stands behind it."""
 
     def __init__(self, database: Database, executor: Executor, released: Callable[[], None],
-                 failed: Callable[[list[Change]], None]) -> None:
+                 failed: Callable[[list[Change], str], None]) -> None:
         self.count = 0
         self.fault = ""
         self._database = database
@@ -37,6 +43,7 @@ class Committer:
         self._failed = failed
         self._queue: deque[Change | Barrier] = deque()
         self.is_busy = False
+        self._left_alone = 0  # So many changes are committed one by one.
         self._probed = float("-inf")
         self._tasks: set[asyncio.Task[None]] = set()
 
@@ -58,8 +65,8 @@ class Committer:
                 return
             try:
                 entries = [change.entry() for change in batch if change.is_made]
-            except DatabaseFault as fault:
-                self._fail(batch, fault)
+            except Exception as error:  # What a line came to is other than expected; it is no fault of the database.
+                self._take_failure(batch, error)
                 return
             if entries:
                 self._spawn(self._commit(batch, entries))
@@ -68,12 +75,13 @@ class Committer:
 
     def _next_batch(self) -> list[Change]:
         batch: list[Change] = []
-        while self._queue and len(batch) < _MOST_CHANGES:
+        while self._queue and len(batch) < (1 if self._left_alone else _MOST_CHANGES):
             item = self._queue[0]
             if isinstance(item, Barrier) or not item.is_settled:
                 break
             batch.append(item)
             self._queue.popleft()
+        self._left_alone = max(0, self._left_alone - len(batch))
         return batch
 
     def _spawn(self, work: Coroutine[None, None, None]) -> None:
@@ -86,35 +94,44 @@ class Committer:
         loop = asyncio.get_running_loop()
         try:
             numbers = await loop.run_in_executor(self._executor, self._database.apply, entries)
-        except DatabaseFault as fault:
+        except Exception as error:
             self.is_busy = False
-            self._fail(batch, fault)
+            self._take_failure(batch, error)
             return
         self.is_busy = False
         self._finish(batch, numbers)
         self.advance()
+
+    def _take_failure(self, batch: list[Change], error: Exception) -> None:
+        if isinstance(error, DatabaseFault):
+            self.fault = str(error)
+            self._probed = asyncio.get_running_loop().time()
+            self._fail(batch, self.fault)
+        elif len(batch) > 1:
+            self._left_alone = len(batch)
+            self._queue.extendleft(reversed(batch))
+            self.advance()
+        else:
+            self._fail(batch, f"an error of the service itself: {error!r}")
 
     def _finish(self, batch: list[Change], numbers: list[int]) -> None:
         following = iter(numbers)
         for change in batch:
             if change.is_made:
                 self.count = next(following)
-            change.count = self.count
-            change.puts.clear()
-            change.done(change.reply, self.count)
+            change.finish(change.reply, self.count)
         self._released()
 
-    def _fail(self, batch: list[Change], fault: DatabaseFault) -> None:
+    def _fail(self, batch: list[Change], why: str) -> None:
         """These changes, and those handed in behind them, aren't made. A change that nobody could answer is none."""
-        self.fault = str(fault)
-        self._probed = asyncio.get_running_loop().time()
+        self._left_alone = 0
         failed = batch + [item for item in self._queue if isinstance(item, Change)]
         self._queue = deque(item for item in self._queue if isinstance(item, Barrier))
         for change in failed:
             change.count = self.count
-        self._failed(failed)
+        self._failed(failed, why)
         for change in failed:
-            change.done(FAULT, self.count)
+            change.finish(FAULT, self.count)
         self.advance()
 
     def refuses(self) -> bool:
@@ -130,17 +147,17 @@ class Committer:
         try:
             await loop.run_in_executor(self._executor, self._database.probe)
             self.fault = ""
-        except DatabaseFault as fault:
-            self.fault = str(fault)
+        except Exception as error:
+            self.fault = str(error) or repr(error)
         self.is_busy = False
         self.advance()
 
     async def _open_snapshot(self, barrier: Barrier) -> None:
         loop = asyncio.get_running_loop()
         try:
-            snapshot = await loop.run_in_executor(self._executor, self._database.snapshot)
-        except DatabaseFault as fault:
-            self.fault = str(fault)
+            snapshot = await loop.run_in_executor(self._executor, self._database.snapshot, barrier.before())
+        except Exception as error:
+            self.fault = str(error) or repr(error)
             snapshot = None
         self.is_busy = False
         barrier.done(snapshot)

@@ -17,6 +17,7 @@ from .reading import fingerprints
 from .seats import Seats
 
 _BUSY_SECONDS = 0.05
+_RENEWING_SECONDS = 1.0
 _R = TypeVar("_R")
 
 
@@ -27,7 +28,7 @@ class Hub:
     def __init__(self, program: Sequence[str], most_engines: int, database: Database,
                  order: BinaryIO | None = None) -> None:
         self.engines: list[Engine] = []
-        self.seats = Seats(self._least_busy, self.engines)
+        self.seats = Seats(self._least_busy, self._another, self.engines)
         self.database = database
         self._program = program
         self._most_engines = most_engines
@@ -129,6 +130,10 @@ class Hub:
             self._start_engine()
         return engine
 
+    def _another(self) -> Engine | None:
+        """Starts another engine; None where there are as many as there may be."""
+        return self._start_engine() if len(self.engines) < self._most_engines else None
+
     def _start_engine(self) -> Engine:
         assert self._journal is not None
         engine = Engine(self._program, self._journal, self, self._journal.last)
@@ -149,8 +154,9 @@ class Hub:
             self._committer.advance()
 
     def _exported(self, change: Change, fpr: bytes, reply: bytes | None, _: int) -> None:
-        is_there = reply is not None and reply.startswith(b"export ")
-        change.puts[fpr] = PutCertificate(fpr, bytes.fromhex(reply[7:-1].decode())) if reply and is_there else None
+        if change.count is not None:
+            return  # It was refused meanwhile.
+        change.puts[fpr] = _exported_as(fpr, reply or b"")
         if change.is_settled:
             self._committer.advance()
 
@@ -160,8 +166,13 @@ class Hub:
             engine.release()
         self._settle()
         if self._journal.is_long() and not self._is_renewing:
-            self._is_renewing = True
-            self._committer.add(Barrier(partial(self._renewed, self._journal.last)))
+            self._renew()
+
+    def _renew(self) -> None:
+        """Has a newer snapshot made behind the changes so far. By then all engines have answered these."""
+        assert self._journal is not None
+        self._is_renewing = True
+        self._committer.add(Barrier(partial(self._renewed, self._journal.last), self._journal.lend))
 
     def _settle(self) -> None:
         assert self._journal is not None
@@ -173,15 +184,26 @@ class Hub:
         if snapshot is not None:
             self._journal.offer(point, snapshot)
             self._settle()
+        elif not self._journal.is_there:  # It was lent, and engines may wait for it.
+            self._is_renewing = True
+            asyncio.get_running_loop().call_later(_RENEWING_SECONDS, self._renew)
 
-    def _roll_back(self, failed: list[Change]) -> None:
+    def _roll_back(self, failed: list[Change], why: str) -> None:
         """These changes couldn't be committed: all engines go back to where they stood before them."""
         assert self._journal is not None
-        self.tell(f"{len(failed)} changes were refused, since they can't be kept: {self.fault}")
+        self.tell(f"{len(failed)} changes were refused, since they can't be kept: {why}")
         for change in failed:
             self._journal.forget(change)
         for engine in self.engines:
             engine.roll_back(failed[-1])
+
+
+def _exported_as(fpr: bytes, reply: bytes) -> PutCertificate | None:
+    """The certificate that an engine exports; None where it has none."""
+    try:
+        return PutCertificate(fpr, bytes.fromhex(reply[7:-1].decode())) if reply.startswith(b"export ") else None
+    except ValueError:
+        return None
 
 
 def _brought(line: bytes) -> tuple[bytes, ...]:

@@ -85,8 +85,8 @@ class Keyrings:
                 for source in await self._hub.find(lambda finder: finder.sources()):
                     async with self._lock:
                         await self._look_after(source.name)
-            except DatabaseFault as fault:
-                self._hub.tell(str(fault))
+            except Exception as error:  # Whatever it was, the keyrings are looked after again.
+                self._hub.tell(str(error) if isinstance(error, (DatabaseFault, OSError)) else repr(error))
             await asyncio.sleep(_PAUSE)
 
     async def _look_after(self, name: str) -> None:

@@ -78,7 +78,7 @@ class Session(asyncio.Protocol):
         self._transport = cast(asyncio.Transport, transport)  # uvloop's is one by what it does, not by its class.
         self._transport.set_write_buffer_limits(high=_UNREAD_OCTETS)
         self.actor = actor_of(transport.get_extra_info("socket").fileno())
-        self.outbox = Outbox(self._transport, self._begin_lines)
+        self.outbox = Outbox(self._transport, self._begin_lines, self._give_up)
         self.watches = Watches(self.hub, self.number, self.outbox, self._views)
         self.cursors = Cursors(self.hub, self._views)
         self._made(self)
@@ -179,11 +179,14 @@ class Session(asyncio.Protocol):
             self.outbox.answer(slot, REFUSED_LINE)
 
     def _answered(self, slot: Slot, reply: bytes | None, count: int) -> None:
-        if reply is None:
-            self.hub.tell(f"client {self.number} is dropped: its line ended the engine several times")
-        elif slot.finish is not None:
-            reply = slot.finish(reply, count)
-        self.outbox.answer(slot, reply)
+        try:
+            if reply is None:
+                self.hub.tell(f"client {self.number} is dropped: its line ended the engine several times")
+            elif slot.finish is not None:
+                reply = slot.finish(reply, count)
+            self.outbox.answer(slot, reply)
+        except Exception as error:  # What calls this has others to answer.
+            self._give_up(error)
 
     def _ask_view(self, slot: Slot, line: bytes) -> None:
         word, space, rest = line.partition(b" ")
@@ -210,12 +213,15 @@ class Session(asyncio.Protocol):
         self.hub.snapshot(lambda snapshot: self._dumped(slot, snapshot, views))
 
     def _dumped(self, slot: Slot, snapshot: Snapshot | None, views: list[bytes]) -> None:
-        if snapshot is None:
-            self.outbox.answer(slot, FAULT)
-        elif self._transport.is_closing():
-            snapshot.close()
-        else:
-            self.outbox.answer(slot, dump_of(snapshot, views))
+        try:
+            if snapshot is None:
+                self.outbox.answer(slot, FAULT)
+            elif self._transport.is_closing():
+                snapshot.close()
+            else:
+                self.outbox.answer(slot, dump_of(snapshot, views))
+        except Exception as error:
+            self._give_up(error)
 
     async def _help(self, slot: Slot, line: bytes) -> None:
         try:

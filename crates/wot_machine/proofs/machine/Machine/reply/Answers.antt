@@ -10,7 +10,7 @@ use Rattle.wot_machine.specs.Pacing.{settled}
 use Rattle.wot_machine.specs.Settled.{AreSettled}
 use Rattle.wot_cache.specs.State.{state_of}
 use Rattle.wot_machine.specs.Asked.{LineAsks}
-use Rattle.wot_machine.proofs.Judging.{asks_as, asks_heard, asks_not}
+use Rattle.wot_machine.proofs.Judging.{asks_as, asks_heard}
 use Rattle.wot_machine.proofs.Making.{line_makes_as, makes_heard}
 use Rattle.wot_machine.proofs.Running.{replied_long, replied_silent}
 use Rattle.wot_machine.proofs.Settling.{settled_told}
