@@ -2,7 +2,7 @@
 
 use crate::fingerprint::{Fingerprint, KeyId};
 
-/// The kinds of signatures (RFC 9580, section 5.2.1) on which verdicts are given.
+/// The signature types (RFC 9580, section 5.2.1) on which verdicts are given.
 pub mod kind {
     pub const CERTIFICATION_FIRST: u8 = 0x10;
     pub const CERTIFICATION_LAST: u8 = 0x13;

@@ -15,7 +15,7 @@ _MOST_IN_MEMORY = 1 << 20
 
 
 class Slot:
-    """The place of a line's reply among the replies; or of what a watch is told. `finish` makes the client's reply of
+    """The place of a line's reply, or of a watch line, among the replies. `finish` makes the client's reply of
     the engine's, by the number of the last change before it."""
     __slots__ = ("word", "size", "watch", "reply", "is_answered", "finish")
 
