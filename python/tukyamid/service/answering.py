@@ -99,12 +99,20 @@ class Answering:
     async def _tell_status(self, session: Session) -> bytes:
         figures = await session.hub.find(lambda finder: finder.figures())
         sources = await session.hub.find(lambda finder: finder.sources())
-        pending = await asked(session, b"pending", is_change=False)
-        count = (pending or b"pending 0\n").split(b"\n", 1)[0].split(b" ")[1].decode()
+        count = await self._count_pending(session)
         values = [("certificates", figures.certificates), ("user-ids", figures.user_ids),
                   ("verdicts", figures.verdicts), ("pending", count), ("change", figures.change),
                   ("size", figures.octets), ("keyrings", len(sources)), *self._status()]
         return listed(b"service status", [f"{name} ".encode() + shown(str(value)) for name, value in values])
+
+    @staticmethod
+    async def _count_pending(session: Session) -> int:
+        """As an engine counts them; of a sliced keyring, as the database does."""
+        count = await session.hub.pending()
+        if count is None:
+            reply = await asked(session, b"pending", is_change=False)
+            count = int((reply or b"pending 0\n").split(b"\n", 1)[0].split(b" ")[1])
+        return count
 
     async def _find(self, session: Session, text: bytes) -> bytes:
         word, space, sought = text.partition(b" ")

@@ -3,22 +3,19 @@
 from __future__ import annotations
 
 import asyncio
-import sys
 from collections.abc import Callable, Sequence
-from concurrent.futures import ThreadPoolExecutor
 from functools import partial
-from typing import BinaryIO, TypeVar
 
+from .access import Access
 from .committing import FAULT, Barrier, Committer
-from .database import Actor, Database, Finder, PutCertificate, Snapshot
+from .database import Actor, Database, PutCertificate, Snapshot
 from .engine import Engine
 from .journal import Change, Done, Journal, Point
-from .reading import fingerprints
+from .reading import brought
 from .seats import Seats
 
 _BUSY_SECONDS = 0.05
 _RENEWING_SECONDS = 1.0
-_R = TypeVar("_R")
 
 
 class Hub:
@@ -26,17 +23,14 @@ class Hub:
     in the order is the moment at which it is handed in."""
 
     def __init__(self, program: Sequence[str], most_engines: int, database: Database,
-                 order: BinaryIO | None = None) -> None:
+                 access: Access | None = None) -> None:
         self.engines: list[Engine] = []
         self.seats = Seats(self._least_busy, self._another, self.engines)
-        self.database = database
+        self.access = access or Access(database)
+        self._owns_access = access is None
         self._program = program
         self._most_engines = most_engines
-        self._order = order
-        self._writing = ThreadPoolExecutor(1, "writing")
-        self._reading = ThreadPoolExecutor(1, "reading")
-        self._finder: Finder | None = None
-        self._committer = Committer(database, self._writing, self._release, self._roll_back)
+        self._committer = Committer(database, self.access.writing, self._release, self._roll_back)
         self._journal: Journal | None = None
         self._is_renewing = False
 
@@ -50,10 +44,14 @@ class Hub:
         """The number of the last change that is committed."""
         return self._committer.count
 
+    @property
+    def pids(self) -> list[int]:
+        return [engine.pid for engine in self.engines if engine.pid is not None]
+
     async def start(self) -> None:
         """Starts the first engine, and waits until it has taken the database; OSError, ValueError or DatabaseFault
         where it can't."""
-        snapshot = await self.write(self.database.snapshot)
+        snapshot = await self.access.write(self.access.database.snapshot)
         self._committer.count = snapshot.change
         self._journal = Journal(snapshot)
         await self._start_engine().ready
@@ -63,33 +61,18 @@ class Hub:
         await asyncio.gather(*(engine.close() for engine in self.engines))
         while self._committer.is_busy:
             await asyncio.sleep(0.01)
-        if self._finder is not None:
-            self._finder.close()
         if self._journal is not None:
             self._journal.close()
-        self._writing.shutdown()
-        self._reading.shutdown()
+        if self._owns_access:
+            self.access.close()
+
+    async def settle(self) -> None:
+        """Comes back when all that was handed in is answered, and committed."""
+        while self._committer.is_busy or any(engine.is_busy for engine in self.engines):
+            await asyncio.sleep(0.002)
 
     def tell(self, text: str) -> None:
-        print(f"tukyamid-server: {text}", file=sys.stderr, flush=True)
-
-    def note(self, session: int, line: bytes) -> None:
-        """Writes down the order of lines, for those who check it."""
-        if self._order is not None:
-            self._order.write(b"%d %s\n" % (session, line))
-
-    async def write(self, call: Callable[[], _R]) -> _R:
-        """Calls what writes to the database, between commits."""
-        return await asyncio.get_running_loop().run_in_executor(self._writing, call)
-
-    async def find(self, look: Callable[[Finder], _R]) -> _R:
-        """Looks something up in the database, beside commits."""
-        return await asyncio.get_running_loop().run_in_executor(self._reading, self._find, look)
-
-    def _find(self, look: Callable[[Finder], _R]) -> _R:
-        if self._finder is None:
-            self._finder = self.database.finder()
-        return look(self._finder)
+        self.access.tell(text)
 
     def change(self, line: bytes, actor: Actor, done: Done) -> None:
         """Sends a change to all engines; `done` gets its reply once all have answered and it is committed."""
@@ -97,7 +80,7 @@ class Hub:
         if self._committer.refuses():
             done(FAULT, self.count)
             return
-        change = self._journal.add(line, set(self.engines), actor, _brought(line), done)
+        change = self._journal.add(line, set(self.engines), actor, brought(line), done)
         self._committer.add(change)
         for engine in self.engines:
             engine.send(line, partial(self._changed, change, engine), change)
@@ -204,13 +187,3 @@ def _exported_as(fpr: bytes, reply: bytes) -> PutCertificate | None:
         return PutCertificate(fpr, bytes.fromhex(reply[7:-1].decode())) if reply.startswith(b"export ") else None
     except ValueError:
         return None
-
-
-def _brought(line: bytes) -> tuple[bytes, ...]:
-    """The fingerprints of the certificates that a line imports."""
-    if not line.startswith(b"import "):
-        return ()
-    try:
-        return tuple(fingerprints(bytes.fromhex(line[7:].decode())))
-    except (ValueError, IndexError):
-        return ()  # The engine refuses such a line.

@@ -61,7 +61,12 @@ class Outbox:
         self.slots.append(slot)
         self.octets += slot.size
 
-    def insert(self, slot: Slot, place: int) -> None:
+    def tell(self, watch: bytes, reply: bytes) -> None:
+        """What a watch is told stands behind the replies so far; but before that to a line of the same watch."""
+        slot = Slot(b"watch", 0)
+        slot.reply, slot.is_answered = reply, True
+        place = next((at for at, other in enumerate(self.slots) if other.watch == watch and not other.is_answered),
+                     len(self.slots))
         self.slots.insert(place, slot)
         self.deliver()
 
