@@ -88,7 +88,7 @@ def own(certificate, signatures):
 
 
 class View:
-    """Certificates and verdicts at one time. It finds each thing once, and is made anew for each question."""
+    """Certificates and verdicts at one time. It finds each thing once, and each question makes its own."""
 
     def __init__(self, certificates, verdicts, time):
         self.certificates = certificates

@@ -94,7 +94,7 @@ class Auditor:
                         for behind, edge in enumerate(reversed(edges)) if behind))
 
     def _leads_on(self, edge: Edge, behind: int) -> bool:
-        """Whether an edge may have so many behind it."""
+        """Whether an edge may have this many edges after it."""
         return edge.depth >= behind and edge.issuer != self._target and edge.in_scope(self._user_id)
 
     def _shows(self, table: Table) -> bool:

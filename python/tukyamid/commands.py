@@ -167,7 +167,7 @@ class Dump(ListingCommand[bytes]):
 
 
 class CursorOver(Command[Done]):
-    """Begins a cursor over the bindings of `list`, or begins it anew."""
+    """Starts or restarts a cursor over the bindings of `list`."""
     __slots__ = ("cursor", "view", "wanted")
     form, replies = "cursor {0.cursor} over {0.view} {0.wanted}", (Done,)
 

@@ -193,7 +193,7 @@ def _read_stale(line: str) -> Stale:
 
 
 def read_watch(line: str) -> Watched | Gone:
-    """What a watch is told."""
+    """What a watch line says."""
     if line.endswith(" gone"):
         return Gone(*match("watch NAME gone", line))
     watch, amount = match("watch NAME amount N", line)

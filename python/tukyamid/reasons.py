@@ -11,7 +11,7 @@ from typing import Self
 
 
 class _Word(StrEnum):
-    """A word, which is its own text, and has a meaning."""
+    """A word, as a string that has a meaning."""
     meaning: str
 
     def __new__(cls, word: str, meaning: str = "") -> Self:

@@ -93,7 +93,7 @@ class Reached(Reply):
 
 class Missed(Reply):
     """The answer doesn't reach the wanted amount. `paths` are its paths, a `Claim` each, and `table` is the least table
-    of absence after them, a `Label` each: together a claim that anyone can check."""
+    after them, a `Label` each: together a proof of absence, which anyone can check."""
     __slots__ = ("amount", "paths", "table")
 
     def __init__(self, amount: int, paths: tuple[Claim, ...], table: tuple[Label, ...]) -> None:

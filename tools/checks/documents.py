@@ -111,9 +111,11 @@ def commands(tree: Tree) -> Iterator[Finding]:
                 if not (tree.root / program).is_dir():
                     yield Finding(page, line, f"there is no program {program}", "show one that is there")
                 continue
-            told = sources_of(tree, program)
+            text = sources_of(tree, program)
             for option in OPTION.findall(" ".join(words[1:])):
-                if told and option not in told and option not in ALWAYS:
+                # A program may make options of a table's names: there the name stands alone.
+                known = option in ALWAYS or option in text or f'"{option[2:]}"' in text
+                if text and not known:
                     yield Finding(page, line, f"{program} has no option {option}", "show one that it has")
             for suite in words[1:] if program == "tests/run" else ():
                 if re.fullmatch(r"[a-z]+", suite) and not tree.exists(f"tests/suites/{suite}"):

@@ -57,9 +57,10 @@ class Tree:
 
     def scripts(self, language: str) -> list[str]:
         """The programs and modules in a language, by their endings and their first lines."""
-        return [path for path in self.files if self._language(path) == language]
+        return [path for path in self.files if self.language(path) == language]
 
-    def _language(self, path: str) -> str:
+    def language(self, path: str) -> str:
+        """The language of a program or module, or the empty text."""
         if path.endswith(".py"):
             return PYTHON
         if path.endswith(".sh"):

@@ -1,4 +1,4 @@
-"""What a whole night needs from the machine, told before it begins: hours later it is too late to install it."""
+"""What a whole night needs from the machine, said before it begins: hours later it is too late to install it."""
 
 import shutil
 from pathlib import Path

@@ -108,7 +108,7 @@ impl<'a> Certificate<'a> {
     }
 }
 
-/// The certificates of a text of packets. `tell` hears, with its place in the text, what is left out or spelled anew.
+/// The certificates of a text of packets. `tell` hears, with its place in the text, what is left out or spelled again.
 pub fn certificates<'a>(text: &'a [u8], public: bool, mut tell: impl FnMut(usize, What)) -> Vec<Certificate<'a>> {
     let mut certificates = Vec::new();
     let mut cut = None;
@@ -168,7 +168,7 @@ mod tests {
         packets.concat()
     }
 
-    /// The certificates' signatures, as place, component and body, and what was told.
+    /// The certificates' signatures, as place, component and body, and what was reported.
     #[allow(clippy::type_complexity)]
     fn cut(text: &[u8], public: bool) -> (Vec<Vec<(Place, Vec<u8>, Vec<u8>)>>, Vec<(usize, What)>) {
         let mut told = Vec::new();

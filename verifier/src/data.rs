@@ -1,4 +1,4 @@
-//! Signatures on data: whether each is good, and by which key of which certificate. The library judges most of them,
+//! Signatures on data: whether each is good, and by which key of which certificate. The library verifies most of them,
 //! and this program those that the library can't (`own`).
 
 use std::fs::{File, OpenOptions};
@@ -100,7 +100,7 @@ fn whole(path: &Path, content: Option<&Path>, library: Library) -> Result<Vec<Fi
     }
 }
 
-/// Judges the signatures of a message as those that stand apart from its data.
+/// Verifies the signatures of a message as those that stand apart from its data.
 fn taken_apart(
     message: &Message,
     file: &mut File,
@@ -132,7 +132,7 @@ fn taken_apart(
     mixed.findings(copy)
 }
 
-/// Seconds since 1970, of a moment that is given or of now.
+/// Seconds since 1970, of a given time or the current one.
 fn time(at: Option<u32>) -> u64 {
     let now = || SystemTime::now().duration_since(UNIX_EPOCH).map_or(0, |since| since.as_secs());
     at.map_or_else(now, u64::from)

@@ -74,7 +74,7 @@ impl Finding {
         }
     }
 
-    /// Of a signature that this program judges by itself.
+    /// Of a signature that this program verifies by itself.
     pub fn on(word: Word, signature: &Own, made: Option<u32>) -> Finding {
         let key = signature.issuers().first().map(|issuer| match issuer {
             Issuer::Fingerprint(fingerprint) => fingerprint.to_string(),

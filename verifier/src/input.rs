@@ -53,7 +53,7 @@ fn read_folder(folder: &Path, notices: &mut Vec<Notice>, texts: &mut Vec<Text>) 
     Ok(())
 }
 
-/// The names in a folder that are so many lower-case digits, in their order.
+/// The names in a folder that are lower-case digits of these lengths, in their order.
 fn names(folder: &Path, lengths: &[usize]) -> io::Result<Vec<String>> {
     let mut names = Vec::new();
     for entry in fs::read_dir(folder)? {

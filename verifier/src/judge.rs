@@ -18,9 +18,9 @@ pub enum Verdict {
 
 pub struct Judge {
     pub issuers: Issuers,
-    /// Whether signatures on attributes and subkeys are judged too.
+    /// Whether signatures on attributes and subkeys are verified too.
     pub all: bool,
-    /// The only numbers that are judged, where there are such.
+    /// The only numbers that get a verdict, if there are such.
     pub pending: Option<HashSet<Number>>,
 }
 

@@ -1,4 +1,4 @@
-//! Signatures on data as the library judges them, by its standard policy, also on the subkey that signed: its binding,
+//! Signatures on data as the library verifies them, by its standard policy, also on the subkey that signed: its binding,
 //! its flags, its end and its revocations.
 
 use std::io::Read;
@@ -18,7 +18,7 @@ use crate::data::Stop;
 use crate::finding::{Finding, Word};
 use crate::holders::Holders;
 
-/// Judges by these certificates, at a time or now.
+/// Verifies with these certificates, at a time or now.
 #[derive(Clone, Copy)]
 pub struct Library<'h> {
     pub holders: &'h Holders<'h>,

@@ -1,4 +1,4 @@
-//! Verifies the signatures of OpenPGP keyrings, and writes the script that tells Tukyamid; and those on data.
+//! Verifies the signatures of OpenPGP keyrings, and writes the script for the engine; and those on data.
 
 mod bound;
 mod certificate;

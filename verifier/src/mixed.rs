@@ -1,4 +1,4 @@
-//! Signatures on the same data, of which the library judges some and this program the others.
+//! Signatures on the same data, of which the library verifies some and this program the others.
 
 use std::io::{self, Cursor, Read};
 
@@ -20,7 +20,7 @@ enum Part<'s> {
 }
 
 impl<'s> Mixed<'s> {
-    /// Of the bodies of signatures, to be judged at a time.
+    /// Of the bodies of signatures, to be verified at a time.
     pub fn new(bodies: &'s [Vec<u8>], library: Library<'s>, time: u64) -> Mixed<'s> {
         let mut judge = Judge::new(library.holders, time);
         let part = |body: &'s Vec<u8>| match Judge::is_mine(library.holders, body) {
@@ -30,7 +30,7 @@ impl<'s> Mixed<'s> {
         Mixed { library, parts: bodies.iter().map(part).collect() }
     }
 
-    /// Whether the library judges any, so that it has to read the data too.
+    /// Whether the library verifies any, so that it has to read the data too.
     pub fn has_others(&self) -> bool {
         self.parts.iter().any(|part| matches!(part, Part::Other(_)))
     }

@@ -1,4 +1,4 @@
-//! What a user is told on standard error.
+//! The messages to a user on standard error.
 
 use std::fmt;
 

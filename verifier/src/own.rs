@@ -1,4 +1,4 @@
-//! Signatures on data that this program judges by itself, since the library can't: those of version 6, and those by
+//! Signatures on data that this program verifies by itself, since the library can't: those of version 6, and those by
 //! keys of RFC 9580's new algorithms or of a curve that the library hasn't, or by a subkey of such a key.
 
 use std::collections::HashMap;
@@ -19,7 +19,7 @@ const CLOCKS_DIFFER: u64 = 30 * 60;
 /// Each of them is a pass over the data, so that a file of very many would take for ever.
 const MOST: usize = 64;
 
-/// Judges at one time.
+/// Verifies at one time.
 pub struct Judge<'h> {
     holders: &'h Holders<'h>,
     time: u64,
@@ -54,7 +54,7 @@ impl<'h> Judge<'h> {
         Judge { holders, time, bound: HashMap::new(), waiting: 0 }
     }
 
-    /// Whether the library can't judge a signature, by its version, its algorithm or a key that it names.
+    /// Whether the library can't verify a signature, by its version, its algorithm or a key that it names.
     pub fn is_mine(holders: &Holders, body: &[u8]) -> bool {
         let signature = match Signature::read(body) {
             Some(signature) => signature,
@@ -181,7 +181,7 @@ impl Waiting<'_> {
     }
 }
 
-/// What a signature says; an Err if it is nothing that can be judged.
+/// What a signature says; an Err if it can't be verified.
 fn facts_of(signature: &Signature) -> Result<Facts, Finding> {
     let subpackets = signature.hashed_subpackets();
     let facts = subpackets.map_or(Err(Unfit::Malformed), |subpackets| Facts::of(&subpackets));

@@ -181,7 +181,7 @@ impl<'a> Packets<'a> {
         }
     }
 
-    /// A big-endian number of so many octets.
+    /// A big-endian number of this many octets.
     fn number(&mut self, octets: usize) -> Result<usize, Why> {
         let digits = self.take(octets, Why::CutLength)?;
         Ok(digits.iter().fold(0, |number, digit| (number << 8) + *digit as usize))

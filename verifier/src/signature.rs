@@ -2,7 +2,7 @@
 
 use crate::fingerprint::{Fingerprint, KeyId};
 
-/// The kinds of signatures (RFC 9580, section 5.2.1) that this program verifies.
+/// The signature types (RFC 9580, section 5.2.1) that this program verifies.
 pub mod kind {
     pub const BINARY: u8 = 0;
     pub const TEXT: u8 = 1;

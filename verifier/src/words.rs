@@ -20,19 +20,19 @@ Arguments:
 
 Options of keyrings:
   --with FILE..      Keyrings or directories whose keys may be issuers, and whose certificates aren't written
-  --all              Judge signatures on user attributes and subkeys too
+  --all              Verify signatures on user attributes and subkeys too
   --public           Drop the secret parts of secret keys, which are otherwise left out whole
-  --certificates     Write the lines `import` alone, and verify nothing
-  --pending          Read the engine's reply to `pending` from standard input, and write the verdicts on these
-                     signatures alone
-  --jobs N           Judge on N processors, by default on all
+  --certificates     Write only `import` lines, and verify nothing
+  --pending          Read the engine's reply to `pending` from standard input, and write verdicts only
+                     on these signatures
+  --jobs N           Verify on N processors, by default on all
   --stats            Print statistics on standard error at the end
 
 Options of data:
-  --data FILE        Judge the signatures on this file (- is standard input) by the certificates of the keyrings
+  --data FILE        Verify the signatures on this file (- is standard input) with the keyrings' certificates
   --signature FILE   Signatures that stand apart from the data; otherwise the data is a signed message or text
   --content FILE     Write what is signed to this new file
-  --at SECONDS       Judge as of this time in seconds since 1970, by default now
+  --at SECONDS       Verify as of this time in seconds since 1970, by default now
 
   -h, --help         Print this text
   -V, --version      Print the versions of this program and of its libraries

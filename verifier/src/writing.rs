@@ -1,4 +1,4 @@
-//! Judging on all processors, and writing in order.
+//! Verifies on all processors, and writes in order.
 
 use std::collections::BTreeMap;
 use std::io::{self, Write};
@@ -12,7 +12,7 @@ use crate::progress::Progress;
 use crate::script::Script;
 use crate::stats::Counts;
 
-/// Judges on so many processors, by default on all, and writes each certificate's lines in the order of the
+/// Verifies on this many processors, by default on all, and writes each certificate's lines in the order of the
 /// certificates.
 pub fn write<W: Write>(
     certificates: &[Certificate],

@@ -117,7 +117,7 @@ def _pieces(file: BinaryIO) -> Iterator[tuple[int, bytes]]:
 
 
 def _pass_ok(wire: Wire, counts: Iterable[int]) -> bool:
-    """Reads the replies to so many lines, and returns whether each is a line that begins with `ok`."""
+    """Reads the replies to that many lines, and returns whether each is a line that begins with `ok`."""
     rest, left = b"\n", 0
     for count in counts:
         left += count  # Below 0 if replies have come to lines that weren't counted yet.

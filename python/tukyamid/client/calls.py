@@ -30,8 +30,8 @@ class Calls(ABC):
 
     @abstractmethod
     def told(self) -> list[Watched | Gone]:
-        """What watches were told since the last call, in order. A service also tells what the changes of other clients
-        have made of them."""
+        """The watch lines since the last call, in order. Those of a service also report what other clients' changes
+        have made of the amounts."""
 
     @overload
     def do(self, command: Command[R]) -> R: ...
@@ -98,7 +98,7 @@ class Calls(ABC):
         return self.do(commands.List(view, wanted))
 
     def begin_cursor(self, cursor: str, view: str, wanted: int) -> None:
-        """Begins a cursor over the bindings of `list`, or begins it anew."""
+        """Starts or restarts a cursor over the bindings of `list`."""
         self.do(commands.CursorOver(cursor, view, wanted))
 
     def next_piece(self, cursor: str, count: int) -> Listing[Binding] | Stale:
@@ -117,7 +117,7 @@ class Calls(ABC):
 
     def list_in_pieces(self, cursor: str, view: str, wanted: int, count: int = 1000) -> Iterator[Binding | Stale]:
         """The bindings of `list`, in pieces of a cursor: other lines can be sent in between. If the list goes stale, a
-        `Stale` comes, and then all bindings anew, from the first."""
+        `Stale` comes, and then all bindings again, from the first."""
         self.begin_cursor(cursor, view, wanted)
         while True:
             piece = self.next_piece(cursor, count)
@@ -131,7 +131,7 @@ class Calls(ABC):
                 return
 
     def watch(self, watch: str, view: str, fpr: str, wanted: int, user_id: UserId) -> int:
-        """Begins a watch over the answer of `ask`, or begins it anew, and returns its amount now. Whenever that
+        """Starts or restarts a watch over the answer of `ask`, and returns its current amount. Whenever that
         changes, `told` has it."""
         return self.do(commands.WatchOn(watch, view, fpr, wanted, user_id)).amount
 

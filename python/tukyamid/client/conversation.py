@@ -1,5 +1,5 @@
 """What the plain and the asynchronous connection have in common: how a line and its reply belong together, and what
-watches are told in between."""
+watch lines come in between."""
 
 from collections.abc import Callable
 
@@ -8,7 +8,7 @@ from ..replies import Done, Gone, Reply, Watched
 
 Progress = Callable[[str], None]
 
-PROBE, PROBED = b"?", "refused line"  # A line that is no command: behind its reply no watch is told anything.
+PROBE, PROBED = b"?", "refused line"  # A line that is no command: no watch line follows its reply.
 
 
 def no_progress(text: str) -> None:
@@ -22,25 +22,25 @@ def begun_watch(line: bytes) -> str | None:
 
 
 class Conversation:
-    """The watches that are there, and what they were told since `take_told`."""
+    """The watches that are there, and their lines since `take_told`."""
 
     def __init__(self) -> None:
         self.watches: set[str] = set()
         self._told: list[Watched | Gone] = []
 
     def take_told(self) -> list[Watched | Gone]:
-        """What watches were told since the last call."""
+        """The watch lines since the last call."""
         told, self._told = self._told, []
         return told
 
     @staticmethod
     def octets_for(line: bytes) -> bytes:
-        """What is sent for a line. A probe goes before a line that begins a watch: so what an earlier watch of this
-        name is told isn't taken for the reply."""
+        """What is sent for a line. A probe goes before a line that begins a watch: so lines of an earlier watch of
+        this name aren't taken for the reply."""
         return (PROBE + b"\n" if begun_watch(line) else b"") + line + b"\n"
 
     def reply_to(self, line: bytes, progress: Progress) -> Reader[Reply]:
-        """Reads the reply to a line, and before it what watches were told: behind earlier replies, or by a service at
+        """Reads the reply to a line, and before it watch lines: those behind earlier replies, or from a service at
         any time. `progress` is called with how far the service has come. A refusal is raised. Of a listing only the
         head is read."""
         watch = begun_watch(line)
@@ -55,7 +55,7 @@ class Conversation:
         return reply
 
     def hear(self) -> Reader[None]:
-        """Reads what watches were told, up to the reply to a probe."""
+        """Reads watch lines, up to the reply to a probe."""
         while (line := (yield)) != PROBED:
             self.hear_line(line)
 
@@ -70,7 +70,7 @@ class Conversation:
                 self.hear_line(line)
 
     def hear_line(self, line: str) -> None:
-        """Takes a line that a watch is told."""
+        """Takes a watch line."""
         told = read_watch(line)
         if isinstance(told, Gone):
             self.watches.discard(told.watch)

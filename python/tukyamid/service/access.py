@@ -1,4 +1,4 @@
-"""The way to the database for all that the service does beside one another: one thread writes, one looks up what people
+"""The way to the database for everything that the service does in parallel: one thread writes, one looks up what people
 seek, which may take long, and one reads what questions rest on."""
 
 from __future__ import annotations

@@ -55,7 +55,7 @@ class Asker:
         return (await self.loader.ask(value, lambda name: [b"%s %s%s" % (word, name, rest)]))[0]
 
     def _has_at_hand(self, value: Value, rest: bytes) -> bool:
-        """Whether all that the reply to a line `ask` rests on is loaded. What was looked up before tells that, with no
+        """Whether all that the reply to a line `ask` rests on is loaded. What was looked up before shows that, with no
         look into the database."""
         target, found = target_of(rest[1:]), self.slices.kept(roots_of(value))
         return (target is not None and found is not None and found.is_whole

@@ -43,7 +43,7 @@ class Committer:
         self._failed = failed
         self._queue: deque[Change | Barrier] = deque()
         self.is_busy = False
-        self._left_alone = 0  # So many changes are committed one by one.
+        self._left_alone = 0  # The number of changes that are still to be committed one by one.
         self._probed = float("-inf")
         self._tasks: set[asyncio.Task[None]] = set()
 

@@ -1,4 +1,4 @@
-"""The cursors of one client. Whether one is stale is told by the counts of the service: an engine that took another's
+"""The cursors of one client. The counts of the service decide whether one is stale: an engine that took another's
 place has counts of its own."""
 
 from __future__ import annotations

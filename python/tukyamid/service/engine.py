@@ -21,7 +21,7 @@ _LONGEST_WAIT = 10.0
 
 
 class Home(Protocol):
-    """What an engine tells the hub."""
+    """What an engine reports to the hub."""
 
     def tell(self, text: str) -> None: ...
 
@@ -70,8 +70,8 @@ class Engine:
         return self._now() - self.waiting[0].since if self.waiting else 0.0
 
     def send_watch(self, line: bytes, done: Done, hear: Hear) -> None:
-        """Sends a line `watch NAME on ..`. `hear` is called with each line that the watch is told behind later lines. A
-        line that is no command stands before it: so what is told behind earlier ones isn't taken for its reply."""
+        """Sends a line `watch NAME on ..`. `hear` is called with each watch line that follows later replies. A
+        line that is no command is sent before it: so watch lines behind earlier replies aren't taken for its reply."""
         self.send(NO_COMMAND, ignore, is_inner=True)
         self.send(line, done, watch=Watch(line, hear))
 
@@ -169,7 +169,7 @@ class Engine:
             running.kill()
 
     def _behind(self, feed: Feed) -> list[bytes]:
-        """What a program is told when it stands where the last one stood."""
+        """The lines for a program that has reached the state of the last one."""
         return [*feed.behind, *(sent.line for sent in self.waiting)]
 
     def _take(self, reply: bytes) -> None:
@@ -222,7 +222,7 @@ class Engine:
                 self.ready.set_result(None)
 
     def _take_told(self, reply: bytes) -> None:
-        """What a watch is told behind a line of anybody's."""
+        """A watch line, behind the reply to anybody's line."""
         name = reply.split(b" ")[1]
         watch = self._standing.watches[name]
         if reply.endswith(b" gone\n"):
@@ -234,7 +234,7 @@ class Engine:
         """The first program never came to stand; whoever waits for that gets this error."""
         if not self.ready.done():
             self.ready.set_exception(error)
-            self.ready.exception()  # Where nobody waits, it is told all the same.
+            self.ready.exception()  # If nobody waits, it counts as read.
 
     def _suspect_first(self) -> None:
         """Gives up the line at which program after program ended. A change that another engine answered is no such

@@ -11,7 +11,7 @@ NO_COMMAND = b"?"  # Its reply shows that a program is there, and changes nothin
 
 class Feed:
     """Passes over the replies to the lines that bring a program to where it is to stand: `count` for the keyring, then
-    those for what stands beside it, then the watches. What a watch wasn't told by the last program is told now."""
+    those for what stands beside it, then the watches. The new program sends watch lines that the last one didn't."""
 
     def __init__(self, count: int, beside: list[bytes], watches: dict[bytes, Watch]) -> None:
         self.behind = [NO_COMMAND, *beside, *(watch.line for watch in watches.values())]
@@ -20,7 +20,7 @@ class Feed:
         self._watches = deque(watches.items())
 
     def take(self, reply: bytes) -> tuple[str, bytes | None]:
-        """A fault, where a line of the keyring wasn't taken; and what a watch is told, if anything."""
+        """A fault, if a line of the keyring wasn't taken; and a watch line, if there is one."""
         self.left -= 1
         if self._of_keyring:
             self._of_keyring -= 1

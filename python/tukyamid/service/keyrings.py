@@ -157,7 +157,7 @@ class Keyrings:
         return refused
 
     async def _verify(self, actor: Actor, say: Say) -> int:
-        """Has the verifier judge what is pending, by the keys of all certificates; gives the number of verdicts."""
+        """Has the verifier look at what is pending, with all certificates' keys; returns how many verdicts it made."""
         loop = asyncio.get_running_loop()
         pending: asyncio.Future[bytes | None] = loop.create_future()
         snapshot: asyncio.Future[Snapshot | None] = loop.create_future()

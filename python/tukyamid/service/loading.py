@@ -96,7 +96,7 @@ class Loader:
             raise BudgetPassed
 
     def _oldest(self, count: int, base: Collection[bytes], needed: Collection[bytes]) -> list[bytes]:
-        """Up to so many that are loaded and not needed, those used least recently first."""
+        """Up to this many that are loaded and not needed, those used least recently first."""
         found: list[bytes] = []
         for _ in range(len(self._loaded)):
             if len(found) >= count:

@@ -15,7 +15,7 @@ _MOST_IN_MEMORY = 1 << 20
 
 
 class Slot:
-    """The place of a line's reply among the replies; or of what a watch is told. `finish` makes the client's reply of
+    """The place of a line's reply, or of a watch line, among the replies. `finish` makes the client's reply of
     the engine's, by the number of the last change before it."""
     __slots__ = ("word", "size", "watch", "reply", "is_answered", "finish")
 
@@ -62,7 +62,7 @@ class Outbox:
         self.octets += slot.size
 
     def tell(self, watch: bytes, reply: bytes) -> None:
-        """What a watch is told stands behind the replies so far; but before that to a line of the same watch."""
+        """A watch line comes after the replies so far, but before the reply to a line of the same watch."""
         slot = Slot(b"watch", 0)
         slot.reply, slot.is_answered = reply, True
         place = next((at for at, other in enumerate(self.slots) if other.watch == watch and not other.is_answered),

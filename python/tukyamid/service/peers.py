@@ -11,7 +11,7 @@ NOBODY = -1
 
 
 def actor_of(connection: int) -> Actor:
-    """The user and the process that have connected to this socket, as the system tells them."""
+    """The user and the process that have connected to this socket, as the kernel reports them."""
     try:
         with socket.socket(fileno=os.dup(connection)) as own:
             octets = own.getsockopt(socket.SOL_SOCKET, socket.SO_PEERCRED, _CREDENTIALS.size)

@@ -62,7 +62,7 @@ CREATE TABLE sources (
 """
 
 # What a keyring that is larger than an engine is searched by: trust signatures by issuer and by target, which are few,
-# and the signatures that nobody has judged.
+# and the signatures without a verdict.
 _SECOND = """
 CREATE INDEX trust_by_issuer ON certifications (issuer, target) WHERE depth > 0;
 CREATE INDEX trust_by_target ON certifications (target, issuer) WHERE depth > 0;

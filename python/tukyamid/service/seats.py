@@ -59,7 +59,7 @@ class Seats:
 
     def pin(self, value: Value, has_cursor: bool) -> Seat | None:
         """A view of this value that stays; None if no engine has room, and no other may be started. One with a cursor
-        is shared, since what it is told never turns it; any other is its client's own."""
+        is shared, since no line ever changes it; any other belongs to its client."""
         for engine in sorted(self._engines, key=lambda one: len(self._seats.get(one, ()))):
             seat = self._pin_at(engine, value, has_cursor)
             if seat is not None:
@@ -109,7 +109,7 @@ class Seats:
 
     def _moved(self, engine: Engine, value: Value) -> Seat | None:
         """A view of these roots at a somewhat earlier time, moved on to the time of `value`; None if there is none. It
-        costs an engine far less than a new view, so those who ask as of now each time needn't wait for one."""
+        costs an engine far less than a new view, so whoever asks about the current time each time needn't wait."""
         time, roots = value
         earlier = [seat for seat in self._seats.get(engine, ()) if seat.value is not None and not seat.pins
                    and seat.value[1] == roots and 0 < int(time) - int(seat.value[0]) <= _MOST_MOVED]

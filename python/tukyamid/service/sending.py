@@ -23,7 +23,7 @@ class Sent:
 
 
 class Held:
-    """A reply, or what a watch is told, that rests on a change that isn't committed yet."""
+    """A reply, or a watch line, that rests on a change that isn't committed yet."""
     __slots__ = ("point", "sent", "reply", "watch")
 
     def __init__(self, point: Point, sent: Sent | None, reply: bytes, watch: Watch | None) -> None:

@@ -65,7 +65,7 @@ class SlicedCursors:
         self._cursors: dict[bytes, SlicedCursor] = {}
 
     def take(self, name: bytes, cursor: SlicedCursor, count: int, taken: int) -> None:
-        """Takes over a cursor from which so many bindings were taken."""
+        """Takes over a cursor from which this many bindings were taken."""
         cursor.count, cursor.taken = count, taken
         self._cursors[name] = cursor
 

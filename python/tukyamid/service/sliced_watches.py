@@ -1,4 +1,4 @@
-"""Watches over a keyring that is larger than an engine: behind each change, those that rest on it are asked anew."""
+"""Watches over a keyring that is larger than an engine: behind each change, those that rest on it are asked again."""
 
 from __future__ import annotations
 
@@ -21,8 +21,8 @@ _ON = re.compile(rb"on ([a-z0-9_-]{1,32})( ((?:[0-9a-fA-F]{24})?[0-9a-fA-F]{40})
 
 
 class Watch:
-    """A watch of a client over its view of this name: the view's value, the question behind it, the amount that was
-    told last, and who hears another one. `hear` gets None when the watch is gone."""
+    """A watch of a client over its view of this name: the view's value, the question behind it, the last
+    reported amount, and who hears another one. `hear` gets None when the watch is gone."""
     __slots__ = ("name", "view", "value", "rest", "target", "told", "hear")
 
     def __init__(self, name: bytes, view: bytes, value: Value, rest: bytes, target: bytes) -> None:
@@ -57,7 +57,7 @@ class Watched:
             await self.look_at(watch)
 
     async def look_at(self, watch: Watch) -> None:
-        """Tells an amount that isn't the last one. A watch that can't be answered any more is gone."""
+        """Reports an amount that isn't the last one. A watch that can't be answered any more is gone."""
         await self._sliced.answer(partial(self._sliced.amount, watch.value, watch.rest), partial(self._tell, watch))
 
     def _tell(self, watch: Watch, reply: bytes | None, _: int) -> None:
@@ -86,7 +86,7 @@ class SlicedWatches:
         self._is_used = False
 
     def take(self, name: bytes, view: bytes, value: Value, rest: bytes, told: bytes) -> None:
-        """Takes over a watch that was told this amount."""
+        """Takes over a watch whose last reported amount is this."""
         one = self._watches[name] = Watch(name, view, value, rest, bytes.fromhex(rest.split(b" ")[1].decode()))
         one.told, one.hear, self._is_used = told, partial(self._heard, name, one), True
         self._sliced.watched.watches.add(one)

@@ -1,4 +1,4 @@
-"""The slices of a keyring: from a view's roots, whoever is reached by certifications with a depth of at least 1.
+"""The slices of a keyring: from a view's roots, whoever is reached by trust signatures.
 
 A law of the engine (docs/PROOF.md, sentence 4) says that the answer about a certificate rests on a slice and that
 certificate alone. A slice that has more members than needed is one all the same.

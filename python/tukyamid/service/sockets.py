@@ -86,7 +86,7 @@ def passed_sockets() -> list[tuple[Passed, bool]]:
 
 
 def notify(text: str) -> None:
-    """Tells systemd how the service is, where systemd has started it and wants to know."""
+    """Reports to systemd how the service is, if systemd has started it and wants to know."""
     address = os.environ.get("NOTIFY_SOCKET")
     if address:
         with socket.socket(socket.AF_UNIX, socket.SOCK_DGRAM) as sender:

@@ -138,7 +138,7 @@ class Sqlite:
     def snapshot(self, before: Snapshot | None = None) -> SqliteSnapshot:
         if not isinstance(before, SqliteSnapshot):
             return SqliteSnapshot(connect(self.path))
-        # The log begins anew only if all of it is in the file, and nobody reads what it had. Where each snapshot
+        # The log starts again only if all of it is in the file, and nobody reads what it had. Where each snapshot
         # overlapped the one before it, the log would grow for ever.
         before.renew(lambda: self._connection.execute("PRAGMA wal_checkpoint").fetchall())
         return before

@@ -1,5 +1,5 @@
-"""What an engine holds beside the keyring: views, watches and cursors, as the answered lines tell them; a new program
-in its place is told them again."""
+"""What an engine holds beside the keyring: views, watches and cursors, according to the answered lines; a new program
+in its place gets them again."""
 
 from __future__ import annotations
 
@@ -11,7 +11,7 @@ Hear = Callable[[bytes], None]
 
 
 class Watch:
-    """A watch of the program: its line, what it was last told, what of that was handed on, and who hears it."""
+    """A watch of the program: its line, the last report of it, what of that was handed on, and who hears it."""
     __slots__ = ("line", "told", "heard", "hear")
 
     def __init__(self, line: bytes, hear: Hear) -> None:

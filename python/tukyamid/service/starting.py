@@ -34,7 +34,7 @@ def is_served(path: Path) -> bool:
         except (FileNotFoundError, ConnectionRefusedError):
             return False
         except BlockingIOError:
-            return True  # So many wait there that no other is let in yet.
+            return True  # Too many wait there for another to be let in yet.
         except OSError as error:
             raise ServiceFailed(f"{path}: {error.strerror or error}") from None
     return True

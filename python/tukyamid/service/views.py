@@ -1,4 +1,4 @@
-"""Views: a client's own, whose lines the service answers, and those of an engine, as the answered lines tell them."""
+"""Views: a client's own, whose lines the service answers, and those of an engine, according to the answered lines."""
 
 from __future__ import annotations
 
@@ -49,7 +49,7 @@ def lines_of(name: bytes, value: Value) -> Iterator[bytes]:
 
 
 class Views:
-    """Open views by name, at most so many."""
+    """Open views by name, up to a limit."""
 
     def __init__(self, most: int = 1 << 30) -> None:
         self._most = most

@@ -29,7 +29,7 @@ class Watching:
 
 
 def renamed(watch: bytes, reply: bytes) -> bytes:
-    """What a watch is told, by its client's name."""
+    """A watch line, with the client's name for the watch."""
     return b"watch %s %s" % (watch, reply.split(b" ", 2)[2])
 
 
@@ -50,7 +50,7 @@ class Watches:
         seat.engine.send(b"%s %s%s" % (word, seat.name, rest), done)
 
     def pass_on(self, line: bytes, reply: bytes, done: Done) -> bool:
-        """Passes on a line of a view that is watched, so that its watches are told; False where it isn't."""
+        """Passes on a line of a view that is watched, so that its watches report it; False if it isn't watched."""
         if reply != b"ok\n" or not self.seats:
             return False
         _, name, rest = line.split(b" ", 2)
@@ -113,8 +113,8 @@ class Watches:
         done(reply, count)
 
     def _heard(self, watch: bytes, begun: Watching, reply: bytes) -> None:
-        """What a watch is told behind the lines of anybody. It stands behind the replies to the client's own lines so
-        far; but before that to one that begins the same watch anew."""
+        """A watch line behind a reply to anybody. It comes after the replies to the client's own lines so
+        far, but before the reply to one that restarts the same watch."""
         known = self._watches.get(watch)
         if known is None or known.name != begun.name:
             return

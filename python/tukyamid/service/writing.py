@@ -97,7 +97,7 @@ class Writing:
         return True
 
     def refresh_certifications(self) -> None:
-        """Makes the certifications of each certificate that was touched anew."""
+        """Makes the certifications of each changed certificate again."""
         for place in self._touched:
             self._connection.execute("DELETE FROM certifications WHERE target = ?", (place,))
             self._connection.execute(f"INSERT INTO certifications {CERTIFIED} AND certificate = ? "

@@ -1,4 +1,4 @@
-"""The certificates that a keyring holds, as a file for the verifier: so both programs judge by the same ones."""
+"""The certificates that a keyring holds, as a file for the verifier: so both programs use the same ones."""
 
 import contextlib
 import tempfile

@@ -4,7 +4,7 @@ In a block `sh` each line is a command. In a block `console` a line `$ ..` is a 
 one are what it prints; a line `...` stands for any lines. A line that ends with a backslash goes on in the next one.
 
 Commands run in a folder of links to the repository's files, where `./wot` is the program that is tested. Commands that
-prove for an hour or change the machine aren't run; the test only checks that they exist.
+can't be run here stand in a table with the reason; the test only checks that they exist.
 """
 
 import re
@@ -18,6 +18,18 @@ from pathlib import Path
 
 from pages import PROGRAM, ROOT, Page
 
+# Pages whose commands are run here.
+PAGES = [
+    "README.md", "CONTRIBUTING.md", "docs/PROTOCOL.md", "docs/PROFILE.md", "docs/PROOF.md", "docs/ARCHITECTURE.md",
+    "docs/CHANGING.md", "docs/SEARCH.md", "docs/READING-PROOFS.md", "docs/SERVICE.md", "docs/INSTALL.md",
+    "model/README.md", "tests/README.md", "python/README.md", "verifier/README.md",
+]
+# The other pages that show commands, and why these aren't run here.
+OTHER_PAGES = {
+    "docs/USING.md": "the suite `python` runs them in their order, and the suite `web` those of the page",
+    "docs/SPEED.md": "benches take minutes; the suite `tools` runs what reads their records",
+    "docs/CLUSTER.md": "needs servers on several machines; the suite `shared` starts such servers here",
+}
 # The beginnings of commands that aren't run, and why.
 NOT_RUN = {
     ".ci/run": "proves everything",
@@ -28,9 +40,17 @@ NOT_RUN = {
     "sudo ": "changes the machine",
     "apt": "changes the machine",
     "verifier/build": "may install packages",
+    "sha256sum --check": "needs built packages: the suite `packages` checks their sums",
+    "python/bin/tukyamid-server --socket": "stays, as a service does: the suite `server` starts it",
+    "socat ": "needs a service that runs: the suite `server` asks one",
+    "python/bin/tukyamid --keyring": "has words that stand for others: the suite `python` asks so",
+    "python/bin/check-claims": "has words that stand for others: the suite `python` checks claims",
+    "verifier/out/wot-verdicts": "needs the built verifier: the suite `verdicts` runs it",
+    "wot-verdicts": "needs the built verifier: the suites `verdicts` and `verify` run it",
+    "(cat ": "needs what the verifier wrote: the suite `verdicts` goes this way",
 }
 # The command `tukyamid` is run by the suites `python` and `packages`, as these pages show it.
-OF_ANOTHER_SUITE = ("tukyamid ", "python/bin/tukyamid")
+OF_ANOTHER_SUITE = ("tukyamid ", "python/bin/tukyamid ")
 ITS_PAGES = ("docs/USING.md", "docs/INSTALL.md")
 
 
@@ -88,12 +108,16 @@ def workshop() -> Iterator[Path]:
                 (top / path.name).symlink_to(path)
         (top / "wot").write_text(f'#!/bin/sh\n[ "$1" != --quick ] || shift\nexec {shlex.quote(str(PROGRAM))} "$@"\n')
         (top / "wot").chmod(0o755)
+        (top / "backup").mkdir()
         yield top
 
 
 def run(command: str, top: Path) -> subprocess.CompletedProcess[str]:
     environment = {"PATH": "/usr/local/bin:/usr/bin:/bin", "HOME": str(top.parent), "LC_ALL": "C.UTF-8",
                    "WOT_PROGRAM": str(PROGRAM), "WOT_ROOT": str(ROOT), "PYTHONDONTWRITEBYTECODE": "1"}
+    # What the packages install, and a folder for backups of its own.
+    environment |= {"PATH": f"{top}/python/bin:{environment['PATH']}", "TUKYAMID_ENGINE": str(PROGRAM)}
+    command = command.replace("/backup/", f"{top}/backup/")
     words = ["bash", "-e", "-o", "pipefail", "-c", command]
     return subprocess.run(words, cwd=top, env=environment, stdin=subprocess.DEVNULL, capture_output=True, text=True,
                           timeout=300, check=False)

@@ -9,15 +9,13 @@ import unittest
 from pathlib import Path
 from typing import Any
 
-from commands import ITS_PAGES, OF_ANOTHER_SUITE, Shown, matches, run, shown_in, workshop
-from pages import PROGRAM, ROOT, Block, page
+from commands import ITS_PAGES, OF_ANOTHER_SUITE, OTHER_PAGES, PAGES, Shown, matches, run, shown_in, workshop
+from pages import PROGRAM, ROOT, Block, page, pages
 from wot_model.machine import COMMANDS
 
-# Pages whose commands are run here. The other pages have suites of their own, which run theirs.
-PAGES = [
-    "README.md", "docs/PROTOCOL.md", "docs/PROFILE.md", "docs/PROOF.md", "docs/ARCHITECTURE.md", "docs/CHANGING.md",
-    "docs/SEARCH.md", "docs/READING-PROOFS.md", "model/README.md", "tests/README.md",
-]
+# How a line of a block begins that is a command.
+PROGRAMS = r"\$ |sudo |apt(-get)? |rt |\./wot |tukyamid|wot-verdicts |(python/bin|tools|tests|model|bench|verifier)/"
+A_COMMAND = re.compile(PROGRAMS)
 QUICKSTART = ROOT / "examples/quickstart.wot"
 
 
@@ -60,16 +58,31 @@ class Commands(unittest.TestCase):
         """Each command ends with status 0 and prints what is shown; one that isn't run is there."""
         count = 0
         with workshop() as top:
+            self.fill_the_service(top)
             for shown in (each for name in PAGES for each in shown_in(page(name))):
                 count += 1
                 with self.subTest(page=shown.page, line=shown.line, command=shown.command):
                     self.check(shown, top)
         self.assertGreater(count, 10)
 
+    def fill_the_service(self, top: Path) -> None:
+        """The database of the service, for the commands about it: the certificates and verdicts of the quickstart."""
+        lines = QUICKSTART.read_bytes().splitlines(keepends=True)
+        (top / "start.wot").write_bytes(b"".join(line for line in lines if line.startswith((b"import", b"verdict"))))
+        self.assertEqual(run("tukyamid-server import-dump start.wot", top).returncode, 0)
+
+    def test_every_page_with_commands_is_run(self) -> None:
+        """A page that shows a command is run here, or named with the reason; and a block of commands says so."""
+        shown = {document.name for document in pages() if any(shown_in(document))}
+        self.assertEqual(shown - set(PAGES) - set(OTHER_PAGES), set())
+        unmarked = [f"{document.name}:{block.line}" for document in pages() for block in document.blocks
+                    if not block.word and any(A_COMMAND.match(line) for line in block.lines)]
+        self.assertEqual(unmarked, [])
+
     def check(self, shown: Shown, top: Path) -> None:
         if shown.reason:
             program = shlex.split(shown.command)[0]
-            if "/" in program and "=" not in program:
+            if "/" in program and "=" not in program and "/out/" not in program:
                 self.assertTrue(os.access(ROOT / program, os.X_OK), program)
             return
         if shown.command.startswith(OF_ANOTHER_SUITE):

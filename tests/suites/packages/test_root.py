@@ -29,7 +29,8 @@ def sources():
 def shown_commands():
     """The two commands of the page on installing that lead from Debian's keyring to an answer."""
     page = (plain.ROOT / "docs" / "INSTALL.md").read_text().replace("\\\n", "")
-    block = next(block for block in re.findall(r"```\n(.*?)```", page, re.DOTALL) if "debian-keyring.gpg" in block)
+    blocks = re.findall(r"```(?:sh)?\n(.*?)```", page, re.DOTALL)
+    block = next(block for block in blocks if "debian-keyring.gpg" in block)
     return [line.partition("  # ")[0].strip() for line in block.splitlines() if line.startswith("tukyamid ")]
 
 

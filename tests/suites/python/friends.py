@@ -1,4 +1,4 @@
-"""A keyring that gpg makes: six people who certify one another, with what must come out known beforehand.
+"""A keyring that gpg makes: six people who certify one another, with results that are known in advance.
 
     Alice  makes Bob an introducer for example.org (depth 1, amount 120), and Carol and Erin one for all (60 and 120)
     Bob    certifies Carol, Dave (of example.net, out of his scope), Erin, and Frank for 30 days

@@ -1,4 +1,4 @@
-"""Claims of absence that the program tells, and claims that nobody would: checked by it, and without it by its dump."""
+"""Claims of absence that the program prints, and wrong ones: checked by it, and without it by its dump."""
 
 import subprocess
 import sys

@@ -196,7 +196,7 @@ class Questions(Asking):
         self.assertEqual(meanings, {"counts, but no path may end here: the key is revoked, for all times"})
 
     def test_beside_sq_wot(self):
-        """Both find the same at 120 and at 40, as of now: another program says what is expected."""
+        """Both find the same at 120 and at 40, at the current time: another program says what is expected."""
         sq_wot = installed("sq-wot", "sq-wot")
         if sq_wot is None:
             self.skipTest("sq-wot isn't there, and couldn't be installed")

@@ -1,4 +1,4 @@
-"""Views that the service's clients share: those who ask as of now, one after the other, move one view on."""
+"""Views that the service's clients share: those who ask about the current time move one view on, in turn."""
 
 import unittest
 

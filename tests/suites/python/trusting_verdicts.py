@@ -12,7 +12,7 @@ from tukyamid.certificates import KEY, key_fingerprint, key_id, packets, read_ce
 
 
 def certificates(octets):
-    """The packets of each certificate, written anew with lengths of four octets."""
+    """The packets of each certificate, written again with lengths of four octets."""
     found = []
     for kind, body in packets(octets):
         if kind == KEY:

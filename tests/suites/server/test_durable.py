@@ -153,7 +153,7 @@ class Refusing(InAFolder):
     """A change that can't be kept is refused, and is none; questions are answered all the while."""
 
     def has(self, client):
-        """The certificates and verdicts that a client is told."""
+        """The certificates and verdicts that a client gets."""
         client.send(b"dump")
         count = int(client.read_line().split(b" ")[1])
         return [line for line in (client.read_line() for _ in range(count)) if not line.startswith(b"view ")]

@@ -38,7 +38,7 @@ class Lines(unittest.TestCase):
         return [client.read_line() for _ in range(int(head.split(b" ")[2]))]
 
     def add(self, name):
-        """The last line of the reply; those before tell how far it is."""
+        """The last line of the reply; those before say how far it is."""
         self.client.send(b"service keyring add " + name)
         while (line := self.client.read_line()).startswith(b"service progress "):
             pass
@@ -134,7 +134,7 @@ class Watched(Lines):
                         if any(self.world.keys[place].hex().encode() in line[:60] for place in places))
 
     def holds(self, count):
-        """Whether so many certificates are kept, and nothing is left to judge."""
+        """Whether this many certificates are kept, and nothing is left to verify."""
         status = self.status()
         return (status[b"certificates"], status[b"pending"]) == (b"%d" % count, b"0")
 

@@ -146,7 +146,7 @@ class Starting(unittest.TestCase):
 
 class InTmp(unittest.TestCase):
     def test_a_folder_that_is_anothers(self):
-        """Whoever may write to /tmp can't have the socket of another."""
+        """Anyone who can write to /tmp still can't have the socket of another."""
         with tempfile.TemporaryDirectory() as folder:
             loose = Path(folder) / "loose"
             loose.mkdir(mode=0o777)

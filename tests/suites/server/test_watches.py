@@ -36,7 +36,7 @@ class Watches(unittest.TestCase):
         return b"drop " + self.world.fprs[TARGET], [line for line in self.world.imports if key in line]
 
     def hears(self, client, last):
-        """The client is told amounts of its watch, the last of which is this."""
+        """The client gets amounts of its watch, the last of which is this."""
         while (told := client.read_line()) != last:
             self.assertRegex(told, rb"^watch w amount [0-9]+$")
 
@@ -81,7 +81,7 @@ class Watches(unittest.TestCase):
         self.assertRegex(mine.tell(self.on(b"w64")), rb"^watch w64 amount ")
 
     def test_a_watch_of_another_view(self):
-        """Begun anew over a view that another engine has, the watch is there once."""
+        """Restarted over a view that another engine has, the watch is there once."""
         mine = self.client(b"keys mine")
         self.assertEqual(mine.tell(b"view q time 5000"), b"ok")
         self.assertRegex(mine.tell(self.on(b"w")), rb"^watch w amount [1-9]")

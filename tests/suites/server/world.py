@@ -112,7 +112,7 @@ class Chatter:
         return b"ask %s %s %s %s" % (self._pick(NAMES[:3]), binding[0], wanted, binding[1])
 
     def _tell(self):
-        """A line whose reply says much: of a view, or of what nobody has judged."""
+        """A line with a long reply: about a view, or about signatures without a verdict."""
         name, draw = self._pick(NAMES[:2]), self._random.random()
         if draw < 0.4:
             return b"list %s %s" % (name, self._pick([b"1", b"40", b"120", b"500"]))

@@ -1,5 +1,5 @@
 """What the database knows of who certified whom, beside plain graphs of the same world; and slices that are kept up to
-date, beside slices that are made anew."""
+date, beside slices that are made from scratch."""
 
 import random
 import tempfile

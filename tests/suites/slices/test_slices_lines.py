@@ -57,7 +57,7 @@ def tell_all(client, lines):
 @needs_engine
 class Budgets(unittest.TestCase):
     """Twenty keys in a row. The first eight are introducers for the key before: from the first one, nine are reached by
-    certifications with depth."""
+    trust signatures."""
 
     def setUp(self):
         self.chain = Chain(20, 8)
@@ -127,7 +127,7 @@ class Budgets(unittest.TestCase):
         self.assertRegex(self.client.tell(b"import " + octets[:-10].hex().encode()), b"^ok taken 10 ")
 
     def test_watches(self):
-        """What rests on a change is told: on the target, on a member of the slice, and on whom a new member brings."""
+        """What rests on a change is reported: on the target, on a member of the slice, and on whom a new member brings."""
         with Client(self.server.path) as other:
             self.assertEqual(self.client.tell(b"watch w on p %s 120 %s" % (self.chain.fprs[9], self.chain.user_ids[9])),
                              b"watch w amount 120")

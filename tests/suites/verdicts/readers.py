@@ -1,6 +1,6 @@
 """What gpg takes as valid in certificates that are damaged, to be set beside the verifier's verdicts.
 
-A signature is told by its certificate, what it stands on, its type, its second and its issuer's key ID.
+A signature is identified by its certificate, what it stands on, its type, its second and its issuer's key ID.
 """
 
 import re

@@ -1,4 +1,4 @@
-"""`verifier/build` on a machine that lacks a package: it says so, and installs nothing unless it is told to. Packages,
+"""`verifier/build` on a machine that lacks a package: it says so, and installs nothing unless asked. Packages,
 the compiler and the terminal are stood in for by programs of the test; nothing is installed or built here."""
 
 import os

@@ -1,4 +1,4 @@
-"""The signed files of the tests: each with the verdicts that are known beforehand, since the tests made it."""
+"""The signed files of the tests: each with the verdicts that are known in advance, since the tests made it."""
 
 from dataclasses import dataclass, field
 
