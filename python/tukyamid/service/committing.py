@@ -7,20 +7,39 @@ from collections import deque
 from collections.abc import Callable, Coroutine
 from concurrent.futures import Executor
 from dataclasses import dataclass
+from functools import partial
+from typing import TypeVar
 
 from .database import Change as Entry
-from .database import Database, DatabaseFault, Snapshot
+from .database import Database, DatabaseFault, Shared, Snapshot, Uncertain
 from .journal import Change
 
 FAULT = b"fault database\n"
+UNCERTAIN = b"fault uncertain\n"
 _MOST_CHANGES = 4096
+_LONGEST_COMMIT = 5.0
 _PROBE_SECONDS = 1.0
+
+
+_R = TypeVar("_R")
+
+
+async def called(executor: Executor, call: Callable[[], _R], cut: Callable[[], None], seconds: float) -> _R:
+    """Calls what waits for a server, in another thread. What lasts too long is cut, and meets that as a fault."""
+    loop = asyncio.get_running_loop()
+    timer = loop.call_later(seconds, cut)
+    try:
+        return await loop.run_in_executor(executor, call)
+    finally:
+        timer.cancel()
 
 
 @dataclass
 class Barrier:
-    """Asks for a snapshot behind the changes that were handed in before it. `done` gets None where there is none."""
+    """Asks for a snapshot behind the changes that were handed in before it. `begun` is called when its place in their
+    order is known, and `done` gets None where there is none."""
     done: Callable[[Snapshot | None], None]
+    begun: Callable[[], None] = lambda: None
 
 
 class Committer:
@@ -32,6 +51,7 @@ class Committer:
         self.count = 0
         self.fault = ""
         self._database = database
+        self._shared = database if isinstance(database, Shared) else None
         self._executor = executor
         self._released = released
         self._failed = failed
@@ -67,7 +87,10 @@ class Committer:
             self._finish(batch, [])
 
     def _next_batch(self) -> list[Change]:
+        """What is ready; of a shared database all that is under way, since its commit ends the turn."""
         batch: list[Change] = []
+        if self._shared is not None and not all(isinstance(one, Change) and one.is_settled for one in self._queue):
+            return batch
         while self._queue and len(batch) < _MOST_CHANGES:
             item = self._queue[0]
             if isinstance(item, Barrier) or not item.is_settled:
@@ -83,9 +106,8 @@ class Committer:
         task.add_done_callback(self._tasks.discard)
 
     async def _commit(self, batch: list[Change], entries: list[Entry]) -> None:
-        loop = asyncio.get_running_loop()
         try:
-            numbers = await loop.run_in_executor(self._executor, self._database.apply, entries)
+            numbers = await self._apply(entries)
         except DatabaseFault as fault:
             self.is_busy = False
             self._fail(batch, fault)
@@ -93,6 +115,12 @@ class Committer:
         self.is_busy = False
         self._finish(batch, numbers)
         self.advance()
+
+    async def _apply(self, entries: list[Entry]) -> list[int]:
+        call = partial(self._database.apply, entries)
+        if self._shared is not None:
+            return await called(self._executor, call, self._shared.cut, _LONGEST_COMMIT)
+        return await asyncio.get_running_loop().run_in_executor(self._executor, call)
 
     def _finish(self, batch: list[Change], numbers: list[int]) -> None:
         following = iter(numbers)
@@ -113,8 +141,9 @@ class Committer:
         for change in failed:
             change.count = self.count
         self._failed(failed)
+        reply = UNCERTAIN if isinstance(fault, Uncertain) else FAULT
         for change in failed:
-            change.done(FAULT, self.count)
+            change.done(reply, self.count)
         self.advance()
 
     def refuses(self) -> bool:

@@ -10,11 +10,13 @@ from functools import partial
 from typing import BinaryIO, TypeVar
 
 from .committing import FAULT, Barrier, Committer
-from .database import Actor, Database, Finder, PutCertificate, Snapshot
+from .database import Actor, Database, Finder, News, PutCertificate, Shared, Snapshot
 from .engine import Engine
 from .journal import Change, Done, Journal, Point
 from .reading import fingerprints
 from .seats import Seats
+from .sending import ignore
+from .turns import Begun, Turns, Waiting
 
 _BUSY_SECONDS = 0.05
 _R = TypeVar("_R")
@@ -37,6 +39,7 @@ class Hub:
         self._finder: Finder | None = None
         self._committer = Committer(database, self._writing, self._release, self._roll_back)
         self._journal: Journal | None = None
+        self._turns: Turns | None = None
         self._is_renewing = False
 
     @property
@@ -49,6 +52,15 @@ class Hub:
         """The number of the last change that is committed."""
         return self._committer.count
 
+    @property
+    def is_shared(self) -> bool:
+        return self._turns is not None
+
+    @property
+    def age(self) -> float:
+        """For how many seconds changes of other services may have been missed."""
+        return self._turns.age if self._turns is not None else 0.0
+
     async def start(self) -> None:
         """Starts the first engine, and waits until it has taken the database; OSError, ValueError or DatabaseFault
         where it can't."""
@@ -56,18 +68,22 @@ class Hub:
         self._committer.count = snapshot.change
         self._journal = Journal(snapshot)
         await self._start_engine().ready
+        if isinstance(self.database, Shared):
+            self._turns = Turns(self.database, self._writing, self._committer, self)
 
     async def close(self) -> None:
         """Ends the engines. What was handed in is answered first, and so is committed."""
         await asyncio.gather(*(engine.close() for engine in self.engines))
         while self._committer.is_busy:
             await asyncio.sleep(0.01)
+        if self._turns is not None:
+            await self._turns.close()
+        self._writing.shutdown()
+        self._reading.shutdown()
         if self._finder is not None:
             self._finder.close()
         if self._journal is not None:
             self._journal.close()
-        self._writing.shutdown()
-        self._reading.shutdown()
 
     def tell(self, text: str) -> None:
         print(f"tukyamid-server: {text}", file=sys.stderr, flush=True)
@@ -90,12 +106,21 @@ class Hub:
             self._finder = self.database.finder()
         return look(self._finder)
 
-    def change(self, line: bytes, actor: Actor, done: Done) -> None:
-        """Sends a change to all engines; `done` gets its reply once all have answered and it is committed."""
-        assert self._journal is not None
+    def change(self, line: bytes, actor: Actor, done: Done, begun: Begun = lambda: None) -> None:
+        """Has a change made; `done` gets its reply once all engines have answered and it is committed. `begun` is
+        called when it is sent to them: at once, unless it waits for its turn at a shared database."""
+        if self._turns is not None:
+            self._turns.change(Waiting(line, actor, done, begun))
+            return
+        begun()
         if self._committer.refuses():
             done(FAULT, self.count)
-            return
+        else:
+            self.send_change(line, actor, done)
+
+    def send_change(self, line: bytes, actor: Actor, done: Done) -> None:
+        """Sends a change to all engines, and hands it to the committer."""
+        assert self._journal is not None
         change = self._journal.add(line, set(self.engines), actor, _brought(line), done)
         self._committer.add(change)
         for engine in self.engines:
@@ -107,9 +132,33 @@ class Hub:
         """Sends a line that is no view's, and changes nothing, to the engine that has the least to do."""
         self._least_busy().send(line, done)
 
-    def snapshot(self, done: Callable[[Snapshot | None], None]) -> None:
-        """Asks for a snapshot of the keyring behind the changes so far."""
-        self._committer.add(Barrier(done))
+    def snapshot(self, done: Callable[[Snapshot | None], None], begun: Begun = lambda: None) -> None:
+        """Asks for a snapshot of the keyring behind the changes so far; of a shared database, also behind later ones.
+        `begun` is called when its place among them is known."""
+        if self._turns is not None:
+            self._turns.snapshot(Barrier(done, begun))
+        else:
+            begun()
+            self._committer.add(Barrier(done))
+
+    def take_news(self, news: News) -> None:
+        """Has all engines take what other services have changed. Nothing is under way in them that isn't committed."""
+        assert self._journal is not None
+        if news.lines is None:
+            assert news.snapshot is not None
+            self._committer.count = news.snapshot.change
+            point = self._journal.begin_anew(news.snapshot)
+            for engine in self.engines:
+                engine.roll_back(point)
+            return
+        for number, line in news.lines:
+            self.note(0, line)
+            change = self._journal.add_committed(line, set(self.engines), number, ignore)
+            self._committer.count = number
+            for engine in self.engines:
+                engine.send(line, ignore, change)
+        if news.lines:
+            self._release()
 
     def withdraw_where_all_are_stuck(self, change: Change) -> None:
         """A change that ends every program, and that none has answered, is withdrawn from all."""
@@ -161,17 +210,18 @@ class Hub:
         self._settle()
         if self._journal.is_long() and not self._is_renewing:
             self._is_renewing = True
-            self._committer.add(Barrier(partial(self._renewed, self._journal.last)))
+            self.snapshot(partial(self._renewed, None if self._turns is not None else self._journal.last))
 
     def _settle(self) -> None:
         assert self._journal is not None
         self._journal.settle(min(engine.point.place for engine in self.engines))
 
-    def _renewed(self, point: Point, snapshot: Snapshot | None) -> None:
+    def _renewed(self, point: Point | None, snapshot: Snapshot | None) -> None:
+        """Takes a snapshot behind this point; of a shared database it is behind all changes so far."""
         self._is_renewing = False
         assert self._journal is not None
         if snapshot is not None:
-            self._journal.offer(point, snapshot)
+            self._journal.offer(point or self._journal.last, snapshot)
             self._settle()
 
     def _roll_back(self, failed: list[Change]) -> None:

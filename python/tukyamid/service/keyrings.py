@@ -80,13 +80,17 @@ class Keyrings:
 
     async def watch(self) -> None:
         """Looks after the keyrings, for ever."""
+        told = ""
         while True:
             try:
                 for source in await self._hub.find(lambda finder: finder.sources()):
                     async with self._lock:
                         await self._look_after(source.name)
+                told = ""
             except DatabaseFault as fault:
-                self._hub.tell(str(fault))
+                if told != str(fault):
+                    self._hub.tell(str(fault))
+                told = str(fault)
             await asyncio.sleep(_PAUSE)
 
     async def _look_after(self, name: str) -> None:

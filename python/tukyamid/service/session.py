@@ -69,6 +69,7 @@ class Session(asyncio.Protocol):
         self._cutter = LineCutter()
         self._lines: deque[bytes | None] = deque()
         self._views = Views(rights.most_views)
+        self._waiting_changes = 0
         self._is_beginning = False
         self._is_ended = False
         self._is_paused = False
@@ -142,6 +143,8 @@ class Session(asyncio.Protocol):
         if self.outbox.is_done:
             return True
         word = line.partition(b" ")[0]
+        if self._waiting_changes and word not in CHANGES:
+            return False
         if word in ALONE or not slots or slots[-1].word in ALONE:
             return False
         if word == b"watch" and any(slot.word == b"watch" for slot in slots):
@@ -158,25 +161,34 @@ class Session(asyncio.Protocol):
         if word in OF_THE_DIRECTORY and self.rights.may_change or word == b"service":
             self._task = asyncio.get_running_loop().create_task(self._help(slot, line))
             return
+        if word in CHANGES and self.rights.may_change:
+            self._waiting_changes += 1
+            self.hub.change(line, self.actor, partial(self._answered, slot), partial(self._begun, line))
+            return
+        if line == b"dump":
+            self._dump(slot, line)
+            return
         self.hub.note(self.number, line)
         if word in MAY_CHANGE and not self.rights.may_change:
             self.outbox.answer(slot, REFUSED_READ_ONLY)
-        elif word in CHANGES:
-            self.hub.change(line, self.actor, partial(self._answered, slot))
         elif word in OF_A_VIEW:
             self._ask_view(slot, line)
         elif word in OF_THE_KEYRING:
             self.hub.ask(line, partial(self._answered, slot))
         elif word == b"view":
             self._take_view(slot, line)
-        elif word == b"dump":
-            self._dump(slot, line)
         elif word == b"watch":
             self.watches.begin(slot, line, partial(self._answered, slot))
         elif word == b"cursor":
             self.cursors.begin(slot, line, partial(self._answered, slot))
         else:
             self.outbox.answer(slot, REFUSED_LINE)
+
+    def _begun(self, line: bytes) -> None:
+        """A change has its place in the order: lines behind it may have theirs."""
+        self._waiting_changes -= 1
+        self.hub.note(self.number, line)
+        self._begin_lines()
 
     def _answered(self, slot: Slot, reply: bytes | None, count: int) -> None:
         if reply is None:
@@ -203,11 +215,9 @@ class Session(asyncio.Protocol):
             self.outbox.answer(slot, reply)
 
     def _dump(self, slot: Slot, line: bytes) -> None:
-        if line != b"dump":
-            self.outbox.answer(slot, REFUSED_LINE)
-            return
         views = list(self._views.lines())
-        self.hub.snapshot(lambda snapshot: self._dumped(slot, snapshot, views))
+        self.hub.snapshot(lambda snapshot: self._dumped(slot, snapshot, views),
+                          partial(self.hub.note, self.number, line))
 
     def _dumped(self, slot: Slot, snapshot: Snapshot | None, views: list[bytes]) -> None:
         if snapshot is None:
