@@ -1,7 +1,7 @@
 """An answer with what people want to know about it: who, when, by which signature, and why others don't count."""
 
 import functools
-from collections.abc import Callable, Mapping
+from collections.abc import Callable, Iterable, Mapping
 from typing import NamedTuple, Protocol
 
 from .certificates import Signature
@@ -96,23 +96,49 @@ def brief(view: View, binding: Binding, wanted: int) -> Assessment:
                       elsewhere(view, binding.fpr), brief=True)
 
 
+class Question:
+    """A binding that was asked about: its answer, and what the engine says about each certification of the user ID.
+    `explanation` is None if there is no such certificate or user ID."""
+
+    def __init__(self, view: View, fpr: str, user_id: bytes, wanted: int) -> None:
+        self.view, self.fpr, self.user_id, self.wanted = view, fpr, user_id, wanted
+        answer = view.ask(fpr, wanted, user_id)
+        explain = functools.cache(view.explain)
+        self.amount = answer.amount
+        self.paths = tuple(ShownPath(path.amount, path.root, tuple(_step(view, explain, step) for step in path.steps))
+                           for path in answer.paths)
+        self.used = {step.number for path in self.paths for step in path.steps}
+        self.explanation = explain(fpr, user_id)
+
+    @property
+    def word(self) -> TargetWord | MissingWord:
+        if self.explanation is not None:
+            return self.explanation.word
+        return MissingWord.ABSENT if self.view.keyring.certificate(self.fpr) is None else MissingWord.NO_UID
+
+    def unused(self) -> list[Reason]:
+        """The certifications of the user ID that are on no path."""
+        reasons = self.explanation.reasons if self.explanation is not None else ()
+        return [reason for reason in reasons if reason.number not in self.used]
+
+    def others(self, reasons: Iterable[Reason]) -> tuple[Other, ...]:
+        """What is said about these certifications."""
+        if self.explanation is None:
+            return ()
+        why = _WhyUnused(self.view, self.fpr, self.explanation.word, self.amount >= self.wanted)
+        return tuple(_other(self.view, self.fpr, self.user_id, reason, why, reason.number in self.used)
+                     for reason in reasons)
+
+
 def assess(view: View, fpr: str, user_id: bytes, wanted: int, every: bool = False) -> Assessment:
     """Asks about a binding, and gathers what is said about its answer. If `every` certification is wanted, those on its
     paths stand among the others too."""
-    answer = view.ask(fpr, wanted, user_id)
-    explain = functools.cache(view.explain)
-    paths = tuple(ShownPath(path.amount, path.root, tuple(_step(view, explain, step) for step in path.steps))
-                  for path in answer.paths)
-    explanation = explain(fpr, user_id)
-    if explanation is None:
-        word = MissingWord.ABSENT if view.keyring.certificate(fpr) is None else MissingWord.NO_UID
-        return Assessment(fpr, user_id, wanted, answer.amount, paths, word, ())
-    used = {step.number for path in paths for step in path.steps}
-    why = _WhyUnused(view, fpr, explanation.word, answer.amount >= wanted)
-    others = [_other(view, fpr, user_id, reason, why, reason.number in used)
-              for reason in explanation.reasons if every or reason.number not in used]
-    expired = elsewhere(view, fpr) if explanation.word is TargetWord.OK else None
-    return Assessment(fpr, user_id, wanted, answer.amount, paths, explanation.word, tuple(others), expired)
+    asked = Question(view, fpr, user_id, wanted)
+    if asked.explanation is None:
+        return Assessment(fpr, user_id, wanted, asked.amount, asked.paths, asked.word, ())
+    others = asked.others(asked.explanation.reasons if every else asked.unused())
+    expired = elsewhere(view, fpr) if asked.word is TargetWord.OK else None
+    return Assessment(fpr, user_id, wanted, asked.amount, asked.paths, asked.word, others, expired)
 
 
 def _step(view: View, explain: Callable[[str, bytes], Explanation | None], step: Step) -> Certification:

@@ -19,10 +19,13 @@ class Certificate:
         self.created = int.from_bytes(key[1:5], "big")
         self.direct: list[Signature] = []
         self.user_ids: dict[bytes, list[Signature]] = {}
+        self._by_number: dict[bytes, dict[str, Signature]] = {}
 
     def signature(self, user_id: bytes, number: str) -> Signature | None:
         """The signature of this number on a user ID; None if there is none."""
-        return next((one for one in self.user_ids.get(user_id, ()) if one.number == number), None)
+        if user_id not in self._by_number:
+            self._by_number[user_id] = {one.number: one for one in self.user_ids.get(user_id, ())}
+        return self._by_number[user_id].get(number)
 
     def signatures_by_itself(self, signatures: list[Signature]) -> list[Signature]:
         """Those of some signatures that name this key as their issuer, which says nothing about who made them."""

@@ -86,5 +86,9 @@ class Engine(Connection):
     def _end_error(self) -> EngineEnded:
         return EngineEnded(self._process.wait())
 
-    def _abandon(self) -> None:
+    def end_at_once(self) -> None:
+        """Ends the program. A call that waits for it raises EngineEnded."""
         self._process.kill()
+
+    def _abandon(self) -> None:
+        self.end_at_once()

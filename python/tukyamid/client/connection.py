@@ -12,7 +12,6 @@ from ..reading import ListingHead, Reader, drive
 from ..refusals import ProtocolError, Refused, TukyamidError
 from ..replies import Gone, Reply, Watched
 from ..spelling import has_reply
-from . import bulk
 from .calls import Calls
 from .conversation import PROBE, Conversation, Progress, no_progress
 from .listing import Listing
@@ -92,6 +91,7 @@ class Connection(Calls):
         with self._lock:
             self._refuse_watches()
             self._begin()
+            from . import bulk  # Its threads and queues are for long scripts; a question starts faster without.
             is_whole = bulk.restore(self._wire, file, self._abandon)
             self._in_exchange = not is_whole
             return is_whole
@@ -104,6 +104,7 @@ class Connection(Calls):
             self._refuse_watches()
             self._begin()
             try:
+                from . import bulk
                 refused = bulk.feed(self._wire, lines, self._receive_and_drop, self._abandon)
             except TukyamidError:
                 raise

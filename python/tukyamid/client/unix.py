@@ -6,9 +6,11 @@ import contextlib
 import io
 import os
 import socket
+import sys
 
-from ..refusals import ServiceEnded, ServiceMissing, TukyamidError
+from ..refusals import RefusedLine, ServiceEnded, ServiceMissing, TukyamidError
 from .connection import Connection
+from .conversation import PROBE
 from .service_calls import ServiceCalls
 from .wire import PIECE
 
@@ -20,6 +22,20 @@ class Client(Connection, ServiceCalls):
         self._socket = connected
         super().__init__(io.BufferedReader(connected.makefile("rb", buffering=0), PIECE),
                          io.BufferedWriter(connected.makefile("wb", buffering=0), PIECE))
+
+    @property
+    def listener(self) -> int:
+        """The number of the process that listens on the socket: the service, or what opened the socket for it."""
+        octets = self._socket.getsockopt(socket.SOL_SOCKET, socket.SO_PEERCRED, 12)
+        return int.from_bytes(octets[:4], sys.byteorder)
+
+    def greet(self, patience: float) -> None:
+        """Returns when the service answers at all. Raises ServiceEnded if it doesn't within `patience` seconds."""
+        before = self._socket.gettimeout()
+        self._socket.settimeout(patience)
+        with contextlib.suppress(RefusedLine):
+            self.send_line(PROBE)
+        self._socket.settimeout(before)
 
     def close(self) -> None:
         """Ends the connection. What was sent before counts."""

@@ -38,6 +38,12 @@ def _command(word: str) -> Run | None:
     if word == "verify":
         from ..verifying import command as verifying
         return verifying.run
+    if word == "web":
+        from ..web import words
+        return words.run
+    if word == "check":
+        from ..proofs import command as checking
+        return checking.run
     if word == "doctor":
         from .. import doctor
         return doctor.run

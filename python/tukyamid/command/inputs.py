@@ -74,6 +74,10 @@ class Inputs:
         return Keyring.open(self.as_paths(sources), self._store(), engine, self.verifier_words, self._given.anew,
                             tell=self._tell)
 
+    def verified(self, sources: list[Source]) -> Keyring:
+        """A keyring of these inputs in an engine of its own; what was verified of them is kept."""
+        return self._by_an_engine(sources)
+
     def _store(self) -> Store | None:
         """Where verified keyrings are kept; None if nothing is to be kept, or if it isn't safe there."""
         from ..store import Store, StoreRefused

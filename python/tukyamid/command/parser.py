@@ -20,6 +20,8 @@ questions:
 
 other commands, each with a --help of its own:
   verify FILE [SIGNATURE] --for WHOM   did WHOM sign this file?
+  web                       a page in the browser: who vouches for whom, when, and what if not
+  check FILE                does an answer hold that somebody else has sent as a file?
   keyring add|remove|list   the keyrings that the service keeps
   status                    what the service holds
   log                       who changed what

@@ -7,12 +7,13 @@ import time
 from collections.abc import Callable
 from typing import TYPE_CHECKING
 
-from ..client import Client, connect
+from ..client import Client
 from ..keyring import Keyring
 from ..refusals import ServiceMissing, TukyamidError
 from ..served import served_keyring
 from .held import find_record, held_file, keep_record
 from .parser import Given
+from .served import answering
 from .sources import Source, Stamp
 
 if TYPE_CHECKING:
@@ -42,6 +43,26 @@ class Reopening:
             from .holding import begin
             begin(str(entry.folder), self._socket())
         return keyring
+
+    def ensure(self, verify: Callable[[], Keyring]) -> Callable[[], str]:
+        """What starts their service unless it runs, and returns its socket. `verify` verifies and keeps them, if that
+        wasn't done before."""
+        served = self.served()
+        if served is not None:
+            served.close()
+        else:
+            verify().close()
+        entry = self._entry()
+        if entry is None:
+            from ..verifier import VerifierFailed
+            raise VerifierFailed("what was verified of the inputs couldn't be kept, and the page needs that")
+        from .holding import main
+        folder, socket = str(entry.folder), self._socket()
+
+        def start() -> str:
+            main([folder, socket])
+            return socket
+        return start
 
     def _stamp(self) -> Stamp | None:
         """The stamp of all inputs, and of how the verifier is found; None if one has none."""
@@ -79,7 +100,7 @@ class Reopening:
 
     def _connect(self) -> Client | None:
         try:
-            return connect(self._socket())
+            return answering(self._socket())
         except ServiceMissing:
             return None
 
@@ -89,7 +110,7 @@ class Reopening:
         if entry is None:
             return None
         from .holding import is_ready, start
-        return connect(start(str(entry.folder), self._socket())) if is_ready(str(entry.folder)) else None
+        return answering(start(str(entry.folder), self._socket())) if is_ready(str(entry.folder)) else None
 
     def _entry(self) -> Entry | None:
         """What was kept of the inputs. TukyamidError if the folder isn't safe."""

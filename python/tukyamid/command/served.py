@@ -1,10 +1,15 @@
 """The keyring that the user's service keeps, and connections to services."""
 
+import os
+
 from ..client import Client, connect
 from ..keyring import Keyring
-from ..refusals import ServiceMissing
+from ..refusals import ServiceEnded, ServiceMissing
 from ..served import served_keyring
+from .failures import NoAnswer
 from .runtime import runtime_file
+
+_PATIENCE = 30.0
 
 
 def of_service() -> Keyring:
@@ -13,9 +18,33 @@ def of_service() -> Keyring:
 
 
 def service() -> Client:
-    """A connection to the user's service, which is started unless it runs."""
+    """A connection to the user's service, which is started unless it runs. NoAnswer if it runs and doesn't answer."""
     try:
-        return connect(runtime_file("tukyamid.socket"))
+        return answering(runtime_file("tukyamid.socket"))
     except ServiceMissing:
         from ..service.starting import ensure
-        return connect(ensure())
+        return answering(ensure())
+
+
+def answering(path: str | os.PathLike[str]) -> Client:
+    """A connection to a service that answers. ServiceMissing if none listens; NoAnswer if it doesn't answer."""
+    client = connect(path)
+    try:
+        client.greet(_PATIENCE)
+    except ServiceEnded:
+        said = _silent(os.fspath(path), client.listener)
+        client.close()
+        raise NoAnswer(said) from None
+    return client
+
+
+def _silent(path: str, process: int) -> str:
+    """What to do about a service that doesn't answer."""
+    try:
+        with open(f"/proc/{process}/cmdline", "rb") as file:
+            is_service = b"tukyamid" in file.read()  # Else systemd has opened the socket.
+    except OSError:
+        is_service = False
+    remedy = f"`kill -9 {process}` ends it" if is_service else "end it"
+    return (f"the service at {path} doesn't answer; {remedy}, which loses nothing that it acknowledged, and the next "
+            "command starts another")

@@ -14,7 +14,7 @@ from tukyamid.addresses import canonical
 from tukyamid.spelling import read_user_id, write_user_id
 
 from .committing import FAULT
-from .database import Binding, DatabaseFault, Figures, Finder
+from .database import Binding, DatabaseFault, Figures, Finder, Shared
 from .directory import Directory, DirectoryFailed
 from .hub import Hub
 from .keyrings import Keyrings
@@ -102,7 +102,7 @@ class Answering:
 
     async def learn(self, hub: Hub) -> None:
         """Reads the figures of a shared database, so that they can be told while it can't be reached."""
-        if hub.is_shared:
+        if isinstance(hub.database, Shared):
             with contextlib.suppress(DatabaseFault):
                 await self._figures(hub)
 

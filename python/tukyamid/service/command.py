@@ -5,6 +5,7 @@ from __future__ import annotations
 import argparse
 import asyncio
 import contextlib
+import importlib
 import os
 import sys
 from collections.abc import Callable, Coroutine, Sequence
@@ -135,11 +136,11 @@ def _doors(given: argparse.Namespace, stack: contextlib.ExitStack) -> list[Door]
 def _run(main_task: Callable[[], Coroutine[None, None, None]]) -> None:
     """Runs the loop of uvloop, where that is installed, since it is the quicker one."""
     try:
-        from uvloop import new_event_loop
+        uvloop = importlib.import_module("uvloop")
     except ImportError:
         asyncio.run(main_task())
         return
-    with asyncio.Runner(loop_factory=new_event_loop) as runner:
+    with asyncio.Runner(loop_factory=uvloop.new_event_loop) as runner:
         runner.run(main_task())
 
 

@@ -36,18 +36,23 @@ async def called(executor: Executor, call: Callable[[], _R], cut: Callable[[], N
 
 @dataclass
 class Barrier:
-    """Asks for a snapshot behind the changes that were handed in before it. `begun` is called when its place in their
-    order is known, and `done` gets None where there is none."""
+    """Asks for a snapshot behind the changes that were handed in before it, in the place of the one that `before` gives
+    then. `begun` is called when its place in their order is known, and `done` gets None where there is none."""
     done: Callable[[Snapshot | None], None]
+    before: Callable[[], Snapshot | None] = lambda: None
     begun: Callable[[], None] = lambda: None
 
 
 class Committer:
     """Commits changes. `released` is called when replies that rest on them may be sent, and `failed` with the changes
-    that couldn't be committed: nothing may rest on them."""
+    that couldn't be committed, and why: nothing may rest on them.
+
+    Whatever the database raises, the changes are answered. A DatabaseFault is of the database, so changes are refused
+    until it is mended. Anything else is taken as the doing of one change: those of its batch are committed one by one,
+    so that this one alone fails, with what stands behind it."""
 
     def __init__(self, database: Database, executor: Executor, released: Callable[[], None],
-                 failed: Callable[[list[Change]], None]) -> None:
+                 failed: Callable[[list[Change], str], None]) -> None:
         self.count = 0
         self.fault = ""
         self._database = database
@@ -57,6 +62,7 @@ class Committer:
         self._failed = failed
         self._queue: deque[Change | Barrier] = deque()
         self.is_busy = False
+        self._left_alone = 0  # So many changes are committed one by one.
         self._probed = float("-inf")
         self._tasks: set[asyncio.Task[None]] = set()
 
@@ -78,8 +84,8 @@ class Committer:
                 return
             try:
                 entries = [change.entry() for change in batch if change.is_made]
-            except DatabaseFault as fault:
-                self._fail(batch, fault)
+            except Exception as error:  # What a line came to is other than expected; it is no fault of the database.
+                self._take_failure(batch, error)
                 return
             if entries:
                 self._spawn(self._commit(batch, entries))
@@ -91,12 +97,13 @@ class Committer:
         batch: list[Change] = []
         if self._shared is not None and not all(isinstance(one, Change) and one.is_settled for one in self._queue):
             return batch
-        while self._queue and len(batch) < _MOST_CHANGES:
+        while self._queue and len(batch) < (1 if self._left_alone else _MOST_CHANGES):
             item = self._queue[0]
             if isinstance(item, Barrier) or not item.is_settled:
                 break
             batch.append(item)
             self._queue.popleft()
+        self._left_alone = max(0, self._left_alone - len(batch))
         return batch
 
     def _spawn(self, work: Coroutine[None, None, None]) -> None:
@@ -108,9 +115,9 @@ class Committer:
     async def _commit(self, batch: list[Change], entries: list[Entry]) -> None:
         try:
             numbers = await self._apply(entries)
-        except DatabaseFault as fault:
+        except Exception as error:
             self.is_busy = False
-            self._fail(batch, fault)
+            self._take_failure(batch, error)
             return
         self.is_busy = False
         self._finish(batch, numbers)
@@ -122,28 +129,37 @@ class Committer:
             return await called(self._executor, call, self._shared.cut, _LONGEST_COMMIT)
         return await asyncio.get_running_loop().run_in_executor(self._executor, call)
 
+    def _take_failure(self, batch: list[Change], error: Exception) -> None:
+        """The changes of a turn at a shared database fail together, since their turn is over."""
+        if isinstance(error, DatabaseFault):
+            self.fault = str(error)
+            self._probed = asyncio.get_running_loop().time()
+            self._fail(batch, self.fault, UNCERTAIN if isinstance(error, Uncertain) else FAULT)
+        elif len(batch) > 1 and self._shared is None:
+            self._left_alone = len(batch)
+            self._queue.extendleft(reversed(batch))
+            self.advance()
+        else:
+            self._fail(batch, f"an error of the service itself: {error!r}")
+
     def _finish(self, batch: list[Change], numbers: list[int]) -> None:
         following = iter(numbers)
         for change in batch:
             if change.is_made:
                 self.count = next(following)
-            change.count = self.count
-            change.puts.clear()
-            change.done(change.reply, self.count)
+            change.finish(change.reply, self.count)
         self._released()
 
-    def _fail(self, batch: list[Change], fault: DatabaseFault) -> None:
+    def _fail(self, batch: list[Change], why: str, reply: bytes = FAULT) -> None:
         """These changes, and those handed in behind them, aren't made. A change that nobody could answer is none."""
-        self.fault = str(fault)
-        self._probed = asyncio.get_running_loop().time()
+        self._left_alone = 0
         failed = batch + [item for item in self._queue if isinstance(item, Change)]
         self._queue = deque(item for item in self._queue if isinstance(item, Barrier))
         for change in failed:
             change.count = self.count
-        self._failed(failed)
-        reply = UNCERTAIN if isinstance(fault, Uncertain) else FAULT
+        self._failed(failed, why)
         for change in failed:
-            change.done(reply, self.count)
+            change.finish(reply, self.count)
         self.advance()
 
     def refuses(self) -> bool:
@@ -159,17 +175,17 @@ class Committer:
         try:
             await loop.run_in_executor(self._executor, self._database.probe)
             self.fault = ""
-        except DatabaseFault as fault:
-            self.fault = str(fault)
+        except Exception as error:
+            self.fault = str(error) or repr(error)
         self.is_busy = False
         self.advance()
 
     async def _open_snapshot(self, barrier: Barrier) -> None:
         loop = asyncio.get_running_loop()
         try:
-            snapshot = await loop.run_in_executor(self._executor, self._database.snapshot)
-        except DatabaseFault as fault:
-            self.fault = str(fault)
+            snapshot = await loop.run_in_executor(self._executor, self._database.snapshot, barrier.before())
+        except Exception as error:
+            self.fault = str(error) or repr(error)
             snapshot = None
         self.is_busy = False
         barrier.done(snapshot)

@@ -155,7 +155,9 @@ class Database(Protocol):
     def fill(self, lines: Iterable[bytes], what: str, actor: Actor) -> int:
         """Puts the lines of a dump into the place of everything, as one change, and gives its number."""
 
-    def snapshot(self) -> Snapshot: ...
+    def snapshot(self, before: Snapshot | None = None) -> Snapshot:
+        """The keyring as it stands now. It takes the place of `before`, which nobody reads any more: so the database
+        needn't keep what that one alone has."""
 
     def finder(self) -> Finder: ...
 

@@ -16,6 +16,7 @@ from .standing import Hear, Standing, Watch
 
 _TRIES = 3
 _LONGEST_PAUSE = 5.0
+_SHORT_PAUSE = 0.01
 _LONGEST_WAIT = 10.0
 
 
@@ -122,6 +123,9 @@ class Engine:
             except OSError as error:
                 status = f"{self._program[0]}: {error.strerror or error}"
                 self._fail(OSError(status))
+            except Exception as error:  # The database can't be read, say: it is tried again as where a program ends.
+                status = f"none, for {error!r}"
+                self._fail(error)
             if self._closing.is_set():
                 return
             if self._is_rolled_back:
@@ -145,6 +149,8 @@ class Engine:
 
     async def _run(self) -> object:
         """Runs one program to its end, and gives its status."""
+        while not self._journal.is_there and not self._closing.is_set():
+            await asyncio.sleep(_SHORT_PAUSE)
         count, lines = self._journal.lines(self.point.place)
         feed = self._feed = Feed(count, list(self._standing.lines()), self._standing.watches)
         running = self._running = Program(self._take, self._home.tell)

@@ -10,15 +10,17 @@ from functools import partial
 from typing import BinaryIO, TypeVar
 
 from .committing import FAULT, Barrier, Committer
-from .database import Actor, Database, Finder, News, PutCertificate, Shared, Snapshot
+from .database import Actor, Database, Finder, News, Shared, Snapshot
 from .engine import Engine
+from .importing import brought, exported_as
 from .journal import Change, Done, Journal, Point
-from .reading import fingerprints
 from .seats import Seats
 from .sending import ignore
 from .turns import Begun, Turns, Waiting
 
 _BUSY_SECONDS = 0.05
+_RENEWING_SECONDS = 1.0
+_COPIED = 16  # A snapshot of a shared database is a copy, so it is renewed less often.
 _R = TypeVar("_R")
 
 
@@ -29,7 +31,7 @@ class Hub:
     def __init__(self, program: Sequence[str], most_engines: int, database: Database,
                  order: BinaryIO | None = None) -> None:
         self.engines: list[Engine] = []
-        self.seats = Seats(self._least_busy, self.engines)
+        self.seats = Seats(self._least_busy, self._another, self.engines)
         self.database = database
         self._program = program
         self._most_engines = most_engines
@@ -51,10 +53,6 @@ class Hub:
     def count(self) -> int:
         """The number of the last change that is committed."""
         return self._committer.count
-
-    @property
-    def is_shared(self) -> bool:
-        return self._turns is not None
 
     @property
     def age(self) -> float:
@@ -121,7 +119,7 @@ class Hub:
     def send_change(self, line: bytes, actor: Actor, done: Done) -> None:
         """Sends a change to all engines, and hands it to the committer."""
         assert self._journal is not None
-        change = self._journal.add(line, set(self.engines), actor, _brought(line), done)
+        change = self._journal.add(line, set(self.engines), actor, brought(line), done)
         self._committer.add(change)
         for engine in self.engines:
             engine.send(line, partial(self._changed, change, engine), change)
@@ -136,7 +134,7 @@ class Hub:
         """Asks for a snapshot of the keyring behind the changes so far; of a shared database, also behind later ones.
         `begun` is called when its place among them is known."""
         if self._turns is not None:
-            self._turns.snapshot(Barrier(done, begun))
+            self._turns.snapshot(Barrier(done, begun=begun))
         else:
             begun()
             self._committer.add(Barrier(done))
@@ -178,6 +176,10 @@ class Hub:
             self._start_engine()
         return engine
 
+    def _another(self) -> Engine | None:
+        """Starts another engine; None where there are as many as there may be."""
+        return self._start_engine() if len(self.engines) < self._most_engines else None
+
     def _start_engine(self) -> Engine:
         assert self._journal is not None
         engine = Engine(self._program, self._journal, self, self._journal.last)
@@ -198,8 +200,9 @@ class Hub:
             self._committer.advance()
 
     def _exported(self, change: Change, fpr: bytes, reply: bytes | None, _: int) -> None:
-        is_there = reply is not None and reply.startswith(b"export ")
-        change.puts[fpr] = PutCertificate(fpr, bytes.fromhex(reply[7:-1].decode())) if reply and is_there else None
+        if change.count is not None:
+            return  # It was refused meanwhile.
+        change.puts[fpr] = exported_as(fpr, reply or b"")
         if change.is_settled:
             self._committer.advance()
 
@@ -208,9 +211,17 @@ class Hub:
         for engine in self.engines:
             engine.release()
         self._settle()
-        if self._journal.is_long() and not self._is_renewing:
-            self._is_renewing = True
-            self.snapshot(partial(self._renewed, None if self._turns is not None else self._journal.last))
+        if self._journal.is_long(_COPIED if self._turns is not None else 1) and not self._is_renewing:
+            self._renew()
+
+    def _renew(self) -> None:
+        """Has a newer snapshot made behind the changes so far. By then all engines have answered these."""
+        assert self._journal is not None
+        self._is_renewing = True
+        if self._turns is not None:
+            self._turns.snapshot(Barrier(partial(self._renewed, None)))
+        else:
+            self._committer.add(Barrier(partial(self._renewed, self._journal.last), self._journal.lend))
 
     def _settle(self) -> None:
         assert self._journal is not None
@@ -223,22 +234,15 @@ class Hub:
         if snapshot is not None:
             self._journal.offer(point or self._journal.last, snapshot)
             self._settle()
+        elif not self._journal.is_there:  # It was lent, and engines may wait for it.
+            self._is_renewing = True
+            asyncio.get_running_loop().call_later(_RENEWING_SECONDS, self._renew)
 
-    def _roll_back(self, failed: list[Change]) -> None:
+    def _roll_back(self, failed: list[Change], why: str) -> None:
         """These changes couldn't be committed: all engines go back to where they stood before them."""
         assert self._journal is not None
-        self.tell(f"{len(failed)} changes were refused, since they can't be kept: {self.fault}")
+        self.tell(f"{len(failed)} changes were refused, since they can't be kept: {why}")
         for change in failed:
             self._journal.forget(change)
         for engine in self.engines:
             engine.roll_back(failed[-1])
-
-
-def _brought(line: bytes) -> tuple[bytes, ...]:
-    """The fingerprints of the certificates that a line imports."""
-    if not line.startswith(b"import "):
-        return ()
-    try:
-        return tuple(fingerprints(bytes.fromhex(line[7:].decode())))
-    except (ValueError, IndexError):
-        return ()  # The engine refuses such a line.

@@ -4,7 +4,6 @@ from __future__ import annotations
 
 from collections import deque
 from collections.abc import Callable, Iterator
-from itertools import chain
 from typing import TYPE_CHECKING
 
 from . import database
@@ -13,8 +12,9 @@ from .database import Actor, PutCertificate
 if TYPE_CHECKING:
     from .engine import Engine
 
-MOST_OCTETS = 4 << 20
-MOST_CHANGES = 20_000
+# A snapshot is cheap to open, and what it stands for needn't be held in memory.
+MOST_OCTETS = 1 << 20
+MOST_CHANGES = 2_000
 
 _NOBODY = Actor(0, 0)
 
@@ -43,11 +43,19 @@ class Change(Point):
         self.line: bytes | None = line
         self.left = left
         self.reply: bytes | None = None
-        self.done = done
+        self.done: Done | None = done
         self.actor = actor
         self.fprs = fprs
         self.puts: dict[bytes, PutCertificate | None] = {}
         self.is_over = False
+
+    def finish(self, reply: bytes | None, count: int) -> None:
+        """Hands on its reply; `count` is the number of the last change of the database by now. The journal keeps the
+        line for long, and so nothing else is left of it: what waits for a reply holds a whole client."""
+        done, self.done, self.count = self.done, None, count
+        self.puts.clear()
+        if done is not None:
+            done(reply, count)
 
     @property
     def is_settled(self) -> bool:
@@ -83,9 +91,12 @@ class Journal:
     """What a new engine needs to stand at a place in the order of changes: a snapshot, and the changes since.
 
     A newer snapshot is offered as soon as there is one, and taken once no engine stands before it: one that does may
-    yet have to be started again, with lines that were sent before that snapshot."""
+    yet have to be started again, with lines that were sent before that snapshot. If no engine reads the snapshot, it is
+    lent to the database, which renews it; meanwhile no engine may begin to."""
 
     def __init__(self, snapshot: database.Snapshot) -> None:
+        self.is_there = True
+        self._readers = 0
         self._snapshot = snapshot
         self._changes: deque[Change] = deque()
         self._first = Point(0, snapshot.change)
@@ -129,16 +140,37 @@ class Journal:
         """The lines that bring a fresh engine to this place, and how many they are."""
         changes = (change.line for change, _ in zip(self._changes, range(place - self._first.place)))
         since = [line for line in changes if line is not None]
-        return self._snapshot.count() + len(since), chain(self._snapshot.lines(), since)
+        lines = self._read(since)
+        next(lines)
+        return self._snapshot.count() + len(since), lines
 
-    def is_long(self) -> bool:
-        """Whether a newer snapshot is worth its making."""
-        return self._octets > MOST_OCTETS or len(self._changes) > MOST_CHANGES
+    def _read(self, since: list[bytes]) -> Iterator[bytes]:
+        """Before the lines comes none, from which on they are counted as being read."""
+        snapshot = self._snapshot  # A newer one may take its place meanwhile.
+        self._readers += 1
+        try:
+            yield b""
+            yield from snapshot.lines()
+            yield from since
+        finally:
+            self._readers -= 1
+
+    def lend(self) -> database.Snapshot | None:
+        """The snapshot, until another one is offered in its place; None if an engine reads it."""
+        if self._readers or self._offered is not None:
+            return None
+        self.is_there = False
+        return self._snapshot
+
+    def is_long(self, cost: int = 1) -> bool:
+        """Whether a newer snapshot is worth its making; `cost` is how much dearer that is than opening one."""
+        return self._octets > cost * MOST_OCTETS or len(self._changes) > cost * MOST_CHANGES
 
     def offer(self, point: Point, snapshot: database.Snapshot) -> None:
         if self._offered is not None:
             self._offered[1].close()
         self._offered = point, snapshot
+        self.is_there = True
 
     def settle(self, least: int) -> None:
         """Takes the offered snapshot where all engines stand at `least` or behind it, and that isn't before it."""

@@ -87,10 +87,11 @@ class Keyrings:
                     async with self._lock:
                         await self._look_after(source.name)
                 told = ""
-            except DatabaseFault as fault:
-                if told != str(fault):
-                    self._hub.tell(str(fault))
-                told = str(fault)
+            except Exception as error:  # Whatever it was, the keyrings are looked after again.
+                said = str(error) if isinstance(error, (DatabaseFault, OSError)) else repr(error)
+                if said != told:
+                    self._hub.tell(said)
+                told = said
             await asyncio.sleep(_PAUSE)
 
     async def _look_after(self, name: str) -> None:

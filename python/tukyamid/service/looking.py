@@ -2,7 +2,7 @@
 
 import sqlite3
 from binascii import hexlify
-from collections.abc import Iterator
+from collections.abc import Callable, Iterator
 from pathlib import Path
 
 from .database import Actor, Binding, DatabaseFault, Figures, LogEntry, Source
@@ -19,8 +19,18 @@ class SqliteSnapshot:
         self._connection = connection
         connection.execute("PRAGMA query_only = ON")
         connection.execute(f"PRAGMA cache_size = -{_KILOBYTES_OF_A_SNAPSHOT}")  # It is read once, and many may be open.
-        connection.execute("BEGIN")
-        self.change = int(connection.execute("SELECT coalesce(max(number), 0) FROM changes").fetchone()[0])
+        self.change = self._begin()
+
+    def _begin(self) -> int:
+        self._connection.execute("BEGIN")
+        return int(self._connection.execute("SELECT coalesce(max(number), 0) FROM changes").fetchone()[0])
+
+    def renew(self, between: Callable[[], object]) -> None:
+        """Has the keyring as it stands now. While `between` is called it has none."""
+        if self._connection.in_transaction:
+            self._connection.execute("ROLLBACK")
+        between()
+        self.change = self._begin()
 
     def count(self) -> int:
         certificates = self._connection.execute("SELECT count(*) FROM certificates").fetchone()[0]

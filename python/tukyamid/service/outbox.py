@@ -7,6 +7,9 @@ import tempfile
 from collections import deque
 from collections.abc import Callable, Generator
 
+from .database import Snapshot
+from .program import pieces
+
 # A reply in pieces. The first piece has no octets: it is taken at once, and the others as the client reads.
 Pieces = Generator[bytes, None, None]
 
@@ -39,15 +42,29 @@ def spooled(reply: bytes) -> Pieces:
             yield piece
 
 
+def dump_of(snapshot: Snapshot, views: list[bytes]) -> Pieces:
+    """The reply to `dump`: the keyring, and the client's views."""
+    try:
+        yield b""
+        yield b"dump %d\n" % (snapshot.count() + len(views))
+        yield from pieces(snapshot.lines())
+        yield b"".join(line + b"\n" for line in views)
+    finally:
+        snapshot.close()
+
+
 class Outbox:
     """Slots in order. A reply that is long, or that comes in pieces, is written piece by piece as it is read."""
 
-    def __init__(self, transport: asyncio.Transport, more: Callable[[], None]) -> None:
+    def __init__(self, transport: asyncio.Transport, more: Callable[[], None],
+                 give_up: Callable[[Exception], None]) -> None:
+        """`more` is called when there is room, and `give_up` when a reply breaks off."""
         self.slots: deque[Slot] = deque()
         self.octets = 0
         self.can_write = True
         self._transport = transport
         self._more = more
+        self._give_up = give_up
         self._loop = asyncio.get_running_loop()
         self._buffer: list[bytes] = []
         self._pump: Pieces | None = None
@@ -142,7 +159,11 @@ class Outbox:
         """Writes one piece; then it is the turn of others."""
         if self._pump is None or not self.can_write or self._transport.is_closing():
             return
-        piece = next(self._pump, None)
+        try:
+            piece = next(self._pump, None)
+        except Exception as error:
+            self._give_up(error)
+            return
         if piece is None:
             self._end_pump()
             self.deliver()

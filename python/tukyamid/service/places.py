@@ -6,8 +6,10 @@ import contextlib
 import fcntl
 import os
 import stat
+import time
 from pathlib import Path
 
+_PAUSE = 0.01
 
 class Taken(OSError):
     """Another process has the lock."""
@@ -55,14 +57,22 @@ def own_folder(folder: Path) -> Path:
 class Lock:
     """A lock file. It stays where it is, so that all lock the same; its lock ends with its holder."""
 
-    def __init__(self, path: Path, waits: bool = False) -> None:
-        """Takes the lock; `Taken` where another process has it and this one isn't to wait."""
+    def __init__(self, path: Path, patience: float = 0.0) -> None:
+        """Takes the lock; `Taken` if another process has it, and still has it after `patience` seconds."""
         self._file = os.open(path, os.O_RDWR | os.O_CREAT, 0o600)
+        end = time.monotonic() + patience
+        while not self._is_locked():
+            if time.monotonic() >= end:
+                os.close(self._file)
+                raise Taken(f"another process uses {path.with_suffix('')}")
+            time.sleep(_PAUSE)
+
+    def _is_locked(self) -> bool:
         try:
-            fcntl.flock(self._file, fcntl.LOCK_EX | (0 if waits else fcntl.LOCK_NB))
+            fcntl.flock(self._file, fcntl.LOCK_EX | fcntl.LOCK_NB)
         except BlockingIOError:
-            os.close(self._file)
-            raise Taken(f"another process uses {path.with_suffix('')}") from None
+            return False
+        return True
 
     def __enter__(self) -> Lock:
         return self

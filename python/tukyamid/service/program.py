@@ -73,8 +73,11 @@ class Program:
             for piece in pieces(lines):
                 stdin.write(piece)
                 await stdin.drain()
-        except (ConnectionError, RuntimeError):
-            return  # The program has ended, which the reading of its output meets.
+        except Exception as error:  # Who reads the program's output meets its end.
+            if not isinstance(error, ConnectionError):
+                self._tell(f"an engine can't be brought to where it is to stand: {error!r}")
+            self.kill()
+            return
         # Nothing else runs between here and the end, so no line comes between.
         self._lines.clear()
         stdin.write(b"".join([line + b"\n" for line in behind()]))
@@ -89,7 +92,7 @@ class Program:
                     if self._is_killed:
                         return
                     self._take(reply)
-            except (ValueError, IndexError) as error:
+            except Exception as error:
                 self._tell(f"an engine wrote what is no reply: {error!r}")
                 return
 

@@ -29,8 +29,11 @@ class Seat:
 
 
 class Seats:
-    def __init__(self, least_busy: Callable[[], Engine], engines: list[Engine]) -> None:
+    def __init__(self, least_busy: Callable[[], Engine], more: Callable[[], Engine | None],
+                 engines: list[Engine]) -> None:
+        """`more` starts another engine, unless there are as many as there may be."""
         self._least_busy = least_busy
+        self._more = more
         self._engines = engines
         self._seats: dict[Engine, list[Seat]] = {}
         self._shared: dict[Value, list[Seat]] = {}
@@ -55,21 +58,27 @@ class Seats:
         return self._moved(engine, value) or self._open(engine, value)
 
     def pin(self, value: Value, has_cursor: bool) -> Seat | None:
-        """A view of this value that stays; None where no engine has room. One with a cursor is shared, since what it
-        is told never turns it; any other is its client's own."""
+        """A view of this value that stays; None if no engine has room, and no other may be started. One with a cursor
+        is shared, since what it is told never turns it; any other is its client's own."""
         for engine in sorted(self._engines, key=lambda one: len(self._seats.get(one, ()))):
-            if has_cursor and self._cursors.get(engine, 0) >= CURSORS_OF_AN_ENGINE:
-                continue
-            seat = next((one for one in self._shared.get(value, ()) if one.engine is engine), None)
-            if not has_cursor or seat is None:
-                if sum(one.pins > 0 for one in self._seats.get(engine, ())) >= _MOST_PINNED:
-                    continue
-                seat = self._open(engine, value, is_shared=has_cursor)
-            if has_cursor:
-                self._cursors[engine] = self._cursors.get(engine, 0) + 1
-            seat.pins += 1
-            return seat
-        return None
+            seat = self._pin_at(engine, value, has_cursor)
+            if seat is not None:
+                return seat
+        another = self._more()
+        return None if another is None else self._pin_at(another, value, has_cursor)
+
+    def _pin_at(self, engine: Engine, value: Value, has_cursor: bool) -> Seat | None:
+        if has_cursor and self._cursors.get(engine, 0) >= CURSORS_OF_AN_ENGINE:
+            return None
+        seat = next((one for one in self._shared.get(value, ()) if one.engine is engine), None)
+        if not has_cursor or seat is None:
+            if sum(one.pins > 0 for one in self._seats.get(engine, ())) >= _MOST_PINNED:
+                return None
+            seat = self._open(engine, value, is_shared=has_cursor)
+        if has_cursor:
+            self._cursors[engine] = self._cursors.get(engine, 0) + 1
+        seat.pins += 1
+        return seat
 
     def unpin(self, seat: Seat, has_cursor: bool) -> None:
         seat.pins -= 1

@@ -9,6 +9,7 @@ from collections.abc import Sequence
 from dataclasses import dataclass
 from functools import partial
 from pathlib import Path
+from typing import Any
 
 from .answering import Answering
 from .directory import Directory
@@ -52,6 +53,7 @@ class Service:
     async def serve(self, doors: Sequence[Door]) -> None:
         """Serves clients of these sockets until SIGTERM, SIGINT, or until nobody has used it for long."""
         loop = asyncio.get_running_loop()
+        loop.set_exception_handler(self._tell_exception)
         for number in (signal.SIGTERM, signal.SIGINT):
             loop.add_signal_handler(number, self._end.set)
         self._doors = doors
@@ -75,6 +77,10 @@ class Service:
         finally:
             await self._directory.close()
             await self._hub.close()
+
+    def _tell_exception(self, loop: asyncio.AbstractEventLoop, context: dict[str, Any]) -> None:
+        """What nobody has caught is one line for people, and no end of the service."""
+        self._hub.tell(f"{context['message']}: {context.get('exception')!r}")
 
     def _new_session(self, rights: Rights) -> Session:
         self._count += 1

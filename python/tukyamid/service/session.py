@@ -16,9 +16,8 @@ from .cursors import Cursors
 from .database import Actor, Snapshot
 from .framing import LineCutter
 from .hub import Hub
-from .outbox import Outbox, Pieces, Slot
+from .outbox import Outbox, Slot, dump_of
 from .peers import NOBODY, actor_of
-from .program import pieces
 from .views import Views, is_name
 from .watches import Watches
 
@@ -79,7 +78,7 @@ class Session(asyncio.Protocol):
         self._transport = cast(asyncio.Transport, transport)  # uvloop's is one by what it does, not by its class.
         self._transport.set_write_buffer_limits(high=_UNREAD_OCTETS)
         self.actor = actor_of(transport.get_extra_info("socket").fileno())
-        self.outbox = Outbox(self._transport, self._begin_lines)
+        self.outbox = Outbox(self._transport, self._begin_lines, self._give_up)
         self.watches = Watches(self.hub, self.number, self.outbox, self._views)
         self.cursors = Cursors(self.hub, self._views)
         self._made(self)
@@ -191,11 +190,14 @@ class Session(asyncio.Protocol):
         self._begin_lines()
 
     def _answered(self, slot: Slot, reply: bytes | None, count: int) -> None:
-        if reply is None:
-            self.hub.tell(f"client {self.number} is dropped: its line ended the engine several times")
-        elif slot.finish is not None:
-            reply = slot.finish(reply, count)
-        self.outbox.answer(slot, reply)
+        try:
+            if reply is None:
+                self.hub.tell(f"client {self.number} is dropped: its line ended the engine several times")
+            elif slot.finish is not None:
+                reply = slot.finish(reply, count)
+            self.outbox.answer(slot, reply)
+        except Exception as error:  # What calls this has others to answer.
+            self._give_up(error)
 
     def _ask_view(self, slot: Slot, line: bytes) -> None:
         word, space, rest = line.partition(b" ")
@@ -220,12 +222,15 @@ class Session(asyncio.Protocol):
                           partial(self.hub.note, self.number, line))
 
     def _dumped(self, slot: Slot, snapshot: Snapshot | None, views: list[bytes]) -> None:
-        if snapshot is None:
-            self.outbox.answer(slot, FAULT)
-        elif self._transport.is_closing():
-            snapshot.close()
-        else:
-            self.outbox.answer(slot, dump_of(snapshot, views))
+        try:
+            if snapshot is None:
+                self.outbox.answer(slot, FAULT)
+            elif self._transport.is_closing():
+                snapshot.close()
+            else:
+                self.outbox.answer(slot, dump_of(snapshot, views))
+        except Exception as error:
+            self._give_up(error)
 
     async def _help(self, slot: Slot, line: bytes) -> None:
         try:
@@ -237,14 +242,3 @@ class Session(asyncio.Protocol):
         self.hub.tell(f"client {self.number}: {error!r}")
         self._lines.clear()
         self.outbox.drop()
-
-
-def dump_of(snapshot: Snapshot, views: list[bytes]) -> Pieces:
-    """The reply to `dump`: the keyring, and the client's views."""
-    try:
-        yield b""
-        yield b"dump %d\n" % (snapshot.count() + len(views))
-        yield from pieces(snapshot.lines())
-        yield b"".join(line + b"\n" for line in views)
-    finally:
-        snapshot.close()

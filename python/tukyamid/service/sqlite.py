@@ -9,7 +9,7 @@ from pathlib import Path
 from typing import Concatenate, ParamSpec, TypeVar
 
 from . import schema
-from .database import Actor, Change, DatabaseFault, Source
+from .database import Actor, Change, DatabaseFault, Snapshot, Source
 from .looking import SqliteFinder, SqliteSnapshot
 from .whole import sync_folder
 from .writing import EVERY_CERTIFICATE, Writing, compare
@@ -134,8 +134,13 @@ class Sqlite:
         return number
 
     @faults
-    def snapshot(self) -> SqliteSnapshot:
-        return SqliteSnapshot(connect(self.path))
+    def snapshot(self, before: Snapshot | None = None) -> SqliteSnapshot:
+        if not isinstance(before, SqliteSnapshot):
+            return SqliteSnapshot(connect(self.path))
+        # The log begins anew only if all of it is in the file, and nobody reads what it had. Where each snapshot
+        # overlapped the one before it, the log would grow for ever.
+        before.renew(lambda: self._connection.execute("PRAGMA wal_checkpoint").fetchall())
+        return before
 
     @faults
     def finder(self) -> SqliteFinder:

@@ -13,7 +13,7 @@ from socket import socket as new_socket
 
 from tukyamid.refusals import TukyamidError
 
-from .places import Lock, beside, default_log, default_socket
+from .places import Lock, Taken, beside, default_log, default_socket
 
 _IDLE_SECONDS = 600
 _LONGEST_LOG = 1 << 20
@@ -28,10 +28,13 @@ class ServiceFailed(TukyamidError):
 def is_served(path: Path) -> bool:
     """Whether a service listens at this path."""
     with new_socket(AF_UNIX) as trial:
+        trial.setblocking(False)  # One that lets nobody in any more mustn't hold up who looks.
         try:
             trial.connect(os.fspath(path))
         except (FileNotFoundError, ConnectionRefusedError):
             return False
+        except BlockingIOError:
+            return True  # So many wait there that no other is let in yet.
         except OSError as error:
             raise ServiceFailed(f"{path}: {error.strerror or error}") from None
     return True
@@ -45,12 +48,25 @@ def ensure(socket: Path | None = None, options: Sequence[str] = (), patience: fl
         path = default_socket() if socket is None else socket
         if is_served(path):
             return path
-        with Lock(beside(path, ".starting"), waits=True):
+        with Lock(beside(path, ".starting"), patience):
             if not is_served(path):
+                _wait_for_the_last(path, patience)
                 _start(path, options, patience)
+    except Taken:
+        raise ServiceFailed(f"another command has been starting the service at {path} for {patience:.0f} seconds; end "
+                            "that command") from None
     except OSError as error:
         raise ServiceFailed(f"{error.filename or 'the service'}: {error.strerror or error}") from None
     return path
+
+
+def _wait_for_the_last(path: Path, patience: float) -> None:
+    """Waits for the end of a service that listens no longer, and still answers its last clients."""
+    try:
+        Lock(beside(path, ".lock"), patience).release()
+    except Taken:
+        raise ServiceFailed(f"the last service at {path} listens no longer, and hasn't ended for {patience:.0f} "
+                            f"seconds; `fuser -k {path}.lock` ends it") from None
 
 
 def _start(path: Path, options: Sequence[str], patience: float) -> None:

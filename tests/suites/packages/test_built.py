@@ -55,6 +55,8 @@ class Built(unittest.TestCase):
             "python3-tukyamid": ["usr/bin/tukyamid", "usr/share/man/man1/tukyamid.1.gz",
                                  "usr/lib/python3/dist-packages/tukyamid/py.typed",
                                  "usr/lib/python3/dist-packages/tukyamid/client/aio/__init__.py",
+                                 "usr/lib/python3/dist-packages/tukyamid/web/page/index.html",
+                                 "usr/lib/python3/dist-packages/tukyamid/web/page/main.js",
                                  "usr/share/bash-completion/completions/tukyamid",
                                  "usr/share/zsh/vendor-completions/_tukyamid"],
             "tukyamid-server": ["usr/bin/tukyamid-server", "usr/share/man/man1/tukyamid-server.1.gz",

@@ -21,6 +21,7 @@ PROGRAM = os.environ.get("WOT_PROGRAM") or str(ROOT / "crates" / "wot_cli" / "ou
 SERVER = ROOT / "python" / "bin" / "tukyamid-server"
 PYTHON = "/usr/bin/python3" if os.access("/usr/bin/python3", os.X_OK) else sys.executable
 WORN_ENGINE = HERE / "worn_engine.py"
+FAILING_SERVER = HERE / "failing_server.py"
 PATIENCE = 300  # Of a test that waits for what must come; machines may be slow.
 
 needs_engine = unittest.skipUnless(os.access(PROGRAM, os.X_OK), f"the engine isn't built: {PROGRAM}")
@@ -134,7 +135,7 @@ class Client:
 class Server:
     """The server as a process of its own, in a folder of its own."""
 
-    def __init__(self, *options, engine=PROGRAM, folder=None, environment=None):
+    def __init__(self, *options, engine=PROGRAM, folder=None, environment=None, program=SERVER):
         self._made = None if folder else tempfile.TemporaryDirectory(prefix="tukyamid-server-")
         self.folder = Path(folder or self._made.name)
         self.path = self.folder / "socket"
@@ -143,7 +144,7 @@ class Server:
         self._order = self.folder / "order"
         self._said = open(self.folder / "said", "w+b")
         self.process = subprocess.Popen(
-            [PYTHON, SERVER, "--socket", self.path, "--database", self.database, "--order", self._order,
+            [PYTHON, program, "--socket", self.path, "--database", self.database, "--order", self._order,
              "--engine", engine, "--directory", self.directory, *options],
             stdin=subprocess.DEVNULL, stdout=subprocess.DEVNULL, stderr=self._said,
             env={**os.environ, **(environment or {})})

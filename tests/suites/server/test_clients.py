@@ -124,7 +124,7 @@ class Reading(unittest.TestCase):
         """The times at which a client is dropped, of moments: (time, octets written so far, of these unread)."""
         async def run():
             transport = Mock()
-            outbox = Outbox(transport, lambda: None)
+            outbox = Outbox(transport, lambda: None, self.fail)
             for now, written, unread in moments:
                 outbox._written = written
                 transport.get_write_buffer_size.return_value = unread

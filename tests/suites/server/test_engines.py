@@ -1,10 +1,12 @@
 """Several engines behind one service: all hold the same, whatever ends them."""
 
 import asyncio
+import gc
 import os
 import random
 import tempfile
 import unittest
+import weakref
 from contextlib import closing
 from pathlib import Path
 
@@ -76,6 +78,50 @@ class SameState(unittest.TestCase):
         replies, dumps, _ = self.change_all(lines)
         self.check(lines, replies, dumps)
 
+    def test_an_answered_change_holds_no_client(self):
+        """The journal keeps changes for long after they were answered, and their clients are gone by then."""
+        heard = []
+
+        class Hearing:
+            def hear(self, reply, count):
+                heard.append(reply)
+
+        def disturb(hub, place):
+            hearing = Hearing()
+            held.append(weakref.ref(hearing))
+            hub.change(b"verdict %064x bad" % place, Actor(0, 0), hearing.hear)
+
+        held = []
+        lines = self.changes(13, 40)
+        _, _, hub = self.change_all(lines, disturb)
+        self.assertEqual(heard, [b"ok\n"] * len(lines))
+        self.assertGreater(len(hub._journal._changes), len(lines))
+        gc.collect()
+        self.assertEqual([one() for one in held if one() is not None], [])
+
+    def test_the_log_of_the_database_begins_anew(self):
+        """However many changes there were, the write-ahead log has no more of them than the journal."""
+        sizes = []
+
+        async def run(database):
+            hub = Hub([PROGRAM, "run"], 1, database)
+            await hub.start()
+            for number in range(600):
+                answered = asyncio.get_running_loop().create_future()
+                hub.change(b"verdict %064x bad" % number, Actor(0, 0), lambda reply, _: answered.set_result(reply))
+                self.assertEqual(await answered, b"ok\n")
+                sizes.append(Path(f"{database.path}-wal").stat().st_size)
+            await hub.close()
+
+        before, journal.MOST_CHANGES = journal.MOST_CHANGES, 20
+        try:
+            with tempfile.TemporaryDirectory(prefix="tukyamid-") as folder:
+                with closing(Sqlite(Path(folder) / "keyring.db")) as database:
+                    asyncio.run(run(database))
+        finally:
+            journal.MOST_CHANGES = before
+        self.assertLess(max(sizes), 2 * max(sizes[:100]))
+
     def test_and_so_where_they_are_killed_and_the_journal_is_renewed(self):
         draw, killed = random.Random(12), set()
 
@@ -141,6 +187,27 @@ class ManyViews(unittest.TestCase):
         self.assertEqual(client.tell(b"view v0 time 6"), b"ok")
         self.assertEqual(client.tell(b"view v1 close"), b"ok")
         self.assertEqual(client.tell(b"view v4 time 6"), b"ok")
+
+
+@needs_engine
+class ManyCursors(unittest.TestCase):
+    def test_another_engine_is_started_for_them(self):
+        """An engine has sixteen cursors, and so has a client: two clients fill two engines, though nobody is busy."""
+        with Server("--engines", "2") as server, Client(server.path) as one, Client(server.path) as two, \
+                Client(server.path) as three:
+            over = [b"cursor c%d over p 120" % place for place in range(16)]
+            for client in (one, two, three):
+                self.assertEqual(client.tell(b"view p time 5000"), b"ok")
+            for client in (one, two):
+                self.assertEqual([client.tell(line) for line in over], [b"ok"] * 16)
+                self.assertEqual(client.tell(b"cursor more over p 120"), b"refused full cursors")
+                self.assertEqual(client.tell(over[3]), b"ok")
+            self.assertEqual(len(server.engines()), 2)
+            self.assertEqual(three.tell(over[0]), b"refused full cursors")
+            self.assertEqual(two.tell(b"cursor c7 close"), b"ok")
+            self.assertEqual(three.tell(over[0]), b"ok")
+            one.end()
+            self.assertEqual([three.tell(line) for line in over[1:]], [b"ok"] * 15)
 
 
 @needs_engine

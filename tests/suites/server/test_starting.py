@@ -1,15 +1,19 @@
 """The service that a command starts: one, however many commands begin at once."""
 
+import contextlib
 import os
 import shutil
 import signal
+import socket
 import subprocess
 import sys
 import tempfile
+import time
 import unittest
 from pathlib import Path
 
 from outside import PATIENCE, PROGRAM, ROOT, Client, needs_engine
+from tukyamid.service import places, starting
 
 ENSURE = """
 import socket, sys
@@ -59,7 +63,8 @@ class Starting(unittest.TestCase):
 
     @staticmethod
     def end_by_force(process):
-        os.kill(process, signal.SIGKILL)
+        with contextlib.suppress(ProcessLookupError):
+            os.kill(process, signal.SIGKILL)
 
     def test_one_that_was_killed(self):
         self.begin().communicate(timeout=PATIENCE)
@@ -68,6 +73,52 @@ class Starting(unittest.TestCase):
         told, _ = self.begin().communicate(timeout=PATIENCE)
         self.assertEqual(told, f"{self.socket} b'keys 0\\n'\n")
         self.assertNotEqual(self.process(), first)
+        self.end_by_force(self.process())
+
+    def status(self):
+        words = [ROOT / "python" / "bin" / "tukyamid", "status"]
+        return subprocess.run(words, env=self.environment, capture_output=True, text=True, check=False)
+
+    def test_one_that_hangs(self):
+        """The command says what to do, and that helps."""
+        self.begin().communicate(timeout=PATIENCE)
+        hanging = self.process()
+        os.kill(hanging, signal.SIGSTOP)
+        self.addCleanup(self.end_by_force, hanging)
+        done = self.status()
+        self.assertEqual((done.returncode, done.stdout), (3, ""))
+        self.assertEqual(done.stderr, f"tukyamid: the service at {self.socket} doesn't answer; `kill -9 {hanging}` "
+                         "ends it, which loses nothing that it acknowledged, and the next command starts another\n")
+        os.kill(hanging, signal.SIGKILL)
+        done = self.status()
+        self.assertEqual((done.returncode, done.stderr), (0, ""))
+        self.end_by_force(self.process())
+
+    def test_another_command_that_hangs(self):
+        """It has the lock for starting, and never starts anything."""
+        with places.Lock(places.beside(self.socket, ".starting")), self.assertRaises(starting.ServiceFailed) as failed:
+            starting.ensure(self.socket, patience=0.2)
+        self.assertIn("another command has been starting the service", str(failed.exception))
+
+    def test_one_that_is_ending(self):
+        """It listens no longer, and its last clients are still answered: the next service waits for its end."""
+        with places.Lock(places.beside(self.socket, ".lock")):
+            with self.assertRaises(starting.ServiceFailed) as failed:
+                starting.ensure(self.socket, patience=0.2)
+            self.assertIn("listens no longer", str(failed.exception))
+            command = self.begin()
+            time.sleep(1)
+            self.assertIsNone(command.poll())
+        told, said = command.communicate(timeout=PATIENCE)
+        self.assertEqual((told, said), (f"{self.socket} b'keys 0\\n'\n", ""))
+        self.end_by_force(self.process())
+
+    def test_a_socket_that_was_left(self):
+        with socket.socket(socket.AF_UNIX) as left:
+            left.bind(str(self.socket))
+            left.listen()
+        told, _ = self.begin().communicate(timeout=PATIENCE)
+        self.assertEqual(told, f"{self.socket} b'keys 0\\n'\n")
         self.end_by_force(self.process())
 
     def test_one_that_cannot_start(self):
@@ -81,7 +132,6 @@ class Starting(unittest.TestCase):
 class InTmp(unittest.TestCase):
     def test_a_folder_that_is_anothers(self):
         """Whoever may write to /tmp can't have the socket of another."""
-        from tukyamid.service import places
         with tempfile.TemporaryDirectory() as folder:
             loose = Path(folder) / "loose"
             loose.mkdir(mode=0o777)

@@ -11,7 +11,7 @@ from pathlib import Path
 import psycopg
 from psycopg.pq import TransactionStatus
 
-from ..database import Actor, Change, DatabaseFault, News, Place, Source, Uncertain
+from ..database import Actor, Change, DatabaseFault, News, Place, Snapshot, Source, Uncertain
 from ..sqlite import Sqlite
 from ..writing import EVERY_CERTIFICATE, Writing, compare
 from . import tables
@@ -200,7 +200,7 @@ class Postgres:
         return number
 
     @faults
-    def snapshot(self) -> PostgresSnapshot:
+    def snapshot(self, before: Snapshot | None = None) -> PostgresSnapshot:
         self.place = _UNREAD
         snapshot = self.news().snapshot
         assert isinstance(snapshot, PostgresSnapshot)

@@ -1,0 +1,80 @@
+"""The words of `tukyamid check`, and what it says."""
+
+from collections.abc import Iterator, Mapping, Sequence
+
+from ..command.failures import NOT_REACHED, REACHED, NoAnswer, WrongWords
+from ..command.output import write
+from ..command.parser import Help, Parser, typed
+from ..command.values import read_root
+from ..shown.words import count, moment
+from ..spelling import for_people
+from .checking import Checked, check
+from .file import ABSENCE, MOST_OCTETS, Proof, read
+
+HELP = """usage: tukyamid check [option..] FILE
+
+Does an answer hold that somebody has sent as a file? The page of `tukyamid web` writes such files. Nothing in the file
+is believed: its signatures are verified here, and an engine of this machine checks its paths."""
+EPILOG = "exit status: 0 the claim holds; 1 it doesn't; 2 the words are wrong; 3 it couldn't be checked\n"
+
+
+def run(words: Sequence[str]) -> int:
+    """Checks a file, and returns the exit status."""
+    parser = Parser(prog="tukyamid check", description=HELP, epilog=EPILOG, add_help=False, allow_abbrev=False,
+                    formatter_class=Help)
+    parser.add_argument("file", nargs="?")
+    parser.add_argument("--root", action="append", default=[], metavar="KEY[:AMOUNT]", type=typed(read_root),
+                        help="a root that you trust; if any is given, the claim may have no others, and no more amount")
+    parser.add_argument("--engine", metavar="PROGRAM", help="the engine's program")
+    parser.add_argument("--verifier", metavar="PROGRAM", help="the program wot-verdicts")
+    parser.add_argument("--help", "-h", action="store_true", help="print this help, and end")
+    given = parser.parse_args(list(words))
+    if given.help:
+        write(parser.format_help())
+        return REACHED
+    if given.file is None:
+        raise WrongWords("check takes: FILE")
+    proof = read(_octets(given.file))
+    checked = check(proof, [given.engine] if given.engine else None, [given.verifier] if given.verifier else None)
+    why_not = checked.why_not or _untrusted(proof, dict(given.root))
+    write("\n".join(_report(proof, checked, why_not)) + "\n")
+    return NOT_REACHED if why_not else REACHED
+
+
+def _octets(name: str) -> bytes:
+    with open(name, "rb") as file:
+        octets = file.read(MOST_OCTETS + 1)
+    if len(octets) > MOST_OCTETS:
+        raise NoAnswer(f"{name} has more than {MOST_OCTETS} octets")
+    return octets
+
+
+def _untrusted(proof: Proof, trusted: Mapping[str, int]) -> str:
+    """Why the claim's roots aren't those that are trusted here; empty if they are, or if none were named."""
+    if trusted:
+        for fpr, amount in proof.roots.items():
+            if amount > max((most for key, most in trusted.items() if fpr == key or fpr.endswith(key)), default=0):
+                return f"its root {fpr}, of amount {amount}, isn't trusted as far as that here"
+    return ""
+
+
+def _report(proof: Proof, checked: Checked, why_not: str) -> Iterator[str]:
+    """What was claimed, what was checked, and what came out."""
+    yield f"{'[✗] the claim does not hold' if why_not else '[✓] the claim holds'}: {why_not or _claimed(proof)}"
+    yield f"    user ID: {for_people(proof.user_id)}"
+    yield f"    key: {proof.fpr}"
+    yield f"    claimed: amount {proof.amount} of {proof.wanted}, as of {moment(proof.time)}"
+    for fpr, amount in proof.roots.items():
+        yield f"    root: {fpr}, amount {amount}"
+    yield (f"    checked: {count(checked.keys, 'certificate')} of the file, {count(checked.signatures, 'signature')} "
+           f"found good by {for_people(checked.verifier.encode())}, {count(len(proof.paths), 'path')}")
+    yield f"    the engine's own answer over these certificates: amount {checked.amount}"
+    if proof.claim == ABSENCE:
+        yield "    note: a certificate that isn't in the file could add a path"
+    yield "    note: whether its roots are to be trusted is for you to say"
+
+
+def _claimed(proof: Proof) -> str:
+    if proof.claim == ABSENCE:
+        return f"from its roots, over its certificates, no path is left beyond amount {proof.amount}"
+    return f"from its roots the user ID belongs to the key, by {count(len(proof.paths), 'path')}"

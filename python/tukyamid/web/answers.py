@@ -1,0 +1,136 @@
+"""Answers as the page shows them: paths, why other certifications don't count, and what changed between two times."""
+
+from collections import Counter
+from collections.abc import Iterator
+from contextlib import contextmanager
+from typing import Any
+
+from ..assessment import Certification, Question, elsewhere
+from ..keyring import Keyring
+from ..reasons import ReasonWord, TargetWord
+from ..replies import Reason
+from ..shown.words import said_elsewhere, scopes
+from ..spelling import for_people, write_user_id
+from .given import Standpoint, Subject
+from ..part import Part, engine_over
+
+MOST_SHOWN = 50
+MOST_CHANGES = 200
+
+
+class Names:
+    """A user ID to say whose a key is, for the fingerprints that an answer has."""
+
+    def __init__(self, keyring: Keyring) -> None:
+        self._keyring = keyring
+        self.found: dict[str, str] = {}
+
+    def note(self, *fprs: str | None) -> None:
+        for fpr in fprs:
+            if fpr is not None and len(fpr) >= 40 and fpr not in self.found:
+                name = self._keyring.name(fpr)
+                self.found[fpr] = "" if name is None else for_people(name)
+
+    def of(self, fpr: str) -> str:
+        """What to call a key in a sentence."""
+        self.note(fpr)
+        return self.found.get(fpr) or f"the key {fpr}"
+
+
+@contextmanager
+def over(keyring: Keyring, subject: Subject) -> Iterator[Keyring]:
+    """The keyring that a question is asked over: the service's, or a copy without what is taken out of account."""
+    if subject.is_whole:
+        yield keyring
+        return
+    part = Part(keyring, subject.fpr, subject.user_id, subject.standpoint.roots)
+    with engine_over(keyring, part, subject.without_keys, subject.without_signatures) as copy:
+        yield copy
+
+
+def question(keyring: Keyring, subject: Subject, time: int | None = None, name: str = "page") -> Question:
+    standpoint = subject.standpoint
+    view = keyring.view(standpoint.time if time is None else time, standpoint.roots, name)
+    return Question(view, subject.fpr, subject.user_id, subject.wanted)
+
+
+def answer(keyring: Keyring, subject: Subject) -> dict[str, Any]:
+    """An answer with its paths, and the others counted by their reasons."""
+    with over(keyring, subject) as asked:
+        found, names = question(asked, subject), Names(keyring)
+        expired = elsewhere(found.view, subject.fpr) if found.word is TargetWord.OK else None
+        paths = [{"amount": path.amount, "root": path.root, "steps": [_step(one, names) for one in path.steps]}
+                 for path in found.paths]
+        names.note(subject.fpr, *subject.standpoint.roots)
+        return {
+            "amount": found.amount, "wanted": subject.wanted, "reached": found.amount >= subject.wanted,
+            "word": found.word, "meaning": found.word.meaning, "paths": paths, "others": _counted(found.unused()),
+            "expired_elsewhere": None if expired is None else said_elsewhere(expired), "names": names.found,
+        }
+
+
+def reasons(keyring: Keyring, subject: Subject, word: str, begin: int) -> dict[str, Any]:
+    """Some of the certifications that are on no path for one reason, each with what is said about it."""
+    with over(keyring, subject) as asked:
+        found, names = question(asked, subject), Names(keyring)
+        sought = [reason for reason in found.unused() if reason.word == word]
+        shown = found.others(sought[begin:begin + MOST_SHOWN])
+        items = [{**_step(one.certification, names), "word": one.word, "meaning": one.meaning} for one in shown]
+        return {"count": len(sought), "begin": begin, "items": items, "names": names.found}
+
+
+def changes(keyring: Keyring, subject: Subject, since: int) -> dict[str, Any]:
+    """What is otherwise at the question's time than at an earlier or later one."""
+    with over(keyring, subject) as asked:
+        before, after = question(asked, subject, since, "before"), question(asked, subject, None, "after")
+        then, now = _words(before), _words(after)
+        changed = [number for number in {**then, **now} if then.get(number) != now.get(number)]
+        names = Names(keyring)
+        items = [_changed(before, number, then.get(number), now.get(number), names)
+                 for number in changed[:MOST_CHANGES]]
+        return {"since": since, "before": before.amount, "after": after.amount, "word_before": before.word,
+                "word_after": after.word, "meaning_before": before.word.meaning, "meaning_after": after.word.meaning,
+                "paths_before": len(before.paths), "paths_after": len(after.paths), "count": len(changed),
+                "items": items, "names": names.found}
+
+
+def _words(asked: Question) -> dict[str, str]:
+    """What each certification comes to, by its number."""
+    all_reasons = asked.explanation.reasons if asked.explanation is not None else ()
+    return {reason.number: "path" if reason.number in asked.used else reason.word for reason in all_reasons}
+
+
+def _changed(asked: Question, number: str, then: str | None, now: str | None, names: Names) -> dict[str, Any]:
+    issuer = asked.view.keyring.index.issuer(asked.fpr, number)
+    names.note(issuer)
+    return {"signature": number, "issuer": issuer, "before": _meaning(then), "after": _meaning(now)}
+
+
+def _meaning(word: str | None) -> str:
+    if word is None:
+        return "isn't there"
+    return "is on a path" if word == "path" else ReasonWord(word).meaning
+
+
+def _counted(unused: list[Reason]) -> list[dict[str, Any]]:
+    """How many there are of each reason; those that count come first."""
+    counts = Counter(reason.word for reason in unused)
+    return [{"word": word, "meaning": word.meaning, "count": counts[word]} for word in ReasonWord if counts[word]]
+
+
+def _step(one: Certification, names: Names) -> dict[str, Any]:
+    names.note(one.issuer, one.target)
+    return {
+        "issuer": one.issuer, "target": one.target, "user_id": for_people(one.user_id),
+        "spelled": write_user_id(one.user_id), "depth": one.depth, "amount": one.amount, "signature": one.number,
+        "made": one.made, "ends": one.ends, "scopes": scopes(one),
+    }
+
+
+def standpoint(keyring: Keyring, view: Standpoint) -> dict[str, Any]:
+    """The roots, with their names."""
+    names = Names(keyring)
+    names.note(*view.roots)
+    roots = [{"fingerprint": fpr, "amount": amount, "name": names.found.get(fpr, ""),
+              "there": keyring.certificate(fpr) is not None} for fpr, amount in view.roots.items()]
+    return {"roots": roots, "time": view.time}

@@ -1,0 +1,64 @@
+"""The service that the page's questions go to. Each question has a connection of its own, so that its views are its
+own, and none waits for another."""
+
+import asyncio
+import contextlib
+import os
+from collections.abc import AsyncIterator, Callable
+from typing import TypeVar
+
+from ..client import Client, aio, connect
+from ..keyring import Keyring
+from ..refusals import ServiceMissing
+from ..served import served_keyring
+
+T = TypeVar("T")
+MOST_AT_ONCE = 4
+PATIENCE = 600.0
+
+
+class Desk:
+    """`start` starts the service again if it has ended."""
+
+    def __init__(self, socket: str | os.PathLike[str], start: Callable[[], object]) -> None:
+        self.socket = os.fspath(socket)
+        self._start = start
+        self._places = asyncio.Semaphore(MOST_AT_ONCE)
+        self._kept: Client | None = None
+
+    async def do(self, work: Callable[[Keyring], T]) -> T:
+        """Does something with the service's keyring, in a thread."""
+        async with self._places:
+            return await asyncio.get_running_loop().run_in_executor(None, lambda: self._do(work))
+
+    def _do(self, work: Callable[[Keyring], T]) -> T:
+        with self.connect() as client:
+            return work(served_keyring(client))
+
+    def connect(self) -> Client:
+        try:
+            return connect(self.socket, PATIENCE)
+        except ServiceMissing:
+            self._start()
+            return connect(self.socket, PATIENCE)
+
+    def keep(self) -> None:
+        """Keeps a connection, so that the service doesn't end while the page is open."""
+        self._kept = self.connect()
+
+    def close(self) -> None:
+        if self._kept is not None:
+            self._kept.close()
+
+    @contextlib.asynccontextmanager
+    async def talking(self) -> AsyncIterator[aio.Client]:
+        """A connection whose replies needn't be read to their ends."""
+        try:
+            client = await aio.connect(self.socket)
+        except ServiceMissing:
+            await asyncio.to_thread(self._start)
+            client = await aio.connect(self.socket)
+        try:
+            yield client
+        finally:
+            await client.close()

@@ -1,0 +1,29 @@
+"""The service that the page asks: the user's own, or one for the inputs that the words name."""
+
+from collections.abc import Callable
+from typing import NamedTuple
+
+from ..command.inputs import Inputs, Tell
+from ..command.parser import Given
+from ..command.runtime import runtime_file
+from ..command.sources import sources_of
+
+
+class Service(NamedTuple):
+    """Its socket, and what starts it again if it has ended."""
+    socket: str
+    start: Callable[[], object]
+
+
+def service_for(given: Given, inputs: Inputs, tell: Tell) -> Service:
+    """The service, which is started unless it runs. Named inputs are verified first, unless they were before."""
+    sources = sources_of(given)
+    if not sources:
+        from ..service.starting import ensure
+        ensure()
+        return Service(runtime_file("tukyamid.socket"), ensure)
+    from ..command.reopening import Reopening
+    reopening = Reopening(given, sources, lambda: inputs.as_paths(sources))
+    tell("the inputs are read; the first time this takes as long as to verify them")
+    start = reopening.ensure(lambda: inputs.verified(sources))
+    return Service(start(), start)

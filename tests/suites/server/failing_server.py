@@ -1,0 +1,38 @@
+#!/usr/bin/env python3
+"""The service with faults that nobody expects: each line of the file FAULTS, while that exists, names one.
+
+    change TEXT     the database can't make a change whose words in the log have this text
+    snapshot        what was kept can't be read
+"""
+
+import os
+import sys
+from pathlib import Path
+
+sys.path.insert(0, str(Path(__file__).resolve().parents[3] / "python"))
+
+from tukyamid.service import looking, writing  # noqa: E402
+from tukyamid.service.command import main  # noqa: E402
+
+
+def faults(word):
+    """What stands behind this word in the file's lines."""
+    try:
+        lines = Path(os.environ["FAULTS"]).read_text().splitlines()
+    except FileNotFoundError:
+        return []
+    return [line.partition(" ")[2] for line in lines if line.split(" ")[0] == word]
+
+
+def failing(call, is_meant):
+    def instead(self, *words):
+        if is_meant(*words):
+            raise RuntimeError("a planted fault")
+        return call(self, *words)
+    return instead
+
+
+writing.Writing.make = failing(writing.Writing.make,
+                               lambda change, now: any(text in change.what for text in faults("change")))
+looking.SqliteSnapshot.certificates = failing(looking.SqliteSnapshot.certificates, lambda: bool(faults("snapshot")))
+sys.exit(main())

@@ -1,0 +1,71 @@
+"""What fails as nobody expects is an answer all the same, to the one whom it is about, and the others go on."""
+
+import os
+import shutil
+import signal
+import tempfile
+import unittest
+from pathlib import Path
+
+from outside import FAILING_SERVER, Client, Server, alone, needs_engine
+from world import World
+
+FAULT = b"fault database"
+
+
+@needs_engine
+class Unexpected(unittest.TestCase):
+    def setUp(self):
+        self.folder = Path(tempfile.mkdtemp(prefix="tukyamid-failures-"))
+        self.addCleanup(shutil.rmtree, self.folder)
+        self.faults = self.folder / "faults"
+        self.world = World(count=6)
+        self.server = self.enterContext(Server("--engines", "2", folder=self.folder, program=FAILING_SERVER,
+                                               environment={"FAULTS": str(self.faults)}))
+        self.client = self.enterContext(Client(self.server.path))
+        for line in self.world.lines():
+            self.assertTrue(self.client.tell(line).startswith(b"ok"))
+
+    def tearDown(self):
+        self.assertEqual(self.server.stop(), 0)
+        self.assertNotIn("Traceback", self.server.said())
+
+    def is_kept(self, lines):
+        """Whether every engine, and the database, has these changes and no others."""
+        told = alone([*self.world.lines(), *lines, b"dump"])[-1]
+        with Client(self.server.path) as client:
+            client.send(b"dump")
+            self.assertEqual(client.end(), told)
+
+    def test_a_change_that_cannot_be_made(self):
+        """It is refused, with what stands behind it at that moment; what stands before it is kept."""
+        number = self.world.verdicts[7][0]
+        self.faults.write_text(f"change {number.decode()}\n")
+        lines = [b"verdict %s bad" % one for one, _ in self.world.verdicts[4:12]]
+        self.client.send(*lines)
+        replies = [self.client.read_line() for _ in lines]
+        self.assertEqual(replies[:4], [b"ok"] * 3 + [FAULT])
+        self.assertLessEqual({*replies[4:]}, {b"ok", FAULT})
+        made = [line for line, reply in zip(lines, replies) if reply == b"ok"]
+        self.is_kept(made)
+        # It was the change that failed, and not the database: others are taken at once.
+        self.assertEqual(self.client.tell(lines[4]), b"ok")
+        self.assertEqual(self.client.tell(lines[3]), FAULT)
+        self.faults.unlink()
+        self.assertEqual(self.client.tell(lines[3]), b"ok")
+        self.is_kept([*made, lines[4], lines[3]])
+        self.assertIn("a planted fault", self.server.said())
+
+    def test_a_snapshot_that_cannot_be_read(self):
+        """Who asks for a dump is dropped. An engine that ended stands again once it can be read."""
+        self.faults.write_text("snapshot\n")
+        with Client(self.server.path) as asking:
+            asking.send(b"dump")
+            self.assertNotIn(b"import", asking.rest())
+        self.assertEqual(self.client.tell(b"keys"), b"keys 6")
+        for engine in self.server.engines():
+            os.kill(engine, signal.SIGKILL)
+        self.server.wait_for(lambda: "can't be brought" in self.server.said())
+        self.client.send(b"keys")
+        self.faults.unlink()
+        self.assertEqual(self.client.read_line(), b"keys 6")
