@@ -17,7 +17,7 @@ from .journal import Change
 FAULT = b"fault database\n"
 UNCERTAIN = b"fault uncertain\n"
 _MOST_CHANGES = 4096
-_LONGEST_COMMIT = 5.0
+_LONGEST_COMMIT = 10.0
 _PROBE_SECONDS = 1.0
 
 

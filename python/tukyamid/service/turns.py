@@ -136,8 +136,10 @@ class Turns:
     async def _open_snapshot(self, barrier: Barrier) -> None:
         snapshot = None
         try:
-            news = await self._call(partial(self._database.news, has_snapshot=True), _LONGEST_COPY)
-            self._home.take_news(news)
+            news = News(None)
+            while news.lines is None:  # Such a snapshot is for the engines, and another one for who has asked.
+                news = await self._call(partial(self._database.news, has_snapshot=True), _LONGEST_COPY)
+                self._home.take_news(news)
             snapshot = news.snapshot
         finally:
             barrier.begun()

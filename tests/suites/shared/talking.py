@@ -96,7 +96,7 @@ class Writer(threading.Thread):
 
     def wait_for(self, count):
         """Waits until so many more changes are acknowledged."""
-        aim, end = len(self.kept) + count, time.monotonic() + 120
+        aim, end = len(self.kept) + count, time.monotonic() + 200
         while len(self.kept) < aim:
             if time.monotonic() > end:
                 raise AssertionError("no change is acknowledged any more")
@@ -120,7 +120,7 @@ def check_kept(test, writers, servers):
     test.assertLessEqual(there - {line for writer in writers for line in writer.kept}, maybe)
 
 
-def wait_until_same(servers, patience=120):
+def wait_until_same(servers, patience=200):
     """Waits until each service has all changes, and may change something itself."""
     end = time.monotonic() + patience
     while True:

@@ -1,7 +1,7 @@
 """The database in PostgreSQL, which services on several machines share.
 
-`database` writes to it in turns, `looking` reads it, `following` hears what other services change, `connecting` finds
-the primary, and `tables` makes the tables.
+`database` writes to it in turns, by `writing`; `looking` reads it, and `following` hears what other services change.
+`connecting` finds the primary, and `tables` makes the tables.
 """
 
 from .database import Postgres

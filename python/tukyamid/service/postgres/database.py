@@ -1,7 +1,6 @@
 """Writing to the database that several services share, each in its turn."""
 
 import os
-import secrets
 import socket
 import tempfile
 from collections.abc import Iterable, Sequence
@@ -13,45 +12,16 @@ from psycopg.pq import TransactionStatus
 
 from ..database import Actor, Change, DatabaseFault, News, Place, Snapshot, Source, Uncertain
 from ..sqlite import Sqlite
-from ..writing import EVERY_CERTIFICATE, Writing, compare
+from ..writing import EVERY_CERTIFICATE, compare
 from . import tables
 from .connecting import Servers, Statements, Wire, faults, text_of
-from .following import CHANNEL, PLACE, PostgresFollower
+from .following import PLACE, PostgresFollower
 from .looking import PostgresFinder, PostgresSnapshot
+from .writing import SharedWriting, row_of
 
 _UNREAD = Place(-1, b"")
 _MOST_NEWS = 1000
-_KEPT_LINES = 10_000
 _NOW = "SELECT extract(epoch FROM clock_timestamp())::BIGINT"
-
-
-class SharedWriting(Writing):
-    """Changes within one turn. The lines of the last ones are kept for the other services."""
-
-    def __init__(self, statements: Statements, machine: str) -> None:
-        super().__init__(statements)
-        self._statements = statements
-        self._machine = machine
-        self._before = self._number
-        self.place: Place | None = None
-
-    def _log(self, change: Change, now: int) -> None:
-        self._number += 1
-        self._statements.execute("INSERT INTO changes VALUES (?, ?, ?, ?, ?, ?)", (
-            self._number, now, change.actor.uid, change.actor.pid, change.what, self._machine))
-        self.place = Place(self._number, secrets.token_bytes(16))
-        self._statements.execute("INSERT INTO lines VALUES (?, ?, ?)", (*_row(self.place), change.line or None))
-
-    def tell(self) -> None:
-        """Has the other services hear of the changes once they are committed."""
-        if self.place is not None:
-            self._statements.execute("UPDATE head SET number = ?, mark = ?", _row(self.place))
-            self._statements.execute("DELETE FROM lines WHERE number < ?", (self._number - _KEPT_LINES,))
-            self._statements.connection.execute(f"NOTIFY {CHANNEL}".encode())
-
-
-def _row(place: Place) -> tuple[int, bytes]:
-    return place.number, place.mark
 
 
 class Postgres:
@@ -152,8 +122,8 @@ class Postgres:
         if place == self.place:
             return ()
         rows = statements.rows("SELECT number, mark, line FROM lines WHERE number >= ? ORDER BY number LIMIT ?",
-                               self.place.number, _MOST_NEWS + 2)
-        is_linked = rows[:1] and rows[0][:2] == _row(self.place) and rows[-1][:2] == _row(place)
+                               self.place.number, _MOST_NEWS + 1)
+        is_linked = rows[:1] and rows[0][:2] == row_of(self.place) and rows[-1][:2] == row_of(place)
         if not is_linked or any(line is None for _, _, line in rows[1:]):
             return None
         return tuple((number, line) for number, _, line in rows[1:])
