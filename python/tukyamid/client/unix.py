@@ -49,6 +49,10 @@ class Client(Connection, ServiceCalls):
     def _end_error(self) -> TukyamidError:
         return ServiceEnded("the connection to the service has ended")
 
+    def end_at_once(self) -> None:
+        """Ends the connection. A call that waits for the service raises ServiceEnded."""
+        self._abandon()
+
     def _abandon(self) -> None:
         with contextlib.suppress(OSError):
             self._socket.shutdown(socket.SHUT_RDWR)

@@ -25,6 +25,7 @@ class Desk:
         self._start = start
         self._places = asyncio.Semaphore(MOST_AT_ONCE)
         self._kept: Client | None = None
+        self._asking: set[Client] = set()
 
     async def do(self, work: Callable[[Keyring], T]) -> T:
         """Does something with the service's keyring, in a thread."""
@@ -33,7 +34,11 @@ class Desk:
 
     def _do(self, work: Callable[[Keyring], T]) -> T:
         with self.connect() as client:
-            return work(served_keyring(client))
+            self._asking.add(client)
+            try:
+                return work(served_keyring(client))
+            finally:
+                self._asking.discard(client)
 
     def connect(self) -> Client:
         try:
@@ -47,6 +52,9 @@ class Desk:
         self._kept = self.connect()
 
     def close(self) -> None:
+        """Ends all connections, so that nothing waits for a long answer that nobody wants any more."""
+        for client in list(self._asking):
+            client.end_at_once()
         if self._kept is not None:
             self._kept.close()
 

@@ -2,7 +2,7 @@
 
 import contextlib
 import doctest
-import importlib
+import importlib.util
 import os
 import pkgutil
 import re
@@ -17,6 +17,8 @@ from outside import CLIENT, ROOT, needs_engine, run
 
 MODULES = sorted(module.name for module in pkgutil.walk_packages(tukyamid.__path__, "tukyamid.")
                  if not module.name.endswith(".__main__"))
+if importlib.util.find_spec("aiohttp") is None:  # The suite `web` says what is left out then.
+    MODULES = [name for name in MODULES if name not in ("tukyamid.web.guard", "tukyamid.web.server")]
 PAGES = [CLIENT / "README.md", ROOT / "docs" / "USING.md"]
 
 
@@ -59,7 +61,8 @@ class Examples(unittest.TestCase):
 class Documents(unittest.TestCase):
     def test_every_option_is_on_the_man_page_and_in_the_help(self):
         manual = (CLIENT / "tukyamid.1").read_text().replace("\\-", "-")
-        said = run([CLIENT / "bin" / "tukyamid", "--help"]).stdout.decode()
+        said = "".join(run([CLIENT / "bin" / "tukyamid", *word, "--help"]).stdout.decode()
+                       for word in ((), ("web",), ("check",)))
         options = set(re.findall(r"--[a-z-]+", said))
         self.assertGreater(len(options), 10)
         self.assertEqual({option for option in options if option not in manual}, set())

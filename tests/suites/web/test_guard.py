@@ -114,6 +114,11 @@ class Words(Served):
         self.assertEqual(page.call("begin")["roots"][0]["name"], "Alice <alice@example.net>")
         self.assertEqual(page.close(), 0)
 
+    def test_it_ends_while_an_overview_is_made(self):
+        page = Page([self.friends.keyring], [self.fpr["Alice"]])
+        self.assertIn("progress", page.call("overview", time=0, roots=[]))
+        self.assertEqual(page.close(), 0)
+
     def test_the_address_is_opened_by_a_file_of_the_users_alone(self):
         """Others can read the words of the browser's process."""
         browser, seen = self.page.own / "browser", self.page.own / "seen"

@@ -12,7 +12,7 @@ from page import Page, Served, needs_page
 
 MADE = 1_700_000_000
 CERTIFIED, KEYS = 2000, 2500
-PAINT_SECONDS, KEY_SECONDS = 5.0, 0.5
+PAINT_SECONDS, KEY_SECONDS = 10.0, 1.0
 
 
 def crowd():

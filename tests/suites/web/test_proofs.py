@@ -129,6 +129,9 @@ class Proofs(Served):
             status, said = self.check(self.proof(name, user_id), verifier=verifier)
             self.assertEqual(status, HOLDS, said)
         proof = self.proof("Carol", CAROL)
+        armored = [self.friends.armored_alice(secret=False).decode() if self.is_of(one, "Alice") else one
+                   for one in proof["certificates"]]
+        self.assertEqual(self.check(self.changed(proof, certificates=armored), verifier=verifier)[0], HOLDS)
         self.assertIn("signatures found good by wot-verdicts", self.check(proof, verifier=verifier)[1])
         # The last octets of a certificate are those of a signature's material, which no longer verifies.
         place = next(at for at, one in enumerate(proof["certificates"]) if self.is_of(one, "Bob"))

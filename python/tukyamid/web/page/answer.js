@@ -120,9 +120,13 @@ function furtherOf(shown, left) {
   return item;
 }
 
+/** Whether the group's line says all that is meant: of one that counts, or isn't parseable, there is more to say. */
+const isSaidAbove = (item) => item.word !== "edge" && item.word !== "unsound";
+
 function otherOf(item) {
   const by = item.issuer && item.issuer.length >= 40 && nameOf(item.issuer) !== item.issuer
     ? [name(nameOf(item.issuer)), " ", short(item.issuer)] : [make("code", {}, item.issuer ?? "an unknown key")];
   return make("li", {}, "by ", ...by, make("br"),
-    make("span", { class: "soft" }, `${said(item)}`), make("br"), make("span", {}, item.meaning));
+    make("span", { class: "soft" }, said(item)),
+    ...isSaidAbove(item) ? [] : [make("br"), make("span", {}, item.meaning)]);
 }

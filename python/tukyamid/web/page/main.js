@@ -2,12 +2,12 @@
 
 import { call } from "./asking.js";
 import { showAnswer, showOthers, showSteps } from "./answer.js";
-import { byId, count, fill, make } from "./dom.js";
+import { byId, count, day, fill, make, name } from "./dom.js";
 import { showOverview } from "./overview.js";
 import { showPicture } from "./picture.js";
 import { showProof } from "./proof.js";
 import { attachMainSearch } from "./search.js";
-import { change, learn, read, state, subject, whenChanged } from "./state.js";
+import { change, learn, nameOf, read, state, subject, whenChanged } from "./state.js";
 import { showTime } from "./time.js";
 import { leaveOut, showWhatIf } from "./whatif.js";
 
@@ -26,7 +26,7 @@ async function begin() {
   }
   attachMainSearch((one) => change({ binding: one, without: [], view: "ask" }));
   whenChanged(show);
-  window.addEventListener("popstate", () => { Object.assign(state, read(location.hash)); show(["all"]); });
+  window.addEventListener("popstate", () => { Object.assign(state, read(location.hash)); show(); });
   for (const view of ["ask", "overview"]) {
     byId(`to-${view}`).addEventListener("click", (event) => {
       event.preventDefault();
@@ -35,7 +35,7 @@ async function begin() {
     });
   }
   Object.assign(state, read(location.hash));
-  show(["all"]);
+  show();
   if (!state.binding && state.view === "ask") byId("sought").focus();
 }
 
@@ -50,7 +50,15 @@ function notesOf(reply) {
   return notes;
 }
 
-function show(changed) {
+/** From where one looks, in a sentence. */
+function standpointOf() {
+  const roots = state.roots.flatMap((root, at) => [
+    at ? ", " : "", name(nameOf(root.fingerprint)), ` (${root.amount})`]);
+  return ["Seen from ", ...(roots.length ? roots : ["no root yet"]), `, as of ${day(state.time)}.`];
+}
+
+function show() {
+  fill(byId("standpoint"), standpointOf());
   for (const view of ["ask", "overview"]) {
     byId(view).hidden = state.view !== view;
     if (state.view === view) byId(`to-${view}`).setAttribute("aria-current", "page");
@@ -75,6 +83,7 @@ async function ask() {
     learn(present?.names);
     showAnswer(byId("answer"), reply, state.binding, present);
     showPicture(byId("picture"), reply);
+    byId("steps-box").hidden = !reply.paths.length;
     showSteps(byId("steps"), reply, leaveOut);
     showOthers(byId("others"), reply);
     showWhatIf(reply, present);

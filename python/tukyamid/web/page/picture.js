@@ -10,6 +10,7 @@ const MOST_CHARACTERS = 30;
 export function showPicture(element, reply) {
   element.hidden = !reply.paths.length;
   fill(element, reply.paths.length ? drawn(reply) : []);
+  element.scrollLeft = (element.scrollWidth - element.clientWidth) / 2;  // The target is in the middle.
 }
 
 function drawn(reply) {
@@ -57,7 +58,7 @@ function boxOf(key, reply, target) {
     draw("title", {}, `${nameOf(key.fpr)} ${key.fpr}`),
     draw("rect", { width: BOX.width, height: BOX.height, rx: 10 }),
     draw("text", { x: BOX.width / 2, y: 24, class: "main", "text-anchor": "middle" },
-      cut(nameOf(key.fpr).replace(/ <[^<>]*>$/, ""), 26)),
+      cut(nameOf(key.fpr).replace(/ <[^<>]*>$/, ""), 24)),
     draw("text", { x: BOX.width / 2, y: 43, class: "small", "text-anchor": "middle" }, cut(below, 28)));
 }
 
