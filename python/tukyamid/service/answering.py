@@ -110,12 +110,14 @@ class Answering:
         """The database's figures and its count of watched keyrings; if it can't be read, those of the last time."""
         try:
             figures = await hub.find(lambda finder: finder.figures())
-            self._known = figures, len(await hub.find(lambda finder: finder.sources()))
+            sources = len(await hub.find(lambda finder: finder.sources()))
         except DatabaseFault:
             if self._known is None:
                 raise
             figures, sources = self._known
-            self._known = replace(figures, change=hub.count), sources
+        if isinstance(hub.database, Shared):  # It may have changes that the engines don't have yet.
+            figures = replace(figures, change=hub.count)
+        self._known = figures, sources
         return self._known
 
     async def _tell_status(self, session: Session) -> bytes:
