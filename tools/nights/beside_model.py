@@ -12,6 +12,7 @@ KEYRING = Path("/usr/share/keyrings/debian-keyring.gpg")
 # The model is slow: longer certificates are left to the benches.
 MOST_OCTETS = 12000
 TOGETHER = 10
+SECONDS = 600
 
 
 def scripts(night: Night) -> Part:
@@ -86,7 +87,10 @@ def differing(program: Path, script: bytes) -> str:
     """Where the program's replies part from the model's; the empty text if they don't."""
     from wot_model.machine import Machine  # type: ignore[import]
 
-    ended = subprocess.run([program, "run"], input=script, capture_output=True, check=False)
+    try:
+        ended = subprocess.run([program, "run"], input=script, capture_output=True, timeout=SECONDS, check=False)
+    except subprocess.TimeoutExpired:
+        return f"no end within {SECONDS} seconds"
     wanted = Machine().transcript(script)
     if ended.returncode != 0 or ended.stderr:
         return f"status {ended.returncode}, {ended.stderr[:200]!r}"

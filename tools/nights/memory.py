@@ -65,7 +65,10 @@ def refused_in_turn(refuser: Refuser, script: bytes, replies: list[bytes], most:
     whole = b"".join(replies)
     wrong: list[str] = []
     for first in range(1, most):
-        status, written, count = refuser.run(script, first, first)
+        try:
+            status, written, count = refuser.run(script, first, first)
+        except subprocess.TimeoutExpired:
+            return first, [*wrong, f"request {first}: no end within {SECONDS} seconds"]
         if count == 0:
             return first - 1, wrong
         if not (status == 0 and written == whole or status == 5 and written in beginnings):

@@ -48,6 +48,8 @@ def page(values: dict[str, Any]) -> str:
     where = f"{machine['processors']} processors ({machine['processor']}), {machine['memory_mb']:,} MB"
     sort = "A shortened night" if values["short"] else "A whole night"
     again = f"tools/nightly --seed {values['seed']}{' --short' if values['short'] else ''}"
+    missing = " ".join(values.get("missing", ()))
+    lacks = f"<p>Packages that this machine lacks: <code>{html.escape(missing)}</code></p>\n" if missing else ""
     rows = "\n".join(row(part) for part in values["parts"])
     return f"""<!doctype html>
 <html lang="en">
@@ -58,7 +60,7 @@ def page(values: dict[str, Any]) -> str:
 <h1>Tukyamid, {html.escape(values["begun"])}: <span class="{values["status"]}">{values["status"]}</span></h1>
 <p>{sort} over commit <code>{html.escape(values["commit"])}</code> on {html.escape(where)}, load
 {values["load"]["begin"]} to {values["load"]["end"]}. Again: <code>{html.escape(again)}</code></p>
-<table>
+{lacks}<table>
 <tr><th>part</th><th>status</th><th>what it says</th><th>seconds</th></tr>
 {rows}
 </table>

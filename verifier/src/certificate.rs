@@ -58,7 +58,7 @@ impl<'a> Certificate<'a> {
                 kind::USER_ID => component = Some((index, Place::UserId)),
                 kind::ATTRIBUTE => component = Some((index, Place::Attribute)),
                 kind::SUBKEY => component = Some((index, Place::Subkey)),
-                10 | 12 | 21 => {}
+                kind::MARKER | 12 | kind::PADDING => {}
                 40..=63 => component = None,
                 kind::SECRET_KEY | kind::SECRET_SUBKEY => return Err(What::Secret),
                 kind::COMPRESSED => return Err(What::Compressed),

@@ -10,6 +10,10 @@ use openpgp::packet::Signature;
 use openpgp::parse::stream::{VerificationError, VerificationResult};
 use openpgp::Cert;
 
+use crate::fingerprint::Fingerprint;
+use crate::script::digits;
+use crate::signature::{Issuer, Signature as Own};
+
 #[derive(Clone, Copy, Debug, PartialEq, Eq)]
 pub enum Word {
     /// A key made it over this data, and could at that time.
@@ -70,11 +74,38 @@ impl Finding {
         }
     }
 
+    /// Of a signature that this program judges by itself.
+    pub fn on(word: Word, signature: &Own, made: Option<u32>) -> Finding {
+        let key = signature.issuers().first().map(|issuer| match issuer {
+            Issuer::Fingerprint(fingerprint) => fingerprint.to_string(),
+            Issuer::KeyId(id) => digits(&id.0),
+        });
+        Finding {
+            word,
+            made: made.map(u64::from),
+            kind: Some(signature.kind),
+            hash_algorithm: Some(signature.hash_algorithm),
+            certificate: None,
+            key,
+            why: None,
+        }
+    }
+
+    pub fn by_key(self, certificate: Fingerprint, key: Fingerprint) -> Finding {
+        Finding { certificate: Some(certificate.to_string()), key: Some(key.to_string()), ..self }
+    }
+
+    pub fn since(self, why: &str) -> Finding {
+        Finding { why: Some(why.to_owned()), ..self }
+    }
+
     /// Of what can't be read as a signature.
     pub fn unread(word: Word, why: &anyhow::Error) -> Finding {
-        let nothing =
-            Finding { word, made: None, kind: None, hash_algorithm: None, certificate: None, key: None, why: None };
-        nothing.because(why)
+        Finding::nothing(word).because(why)
+    }
+
+    pub fn nothing(word: Word) -> Finding {
+        Finding { word, made: None, kind: None, hash_algorithm: None, certificate: None, key: None, why: None }
     }
 
     fn new(word: Word, sig: &Signature) -> Finding {

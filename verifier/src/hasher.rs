@@ -4,6 +4,8 @@ use nettle::hash::{Hash, Sha3_256, Sha3_512};
 use sequoia_openpgp::crypto::hash::Digest;
 use sequoia_openpgp::types::HashAlgorithm;
 
+use crate::signature::Signature;
+
 pub const SHA3_256: u8 = 12;
 pub const SHA3_512: u8 = 14;
 
@@ -29,6 +31,13 @@ impl Hasher {
         }
     }
 
+    /// What is hashed last: the signature's own front, and its length.
+    pub fn update_trailer(&mut self, signature: &Signature) {
+        self.update(signature.hashed);
+        self.update(&[signature.version, 0xff]);
+        self.update(&(signature.hashed.len() as u32).to_be_bytes());
+    }
+
     pub fn digest(self) -> Option<Vec<u8>> {
         match self {
             Hasher::Sequoia(hash) => hash.into_digest().ok(),
@@ -41,8 +50,13 @@ impl Hasher {
     }
 }
 
+/// Whether the salt has the size that goes with the hash algorithm; version 4 has none.
+pub fn has_right_salt(signature: &Signature) -> bool {
+    signature.version != 6 || salt_size(signature.hash_algorithm) == Some(signature.salt.len())
+}
+
 /// How many octets of salt a version 6 signature by this algorithm has; None if it may not be used there.
-pub fn salt_size(algorithm: u8) -> Option<usize> {
+fn salt_size(algorithm: u8) -> Option<usize> {
     match algorithm {
         8 | 11 | SHA3_256 => Some(16),
         9 => Some(24),

@@ -1,4 +1,4 @@
-//! Which certificates have a key that may have signed data, in the library's form.
+//! Which certificates have a key that may have signed data.
 
 use std::collections::HashMap;
 
@@ -7,6 +7,10 @@ use sequoia_openpgp::{Cert, KeyHandle, KeyID, Result};
 
 use crate::certificate::Certificate;
 use crate::fingerprint::{Fingerprint, KeyId};
+use crate::signature::Issuer;
+
+/// A signature names its issuer once or twice. More names are looked at no further.
+const MOST_ISSUERS: usize = 8;
 
 /// Certificates by the key IDs of their keys and subkeys.
 pub struct Holders<'a> {
@@ -14,19 +18,73 @@ pub struct Holders<'a> {
     by_id: HashMap<KeyId, Vec<usize>>,
 }
 
+/// A key that a signature names, in its certificate.
+pub struct Named<'a> {
+    pub certificate: &'a Certificate<'a>,
+    pub primary: Fingerprint,
+    pub key: &'a [u8],
+    pub fingerprint: Fingerprint,
+}
+
 impl<'a> Holders<'a> {
     pub fn of(certificates: &'a [Certificate<'a>]) -> Holders<'a> {
         let mut by_id: HashMap<KeyId, Vec<usize>> = HashMap::new();
         for (index, certificate) in certificates.iter().enumerate() {
             for fingerprint in certificate.keys().filter_map(Fingerprint::of_key) {
-                by_id.entry(fingerprint.key_id()).or_default().push(index);
+                let indices = by_id.entry(fingerprint.key_id()).or_default();
+                if indices.last() != Some(&index) {
+                    indices.push(index);
+                }
             }
         }
         Holders { certificates, by_id }
     }
 
-    /// The certificates that have these keys. Copies of one certificate are merged, so that what only one of them says,
-    /// such as a revocation, counts.
+    /// The keys that these issuers name, each once.
+    pub fn named(&self, issuers: &[Issuer]) -> Vec<Named<'a>> {
+        let mut found: Vec<Named> = Vec::new();
+        for issuer in issuers.iter().take(MOST_ISSUERS) {
+            let id = match issuer {
+                Issuer::Fingerprint(fingerprint) => fingerprint.key_id(),
+                Issuer::KeyId(id) => *id,
+            };
+            for index in self.by_id.get(&id).into_iter().flatten() {
+                self.add_named(&self.certificates[*index], issuer, &mut found);
+            }
+        }
+        found
+    }
+
+    fn add_named(&self, certificate: &'a Certificate<'a>, issuer: &Issuer, found: &mut Vec<Named<'a>>) {
+        let primary = match certificate.fingerprint() {
+            Some(primary) => primary,
+            None => return,
+        };
+        for key in certificate.keys() {
+            let fingerprint = match Fingerprint::of_key(key) {
+                Some(fingerprint) => fingerprint,
+                None => continue,
+            };
+            let is_named = match issuer {
+                Issuer::Fingerprint(named) => *named == fingerprint,
+                Issuer::KeyId(named) => *named == fingerprint.key_id(),
+            };
+            let is_new = !found.iter().any(|one| (one.primary, one.fingerprint) == (primary, fingerprint));
+            if is_named && is_new {
+                found.push(Named { certificate, primary, key, fingerprint });
+            }
+        }
+    }
+
+    /// All copies of a certificate.
+    pub fn copies(&self, primary: Fingerprint) -> Vec<&'a Certificate<'a>> {
+        let indices = self.by_id.get(&primary.key_id()).into_iter().flatten();
+        let certificates = indices.map(|index| &self.certificates[*index]);
+        certificates.filter(|certificate| certificate.fingerprint() == Some(primary)).collect()
+    }
+
+    /// The certificates that have these keys, in the library's form. Copies of one certificate are merged, so that what
+    /// only one of them says, such as a revocation, counts.
     pub fn with_keys(&self, handles: &[KeyHandle]) -> Result<Vec<Cert>> {
         let mut indices: Vec<usize> = handles.iter().flat_map(|handle| self.indices(handle)).copied().collect();
         indices.sort_unstable();

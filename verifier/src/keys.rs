@@ -9,9 +9,13 @@ use openpgp::packet::key::{Key4, PublicParts, UnspecifiedRole};
 use openpgp::packet::Key;
 use openpgp::types::PublicKeyAlgorithm;
 
+use crate::curves;
+
 /// Public-key algorithms that the library doesn't know (RFC 9580, section 9.1).
 pub const ED25519: u8 = 27;
 pub const ED448: u8 = 28;
+/// Over the NIST curves, which the library knows, and others, which it doesn't (`curves`).
+pub const ECDSA: u8 = 19;
 /// An algorithm that version 6 keys may not have.
 const EDDSA_LEGACY: u8 = 22;
 
@@ -20,12 +24,21 @@ pub enum VerifyingKey {
     Library(Key<PublicParts, UnspecifiedRole>),
     Ed25519(Vec<u8>),
     Ed448(Vec<u8>),
+    /// Of ECDSA.
+    OnCurve(curves::PublicKey),
+}
+
+impl VerifyingKey {
+    /// Whether the library verifies with this key by itself, if its version is 4.
+    pub fn is_of_library(&self) -> bool {
+        matches!(self, VerifyingKey::Library(_))
+    }
 }
 
 /// The parts of a public key's body (RFC 9580, sections 5.5.2.2 and 5.5.2.3).
 pub struct Parts<'a> {
     pub version: u8,
-    created: u32,
+    pub created: u32,
     algorithm: u8,
     material: &'a [u8],
 }
@@ -56,6 +69,9 @@ pub fn verifying_key(body: &[u8]) -> Option<VerifyingKey> {
         ED25519 => return (material.len() == 32).then(|| VerifyingKey::Ed25519(material.to_vec())),
         ED448 => return (material.len() == 57).then(|| VerifyingKey::Ed448(material.to_vec())),
         EDDSA_LEGACY if version == 6 => return None,
+        ECDSA if curves::is_curve_of(material) => {
+            return curves::PublicKey::read(material).map(VerifyingKey::OnCurve);
+        }
         _ => {}
     }
     let algorithm = PublicKeyAlgorithm::from(algorithm);
@@ -75,6 +91,17 @@ fn is_usable(material: &mpi::PublicKey) -> bool {
         mpi::PublicKey::RSA { n, .. } => n.bits() > 0,
         mpi::PublicKey::DSA { p, q, .. } => p.bits() > 0 && q.bits() > 0,
         _ => true,
+    }
+}
+
+/// Whether a key is of RSA with fewer than 2048 bits, which may no longer sign data.
+pub fn is_short(body: &[u8]) -> bool {
+    match verifying_key(body) {
+        Some(VerifyingKey::Library(key)) => match key.mpis() {
+            mpi::PublicKey::RSA { n, .. } => n.bits() < 2048,
+            _ => false,
+        },
+        _ => false,
     }
 }
 

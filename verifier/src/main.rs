@@ -1,7 +1,12 @@
 //! Verifies the signatures of OpenPGP keyrings, and writes the script that tells Tukyamid; and those on data.
 
+mod bound;
 mod certificate;
+mod cleartext;
+mod curves;
 mod data;
+mod digesting;
+mod facts;
 mod finding;
 mod fingerprint;
 mod hasher;
@@ -11,15 +16,22 @@ mod issuers;
 mod judge;
 mod keyring;
 mod keys;
+mod library;
+mod message;
+mod mixed;
 mod notice;
 mod number;
+mod own;
 mod packets;
 mod pending;
 mod progress;
 mod script;
 mod signature;
+mod signing;
+mod spool;
 mod stats;
 mod verify;
+mod walk;
 mod words;
 mod writing;
 

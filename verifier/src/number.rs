@@ -6,7 +6,7 @@ use sequoia_openpgp::types::HashAlgorithm;
 pub type Number = [u8; 32];
 
 /// What a signature stands on; the number is that of the field.
-#[derive(Clone, Copy, Debug, PartialEq, Eq)]
+#[derive(Clone, Copy, Debug, PartialEq, Eq, Hash)]
 pub enum Place {
     Key = 0,
     UserId = 1,

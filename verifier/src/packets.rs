@@ -6,13 +6,17 @@ use std::fmt;
 /// The types of packets that this program asks for by name (RFC 9580, section 5).
 pub mod kind {
     pub const SIGNATURE: u8 = 2;
+    pub const ONE_PASS: u8 = 4;
     pub const SECRET_KEY: u8 = 5;
     pub const KEY: u8 = 6;
     pub const SECRET_SUBKEY: u8 = 7;
     pub const COMPRESSED: u8 = 8;
+    pub const MARKER: u8 = 10;
+    pub const LITERAL: u8 = 11;
     pub const USER_ID: u8 = 13;
     pub const SUBKEY: u8 = 14;
     pub const ATTRIBUTE: u8 = 17;
+    pub const PADDING: u8 = 21;
 }
 
 /// How a packet is spelled when it is written.
@@ -55,13 +59,16 @@ impl<'a> Packet<'a> {
     pub fn write(&self, to: &mut Vec<u8>) {
         match self.spelling {
             Spelling::Own(octets) => to.extend_from_slice(octets),
-            Spelling::New => {
-                to.push(0xc0 | self.kind);
-                write_length(self.body.len(), to);
-                to.extend_from_slice(&self.body);
-            }
+            Spelling::New => write(self.kind, &self.body, to),
         }
     }
+}
+
+/// Appends a packet of this type and body.
+pub fn write(kind: u8, body: &[u8], to: &mut Vec<u8>) {
+    to.push(0xc0 | kind);
+    write_length(body.len(), to);
+    to.extend_from_slice(body);
 }
 
 fn write_length(length: usize, to: &mut Vec<u8>) {

@@ -2,11 +2,14 @@
 
 use crate::fingerprint::{Fingerprint, KeyId};
 
-/// The kinds of signatures (RFC 9580, section 5.2.1) on which verdicts are given.
+/// The kinds of signatures (RFC 9580, section 5.2.1) that this program verifies.
 pub mod kind {
+    pub const BINARY: u8 = 0;
+    pub const TEXT: u8 = 1;
     pub const CERTIFICATION_FIRST: u8 = 0x10;
     pub const CERTIFICATION_LAST: u8 = 0x13;
     pub const SUBKEY_BINDING: u8 = 0x18;
+    pub const PRIMARY_KEY_BINDING: u8 = 0x19;
     pub const DIRECT_KEY: u8 = 0x1f;
     pub const KEY_REVOCATION: u8 = 0x20;
     pub const SUBKEY_REVOCATION: u8 = 0x28;
@@ -15,6 +18,7 @@ pub mod kind {
 
 const ISSUER_KEY_ID: u8 = 16;
 const ISSUER_FINGERPRINT: u8 = 33;
+const EMBEDDED_SIGNATURE: u8 = 32;
 
 pub struct Signature<'a> {
     pub version: u8,
@@ -71,6 +75,22 @@ impl<'a> Signature<'a> {
     /// The issuers that the signature names, in both areas.
     pub fn issuers(&self) -> Vec<Issuer> {
         self.areas.iter().flat_map(|area| Subpackets { rest: area }).filter_map(issuer).collect()
+    }
+
+    /// The subpackets of the hashed area, each from its type on; None if the area isn't a list of them.
+    pub fn hashed_subpackets(&self) -> Option<Vec<&'a [u8]>> {
+        let mut subpackets = Subpackets { rest: self.areas[0] };
+        let found = subpackets.by_ref().collect();
+        subpackets.rest.is_empty().then(|| found)
+    }
+
+    /// The bodies of the signatures that stand in this one, in both areas.
+    pub fn embedded(&self) -> impl Iterator<Item = &'a [u8]> {
+        let subpackets = self.areas.into_iter().flat_map(|area| Subpackets { rest: area });
+        subpackets.filter_map(|subpacket| match subpacket.split_first() {
+            Some((kind, body)) if kind & 0x7f == EMBEDDED_SIGNATURE => Some(body),
+            _ => None,
+        })
     }
 }
 

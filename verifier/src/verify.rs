@@ -11,8 +11,8 @@ use openpgp::serialize::MarshalInto;
 use openpgp::types::{HashAlgorithm, PublicKeyAlgorithm};
 
 use crate::certificate::PlacedSignature;
-use crate::hasher::{salt_size, Hasher, SHA3_256, SHA3_512};
-use crate::keys::{VerifyingKey, ED25519, ED448};
+use crate::hasher::{has_right_salt, Hasher, SHA3_256, SHA3_512};
+use crate::keys::{VerifyingKey, ECDSA, ED25519, ED448};
 use crate::number::Place;
 use crate::signature::Signature;
 
@@ -66,7 +66,7 @@ pub fn digests(key: &[u8], placed: &PlacedSignature, signature: &Signature) -> R
 }
 
 fn digest(framing: Framing, key: &[u8], placed: &PlacedSignature, signature: &Signature) -> Result<Vec<u8>, Failure> {
-    if signature.version == 6 && salt_size(signature.hash_algorithm) != Some(signature.salt.len()) {
+    if !has_right_salt(signature) {
         return Err(Failure::Wrong);
     }
     let mut hasher = Hasher::new(signature.hash_algorithm).ok_or(Failure::Wrong)?;
@@ -78,9 +78,7 @@ fn digest(framing: Framing, key: &[u8], placed: &PlacedSignature, signature: &Si
         Place::Attribute => hash_name(0xd1, placed.component, &mut hasher),
         Place::Subkey => framing.hash(placed.component, &mut hasher)?,
     }
-    hasher.update(signature.hashed);
-    hasher.update(&[signature.version, 0xff]);
-    hasher.update(&(signature.hashed.len() as u32).to_be_bytes());
+    hasher.update_trailer(signature);
     hasher.digest().ok_or(Failure::Wrong)
 }
 
@@ -99,6 +97,9 @@ pub fn verify(key: &VerifyingKey, signature: &Signature, digest: &[u8]) -> Resul
         VerifyingKey::Library(key) => return verify_by_library(key, signature, digest),
         VerifyingKey::Ed25519(key) if signature.key_algorithm == ED25519 => {
             ed25519::verify(key, digest, signature.material)
+        }
+        VerifyingKey::OnCurve(key) if signature.key_algorithm == ECDSA => {
+            return key.verify(digest, signature.material);
         }
         VerifyingKey::Ed448(_) if !ed448::IS_SUPPORTED => return Err(Failure::Unsupported),
         // Nettle doesn't look at the last octet, which is zero in every valid signature (RFC 8032, section 5.2.7).

@@ -15,6 +15,14 @@ from .service_calls import ServiceCalls
 from .wire import PIECE
 
 
+class ServiceSilent(ServiceEnded):
+    """The service doesn't answer. `listener` is the number of the process that opened its socket."""
+
+    def __init__(self, listener: int) -> None:
+        super().__init__("the service doesn't answer")
+        self.listener = listener
+
+
 class Client(Connection, ServiceCalls):
     """A connection to a service. Views, cursors and watches are its own; certificates and verdicts are everybody's."""
 
@@ -22,20 +30,6 @@ class Client(Connection, ServiceCalls):
         self._socket = connected
         super().__init__(io.BufferedReader(connected.makefile("rb", buffering=0), PIECE),
                          io.BufferedWriter(connected.makefile("wb", buffering=0), PIECE))
-
-    @property
-    def listener(self) -> int:
-        """The number of the process that listens on the socket: the service, or what opened the socket for it."""
-        octets = self._socket.getsockopt(socket.SOL_SOCKET, socket.SO_PEERCRED, 12)
-        return int.from_bytes(octets[:4], sys.byteorder)
-
-    def greet(self, patience: float) -> None:
-        """Returns when the service answers at all. Raises ServiceEnded if it doesn't within `patience` seconds."""
-        before = self._socket.gettimeout()
-        self._socket.settimeout(patience)
-        with contextlib.suppress(RefusedLine):
-            self.send_line(PROBE)
-        self._socket.settimeout(before)
 
     def close(self) -> None:
         """Ends the connection. What was sent before counts."""
@@ -69,3 +63,23 @@ def connect(path: str | os.PathLike[str], timeout: float | None = None) -> Clien
         connected.close()
         raise ServiceMissing(f"no service at {os.fspath(path)!r}: {error.strerror or error}") from None
     return Client(connected)
+
+
+def connect_in_time(path: str | os.PathLike[str], patience: float) -> Client:
+    """Connects as `connect` does, and raises ServiceSilent if the service doesn't answer at all within `patience`
+    seconds. Later calls wait for as long as they take."""
+    client = connect(path)
+    connected = client._socket
+    connected.settimeout(patience)
+    try:
+        with contextlib.suppress(RefusedLine):
+            client.send_line(PROBE)
+    except ServiceEnded:
+        if client._has_ended:  # It was about to end when this connected.
+            client.close()
+            raise ServiceMissing(f"no service at {os.fspath(path)!r}: it has ended") from None
+        process = connected.getsockopt(socket.SOL_SOCKET, socket.SO_PEERCRED, 12)[:4]
+        client.close()
+        raise ServiceSilent(int.from_bytes(process, sys.byteorder)) from None
+    connected.settimeout(None)
+    return client

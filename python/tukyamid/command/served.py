@@ -2,9 +2,10 @@
 
 import os
 
-from ..client import Client, connect
+from ..client import Client
+from ..client.unix import ServiceSilent, connect_in_time
 from ..keyring import Keyring
-from ..refusals import ServiceEnded, ServiceMissing
+from ..refusals import ServiceMissing
 from ..served import served_keyring
 from .failures import NoAnswer
 from .runtime import runtime_file
@@ -28,14 +29,10 @@ def service() -> Client:
 
 def answering(path: str | os.PathLike[str]) -> Client:
     """A connection to a service that answers. ServiceMissing if none listens; NoAnswer if it doesn't answer."""
-    client = connect(path)
     try:
-        client.greet(_PATIENCE)
-    except ServiceEnded:
-        said = _silent(os.fspath(path), client.listener)
-        client.close()
-        raise NoAnswer(said) from None
-    return client
+        return connect_in_time(path, _PATIENCE)
+    except ServiceSilent as silent:
+        raise NoAnswer(_silent(os.fspath(path), silent.listener)) from None
 
 
 def _silent(path: str, process: int) -> str:

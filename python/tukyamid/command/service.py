@@ -81,7 +81,9 @@ def _remove(client: Client, name: str) -> None:
 def _status(client: Client, words: list[str]) -> list[str]:
     if words:
         raise WrongWords("status takes no words")
-    figures = {**client.status(), "expired-elsewhere": str(_count_expired(served_keyring(client)))}
+    figures = client.status()
+    if figures.get("loaded", "all") == "all":  # In a larger keyring nobody waits for a look at each key.
+        figures["expired-elsewhere"] = str(_count_expired(served_keyring(client)))
     return [f"{name}: {value}" for name, value in figures.items()] + [
         f"keyring: {one.name}, {one.certificates} certificates{'; ' + one.fault if one.fault else ''}"
         for one in client.keyrings()]

@@ -1,14 +1,16 @@
 """Checks the file of an answer: nothing in it is believed. The signatures are verified here, an engine of this machine
 takes the certificates, and checks the paths and answers the question."""
 
+import functools
 import tempfile
 from collections.abc import Iterator, Sequence
 from pathlib import Path as FilePath
 from typing import NamedTuple
 
+from ..certificates import read_certificate
 from ..claims import Claim, ClaimedStep, Label
 from ..engine import Engine
-from ..keyring import Keyring
+from ..refusals import RefusedAbsent
 from ..replies import Accepted, Rejected
 from ..verifier import Verifier
 from .file import ABSENCE, Proof
@@ -34,7 +36,8 @@ def check(proof: Proof, engine: Sequence[str] | None = None, verifier: Sequence[
     verifying = Verifier(verifier)
     with Engine(engine) as started, tempfile.TemporaryDirectory(prefix="tukyamid-check-") as folder:
         good = 0
-        for line in verifying.lines(list(_written(proof, FilePath(folder)))):
+        files = list(_written(proof, FilePath(folder)))
+        for line in verifying.lines(files) if files else ():
             good += line.startswith(b"verdict ") and b" good " in line
             started.send_line(line.rstrip(b"\n"))
         keys = started.keys().count
@@ -62,7 +65,7 @@ def _why_not(proof: Proof, engine: Engine, amount: int) -> str:
     if amount != proof.amount:
         return f"it claims amount {proof.amount}, and the engine answers {amount}"
     try:
-        claims = list(_claims(proof, Keyring(engine, _NoIndex())))
+        claims = list(_claims(proof, engine))
     except NoPlace as missing:
         return str(missing)
     table = [Label(fpr, label) for fpr, label in sorted(proof.labels.items())] if is_absence else []
@@ -80,36 +83,24 @@ def _refused(proof: Proof, reply: Accepted | Rejected) -> str:
     return "" if claimed == proof.amount else f"its paths add up to {claimed}, and it claims {proof.amount}"
 
 
-def _claims(proof: Proof, keyring: Keyring) -> Iterator[Claim]:
+def _claims(proof: Proof, engine: Engine) -> Iterator[Claim]:
     """The paths as the engine's command has them: each user ID by its place among those of its key."""
+    places = functools.cache(lambda fpr: _places(engine, fpr))
     for path in proof.paths:
         targets = [*(step.issuer for step in path.steps[1:]), proof.fpr]
-        yield Claim(path.amount, tuple(ClaimedStep(step.issuer, _place(keyring, into, step.user_id))
-                                       for step, into in zip(path.steps, targets)))
+        steps = []
+        for step, into in zip(path.steps, targets):
+            place = places(into).get(step.user_id)
+            if place is None:
+                raise NoPlace(f"a path names a user ID that the key {into} doesn't have")
+            steps.append(ClaimedStep(step.issuer, place))
+        yield Claim(path.amount, tuple(steps))
 
 
-def _place(keyring: Keyring, fpr: str, user_id: bytes) -> int:
-    certificate = keyring.certificate(fpr)
-    user_ids = sorted(certificate.user_ids) if certificate is not None else []
-    if user_id not in user_ids:
-        raise NoPlace(f"a path names a user ID that the key {fpr} doesn't have")
-    return user_ids.index(user_id)
-
-
-class _NoIndex:
-    """Nothing is looked up here: the engine alone is asked."""
-
-    def issuer(self, fpr: str, number: str) -> str | None:
-        return None
-
-    def bindings(self) -> list[tuple[str, bytes]]:
-        return []
-
-    def by_address(self, address: str) -> list[tuple[str, bytes]]:
-        return []
-
-    def by_user_id(self, user_id: bytes) -> list[tuple[str, bytes]]:
-        return []
-
-    def by_key_id(self, key: str) -> list[str]:
-        return []
+def _places(engine: Engine, fpr: str) -> dict[bytes, int]:
+    """The place of each user ID of a key; empty if the key isn't there."""
+    try:
+        certificate = read_certificate(engine.export(fpr))
+    except RefusedAbsent:
+        return {}
+    return {user_id: place for place, user_id in enumerate(sorted(certificate.user_ids))}

@@ -16,10 +16,11 @@ from tukyamid.spelling import read_user_id, write_user_id
 from .committing import FAULT
 from .database import Binding, DatabaseFault, Figures, Finder, Shared
 from .directory import Directory, DirectoryFailed
-from .hub import Hub
+from .desk import Desk
 from .keyrings import Keyrings
+from .kinds import MAY_CHANGE
 from .outbox import Slot
-from .session import MAY_CHANGE, REFUSED_LINE, REFUSED_READ_ONLY, Session
+from .session import REFUSED_LINE, REFUSED_READ_ONLY, Session
 
 _KEY = re.compile(rb"[0-9a-fA-F]{16}|[0-9a-fA-F]{40}|[0-9a-fA-F]{64}")
 _FPR = re.compile(rb"[0-9a-fA-F]{40}|[0-9a-fA-F]{64}")
@@ -100,13 +101,13 @@ class Answering:
                 return await self._of_keyring(session, text)
         return REFUSED_LINE
 
-    async def learn(self, hub: Hub) -> None:
+    async def learn(self, hub: Desk) -> None:
         """Reads the figures of a shared database, so that they can be told while it can't be reached."""
         if isinstance(hub.database, Shared):
             with contextlib.suppress(DatabaseFault):
                 await self._figures(hub)
 
-    async def _figures(self, hub: Hub) -> tuple[Figures, int]:
+    async def _figures(self, hub: Desk) -> tuple[Figures, int]:
         """The database's figures and its count of watched keyrings; if it can't be read, those of the last time."""
         try:
             figures = await hub.find(lambda finder: finder.figures())
@@ -115,19 +116,27 @@ class Answering:
             if self._known is None:
                 raise
             figures, sources = self._known
-        if isinstance(hub.database, Shared):  # It may have changes that the engines don't have yet.
+        if isinstance(hub.database, Shared) and hub.count is not None:  # It may have what the engines don't have yet.
             figures = replace(figures, change=hub.count)
         self._known = figures, sources
         return self._known
 
     async def _tell_status(self, session: Session) -> bytes:
         figures, sources = await self._figures(session.hub)
-        pending = await asked(session, b"pending", is_change=False)
-        count = (pending or b"pending 0\n").split(b"\n", 1)[0].split(b" ")[1].decode()
+        count = await self._count_pending(session)
         values = [("certificates", figures.certificates), ("user-ids", figures.user_ids),
                   ("verdicts", figures.verdicts), ("pending", count), ("change", figures.change),
                   ("size", figures.octets), ("keyrings", sources), *self._status()]
         return listed(b"service status", [f"{name} ".encode() + shown(str(value)) for name, value in values])
+
+    @staticmethod
+    async def _count_pending(session: Session) -> int:
+        """As an engine counts them; of a sliced keyring, as the database does."""
+        count = await session.hub.pending()
+        if count is None:
+            reply = await asked(session, b"pending", is_change=False)
+            count = int((reply or b"pending 0\n").split(b"\n", 1)[0].split(b" ")[1])
+        return count
 
     async def _find(self, session: Session, text: bytes) -> bytes:
         word, space, sought = text.partition(b" ")

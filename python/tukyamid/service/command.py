@@ -17,8 +17,9 @@ from tukyamid.verifier import find_verifier
 from .choosing import Chosen
 from .database import DatabaseFault
 from .directory import Directory
+from .access import Access
+from .desk import MOST, Desk
 from .dumps import import_dump, lines_of
-from .hub import Hub
 from .keyrings import Keyrings
 from .places import default_directory
 from .program import pieces
@@ -64,6 +65,8 @@ def _add_words_of_serve(words: argparse.ArgumentParser) -> None:
                        help="end when nobody has been connected for so long (never)")
     words.add_argument("--engines", metavar="N", type=_count, default=len(os.sched_getaffinity(0)),
                        help="run up to N engines, more than one only while there is much to do (as many as processors)")
+    words.add_argument("--budget", metavar="N", type=_count, default=MOST.certificates,
+                       help="the most certificates of one engine; a larger keyring is loaded in parts (65536)")
     words.add_argument("--views", metavar="N", type=_count, default=256, help="the most views of one client (256)")
     words.add_argument("--patience", metavar="SECONDS", type=_seconds, default=60.0,
                        help="drop a client that reads nothing of its replies for so long (60)")
@@ -112,7 +115,7 @@ def serve(given: argparse.Namespace) -> int:
         settings = Settings(given.patience, given.idle, given.views)
 
         async def run() -> None:
-            hub = Hub([*_program(given), "run"], given.engines, database, order)
+            hub = Desk([*_program(given), "run"], given.engines, Access(database, order), given.budget)
             directory = Directory([*_program(given), "run"], (given.directory or default_directory()).absolute())
             await Service(hub, Keyrings(hub, _verifier(given)), directory, settings).serve(doors)
 

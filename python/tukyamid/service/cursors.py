@@ -3,20 +3,18 @@ place has counts of its own."""
 
 from __future__ import annotations
 
-import re
 from functools import partial
 
+from .cursor_lines import LINE, MOST_CURSORS, MOST_WANTED
 from .hub import Hub
 from .journal import Done
 from .outbox import Slot
 from .seats import Seat
 from .sending import ignore
+from .sliced import Sliced
+from .sliced_cursors import SlicedCursor, SlicedCursors
 from .views import Views
 
-_LINE = re.compile(rb"cursor ([a-z0-9_-]{1,32}) (?:over ([a-z0-9_-]{1,32}) (0|[1-9][0-9]{0,9})|"
-                   rb"next (0|[1-9][0-9]{0,9})|close)")
-_MOST_WANTED = 2**32 - 1
-_MOST_CURSORS = 16
 
 
 class Cursor:
@@ -40,9 +38,9 @@ class Cursors:
 
     def begin(self, slot: Slot, line: bytes, done: Done) -> None:
         """Does a line `cursor ..`."""
-        match = _LINE.fullmatch(line)
+        match = LINE.fullmatch(line)
         number = match and (match.group(3) or match.group(4))
-        if match is None or number and not 1 <= int(number) <= _MOST_WANTED:
+        if match is None or number and not 1 <= int(number) <= MOST_WANTED:
             done(b"refused line\n", 0)
             return
         name, view_name, wanted, count = match.groups()
@@ -67,7 +65,7 @@ class Cursors:
         before = self._cursors.pop(name, None)
         if before is not None:
             self._end(before)
-        seat = self._hub.seats.pin(view.value, has_cursor=True) if len(self._cursors) < _MOST_CURSORS else None
+        seat = self._hub.seats.pin(view.value, has_cursor=True) if len(self._cursors) < MOST_CURSORS else None
         if seat is None:
             done(b"refused full cursors\n", 0)
             return
@@ -97,6 +95,17 @@ class Cursors:
     def _end(self, cursor: Cursor) -> None:
         cursor.seat.engine.send(b"cursor %s close" % cursor.name, ignore, is_inner=True)
         self._hub.seats.unpin(cursor.seat, has_cursor=True)
+
+    def turned(self, sliced: Sliced) -> SlicedCursors:
+        """The client's cursors, over a keyring that is sliced from now on."""
+        turned = SlicedCursors(sliced, self._views)
+        for name, cursor in self._cursors.items():
+            begun = cursor.seat.engine.standing.cursors.get(cursor.name)
+            if begun is not None and cursor.seat.value is not None:
+                line, taken = begun
+                turned.take(name, SlicedCursor(cursor.view, cursor.turn, cursor.seat.value, int(line.split(b" ")[4])),
+                            cursor.count, taken)
+        return turned
 
     def close(self) -> None:
         """The client is gone."""

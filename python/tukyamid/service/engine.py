@@ -56,6 +56,15 @@ class Engine:
     def pid(self) -> int | None:
         return None if self._running is None else self._running.pid
 
+    @property
+    def is_busy(self) -> bool:
+        """Whether a line waits for its reply, or a reply for a commit."""
+        return bool(self.waiting or self._held)
+
+    @property
+    def standing(self) -> Standing:
+        return self._standing
+
     def lag(self) -> float:
         """How long the first waiting line has waited, in seconds."""
         return self._now() - self.waiting[0].since if self.waiting else 0.0

@@ -3,17 +3,16 @@
 from __future__ import annotations
 
 import asyncio
-import sys
 from collections.abc import Callable, Sequence
-from concurrent.futures import ThreadPoolExecutor
 from functools import partial
-from typing import BinaryIO, TypeVar
 
+from .access import Access
 from .committing import FAULT, Barrier, Committer
-from .database import Actor, Database, Finder, News, Shared, Snapshot
+from .database import Actor, Database, News, Shared, Snapshot
 from .engine import Engine
-from .importing import brought, exported_as
+from .importing import exported_as
 from .journal import Change, Done, Journal, Point
+from .reading import brought
 from .seats import Seats
 from .sending import ignore
 from .turns import Begun, Turns, Waiting
@@ -21,7 +20,6 @@ from .turns import Begun, Turns, Waiting
 _BUSY_SECONDS = 0.05
 _RENEWING_SECONDS = 1.0
 _COPIED = 16  # A snapshot of a shared database is a copy, so it is renewed less often.
-_R = TypeVar("_R")
 
 
 class Hub:
@@ -29,17 +27,14 @@ class Hub:
     in the order is the moment at which it is handed in."""
 
     def __init__(self, program: Sequence[str], most_engines: int, database: Database,
-                 order: BinaryIO | None = None) -> None:
+                 access: Access | None = None) -> None:
         self.engines: list[Engine] = []
         self.seats = Seats(self._least_busy, self._another, self.engines)
-        self.database = database
+        self.access = access or Access(database)
+        self._owns_access = access is None
         self._program = program
         self._most_engines = most_engines
-        self._order = order
-        self._writing = ThreadPoolExecutor(1, "writing")
-        self._reading = ThreadPoolExecutor(1, "reading")
-        self._finder: Finder | None = None
-        self._committer = Committer(database, self._writing, self._release, self._roll_back)
+        self._committer = Committer(database, self.access.writing, self._release, self._roll_back)
         self._journal: Journal | None = None
         self._turns: Turns | None = None
         self._is_renewing = False
@@ -59,15 +54,19 @@ class Hub:
         """For how many seconds changes of other services may have been missed."""
         return self._turns.age if self._turns is not None else 0.0
 
+    @property
+    def pids(self) -> list[int]:
+        return [engine.pid for engine in self.engines if engine.pid is not None]
+
     async def start(self) -> None:
         """Starts the first engine, and waits until it has taken the database; OSError, ValueError or DatabaseFault
         where it can't."""
-        snapshot = await self.write(self.database.snapshot)
+        snapshot = await self.access.write(self.access.database.snapshot)
         self._committer.count = snapshot.change
         self._journal = Journal(snapshot)
         await self._start_engine().ready
-        if isinstance(self.database, Shared):
-            self._turns = Turns(self.database, self._writing, self._committer, self)
+        if isinstance(self.access.database, Shared):
+            self._turns = Turns(self.access.database, self.access.writing, self._committer, self)
 
     async def close(self) -> None:
         """Ends the engines. What was handed in is answered first, and so is committed."""
@@ -76,33 +75,18 @@ class Hub:
             await asyncio.sleep(0.01)
         if self._turns is not None:
             await self._turns.close()
-        self._writing.shutdown()
-        self._reading.shutdown()
-        if self._finder is not None:
-            self._finder.close()
         if self._journal is not None:
             self._journal.close()
+        if self._owns_access:
+            self.access.close()
+
+    async def settle(self) -> None:
+        """Comes back when all that was handed in is answered, and committed."""
+        while self._committer.is_busy or any(engine.is_busy for engine in self.engines):
+            await asyncio.sleep(0.002)
 
     def tell(self, text: str) -> None:
-        print(f"tukyamid-server: {text}", file=sys.stderr, flush=True)
-
-    def note(self, session: int, line: bytes) -> None:
-        """Writes down the order of lines, for those who check it."""
-        if self._order is not None:
-            self._order.write(b"%d %s\n" % (session, line))
-
-    async def write(self, call: Callable[[], _R]) -> _R:
-        """Calls what writes to the database, between commits."""
-        return await asyncio.get_running_loop().run_in_executor(self._writing, call)
-
-    async def find(self, look: Callable[[Finder], _R]) -> _R:
-        """Looks something up in the database, beside commits."""
-        return await asyncio.get_running_loop().run_in_executor(self._reading, self._find, look)
-
-    def _find(self, look: Callable[[Finder], _R]) -> _R:
-        if self._finder is None:
-            self._finder = self.database.finder()
-        return look(self._finder)
+        self.access.tell(text)
 
     def change(self, line: bytes, actor: Actor, done: Done, begun: Begun = lambda: None) -> None:
         """Has a change made; `done` gets its reply once all engines have answered and it is committed. `begun` is
@@ -150,7 +134,7 @@ class Hub:
                 engine.roll_back(point)
             return
         for number, line in news.lines:
-            self.note(0, line)
+            self.access.note(0, line)
             change = self._journal.add_committed(line, set(self.engines), number, ignore)
             self._committer.count = number
             for engine in self.engines:

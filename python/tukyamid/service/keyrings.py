@@ -13,13 +13,14 @@ from tukyamid.engine import LONGEST_LINE
 from tukyamid.spelling import write_user_id
 
 from .database import Actor, DatabaseFault, Snapshot, Source
-from .hub import Hub
+from .desk import Desk
 from .sources import Contents, Stamp, Unreadable, read, stamp_of
 
 _AHEAD = 64
 _PIECE = 1 << 18
 _PAUSE = 2.0
 _PROGRESS_SECONDS = 1.0
+_AGAIN_SECONDS = 10.0
 
 Say = Callable[[str], None]
 
@@ -46,11 +47,12 @@ class Progress:
 class Keyrings:
     """Reads one keyring at a time. `verifier` are the words that start the verifier."""
 
-    def __init__(self, hub: Hub, verifier: Callable[[], Sequence[str]]) -> None:
+    def __init__(self, hub: Desk, verifier: Callable[[], Sequence[str]]) -> None:
         self._hub = hub
         self._verifier = verifier
         self._lock = asyncio.Lock()
         self._stamps: dict[str, Stamp] = {}
+        self._not_before: dict[str, float] = {}
 
     @property
     def is_busy(self) -> bool:
@@ -63,9 +65,17 @@ class Keyrings:
                 stamp, contents = await self._read(name)
                 self._stamps[name] = stamp
                 verdicts = await self._take(name, contents, actor, say)
-        except (Unreadable, NotVerified) as error:
+        except Unreadable as error:
             return b"fault keyring " + _line(error)
+        except (NotVerified, OSError) as error:  # There is no room for what the verifier is to read, say.
+            self._try_later(name)
+            return b"fault keyring " + _line(_why(error))
         return b"ok keyring %d %d\n" % (len(contents.certificates), verdicts)
+
+    def _try_later(self, name: str) -> None:
+        """Has a keyring that couldn't be verified read again, though not at once: that takes long."""
+        self._stamps.pop(name, None)
+        self._not_before[name] = asyncio.get_running_loop().time() + _AGAIN_SECONDS
 
     @staticmethod
     async def _read(name: str) -> tuple[Stamp, Contents]:
@@ -98,21 +108,23 @@ class Keyrings:
         """Takes what is new, if the keyring has changed since it was read."""
         sources = await self._hub.find(lambda finder: finder.sources())
         source = next((one for one in sources if one.name == name), None)
-        if source is None:
+        if source is None or asyncio.get_running_loop().time() < self._not_before.get(name, 0.0):
             return
         try:
             if await asyncio.to_thread(stamp_of, name) == self._stamps.get(name):
                 return
             self._stamps[name], contents = await self._read(name)
-            if contents.digest != source.digest:
+            if contents.digest != source.digest or source.fault:
                 await self._take(name, contents, Actor(os.getuid(), os.getpid()), lambda text: None)
-            elif source.fault:
-                await self._put(replace(source, fault=""))
-        except (Unreadable, NotVerified) as error:
+        except Unreadable as error:
             self._stamps.pop(name, None)
             if source.fault != str(error):
                 self._hub.tell(str(error))
                 await self._put(replace(source, fault=str(error)))
+        except (NotVerified, OSError) as error:
+            self._try_later(name)
+            if source.fault != _why(error):
+                self._hub.tell(_why(error))
 
     async def _take(self, name: str, contents: Contents, actor: Actor, say: Say) -> int:
         """Imports what a keyring has, and verifies what is pending; gives the number of verdicts."""
@@ -123,8 +135,8 @@ class Keyrings:
         fault = f"{left} of {total} certificates were refused" if left else ""
         try:
             return await self._verify(actor, say)
-        except NotVerified as error:
-            fault = str(error)
+        except (NotVerified, OSError) as error:
+            fault = _why(error)
             raise
         finally:
             await self._put(Source(name, contents.digest, total, fault))
@@ -213,6 +225,11 @@ async def _verdicts(stdout: asyncio.StreamReader) -> AsyncIterator[list[bytes]]:
     while octets := await stdout.read(_PIECE):
         *lines, rest = (rest + octets).split(b"\n")
         yield [line for line in lines if line.startswith(b"verdict ")]
+
+
+def _why(error: Exception) -> str:
+    """Why a keyring couldn't be verified."""
+    return error.strerror if isinstance(error, OSError) and error.strerror else str(error)
 
 
 def _line(text: object) -> bytes:

@@ -7,9 +7,6 @@ import tempfile
 from collections import deque
 from collections.abc import Callable, Generator
 
-from .database import Snapshot
-from .program import pieces
-
 # A reply in pieces. The first piece has no octets: it is taken at once, and the others as the client reads.
 Pieces = Generator[bytes, None, None]
 
@@ -42,17 +39,6 @@ def spooled(reply: bytes) -> Pieces:
             yield piece
 
 
-def dump_of(snapshot: Snapshot, views: list[bytes]) -> Pieces:
-    """The reply to `dump`: the keyring, and the client's views."""
-    try:
-        yield b""
-        yield b"dump %d\n" % (snapshot.count() + len(views))
-        yield from pieces(snapshot.lines())
-        yield b"".join(line + b"\n" for line in views)
-    finally:
-        snapshot.close()
-
-
 class Outbox:
     """Slots in order. A reply that is long, or that comes in pieces, is written piece by piece as it is read."""
 
@@ -75,7 +61,12 @@ class Outbox:
         self.slots.append(slot)
         self.octets += slot.size
 
-    def insert(self, slot: Slot, place: int) -> None:
+    def tell(self, watch: bytes, reply: bytes) -> None:
+        """What a watch is told stands behind the replies so far; but before that to a line of the same watch."""
+        slot = Slot(b"watch", 0)
+        slot.reply, slot.is_answered = reply, True
+        place = next((at for at, other in enumerate(self.slots) if other.watch == watch and not other.is_answered),
+                     len(self.slots))
         self.slots.insert(place, slot)
         self.deliver()
 

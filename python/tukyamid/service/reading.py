@@ -60,6 +60,16 @@ def _depth(place: tuple[bytes, int, bytes], body: bytes) -> int:
     return said.depth if said.kind in CERTIFICATIONS else 0
 
 
+def brought(line: bytes) -> tuple[bytes, ...]:
+    """The fingerprints of the certificates that a line imports."""
+    if not line.startswith(b"import "):
+        return ()
+    try:
+        return tuple(fingerprints(bytes.fromhex(line[7:].decode())))
+    except (ValueError, IndexError):
+        return ()  # The engine refuses such a line.
+
+
 def fingerprints(octets: bytes) -> Iterator[bytes]:
     """The fingerprints of the keys in these octets; ValueError where a packet is malformed."""
     seen = set()

@@ -5,7 +5,7 @@ import sqlite3
 from .database import DatabaseFault
 
 APPLICATION_ID = 0x54756B79  # "Tuky", so that `file` and the service know it from other databases.
-VERSION = 1
+VERSION = 2
 
 _FIRST = """
 CREATE TABLE certificates (
@@ -61,8 +61,16 @@ CREATE TABLE sources (
 ) STRICT, WITHOUT ROWID;
 """
 
+# What a keyring that is larger than an engine is searched by: trust signatures by issuer and by target, which are few,
+# and the signatures that nobody has judged.
+_SECOND = """
+CREATE INDEX trust_by_issuer ON certifications (issuer, target) WHERE depth > 0;
+CREATE INDEX trust_by_target ON certifications (target, issuer) WHERE depth > 0;
+CREATE INDEX unjudged_by_certificate ON verdicts (certificate) WHERE issuer IS NULL;
+"""
+
 # What brings a database from each version to the next; version 0 is an empty file.
-MIGRATIONS = (_FIRST,)
+MIGRATIONS = (_FIRST, _SECOND)
 
 
 def version_of(connection: sqlite3.Connection) -> int:

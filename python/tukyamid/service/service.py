@@ -13,7 +13,7 @@ from typing import Any
 
 from .answering import Answering
 from .directory import Directory
-from .hub import Hub
+from .desk import Desk
 from .keyrings import Keyrings
 from .session import Rights, Session
 from .sockets import BACKLOG, Listening, Passed, notify
@@ -38,7 +38,7 @@ class Door:
 
 
 class Service:
-    def __init__(self, hub: Hub, keyrings: Keyrings, directory: Directory, settings: Settings) -> None:
+    def __init__(self, hub: Desk, keyrings: Keyrings, directory: Directory, settings: Settings) -> None:
         self._hub = hub
         self._keyrings = keyrings
         self._directory = directory
@@ -134,8 +134,9 @@ class Service:
         await asyncio.sleep(0)
 
     def _status(self) -> list[tuple[str, object]]:
-        pids = [engine.pid for engine in self._hub.engines if engine.pid is not None]
-        return [("engines", len(pids)), ("memory", sum(map(_resident, [os.getpid(), *pids]))),
+        pids, loaded = self._hub.pids, self._hub.loaded
+        return [("budget", self._hub.budget), ("loaded", "all" if loaded is None else loaded),
+                ("engines", len(pids)), ("memory", sum(map(_resident, [os.getpid(), *pids]))),
                 ("clients", len(self._sessions)), ("process", os.getpid()),
                 ("database", self._hub.database.name), ("state", self._hub.fault or "ok"),
                 ("age", int(self._hub.age))]

@@ -15,21 +15,14 @@ from .committing import FAULT
 from .cursors import Cursors
 from .database import Actor, Snapshot
 from .framing import LineCutter
-from .hub import Hub
-from .outbox import Outbox, Slot, dump_of
+from .kinds import ALONE, CHANGES, MAY_CHANGE, OF_A_VIEW, OF_THE_DIRECTORY, OF_THE_KEYRING
+from .desk import Desk
+from .long_replies import dump_of
+from .outbox import Outbox, Pieces, Slot
 from .peers import NOBODY, actor_of
+from .sliced import Sliced
 from .views import Views, is_name
 from .watches import Watches
-
-# A command is added here. One that the service doesn't know is refused, as by an engine that doesn't: so none is passed
-# on that changes an engine, or names what is another client's, behind the service's back.
-CHANGES = frozenset((b"import", b"drop", b"verdict"))
-OF_A_VIEW = frozenset((b"ask", b"list", b"explain", b"absence", b"check"))
-OF_THE_KEYRING = frozenset((b"keys", b"pending", b"export"))
-OF_THE_DIRECTORY = frozenset((b"load", b"store"))
-# Lines that are under way alone: their replies are long, or what they do takes more than one step.
-ALONE = OF_THE_KEYRING | OF_THE_DIRECTORY | {b"list", b"explain", b"absence", b"dump", b"cursor", b"service"}
-MAY_CHANGE = CHANGES | OF_THE_DIRECTORY
 
 REFUSED_LINE = b"refused line\n"
 REFUSED_LONG = b"refused long\n"
@@ -56,7 +49,7 @@ class Rights:
 class Session(asyncio.Protocol):
     """Takes lines and hands them on at once, up to a bound; replies go out in the order of their lines."""
 
-    def __init__(self, number: int, hub: Hub, helper: Helper, rights: Rights, made: Callable[[Session], None]) -> None:
+    def __init__(self, number: int, hub: Desk, helper: Helper, rights: Rights, made: Callable[[Session], None]) -> None:
         """`made` is called once the connection stands."""
         self.number = number
         self.hub = hub
@@ -79,8 +72,9 @@ class Session(asyncio.Protocol):
         self._transport.set_write_buffer_limits(high=_UNREAD_OCTETS)
         self.actor = actor_of(transport.get_extra_info("socket").fileno())
         self.outbox = Outbox(self._transport, self._begin_lines, self._give_up)
-        self.watches = Watches(self.hub, self.number, self.outbox, self._views)
-        self.cursors = Cursors(self.hub, self._views)
+        self.watches = self.hub.watches(self.number, self.outbox, self._views)
+        self.cursors = self.hub.cursors(self._views)
+        self.hub.sitting.add(self)
         self._made(self)
 
     def data_received(self, data: bytes) -> None:
@@ -104,10 +98,19 @@ class Session(asyncio.Protocol):
         self.outbox.close()
         if self._task is not None:
             self._task.cancel()
+        self.hub.sitting.discard(self)
         self.watches.close()
         self.cursors.close()
         if not self.over.done():
             self.over.set_result(None)
+
+    def turn(self, sliced: Sliced) -> None:
+        """The keyring is sliced from now on."""
+        assert isinstance(self.watches, Watches) and isinstance(self.cursors, Cursors)
+        self.watches, self.cursors = self.watches.turned(sliced), self.cursors.turned(sliced)
+
+    def resume(self) -> None:
+        self._begin_lines()
 
     def stop(self, is_at_once: bool = False) -> None:
         """Takes no more lines; those that were taken are answered. At once: those that wait to be taken aren't."""
@@ -123,7 +126,7 @@ class Session(asyncio.Protocol):
             return
         self._is_beginning = True
         try:
-            while self._lines and self.outbox.can_write and self._has_room(self._lines[0] or b""):
+            while self._lines and self._may_begin() and self._has_room(self._lines[0] or b""):
                 self._begin(self._lines.popleft())
         except Exception as error:  # Whatever one client meets, the others go on.
             self._give_up(error)
@@ -136,15 +139,16 @@ class Session(asyncio.Protocol):
             self._is_paused = bool(self._lines)
             (self._transport.pause_reading if self._is_paused else self._transport.resume_reading)()
 
+    def _may_begin(self) -> bool:
+        return self.outbox.can_write and not self.hub.is_turning
+
     def _has_room(self, line: bytes) -> bool:
         """Whether one more line may be under way."""
         slots = self.outbox.slots
         if self.outbox.is_done:
             return True
         word = line.partition(b" ")[0]
-        if self._waiting_changes and word not in CHANGES:
-            return False
-        if word in ALONE or not slots or slots[-1].word in ALONE:
+        if word in ALONE or not slots or slots[-1].word in ALONE or self._waiting_changes and word not in CHANGES:
             return False
         if word == b"watch" and any(slot.word == b"watch" for slot in slots):
             return False
@@ -172,6 +176,8 @@ class Session(asyncio.Protocol):
             self.outbox.answer(slot, REFUSED_READ_ONLY)
         elif word in OF_A_VIEW:
             self._ask_view(slot, line)
+        elif line == b"keys":
+            self.hub.keys(partial(self._answered, slot))
         elif word in OF_THE_KEYRING:
             self.hub.ask(line, partial(self._answered, slot))
         elif word == b"view":
@@ -184,16 +190,16 @@ class Session(asyncio.Protocol):
             self.outbox.answer(slot, REFUSED_LINE)
 
     def _begun(self, line: bytes) -> None:
-        """A change has its place in the order: lines behind it may have theirs."""
+        """A change has its place in the order, and so lines behind it may."""
         self._waiting_changes -= 1
         self.hub.note(self.number, line)
         self._begin_lines()
 
-    def _answered(self, slot: Slot, reply: bytes | None, count: int) -> None:
+    def _answered(self, slot: Slot, reply: bytes | Pieces | None, count: int) -> None:
         try:
             if reply is None:
                 self.hub.tell(f"client {self.number} is dropped: its line ended the engine several times")
-            elif slot.finish is not None:
+            elif slot.finish is not None and isinstance(reply, bytes):
                 reply = slot.finish(reply, count)
             self.outbox.answer(slot, reply)
         except Exception as error:  # What calls this has others to answer.
@@ -208,8 +214,7 @@ class Session(asyncio.Protocol):
         elif view is None:
             self.hub.ask(b"%s %s%s%s" % (word, NEVER_OPEN, space, rest), partial(self._answered, slot))
         else:
-            seat = self.watches.seats.get(name) or self.hub.seats.find(view.value)
-            seat.engine.send(b"%s %s%s%s" % (word, seat.name, space, rest), partial(self._answered, slot))
+            self.watches.ask(name, word, view.value, space + rest, partial(self._answered, slot))
 
     def _take_view(self, slot: Slot, line: bytes) -> None:
         reply = self._views.take(line)

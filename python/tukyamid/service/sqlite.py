@@ -11,6 +11,7 @@ from typing import Concatenate, ParamSpec, TypeVar
 from . import schema
 from .database import Actor, Change, DatabaseFault, Snapshot, Source
 from .looking import SqliteFinder, SqliteSnapshot
+from .sqlite_parts import SqliteParts
 from .whole import sync_folder
 from .writing import EVERY_CERTIFICATE, Writing, compare
 
@@ -145,6 +146,10 @@ class Sqlite:
     @faults
     def finder(self) -> SqliteFinder:
         return SqliteFinder(connect(self.path), self.path)
+
+    @faults
+    def parts(self, is_frozen: bool = False) -> SqliteParts:
+        return SqliteParts(connect(self.path), self.path, is_frozen)
 
     @faults
     def put_source(self, source: Source) -> None:

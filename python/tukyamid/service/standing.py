@@ -25,7 +25,8 @@ class Standing:
     def __init__(self) -> None:
         self.watches: dict[bytes, Watch] = {}
         self._views = Views()
-        self._cursors: dict[bytes, tuple[bytes, int]] = {}
+        # The line that began a cursor, and how many bindings were taken from it.
+        self.cursors: dict[bytes, tuple[bytes, int]] = {}
 
     def take(self, line: bytes, reply: bytes) -> None:
         """Takes a line that was answered, if it is of a view, a watch or a cursor."""
@@ -39,24 +40,24 @@ class Standing:
     def _take_cursor(self, line: bytes, reply: bytes) -> None:
         _, name, word, *_ = line.split(b" ")
         if reply.startswith(b"piece "):
-            begun, taken = self._cursors[name]
-            self._cursors[name] = begun, taken + int(reply[6:reply.index(b"\n")])
+            begun, taken = self.cursors[name]
+            self.cursors[name] = begun, taken + int(reply[6:reply.index(b"\n")])
         elif reply == b"ok\n" and word == b"over":
-            self._cursors[name] = line, 0
+            self.cursors[name] = line, 0
         elif reply == b"ok\n":
-            self._cursors.pop(name, None)
+            self.cursors.pop(name, None)
 
     def take_back(self, line: bytes, reply: bytes) -> None:
         """A piece of a cursor that was answered is asked for once more."""
         if reply.startswith(b"piece "):
             name = line.split(b" ")[1]
-            begun, taken = self._cursors[name]
-            self._cursors[name] = begun, taken - int(reply[6:reply.index(b"\n")])
+            begun, taken = self.cursors[name]
+            self.cursors[name] = begun, taken - int(reply[6:reply.index(b"\n")])
 
     def lines(self) -> Iterator[bytes]:
         """The lines that make the views and the cursors. Those of the watches go behind them."""
         yield from self._views.lines()
-        for name, (line, taken) in self._cursors.items():
+        for name, (line, taken) in self.cursors.items():
             yield line
             if taken:
                 yield b"cursor %s next %d" % (name, taken)

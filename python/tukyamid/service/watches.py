@@ -10,7 +10,9 @@ from .journal import Done
 from .outbox import Outbox, Slot
 from .seats import Seat
 from .sending import ignore
-from .views import Views, is_name
+from .sliced import Sliced
+from .sliced_watches import SlicedWatches
+from .views import Value, Views, is_name
 
 _REFUSED_LINE = b"refused line\n"
 _REFUSED_FULL = b"refused full watches\n"
@@ -41,6 +43,11 @@ class Watches:
         self._outbox = outbox
         self._views = views
         self._watches: dict[bytes, Watching] = {}
+
+    def ask(self, name: bytes, word: bytes, value: Value, rest: bytes, done: Done) -> None:
+        """A line that asks from the client's view of this name; `rest` is what stands behind the view."""
+        seat = self.seats.get(name) or self._hub.seats.find(value)
+        seat.engine.send(b"%s %s%s" % (word, seat.name, rest), done)
 
     def pass_on(self, line: bytes, reply: bytes, done: Done) -> bool:
         """Passes on a line of a view that is watched, so that its watches are told; False where it isn't."""
@@ -113,12 +120,22 @@ class Watches:
             return
         if reply.endswith(b" gone\n"):
             del self._watches[watch]
-        slot = Slot(b"watch", 0)
-        slot.reply, slot.is_answered = renamed(watch, reply), True
-        slots = self._outbox.slots
-        place = next((at for at, other in enumerate(slots) if other.watch == watch and not other.is_answered),
-                     len(slots))
-        self._outbox.insert(slot, place)
+        self._outbox.tell(watch, renamed(watch, reply))
+
+    def turned(self, sliced: Sliced) -> SlicedWatches:
+        """The client's watches, over a keyring that is sliced from now on."""
+        turned, names = SlicedWatches(sliced, self._outbox, self._views), {
+            seat.name: name for name, seat in self.seats.items()}
+        for watch, watching in self._watches.items():
+            known = watching.engine.standing.watches.get(watching.name)
+            if known is None:
+                continue
+            _, _, _, seat, question = known.line.split(b" ", 4)
+            name = names[seat]
+            view = self._views.get(name)
+            if view is not None:
+                turned.take(watch, name, view.value, b" " + question, known.told.split()[3])
+        return turned
 
     def close(self) -> None:
         """The client is gone, and with it its views: their watches are gone too."""

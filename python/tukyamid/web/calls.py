@@ -4,6 +4,7 @@ import re
 from collections.abc import Awaitable, Callable
 from typing import Any
 
+from ..command.failures import reason_of
 from ..command.values import MOST_TIME, read_key
 from ..refusals import Refused
 from ..spelling import for_people, write_user_id
@@ -97,4 +98,4 @@ def said(failure: Exception) -> str:
     """What the page says of a call that failed."""
     if isinstance(failure, Refused):
         return f"the service refused it: {failure.reply}"
-    return str(failure)
+    return str(failure) if isinstance(failure, ValueError) else reason_of(failure)

@@ -8,7 +8,6 @@ from collections.abc import Awaitable, Callable, Mapping
 
 from aiohttp import web
 
-from ..refusals import TukyamidError
 from .calls import Call, said
 from .files import Served
 from .guard import Guard
@@ -62,5 +61,7 @@ class Server:
             return web.json_response(await call(asked))
         except (ValueError, RecursionError) as error:
             return web.json_response({"error": said(error)}, status=400)
-        except (TukyamidError, OSError) as error:
+        except web.HTTPException:
+            raise
+        except Exception as error:
             return web.json_response({"error": said(error)}, status=502)

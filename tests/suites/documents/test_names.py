@@ -144,3 +144,20 @@ class Names(unittest.TestCase):
         lines = page("tests/README.md").lines
         rows = lines[lines.index("## Suites") : lines.index("## Adding a row")]
         self.assertEqual(suites - {line.split("`")[1] for line in rows if line.startswith("| `")}, set())
+
+    def test_what_shows_that_a_threat_is_stopped_is_there(self) -> None:
+        """The last column of SECURITY.md's tables of threats names suites, benches and parts of the night."""
+        lines = page("SECURITY.md").lines
+        rows = [line for line in lines[lines.index("## Who may attack, and what stops them"):] if line.startswith("| ")]
+        cells = [row.split("|")[3].strip() for row in rows if not row.startswith("| what they try")]
+        nightly = re.search(r"for part in \(([\w, ]+)\)", (ROOT / "tools/nightly").read_text())
+        parts = set(nightly[1].split(", ")) if nightly else set()
+        absent = []
+        for cell in filter(None, cells):
+            for name in re.sub(r" *\(.*?\)", "", cell).split(", "):
+                suite, night = re.fullmatch(r"`([\w/]+)`", name), re.fullmatch(r"(?:night: )?(\w+)", name)
+                is_there = bool(suite) and any((ROOT / place / suite[1]).exists() for place in ("tests/suites", "."))
+                if not is_there and not (night and night[1] in {*parts, "gate"}):
+                    absent.append(f"SECURITY.md: {name}")
+        self.assertGreater(len(cells), 20)
+        self.missing(absent)

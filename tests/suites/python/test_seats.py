@@ -24,7 +24,7 @@ class Engine:
 class Moved(unittest.TestCase):
     def setUp(self):
         self.engine = Engine()
-        self.seats = Seats(lambda: self.engine, [self.engine])
+        self.seats = Seats(lambda: self.engine, lambda: None, [self.engine])
 
     def find(self, time, roots=ROOTS):
         return self.seats.find((b"%d" % time, roots)).name

@@ -3,10 +3,13 @@
 
     change TEXT     the database can't make a change whose words in the log have this text
     snapshot        what was kept can't be read
+    room            there is no room for a temporary file
 """
 
+import errno
 import os
 import sys
+import tempfile
 from pathlib import Path
 
 sys.path.insert(0, str(Path(__file__).resolve().parents[3] / "python"))
@@ -35,4 +38,15 @@ def failing(call, is_meant):
 writing.Writing.make = failing(writing.Writing.make,
                                lambda change, now: any(text in change.what for text in faults("change")))
 looking.SqliteSnapshot.certificates = failing(looking.SqliteSnapshot.certificates, lambda: bool(faults("snapshot")))
+
+
+def in_a_room(make):
+    def instead(*words, **named):
+        if faults("room"):
+            raise OSError(errno.ENOSPC, os.strerror(errno.ENOSPC))
+        return make(*words, **named)
+    return instead
+
+
+tempfile.NamedTemporaryFile = in_a_room(tempfile.NamedTemporaryFile)
 sys.exit(main())

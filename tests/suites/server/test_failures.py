@@ -7,7 +7,7 @@ import tempfile
 import unittest
 from pathlib import Path
 
-from outside import FAILING_SERVER, Client, Server, alone, needs_engine
+from outside import FAILING_SERVER, HERE, Client, Server, alone, needs_engine
 from world import World
 
 FAULT = b"fault database"
@@ -20,8 +20,9 @@ class Unexpected(unittest.TestCase):
         self.addCleanup(shutil.rmtree, self.folder)
         self.faults = self.folder / "faults"
         self.world = World(count=6)
-        self.server = self.enterContext(Server("--engines", "2", folder=self.folder, program=FAILING_SERVER,
-                                               environment={"FAULTS": str(self.faults)}))
+        self.server = self.enterContext(Server(
+            "--engines", "2", "--verifier", HERE / "trusting_verifier.py", folder=self.folder,
+            program=FAILING_SERVER, environment={"FAULTS": str(self.faults)}))
         self.client = self.enterContext(Client(self.server.path))
         for line in self.world.lines():
             self.assertTrue(self.client.tell(line).startswith(b"ok"))
@@ -55,6 +56,17 @@ class Unexpected(unittest.TestCase):
         self.assertEqual(self.client.tell(lines[3]), b"ok")
         self.is_kept([*made, lines[4], lines[3]])
         self.assertIn("a planted fault", self.server.said())
+
+    def test_a_keyring_for_which_there_is_no_room(self):
+        """Its certificates are kept, and its signatures are verified once there is room."""
+        keyring = self.folder / "keyring.pgp"
+        keyring.write_bytes(bytes.fromhex(self.world.imports[0][7:].decode()))
+        self.client.tell(b"verdict %s none" % self.world.verdicts[0][0])
+        self.faults.write_text("room\n")
+        add = b"service keyring add " + os.fsencode(keyring)
+        self.assertEqual(self.client.tell(add), b"fault keyring No space left on device")
+        self.faults.unlink()
+        self.server.wait_for(lambda: self.client.tell(b"pending") == b"pending 0")
 
     def test_a_snapshot_that_cannot_be_read(self):
         """Who asks for a dump is dropped. An engine that ended stands again once it can be read."""

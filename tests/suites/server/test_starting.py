@@ -12,7 +12,7 @@ import time
 import unittest
 from pathlib import Path
 
-from outside import PATIENCE, PROGRAM, ROOT, Client, needs_engine
+from outside import PATIENCE, PROGRAM, PYTHON, ROOT, Client, needs_engine
 from tukyamid.service import places, starting
 
 ENSURE = """
@@ -78,6 +78,21 @@ class Starting(unittest.TestCase):
     def status(self):
         words = [ROOT / "python" / "bin" / "tukyamid", "status"]
         return subprocess.run(words, env=self.environment, capture_output=True, text=True, check=False)
+
+    def test_what_a_question_of_a_running_service_imports(self):
+        """Nothing that takes long to load, and that only other questions need."""
+        self.begin().communicate(timeout=PATIENCE)
+        self.addCleanup(self.end_by_force, self.process())
+        words = [PYTHON, "-I", "-X", "importtime", ROOT / "python" / "bin" / "tukyamid",
+                 "--root", "00" * 20, "authenticate", "11" * 20, "Carol <carol@example.org>"]
+        done = subprocess.run(words, env=self.environment, capture_output=True, text=True, check=False)
+        self.assertIn("isn't in the keyring", done.stderr)
+        lines = [line for line in done.stderr.splitlines() if line.startswith("import time:")]
+        imported = {line.rpartition("|")[2].strip() for line in lines}
+        self.assertIn("tukyamid.client.unix", imported)
+        slow = {"asyncio", "email", "idna", "json", "logging", "pathlib", "queue", "shutil", "sqlite3", "ssl",
+                "subprocess", "tempfile", "urllib", "tukyamid.service"}
+        self.assertEqual(imported & slow, set())
 
     def test_one_that_hangs(self):
         """The command says what to do, and that helps."""

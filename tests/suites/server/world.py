@@ -36,10 +36,12 @@ def signature(kind, made, extra=b""):
 
 
 class World:
-    """Keys 0 to `count` - 1, each with a user ID; `imports` and `verdicts` are the lines that make it known."""
+    """Keys 0 to `count` - 1, each with a user ID and five certifications, of these depths; `imports` and `verdicts` are
+    the lines that make it known."""
 
-    def __init__(self, seed=1, count=12):
+    def __init__(self, seed=1, count=12, depths=(0, 1, 2, 255)):
         self.random = random.Random(seed)
+        self._depths = depths
         self.keys = [b"\4\0\0\x03\xe8\x1b" + place.to_bytes(2, "big") for place in range(count)]
         self.fprs = [fingerprint(key) for key in self.keys]
         self.user_ids = [b"user %d <u%d@example.org>" % (place, place) for place in range(count)]
@@ -54,7 +56,7 @@ class World:
         self.verdicts.append((number(key, 0, b"", direct), self.fprs[place]))
         front = packet(6, key) + packet(2, direct) + packet(13, user_id)
         for issuer in self.random.sample(range(len(self.keys)), 5):
-            trust = bytes([3, 5, self.random.choice([0, 1, 2, 255]), self.random.choice([40, 60, 120])])
+            trust = bytes([3, 5, self.random.choice(self._depths), self.random.choice([40, 60, 120])])
             body = signature(0x10, 2000, trust + b"\x16\x21\x04" + bytes.fromhex(self.fprs[issuer].decode()))
             self.verdicts.append((number(key, 1, user_id, body), self.fprs[issuer]))
             self.imports.append(b"import " + (front + packet(2, body)).hex().encode())

@@ -71,13 +71,6 @@ def made():
                 gpg(home, "--export-secret-keys"), plan(user_ids, fingerprints, texts), marks)
 
 
-def brainpool():
-    """A key of a curve that the library doesn't have."""
-    home = make_home("other")
-    gpg(home, "--quick-generate-key", "Frank <frank@example.org>", "brainpoolP256r1", "cert,sign", "never")
-    return gpg(home, "--export")
-
-
 def certify(home, fingerprints):
     """Each certifies each other; Alice makes Bob an introducer for example.org."""
     for issuer in fingerprints:

@@ -17,7 +17,7 @@ except ImportError:
 
 NAME = b"Frida <frida@example.org>"
 HASHES = (8, 9, 10, 11, 12, 14)
-ALGORITHMS = ("ed25519", "ed448", "p256", "p384", "p521", "rsa")
+ALGORITHMS = ("ed25519", "ed448", "p256", "p384", "p521", "rsa", "bp256", "bp384", "bp512", "k256")
 
 
 @unittest.skipIf(v6 is None, "python3-cryptography isn't installed")
@@ -114,7 +114,7 @@ class Version6(unittest.TestCase):
                           **dict.fromkeys(numbers[2:], f"good {old.fingerprint}")})
 
     def test_what_cant_be_checked_has_no_line(self):
-        key, unknown = self.keys["ed25519"], v6.Key("brainpool")
+        key, unknown = self.keys["ed25519"], v6.Key("p224")
         legacy = v6.Key("ed25519")
         legacy.algorithm, legacy.body = 22, legacy.body[:5] + bytes([22]) + legacy.body[6:]
         ring, _ = self.ring((key, [self.certified(key, unknown)]))

@@ -13,7 +13,9 @@ NEW_HASHES = {8: ("sha256", hashes.SHA256(), 16), 9: ("sha384", hashes.SHA384(),
               10: ("sha512", hashes.SHA512(), 32), 11: ("sha224", hashes.SHA224(), 16),
               12: ("sha3_256", hashes.SHA3_256(), 16), 14: ("sha3_512", hashes.SHA3_512(), 32)}
 CURVES = {"p256": (ec.SECP256R1(), "2a8648ce3d030107"), "p384": (ec.SECP384R1(), "2b81040022"),
-          "p521": (ec.SECP521R1(), "2b81040023"), "brainpool": (ec.BrainpoolP256R1(), "2b2403030208010107")}
+          "p521": (ec.SECP521R1(), "2b81040023"), "bp256": (ec.BrainpoolP256R1(), "2b2403030208010107"),
+          "bp384": (ec.BrainpoolP384R1(), "2b240303020801010b"), "bp512": (ec.BrainpoolP512R1(), "2b240303020801010d"),
+          "k256": (ec.SECP256K1(), "2b8104000a"), "p224": (ec.SECP224R1(), "2b81040021")}
 MADE = 1700000000
 # What signatures stand on, by the mark of the number's field: the key, a user ID, a subkey.
 ON_KEY, ON_USER_ID, ON_SUBKEY = 0, 1, 3
@@ -94,7 +96,8 @@ def _made(name):
 
 @dataclass
 class Words:
-    """What a signature says, and how it is made; `frame` hashes a key, by default by the key's version."""
+    """What a signature says, and how it is made; `frame` hashes a key, by default by the key's version, and `more` are
+    further subpackets of its hashed area."""
     kind: int = 0x13
     hash_algorithm: int = 8
     version: int = 6
@@ -102,10 +105,14 @@ class Words:
     names: str = "fingerprint"
     trust: tuple | None = None
     frame: int | None = None
+    made: int = MADE
+    more: bytes = b""
 
 
 def subpacket(kind, content):
-    return bytes([len(content) + 1, kind]) + content
+    length = len(content) + 1
+    front = bytes([length]) if length < 192 else b"\xff" + length.to_bytes(4, "big")
+    return front + bytes([kind]) + content
 
 
 def _issuer(issuer, names):
@@ -121,21 +128,26 @@ def _framed(key, version):
 
 def signature(issuer, key, place, component, words=Words()):
     """The body of a signature by a key on a component of a key's body."""
+    frame = words.frame or key[0]
+    signed = _framed(key, frame)
+    if place == ON_USER_ID:
+        signed += b"\xb4" + len(component).to_bytes(4, "big") + component
+    elif place == ON_SUBKEY:
+        signed += _framed(component, frame)
+    return over(issuer, signed, words)
+
+
+def over(issuer, signed, words):
+    """The body of a signature by a key over octets, which are hashed as they stand."""
     name, _, salt_size = NEW_HASHES[words.hash_algorithm]
     size = 4 if words.version == 6 else 2
     salt = words.salt if words.salt is not None else bytes(range(salt_size)) if words.version == 6 else b""
-    area = subpacket(2, MADE.to_bytes(4, "big")) + _issuer(issuer, words.names)
-    area += subpacket(5, bytes(words.trust)) if words.trust else b""
+    area = subpacket(2, words.made.to_bytes(4, "big")) + _issuer(issuer, words.names)
+    area += (subpacket(5, bytes(words.trust)) if words.trust else b"") + words.more
     hashed = bytes([words.version, words.kind, issuer.algorithm, words.hash_algorithm])
     hashed += len(area).to_bytes(size, "big") + area
-    frame = words.frame or key[0]
-    digest = hashlib.new(name, salt + _framed(key, frame))
-    if place == ON_USER_ID:
-        digest.update(b"\xb4" + len(component).to_bytes(4, "big") + component)
-    elif place == ON_SUBKEY:
-        digest.update(_framed(component, frame))
-    digest.update(hashed + bytes([words.version, 0xff]) + len(hashed).to_bytes(4, "big"))
-    digest = digest.digest()
+    trailer = bytes([words.version, 0xff]) + len(hashed).to_bytes(4, "big")
+    digest = hashlib.new(name, salt + signed + hashed + trailer).digest()
     after = bytes(size) + digest[:2] + (bytes([len(salt)]) + salt if words.version == 6 else b"")
     return hashed + after + issuer.sign(digest, words.hash_algorithm)
 

@@ -37,14 +37,14 @@ def needs_browser(case):
 class Browser:
     """A browser on one page. `requests` has the addresses of all that it asked for since the last call."""
 
-    def __init__(self):
+    def __init__(self, *more):
         self.downloads = tempfile.mkdtemp(prefix="saved-", dir=folder())
         self._profile = tempfile.mkdtemp(prefix="chromium-", dir=folder())
         options = webdriver.ChromeOptions()
         options.binary_location = shutil.which("chromium")
         for word in ("--headless=new", "--no-sandbox", "--disable-dev-shm-usage", "--disable-gpu", "--lang=en",
                      "--force-device-scale-factor=1", "--disable-background-networking",
-                     f"--user-data-dir={self._profile}"):
+                     f"--user-data-dir={self._profile}", *more):
             options.add_argument(word)
         options.add_experimental_option("prefs", {"download.default_directory": self.downloads})
         options.set_capability("goog:loggingPrefs", {"performance": "ALL", "browser": "ALL"})

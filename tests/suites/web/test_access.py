@@ -57,12 +57,13 @@ class Access(InBrowser):
                        "wanted"):
             self.assertIn(wanted, seen)
         self.assertEqual(seen[-1], "save-proof")
-        self.tab_back_to("slider")
-        self.browser.keys("HOME")
-        self.browser.wait_text(".verdict", "0 of 120")
         self.browser.run("document.querySelector('#steps-box summary').focus()")
         self.browser.keys("ENTER")
-        self.assertTrue(self.browser.run("return document.querySelector('#steps-box').open"))
+        self.browser.wait("return document.querySelector('#steps-box').open")
+        self.browser.run("document.querySelector('#save-proof').focus()")
+        self.tab_back_to("slider")
+        self.browser.keys("HOME")
+        self.browser.wait_text(".verdict", "✗ not authenticated")
 
     def tabbed(self, last):
         """The ids of what Tab comes to, up to one; each shows that it has the focus."""

@@ -87,7 +87,7 @@ class Asked(InBrowser):
         self.browser.wait_text("#changes", "From 2025-02-15 to 2025-03-01: amount 60 → 120")
         self.browser.click("#slider")
         self.browser.keys("HOME")
-        self.browser.wait_text(".verdict", "0 of 120")
+        self.browser.wait_text(".verdict", "✗ not authenticated")
         self.browser.wait_text("#changes", "amount 120 → 0")
         self.browser.driver.back()
         self.browser.wait_text(".verdict", "60 of 120")
@@ -107,14 +107,14 @@ class Asked(InBrowser):
         self.browser.click("#reset")
         self.browser.wait_text(".verdict", "120 of 120, by two paths")
         self.browser.click(".roots button")
-        self.browser.wait_text(".verdict", "0 of 120")
+        self.browser.wait_text(".verdict", "✗ not authenticated")
         self.browser.wait_text("#if", "No root yet")
         self.type("#new-root", "bob@")
         self.browser.wait_text("#new-root-found", "Bob <bob@example.org>")
         self.browser.keys("ENTER")
         self.browser.wait_text(".verdict", "120 of 120, by one path from Bob <bob@example.org>.")
         self.browser.driver.back()
-        self.browser.wait_text(".verdict", "0 of 120")
+        self.browser.wait_text(".verdict", "✗ not authenticated")
 
     def set_number(self, selector, value):
         self.browser.run("arguments[0].value = arguments[1]; arguments[0].dispatchEvent(new Event('change'))",

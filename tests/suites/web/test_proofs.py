@@ -133,6 +133,7 @@ class Proofs(Served):
                    for one in proof["certificates"]]
         self.assertEqual(self.check(self.changed(proof, certificates=armored), verifier=verifier)[0], HOLDS)
         self.assertIn("signatures found good by wot-verdicts", self.check(proof, verifier=verifier)[1])
+        self.assertEqual(self.check(self.changed(proof, certificates=[]), verifier=verifier)[0], FAILS)
         # The last octets of a certificate are those of a signature's material, which no longer verifies.
         place = next(at for at, one in enumerate(proof["certificates"]) if self.is_of(one, "Bob"))
         whole = proof["certificates"][place]

@@ -1,0 +1,250 @@
+"""Where all lines come in. While one engine can hold the keyring, each engine holds all of it; a keyring that has grown
+larger is held in slices from then on."""
+
+from __future__ import annotations
+
+import asyncio
+from collections.abc import Callable, Collection, Sequence
+from dataclasses import replace
+from functools import partial
+from typing import Protocol, TypeVar
+
+from tukyamid.certificates import KEY, SIGNATURE, packets
+
+from .access import Access
+from .cursors import Cursors
+from .database import Actor, Database, DatabaseFault, Finder, Snapshot
+from .hub import Hub
+from .journal import Done
+from .outbox import Outbox, Pieces
+from .parts import HasParts, Sizes
+from .reading import brought
+from .sliced import Sliced
+from .sliced_cursors import SlicedCursors
+from .sliced_watches import SlicedWatches
+from .turns import Begun
+from .views import Views
+from .watches import Watches
+
+# An engine's own limits (docs/PROFILE.md).
+MOST = Sizes(certificates=65_536, octets=268_435_456, signatures=1_048_576, verdicts=2_097_152)
+_R = TypeVar("_R")
+
+
+class Sitting(Protocol):
+    """A client at the desk."""
+
+    def turn(self, sliced: Sliced) -> None:
+        """The keyring is sliced from now on. Nothing of the client is under way."""
+
+    def resume(self) -> None:
+        """Lines that have come meanwhile may begin."""
+
+
+class Desk:
+    """`budget` is how many certificates an engine may hold."""
+
+    def __init__(self, program: Sequence[str], most_engines: int, access: Access, budget: int) -> None:
+        self.sitting: set[Sitting] = set()
+        self.is_turning = False
+        self._program = program
+        self._access = access
+        self._most = Sizes(min(budget, MOST.certificates), MOST.octets, MOST.signatures, MOST.verdicts)
+        self._most_engines = most_engines
+        self._held: Hub | Sliced | None = None
+        self._bound = Sizes(0, 0, 0, 0)
+        self._later: list[Callable[[], None]] = []
+        self._task: asyncio.Task[None] | None = None
+
+    @property
+    def held(self) -> Hub | Sliced:
+        assert self._held is not None
+        return self._held
+
+    @property
+    def database(self) -> Database:
+        return self._access.database
+
+    @property
+    def fault(self) -> str:
+        """Why nothing can be committed at present; empty where all is well."""
+        return self.held.fault
+
+    @property
+    def count(self) -> int | None:
+        """The number of the last change that all engines have; None of a sliced keyring."""
+        return self.held.count if isinstance(self.held, Hub) else None
+
+    @property
+    def age(self) -> float:
+        """For how many seconds changes of other services may have been missed."""
+        return self.held.age if isinstance(self.held, Hub) else 0.0
+
+    @property
+    def pids(self) -> list[int]:
+        """The engines' process numbers."""
+        return self.held.pids
+
+    @property
+    def loaded(self) -> int | None:
+        """How many certificates are loaded of a sliced keyring; None if each engine holds all."""
+        return self.held.loaded if isinstance(self.held, Sliced) else None
+
+    @property
+    def budget(self) -> int:
+        return self._most.certificates
+
+    async def start(self) -> None:
+        """Starts the first engine; OSError, ValueError or DatabaseFault where it can't take the database."""
+        sizes = await self._measured()
+        self._bound = sizes or self._bound
+        held: Hub | Sliced = Hub(self._program, self._most_engines, self.database, self._access) \
+            if sizes is None or sizes.fits(self._most) else self._sliced()
+        self._held = held
+        await held.start()
+
+    async def close(self) -> None:
+        if self._task is not None:
+            await self._task
+        if self._held is not None:
+            await self._held.close()
+        self._access.close()
+
+    def tell(self, text: str) -> None:
+        self._access.tell(text)
+
+    def note(self, session: int, line: bytes) -> None:
+        self._access.note(session, line)
+
+    async def write(self, call: Callable[[], _R]) -> _R:
+        return await self._access.write(call)
+
+    async def find(self, look: Callable[[Finder], _R]) -> _R:
+        return await self._access.find(look)
+
+    def watches(self, number: int, outbox: Outbox, views: Views) -> Watches | SlicedWatches:
+        """A client's watches."""
+        if isinstance(self.held, Sliced):
+            return SlicedWatches(self.held, outbox, views)
+        return Watches(self.held, number, outbox, views)
+
+    def cursors(self, views: Views) -> Cursors | SlicedCursors:
+        """A client's cursors."""
+        return SlicedCursors(self.held, views) if isinstance(self.held, Sliced) else Cursors(self.held, views)
+
+    def change(self, line: bytes, actor: Actor, done: Done, begun: Begun = lambda: None) -> None:
+        """Has a change made; `done` gets its reply once it is committed, and `begun` is called when it has its place in
+        the order of lines."""
+        if self.is_turning:
+            self._later.append(partial(self.change, line, actor, done, begun))
+        elif isinstance(self.held, Sliced):
+            begun()
+            self.held.change(line, actor, done)
+        else:
+            self._change_whole(self.held, line, actor, done, begun)
+
+    def _change_whole(self, hub: Hub, line: bytes, actor: Actor, done: Done, begun: Begun) -> None:
+        bound = _sum(self._bound, growth_of(line))
+        if bound.fits(self._most) or hub.fault or not isinstance(self.database, HasParts):
+            self._bound = bound
+            hub.change(line, actor, done, begun)
+            return
+        self.is_turning = True
+        begun()
+        self._task = asyncio.get_running_loop().create_task(self._turn(hub, line, actor, done))
+
+    async def _turn(self, hub: Hub, line: bytes, actor: Actor, done: Done) -> None:
+        """Measures the keyring when all that came before is done. If what comes may be too much for an engine, it is
+        sliced from now on."""
+        await hub.settle()
+        try:
+            sizes = await self._measured(brought(line))
+            if sizes is not None:
+                self._bound = _sum(sizes, replace(growth_of(line), certificates=0))
+                if not self._bound.fits(self._most):
+                    await self._slice(hub)
+        except (DatabaseFault, OSError) as fault:
+            self.tell(str(fault))
+        self.is_turning = False
+        self.held.change(line, actor, done)
+        later, self._later = self._later, []
+        for call in later:
+            call()
+        for sitting in list(self.sitting):
+            sitting.resume()
+
+    async def _slice(self, hub: Hub) -> None:
+        sliced = self._sliced()
+        await sliced.start()
+        for sitting in self.sitting:
+            sitting.turn(sliced)
+        self._held = sliced
+        await hub.close()
+        self.tell("the keyring is larger than an engine from now on, and held in slices")
+
+    def _sliced(self) -> Sliced:
+        assert isinstance(self.database, HasParts)
+        return Sliced(self._program, self._access, self.database, self._most.certificates)
+
+    async def _measured(self, fprs: Collection[bytes] = ()) -> Sizes | None:
+        """How large the keyring is, with as many certificates as it has when these have come; None if the database
+        can't be read in parts, and so not sliced."""
+        database = self.database
+        if not isinstance(database, HasParts):
+            return None
+        parts = await asyncio.to_thread(database.parts)
+        try:
+            sizes = await asyncio.to_thread(parts.sizes, self._most.certificates)
+            new = await asyncio.to_thread(lambda: sum(not parts.has(fpr) for fpr in fprs))
+            return replace(sizes, certificates=sizes.certificates + new)
+        finally:
+            await asyncio.to_thread(parts.close)
+
+    def ask(self, line: bytes, done: Done) -> None:
+        """Asks what is no view's, and changes nothing."""
+        if self.is_turning:
+            self._later.append(partial(self.ask, line, done))
+        else:
+            self.held.ask(line, done)
+
+    async def pending(self) -> int | None:
+        """How many signatures of a sliced keyring have no verdict, well-formed or not; None if engines hold all."""
+        return await self.held.read(lambda parts: parts.pending()) if isinstance(self.held, Sliced) else None
+
+    def keys(self, done: Callable[[bytes | Pieces | None, int], None]) -> None:
+        if isinstance(self.held, Sliced):
+            self.held.keys(done)
+        else:
+            self.held.ask(b"keys", done)
+
+    def snapshot(self, done: Callable[[Snapshot | None], None], begun: Begun = lambda: None) -> None:
+        """Asks for a snapshot of the keyring behind the changes so far; `begun` as with a change."""
+        if self.is_turning:
+            self._later.append(partial(self.snapshot, done, begun))
+        elif isinstance(self.held, Sliced):
+            begun()
+            self.held.snapshot(done)
+        else:
+            self.held.snapshot(done, begun)
+
+
+def growth_of(line: bytes) -> Sizes:
+    """How much larger a line makes the keyring at most."""
+    if line.startswith(b"verdict "):
+        return Sizes(0, 0, 0, 1)
+    if not line.startswith(b"import "):
+        return Sizes(0, 0, 0, 0)
+    keys = signatures = 0
+    try:
+        octets = bytes.fromhex(line[7:].decode())
+        for kind, _ in packets(octets):
+            keys += kind == KEY
+            signatures += kind == SIGNATURE
+    except (ValueError, IndexError):
+        return Sizes(0, 0, 0, 0)  # The engine refuses such a line.
+    return Sizes(keys, len(octets), signatures, 0)
+
+
+def _sum(one: Sizes, other: Sizes) -> Sizes:
+    return Sizes(one.certificates + other.certificates, one.octets + other.octets,
+                 one.signatures + other.signatures, one.verdicts + other.verdicts)

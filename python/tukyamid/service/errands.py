@@ -1,0 +1,68 @@
+"""Long replies about a keyring that is larger than an engine. Each is made by an engine of its own, from the database
+as it is when the line's turn comes: so nobody else waits for it."""
+
+from __future__ import annotations
+
+import asyncio
+from collections.abc import Awaitable, Callable, Sequence
+from typing import TypeVar
+
+from .asking import Asker
+from .journal import Done
+from .loading import Loader
+from .parts import HasParts, Parts
+
+_AT_ONCE = 2
+_R = TypeVar("_R")
+Work = Callable[[Asker], Awaitable[bytes]]
+# Does work with tries and faults, and hands its reply on.
+Answer = Callable[[Callable[[], Awaitable[bytes]], Done], Awaitable[None]]
+
+
+class Errands:
+    def __init__(self, program: Sequence[str], budget: int, database: HasParts, answer: Answer) -> None:
+        self._program = program
+        self._budget = budget
+        self._database = database
+        self._answer = answer
+        self._loaders: set[Loader] = set()
+        self._tasks: set[asyncio.Task[None]] = set()
+        self._room = asyncio.Semaphore(_AT_ONCE)
+
+    @property
+    def pids(self) -> list[int | None]:
+        return [loader.pid for loader in self._loaders]
+
+    async def begin(self, work: Work, done: Done) -> None:
+        """Comes back when the database is held as it is now."""
+        parts = await asyncio.to_thread(self._database.parts, True)
+        task = asyncio.get_running_loop().create_task(self._do(work, parts, done))
+        self._tasks.add(task)
+        task.add_done_callback(self._tasks.discard)
+
+    async def _do(self, work: Work, parts: Parts, done: Done) -> None:
+        loader = Loader(self._program, self._budget)
+        try:
+            async with self._room:
+                self._loaders.add(loader)
+                asker = Asker(loader, FrozenReader(parts))
+                await self._answer(lambda: work(asker), done)
+        finally:
+            self._loaders.discard(loader)
+            await loader.close()
+            await asyncio.to_thread(parts.close)
+
+    async def close(self) -> None:
+        for task in self._tasks:
+            task.cancel()
+        await asyncio.gather(*self._tasks, return_exceptions=True)
+
+
+class FrozenReader:
+    """Reads these parts, in another thread."""
+
+    def __init__(self, parts: Parts) -> None:
+        self._parts = parts
+
+    def __call__(self, call: Callable[[Parts], _R], /) -> Awaitable[_R]:
+        return asyncio.to_thread(call, self._parts)

@@ -1,0 +1,65 @@
+"""One lane for the lines of all clients: each is done when those before it are. Changes that stand behind one another
+are made together."""
+
+from __future__ import annotations
+
+import asyncio
+from collections import deque
+from collections.abc import Awaitable, Callable, Iterator
+
+from .journal import Change
+from .merging import dropped
+
+Turn = Callable[[], Awaitable[None]]
+_MOST_CHANGES = 512
+_MOST_OCTETS = 4 << 20
+_MOST_CERTIFICATES = 1024
+
+
+class Lane:
+    def __init__(self, make: Callable[[list[Change]], Awaitable[None]]) -> None:
+        self._make = make
+        self._queue: deque[Change | Turn] = deque()
+        self._woken = asyncio.Event()
+        self._is_closing = False
+        self._task = asyncio.get_running_loop().create_task(self._work())
+
+    def add(self, item: Change | Turn) -> None:
+        self._queue.append(item)
+        self._woken.set()
+
+    async def close(self) -> None:
+        """Comes back when all that was added is done."""
+        self._is_closing = True
+        self._woken.set()
+        await self._task
+
+    async def _work(self) -> None:
+        while self._queue or not self._is_closing:
+            if not self._queue:
+                self._woken.clear()
+                await self._woken.wait()
+                continue
+            changes = list(self._next_changes())
+            if changes:
+                await self._make(changes)
+                continue
+            turn = self._queue.popleft()
+            assert not isinstance(turn, Change)
+            await turn()
+
+    def _next_changes(self) -> Iterator[Change]:
+        """The changes at the beginning. One that brings what another drops begins others: it has to meet it dropped."""
+        gone: set[bytes] = set()
+        count = octets = certificates = 0
+        while self._queue and isinstance(change := self._queue[0], Change):
+            octets += len(change.line or b"")
+            certificates += len(change.fprs)
+            is_much = count >= _MOST_CHANGES or octets > _MOST_OCTETS or certificates > _MOST_CERTIFICATES
+            if count and is_much or not gone.isdisjoint(change.fprs):
+                return
+            count += 1
+            if (fpr := dropped(change)) is not None:
+                gone.add(fpr)
+            yield change
+            self._queue.popleft()

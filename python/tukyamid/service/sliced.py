@@ -1,0 +1,237 @@
+"""A keyring that is larger than an engine. All lines pass through one lane; a question is asked when an engine has
+loaded what its reply rests on, and a change goes from the engine that merges to the database."""
+
+from __future__ import annotations
+
+import asyncio
+import re
+from binascii import hexlify
+from collections.abc import Awaitable, Callable, Sequence
+from functools import partial
+from typing import TypeVar
+
+from .access import Access
+from .asking import Asker, wanted_of
+from .committing import FAULT, Barrier, Committer
+from .database import Actor, DatabaseFault, Snapshot
+from .errands import Errands, Work
+from .journal import Change, Done
+from .lane import Lane, Turn
+from .loading import BudgetPassed, Loader
+from .long_replies import keys_of
+from .merging import REFUSED_BUDGET, Merging, dropped, judged
+from .outbox import Pieces
+from .parts import HasParts, Parts
+from .reading import brought
+from .sliced_watches import Watched
+from .talking import EngineGone
+from .views import Value
+
+_R = TypeVar("_R")
+_TRIES = 3
+_FEW_TARGETS = 16
+_REFUSED_ABSENT = b"refused absent\n"
+_EXPORT = re.compile(rb"export ((?:[0-9a-fA-F]{24})?[0-9a-fA-F]{40})")
+
+
+class Sliced:
+    """`budget` is how many certificates an engine may hold."""
+
+    def __init__(self, program: Sequence[str], access: Access, database: HasParts, budget: int) -> None:
+        self.access = access
+        self.budget = budget
+        self.watched = Watched(self)
+        self._database = database
+        self._parts: Parts | None = None
+        self._asker = Asker(Loader(program, budget), self.read)
+        self._merging = Merging(program, budget)
+        self._errands = Errands(program, budget, database, self.answer)
+        self._committer = Committer(access.database, access.writing, self._settle, self._refused)
+        self._making: list[Change] = []
+        self._over = asyncio.Event()
+        self._lane = Lane(self._make)
+
+    @property
+    def fault(self) -> str:
+        return self._committer.fault
+
+    @property
+    def count(self) -> int:
+        """The number of the last change that is committed."""
+        return self._committer.count
+
+    @property
+    def pids(self) -> list[int]:
+        pids = [self._asker.loader.pid, self._merging.pid, *self._errands.pids]
+        return [pid for pid in pids if pid is not None]
+
+    @property
+    def loaded(self) -> int:
+        return self._asker.loader.count
+
+    async def start(self) -> None:
+        figures = await self.access.find(lambda finder: finder.log(1))
+        self._committer.count = figures[0].number if figures else 0
+
+    async def close(self) -> None:
+        """Ends the engines, when what was handed in is answered."""
+        await self._lane.close()
+        await self._errands.close()
+        while self._committer.is_busy:
+            await asyncio.sleep(0.01)
+        await self._asker.loader.close()
+        await self._merging.close()
+        if self._parts is not None:
+            self._parts.close()
+
+    async def read(self, call: Callable[[Parts], _R], /) -> _R:
+        return await self.access.read(lambda: call(self._opened()))
+
+    def _opened(self) -> Parts:
+        if self._parts is None:
+            self._parts = self._database.parts()
+        return self._parts
+
+    def change(self, line: bytes, actor: Actor, done: Done) -> None:
+        if self._committer.refuses():
+            done(FAULT, self.count)
+        else:
+            self._lane.add(Change(line, 0, set(), actor, brought(line), done))
+
+    def ask(self, line: bytes, done: Done) -> None:
+        """A line that is no view's, and changes nothing."""
+        match = _EXPORT.fullmatch(line)
+        if line == b"pending":
+            self.turn(partial(self.begin, lambda asker: asker.pending(), done))
+        elif match:
+            self.turn(partial(self.answer, partial(self._export, bytes.fromhex(match[1].decode())), done))
+        else:
+            self.turn(partial(self.answer, partial(self._asker.say, line), done))
+
+    def question(self, word: bytes, value: Value, rest: bytes, done: Done) -> None:
+        """A line that asks from a view of this value; `rest` is what stands behind the view."""
+        if word == b"list":
+            self.turn(partial(self.go_over, value, wanted_of(rest) or 1, lambda asker: asker.listed(value, rest), done))
+        else:
+            self.turn(partial(self.answer, partial(self._asker.ask, word, value, rest), done))
+
+    def keys(self, done: Callable[[bytes | Pieces | None, int], None]) -> None:
+        """The reply to `keys`, in pieces, from the database as it is when the line's turn comes."""
+        async def turn() -> None:
+            try:
+                done(keys_of(await asyncio.to_thread(self._database.parts, True)), self.count)
+            except DatabaseFault as fault:
+                self.access.tell(str(fault))
+                done(FAULT, self.count)
+        self.turn(turn)
+
+    def snapshot(self, done: Callable[[Snapshot | None], None]) -> None:
+        async def turn() -> None:
+            self._committer.add(Barrier(done))
+        self.turn(turn)
+
+    def turn(self, work: Turn) -> None:
+        """Has something done when its turn comes."""
+        self._lane.add(work)
+
+    async def go_over(self, value: Value, wanted: int, work: Work, done: Done) -> None:
+        """Has work done that goes over a whole list: here, or on an errand if it is long."""
+        try:
+            _, targets = await self._asker.targets(value)
+        except (BudgetPassed, DatabaseFault):
+            targets = []  # The work meets it too.
+        if len(targets) <= _FEW_TARGETS:
+            await self.answer(lambda: work(self._asker), done)
+        else:
+            await self.begin(work, done)
+
+    async def begin(self, work: Work, done: Done) -> None:
+        try:
+            await self._errands.begin(work, partial(self._counted, done, self.count))
+        except DatabaseFault as fault:
+            self.access.tell(str(fault))
+            done(FAULT, self.count)
+
+    @staticmethod
+    def _counted(done: Done, count: int, reply: bytes | None, _: int) -> None:
+        done(reply, count)
+
+    async def say(self, line: bytes) -> bytes:
+        """The reply to a line that asks about nothing that is kept."""
+        return await self._asker.say(line)
+
+    async def amount(self, value: Value, rest: bytes) -> bytes:
+        """The reply to a line `ask`."""
+        return await self._asker.ask(b"ask", value, rest)
+
+    async def answer(self, work: Callable[[], Awaitable[bytes]], done: Done) -> None:
+        """Has the reply that work makes handed on. None stands for one at which engines end again and again."""
+        reply: bytes | None = None
+        for _ in range(_TRIES):
+            try:
+                reply = await work()
+                break
+            except EngineGone as gone:
+                self.access.tell(f"an engine ended with {gone}; another takes its place")
+            except BudgetPassed:
+                reply = REFUSED_BUDGET
+                break
+            except DatabaseFault as fault:
+                self.access.tell(str(fault))
+                reply = FAULT
+                break
+            except Exception as error:  # Whatever one line meets, the others go on.
+                self.access.tell(repr(error))
+                break
+        done(reply, self.count)
+
+    async def _export(self, fpr: bytes) -> bytes:
+        part = await self.read(lambda parts: parts.part(fpr))
+        return b"export %s\n" % hexlify(part.octets) if part is not None else _REFUSED_ABSENT
+
+    async def _make(self, changes: list[Change]) -> None:
+        try:
+            await self._merging.take(changes, self.read)
+        except DatabaseFault as fault:
+            self.access.tell(str(fault))
+            for change in changes:
+                change.finish(FAULT, self.count)
+            return
+        self._making = changes
+        self._over.clear()
+        for change in changes:
+            change.is_over = change.reply is None or not change.reply.startswith(b"ok")
+            self._committer.add(change)
+        made, before = [change for change in changes if change.is_made], self.count
+        self._committer.advance()
+        await self._over.wait()
+        if self.count != before:
+            await self._follow(made)
+
+    def _settle(self) -> None:
+        if all(change.count is not None for change in self._making):
+            self._over.set()
+
+    def _refused(self, failed: list[Change], why: str) -> None:
+        self.access.tell(f"{len(failed)} changes were refused, since they can't be kept: {why}")
+        self._settle()
+
+    async def _follow(self, made: list[Change]) -> None:
+        """Behind a commit: what has changed is loaded anew when it is needed, and watches that rest on it are told."""
+        try:
+            touched, reached = await self.read(partial(self._touched, made))
+            await self._asker.loader.forget(touched)
+        except (DatabaseFault, EngineGone) as error:
+            self.access.tell(str(error))
+            self._asker = Asker(self._asker.loader, self.read)
+            self._asker.loader.end()
+            await self.watched.look_at_all()
+        else:
+            await self.watched.change(touched, reached)
+
+    def _touched(self, made: list[Change], parts: Parts) -> tuple[set[bytes], set[tuple[bytes, ...]]]:
+        touched = {fpr for change in made for fpr in change.fprs}
+        for change in made:
+            number = judged(change)
+            touched.update(fpr for fpr in (dropped(change), number and parts.certificate_of(number)) if fpr)
+        return touched, set(self._asker.slices.change(touched, parts))
