@@ -102,7 +102,7 @@ class Answering:
         return REFUSED_LINE
 
     async def learn(self, hub: Desk) -> None:
-        """Reads the figures of a shared database, so that they can be told while it can't be reached."""
+        """Reads the figures of a shared database, so that they can be reported while it can't be reached."""
         if isinstance(hub.database, Shared):
             with contextlib.suppress(DatabaseFault):
                 await self._figures(hub)

@@ -177,7 +177,7 @@ class Database(Protocol):
 
 @dataclass(frozen=True)
 class Place:
-    """A moment in the order of changes: behind the one with this number. `mark` tells it from another one that has
+    """A moment in the order of changes: after the one with this number. `mark` distinguishes it from another one with
     this number in another copy of the database."""
     number: int
     mark: bytes

@@ -217,7 +217,7 @@ class Sliced:
         self._settle()
 
     async def _follow(self, made: list[Change]) -> None:
-        """Behind a commit: what has changed is loaded again when it is needed, and watches that rest on it report it."""
+        """After a commit: what changed is loaded again when it is needed, and watches that rest on it report it."""
         try:
             touched, reached = await self.read(partial(self._touched, made))
             await self._asker.loader.forget(touched)

@@ -17,7 +17,7 @@ def listed(client, line):
 
 
 def dump_of(server):
-    """The certificates and verdicts that a service tells."""
+    """The certificates and verdicts that a service reports."""
     with Client(server.path) as client:
         return [line for line in listed(client, b"dump") if not line.startswith(b"view ")]
 
@@ -43,8 +43,8 @@ def serve(url, *options, **named):
 
 
 class Writer(threading.Thread):
-    """A client that changes something of its own with each line, for as long as it may. It notes what it was told of
-    each, and connects anew when the service is gone."""
+    """A client that changes something of its own with each line, for as long as it may. It notes the reply to
+    each, and connects again when the service is gone."""
 
     def __init__(self, server, name, ahead=1, pause=0.0):
         super().__init__(daemon=True)
@@ -95,7 +95,7 @@ class Writer(threading.Thread):
         self.join()
 
     def wait_for(self, count):
-        """Waits until so many more changes are acknowledged."""
+        """Waits until that many more changes are acknowledged."""
         aim, end = len(self.kept) + count, time.monotonic() + 200
         while len(self.kept) < aim:
             if time.monotonic() > end:
@@ -104,7 +104,7 @@ class Writer(threading.Thread):
 
 
 def check_kept(test, writers, servers):
-    """What was acknowledged is there, what was refused isn't, and each change was made once. All services tell the
+    """What was acknowledged is there, what was refused isn't, and each change was made once. All services report the
     same."""
     wait_until_same(servers)
     dumps = [dump_of(server) for server in servers]

@@ -122,7 +122,7 @@ class Missed(OneServer):
                 ask])[-1].split(b"\n")[0])
 
     def test_all_of_it_was_replaced(self):
-        """What can't be told change by change is read anew."""
+        """What can't be reported change by change is read again."""
         one, other, front = self.ready()
         with tempfile.TemporaryDirectory() as folder:
             script = Path(folder) / "script"

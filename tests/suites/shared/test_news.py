@@ -1,4 +1,4 @@
-"""What a database tells one service of the changes of another, without engines."""
+"""What one service learns from a database about the changes of another, without engines."""
 
 import contextlib
 

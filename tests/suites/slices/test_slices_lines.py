@@ -127,7 +127,7 @@ class Budgets(unittest.TestCase):
         self.assertRegex(self.client.tell(b"import " + octets[:-10].hex().encode()), b"^ok taken 10 ")
 
     def test_watches(self):
-        """What rests on a change is reported: on the target, on a member of the slice, and on whom a new member brings."""
+        """Changes are reported that concern the target, a member of the slice, or what a new member brings in."""
         with Client(self.server.path) as other:
             self.assertEqual(self.client.tell(b"watch w on p %s 120 %s" % (self.chain.fprs[9], self.chain.user_ids[9])),
                              b"watch w amount 120")

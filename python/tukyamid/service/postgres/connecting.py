@@ -45,7 +45,7 @@ def text_of(error: BaseException) -> str:
 
 
 def faults(call: Callable[Concatenate[_F, _P], _R]) -> Callable[Concatenate[_F, _P], _R]:
-    """Has what PostgreSQL meets raised as a DatabaseFault, with the database's name. The next call connects anew."""
+    """Has what PostgreSQL meets raised as a DatabaseFault, with the database's name. The next call connects again."""
     def guarded(self: _F, /, *words: _P.args, **named: _P.kwargs) -> _R:
         try:
             return call(self, *words, **named)

@@ -148,7 +148,7 @@ class Postgres:
             if self._wire.connection.closed:
                 raise Uncertain(f"{self.name}: {text_of(error)}") from None
             raise
-        if self._wire.warned:  # So a server tells that it hasn't heard of its standby.
+        if self._wire.warned:  # That is how a server says that it hasn't heard from its standby.
             raise Uncertain(f"{self.name}: {self._wire.warned}")
         self.place = writing.place or self.place
 

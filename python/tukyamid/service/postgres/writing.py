@@ -1,4 +1,4 @@
-"""What changes do to the tables in PostgreSQL beside what they do in any database: they are told to other services."""
+"""What changes do to the tables in PostgreSQL beside what they do in any database: other services are notified."""
 
 import secrets
 
