@@ -48,7 +48,7 @@ def run(words: Sequence[str] = ()) -> int:
 
 def _parser() -> argparse.ArgumentParser:
     words = argparse.ArgumentParser(
-        prog="tukyamid doctor", description="Does everything work here? Says what is missing, and how to mend it.",
+        prog="tukyamid doctor", description="Does everything work here? Says what is missing, and how to fix it.",
         epilog="Exit status: 0 questions can be answered, 3 something that answers need is missing.")
     words.add_argument("--engine", metavar="PROGRAM", help="the engine's program")
     words.add_argument("--verifier", metavar="PROGRAM", help="the program wot-verdicts")

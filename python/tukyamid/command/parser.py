@@ -16,19 +16,19 @@ questions:
   identify KEY              which user IDs belong to this key? the best first
   list [PATTERN]            all bindings that reach the amount; PATTERN is a part of the user ID
   path KEY.. USERID         is there a path along these certificates, and if not, which step breaks it?
-  explain KEY USERID        what does each certification of this user ID come to?
+  explain KEY USERID        does each certification of this user ID count, and if not, why?
 
-other commands, each with a --help of its own:
-  verify FILE [SIGNATURE] --for WHOM   did WHOM sign this file?
-  web                       a page in the browser: who vouches for whom, when, and what if not
-  check FILE                does an answer hold that somebody else has sent as a file?
+other commands, each with its own --help:
+  verify FILE [SIGNATURE] --for WHOM   is this file signed by WHOM?
+  web                       a page in the browser: who vouches for whom, and what would change that
+  check FILE                does the answer hold that somebody else saved in this file?
   keyring add|remove|list   the keyrings that the service keeps
   status                    what the service holds
   log                       who changed what
   doctor                    does everything work here?
 
 KEY is a fingerprint or a key ID, also with 0x in front."""
-EPILOG = """exit status: 0 the amount is reached, by one binding at least; 1 it isn't; 2 the words are wrong;
+EPILOG = """exit status: 0 the amount is reached, by at least one binding; 1 it isn't; 2 the arguments are wrong;
 3 there is no answer, and standard error says why; 130 it was interrupted.
 environment: TUKYAMID_ENGINE and TUKYAMID_VERIFIER name the two programs; NO_COLOR turns colours off.
 """
@@ -113,7 +113,7 @@ def add_inputs(made: Parser) -> None:
 def _add_answers(made: Parser) -> None:
     group = made.add_argument_group("the question and its answer")
     add_time_and_amount(group)
-    group.add_argument("--email", action="store_true", help="USERID is an e-mail address, of any case")
+    group.add_argument("--email", action="store_true", help="USERID is an e-mail address, in upper or lower case")
     group.add_argument("--strict", action="store_true",
                        help="a key that gpg or Sequoia takes as expired isn't reached")
     group.add_argument("--paths", action="store_true", help="list: show the paths too")
@@ -133,10 +133,10 @@ def add_time_and_amount(group: argparse._ArgumentGroup) -> None:
 
 def add_programs(made: Parser) -> None:
     group = made.add_argument_group("programs, and what is kept")
-    group.add_argument("--no-service", action="store_true", help="start an engine for this question alone")
+    group.add_argument("--no-service", action="store_true", help="start an engine just for this question")
     group.add_argument("--cache", metavar="FOLDER", help="where verified keyrings are kept")
     group.add_argument("--no-cache", action="store_true", help="keep nothing, and use nothing that was kept")
-    group.add_argument("--anew", action="store_true", help="verify also what was kept")
+    group.add_argument("--anew", action="store_true", help="verify again what was kept")
     group.add_argument("--engine", metavar="PROGRAM", help="the engine's program")
     group.add_argument("--verifier", metavar="PROGRAM", help="the program wot-verdicts")
     group.add_argument("--known-notation", type=_known_notation, help=argparse.SUPPRESS)

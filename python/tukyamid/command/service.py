@@ -23,7 +23,7 @@ HELP = """usage: tukyamid keyring add NAME..      keep these keyrings: a file, a
        tukyamid status                  what the service holds
        tukyamid log [N]                 the last changes (20), newest first: when, by whom, what
 
-The service keeps what it was told, and answers at once. It starts by itself, and verifies a keyring again when it
+The service keeps these keyrings, and answers at once. It starts by itself, and verifies a keyring again when it
 changes. docs/SERVICE.md says more.
 """
 

@@ -13,9 +13,9 @@ from .file import ABSENCE, MOST_OCTETS, Proof, read
 
 HELP = """usage: tukyamid check [option..] FILE
 
-Does an answer hold that somebody has sent as a file? The page of `tukyamid web` writes such files. Nothing in the file
-is believed: its signatures are verified here, and an engine of this machine checks its paths."""
-EPILOG = "exit status: 0 the claim holds; 1 it doesn't; 2 the words are wrong; 3 it couldn't be checked\n"
+Does the answer in this file hold? The page of `tukyamid web` writes such files. The check doesn't trust the file: it
+verifies the signatures again, and an engine on this machine checks the paths."""
+EPILOG = "exit status: 0 the claim holds; 1 it doesn't; 2 the arguments are wrong; 3 it couldn't be checked\n"
 
 
 def run(words: Sequence[str]) -> int:

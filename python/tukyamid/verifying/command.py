@@ -21,7 +21,7 @@ VERIFIED, NOT_VERIFIED = 0, 1
 FORMS = {"tree": shown.for_people, "json": shown.for_programs}
 HELP = """usage: tukyamid verify FILE [SIGNATURE] --for WHOM [option..]
 
-Did WHOM sign this file? The verifier checks the signatures on FILE: those in SIGNATURE, or those of FILE itself, a
+Is this file signed by WHOM? The verifier checks the signatures on FILE: those in SIGNATURE, or those of FILE itself, a
 signed message or a text with a cleartext signature. Then the engine answers whether their signers are WHOM, at the
 time of signing and now.
 
@@ -63,7 +63,7 @@ def add_arguments(made: Parser) -> None:
     """The options that no other question has."""
     group = made.add_argument_group("what is verified")
     group.add_argument("--for", dest="whom", metavar="WHOM", action="append", default=[], type=typed(Whom.read),
-                       help="who should have signed; may be given several times, and then each of them will do")
+                       help="who should have signed; if it is given several times, any of them is enough")
     group.add_argument("--threshold", metavar="N", type=typed(read_threshold), default=1,
                        help="how many signers are needed, by default 1; two keys of one certificate are one signer")
     group.add_argument("--when", choices=[str(one) for one in When], default=str(When.BOTH),

@@ -20,8 +20,8 @@ from .serving import service_for
 
 HELP = """usage: tukyamid web [option..]
 
-Opens a page in the browser on which one sees who vouches for whom. The page is served to this machine alone, under an
-address that nobody can guess, until the command is interrupted. It asks nothing from anywhere else."""
+Opens a page in the browser that shows who vouches for whom. The page is served only to this machine, under an address
+that nobody can guess, until the command is interrupted. It loads nothing from anywhere else."""
 
 
 class Wanted(Given):
