@@ -18,9 +18,10 @@ from .choosing import Chosen
 from .database import DatabaseFault
 from .directory import Directory
 from .access import Access
-from .desk import MOST, Desk
+from .desk import Desk
 from .dumps import import_dump, lines_of
 from .keyrings import Keyrings
+from .parts import MOST
 from .places import default_directory
 from .program import pieces
 from .service import Door, Service, Settings

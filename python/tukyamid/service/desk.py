@@ -17,7 +17,7 @@ from .database import Actor, Database, DatabaseFault, Finder, Snapshot
 from .hub import Hub
 from .journal import Done
 from .outbox import Outbox, Pieces
-from .parts import HasParts, Sizes
+from .parts import MOST, HasParts, Sizes
 from .reading import brought
 from .sliced import Sliced
 from .sliced_cursors import SlicedCursors
@@ -26,8 +26,6 @@ from .turns import Begun
 from .views import Views
 from .watches import Watches
 
-# An engine's own limits (docs/PROFILE.md).
-MOST = Sizes(certificates=65_536, octets=268_435_456, signatures=1_048_576, verdicts=2_097_152)
 _R = TypeVar("_R")
 
 

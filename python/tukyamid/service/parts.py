@@ -27,6 +27,10 @@ class Sizes:
                 and self.signatures <= most.signatures and self.verdicts <= most.verdicts)
 
 
+# An engine's own limits (docs/PROFILE.md).
+MOST = Sizes(certificates=65_536, octets=268_435_456, signatures=1_048_576, verdicts=2_097_152)
+
+
 class Parts(Protocol):
     """Reads what has been committed, or what was when it was opened. One thread uses it at a time. Who certified whom
     looks at good verdicts and depths alone: times, policy and revocations are the engine's matter."""

@@ -1,11 +1,22 @@
 """What is found in PostgreSQL, what is wrong there, and its copies and scripts."""
 
+import contextlib
 import tempfile
 from pathlib import Path
 
 from alone_cluster import OneServer
 from outside import Client
 from talking import dump_of, listed, log_of, told, wait_until_same
+from tukyamid.service.database import Actor
+from tukyamid.service.sqlite import Sqlite
+
+MOST_CERTIFICATES = 65_536
+
+
+def certificate(place):
+    """A line that imports a key, without anything else."""
+    key = b"\x04" + place.to_bytes(4, "big") + b"\x16\0\1\1"
+    return b"import " + (b"\xc6" + bytes([len(key)]) + key).hex().encode()
 
 
 class Commands(OneServer):
@@ -28,6 +39,17 @@ class Commands(OneServer):
                 self.assertEqual(self.command("export-dump", "--database", source, folder / "out"), (0, ""))
                 self.assertEqual((folder / "out").read_bytes().splitlines(), told(lines))
         self.assertEqual(log_of(server)[0].split(b" on ")[0][:8], b"restore ")
+
+    def test_a_copy_larger_than_an_engine(self):
+        """A file may hold it in slices; a shared database may not hold it at all."""
+        self.assertEqual(self.command("check", "--database", self.url), (0, ""))
+        with tempfile.TemporaryDirectory() as name:
+            copy = Path(name) / "copy.db"
+            with contextlib.closing(Sqlite(copy)) as database:
+                database.fill(map(certificate, range(MOST_CERTIFICATES + 1)), "test", Actor(0, 0))
+            status, said = self.command("restore", "--database", self.url, copy)
+        self.assertEqual((status, "larger than an engine" in said, said.count("\n")), (1, True, 0), said)
+        self.assertEqual(self.cluster.query("SELECT count(*) FROM certificates", self.name), [(0,)])
 
     def test_what_is_found(self):
         server = self.serve()
