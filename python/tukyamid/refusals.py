@@ -143,6 +143,10 @@ class DatabaseFault(Refused):
     """The service's database couldn't be read or written; nothing was changed."""
 
 
+class UncertainFault(Refused):
+    """The service's commit was broken off: the change is made whole or not at all. It may be sent again."""
+
+
 class KeyringFault(Refused):
     """The service can't read a keyring, or has no verifier for it; the text says why."""
 
@@ -154,7 +158,9 @@ _REFUSED: dict[str, tuple[type[Refused], int]] = {
     "clash": (RefusedClash, 0), "absent": (RefusedAbsent, 0), "full": (RefusedFull, 1),
     "cursor": (RefusedCursor, 0), "watch": (RefusedWatch, 0), "read-only": (RefusedReadOnly, 0),
 }
-_FAULTS: dict[str, type[Refused]] = {"fault shelf": ShelfFault, "fault database": DatabaseFault}
+_FAULTS: dict[str, type[Refused]] = {
+    "fault shelf": ShelfFault, "fault database": DatabaseFault, "fault uncertain": UncertainFault,
+}
 
 
 def read_refusal(reply: str) -> Refused | None:

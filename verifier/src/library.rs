@@ -1,4 +1,4 @@
-//! Signatures on data as the library verifies them, by its standard policy, also on the subkey that signed: its binding,
+//! Signatures on data as the library verifies them by its standard policy, also on the subkey that signed: its binding,
 //! its flags, its end and its revocations.
 
 use std::io::Read;

@@ -2,5 +2,6 @@
 
 `service` has the sockets and the clients, and `session` is one client. `hub` has the engines and sends lines to them;
 `engine` is one of them, kept running. `committing` takes changes to the `database`, which `sqlite` keeps in a file, and
-`journal` has what a new engine needs to stand where another stood. `starting` is what a command calls to have it run.
+`postgres` on servers that several machines share, in `turns`. `journal` has what a new engine needs to stand where
+another stood. `starting` is what a command calls to have it run.
 """

@@ -49,7 +49,7 @@ class Access:
         return self._finder
 
     def close(self) -> None:
-        if self._finder is not None:
-            self._finder.close()
         for executor in (self.writing, self._finding, self._reading):
             executor.shutdown()
+        if self._finder is not None:
+            self._finder.close()

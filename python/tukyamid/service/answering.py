@@ -3,20 +3,24 @@
 from __future__ import annotations
 
 import asyncio
+import contextlib
 import os
 import re
 from collections.abc import Callable
+from dataclasses import replace
 from pathlib import Path
 
 from tukyamid.addresses import canonical
 from tukyamid.spelling import read_user_id, write_user_id
 
 from .committing import FAULT
-from .database import Binding, DatabaseFault, Finder
+from .database import Binding, DatabaseFault, Figures, Finder, Shared
 from .directory import Directory, DirectoryFailed
+from .desk import Desk
 from .keyrings import Keyrings
+from .kinds import MAY_CHANGE
 from .outbox import Slot
-from .session import MAY_CHANGE, REFUSED_LINE, REFUSED_READ_ONLY, Session
+from .session import REFUSED_LINE, REFUSED_READ_ONLY, Session
 
 _KEY = re.compile(rb"[0-9a-fA-F]{16}|[0-9a-fA-F]{40}|[0-9a-fA-F]{64}")
 _FPR = re.compile(rb"[0-9a-fA-F]{40}|[0-9a-fA-F]{64}")
@@ -53,6 +57,7 @@ class Answering:
         self._directory = directory
         self._keyrings = keyrings
         self._status = status
+        self._known: tuple[Figures, int] | None = None
 
     async def answer(self, session: Session, slot: Slot, line: bytes) -> None:
         """Answers one line."""
@@ -96,13 +101,32 @@ class Answering:
                 return await self._of_keyring(session, text)
         return REFUSED_LINE
 
+    async def learn(self, hub: Desk) -> None:
+        """Reads the figures of a shared database, so that they can be reported while it can't be reached."""
+        if isinstance(hub.database, Shared):
+            with contextlib.suppress(DatabaseFault):
+                await self._figures(hub)
+
+    async def _figures(self, hub: Desk) -> tuple[Figures, int]:
+        """The database's figures and its count of watched keyrings; if it can't be read, those of the last time."""
+        try:
+            figures = await hub.find(lambda finder: finder.figures())
+            sources = len(await hub.find(lambda finder: finder.sources()))
+        except DatabaseFault:
+            if self._known is None:
+                raise
+            figures, sources = self._known
+        if isinstance(hub.database, Shared) and hub.count is not None:  # It may have what the engines don't have yet.
+            figures = replace(figures, change=hub.count)
+        self._known = figures, sources
+        return self._known
+
     async def _tell_status(self, session: Session) -> bytes:
-        figures = await session.hub.find(lambda finder: finder.figures())
-        sources = await session.hub.find(lambda finder: finder.sources())
+        figures, sources = await self._figures(session.hub)
         count = await self._count_pending(session)
         values = [("certificates", figures.certificates), ("user-ids", figures.user_ids),
                   ("verdicts", figures.verdicts), ("pending", count), ("change", figures.change),
-                  ("size", figures.octets), ("keyrings", len(sources)), *self._status()]
+                  ("size", figures.octets), ("keyrings", sources), *self._status()]
         return listed(b"service status", [f"{name} ".encode() + shown(str(value)) for name, value in values])
 
     @staticmethod
@@ -169,10 +193,13 @@ async def asked(session: Session, line: bytes, is_change: bool, noted: bytes | N
         if not answered.done():
             answered.set_result(reply)
 
-    if noted is not None:
-        session.hub.note(session.number, noted)
+    def begun() -> None:
+        if noted is not None:
+            session.hub.note(session.number, noted)
+
     if is_change:
-        session.hub.change(line, session.actor, done)
+        session.hub.change(line, session.actor, done, begun)
     else:
+        begun()
         session.hub.ask(line, done)
     return await answered

@@ -14,17 +14,17 @@ from pathlib import Path
 from tukyamid.engine import find_program
 from tukyamid.verifier import find_verifier
 
+from .choosing import Chosen
 from .database import DatabaseFault
 from .directory import Directory
-from .dumps import import_dump, lines_of, restore
 from .access import Access
 from .desk import MOST, Desk
+from .dumps import import_dump, lines_of
 from .keyrings import Keyrings
-from .places import Lock, beside, default_database, default_directory
+from .places import default_directory
 from .program import pieces
 from .service import Door, Service, Settings
 from .sockets import Listening, passed_sockets
-from .sqlite import Sqlite
 from .whole import write_whole
 
 ENDED, FAILED = 0, 1
@@ -40,8 +40,9 @@ def parser() -> argparse.ArgumentParser:
     for name, (call, told) in COMMANDS.items():
         one = commands.add_parser(name, help=told, description=told.capitalize() + ".")
         one.set_defaults(call=call)
-        one.add_argument("--database", metavar="FILE", type=Path, default=None,
-                         help="the database (keyring.db in the user's data folder)")
+        one.add_argument("--database", metavar="FILE|URL", default=None,
+                         help="a file, or a URL as postgresql://HOST,HOST/NAME of a database that machines may share "
+                              "(keyring.db in the user's data folder)")
         if name in ("serve", "import-dump"):
             one.add_argument("--engine", metavar="PROGRAM", help="the engine's program")
         if name == "serve":
@@ -100,25 +101,16 @@ def _program(given: argparse.Namespace) -> list[str]:
     return [given.engine] if given.engine else [str(word) for word in find_program()]
 
 
-def _database(given: argparse.Namespace) -> Path:
-    return Path(given.database).absolute() if given.database else default_database()
-
-
-def _locked(path: Path) -> Lock:
-    path.parent.mkdir(mode=0o700, parents=True, exist_ok=True)
-    return Lock(beside(path, ".lock"))
-
-
 def _verifier(given: argparse.Namespace) -> Callable[[], Sequence[str]]:
     return lambda: [given.verifier] if given.verifier else [str(word) for word in find_verifier()]
 
 
 def serve(given: argparse.Namespace) -> int:
-    path = _database(given)
+    chosen = Chosen(given.database)
     with contextlib.ExitStack() as stack:
         doors = _doors(given, stack)
-        stack.enter_context(_locked(path))
-        database = stack.enter_context(contextlib.closing(Sqlite(path)))
+        stack.enter_context(chosen.lock())
+        database = stack.enter_context(chosen.open())
         order = stack.enter_context(open(given.order, "ab", buffering=0)) if given.order else None
         settings = Settings(given.patience, given.idle, given.views)
 
@@ -156,31 +148,31 @@ def _run(main_task: Callable[[], Coroutine[None, None, None]]) -> None:
 
 
 def check(given: argparse.Namespace) -> int:
-    with contextlib.closing(Sqlite(_database(given), is_made=False)) as database:
+    with Chosen(given.database).open(is_made=False) as database:
         wrong = database.check()
-    for text in wrong:
-        _tell(f"{_database(given)}: {text}")
+        for text in wrong:
+            _tell(f"{database.name}: {text}")
     return FAILED if wrong else ENDED
 
 
 def backup(given: argparse.Namespace) -> int:
-    with contextlib.closing(Sqlite(_database(given), is_made=False)) as database:
-        database.backup(given.file)
+    with Chosen(given.database).open(is_made=False) as database:
+        database.backup(given.file.absolute())
     return ENDED
 
 
 def restore_from(given: argparse.Namespace) -> int:
-    path = _database(given)
-    with _locked(path):
-        aside = restore(path, given.file)
+    chosen = Chosen(given.database)
+    with chosen.lock():
+        aside = chosen.restore(given.file)
     if aside is not None:
         _tell(f"the database was damaged, and is {aside} now")
     return ENDED
 
 
 def import_from(given: argparse.Namespace) -> int:
-    path = _database(given)
-    with _locked(path), contextlib.closing(Sqlite(path)) as database, contextlib.ExitStack() as stack:
+    chosen = Chosen(given.database)
+    with chosen.lock(), chosen.open() as database, contextlib.ExitStack() as stack:
         is_input = str(given.file) == "-"
         script = sys.stdin.buffer if is_input else stack.enter_context(open(given.file, "rb"))
         import_dump(database, script, "standard input" if is_input else str(given.file), _program(given))
@@ -188,7 +180,7 @@ def import_from(given: argparse.Namespace) -> int:
 
 
 def export_to(given: argparse.Namespace) -> int:
-    with contextlib.closing(Sqlite(_database(given), is_made=False)) as database:
+    with Chosen(given.database).open(is_made=False) as database:
         script = pieces(lines_of(database))
         if str(given.file) == "-":
             for piece in script:
@@ -203,8 +195,8 @@ COMMANDS: dict[str, tuple[Callable[[argparse.Namespace], int], str]] = {
     "serve": (serve, "serve clients"),
     "check": (check, "say what is wrong with the database, if anything"),
     "backup": (backup, "copy the database, also while the service runs"),
-    "restore": (restore_from, "put a copy into the place of the database; no service may run on it"),
-    "import-dump": (import_from, "merge a script of the engine with the database; no service may run on it"),
+    "restore": (restore_from, "put a copy into the place of the database; no service may run on a file"),
+    "import-dump": (import_from, "merge a script of the engine with the database; no service may run on a file"),
     "export-dump": (export_to, "write the database as a script of the engine, also while the service runs"),
 }
 FILES = {"backup": "where the copy goes", "restore": "a copy that backup made",

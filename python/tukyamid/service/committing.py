@@ -7,22 +7,40 @@ from collections import deque
 from collections.abc import Callable, Coroutine
 from concurrent.futures import Executor
 from dataclasses import dataclass
+from functools import partial
+from typing import TypeVar
 
 from .database import Change as Entry
-from .database import Database, DatabaseFault, Snapshot
+from .database import Database, DatabaseFault, Shared, Snapshot, Uncertain
 from .journal import Change
 
 FAULT = b"fault database\n"
+UNCERTAIN = b"fault uncertain\n"
 _MOST_CHANGES = 4096
+_LONGEST_COMMIT = 10.0
 _PROBE_SECONDS = 1.0
+
+
+_R = TypeVar("_R")
+
+
+async def called(executor: Executor, call: Callable[[], _R], cut: Callable[[], None], seconds: float) -> _R:
+    """Calls what waits for a server, in another thread. What lasts too long is cut, and meets that as a fault."""
+    loop = asyncio.get_running_loop()
+    timer = loop.call_later(seconds, cut)
+    try:
+        return await loop.run_in_executor(executor, call)
+    finally:
+        timer.cancel()
 
 
 @dataclass
 class Barrier:
     """Asks for a snapshot behind the changes that were handed in before it, in the place of the one that `before` gives
-    then. `done` gets None where there is none."""
+    then. `begun` is called when its place in their order is known, and `done` gets None where there is none."""
     done: Callable[[Snapshot | None], None]
     before: Callable[[], Snapshot | None] = lambda: None
+    begun: Callable[[], None] = lambda: None
 
 
 class Committer:
@@ -38,6 +56,7 @@ class Committer:
         self.count = 0
         self.fault = ""
         self._database = database
+        self._shared = database if isinstance(database, Shared) else None
         self._executor = executor
         self._released = released
         self._failed = failed
@@ -74,7 +93,10 @@ class Committer:
             self._finish(batch, [])
 
     def _next_batch(self) -> list[Change]:
+        """What is ready; of a shared database all that is under way, since its commit ends the turn."""
         batch: list[Change] = []
+        if self._shared is not None and not all(isinstance(one, Change) and one.is_settled for one in self._queue):
+            return batch
         while self._queue and len(batch) < (1 if self._left_alone else _MOST_CHANGES):
             item = self._queue[0]
             if isinstance(item, Barrier) or not item.is_settled:
@@ -91,9 +113,8 @@ class Committer:
         task.add_done_callback(self._tasks.discard)
 
     async def _commit(self, batch: list[Change], entries: list[Entry]) -> None:
-        loop = asyncio.get_running_loop()
         try:
-            numbers = await loop.run_in_executor(self._executor, self._database.apply, entries)
+            numbers = await self._apply(entries)
         except Exception as error:
             self.is_busy = False
             self._take_failure(batch, error)
@@ -102,12 +123,19 @@ class Committer:
         self._finish(batch, numbers)
         self.advance()
 
+    async def _apply(self, entries: list[Entry]) -> list[int]:
+        call = partial(self._database.apply, entries)
+        if self._shared is not None:
+            return await called(self._executor, call, self._shared.cut, _LONGEST_COMMIT)
+        return await asyncio.get_running_loop().run_in_executor(self._executor, call)
+
     def _take_failure(self, batch: list[Change], error: Exception) -> None:
+        """The changes of a turn at a shared database fail together, since their turn is over."""
         if isinstance(error, DatabaseFault):
             self.fault = str(error)
             self._probed = asyncio.get_running_loop().time()
-            self._fail(batch, self.fault)
-        elif len(batch) > 1:
+            self._fail(batch, self.fault, UNCERTAIN if isinstance(error, Uncertain) else FAULT)
+        elif len(batch) > 1 and self._shared is None:
             self._left_alone = len(batch)
             self._queue.extendleft(reversed(batch))
             self.advance()
@@ -122,7 +150,7 @@ class Committer:
             change.finish(change.reply, self.count)
         self._released()
 
-    def _fail(self, batch: list[Change], why: str) -> None:
+    def _fail(self, batch: list[Change], why: str, reply: bytes = FAULT) -> None:
         """These changes, and those handed in behind them, aren't made. A change that nobody could answer is none."""
         self._left_alone = 0
         failed = batch + [item for item in self._queue if isinstance(item, Change)]
@@ -131,7 +159,7 @@ class Committer:
             change.count = self.count
         self._failed(failed, why)
         for change in failed:
-            change.finish(FAULT, self.count)
+            change.finish(reply, self.count)
         self.advance()
 
     def refuses(self) -> bool:

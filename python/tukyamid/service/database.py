@@ -1,4 +1,5 @@
-"""What the service asks of a database, whichever one it is: `sqlite` is one that keeps everything in a file.
+"""What the service asks of a database, whichever one it is: `sqlite` is one that keeps everything in a file, and
+`postgres` one that services on several machines share.
 
 A change is what one line of a client made of certificates or verdicts. The database numbers changes in the order in
 which they are applied, and makes each of them whole or not at all.
@@ -7,13 +8,17 @@ which they are applied, and makes each of them whole or not at all.
 from collections.abc import Iterable, Iterator, Sequence
 from dataclasses import dataclass
 from pathlib import Path
-from typing import Protocol
+from typing import Protocol, runtime_checkable
 
 BAD = b""
 
 
 class DatabaseFault(Exception):
     """The database can't be read or written; the text says why."""
+
+
+class Uncertain(DatabaseFault):
+    """The connection was lost during a commit: the changes are all made, or none of them is."""
 
 
 @dataclass(frozen=True)
@@ -47,10 +52,11 @@ Effect = PutCertificate | DropCertificate | SetVerdict
 
 @dataclass(frozen=True)
 class Change:
-    """What one line made of the keyring, in the words of the log."""
+    """What one line made of the keyring, in the words of the log; and the line, for the engines of other services."""
     what: str
     actor: Actor
     effects: tuple[Effect, ...]
+    line: bytes = b""
 
 
 @dataclass(frozen=True)
@@ -167,3 +173,57 @@ class Database(Protocol):
         """Writes a copy of it, whole, while it may be in use."""
 
     def close(self) -> None: ...
+
+
+@dataclass(frozen=True)
+class Place:
+    """A moment in the order of changes: after the one with this number. `mark` distinguishes it from another one with
+    this number in another copy of the database."""
+    number: int
+    mark: bytes
+
+
+@dataclass(frozen=True)
+class News:
+    """What other services have committed since this one last looked: the lines of their changes in order, each with
+    its number. `lines` is None if they can't be listed. `snapshot` is the keyring behind them, if that was wanted, and
+    always if `lines` is None."""
+    lines: tuple[tuple[int, bytes], ...] | None = ()
+    snapshot: Snapshot | None = None
+
+
+class Follower(Protocol):
+    """Hears of changes. One thread uses it at a time."""
+
+    def wait(self) -> Place:
+        """Waits until something is committed, half a second at most; gives the place of the last change. DatabaseFault
+        if nothing can be committed at present."""
+
+    def cut(self) -> None:
+        """Has another thread that waits meet a DatabaseFault."""
+
+    def close(self) -> None: ...
+
+
+@runtime_checkable
+class Shared(Database, Protocol):
+    """A database that other services change too. It remembers how far this service has read, and `apply` is called
+    within a turn only."""
+
+    @property
+    def place(self) -> Place:
+        """Behind the last change that this service has read, or made itself."""
+
+    def take_turn(self) -> News:
+        """Waits, up to a bound, until no other service may change anything; what they have changed is to be applied
+        before anything else. The turn ends with `apply`, or with `end_turn`."""
+
+    def end_turn(self) -> None:
+        """Lets other services have their turn."""
+
+    def news(self, has_snapshot: bool = False) -> News: ...
+
+    def follow(self) -> Follower: ...
+
+    def cut(self) -> None:
+        """Has what another thread does with it meet a DatabaseFault."""

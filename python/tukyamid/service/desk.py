@@ -22,6 +22,7 @@ from .reading import brought
 from .sliced import Sliced
 from .sliced_cursors import SlicedCursors
 from .sliced_watches import SlicedWatches
+from .turns import Begun
 from .views import Views
 from .watches import Watches
 
@@ -68,6 +69,16 @@ class Desk:
     def fault(self) -> str:
         """Why nothing can be committed at present; empty where all is well."""
         return self.held.fault
+
+    @property
+    def count(self) -> int | None:
+        """The number of the last change that all engines have; None of a sliced keyring."""
+        return self.held.count if isinstance(self.held, Hub) else None
+
+    @property
+    def age(self) -> float:
+        """For how many seconds changes of other services may have been missed."""
+        return self.held.age if isinstance(self.held, Hub) else 0.0
 
     @property
     def pids(self) -> list[int]:
@@ -121,22 +132,25 @@ class Desk:
         """A client's cursors."""
         return SlicedCursors(self.held, views) if isinstance(self.held, Sliced) else Cursors(self.held, views)
 
-    def change(self, line: bytes, actor: Actor, done: Done) -> None:
-        """Has a change made; `done` gets its reply once it is committed."""
+    def change(self, line: bytes, actor: Actor, done: Done, begun: Begun = lambda: None) -> None:
+        """Has a change made; `done` gets its reply once it is committed, and `begun` is called when it has its place in
+        the order of lines."""
         if self.is_turning:
-            self._later.append(partial(self.change, line, actor, done))
+            self._later.append(partial(self.change, line, actor, done, begun))
         elif isinstance(self.held, Sliced):
+            begun()
             self.held.change(line, actor, done)
         else:
-            self._change_whole(self.held, line, actor, done)
+            self._change_whole(self.held, line, actor, done, begun)
 
-    def _change_whole(self, hub: Hub, line: bytes, actor: Actor, done: Done) -> None:
+    def _change_whole(self, hub: Hub, line: bytes, actor: Actor, done: Done, begun: Begun) -> None:
         bound = _sum(self._bound, growth_of(line))
         if bound.fits(self._most) or hub.fault or not isinstance(self.database, HasParts):
             self._bound = bound
-            hub.change(line, actor, done)
+            hub.change(line, actor, done, begun)
             return
         self.is_turning = True
+        begun()
         self._task = asyncio.get_running_loop().create_task(self._turn(hub, line, actor, done))
 
     async def _turn(self, hub: Hub, line: bytes, actor: Actor, done: Done) -> None:
@@ -203,12 +217,15 @@ class Desk:
         else:
             self.held.ask(b"keys", done)
 
-    def snapshot(self, done: Callable[[Snapshot | None], None]) -> None:
-        """Asks for a snapshot of the keyring behind the changes so far."""
+    def snapshot(self, done: Callable[[Snapshot | None], None], begun: Begun = lambda: None) -> None:
+        """Asks for a snapshot of the keyring behind the changes so far; `begun` as with a change."""
         if self.is_turning:
-            self._later.append(partial(self.snapshot, done))
-        else:
+            self._later.append(partial(self.snapshot, done, begun))
+        elif isinstance(self.held, Sliced):
+            begun()
             self.held.snapshot(done)
+        else:
+            self.held.snapshot(done, begun)
 
 
 def growth_of(line: bytes) -> Sizes:

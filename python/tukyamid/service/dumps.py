@@ -10,24 +10,24 @@ from typing import BinaryIO
 
 from tukyamid.engine import Engine
 
-from .database import Actor, DatabaseFault
+from .database import Actor, Database, DatabaseFault
 from .sqlite import Sqlite
 
 _COMMANDS = (b"import ", b"verdict ")
 _PASSED_OVER = (b"view ", b"#", b"\n")
 
 
-def lines_of(database: Sqlite) -> Iterator[bytes]:
+def lines_of(database: Database) -> Iterator[bytes]:
     """The script that makes the keyring of a database."""
     with closing(database.snapshot()) as snapshot:
         yield from snapshot.lines()
 
 
-def import_dump(database: Sqlite, script: BinaryIO, name: str, program: Sequence[str]) -> int:
+def import_dump(database: Database, script: BinaryIO, name: str, program: Sequence[str]) -> int:
     """Has an engine merge a script with what the database holds, and puts the union there; gives the number of the
     change. DatabaseFault where a line is refused; then nothing is changed."""
     with Engine(list(program)) as engine:
-        _feed(engine, lines_of(database), f"the database {database.path}")
+        _feed(engine, lines_of(database), f"the database {database.name}")
         _feed(engine, _checked(script, name), name)
         return database.fill(engine.dump(), f"import-dump {name}", Actor(os.getuid(), os.getpid()))
 

@@ -8,14 +8,18 @@ from functools import partial
 
 from .access import Access
 from .committing import FAULT, Barrier, Committer
-from .database import Actor, Database, PutCertificate, Snapshot
+from .database import Actor, Database, News, Shared, Snapshot
 from .engine import Engine
+from .importing import exported_as
 from .journal import Change, Done, Journal, Point
 from .reading import brought
 from .seats import Seats
+from .sending import ignore
+from .turns import Begun, Turns, Waiting
 
 _BUSY_SECONDS = 0.05
 _RENEWING_SECONDS = 1.0
+_COPIED = 16  # A snapshot of a shared database is a copy, so it is renewed less often.
 
 
 class Hub:
@@ -32,6 +36,7 @@ class Hub:
         self._most_engines = most_engines
         self._committer = Committer(database, self.access.writing, self._release, self._roll_back)
         self._journal: Journal | None = None
+        self._turns: Turns | None = None
         self._is_renewing = False
 
     @property
@@ -45,6 +50,11 @@ class Hub:
         return self._committer.count
 
     @property
+    def age(self) -> float:
+        """For how many seconds changes of other services may have been missed."""
+        return self._turns.age if self._turns is not None else 0.0
+
+    @property
     def pids(self) -> list[int]:
         return [engine.pid for engine in self.engines if engine.pid is not None]
 
@@ -55,12 +65,16 @@ class Hub:
         self._committer.count = snapshot.change
         self._journal = Journal(snapshot)
         await self._start_engine().ready
+        if isinstance(self.access.database, Shared):
+            self._turns = Turns(self.access.database, self.access.writing, self._committer, self)
 
     async def close(self) -> None:
         """Ends the engines. What was handed in is answered first, and so is committed."""
         await asyncio.gather(*(engine.close() for engine in self.engines))
         while self._committer.is_busy:
             await asyncio.sleep(0.01)
+        if self._turns is not None:
+            await self._turns.close()
         if self._journal is not None:
             self._journal.close()
         if self._owns_access:
@@ -74,12 +88,21 @@ class Hub:
     def tell(self, text: str) -> None:
         self.access.tell(text)
 
-    def change(self, line: bytes, actor: Actor, done: Done) -> None:
-        """Sends a change to all engines; `done` gets its reply once all have answered and it is committed."""
-        assert self._journal is not None
+    def change(self, line: bytes, actor: Actor, done: Done, begun: Begun = lambda: None) -> None:
+        """Has a change made; `done` gets its reply once all engines have answered and it is committed. `begun` is
+        called when it is sent to them: at once, unless it waits for its turn at a shared database."""
+        if self._turns is not None:
+            self._turns.change(Waiting(line, actor, done, begun))
+            return
+        begun()
         if self._committer.refuses():
             done(FAULT, self.count)
-            return
+        else:
+            self.send_change(line, actor, done)
+
+    def send_change(self, line: bytes, actor: Actor, done: Done) -> None:
+        """Sends a change to all engines, and hands it to the committer."""
+        assert self._journal is not None
         change = self._journal.add(line, set(self.engines), actor, brought(line), done)
         self._committer.add(change)
         for engine in self.engines:
@@ -91,9 +114,33 @@ class Hub:
         """Sends a line that is no view's, and changes nothing, to the engine that has the least to do."""
         self._least_busy().send(line, done)
 
-    def snapshot(self, done: Callable[[Snapshot | None], None]) -> None:
-        """Asks for a snapshot of the keyring behind the changes so far."""
-        self._committer.add(Barrier(done))
+    def snapshot(self, done: Callable[[Snapshot | None], None], begun: Begun = lambda: None) -> None:
+        """Asks for a snapshot of the keyring behind the changes so far; of a shared database, also behind later ones.
+        `begun` is called when its place among them is known."""
+        if self._turns is not None:
+            self._turns.snapshot(Barrier(done, begun=begun))
+        else:
+            begun()
+            self._committer.add(Barrier(done))
+
+    def take_news(self, news: News) -> None:
+        """Has all engines take what other services have changed. Nothing is under way in them that isn't committed."""
+        assert self._journal is not None
+        if news.lines is None:
+            assert news.snapshot is not None
+            self._committer.count = news.snapshot.change
+            point = self._journal.begin_anew(news.snapshot)
+            for engine in self.engines:
+                engine.roll_back(point)
+            return
+        for number, line in news.lines:
+            self.access.note(0, line)
+            change = self._journal.add_committed(line, set(self.engines), number, ignore)
+            self._committer.count = number
+            for engine in self.engines:
+                engine.send(line, ignore, change)
+        if news.lines:
+            self._release()
 
     def withdraw_where_all_are_stuck(self, change: Change) -> None:
         """A change that ends every program, and that none has answered, is withdrawn from all."""
@@ -139,7 +186,7 @@ class Hub:
     def _exported(self, change: Change, fpr: bytes, reply: bytes | None, _: int) -> None:
         if change.count is not None:
             return  # It was refused meanwhile.
-        change.puts[fpr] = _exported_as(fpr, reply or b"")
+        change.puts[fpr] = exported_as(fpr, reply or b"")
         if change.is_settled:
             self._committer.advance()
 
@@ -148,24 +195,28 @@ class Hub:
         for engine in self.engines:
             engine.release()
         self._settle()
-        if self._journal.is_long() and not self._is_renewing:
+        if self._journal.is_long(_COPIED if self._turns is not None else 1) and not self._is_renewing:
             self._renew()
 
     def _renew(self) -> None:
         """Has a newer snapshot made behind the changes so far. By then all engines have answered these."""
         assert self._journal is not None
         self._is_renewing = True
-        self._committer.add(Barrier(partial(self._renewed, self._journal.last), self._journal.lend))
+        if self._turns is not None:
+            self._turns.snapshot(Barrier(partial(self._renewed, None)))
+        else:
+            self._committer.add(Barrier(partial(self._renewed, self._journal.last), self._journal.lend))
 
     def _settle(self) -> None:
         assert self._journal is not None
         self._journal.settle(min(engine.point.place for engine in self.engines))
 
-    def _renewed(self, point: Point, snapshot: Snapshot | None) -> None:
+    def _renewed(self, point: Point | None, snapshot: Snapshot | None) -> None:
+        """Takes a snapshot behind this point; of a shared database it is behind all changes so far."""
         self._is_renewing = False
         assert self._journal is not None
         if snapshot is not None:
-            self._journal.offer(point, snapshot)
+            self._journal.offer(point or self._journal.last, snapshot)
             self._settle()
         elif not self._journal.is_there:  # It was lent, and engines may wait for it.
             self._is_renewing = True
@@ -179,11 +230,3 @@ class Hub:
             self._journal.forget(change)
         for engine in self.engines:
             engine.roll_back(failed[-1])
-
-
-def _exported_as(fpr: bytes, reply: bytes) -> PutCertificate | None:
-    """The certificate that an engine exports; None where it has none."""
-    try:
-        return PutCertificate(fpr, bytes.fromhex(reply[7:-1].decode())) if reply.startswith(b"export ") else None
-    except ValueError:
-        return None

@@ -16,6 +16,8 @@ if TYPE_CHECKING:
 MOST_OCTETS = 1 << 20
 MOST_CHANGES = 2_000
 
+_NOBODY = Actor(0, 0)
+
 # A reply, or None where the line was given up; and the number of the last change before it.
 Done = Callable[["bytes | None", int], None]
 
@@ -74,14 +76,15 @@ class Change(Point):
             puts = tuple(put for put in self.puts.values() if put is not None)
             if not puts:
                 raise database.DatabaseFault("the engine exported nothing of what it took")
-            return database.Change(" ".join(["import", *(put.fpr.hex() for put in puts)]), self.actor, puts)
+            what = " ".join(["import", *(put.fpr.hex() for put in puts)])
+            return database.Change(what, self.actor, puts, self.line)
         if word == b"drop":
             fpr = bytes.fromhex(rest.decode())
-            return database.Change(f"drop {fpr.hex()}", self.actor, (database.DropCertificate(fpr),))
+            return database.Change(f"drop {fpr.hex()}", self.actor, (database.DropCertificate(fpr),), self.line)
         number, _, said = rest.lower().decode().partition(" ")
         issuer = database.BAD if said == "bad" else bytes.fromhex(said[5:]) if said != "none" else None
         return database.Change(f"verdict {number} {said}", self.actor,
-                               (database.SetVerdict(bytes.fromhex(number), issuer),))
+                               (database.SetVerdict(bytes.fromhex(number), issuer),), self.line)
 
 
 class Journal:
@@ -114,6 +117,20 @@ class Journal:
         self._octets += len(line)
         return change
 
+    def add_committed(self, line: bytes, left: set[Engine], number: int, done: Done) -> Change:
+        """A change that another service has committed. Its engine answered it, so it is never withdrawn here."""
+        change = self.add(line, left, _NOBODY, (), done)
+        change.count, change.reply = number, b"ok\n"
+        return change
+
+    def begin_anew(self, snapshot: database.Snapshot) -> Point:
+        """Has this snapshot stand for all changes so far, and gives its place."""
+        self._first = Point(self.last.place + 1, snapshot.change)
+        self._snapshot, self._offered = snapshot, None  # What still reads the old one has its own hold on it.
+        self._changes.clear()
+        self._octets = 0
+        return self._first
+
     def forget(self, change: Change) -> None:
         """A change that was refused, withdrawn, or couldn't be committed is nothing to a new engine."""
         self._octets -= len(change.line or b"")
@@ -145,9 +162,9 @@ class Journal:
         self.is_there = False
         return self._snapshot
 
-    def is_long(self) -> bool:
-        """Whether a newer snapshot is worth its making."""
-        return self._octets > MOST_OCTETS or len(self._changes) > MOST_CHANGES
+    def is_long(self, cost: int = 1) -> bool:
+        """Whether a newer snapshot is worth its making; `cost` is how much dearer that is than opening one."""
+        return self._octets > cost * MOST_OCTETS or len(self._changes) > cost * MOST_CHANGES
 
     def offer(self, point: Point, snapshot: database.Snapshot) -> None:
         if self._offered is not None:

@@ -90,13 +90,18 @@ class Keyrings:
 
     async def watch(self) -> None:
         """Looks after the keyrings, for ever."""
+        told = ""
         while True:
             try:
                 for source in await self._hub.find(lambda finder: finder.sources()):
                     async with self._lock:
                         await self._look_after(source.name)
+                told = ""
             except Exception as error:  # Whatever it was, the keyrings are looked after again.
-                self._hub.tell(str(error) if isinstance(error, (DatabaseFault, OSError)) else repr(error))
+                said = str(error) if isinstance(error, (DatabaseFault, OSError)) else repr(error)
+                if said != told:
+                    self._hub.tell(said)
+                told = said
             await asyncio.sleep(_PAUSE)
 
     async def _look_after(self, name: str) -> None:

@@ -17,8 +17,9 @@ _MOST_CERTIFICATES = 1024
 
 
 class Lane:
-    def __init__(self, make: Callable[[list[Change]], Awaitable[None]]) -> None:
+    def __init__(self, make: Callable[[list[Change]], Awaitable[None]], tell: Callable[[str], None]) -> None:
         self._make = make
+        self._tell = tell
         self._queue: deque[Change | Turn] = deque()
         self._woken = asyncio.Event()
         self._is_closing = False
@@ -40,13 +41,19 @@ class Lane:
                 self._woken.clear()
                 await self._woken.wait()
                 continue
-            changes = list(self._next_changes())
-            if changes:
-                await self._make(changes)
-                continue
-            turn = self._queue.popleft()
-            assert not isinstance(turn, Change)
-            await turn()
+            try:
+                await self._do_next()
+            except Exception as error:  # Whatever one line meets, the others go on.
+                self._tell(repr(error))
+
+    async def _do_next(self) -> None:
+        changes = list(self._next_changes())
+        if changes:
+            await self._make(changes)
+            return
+        turn = self._queue.popleft()
+        assert not isinstance(turn, Change)
+        await turn()
 
     def _next_changes(self) -> Iterator[Change]:
         """The changes at the beginning. One that brings what another drops begins others: it has to meet it dropped."""

@@ -65,7 +65,8 @@ class Service:
                                                      sock=door.listening.socket, backlog=BACKLOG) for door in doors]
             notify("READY=1")
             self._last_used = loop.time()
-            beside = [loop.create_task(self._look_around()), loop.create_task(self._keyrings.watch())]
+            beside = [loop.create_task(work) for work in (
+                self._look_around(), self._keyrings.watch(), self._answering.learn(self._hub))]
             await self._end.wait()
             notify("STOPPING=1")
             await self._take_no_more(servers)
@@ -137,7 +138,8 @@ class Service:
         return [("budget", self._hub.budget), ("loaded", "all" if loaded is None else loaded),
                 ("engines", len(pids)), ("memory", sum(map(_resident, [os.getpid(), *pids]))),
                 ("clients", len(self._sessions)), ("process", os.getpid()),
-                ("database", self._hub.database.name), ("state", self._hub.fault or "ok")]
+                ("database", self._hub.database.name), ("state", self._hub.fault or "ok"),
+                ("age", int(self._hub.age))]
 
 
 def _resident(pid: int) -> int:

@@ -15,23 +15,14 @@ from .committing import FAULT
 from .cursors import Cursors
 from .database import Actor, Snapshot
 from .framing import LineCutter
-from .long_replies import dump_of
+from .kinds import ALONE, CHANGES, MAY_CHANGE, OF_A_VIEW, OF_THE_DIRECTORY, OF_THE_KEYRING
 from .desk import Desk
+from .long_replies import dump_of
 from .outbox import Outbox, Pieces, Slot
 from .peers import NOBODY, actor_of
 from .sliced import Sliced
 from .views import Views, is_name
 from .watches import Watches
-
-# A command is added here. One that the service doesn't know is refused, as by an engine that doesn't: so none is passed
-# on that changes an engine, or names what is another client's, behind the service's back.
-CHANGES = frozenset((b"import", b"drop", b"verdict"))
-OF_A_VIEW = frozenset((b"ask", b"list", b"explain", b"absence", b"check"))
-OF_THE_KEYRING = frozenset((b"keys", b"pending", b"export"))
-OF_THE_DIRECTORY = frozenset((b"load", b"store"))
-# Lines that are under way alone: their replies are long, or what they do takes more than one step.
-ALONE = OF_THE_KEYRING | OF_THE_DIRECTORY | {b"list", b"explain", b"absence", b"dump", b"cursor", b"service"}
-MAY_CHANGE = CHANGES | OF_THE_DIRECTORY
 
 REFUSED_LINE = b"refused line\n"
 REFUSED_LONG = b"refused long\n"
@@ -70,6 +61,7 @@ class Session(asyncio.Protocol):
         self._cutter = LineCutter()
         self._lines: deque[bytes | None] = deque()
         self._views = Views(rights.most_views)
+        self._waiting_changes = 0
         self._is_beginning = False
         self._is_ended = False
         self._is_paused = False
@@ -156,7 +148,7 @@ class Session(asyncio.Protocol):
         if self.outbox.is_done:
             return True
         word = line.partition(b" ")[0]
-        if word in ALONE or not slots or slots[-1].word in ALONE:
+        if word in ALONE or not slots or slots[-1].word in ALONE or self._waiting_changes and word not in CHANGES:
             return False
         if word == b"watch" and any(slot.word == b"watch" for slot in slots):
             return False
@@ -172,11 +164,16 @@ class Session(asyncio.Protocol):
         if word in OF_THE_DIRECTORY and self.rights.may_change or word == b"service":
             self._task = asyncio.get_running_loop().create_task(self._help(slot, line))
             return
+        if word in CHANGES and self.rights.may_change:
+            self._waiting_changes += 1
+            self.hub.change(line, self.actor, partial(self._answered, slot), partial(self._begun, line))
+            return
+        if line == b"dump":
+            self._dump(slot, line)
+            return
         self.hub.note(self.number, line)
         if word in MAY_CHANGE and not self.rights.may_change:
             self.outbox.answer(slot, REFUSED_READ_ONLY)
-        elif word in CHANGES:
-            self.hub.change(line, self.actor, partial(self._answered, slot))
         elif word in OF_A_VIEW:
             self._ask_view(slot, line)
         elif line == b"keys":
@@ -185,14 +182,18 @@ class Session(asyncio.Protocol):
             self.hub.ask(line, partial(self._answered, slot))
         elif word == b"view":
             self._take_view(slot, line)
-        elif word == b"dump":
-            self._dump(slot, line)
         elif word == b"watch":
             self.watches.begin(slot, line, partial(self._answered, slot))
         elif word == b"cursor":
             self.cursors.begin(slot, line, partial(self._answered, slot))
         else:
             self.outbox.answer(slot, REFUSED_LINE)
+
+    def _begun(self, line: bytes) -> None:
+        """A change has its place in the order, and so lines behind it may."""
+        self._waiting_changes -= 1
+        self.hub.note(self.number, line)
+        self._begin_lines()
 
     def _answered(self, slot: Slot, reply: bytes | Pieces | None, count: int) -> None:
         try:
@@ -221,11 +222,9 @@ class Session(asyncio.Protocol):
             self.outbox.answer(slot, reply)
 
     def _dump(self, slot: Slot, line: bytes) -> None:
-        if line != b"dump":
-            self.outbox.answer(slot, REFUSED_LINE)
-            return
         views = list(self._views.lines())
-        self.hub.snapshot(lambda snapshot: self._dumped(slot, snapshot, views))
+        self.hub.snapshot(lambda snapshot: self._dumped(slot, snapshot, views),
+                          partial(self.hub.note, self.number, line))
 
     def _dumped(self, slot: Slot, snapshot: Snapshot | None, views: list[bytes]) -> None:
         try:

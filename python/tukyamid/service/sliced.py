@@ -49,7 +49,7 @@ class Sliced:
         self._committer = Committer(access.database, access.writing, self._settle, self._refused)
         self._making: list[Change] = []
         self._over = asyncio.Event()
-        self._lane = Lane(self._make)
+        self._lane = Lane(self._make, access.tell)
 
     @property
     def fault(self) -> str:
@@ -192,8 +192,8 @@ class Sliced:
     async def _make(self, changes: list[Change]) -> None:
         try:
             await self._merging.take(changes, self.read)
-        except DatabaseFault as fault:
-            self.access.tell(str(fault))
+        except Exception as error:
+            self.access.tell(str(error) if isinstance(error, DatabaseFault) else repr(error))
             for change in changes:
                 change.finish(FAULT, self.count)
             return
@@ -217,7 +217,7 @@ class Sliced:
         self._settle()
 
     async def _follow(self, made: list[Change]) -> None:
-        """Behind a commit: what has changed is loaded again when it is needed, and watches that rest on it report it."""
+        """After a commit: what changed is loaded again when it is needed, and watches that rest on it report it."""
         try:
             touched, reached = await self.read(partial(self._touched, made))
             await self._asker.loader.forget(touched)
@@ -234,4 +234,5 @@ class Sliced:
         for change in made:
             number = judged(change)
             touched.update(fpr for fpr in (dropped(change), number and parts.certificate_of(number)) if fpr)
-        return touched, set(self._asker.slices.change(touched, parts))
+        unknown = {roots for roots in self.watched.roots() if self._asker.slices.kept(roots) is None}
+        return touched, unknown | set(self._asker.slices.change(touched, parts))

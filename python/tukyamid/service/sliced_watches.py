@@ -42,6 +42,10 @@ class Watched:
         self._sliced = sliced
         self.watches: set[Watch] = set()
 
+    def roots(self) -> set[tuple[bytes, ...]]:
+        """The roots of all views that are watched."""
+        return {roots_of(watch.value) for watch in self.watches}
+
     async def change(self, touched: Collection[bytes], reached: Collection[tuple[bytes, ...]]) -> None:
         """Looks at those of changed certificates, and at those whose slice was reached."""
         for watch in sorted(self.watches, key=lambda one: one.name):

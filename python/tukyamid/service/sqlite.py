@@ -13,7 +13,7 @@ from .database import Actor, Change, DatabaseFault, Snapshot, Source
 from .looking import SqliteFinder, SqliteSnapshot
 from .sqlite_parts import SqliteParts
 from .whole import sync_folder
-from .writing import Writing, compare
+from .writing import EVERY_CERTIFICATE, Writing, compare
 
 _BUSY_SECONDS = 10.0
 _LOG_OCTETS = 64 << 20
@@ -165,7 +165,7 @@ class Sqlite:
         wrong = [str(row[0]) for row in self._connection.execute("PRAGMA integrity_check") if row[0] != "ok"]
         wrong += [f"a row of {row[0]} names what isn't there in {row[2]}"
                   for row in self._connection.execute("PRAGMA foreign_key_check")]
-        return wrong or list(compare(self._connection))
+        return wrong or list(compare(self._connection, self._connection.execute(EVERY_CERTIFICATE)))
 
     @faults
     def backup(self, path: Path) -> None:

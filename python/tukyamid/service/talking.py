@@ -18,7 +18,7 @@ class EngineGone(Exception):
 
 
 class Talk:
-    """Starts the program when there is something to say, and another one after its end."""
+    """Starts the program when there is something to say; and another one after its end, once that was noticed."""
 
     def __init__(self, program: Sequence[str]) -> None:
         self._program = program
@@ -63,7 +63,9 @@ class Talk:
         return replies
 
     async def _started(self) -> asyncio.subprocess.Process:
-        if self._process is None or self._process.returncode is not None:
+        if self._process is not None and self._process.returncode is not None:
+            raise EngineGone(f"status {self._process.returncode}")  # Another one doesn't hold what this one held.
+        if self._process is None:
             self._cutter, self._replies = ReplyCutter(), deque()
             self._process = await asyncio.create_subprocess_exec(
                 *self._program, stdin=asyncio.subprocess.PIPE, stdout=asyncio.subprocess.PIPE, limit=_PIECE)

@@ -1,7 +1,8 @@
-"""What changes do to the tables of the SQLite database, within one transaction."""
+"""What changes do to the tables of a database, within one transaction. The statements are those that SQLite and
+PostgreSQL understand alike."""
 
-import sqlite3
-from collections.abc import Iterable, Iterator
+from collections.abc import Iterable, Iterator, Sequence
+from typing import Any, Protocol
 
 from .database import Change, DropCertificate, Effect, PutCertificate, SetVerdict
 from .reading import Described, describe
@@ -10,10 +11,26 @@ CERTIFIED = ("SELECT issuer, certificate, max(depth) FROM verdicts "
              "WHERE certificate IS NOT NULL AND length(issuer) > 0")
 
 
+class Rows(Protocol):
+    """What a statement has found."""
+
+    def fetchone(self) -> Any: ...
+
+    def fetchall(self) -> Any: ...
+
+
+class Statements(Protocol):
+    """Does statements, whose values stand as `?` in them."""
+
+    def execute(self, statement: str, values: Sequence[Any] = (), /) -> Rows: ...
+
+    def executemany(self, statement: str, values: Iterable[Sequence[Any]], /) -> object: ...
+
+
 class Writing:
     """Changes within one transaction."""
 
-    def __init__(self, connection: sqlite3.Connection) -> None:
+    def __init__(self, connection: Statements) -> None:
         self._connection = connection
         self._number = int(connection.execute("SELECT coalesce(max(number), 0) FROM changes").fetchone()[0])
         self._touched: set[int] = set()
@@ -57,7 +74,7 @@ class Writing:
         row = self._connection.execute(
             "INSERT INTO certificates (fingerprint, key_id, octets, change) VALUES (?, ?, ?, ?) "
             "ON CONFLICT (fingerprint) DO UPDATE SET octets = excluded.octets, change = excluded.change "
-            "WHERE octets <> excluded.octets RETURNING id",
+            "WHERE certificates.octets <> excluded.octets RETURNING id",
             (described.fpr, described.key_id, octets, self._number + 1)).fetchone()
         if row is None:
             return False
@@ -105,9 +122,12 @@ class Writing:
         self._touched.clear()
 
 
-def compare(connection: sqlite3.Connection) -> Iterator[str]:
-    """Where the tables say something else than the certificates' octets."""
-    for place, fpr, octets in connection.execute("SELECT id, fingerprint, octets FROM certificates"):
+EVERY_CERTIFICATE = "SELECT id, fingerprint, octets FROM certificates"
+
+
+def compare(connection: Statements, certificates: Iterable[tuple[Any, ...]]) -> Iterator[str]:
+    """Where the tables say something else than the octets of these rows, which are those of `EVERY_CERTIFICATE`."""
+    for place, fpr, octets in certificates:
         try:
             described = describe(octets)
         except (ValueError, IndexError) as error:
@@ -116,13 +136,18 @@ def compare(connection: sqlite3.Connection) -> Iterator[str]:
         if described.fpr != fpr:
             yield f"the certificate {fpr.hex()} is that of {described.fpr.hex()}"
         user_ids = connection.execute("SELECT user_id, address FROM user_ids WHERE certificate = ?", (place,))
-        if dict(user_ids.fetchall()) != described.user_ids:
+        if {user_id: _text(address) for user_id, address in user_ids.fetchall()} != described.user_ids:
             yield f"the user IDs of {fpr.hex()} aren't those of its octets"
         signatures = connection.execute("SELECT number, depth FROM verdicts WHERE certificate = ?", (place,))
         if dict(signatures.fetchall()) != described.signatures:
             yield f"the signatures of {fpr.hex()} aren't those of its octets"
     kept, wanted = "SELECT issuer, target, depth FROM certifications", f"{CERTIFIED} GROUP BY issuer, certificate"
     for one, other in ((kept, wanted), (wanted, kept)):
-        if connection.execute(f"SELECT 1 FROM ({one} EXCEPT {other}) LIMIT 1").fetchone():
+        if connection.execute(f"SELECT 1 FROM ({one} EXCEPT {other}) AS other LIMIT 1").fetchone():
             yield "the certifications aren't those of the verdicts"
             return
+
+
+def _text(address: object) -> object:
+    """An address as text; PostgreSQL keeps its octets."""
+    return address.decode() if isinstance(address, bytes) else address

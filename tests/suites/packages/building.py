@@ -11,10 +11,9 @@ from concurrent.futures import ThreadPoolExecutor
 from pathlib import Path
 
 import plain
+import verifier
 
 TOOL = plain.ROOT / "tools" / "package"
-VERIFIER = Path(os.environ.get("TUKYAMID_VERIFIER") or plain.ROOT / "verifier" / "out" / "wot-verdicts")
-HAS_VERIFIER = os.access(VERIFIER, os.X_OK)
 TOOLCHAIN = "the tests' own words"
 TESTING = ["lintian", "mmdebstrap", "zsh", "groff"]
 
@@ -45,8 +44,9 @@ def package(out, *words, **settings):
 
 
 def build(name, **settings):
-    verifier = ["--verifier", VERIFIER] if HAS_VERIFIER else ["--without-verifier"]
-    done = package(folder() / name, "--engine", plain.PROGRAM, "--toolchain", TOOLCHAIN, *verifier, **settings)
+    path = verifier.built()
+    words = ["--verifier", path] if path else ["--without-verifier"]
+    done = package(folder() / name, "--engine", plain.PROGRAM, "--toolchain", TOOLCHAIN, *words, **settings)
     if done.returncode != 0:
         raise AssertionError(f"tools/package ended with status {done.returncode}: {done.stderr[-3000:]}")
     return folder() / name
@@ -59,6 +59,7 @@ def both():
         raise unittest.SkipTest(f"the engine isn't built: {plain.PROGRAM}")
     if not installed(needed()):
         raise unittest.SkipTest(f"packages are missing: apt-get install {' '.join(needed())}")
+    verifier.built()  # Before both builds, which use it.
     other = {"TZ": "Asia/Kathmandu", "LC_ALL": "C", "PYTHONHASHSEED": "7", "TMPDIR": str(folder())}
     with ThreadPoolExecutor() as pool:
         one = pool.submit(build, "one")

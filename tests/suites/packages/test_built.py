@@ -10,6 +10,7 @@ import unittest
 
 import building
 import plain
+import verifier
 
 VERSION = re.search(r'^VERSION = "([0-9.]+)"$', (plain.ROOT / "python/tukyamid/version.py").read_text(), re.M).group(1)
 
@@ -64,7 +65,7 @@ class Built(unittest.TestCase):
                                 "lib/systemd/system/tukyamid.socket", "usr/lib/systemd/user/tukyamid.service",
                                 "usr/lib/systemd/user/tukyamid.socket"],
         }
-        if building.HAS_VERIFIER:
+        if verifier.built():
             expected["tukyamid-verifier"] = ["usr/bin/wot-verdicts", "usr/share/man/man1/wot-verdicts.1.gz"]
         self.assertEqual(set(building.packages()), set(expected))
         for name, files in expected.items():

@@ -14,6 +14,7 @@ from pathlib import Path
 
 import building
 import plain
+import verifier
 
 HERE = Path(__file__).resolve().parent
 SOURCES = [Path("/etc/apt/sources.list"), *sorted(Path("/etc/apt/sources.list.d").glob("*.sources"))]
@@ -88,10 +89,10 @@ class FreshRoot(unittest.TestCase):
                                                rf"engine proved by {building.TOOLCHAIN}\n")
 
     def test_the_doctor(self):
-        self.assert_ended("doctor", 0 if building.HAS_VERIFIER else 3)
+        self.assert_ended("doctor", 0 if verifier.built() else 3)
         said = self.said("doctor")
         self.assertRegex(said, r"\[ok\] +engine +/usr/bin/tukyamid-engine answers\n")
-        self.assertRegex(said, r"\[ok\] +verifier +/usr/bin/wot-verdicts is wot-verdicts " if building.HAS_VERIFIER
+        self.assertRegex(said, r"\[ok\] +verifier +/usr/bin/wot-verdicts is wot-verdicts " if verifier.built()
                          else r"\[missing\] +verifier .*\n +mend it with: apt install tukyamid-verifier\n")
         self.assertRegex(said, r"\[note\] +gpg .*\n +mend it with: apt install gnupg\n")
 
@@ -99,8 +100,8 @@ class FreshRoot(unittest.TestCase):
         self.assert_ended("quickstart")
 
     def test_an_answer_about_debian_keyring(self):
-        if not building.HAS_VERIFIER:
-            self.skipTest("the verifier isn't built, so nothing can be verified there")
+        if not verifier.built():
+            self.skipTest("the verifier can't be built, so nothing can be verified there")
         names = "keyring", "answer", "page", "end"
         for name in names:
             self.assert_ended(name)

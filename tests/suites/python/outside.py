@@ -11,6 +11,9 @@ import unittest
 from pathlib import Path
 
 HERE = Path(__file__).resolve().parent
+sys.path.insert(0, str(HERE.parents[1]))
+from verifier import built as verifier_built  # noqa: E402, F401
+
 ROOT = Path(os.environ.get("WOT_ROOT") or HERE.parents[2])
 CLIENT = ROOT / "python"
 COMMAND = CLIENT / "bin" / "tukyamid"
@@ -53,18 +56,3 @@ def installed(program, package):
         words = ["apt-get", "-o", "DPkg::Lock::Timeout=300", "install", "-y", "--no-install-recommends", package]
         subprocess.run(words, capture_output=True, stdin=subprocess.DEVNULL, check=False)
     return shutil.which(program)
-
-
-@functools.cache
-def verifier_built():
-    """The path of the verifier: the one that TUKYAMID_VERIFIER names, else the repository's own, which is built if that
-    isn't done yet; None if packages are missing."""
-    named = os.environ.get("TUKYAMID_VERIFIER")
-    if named:
-        return Path(named)
-    folder = ROOT / "verifier"
-    words = [folder / "build", *([] if os.environ.get("WOT_NO_APT") else ["--yes"])]
-    done = subprocess.run(words, stdin=subprocess.DEVNULL, capture_output=True, text=True, check=False)
-    if done.returncode not in (0, 69):
-        raise AssertionError(f"verifier/build ended with status {done.returncode}: {done.stderr}")
-    return folder / "out" / "wot-verdicts" if done.returncode == 0 else None

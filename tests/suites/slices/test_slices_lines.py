@@ -127,7 +127,7 @@ class Budgets(unittest.TestCase):
         self.assertRegex(self.client.tell(b"import " + octets[:-10].hex().encode()), b"^ok taken 10 ")
 
     def test_watches(self):
-        """What rests on a change is reported: on the target, on a member of the slice, and on whom a new member brings."""
+        """Changes are reported that concern the target, a member of the slice, or what a new member brings in."""
         with Client(self.server.path) as other:
             self.assertEqual(self.client.tell(b"watch w on p %s 120 %s" % (self.chain.fprs[9], self.chain.user_ids[9])),
                              b"watch w amount 120")
@@ -165,6 +165,10 @@ class Growing(unittest.TestCase):
             self.assertEqual(first[1:] + rest[1:], alone([*chain.lines[:-4], *chain.view(0), b"list p 120"])[-1]
                              .splitlines()[1:])
             tell_all(client, chain.lines[-4:])
+            verdict = chain.certify(1, 0, bytes([3, 5, 200, 120]))[1]
+            for line, amount in ((verdict.rpartition(b" good ")[0] + b" bad", b"0"), (verdict, b"120")):
+                self.assertEqual(client.tell(line), b"ok")
+                self.assertEqual(client.read_line(), b"watch w amount " + amount)
             self.assertEqual(client.tell(b"drop " + chain.fprs[3]), b"ok")
             self.assertEqual(client.read_line(), b"watch w amount 0")
             self.assertEqual(client.tell(b"keys"), b"keys 11")

@@ -12,7 +12,7 @@ from typing import Any
 
 from outside import ROOT, run
 
-PARTS = ("gate", "checks", "suites", "edits", "scripts", "mutants", "memory", "benches")
+PARTS = ("gate", "checks", "suites", "edits", "scripts", "mutants", "slices", "memory", "benches")
 PACKAGE = """#!/bin/sh
 mkdir -p "$2" && cat python/tukyamid/version.py > "$2/tukyamid.deb" && echo "$@" > "$2/words"
 """

@@ -1,0 +1,166 @@
+"""Connections to PostgreSQL: to the primary among several servers, or to any of them."""
+
+import contextlib
+import os
+import select
+import socket
+from collections.abc import Callable, Iterable, Iterator, Sequence
+from typing import Any, Concatenate, ParamSpec, Protocol, TypeVar
+
+import psycopg
+from psycopg.conninfo import conninfo_to_dict, make_conninfo
+
+from ..database import DatabaseFault
+from ..writing import Rows
+
+# A server that says nothing is given up after some seconds, and one that holds others' changes up is too.
+_SETTINGS = {
+    "application_name": "tukyamid", "client_encoding": "UTF8", "connect_timeout": "2", "keepalives_idle": "2",
+    "keepalives_interval": "1", "keepalives_count": "3", "tcp_user_timeout": "5000",
+    "options": "-c lock_timeout=10s -c idle_in_transaction_session_timeout=30s",
+}
+_SYNCHRONOUS = ("SELECT set_config('synchronous_commit', 'on', false) "
+                "WHERE current_setting('synchronous_commit') NOT IN ('on', 'remote_apply')")
+_OF_A_SERVER = ("host", "hostaddr", "port")
+
+_P = ParamSpec("_P")
+_R = TypeVar("_R")
+
+
+class Faulty(Protocol):
+    """What meets errors of PostgreSQL's."""
+
+    @property
+    def name(self) -> str: ...
+
+    def disconnect(self) -> None: ...
+
+
+_F = TypeVar("_F", bound=Faulty)
+
+
+def text_of(error: BaseException) -> str:
+    """An error of PostgreSQL's in one line: its first, since the others say what may help a user of psql."""
+    return next(iter(str(error).strip().splitlines()), type(error).__name__)
+
+
+def faults(call: Callable[Concatenate[_F, _P], _R]) -> Callable[Concatenate[_F, _P], _R]:
+    """Has what PostgreSQL meets raised as a DatabaseFault, with the database's name. The next call connects again."""
+    def guarded(self: _F, /, *words: _P.args, **named: _P.kwargs) -> _R:
+        try:
+            return call(self, *words, **named)
+        except (psycopg.Error, OSError) as error:
+            self.disconnect()
+            raise DatabaseFault(f"{self.name}: {text_of(error)}") from None
+        except DatabaseFault:
+            self.disconnect()
+            raise
+    return guarded
+
+
+class Servers:
+    """The servers that a URL names. The one that was found last is tried first."""
+
+    def __init__(self, url: str) -> None:
+        try:
+            given = {name: str(value) for name, value in conninfo_to_dict(url).items()}
+        except psycopg.Error as error:
+            raise DatabaseFault(f"the database's URL is wrong: {text_of(error)}") from None
+        several = {name: given.pop(name).split(",") for name in _OF_A_SERVER if name in given}
+        self._settings = {**_SETTINGS, **given}
+        count = max(map(len, several.values()), default=1)
+        if any(len(values) not in (1, count) for values in several.values()):
+            raise DatabaseFault("the database's URL has not as many ports as hosts")
+        self._servers = [{name: values[place % len(values)] for name, values in several.items()}
+                         for place in range(count)]
+        where = ",".join(":".join(filter(None, (one.get("host") or one.get("hostaddr", ""), one.get("port"))))
+                         for one in self._servers)
+        self.name = f"postgresql://{where}/{given.get('dbname', '')}"
+
+    def connect(self, is_primary: bool) -> "Wire":
+        """A connection to the primary, or to any server; DatabaseFault if there is none."""
+        told = []
+        for server in list(self._servers):
+            wanted = "read-write" if is_primary else "any"
+            try:
+                connection: psycopg.Connection[Any] = psycopg.connect(
+                    make_conninfo(**{**self._settings, **server, "target_session_attrs": wanted}), autocommit=True)
+                connection.execute(_SYNCHRONOUS)
+            except psycopg.Error as error:
+                told.append(text_of(error))
+                continue
+            self._servers.remove(server)
+            self._servers.insert(0, server)
+            return Wire(connection)
+        raise DatabaseFault(f"{self.name}: {'; '.join(told)}")
+
+
+class Wire:
+    """A connection that another thread may cut. `warned` is whether the server has warned of something."""
+
+    def __init__(self, connection: "psycopg.Connection[Any]") -> None:
+        self.connection = connection
+        self.warned = ""
+        self._socket = socket.socket(fileno=os.dup(connection.fileno()))
+        connection.add_notice_handler(self._take_notice)
+
+    def _take_notice(self, notice: "psycopg.errors.Diagnostic") -> None:
+        if notice.severity_nonlocalized == "WARNING":
+            self.warned = notice.message_primary or "a warning"
+
+    def is_live(self) -> bool:
+        """Whether the server hasn't ended the connection since it was last used. Between uses it says nothing else."""
+        return not self.connection.closed and not select.select([self.connection.fileno()], [], [], 0)[0]
+
+    def cut(self) -> None:
+        """Has what waits for the server meet the connection's end."""
+        with contextlib.suppress(OSError):
+            self._socket.shutdown(socket.SHUT_RDWR)
+
+    def close(self) -> None:
+        self.connection.close()
+        self._socket.close()
+
+    @contextlib.contextmanager
+    def reading(self) -> Iterator["Statements"]:
+        """A transaction that sees one moment, and changes nothing."""
+        self.connection.execute("BEGIN ISOLATION LEVEL REPEATABLE READ READ ONLY")
+        yield Statements(self.connection)
+        self.connection.execute("COMMIT")
+
+
+class Statements:
+    """Does statements of both databases: `?` stands for a value. Text is kept as its octets, since PostgreSQL has no
+    text with a zero in it."""
+
+    def __init__(self, connection: "psycopg.Connection[Any]") -> None:
+        self.connection = connection
+
+    def execute(self, statement: str, values: Sequence[Any] = (), /) -> Rows:
+        rows: Rows = self.connection.execute(_spelled(statement), _kept(values))
+        return rows
+
+    def executemany(self, statement: str, values: Iterable[Sequence[Any]], /) -> None:
+        with self.connection.cursor() as cursor:
+            cursor.executemany(_spelled(statement), map(_kept, values))
+
+    def rows(self, statement: str, *values: object) -> list[tuple[Any, ...]]:
+        rows: list[tuple[Any, ...]] = self.connection.execute(_spelled(statement), _kept(values)).fetchall()
+        return rows
+
+    def row(self, statement: str, *values: object) -> tuple[Any, ...]:
+        (row,) = self.rows(statement, *values)
+        return row
+
+    def scan(self, statement: str) -> Iterator[tuple[Any, ...]]:
+        """Rows as they are read, since they may be many; within a transaction."""
+        with self.connection.cursor(name="scan") as cursor:
+            yield from cursor.execute(statement)
+
+
+def _spelled(statement: str) -> bytes:
+    return statement.replace("?", "%s").encode()
+
+
+def _kept(values: Sequence[Any]) -> list[Any]:
+    return [value.encode("utf-8", "surrogateescape") if isinstance(value, str) else value for value in values]

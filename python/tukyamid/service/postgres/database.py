@@ -1,0 +1,214 @@
+"""Writing to the database that several services share, each in its turn."""
+
+import os
+import socket
+import tempfile
+from collections.abc import Iterable, Sequence
+from contextlib import closing
+from pathlib import Path
+
+import psycopg
+from psycopg.pq import TransactionStatus
+
+from ..database import Actor, Change, DatabaseFault, News, Place, Snapshot, Source, Uncertain
+from ..sqlite import Sqlite
+from ..writing import EVERY_CERTIFICATE, compare
+from . import tables
+from .connecting import Servers, Statements, Wire, faults, text_of
+from .following import PLACE, PostgresFollower
+from .looking import PostgresFinder, PostgresSnapshot
+from .writing import SharedWriting, row_of
+
+_UNREAD = Place(-1, b"")
+_MOST_NEWS = 1000
+_NOW = "SELECT extract(epoch FROM clock_timestamp())::BIGINT"
+
+
+class Postgres:
+    """A database by a URL with one or more hosts. All that is written goes to the primary."""
+
+    def __init__(self, url: str) -> None:
+        """DatabaseFault if no server can be reached, or the database can't be used."""
+        self.place = _UNREAD
+        self._servers = Servers(url)
+        self._machine = socket.gethostname()
+        self._wire: Wire | None = None
+        self._beside: Wire | None = None
+        try:
+            self._primary()
+        except DatabaseFault as fault:
+            self._check_standby(fault)
+
+    @property
+    def name(self) -> str:
+        return self._servers.name
+
+    def _check_standby(self, fault: DatabaseFault) -> None:
+        """Without a primary a service may begin on a standby."""
+        try:
+            wire = self._servers.connect(is_primary=False)
+        except DatabaseFault:
+            raise fault from None
+        with closing(wire):
+            if not tables.version_of(Statements(wire.connection), self.name):
+                raise fault
+
+    def _primary(self) -> Wire:
+        if self._wire is not None and not self._wire.is_live():
+            self.disconnect()
+        if self._wire is None:
+            wire = self._servers.connect(is_primary=True)
+            try:
+                tables.prepare(wire.connection, self.name)
+            except BaseException:
+                wire.close()
+                raise
+            self._wire = wire
+        return self._wire
+
+    def disconnect(self) -> None:
+        for wire in (self._wire, self._beside):
+            if wire is not None:
+                wire.close()
+        self._wire = self._beside = None
+
+    close = disconnect
+
+    def cut(self) -> None:
+        wire = self._wire
+        if wire is not None:
+            wire.cut()
+
+    def _begin(self) -> tuple[Statements, Place]:
+        """Begins a turn."""
+        statements = Statements(self._primary().connection)
+        statements.execute("BEGIN")
+        return statements, Place(*statements.row(f"{PLACE} FOR UPDATE"))
+
+    @faults
+    def take_turn(self) -> News:
+        statements, place = self._begin()
+        return self._read(statements, place, has_snapshot=False)
+
+    @faults
+    def end_turn(self) -> None:
+        if self._wire is not None and self._wire.connection.info.transaction_status != TransactionStatus.IDLE:
+            self._wire.connection.execute("ROLLBACK")
+
+    @faults
+    def news(self, has_snapshot: bool = False) -> News:
+        try:
+            wire, is_primary = self._primary(), True
+        except DatabaseFault:
+            wire, is_primary = self._servers.connect(is_primary=False), False
+        try:
+            with wire.reading() as statements:
+                place = Place(*statements.row(PLACE))
+                if not is_primary and self.place not in (place, _UNREAD):
+                    raise DatabaseFault(f"{self.name}: the standby isn't where this service is")
+                return self._read(statements, place, has_snapshot)
+        finally:
+            if not is_primary:
+                wire.close()
+
+    def _read(self, statements: Statements, place: Place, has_snapshot: bool) -> News:
+        """What leads from where this service has read to this place."""
+        lines = self._lines_to(statements, place)
+        snapshot = PostgresSnapshot(statements, place.number) if has_snapshot or lines is None else None
+        self.place = place
+        return News(lines, snapshot)
+
+    def _lines_to(self, statements: Statements, place: Place) -> tuple[tuple[int, bytes], ...] | None:
+        if place == self.place:
+            return ()
+        rows = statements.rows("SELECT number, mark, line FROM lines WHERE number >= ? ORDER BY number LIMIT ?",
+                               self.place.number, _MOST_NEWS + 1)
+        is_linked = rows[:1] and rows[0][:2] == row_of(self.place) and rows[-1][:2] == row_of(place)
+        if not is_linked or any(line is None for _, _, line in rows[1:]):
+            return None
+        return tuple((number, line) for number, _, line in rows[1:])
+
+    @faults
+    def apply(self, changes: Sequence[Change]) -> list[int]:
+        assert self._wire is not None
+        statements = Statements(self._wire.connection)
+        writing, now = SharedWriting(statements, self._machine), int(statements.row(_NOW)[0])
+        numbers = [writing.make(change, now) for change in changes]
+        writing.refresh_certifications()
+        self._commit(writing)
+        return numbers
+
+    def _commit(self, writing: SharedWriting) -> None:
+        assert self._wire is not None
+        writing.tell()
+        self._wire.warned = ""
+        try:
+            self._wire.connection.execute("COMMIT")
+        except psycopg.Error as error:
+            if self._wire.connection.closed:
+                raise Uncertain(f"{self.name}: {text_of(error)}") from None
+            raise
+        if self._wire.warned:  # That is how a server says that it hasn't heard from its standby.
+            raise Uncertain(f"{self.name}: {self._wire.warned}")
+        self.place = writing.place or self.place
+
+    @faults
+    def probe(self) -> None:
+        self._begin()
+        self.end_turn()
+
+    @faults
+    def fill(self, lines: Iterable[bytes], what: str, actor: Actor) -> int:
+        statements, place = self._begin()
+        if self.place not in (place, _UNREAD):
+            raise DatabaseFault(f"{self.name}: another service has changed it meanwhile; try again")
+        for table in ("certifications", "verdicts", "user_ids", "certificates"):
+            statements.execute(f"DELETE FROM {table}")
+        writing = SharedWriting(statements, self._machine)
+        number = writing.fill(lines, Change(what, actor, ()), int(statements.row(_NOW)[0]))
+        self._commit(writing)
+        return number
+
+    @faults
+    def snapshot(self, before: Snapshot | None = None) -> PostgresSnapshot:
+        self.place = _UNREAD
+        snapshot = self.news().snapshot
+        assert isinstance(snapshot, PostgresSnapshot)
+        return snapshot
+
+    def finder(self) -> PostgresFinder:
+        return PostgresFinder(self, self._servers, self._machine)
+
+    def follow(self) -> PostgresFollower:
+        return PostgresFollower(self._servers)
+
+    def _sources(self) -> Statements:
+        """A connection of its own, since a turn may be under way."""
+        if self._beside is None or self._beside.connection.closed:
+            self._beside = self._servers.connect(is_primary=True)
+        return Statements(self._beside.connection)
+
+    @faults
+    def put_source(self, source: Source) -> None:
+        self._sources().execute(
+            "INSERT INTO sources VALUES (?, ?, ?, ?, ?) ON CONFLICT (machine, name) DO UPDATE SET "
+            "digest = excluded.digest, certificates = excluded.certificates, fault = excluded.fault",
+            (self._machine, source.name, source.digest, source.certificates, source.fault))
+
+    @faults
+    def drop_source(self, name: str) -> bool:
+        return bool(self._sources().rows("DELETE FROM sources WHERE machine = ? AND name = ? RETURNING 1",
+                                         self._machine, name))
+
+    @faults
+    def check(self) -> list[str]:
+        with self._primary().reading() as statements:
+            return list(compare(statements, statements.scan(EVERY_CERTIFICATE)))
+
+    def backup(self, path: Path) -> None:
+        """Writes a copy as a file of SQLite's: certificates, verdicts and one line in the log."""
+        snapshot = self.snapshot()
+        with closing(snapshot), tempfile.TemporaryDirectory(prefix=".tukyamid-", dir=path.parent) as folder:
+            with closing(Sqlite(Path(folder) / "copy.db")) as copy:
+                copy.fill(snapshot.lines(), f"backup of {self.name}", Actor(os.getuid(), os.getpid()))
+                copy.backup(path)

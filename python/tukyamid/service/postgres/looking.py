@@ -1,0 +1,143 @@
+"""Reading PostgreSQL: a copy of the whole at one moment, and what is looked up in it."""
+
+import os
+import tempfile
+from binascii import unhexlify
+from collections.abc import Iterator
+from time import monotonic
+from typing import TYPE_CHECKING, Any
+
+from ..database import Actor, Binding, DatabaseFault, Figures, LogEntry, Source
+from .connecting import Servers, Statements, Wire, faults
+
+if TYPE_CHECKING:
+    from .database import Postgres
+
+_VERDICTS = "FROM verdicts WHERE issuer IS NOT NULL"
+_COPIES = (
+    "SELECT 'import ' || encode(octets, 'hex') FROM certificates ORDER BY fingerprint",
+    "SELECT 'verdict ' || encode(number, 'hex') || CASE WHEN length(issuer) = 0 THEN ' bad' "
+    f"ELSE ' good ' || encode(issuer, 'hex') END {_VERDICTS} ORDER BY number",
+)
+_BINDINGS = "SELECT fingerprint, user_id FROM user_ids JOIN certificates ON certificates.id = user_ids.certificate"
+_STANDBY_SECONDS = 30.0
+
+
+class PostgresSnapshot:
+    """The keyring at one moment, in a file without a name: so it needs no server that lives, and no open transaction,
+    however long it is kept."""
+
+    def __init__(self, statements: Statements, change: int) -> None:
+        self.change = change
+        self._file = tempfile.TemporaryFile(prefix="tukyamid-")
+        self._count = 0
+        with statements.connection.cursor() as cursor:
+            for query in _COPIES:
+                with cursor.copy(f"COPY ({query}) TO STDOUT".encode()) as copy:
+                    for block in copy:
+                        self._count += bytes(block).count(b"\n")
+                        self._file.write(block)
+        self._file.flush()
+
+    def count(self) -> int:
+        return self._count
+
+    def lines(self) -> Iterator[bytes]:
+        with open(f"/proc/self/fd/{self._file.fileno()}", "rb") as file:  # Each reader has a place of its own.
+            for line in file:
+                yield line.removesuffix(b"\n")
+
+    def certificates(self) -> Iterator[bytes]:
+        for line in self.lines():
+            word, _, octets = line.partition(b" ")
+            if word != b"import":
+                return
+            yield unhexlify(octets)
+
+    def close(self) -> None:
+        self._file.close()
+
+
+class PostgresFinder:
+    """Looks up what has been committed by now: on the primary, or on a standby while there is no primary. A standby
+    that is behind what this service has read is not asked."""
+
+    def __init__(self, database: "Postgres", servers: Servers, machine: str) -> None:
+        self._database = database
+        self._servers = servers
+        self._machine = machine
+        self._wire: Wire | None = None
+        self._until = 0.0
+
+    @property
+    def name(self) -> str:
+        return self._servers.name
+
+    def disconnect(self) -> None:
+        if self._wire is not None:
+            self._wire.close()
+            self._wire = None
+
+    close = disconnect
+
+    def _connect(self) -> Wire:
+        try:
+            wire, self._until = self._servers.connect(is_primary=True), float("inf")
+        except DatabaseFault:
+            wire, self._until = self._servers.connect(is_primary=False), monotonic() + _STANDBY_SECONDS
+        return wire
+
+    @faults
+    def _rows(self, query: str, *values: object) -> list[tuple[Any, ...]]:
+        if self._wire is not None and (monotonic() > self._until or not self._wire.is_live()):
+            self.disconnect()
+        if self._wire is None:
+            self._wire = self._connect()
+        statements = Statements(self._wire.connection)
+        if statements.row("SELECT number FROM head")[0] < self._database.place.number:
+            raise DatabaseFault(f"{self.name}: the standby is behind what this service has read")
+        return statements.rows(query, *values)
+
+    def _bindings(self, condition: str, *values: object) -> list[Binding]:
+        rows = self._rows(f"{_BINDINGS} WHERE {condition} ORDER BY fingerprint, user_id", *values)
+        return [Binding(fpr.hex(), user_id) for fpr, user_id in rows]
+
+    def figures(self) -> Figures:
+        (row,) = self._rows(
+            "SELECT (SELECT count(*) FROM certificates), (SELECT count(*) FROM user_ids), "
+            f"(SELECT count(*) {_VERDICTS}), (SELECT number FROM head), pg_database_size(current_database())")
+        return Figures(*map(int, row))
+
+    def by_address(self, address: str) -> list[Binding]:
+        return self._bindings("sha256(address) = sha256(?) AND address = ?", address, address)
+
+    def by_user_id(self, user_id: bytes) -> list[Binding]:
+        return self._bindings("sha256(user_id) = sha256(?) AND user_id = ?", user_id, user_id)
+
+    def by_part(self, part: str) -> list[Binding]:
+        sought = part.casefold()
+        return [binding for binding in self._bindings("TRUE")
+                if sought in binding.user_id.decode("utf-8", "surrogateescape").casefold()]
+
+    def by_key(self, key: bytes) -> list[Binding]:
+        return self._bindings("key_id = ?" if len(key) == 8 else "fingerprint = ?", key)
+
+    def issuers(self, fpr: bytes) -> list[tuple[bytes, bytes]] | None:
+        place = self._rows("SELECT id FROM certificates WHERE fingerprint = ?", fpr)
+        if not place:
+            return None
+        rows = self._rows("SELECT number, issuer FROM verdicts WHERE certificate = ? AND length(issuer) > 0 "
+                               "ORDER BY number", *place[0])
+        return [(number, issuer) for number, issuer in rows]
+
+    def log(self, count: int) -> list[LogEntry]:
+        rows = self._rows("SELECT number, time, uid, pid, what, machine FROM changes "
+                               "ORDER BY number DESC LIMIT ?", count)
+        return [LogEntry(number, time, Actor(uid, pid), os.fsdecode(what + b" on " + machine))
+                for number, time, uid, pid, what, machine in rows]
+
+    def sources(self) -> list[Source]:
+        rows = self._rows("SELECT name, digest, certificates, fault FROM sources WHERE machine = ? ORDER BY name",
+                               self._machine)
+        return [Source(os.fsdecode(name), digest, certificates, os.fsdecode(fault))
+                for name, digest, certificates, fault in rows]

@@ -1,0 +1,182 @@
+"""A database that other services change too: changes are made in turns, and those of others are applied between."""
+
+from __future__ import annotations
+
+import asyncio
+from collections import deque
+from collections.abc import Callable
+from concurrent.futures import ThreadPoolExecutor
+from dataclasses import dataclass
+from functools import partial
+from typing import Protocol, TypeVar
+
+from .committing import FAULT, Barrier, Committer, called
+from .database import Actor, DatabaseFault, News, Shared
+from .journal import Done
+
+_MOST_CHANGES = 256
+_LONGEST_CALL = 12.0  # Longer than a server lets one wait for others.
+_LONGEST_COPY = 600.0
+_PAUSE = 0.5
+_R = TypeVar("_R")
+
+# Called when a change is sent to the engines, or refused before that.
+Begun = Callable[[], None]
+
+
+@dataclass
+class Waiting:
+    """A change that waits for its turn."""
+    line: bytes
+    actor: Actor
+    done: Done
+    begun: Begun
+
+
+class Home(Protocol):
+    """What turns have done by the hub."""
+
+    def send_change(self, line: bytes, actor: Actor, done: Done) -> None:
+        """Sends a change to all engines, and hands it to the committer."""
+
+    def take_news(self, news: News) -> None:
+        """Has all engines take what other services have changed."""
+
+    def tell(self, text: str) -> None: ...
+
+
+class Turns:
+    """Does one thing at a time with the database, so that nothing is under way in the engines when news comes. A change
+    waits here until it has its turn; questions don't."""
+
+    def __init__(self, database: Shared, writing: ThreadPoolExecutor, committer: Committer, home: Home) -> None:
+        self._database = database
+        self._writing = writing
+        self._following = ThreadPoolExecutor(1, "following")
+        self._follower = database.follow()
+        self._committer = committer
+        self._home = home
+        self._waiting: deque[Waiting] = deque()
+        self._barriers: deque[Barrier] = deque()
+        self._is_behind = False
+        self._wake = asyncio.Event()
+        self._loop = asyncio.get_running_loop()
+        self._current = self._loop.time()
+        self._tasks = [self._loop.create_task(work) for work in (self._work(), self._follow())]
+
+    @property
+    def age(self) -> float:
+        """For how many seconds the engines may have missed something."""
+        return self._loop.time() - self._current
+
+    def change(self, waiting: Waiting) -> None:
+        if self._committer.fault:
+            self._refuse(waiting)
+            return
+        self._waiting.append(waiting)
+        self._wake.set()
+
+    def snapshot(self, barrier: Barrier) -> None:
+        self._barriers.append(barrier)
+        self._wake.set()
+
+    async def close(self) -> None:
+        for task in self._tasks:
+            task.cancel()
+        await asyncio.gather(*self._tasks, return_exceptions=True)
+        self._database.cut()
+        self._follower.cut()
+        self._following.shutdown()
+        self._follower.close()
+
+    def _refuse(self, waiting: Waiting) -> None:
+        waiting.begun()
+        waiting.done(FAULT, self._committer.count)
+
+    def _fail(self, fault: DatabaseFault) -> None:
+        """Nothing that waits can be done at present."""
+        self._committer.fault = str(fault)
+        waiting, self._waiting = self._waiting, deque()
+        if waiting:
+            self._home.tell(f"{len(waiting)} changes were refused, since they can't be kept: {fault}")
+        for one in waiting:
+            self._refuse(one)
+
+    async def _call(self, call: Callable[[], _R], seconds: float = _LONGEST_CALL) -> _R:
+        """Calls the database. What lasts too long is cut, and is a DatabaseFault."""
+        return await called(self._writing, call, self._database.cut, seconds)
+
+    async def _work(self) -> None:
+        while True:
+            await self._wake.wait()
+            self._wake.clear()
+            while self._waiting or self._barriers or self._is_behind:
+                try:
+                    await self._step()
+                except DatabaseFault as fault:
+                    self._fail(fault)
+                except Exception as error:  # Whatever one change meets, the others go on.
+                    self._fail(DatabaseFault(repr(error)))
+
+    async def _step(self) -> None:
+        if self._barriers:
+            await self._open_snapshot(self._barriers.popleft())
+        if self._waiting:
+            await self._have_turn()
+        elif self._is_behind:
+            await self._take(self._database.news)
+
+    async def _take(self, read: Callable[[], News]) -> None:
+        """Applies what others have changed; by then the engines have all that was committed when this began."""
+        begun = self._loop.time()
+        self._is_behind = False
+        self._home.take_news(await self._call(read))
+        self._current = begun
+
+    async def _open_snapshot(self, barrier: Barrier) -> None:
+        snapshot = None
+        try:
+            news = News(None)
+            while news.lines is None:  # Such a snapshot is for the engines, and another one for who has asked.
+                news = await self._call(partial(self._database.news, has_snapshot=True), _LONGEST_COPY)
+                self._home.take_news(news)
+            snapshot = news.snapshot
+        finally:
+            barrier.begun()
+            barrier.done(snapshot)
+
+    async def _have_turn(self) -> None:
+        await self._take(self._database.take_turn)
+        answered = asyncio.Event()
+        batch = [self._waiting.popleft() for _ in range(min(len(self._waiting), _MOST_CHANGES))]
+        left = len(batch)
+
+        def done(one: Waiting, reply: bytes | None, count: int) -> None:
+            nonlocal left
+            left -= 1
+            if not left:
+                answered.set()
+            one.done(reply, count)
+
+        for one in batch:
+            self._home.send_change(one.line, one.actor, partial(done, one))
+        for one in batch:
+            one.begun()
+        await answered.wait()
+        await self._call(self._database.end_turn)
+
+    async def _follow(self) -> None:
+        """Looks after what other services do, for ever."""
+        while True:
+            try:
+                place = await called(self._following, self._follower.wait, self._follower.cut, _LONGEST_CALL)
+            except DatabaseFault as fault:
+                self._committer.fault = str(fault)
+                await asyncio.sleep(_PAUSE)
+                continue
+            self._committer.fault = ""
+            if place == self._database.place:
+                self._current = self._loop.time()
+            else:
+                self._is_behind = True
+                self._wake.set()
