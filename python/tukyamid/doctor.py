@@ -120,7 +120,7 @@ def _service(path: Path | None) -> Iterator[Finding]:
         yield Finding("service", State.BAD, f"{path} doesn't answer as a service: {fault}",
                       "end it, and ask again: the next question starts another")
     except (TukyamidError, OSError) as fault:
-        yield Finding("service", State.BAD, str(fault), "set XDG_RUNTIME_DIR to a folder of yours alone")
+        yield Finding("service", State.BAD, str(fault), "set XDG_RUNTIME_DIR to a directory that only you can use")
 
 
 def _kept(name: str, certificates: int, fault: str) -> Finding:

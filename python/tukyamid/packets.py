@@ -52,5 +52,5 @@ def subpackets(area: bytes) -> Iterator[tuple[bool, int, bytes]]:
             start, length = at + 5, int.from_bytes(area[at + 1:at + 5], "big")
         at = start + length
         if not length or at > len(area):
-            raise ValueError("the area is no list of subpackets")
+            raise ValueError("the area isn't a list of subpackets")
         yield area[start] >= 0x80, area[start] & 0x7F, area[start + 1:at]

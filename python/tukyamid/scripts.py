@@ -64,4 +64,4 @@ def read_command(line: bytes) -> Line:
     try:
         return _READ[word, second](*fields)
     except (KeyError, TypeError):
-        raise ValueError(f"{line[:200]!r} is no command") from None
+        raise ValueError(f"{line[:200]!r} isn't a command") from None

@@ -54,7 +54,7 @@ def _run(words: Iterable[str]) -> bytes:
         raise NoAnswer("gpg isn't installed") from None
     if done.returncode:
         said = done.stderr.decode("utf-8", "replace").strip().splitlines()
-        raise NoAnswer(f"gpg ended with status {done.returncode}: {said[-1] if said else 'it said nothing'}")
+        raise NoAnswer(f"gpg ended with status {done.returncode}: {said[-1] if said else 'it printed nothing'}")
     return done.stdout
 
 

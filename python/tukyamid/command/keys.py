@@ -14,5 +14,5 @@ def resolve(keyring: Keyring, key: str) -> str:
     if not found:
         raise NoAnswer(f"no key in the keyring has the key ID {key}")
     if len(found) > 1:
-        raise WrongWords(f"the key ID {key} is that of several keys, so give a fingerprint: {', '.join(found)}")
+        raise WrongWords(f"several keys have the key ID {key}, so give a fingerprint: {', '.join(found)}")
     return found[0]

@@ -72,7 +72,7 @@ class UserIds:
 
 def _address(word: str) -> str:
     if "@" not in word.strip("@"):
-        raise WrongWords(f"{word!r} is no e-mail address")
+        raise WrongWords(f"{word!r} isn't an e-mail address")
     return word
 
 
@@ -104,7 +104,7 @@ def lookup(given: Given) -> Ask:
 def identify(given: Given) -> Ask:
     (word,) = words_of(given, "KEY")
     if given.email:
-        raise WrongWords("identify takes a key, and no address: --email goes with the other questions")
+        raise WrongWords("identify takes a key, not an address: --email goes with the other questions")
     key = key_of(word)
 
     def ask(view: View) -> Found:

@@ -55,7 +55,7 @@ class Reopening:
         entry = self._entry()
         if entry is None:
             from ..verifier import VerifierFailed
-            raise VerifierFailed("what was verified of the inputs couldn't be kept, and the page needs that")
+            raise VerifierFailed("the verified inputs couldn't be saved, and the page needs them")
         from .holding import main
         folder, socket = str(entry.folder), self._socket()
 

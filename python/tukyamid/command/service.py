@@ -80,7 +80,7 @@ def _remove(client: Client, name: str) -> None:
 
 def _status(client: Client, words: list[str]) -> list[str]:
     if words:
-        raise WrongWords("status takes no words")
+        raise WrongWords("status takes no arguments")
     figures = client.status()
     if figures.get("loaded", "all") == "all":  # In a larger keyring nobody waits for a look at each key.
         figures["expired-elsewhere"] = str(_count_expired(served_keyring(client)))

@@ -18,12 +18,12 @@ def read_time(text: str) -> int:
     """
     digits = text.removeprefix("@")
     if digits.isascii() and digits.isdigit() and (text != digits or len(digits) > 8):
-        return _within(int(digits), 0, MOST_TIME, f"{text} is no time")
+        return _within(int(digits), 0, MOST_TIME, f"{text} isn't a time")
     from datetime import datetime, timezone
     try:
         moment = datetime.fromisoformat(text)
     except ValueError:
-        raise ValueError(f"{text!r} is no time: write a date as 2024-01-31, a date and time as 2024-01-31T12:00:00Z, "
+        raise ValueError(f"{text!r} isn't a time: write a date as 2024-01-31, a date and time as 2024-01-31T12:00:00Z, "
                          "or seconds since 1970 as @1706702400") from None
     moment = moment if moment.tzinfo else moment.replace(tzinfo=timezone.utc)
     return _within(int(moment.timestamp()), 0, MOST_TIME, f"{text} isn't between 1970 and 2106")
@@ -46,7 +46,7 @@ def read_key(text: str) -> str:
     if re.fullmatch("[0-9a-f]{8}", digits):
         raise ValueError(f"{text!r} is a short key ID, which anybody can forge: give the fingerprint")
     if not _KEY.fullmatch(digits):
-        raise ValueError(f"{text!r} is no fingerprint, and no key ID of 16 digits")
+        raise ValueError(f"{text!r} is neither a fingerprint nor a key ID of 16 digits")
     return digits
 
 

@@ -71,7 +71,7 @@ def read(octets: bytes) -> Proof:
         return _proof(value)
     except (ValueError, KeyError, TypeError, AttributeError, RecursionError) as error:
         said = f"{error.args[0]} is missing" if isinstance(error, KeyError) else str(error)
-        raise ProofMalformed(f"the file is no proof: {said[:300]}") from None
+        raise ProofMalformed(f"the file isn't a proof: {said[:300]}") from None
 
 
 def _proof(value: Mapping[str, Any]) -> Proof:
@@ -98,7 +98,7 @@ def _path(value: Mapping[str, Any]) -> Path:
 def _certificate(value: object) -> bytes:
     """The octets of a certificate, in hexadecimal digits or armored."""
     if not isinstance(value, str):
-        raise ValueError("a certificate is no text")
+        raise ValueError("a certificate isn't a text")
     return value.encode("utf-8") if value.lstrip().startswith("-----BEGIN") else bytes.fromhex(value)
 
 
@@ -113,5 +113,5 @@ def _number(value: Mapping[str, Any], name: str, least: int, most: int) -> int:
 def _list(value: Mapping[str, Any], name: str) -> Sequence[Any]:
     found = value[name]
     if not isinstance(found, list):
-        raise ValueError(f"{name} is no list")
+        raise ValueError(f"{name} isn't a list")
     return found

@@ -46,7 +46,7 @@ def _checked(script: BinaryIO, name: str) -> Iterator[bytes]:
         elif line.startswith(_PASSED_OVER):
             yield b"#"
         else:
-            raise DatabaseFault(f"{name}: line {place} is no line of a dump")
+            raise DatabaseFault(f"{name}: line {place} isn't a line of a dump")
 
 
 def restore(path: Path, copy: Path) -> Path | None:

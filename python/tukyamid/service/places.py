@@ -50,7 +50,7 @@ def own_folder(folder: Path) -> Path:
         folder.mkdir(mode=0o700)
     found = folder.lstat()
     if not stat.S_ISDIR(found.st_mode) or found.st_uid != os.getuid() or found.st_mode & 0o077:
-        raise PermissionError(f"{folder} isn't a folder of yours alone; set XDG_RUNTIME_DIR")
+        raise PermissionError(f"{folder} has to be a directory that only you can use; set XDG_RUNTIME_DIR")
     return folder
 
 

@@ -58,7 +58,7 @@ def number(asked: Json, name: str, least: int, most: int) -> int:
 def text(asked: Json, name: str, most: int = 65536) -> str:
     value = asked.get(name, "")
     if not isinstance(value, str) or len(value) > most:
-        raise ValueError(f"{name} is no text of at most {most} characters")
+        raise ValueError(f"{name} isn't a text of at most {most} characters")
     return value
 
 
@@ -69,5 +69,5 @@ def _fingerprint(asked: Json, name: str) -> str:
 def _list(asked: Json, name: str, most: int) -> list[Json]:
     value = asked.get(name, [])
     if not isinstance(value, list) or len(value) > most or not all(isinstance(one, dict) for one in value):
-        raise ValueError(f"{name} is no list of at most {most} objects")
+        raise ValueError(f"{name} isn't a list of at most {most} objects")
     return value

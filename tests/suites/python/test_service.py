@@ -147,7 +147,7 @@ class UsersService(Services):
     def test_wrong_words(self):
         for words, said in [
             (["keyring"], "keyring takes: add NAME.., remove NAME.. or list"), (["keyring", "add"], "keyring takes"),
-            (["status", "x"], "status takes no words"), (["log", "0"], r"log takes: \[N\]"),
+            (["status", "x"], "status takes no arguments"), (["log", "0"], r"log takes: \[N\]"),
             (["log", "x"], r"log takes: \[N\]"), (["log", "--nonsense"], "nonsense"),
         ]:
             self.fails(run([COMMAND, *words], env=self.environment), 2, said)

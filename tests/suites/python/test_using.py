@@ -111,7 +111,8 @@ class Programs(Services):
                     self.assertEqual(may_release(keyring, leads, self.fpr[signer], domain, released), may)
 
     def test_a_package_installer(self):
-        (script,) = re.findall(r"```sh\n(.*?)```", PAGE.read_text(), re.DOTALL)
+        blocks = re.findall(r"```sh\n(.*?)```", PAGE.read_text(), re.DOTALL)
+        (script,) = [block for block in blocks if block.startswith("if ")]
         shutil.copy(self.friends.keyring, self.own / "vendors.gpg")
         for name, status in ("Carol", 0), ("Dave", 1):
             environment = {**self.environment, "PATH": f"{COMMAND.parent}:{os.environ['PATH']}", "KEY": self.fpr[name],

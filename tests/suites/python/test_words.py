@@ -68,8 +68,8 @@ class Words(Asking):
         got, report = self.answer("--email", "authenticate", carol, "bob@example.org")
         self.assertEqual((got, report["bindings"]), (1, []))
         self.assertIn("has no user ID with the address bob@example.org", report["notes"][0])
-        self.fails(self.ask("--email", "authenticate", carol, "carol"), 2, "no e-mail address")
-        self.fails(self.ask("--email", "identify", carol), 2, "identify takes a key, and no address")
+        self.fails(self.ask("--email", "authenticate", carol, "carol"), 2, "an e-mail address")
+        self.fails(self.ask("--email", "identify", carol), 2, "identify takes a key, not an address")
 
     def test_roots_that_are_not_there(self):
         carol = ["authenticate", self.fpr["Carol"], PEOPLE["Carol"]]
@@ -93,10 +93,11 @@ class Words(Asking):
         carol = self.fpr["Carol"]
         for said, words in [
             ("authenticate takes: KEY USERID", ["authenticate", carol]),
-            ("no fingerprint", ["authenticate", "carol", "Carol"]), ("no question 'nonsense'", ["nonsense"]),
+            ("neither a fingerprint", ["authenticate", "carol", "Carol"]), ("no question 'nonsense'", ["nonsense"]),
             ("a question is missing", []), ("identify takes: KEY", ["identify"]),
             (r"list takes: \[PATTERN\]", ["list", "a", "b"]), ("path takes: KEY.. USERID", ["path", carol]),
-            ("is no time: write a date as", ["--time", "yesterday", "list"]), ("no amount", ["--amount", "0", "list"]),
+            ("isn't a time: write a date as", ["--time", "yesterday", "list"]),
+            ("no amount", ["--amount", "0", "list"]),
             ("no amount", ["--amount", "4294967296", "list"]), ("amount of a root", ["--root", carol + ":0", "list"]),
             ("amount of a root", ["--root", carol + ":256", "list"]), ("choose from", ["--format", "xml", "list"]),
             ("no notation can be made known", ["--known-notation", "a@b", "list"]),

@@ -161,7 +161,7 @@ class Commands(InAFolder):
         (self.folder / "good").write_bytes(World(count=5).imports[0] + b"\n")
         self.assertEqual(self.command("import-dump", "--database", "keyring.db", "good"), (0, ""))
         before = script_of(self.open())
-        for text, told in ((b"import zz\n", "line 1"), (b"#\nkeys\n", "line 2 is no line of a dump")):
+        for text, told in ((b"import zz\n", "line 1"), (b"#\nkeys\n", "line 2 isn't a line of a dump")):
             (self.folder / "script").write_bytes(text)
             status, said = self.command("import-dump", "--database", "keyring.db", "script")
             self.assertEqual((status, told in said), (1, True), said)
