@@ -19,6 +19,8 @@ MODULES = sorted(module.name for module in pkgutil.walk_packages(tukyamid.__path
                  if not module.name.endswith(".__main__"))
 if importlib.util.find_spec("aiohttp") is None:  # The suite `web` says what is left out then.
     MODULES = [name for name in MODULES if name not in ("tukyamid.web.guard", "tukyamid.web.server")]
+if importlib.util.find_spec("psycopg") is None:  # The suite `shared` says what is left out then.
+    MODULES = [name for name in MODULES if not name.startswith("tukyamid.service.postgres")]
 PAGES = [CLIENT / "README.md", ROOT / "docs" / "USING.md"]
 
 
