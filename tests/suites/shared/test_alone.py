@@ -151,6 +151,8 @@ class Ended(OneServer):
             others = [Writer(server, f"{kill} {place}", ahead=1 + 5 * place) for place in range(2)]
             for writer in others:
                 writer.start()
+            if kill % 2:  # Else it may be killed before it has made anything.
+                others[0].wait_for(1)
             time.sleep(draw.uniform(0.05, 0.6))
             server.process.kill()
             for writer in others:
