@@ -23,6 +23,7 @@ from enum import StrEnum
 from typing import TypeVar
 
 from . import claims, spelling
+from .digits import read_octets
 from .reasons import ReasonWord, TargetWord
 from .refusals import ProtocolError, read_refusal
 from .replies import (Accepted, Answer, Binding, Done, Explanation, Exported, Gone, Key, Missed, Path, PendingSignature,
@@ -200,18 +201,6 @@ def read_watch(line: str) -> Watched | Gone:
     return Watched(watch, int(amount))
 
 
-def _read_export(line: str) -> Exported:
-    """A certificate may have megabytes, over which a regular expression takes ten times as long as the conversion."""
-    digits = line.partition(" ")[2]
-    try:
-        octets = bytes.fromhex(digits)
-    except ValueError:
-        octets = b""
-    if not octets or f"export {octets.hex()}" != line:
-        match("export HEX", line)  # Says what is wrong with it.
-    return Exported(octets)
-
-
 _ITEMS: dict[str, tuple[type[object], Callable[[str], object]]] = {
     "list": (Binding, _read_bind), "piece": (Binding, _read_bind), "pending": (PendingSignature, _read_pending),
     "keys": (Key, _read_key), "dump": (bytes, lambda line: line.encode("latin-1")),
@@ -221,7 +210,7 @@ _ITEMS: dict[str, tuple[type[object], Callable[[str], object]]] = {
 }
 _ONE_LINE: dict[str, Callable[[str], Reply]] = {
     "ok": _read_ok, "checked": _read_checked, "stale": _read_stale, "watch": read_watch,
-    "export": _read_export,
+    "export": lambda line: Exported(read_octets(line.removeprefix("export "))),
 }
 _LONGER: dict[str, Callable[[str], Reader[Reply]]] = {
     "amount": _read_answer, "explain": _read_explanation, "absence": _read_absence,
