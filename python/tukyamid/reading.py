@@ -23,6 +23,7 @@ from enum import StrEnum
 from typing import TypeVar
 
 from . import claims, spelling
+from .digits import read_octets
 from .reasons import ReasonWord, TargetWord
 from .refusals import ProtocolError, read_refusal
 from .replies import (Accepted, Answer, Binding, Done, Explanation, Exported, Gone, Key, Missed, Path, PendingSignature,
@@ -209,7 +210,7 @@ _ITEMS: dict[str, tuple[type[object], Callable[[str], object]]] = {
 }
 _ONE_LINE: dict[str, Callable[[str], Reply]] = {
     "ok": _read_ok, "checked": _read_checked, "stale": _read_stale, "watch": read_watch,
-    "export": lambda line: Exported(bytes.fromhex(match("export HEX", line)[0])),
+    "export": lambda line: Exported(read_octets(line.removeprefix("export "))),
 }
 _LONGER: dict[str, Callable[[str], Reader[Reply]]] = {
     "amount": _read_answer, "explain": _read_explanation, "absence": _read_absence,

@@ -125,6 +125,20 @@ class Names(unittest.TestCase):
 
 
 class Ends(unittest.TestCase):
+    def test_ended_while_a_call_waits(self):
+        async def wait(path):
+            server = await asyncio.start_unix_server(lambda reader, writer: None, path)
+            client = await aio.connect(path)
+            waiting = asyncio.create_task(client.keys())
+            await asyncio.sleep(0.05)
+            client.end_at_once()
+            with self.assertRaises(ServiceEnded):
+                await asyncio.wait_for(waiting, 60)
+            server.close()
+
+        with tempfile.TemporaryDirectory() as folder:
+            asyncio.run(wait(f"{folder}/silent"))
+
     def test_nobody_listens(self):
         with tempfile.TemporaryDirectory() as folder:
             nowhere = Path(folder) / "nowhere"

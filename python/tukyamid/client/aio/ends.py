@@ -30,9 +30,13 @@ class Engine(Bulk):
     async def _end_error(self) -> EngineEnded:
         return EngineEnded(await self._process.wait())
 
-    def _abandon(self) -> None:
+    def end_at_once(self) -> None:
+        """Ends the program. A call that waits for it raises EngineEnded."""
         with contextlib.suppress(ProcessLookupError):
             self._process.kill()
+
+    def _abandon(self) -> None:
+        self.end_at_once()
 
 
 class Client(Bulk, ServiceCalls):
@@ -44,6 +48,10 @@ class Client(Bulk, ServiceCalls):
 
     async def _end_error(self) -> ServiceEnded:
         return ServiceEnded("the connection to the service has ended")
+
+    def end_at_once(self) -> None:
+        """Ends the connection. A call that waits for the service raises ServiceEnded."""
+        self._writer.transport.abort()
 
     def _abandon(self) -> None:
         self._writer.close()
