@@ -7,7 +7,7 @@ needs a key's own signatures alone. Hence an engine over these certificates answ
 """
 
 import threading
-from collections.abc import Callable, Collection, Iterable, Iterator
+from collections.abc import Callable, Collection, Iterator
 from contextlib import contextmanager
 from typing import NamedTuple
 
@@ -33,6 +33,7 @@ class Part:
         self._into: dict[str, list[Certified]] = {}
         self._find(fpr, user_id)
         self.fprs = {fpr, *self._reached(roots)}
+        self.certifiers = frozenset(one.issuer for one in self._into[fpr])
 
     def _find(self, target: str, user_id: bytes) -> None:
         """Goes back from the target, each key once."""
@@ -74,13 +75,13 @@ class Part:
         """The certifications of a key by those of the part that a path can go along."""
         return [one for one in self._into.get(fpr, ()) if one.issuer in self.fprs]
 
-    def verdicts(self, fprs: Iterable[str]) -> Iterator[bytes]:
-        """Lines: the verdicts on the signatures of these certificates that are by some of the part."""
+    def verdicts(self, fprs: Collection[str], issuers: Collection[str]) -> Iterator[bytes]:
+        """Lines: the verdicts on the signatures of these certificates that are by some of these issuers."""
         for fpr in fprs:
             certificate = self._keyring.certificate(fpr)
             for signature in _signatures(certificate) if certificate is not None else ():
                 issuer = self._keyring.index.issuer(fpr, signature.number)
-                if issuer in self.fprs:
+                if issuer in issuers:
                     yield f"verdict {signature.number} good {issuer}".encode("ascii")
 
 
@@ -92,15 +93,16 @@ def _signatures(certificate: Certificate) -> Iterator[Signature]:
 
 @contextmanager
 def engine_over(keyring: Keyring, part: Part, without_keys: Collection[str] = (),
-                without_signatures: Collection[str] = ()) -> Iterator[Keyring]:
-    """A keyring in an engine of its own, which has the part alone, without some keys and signatures. It is there for
-    one question, and ends after a minute whatever happens."""
+                without_signatures: Collection[str] = (), more: Collection[str] = ()) -> Iterator[Keyring]:
+    """A keyring in an engine of its own, which has the part and some more keys, without some keys and signatures. It
+    is there for one question, and ends after a minute whatever happens."""
     with Engine() as engine, _ended_after(PATIENCE, engine.end_at_once):
-        fprs = sorted(part.fprs - frozenset(without_keys))
+        known = part.fprs.union(more)
+        fprs = sorted(known.difference(without_keys))
         for fpr in fprs:
             if keyring.certificate(fpr) is not None:
                 engine.import_certificates(keyring.engine.export(fpr))
-        engine.feed(line for line in part.verdicts(fprs) if line.split()[1].decode() not in without_signatures)
+        engine.feed(line for line in part.verdicts(fprs, known) if line.split()[1].decode() not in without_signatures)
         yield Keyring(engine, keyring.index)
 
 

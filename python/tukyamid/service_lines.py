@@ -78,13 +78,14 @@ class Status(ListingCommand[Figure]):
 
 
 class Find(ListingCommand[Found]):
-    """Asks for user IDs by an `address`, a whole `user-id`, a `part` of one, or a `key` (a fingerprint or key ID)."""
+    """Asks for user IDs by an `address`, a whole `user-id`, a `part` of one (`first`: the first hundred of these), or a
+    `key` (a fingerprint or key ID)."""
     __slots__ = ("by", "sought")
     form, item = "service find {0.by} {0.text}", Found
 
     def __init__(self, by: str, sought: UserId) -> None:
         self.by, self.sought = by, spelling.user_id(sought)
-        if by not in ("address", "user-id", "part", "key") or not self.sought:
+        if by not in ("address", "user-id", "part", "first", "key") or not self.sought:
             raise ValueError(f"nothing can be found by {by!r} {self.sought!r}")
 
     @property

@@ -21,8 +21,8 @@ class ServiceCalls(Calls, ABC):
         return {figure.name: figure.value for figure in self.do(service_lines.Status())}
 
     def find(self, by: str, sought: UserId) -> Listing[Found]:
-        """The user IDs that have an `address`, are a `user-id`, or have a `part`, and those of a `key` (a fingerprint
-        or a key ID)."""
+        """The user IDs that have an `address`, are a `user-id`, or have a `part` (`first`: the first hundred of these),
+        and those of a `key` (a fingerprint or a key ID)."""
         return self.do(service_lines.Find(by, sought))
 
     def issuers(self, fpr: str) -> Listing[Issued]:

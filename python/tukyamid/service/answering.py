@@ -26,6 +26,7 @@ _KEY = re.compile(rb"[0-9a-fA-F]{16}|[0-9a-fA-F]{40}|[0-9a-fA-F]{64}")
 _FPR = re.compile(rb"[0-9a-fA-F]{40}|[0-9a-fA-F]{64}")
 _COUNT = re.compile(rb"[1-9][0-9]{0,5}")
 _REFUSED_ABSENT = b"refused absent\n"
+MOST_FIRST = 100
 
 
 def _text(octets: bytes) -> str:
@@ -36,6 +37,7 @@ _FOUND_BY: dict[bytes, Callable[[Finder, bytes], list[Binding]]] = {
     b"address": lambda finder, sought: finder.by_address(canonical(_text(sought))),
     b"user-id": lambda finder, sought: finder.by_user_id(sought),
     b"part": lambda finder, sought: finder.by_part(_text(sought)),
+    b"first": lambda finder, sought: finder.by_part(_text(sought), MOST_FIRST),
     b"key": lambda finder, sought: finder.by_key(bytes.fromhex(_text(sought))),
 }
 

@@ -7,6 +7,7 @@ which they are applied, and makes each of them whole or not at all.
 
 from collections.abc import Iterable, Iterator, Sequence
 from dataclasses import dataclass
+from itertools import islice
 from pathlib import Path
 from typing import Protocol, runtime_checkable
 
@@ -112,6 +113,23 @@ class Snapshot(Protocol):
     def close(self) -> None: ...
 
 
+Row = tuple[bytes, bytes]
+
+
+def with_part(rows: Iterable[Row], part: str, most: int | None) -> list[Binding]:
+    """The bindings among rows of fingerprint and user ID whose user ID has this part, and no more than `most`. Rows
+    behind the last of them aren't read."""
+    sought = part.casefold()
+    plain = sought.encode() if sought.isascii() else None  # Case is quick to ignore where all is ASCII.
+
+    def has_part(row: Row) -> bool:
+        if row[1].isascii():
+            return plain is not None and plain in row[1].lower()
+        return sought in row[1].decode("utf-8", "surrogateescape").casefold()
+
+    return [Binding(fpr.hex(), user_id) for fpr, user_id in islice(filter(has_part, rows), most)]
+
+
 class Finder(Protocol):
     """Reads what has been committed. One thread uses it at a time."""
 
@@ -121,8 +139,9 @@ class Finder(Protocol):
 
     def by_user_id(self, user_id: bytes) -> list[Binding]: ...
 
-    def by_part(self, part: str) -> list[Binding]:
-        """The bindings whose user ID has this part, of any case."""
+    def by_part(self, part: str, most: int | None = None) -> list[Binding]:
+        """The bindings whose user ID has this part, of any case; the first ones by fingerprint, if there are more than
+        `most`."""
 
     def by_key(self, key: bytes) -> list[Binding]:
         """The bindings of a fingerprint, or of each key of a key ID."""

@@ -3,9 +3,10 @@
 import sqlite3
 from binascii import hexlify
 from collections.abc import Callable, Iterator
+from contextlib import closing
 from pathlib import Path
 
-from .database import Actor, Binding, DatabaseFault, Figures, LogEntry, Source
+from .database import Actor, Binding, DatabaseFault, Figures, LogEntry, Source, with_part
 
 _BINDINGS = "SELECT fingerprint, user_id FROM user_ids JOIN certificates ON certificates.id = user_ids.certificate"
 _KILOBYTES_OF_A_SNAPSHOT = 128
@@ -81,10 +82,12 @@ class SqliteFinder:
     def by_user_id(self, user_id: bytes) -> list[Binding]:
         return self._bindings("user_id = ?", user_id)
 
-    def by_part(self, part: str) -> list[Binding]:
-        sought = part.casefold()
-        return [binding for binding in self._bindings("1")
-                if sought in binding.user_id.decode("utf-8", "surrogateescape").casefold()]
+    def by_part(self, part: str, most: int | None = None) -> list[Binding]:
+        try:
+            with closing(self._connection.execute(f"{_BINDINGS} ORDER BY fingerprint, user_id")) as rows:
+                return with_part(rows, part, most)
+        except sqlite3.Error as error:
+            raise DatabaseFault(f"{self._path}: {error}") from None
 
     def by_key(self, key: bytes) -> list[Binding]:
         return self._bindings("key_id = ?" if len(key) == 8 else "fingerprint = ?", key)

@@ -44,7 +44,8 @@ def over(keyring: Keyring, subject: Subject) -> Iterator[Keyring]:
         yield keyring
         return
     part = Part(keyring, subject.fpr, subject.user_id, subject.standpoint.roots)
-    with engine_over(keyring, part, subject.without_keys, subject.without_signatures) as copy:
+    # Why a certification doesn't count rests on its issuer's key, also of those that no root leads to.
+    with engine_over(keyring, part, subject.without_keys, subject.without_signatures, part.certifiers) as copy:
         yield copy
 
 

@@ -45,7 +45,7 @@ class Calls:
         key = _key(sought)
         found: list[dict[str, str]] = []
         async with self._desk.talking() as client:
-            listing = await (client.find("key", key) if key else client.find("part", sought))
+            listing = await (client.find("key", key) if key else client.find("first", sought))
             async for one in listing:
                 if len(found) == MOST_FOUND:
                     return {"found": found, "more": True}

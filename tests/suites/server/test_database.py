@@ -119,6 +119,8 @@ class Changes(InAFolder):
         self.assertEqual([one.fpr for one in self.finder.by_key(bytes.fromhex(fpr))], [fpr])
         self.assertEqual([one.fpr for one in self.finder.by_key(bytes.fromhex(fpr[-16:]))], [fpr])
         self.assertEqual(len(self.finder.by_part("example.ORG")), 6)
+        first = [one.fpr for one in self.finder.by_part("example.ORG", 4)]
+        self.assertEqual(first, sorted(one.decode() for one in self.world.fprs)[:4])
         self.assertEqual(self.finder.by_address("U3@example.org"), [])
 
     def test_a_snapshot_stays_as_it_was(self):

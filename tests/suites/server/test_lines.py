@@ -71,6 +71,8 @@ class Asked(Lines):
                      b"key " + self.world.fprs[2], b"key " + self.world.fprs[2][-16:].upper()):
             self.assertEqual(self.ask(b"service find " + line), [binding], line)
         self.assertEqual(len(self.ask(b"service find part @")), 6)
+        self.assertEqual(len(self.ask(b"service find first @")), 6)
+        self.assertEqual(self.ask(b"service find first sEr 2"), [binding])
         self.assertEqual(self.ask(b"service find address nobody@example.org"), [])
 
     def test_a_user_id_that_is_no_text(self):

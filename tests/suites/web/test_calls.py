@@ -57,6 +57,14 @@ class Calls(Served):
         self.assertEqual(self.chains(self.answer("Dave", DAVE, without=self.without("Bob"))),
                          [(60, ["Alice", "Carol", "Dave"])])
 
+    def test_why_others_do_not_count_without_a_key(self):
+        """The copy has the issuers that no root leads to, so nothing is said of them that isn't so."""
+        for root in "Alice", "Carol":
+            with self.subTest(root):
+                reply = self.answer("Frank", FRANK, roots={root: 120}, without=self.without("Dave"))
+                counts = {one["word"]: one["count"] for one in reply["others"]}
+                self.assertEqual(counts, {"edge": 1, "expired": 1, "issuer-hard": 1})
+
     def test_without_a_certification(self):
         direct, by_bob = self.answer("Carol", CAROL)["paths"]
         left = self.answer("Carol", CAROL, without=[{"signature": direct["steps"][0]["signature"]}])

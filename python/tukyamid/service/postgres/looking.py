@@ -7,7 +7,7 @@ from collections.abc import Iterator
 from time import monotonic
 from typing import TYPE_CHECKING, Any
 
-from ..database import Actor, Binding, DatabaseFault, Figures, LogEntry, Source
+from ..database import Actor, Binding, DatabaseFault, Figures, LogEntry, Source, with_part
 from .connecting import Servers, Statements, Wire, faults
 
 if TYPE_CHECKING:
@@ -114,10 +114,9 @@ class PostgresFinder:
     def by_user_id(self, user_id: bytes) -> list[Binding]:
         return self._bindings("sha256(user_id) = sha256(?) AND user_id = ?", user_id, user_id)
 
-    def by_part(self, part: str) -> list[Binding]:
-        sought = part.casefold()
-        return [binding for binding in self._bindings("TRUE")
-                if sought in binding.user_id.decode("utf-8", "surrogateescape").casefold()]
+    def by_part(self, part: str, most: int | None = None) -> list[Binding]:
+        rows = self._rows(f"{_BINDINGS} ORDER BY fingerprint, user_id")
+        return with_part(((fpr, user_id) for fpr, user_id in rows), part, most)
 
     def by_key(self, key: bytes) -> list[Binding]:
         return self._bindings("key_id = ?" if len(key) == 8 else "fingerprint = ?", key)

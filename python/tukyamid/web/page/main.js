@@ -12,6 +12,7 @@ import { showTime } from "./time.js";
 import { leaveOut, showWhatIf } from "./whatif.js";
 
 async function begin() {
+  attachMainSearch((one) => change({ binding: one, without: [], view: "ask" }));
   try {
     const reply = await call("begin");
     state.now = state.time = reply.time;
@@ -24,7 +25,6 @@ async function begin() {
     fill(byId("notes"), make("p", { class: "warn", role: "alert" }, `${failure.message}.`));
     return;
   }
-  attachMainSearch((one) => change({ binding: one, without: [], view: "ask" }));
   whenChanged(show);
   window.addEventListener("popstate", () => { Object.assign(state, read(location.hash)); show(); });
   for (const view of ["ask", "overview"]) {

@@ -9,7 +9,10 @@ const PAUSE = 120;
 export function attachSearch(input, list, said, chosen) {
   let timer = 0;
   let found = [];
+  let typed = null;  // Null when what was typed needs no search any more.
+  let foundFor = "";
   let at = -1;
+  let isAsking = false;
 
   function close() {
     list.hidden = true;
@@ -30,12 +33,14 @@ export function attachSearch(input, list, said, chosen) {
   function choose(place) {
     const one = found[place];
     clearTimeout(timer);
+    typed = null;
     close();
     if (one) chosen(one);
   }
 
-  function show(reply) {
+  function show(reply, text) {
     found = reply.found;
+    foundFor = text;
     fill(list, found.map((one, place) => make("li", {
       role: "option", id: `${list.id}-${place}`, "aria-selected": "false",
       onmousedown: (event) => event.preventDefault(), onclick: () => choose(place),
@@ -48,16 +53,23 @@ export function attachSearch(input, list, said, chosen) {
     fill(said, input.value.trim().length < 2 ? "" : first);
   }
 
+  /** One search at a time: what is typed meanwhile is sought after its reply, which isn't shown then. */
   async function search() {
+    if (isAsking) return;
+    isAsking = true;
+    const text = typed;
     try {
-      const reply = await call("search", { text: input.value }, `search ${input.id}`);
-      if (reply !== null && document.activeElement === input) show(reply);
+      const reply = await call("search", { text }, `search ${input.id}`);
+      if (reply !== null && text === typed && document.activeElement === input) show(reply, text);
     } catch (failure) {
       fill(said, `Not found out: ${failure.message}.`);
     }
+    isAsking = false;
+    if (typed !== null && typed !== text) search();
   }
 
   input.addEventListener("input", () => {
+    typed = input.value;
     clearTimeout(timer);
     timer = setTimeout(search, PAUSE);
   });
@@ -70,7 +82,7 @@ export function attachSearch(input, list, said, chosen) {
       mark(event.key === "ArrowDown" ? at + 1 : at < 0 ? -1 : at - 1);
       event.preventDefault();
     } else if (event.key === "Enter") {
-      if (!list.hidden) choose(Math.max(at, 0));
+      if (!list.hidden && (at >= 0 || foundFor === typed)) choose(Math.max(at, 0));
       event.preventDefault();
     } else if (event.key === "Escape") {
       close();

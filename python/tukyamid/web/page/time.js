@@ -23,6 +23,7 @@ export async function showTime() {
   }
   drawnFor = id;
   moments = [];
+  total = 0;
   compared = null;
   build();
   try {
@@ -96,9 +97,10 @@ function ticks(first, last) {
 function years(first, last) {
   const scale = window.d3?.time?.scale?.().domain([new Date(first * 1000), new Date(last * 1000)]);
   const found = scale ? scale.ticks(5) : [new Date(first * 1000), new Date(last * 1000)];
-  return found.map((date) => {
-    const label = make("span", {}, last - first > 3 * 365 * DAY ? String(date.getUTCFullYear())
-      : date.toISOString().slice(0, 7));
+  const written = (date) => date.toISOString().slice(0, last - first > 3 * 365 * DAY ? 4 : 7);
+  const apart = found.filter((date, at) => !at || written(date) !== written(found[at - 1]));
+  return apart.map((date) => {
+    const label = make("span", {}, written(date));
     label.style.left = `${(100 * (date / 1000 - first)) / (last - first || 1)}%`;
     return label;
   });
