@@ -12,6 +12,7 @@ from collections.abc import Callable, Coroutine, Sequence
 from pathlib import Path
 
 from tukyamid.engine import find_program
+from tukyamid.refusals import TukyamidError
 from tukyamid.verifier import find_verifier
 
 from .choosing import Chosen
@@ -223,7 +224,7 @@ def main(words: Sequence[str] | None = None) -> int:
         return int(given.call(given))
     except WrongWords as error:
         reader.error(str(error))
-    except DatabaseFault as fault:
+    except (DatabaseFault, TukyamidError) as fault:
         _tell(fault)
     except (OSError, ValueError) as error:
         _tell(f"{error.filename}: {error.strerror}" if isinstance(error, OSError) and error.filename else error)

@@ -3,14 +3,30 @@
 import os
 import shutil
 import signal
+import subprocess
 import tempfile
 import unittest
 from pathlib import Path
 
-from outside import FAILING_SERVER, HERE, Client, Server, alone, needs_engine
+from outside import FAILING_SERVER, HERE, PATIENCE, PYTHON, SERVER, Client, Server, alone, needs_engine
 from world import World
 
 FAULT = b"fault database"
+
+
+class Missing(unittest.TestCase):
+    @unittest.skipIf(os.access("/usr/libexec/tukyamid-engine", os.X_OK), "the engine is installed")
+    def test_the_engine(self):
+        """It is said in one line, by a package that nobody has built an engine for."""
+        with tempfile.TemporaryDirectory(prefix="tukyamid-failures-") as folder:
+            shutil.copytree(SERVER.parents[1], f"{folder}/python", ignore=shutil.ignore_patterns("__pycache__"))
+            done = subprocess.run(
+                [PYTHON, f"{folder}/python/bin/{SERVER.name}", "--socket", f"{folder}/socket", "--database", f"{folder}/db"],
+                env={"PATH": folder, "HOME": folder}, capture_output=True, timeout=PATIENCE, check=False)
+        lines = done.stderr.decode().splitlines()
+        self.assertEqual(len(lines), 1, lines)
+        self.assertTrue(lines[0].startswith("tukyamid-server: the engine isn't installed"), lines)
+        self.assertEqual(done.returncode, 1)
 
 
 @needs_engine
