@@ -20,8 +20,9 @@ class Missing(unittest.TestCase):
         """It is said in one line, by a package that nobody has built an engine for."""
         with tempfile.TemporaryDirectory(prefix="tukyamid-failures-") as folder:
             shutil.copytree(SERVER.parents[1], f"{folder}/python", ignore=shutil.ignore_patterns("__pycache__"))
+            program = f"{folder}/python/bin/{SERVER.name}"
             done = subprocess.run(
-                [PYTHON, f"{folder}/python/bin/{SERVER.name}", "--socket", f"{folder}/socket", "--database", f"{folder}/db"],
+                [PYTHON, program, "--socket", f"{folder}/socket", "--database", f"{folder}/db"],
                 env={"PATH": folder, "HOME": folder}, capture_output=True, timeout=PATIENCE, check=False)
         lines = done.stderr.decode().splitlines()
         self.assertEqual(len(lines), 1, lines)
