@@ -5,7 +5,7 @@ from __future__ import annotations
 
 from functools import partial
 
-from .cursor_lines import LINE, MOST_CURSORS, MOST_WANTED
+from .cursor_lines import MOST_CURSORS, fields_of
 from .hub import Hub
 from .journal import Done
 from .outbox import Slot
@@ -38,12 +38,11 @@ class Cursors:
 
     def begin(self, slot: Slot, line: bytes, done: Done) -> None:
         """Does a line `cursor ..`."""
-        match = LINE.fullmatch(line)
-        number = match and (match.group(3) or match.group(4))
-        if match is None or number and not 1 <= int(number) <= MOST_WANTED:
+        fields = fields_of(line)
+        if fields is None:
             done(b"refused line\n", 0)
             return
-        name, view_name, wanted, count = match.groups()
+        name, view_name, wanted, count = fields
         if wanted is not None:
             self._over(slot, name, view_name, wanted, done)
             return

@@ -8,7 +8,7 @@ from functools import partial
 from typing import IO, TYPE_CHECKING
 
 from .asking import Asker, listing
-from .cursor_lines import LINE, MOST_CURSORS, MOST_WANTED
+from .cursor_lines import MOST_CURSORS, fields_of
 from .journal import Done
 from .outbox import Slot
 from .views import Value, Views
@@ -71,12 +71,11 @@ class SlicedCursors:
 
     def begin(self, slot: Slot, line: bytes, done: Done) -> None:
         """Does a line `cursor ..`."""
-        match = LINE.fullmatch(line)
-        number = match and (match.group(3) or match.group(4))
-        if match is None or number and not 1 <= int(number) <= MOST_WANTED:
+        fields = fields_of(line)
+        if fields is None:
             done(b"refused line\n", 0)
             return
-        name, view, wanted, count = match.groups()
+        name, view, wanted, count = fields
         cursor = self._cursors.get(name)
         if wanted is not None:
             self._over(name, view, int(wanted), done)

@@ -164,3 +164,22 @@ def _spelled(statement: str) -> bytes:
 
 def _kept(values: Sequence[Any]) -> list[Any]:
     return [value.encode("utf-8", "surrogateescape") if isinstance(value, str) else value for value in values]
+
+
+class Connected:
+    """What keeps a connection of its own to one of the servers, while there is one."""
+
+    def __init__(self, servers: Servers) -> None:
+        self._servers = servers
+        self._wire: Wire | None = None
+
+    @property
+    def name(self) -> str:
+        return self._servers.name
+
+    def disconnect(self) -> None:
+        if self._wire is not None:
+            self._wire.close()
+            self._wire = None
+
+    close = disconnect

@@ -3,30 +3,15 @@
 import select
 
 from ..database import Place
-from .connecting import Servers, Statements, Wire, faults
+from .connecting import Connected, Statements, faults
 
 CHANNEL = "tukyamid"
 _PAUSE = 0.5
 PLACE = "SELECT number, mark FROM head"
 
 
-class PostgresFollower:
+class PostgresFollower(Connected):
     """Listens at the primary. It looks by itself too, now and then: so it notices when the primary is gone."""
-
-    def __init__(self, servers: Servers) -> None:
-        self._servers = servers
-        self._wire: Wire | None = None
-
-    @property
-    def name(self) -> str:
-        return self._servers.name
-
-    def disconnect(self) -> None:
-        if self._wire is not None:
-            self._wire.close()
-            self._wire = None
-
-    close = disconnect
 
     @faults
     def wait(self) -> Place:

@@ -8,7 +8,7 @@ from time import monotonic
 from typing import TYPE_CHECKING, Any
 
 from ..database import Actor, Binding, DatabaseFault, Figures, LogEntry, Source, with_part
-from .connecting import Servers, Statements, Wire, faults
+from .connecting import Connected, Servers, Statements, Wire, faults
 
 if TYPE_CHECKING:
     from .database import Postgres
@@ -58,27 +58,15 @@ class PostgresSnapshot:
         self._file.close()
 
 
-class PostgresFinder:
+class PostgresFinder(Connected):
     """Looks up what has been committed by now: on the primary, or on a standby while there is no primary. A standby
     that is behind what this service has read is not asked."""
 
     def __init__(self, database: "Postgres", servers: Servers, machine: str) -> None:
+        super().__init__(servers)
         self._database = database
-        self._servers = servers
         self._machine = machine
-        self._wire: Wire | None = None
         self._until = 0.0
-
-    @property
-    def name(self) -> str:
-        return self._servers.name
-
-    def disconnect(self) -> None:
-        if self._wire is not None:
-            self._wire.close()
-            self._wire = None
-
-    close = disconnect
 
     def _connect(self) -> Wire:
         try:
