@@ -7,6 +7,7 @@ pub mod Watched
 mod Stays
 mod Named
 mod Marked
+mod EdgeLines
 mod Absences
 mod Claiming
 mod Outcomes
@@ -39,7 +40,7 @@ mod Telling
 mod Worth
 mod Settling
 mod Asking
-mod Judging
+pub mod Judging
 mod GoingOn
 mod Slices
 mod Explained

@@ -4,6 +4,7 @@ pub mod Outcome
 pub mod Refused
 pub mod Answer
 pub mod Listing
+pub mod EdgeLines
 pub mod Absent
 pub mod Whole
 pub mod Pacing

@@ -17,6 +17,7 @@ ghost use Rattle.wot_script.specs.Spelling.{HasSpelling, IsWithin};
 ghost use Rattle.wot_script.specs.Replies.{HasWords, is_short, reply_text};
 ghost use Rattle.wot_cache.specs.State.{empty, state_of, StaysButMarks};
 ghost use Rattle.wot_machine.specs.Asked.{LineAsks};
+ghost use Rattle.wot_machine.specs.EdgeLines.{CommandMarks, LineMarks};
 ghost use Rattle.wot_machine.specs.Lines.{heard, is_silent};
 ghost use Rattle.wot_machine.specs.Entry.{MayPut, entry_for, unused, use_of};
 ghost use Rattle.wot_machine.specs.LineStep.{Does};
@@ -142,6 +143,8 @@ impl Machine {
         // The lines that the reply to `dump` holds make the state anew in a fresh machine, by whatever rows it judges.
         ensures anew { OnOk result
             (IsDump line.now → (rows : PolicyRows) → IsMadeAnew rows (state_of self.old.engine)) }
+        // A line of the reply to `explain` says `edge` exactly for each usable edge, by the definition of edges alone.
+        ensures edges { OnOk result (LineMarks self.old.engine (heard line.now)) }
         ensures kept { OnErr result (StaysKept self.old self.new × (out.new.items ≡ out.old.items)) }
         ensures room { OnOk result (is_silent line.now ≡ false → vec_len out.old + 128 ≤ vec_capacity out.new) }
         // A line that leaves the state, as one that is silent or refused, or asks or lists, leaves stamps and counts
@@ -190,6 +193,7 @@ impl Machine {
         ensures words { IfOk result (λ told. IfSome told (λ told. HasWords told.reply)) }
         ensures anew { OnOk result
             (IsDump line.now → (rows : PolicyRows) → IsMadeAnew rows (state_of self.old.engine)) }
+        ensures edges { OnOk result (LineMarks self.old.engine (heard line.now)) }
         ensures quiet { IfOk result (λ told.
             IfSome told (λ told. is_short told.reply ≡ false → StaysKept self.old self.new)) }
         ensures kept { OnErr result (StaysKept self.old self.new) }
@@ -434,6 +438,7 @@ fn answer<D: Shelf, F: Fn(Ask) -> bool>(
     ensures later { D.faults shelf.old ≤ D.faults shelf.new }
     ensures words { IfOk result (λ told. HasWords told.reply) }
     ensures anew { OnOk result (IsDump line.now → (rows : PolicyRows) → IsMadeAnew rows (state_of engine.old)) }
+    ensures edges { OnOk result (LineMarks engine.old (command_of line.now)) }
     ensures quiet { IfOk result (λ told.
         is_short told.reply ≡ false → PartsStay (parts engine cursors watches)) }
     ensures kept { OnErr result (PartsStay (parts engine cursors watches)) }
@@ -483,6 +488,7 @@ fn act<D: Shelf, F: Fn(Ask) -> bool>(
         (D.world shelf.old) (D.world shelf.new)) }
     ensures later { D.faults shelf.old ≤ D.faults shelf.new }
     ensures anew { OnOk result (OnDump command.now ((rows : PolicyRows) → IsMadeAnew rows (state_of engine.old))) }
+    ensures edges { OnOk result (CommandMarks engine.old command.now) }
     ensures quiet { IfOk result (λ told.
         is_short told.reply ≡ false → PartsStay (parts engine cursors watches)) }
     ensures kept { OnErr result (PartsStay (parts engine cursors watches)) }
@@ -537,6 +543,7 @@ fn obey<D: Shelf, F: Fn(Ask) -> bool>(
         (D.world shelf.old) (D.world shelf.new)) }
     ensures later { D.faults shelf.old ≤ D.faults shelf.new }
     ensures anew { OnOk result (OnDump command.now ((rows : PolicyRows) → IsMadeAnew rows (state_of engine.old))) }
+    ensures edges { OnOk result (CommandMarks engine.old command.now) }
     ensures quiet { IfOk result (λ reply. is_short reply ≡ false → StaysButMarks engine.old engine.new) }
     ensures kept { OnErr result (StaysButMarks engine.old engine.new) }
     ensures makes { Makes result command.now engine.old engine.new steps.old.made steps.new.made }
@@ -578,6 +585,7 @@ fn run<F: Fn(Ask) -> bool>(
     ensures does { IfOk result (λ told.
         Does (rows_of policy.old) (state_of engine.old) command.now unserved told (state_of engine.new)) }
     ensures anew { OnOk result (OnDump command.now ((rows : PolicyRows) → IsMadeAnew rows (state_of engine.old))) }
+    ensures edges { OnOk result (CommandMarks engine.old command.now) }
     ensures quiet { IfOk result (λ reply. is_short reply ≡ false → StaysButMarks engine.old engine.new) }
     ensures kept { OnErr result (StaysButMarks engine.old engine.new) }
     ensures makes { Makes result command.now engine.old engine.new steps.old.made steps.new.made }

@@ -1,11 +1,14 @@
-//! The reply to `explain`.
-ghost use Rattle.std.specs.Prelude.{◌≡◌, map, IfOk};
+//! The reply to `explain`: the word for the certificate, and a line for each certification on the user ID. It stands on
+//! wot_explain over the parts that a view sees. What its lines say is defined in `specs/Listing.antt`, and which of them
+//! say `edge` in `specs/EdgeLines.antt`.
+ghost use Rattle.std.specs.Prelude.{◌≡◌, map, IfOk, OnOk};
 ghost use Rattle.wot_network.specs.Net.{told_of};
 ghost use Rattle.wot_network.specs.Roads.{present_of};
 ghost use Rattle.wot_cache.specs.Marks.{IsRefreshed};
 ghost use Rattle.wot_cache.specs.State.{state_of};
 ghost use Rattle.wot_cache.specs.Views.{view_at};
 ghost use Rattle.wot_explain.specs.Usable.{AreRoadsOf};
+ghost use Rattle.wot_machine.specs.EdgeLines.{EdgesAreTold, MarksFrom};
 ghost use Rattle.wot_machine.specs.Listing.{Explains, explained_from, reason_line as reason_line_of};
 
 use std::alloc::Global;
@@ -26,6 +29,8 @@ pub fn explain(
 ) -> Result<Reply, Memory>
     ensures explains { IfOk result (λ reply.
         reply ≡ explained_from (state_of engine.old) (view_at engine.old.views view.now) fpr.now uid.now) }
+    // A line of it says `edge` exactly for each usable edge, by the definition of edges alone.
+    ensures edges { OnOk result (MarksFrom engine.old view.now fpr.now uid.now) }
     ensures keyring { engine.new.keyring ≡ engine.old.keyring }
     ensures views { engine.new.views ≡ engine.old.views }
     ensures refreshed { IsRefreshed result view.now engine.old engine.new steps.old.made steps.new.made }
@@ -41,6 +46,7 @@ pub fn explain(
 fn explain_from(alloc: Global, parts: &Parts<'_>, fpr: &Fpr, uid: &[u8]) -> Result<Reply, Memory>
     requires present { AreRoadsOf (told_of (present_of parts.now.roads)) parts.now.keyring.now parts.now.t }
     ensures explains { IfOk result (Explains parts.now.keyring.now parts.now.t fpr.now uid.now) }
+    ensures edges { OnOk result (EdgesAreTold parts.now.keyring.now parts.now.t fpr.now uid.now) }
 {
     match wot_explain::explain(alloc, parts.keyring, &parts.roads, parts.t, fpr, uid) {
         Ok(explained) => {

@@ -67,6 +67,7 @@ returns-in_default g c =
       entries = on_err_told c.obey.result c.plain-in_default.result _ c.plain-in_default.ensures.same c.obey.ensures.entries;
       later = c.obey.ensures.later;
       anew = on_ok_told c.obey.result c.plain-in_default.result _ c.plain-in_default.ensures.same c.obey.ensures.anew;
+      edges = on_ok_told c.obey.result c.plain-in_default.result _ c.plain-in_default.ensures.same c.obey.ensures.edges;
       quiet = told_as c.obey.result c.plain-in_default.result
           (λ (reply : Reply). is_short reply ≡ false → StaysButMarks old new × (c.args.cursors.now ≡ c.args.cursors.now) × (c.args.watches.now ≡ c.args.watches.now)) c.plain-in_default.ensures.told c.plain-in_default.ensures.same
           (if_ok c.obey.result _ _ (λ reply quiet long. (quiet long, refl, refl)) c.obey.ensures.quiet);

@@ -9,6 +9,7 @@ use Rattle.wot_machine.specs.Pacing.{settled}
 use Rattle.wot_machine.specs.Whole.{watched, whole_of}
 use Rattle.wot_machine.proofs.Judging.{asks_not}
 use Rattle.wot_machine.proofs.Dumping.{on_dump, dump_is_read}
+use Rattle.wot_machine.proofs.EdgeLines.{none_marks}
 use Rattle.wot_machine.specs.Entry.{use_of}
 use Rattle.wot_machine.proofs.Putting.{puts_still}
 use Rattle.wot_machine.proofs.Refusing.{if_ok}
@@ -56,3 +57,10 @@ returns-in-Err-Line-clause-asked g c = asks_not _ (command_of c.args.line.now) (
 
 pub returns-in-Err-Memory-clause-asked : goal.returns-in-Err-Memory-clause-asked
 returns-in-Err-Memory-clause-asked g c = asks_not _ (command_of c.args.line.now) (state_of c.args.engine.now) c.args.policy.now
+
+pub returns-in-Ok-clause-edges : goal.returns-in-Ok-clause-edges
+returns-in-Ok-clause-edges g c = rw c.in-Ok.ensures.read c.act.ensures.edges
+
+pub returns-in-Err-Line-clause-edges : goal.returns-in-Err-Line-clause-edges
+returns-in-Err-Line-clause-edges g c =
+    none_marks c.args.engine.now (command_of c.args.line.now) ((rw c.in-Err-Line.field-0-is at c.in-Err-Line.ensures.line) refl)

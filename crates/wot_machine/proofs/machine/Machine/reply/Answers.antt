@@ -10,6 +10,8 @@ use Rattle.wot_machine.specs.Pacing.{settled}
 use Rattle.wot_machine.specs.Settled.{AreSettled}
 use Rattle.wot_cache.specs.State.{state_of}
 use Rattle.wot_machine.specs.Asked.{LineAsks}
+use Rattle.wot_machine.specs.EdgeLines.{LineMarks}
+use Rattle.wot_machine.proofs.EdgeLines.{heard_marks}
 use Rattle.wot_machine.proofs.Judging.{asks_as, asks_heard}
 use Rattle.wot_machine.proofs.Making.{line_makes_as, makes_heard}
 use Rattle.wot_machine.proofs.Running.{replied_long, replied_silent}
@@ -62,3 +64,9 @@ returns-clause-asked g c =
     c.if-line-gt-LONGEST.false loud
     (asks_as (Ok c.in_ok-told.told) done (λ ok. refl) (command_of c.args.line.now) (state_of c.self.inside.engine) (state_of c.answer.new.engine)
     c.args.policy.now c.answer.new.policy c.in_ok-told.ensures.asked))
+
+pub returns-clause-edges : goal.returns-clause-edges
+returns-clause-edges g c =
+    let loud : is_silent c.args.line.now ≡ false = search rules in
+    subst (λ (m : Machine). LineMarks m.engine (heard c.args.line.now)) c.self.view_is
+    (heard_marks c.self.inside.engine c.args.line.now c.if-line-gt-LONGEST.false loud c.in_ok-told.ensures.edges)
