@@ -5,8 +5,9 @@ ghost use Rattle.std.specs.Prelude.{◌≡◌, ◌⊎◌, ◌↔◌, map, string
 ghost use Rattle.wot_policy.specs.Kept.{IsFaithful, rows_of};
 ghost use Rattle.wot_io.specs.Counts.{Rose};
 ghost use Rattle.wot_io.specs.Filled.{IsAtEnd};
-ghost use Rattle.wot_machine.specs.Both.{ends};
+ghost use Rattle.wot_machine.specs.Both.{ends, itself};
 ghost use Rattle.wot_machine.specs.Transcript.{TakesAtMost};
+ghost use Rattle.wot_engine.specs.Asking.{RunAsks};
 ghost use Rattle.wot_engine.specs.Ends.{status_at};
 ghost use Rattle.wot_engine.specs.Forms.{IsForm};
 ghost use Rattle.wot_engine.specs.Generated.{BeginsSummary, WritesSummary};
@@ -75,6 +76,11 @@ pub fn run_words<S: Source, K: Sink, D: Shelf, F: Fn(Ask) -> bool>(
     ensures at_most { TakesAtMost (S.left input.old) (S.left input.new) }
     ensures faithful { IsFaithful F.Fn policy.new }
     ensures rows { rows_of policy.new ≡ rows_of policy.old }
+
+    // The policy is asked once for each sound signature that an import or a load adds, and for nothing else: in all
+    // lines with status 0, in all whole lines that were taken with 3 and 6, and in some first ones whatever the status.
+    ensures asked { AreOfRun words.now → RunAsks result (rows_of policy.old)
+        (ends S.left input) (ends K.written output) (ends D.world shelf) (ends itself policy) }
 
     // Whatever sink and shelf tell: with status 0 the source has nothing left, with 6 it gave 2^30 octets.
     ensures ended { Done 0 words.now result → IsAtEnd (S.left input.old) (S.left input.new) }
