@@ -5,6 +5,7 @@ use Rattle.wot_io.specs.declared.lines.Line.{Line}
 use Rattle.wot_io.specs.declared.lines.Line.TheVariants.{Text, Long, End}
 use Rattle.wot_policy.specs.declared.policy.Policy.{Policy}
 use Rattle.wot_policy.specs.declared.rows.PolicyRows.{PolicyRows}
+use Rattle.wot_policy.specs.Kept.{rows_of}
 use Rattle.wot_script.specs.declared.command.Command.{Command}
 use Rattle.wot_script.specs.declared.reply.Reply.{Reply}
 use Rattle.wot_certd.specs.World.{World}
@@ -14,6 +15,7 @@ use Rattle.wot_machine.specs.Both.{Ends}
 use Rattle.wot_machine.specs.Lines.{heard}
 use Rattle.wot_machine.specs.Scene.{Scene, Step, opening}
 use Rattle.wot_machine.specs.Transcript.{IsTaken}
+use Rattle.wot_machine.specs.Whole.{Whole}
 use Rattle.wot_engine.specs.Told.{IsEither, Octets, OnContents}
 
 -- ---- lines that were answered
@@ -70,6 +72,11 @@ command_by Text text = heard text
 command_by Long text = None
 command_by End text = None
 
+-- What a line that the reader gave asks, of what the machine keeps and of the policy, before and behind it.
+abbrev pub ReadAsks : {T E F : Type 0} → Result T E → Line → List ℕ → Ends Whole → Ends (Policy F) → Type 0
+ReadAsks result line text machine policy =
+    LineAsks result (command_by line text) machine.old.state machine.new.state policy.old policy.new
+
 -- ---- runs
 
 -- The policy was asked for some first ones of these lines. The next one may have asked it before memory was wanting.
@@ -98,6 +105,6 @@ pub record AsksBy {F : Type 0} (status : ℕ) (rows : PolicyRows) (world : World
   pub first : AsksFirst rows world (lines_of input) before after
 
 -- The same where input, output and shelf tell their contents.
-abbrev pub RunAsks : {F : Type 0} → ℕ → PolicyRows → Octets → Octets → Ends (Option World) → Ends (Policy F) → Type 0
-RunAsks status rows input output shelf policy = OnContents input output shelf (λ octets before world.
-    AsksBy status rows world octets input.new policy.old policy.new)
+abbrev pub RunAsks : {F : Type 0} → ℕ → Octets → Octets → Ends (Option World) → Ends (Policy F) → Type 0
+RunAsks status input output shelf policy = OnContents input output shelf (λ octets before world.
+    AsksBy status (rows_of policy.old) world octets input.new policy.old policy.new)

@@ -79,7 +79,7 @@ pub fn run_words<S: Source, K: Sink, D: Shelf, F: Fn(Ask) -> bool>(
 
     // The policy is asked once for each sound signature that an import or a load adds, and for nothing else: in all
     // lines with status 0, in all whole lines that were taken with 3 and 6, and in some first ones whatever the status.
-    ensures asked { AreOfRun words.now → RunAsks result (rows_of policy.old)
+    ensures asked { AreOfRun words.now → RunAsks result
         (ends S.left input) (ends K.written output) (ends D.world shelf) (ends itself policy) }
 
     // Whatever sink and shelf tell: with status 0 the source has nothing left, with 6 it gave 2^30 octets.
