@@ -1,4 +1,4 @@
--- An answer is right for as long as what it rests on is found as it was.
+-- A kept answer is right for as long as what it depends on is unchanged.
 use Rattle.std.proofs.Common.{◌≡◌, inl, inr, ℕ, ◌<◌, ◌≤◌, List, [], ◌∷◌, map, Option, Some, None, refl, sym, ap, subst, ◌∙◌, arith}
 use Rattle.std.specs.Prelude.{Vec, IfSome}
 use Rattle.std.specs.declared.alloc.Global.{Global}
@@ -39,7 +39,7 @@ StampedBy changes x = (0 < x.stamp) × (x.stamp ≤ changes)
 stamped_there : (k : Keyring) (fpr : Fpr) (x : Kept) → AreStamped k.changes k.certs → kept_at k fpr ≡ Some x → StampedBy k.changes x
 stamped_there k fpr x stamped e = each_found (StampedBy k.changes) (is_fpr fpr) k.certs x stamped e
 
--- a stamp is a count of changes up to now
+-- a stamp is at most the current count of changes
 pub stamp_past : (k : Keyring) (fpr : Fpr) → AreStamped k.changes k.certs → stamp_at k fpr ≤ k.changes
 stamp_past k fpr stamped = by (kept_at k fpr) refl
   where
@@ -47,7 +47,7 @@ stamp_past k fpr stamped = by (kept_at k fpr) refl
     by None e = omega arith
     by (Some x) e = (stamped_there k fpr x stamped e).1
 
--- what has the stamp 0 isn't kept
+-- a fingerprint with stamp 0 has no certificate in the keyring
 none_kept : (k : Keyring) (fpr : Fpr) → AreStamped k.changes k.certs → stamp_at k fpr ≡ 0 → kept_at k fpr ≡ None
 none_kept k fpr stamped zero = by (kept_at k fpr) refl zero
   where
@@ -74,7 +74,7 @@ absent_agrees k later fpr none gone =
     let after : lookup (is_fpr fpr) (certificates_in later) ≡ None = stripped_at later fpr ∙ ap (λ (o : Option Kept). option_map (λ (x : Kept). x.cert) o) gone in
     record { same = before ∙ sym after; said = λ c e. absurd cc }
 
--- what has the same stamp in a later keyring is as it was
+-- an equal stamp in a later keyring means that nothing changed at the fingerprint
 agrees_there : (k later : Keyring) (fpr : Fpr) → AreStamped k.changes k.certs → IsLaterAt k later fpr → stamp_at later fpr ≡ stamp_at k fpr
     → AgreeAt (certificates_in k) k.verdicts (certificates_in later) later.verdicts fpr
 agrees_there k later fpr stamped (inl u) same = unaltered_agrees k later fpr u
@@ -87,14 +87,14 @@ agrees_there k later fpr stamped (inr (inr more)) same =
 
 -- ---- a set of fingerprints
 
--- what was found at each of them is found there
+-- a lookup at each member of the set finds what was noted
 still_at : (k later : Keyring) (roots amounts : List (Fpr × ℕ)) (set : List Fpr) (fpr : Fpr) → Has set fpr
     → AreStill later amounts (map (look k roots) set) → IsStill later amounts (look k roots fpr)
 still_at k later roots amounts [] fpr has still = absurd has
 still_at k later roots amounts (x ∷ xs) fpr (inl e) still = subst (λ (y : Fpr). IsStill later amounts (look k roots y)) (sym e) still.0
 still_at k later roots amounts (x ∷ xs) fpr (inr has) still = still_at k later roots amounts xs fpr has still.1
 
--- what is noted of each of them is its stamp
+-- the stamp noted for each member is its stamp in the keyring
 same_stamps : (k : Keyring) (roots : Amounts) (set : List Fpr) → AllByRecursion (λ (l : Looked). stamp_at k l.fpr ≡ l.stamp) (map (look k roots) set)
 same_stamps k roots [] = tt
 same_stamps k roots (x ∷ xs) = (refl, same_stamps k roots xs)
@@ -104,7 +104,7 @@ each_leads : (k : Keyring) (roots : Amounts) (told : Record) (target : Fpr) (set
 each_leads k roots told target [] leads = tt
 each_leads k roots told target (x ∷ xs) leads = (leads x (inl refl), each_leads k roots told target xs (λ fpr h. leads fpr (inr h)))
 
--- they lead to the target in the keyring in which they are looked at
+-- the set leads to the target in the keyring that was consulted
 led_here : (k : Keyring) (roots : Amounts) (t : ℕ) (uid : List ℕ) (target : Fpr) (set : List Fpr) → IsLater k k
     → AllLead (record_of (certificates_in k) k.verdicts t uid) target set → AllLed k t uid target (map (look k roots) set)
 led_here k roots t uid target set itself leads = record {
@@ -114,7 +114,7 @@ led_here k roots t uid target set itself leads = record {
   each = each_leads k roots (record_of (certificates_in k) k.verdicts t uid) target set leads;
 }
 
--- by the law that what certificates and verdicts tell of a set rests on those of the set alone
+-- the law that certificates and verdicts outside a set don't matter to it
 abbrev pub RecordsAgree : Type 0
 RecordsAgree = (certs : Certificates) (said : verdicts.Entries) (t : ℕ) → IsLocal certs said t (record_of certs said t)
 
@@ -134,7 +134,7 @@ right_made law k roots a set stamped kept there looked sum around itself leads =
       (λ fpr has. sym (still_at k later roots amounts set fpr has found).amount));
 }
 
--- one that rests on all that there is
+-- an answer that depends on the whole keyring
 pub right_of_all : (k : Keyring) (a : KeptAnswer) → a.looked ≡ None → a.answer.sum ≡ amount_of a.answer.paths → IsRight k a
 right_of_all k a none sum = record {
   sum = sum;
@@ -142,7 +142,7 @@ right_of_all k a none sum = record {
   leads = subst (λ (o : Option (Vec Looked Global)). IfSome o (λ (ls : Vec Looked Global). AllLed k a.time a.uid a.target ls.items)) (sym none) tt;
 }
 
--- A right answer is the answer to its question now, where what it rests on is found as it was.
+-- a right answer is the current answer if everything that it depends on is unchanged
 pub right_now : ((k : Keyring) → IsLater k k) → (k : Keyring) (roots : Amounts) (a : KeptAnswer) → IsRight k a → AllStill k roots a.looked → Answers k roots a
 right_now itself k roots a right still = right.answer k roots (itself k) still
 
@@ -154,12 +154,12 @@ of_question k roots a target wanted uid t is here =
     (subst (λ (u : List ℕ). IsAnswer (asks (record_of (certificates_in k) k.verdicts t u) roots a.target) a.wanted a.answer.paths) is.uid
     (subst (λ (s : ℕ). IsAnswer (asks (record_of (certificates_in k) k.verdicts s a.uid) roots a.target) a.wanted a.answer.paths) is.time here)))
 
--- ---- when it was found good
+-- ---- when an answer was last found valid
 
 pub found_made : (k : Keyring) (roots : Amounts) (a : KeptAnswer) → a.count ≡ k.changes → Answers k roots a → IsFound k roots a
 found_made k roots a now here = record { counted = omega (arith, now); now = here }
 
--- one that is found good now
+-- an answer that is revalidated now is valid
 pub good_now : (k : Keyring) (roots : Amounts) (turn : ℕ) (old new : KeptAnswer) → IsSameBut old new → new.count ≡ k.changes → new.turn ≡ turn → Answers k roots old
     → IsGood k roots turn new
 good_now k roots turn old new same count now here = record {
@@ -168,15 +168,15 @@ good_now k roots turn old new same count now here = record {
   now = λ e f. subst (Answers k roots) (sym same) here;
 }
 
--- one that is found good at this turn of the roots
+-- an answer that was found valid is valid at the current turn of the roots
 pub good_at : (k : Keyring) (roots : Amounts) (turn : ℕ) (a : KeptAnswer) → IsFound k roots a → IsGood k roots turn (record a { turn = turn })
 good_at k roots turn a found = record { counted = found.counted; turned = omega arith; now = λ e f. found.now }
 
--- what is right stays so, whenever it was found good
+-- a right answer stays right after revalidation
 pub right_again : (k : Keyring) (old new : KeptAnswer) → IsSameBut old new → IsRight k old → IsRight k new
 right_again k old new same right = subst (IsRight k) (sym same) (record { sum = right.sum; answer = λ later roots is still. right.answer later roots is still; leads = right.leads })
 
--- at another turn of the roots nothing was found good yet
+-- after a new turn of the roots, no answer counts as valid yet
 pub right_turned : (k : Keyring) (roots others : Amounts) (turn next : ℕ) (entries : Entries) → turn < next → AreRight k roots turn entries
     → AreRight k others next entries
 right_turned k roots others turn next [] more all = tt
@@ -186,7 +186,7 @@ right_turned k roots others turn next (e ∷ es) more all =
       right_turned k roots others turn next es more all.1,
     )
 
--- nor was a table of reach made of them
+-- nor does a table of reach
 pub reaching_turned : (k : Keyring) (roots others : Amounts) (turn next : ℕ) (o : Option KeptReach) → turn < next → IfSome o (IsReaching k roots turn)
     → IfSome o (IsReaching k others next)
 reaching_turned k roots others turn next None more is = is
@@ -194,7 +194,7 @@ reaching_turned k roots others turn next (Some r) more is =
     let past : r.turn ≤ turn = is.turned in
     record { counted = is.counted; turned = omega (arith, past, more); now = λ e f. absurd (omega (arith, past, more, f)) }
 
--- A making that is of now is one of the reach now.
+-- an up-to-date table in the making is one for the current reach
 pub reaching_now : (k : Keyring) (roots amounts : Amounts) (turn t : ℕ) (r : KeptReach) → IsReaching k roots turn r → r.count ≡ k.changes → r.turn ≡ turn → r.time ≡ t
     → roots ≡ amounts → IsMaking (record_of (certificates_in k) k.verdicts t) amounts r.making
 reaching_now k roots amounts turn t r is count now time same =

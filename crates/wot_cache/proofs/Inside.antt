@@ -1,4 +1,4 @@
--- Views stay within the limits, and networks go on to fit.
+-- Views stay within the limits, and kept networks and answers stay valid.
 use Rattle.std.proofs.Common.{◌≡◌, inl, inr, ℕ, ◌+◌, ◌<◌, ◌≤◌, Bool, true, false, cond, List, [], ◌∷◌, length, Option, Some, None, Result, Ok, Err, OnOk, OnErr, refl, sym, subst, arith}
 use Rattle.std.specs.Prelude.{nat_lt, nat_le, ◌==◌, Vec}
 use Rattle.std.specs.declared.alloc.Global.{Global}
@@ -34,7 +34,7 @@ use Rattle.wot_cache.specs.Inside.{IsEngine, AllFit, Networks}
 use Rattle.wot_cache.specs.Turns.{Turns}
 use Rattle.wot_cache.specs.Views.{Views, IsWithin, is_name, view_at, with_amount, amount_fault, root_fault, without_view}
 
--- ---- entries of a map, where P holds of each value
+-- ---- maps of which each value satisfies P
 
 module _ {K X : Type 0} (P : X → Type 0) where
   abbrev pub Each : List (K × X) → Type 0
@@ -110,7 +110,7 @@ unfolding one
 one_there None v e = absurd cc
 one_there (Some x) v e = refl
 
--- a value in place of another one
+-- a value replaces another one
 length_replaced : {K X : Type 0} (cmp : K → K → Ordering) → IsTotalOrder cmp → (es : List (K × X)) (k : K) (v w : X) → Rattle.std.specs.List.Sorted.IsStrictlySortedBy cmp (keys_of es) → lookup (is_at (cmp k)) es ≡ Some w → length (insert_entry cmp es k v) ≡ length es
 unfolding one
 length_replaced cmp total es k v w sorted e =
@@ -120,7 +120,7 @@ length_replaced cmp total es k v w sorted e =
 
 -- ---- roots
 
--- the roots stay within the limit
+-- setting a root keeps the number of roots within the limit
 pub few_amounts : (l : Limits) (roots : List (Fpr × ℕ)) (fpr : Fpr) (amount : ℕ) → IsRoots roots → length roots ≤ l.roots → amount_fault l roots fpr amount ≡ None → length (with_amount roots fpr amount) ≤ l.roots
 few_amounts l roots fpr amount are few none = by (amount == 0) (nat_lt 0 (root_amount roots fpr)) refl (nat_le l.roots (length roots)) refl none
   where
@@ -149,13 +149,13 @@ within_closed l views name w =
     let fewer = length_removed (is_name name) views in
     record { few = omega (arith, fewer, w.few); few_roots = each_removed (Few l.roots) (is_name name) views w.few_roots }
 
--- the view that is found has few roots
+-- an open view's roots are within the limit
 pub few_there : (l : Limits) (views : Views) (name : List ℕ) (v : View) → IsWithin l views → view_at views name ≡ Some v → length v.roots ≤ l.roots
 few_there l views name v w e = each_found (Few l.roots) (is_name name) views v w.few_roots e
 
 -- ---- networks
 
--- by the law that a network fits each later keyring
+-- the law that a network fits each later keyring
 abbrev pub FitLater : Type 0
 FitLater = (n : Net) (old new : Keyring) → Fits n old → IsLater old new → Fits n new
 
@@ -163,11 +163,11 @@ pub all_fit : FitLater → (networks : Networks) (old new : Keyring) → IsLater
 all_fit law [] old new later all = tt
 all_fit law (e ∷ es) old new later all = (law e.1 old new all.0 later, all_fit law es old new later all.1)
 
--- by the law that what is later than a later keyring is later
+-- the law that being later is transitive
 abbrev pub LaterStill : Type 0
 LaterStill = (old mid new : Keyring) → IsLater old mid → IsLater mid new → IsLater old new
 
--- what led to the target before a keyring did so before each later one
+-- what led to the target in an earlier keyring did so before every later one
 led_later : LaterStill → (old new : Keyring) (t : ℕ) (uid : List ℕ) (target : Fpr) (o : Option (Vec Looked Global)) → IsLater old new
     → IfSome o (λ (ls : Vec Looked Global). AllLed old t uid target ls.items) → IfSome o (λ (ls : Vec Looked Global). AllLed new t uid target ls.items)
 led_later further old new t uid target None later led = tt
@@ -178,7 +178,7 @@ led_later further old new t uid target (Some ls) later led = record {
   each = led.each;
 }
 
--- what is right from a keyring on is right from each later one on
+-- a right answer stays right in every later keyring
 right_later : LaterStill → (old new : Keyring) (a : KeptAnswer) → IsLater old new → IsRight old a → IsRight new a
 right_later further old new a later right = record {
   sum = right.sum;
@@ -186,7 +186,7 @@ right_later further old new a later right = record {
   leads = led_later further old new a.time a.uid a.target a.looked later right.leads;
 }
 
--- a change is counted, so that what was found good before it isn't taken as good after it
+-- a change raises the count, so what was valid before isn't taken for valid after it
 good_later : (old new : Keyring) (roots : Amounts) (turn : ℕ) (a : KeptAnswer) → IsOneChange old new → IsGood old roots turn a → IsGood new roots turn a
 good_later old new roots turn a (inl same) good = subst (λ (k : Keyring). IsGood k roots turn a) (sym same) good
 good_later old new roots turn a (inr more) good =
@@ -200,7 +200,7 @@ are_right_later further old new roots turn [] later one all = tt
 are_right_later further old new roots turn (e ∷ es) later one all =
     ((right_later further old new e.1 later all.0.0, good_later old new roots turn e.1 one all.0.1), are_right_later further old new roots turn es later one all.1)
 
--- nor is a table of reach that was made before it
+-- nor is a table of reach from before the change
 reaching_later : (old new : Keyring) (roots : Amounts) (turn : ℕ) (r : KeptReach) → IsOneChange old new → IsReaching old roots turn r → IsReaching new roots turn r
 reaching_later old new roots turn r (inl same) is = subst (λ (k : Keyring). IsReaching k roots turn r) (sym same) is
 reaching_later old new roots turn r (inr more) is =
@@ -223,7 +223,7 @@ all_right_later further old new (e ∷ es) later one all = (
   all_right_later further old new es later one all.1,
 )
 
--- an engine after a change of its keyring
+-- the engine's invariant after a change of its keyring
 pub engine_on : {turns : Turns} → FitLater → LaterStill → (old new : Keyring) (views : Views) (networks : Networks) (answers : AllAnswers) → new.limits ≡ old.limits → IsLater old new
     → IsOneChange old new → IsEngine old views networks answers turns → IsEngine new views networks answers turns
 engine_on law further old new views networks answers limits later one e = record {
@@ -253,7 +253,7 @@ fit_without k networks name all = each_removed (FitsTo k) (is_name name) network
 pub fits_found : (k : Keyring) (networks : Networks) (name : List ℕ) (n : Net) → AllFit networks k → lookup (is_name name) networks ≡ Some n → Fits n k
 fits_found k networks name n all e = each_found (FitsTo k) (is_name name) networks n all e
 
--- ---- what the calls of the map of views leave
+-- ---- what the calls on the map of views preserve
 
 pub moved_within : (l : Limits) (views new : Views) (name : List ℕ) (t : ℕ) (moved : Bool)
     → MatchOption (view_at views name) ((moved ≡ false) × (new ≡ views)) (λ (v : View). (moved ≡ true) × (new ≡ set_value (is_name name) views (record v { time = t }))) → IsWithin l views → IsWithin l new
@@ -325,7 +325,7 @@ all_right_inserted k answers new name of_view (Err fault) put same all right = r
 abbrev RightAnd : Keyring → Amounts → ℕ → KeptAnswer → Type 0
 RightAnd k roots turn a = IsRight k a × IsGood k roots turn a
 
--- the answer that is kept under a key
+-- the answer found under a key
 pub answer_found : (k : Keyring) (roots : Amounts) (turn : ℕ) (entries : Entries) (key : ℕ) (a : KeptAnswer) → AreRight k roots turn entries
     → lookup (is_at (nat_cmp key)) entries ≡ Some a → RightAnd k roots turn a
 answer_found k roots turn entries key a all e = each_found (RightAnd k roots turn) (is_at (nat_cmp key)) entries a all e
