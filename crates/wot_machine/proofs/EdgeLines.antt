@@ -24,7 +24,7 @@ marked : (k : Keyring) (t : ℕ) (fpr : Fpr) (uid : List ℕ) (o : Option Explai
 marked k t fpr uid None p = inl refl
 marked k t fpr uid (Some told) p = inr (record { target = told.target; reasons = told.certs; lines = refl; edges = p })
 
--- over the parts that are seen from the view
+-- so over the parts of the view
 marked_seen : (engine : Engine) (p : Parts) (fpr : Fpr) (uid : List ℕ) (o : Option View) → EdgesAreTold p.keyring.now p.t fpr uid
     → IsSomeAnd o (λ (v : View). ArePartsOf engine.keyring v p)
     → IfSome o (λ (v : View). MarksEdges engine.keyring v.time fpr uid (explained_from (state_of engine) (Some v) fpr uid))
@@ -46,7 +46,7 @@ explains_seen engine p fpr uid reply None seen e = absurd seen
 explains_seen engine p fpr uid reply (Some v) seen e =
     subst (λ (k : Keyring). Explains k v.time fpr uid reply) seen.keyring (subst (λ (t : ℕ). Explains p.keyring.now t fpr uid reply) seen.time e)
 
--- the reply is the one of the view's time
+-- the reply is the one at the view's time
 pub replies_seen : {E : Type 0} (r : Result Reply E) (engine : Engine) (name : List ℕ) (p : Parts) (fpr : Fpr) (uid : List ℕ)
     → IsSomeAnd (view_at engine.views name) (λ (v : View). ArePartsOf engine.keyring v p)
     → IfOk r (Explains p.keyring.now p.t fpr uid)
@@ -59,7 +59,7 @@ pub none_marks : (engine : Engine) (o : Option Command) → o ≡ None → LineM
 none_marks engine None e = tt
 none_marks engine (Some command) e = absurd cc
 
--- the line that was looked at
+-- the line was read as a command
 pub heard_marks : (engine : Engine) (line : List ℕ) → length line ≤ longest → is_silent line ≡ false → LineMarks engine (command_of line)
     → LineMarks engine (heard line)
 heard_marks engine line short loud marks = subst (λ (o : Option Command). LineMarks engine o) (sym (heard_read line short loud)) marks

@@ -23,16 +23,16 @@ use Rattle.wot_engine.proofs.Taking.{ends_at, has_most, took_none, took_nothing,
 use Rattle.wot_engine.proofs.run.answer_lines.Goals.{After-next}
 use Rattle.wot_engine.proofs.run.answer_lines.Goals as goal
 
--- ---- where the run stands once what was due is written
+-- ---- how far the run has come once the buffer is written
 
--- what was written, and what is held behind it
+-- what was written, and what is buffered after it
 flushed : (g : _) (c : After-next g)
     → Held (rows_of c.args.policy.now) (g.S.Source.left c.args.input.now) (g.K.Sink.written c.args.output.now) (g.D.Shelf.world c.args.shelf.now) c.lines.lines.held c.lines.lines.taken (g.S.Source.left c.lines.input) (g.K.Sink.written c.flush.new.output) c.flush.new.out.items (g.D.Shelf.world c.lines.shelf) (kept c.lines.machine)
 flushed g c =
     Held-moves (rows_of c.args.policy.now) (g.S.Source.left c.args.input.now) (g.K.Sink.written c.args.output.now) (g.D.Shelf.world c.args.shelf.now) c.lines.lines.held c.lines.lines.taken (g.S.Source.left c.lines.input) (g.K.Sink.written c.lines.output) c.lines.out.items (g.D.Shelf.world c.lines.shelf) (kept c.lines.machine) (g.K.Sink.written c.flush.new.output) c.flush.new.out.items
     c.lines.invariant.held c.in_ok-flush.ensures.moves
 
--- where no line is given, nothing is held
+-- if no line is available, nothing is buffered
 stood : (g : _) (c : After-next g) → (c.next.result ≡ Ok Text → ⊥) → (c.next.result ≡ Ok Long → ⊥)
     → Stood (rows_of c.args.policy.now) (g.S.Source.left c.args.input.now) (g.K.Sink.written c.args.output.now) (g.D.Shelf.world c.args.shelf.now) c.lines.lines.held c.lines.lines.taken (g.S.Source.left c.lines.input) (g.K.Sink.written c.flush.new.output) (g.D.Shelf.world c.lines.shelf) (kept c.lines.machine)
 stood g c text long =
@@ -115,7 +115,7 @@ pub returns-in_err-flush-clause-took : goal.returns-in_err-flush-clause-took
 returns-in_err-flush-clause-took g c e =
     absurd (never c.from_residual.result Write TooMuch (stopped c.from_residual.result Write c.from_residual.ensures.1) tt e)
 
--- ---- no line is given
+-- ---- no line is left
 
 pub returns-in-Ok-End-clause-reached : goal.returns-in-Ok-End-clause-reached
 returns-in-Ok-End-clause-reached g c = reached g (goal.at.returns-in-Ok-End-clause-reached g c).After-next
@@ -301,7 +301,7 @@ returns-in-Err-TooMuch-clause-faithful g c = c.lines.invariant.faithful
 pub returns-in-Err-TooMuch-clause-rows : goal.returns-in-Err-TooMuch-clause-rows
 returns-in-Err-TooMuch-clause-rows g c = c.lines.invariant.rows
 
--- ---- a line is given
+-- ---- a line is read
 
 pub lines-preserved : goal.lines-preserved
 lines-preserved g c =
@@ -343,7 +343,7 @@ reply_to-requires-clause-judged g c =
 pub reply_to-requires-clause-faithful : goal.reply_to-requires-clause-faithful
 reply_to-requires-clause-faithful g c = c.lines.invariant.faithful
 
--- ---- no memory is found for a line
+-- ---- out of memory at a line
 
 pub returns-in_err-write_all-clause-whole : goal.returns-in_err-write_all-clause-whole
 returns-in_err-write_all-clause-whole g c =

@@ -13,7 +13,7 @@ use Rattle.wot_engine.specs.Turn.{RepliesBehind, SaidBehind, use_by}
 use Rattle.wot_engine.proofs.Progress.{joined}
 use Rattle.wot_engine.proofs.run.reply_to.Goals as goal
 
--- the reply and the watch lines behind it
+-- the reply and the watch lines after it
 both : (rows : PolicyRows) (line : Line) (text : List ℕ) (old mid new : Whole) (before after : Option World) (had said has : List ℕ)
     → SaidBehind rows line text old before had mid after said → TellsBehind mid said new has → RepliesBehind rows line text old before had new after has
 both rows line text old mid new before after had said has s t = record {

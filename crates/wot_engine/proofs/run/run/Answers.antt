@@ -9,7 +9,7 @@ use Rattle.wot_engine.proofs.Taking.{takes_nothing}
 use Rattle.wot_engine.proofs.Turns.{Begun-nothing, First-nothing, Reached-nothing}
 use Rattle.wot_engine.proofs.run.run.Goals as goal
 
--- ---- no memory is found for the reader
+-- ---- out of memory for the reader
 
 pub returns-in_err-lines-clause-whole : goal.returns-in_err-lines-clause-whole
 returns-in_err-lines-clause-whole g c =
@@ -72,7 +72,7 @@ returns-in_err-lines-clause-faithful g c = c.requires.faithful
 pub returns-in_err-lines-clause-rows : goal.returns-in_err-lines-clause-rows
 returns-in_err-lines-clause-rows g c = refl
 
--- ---- all else is what is said of the lines
+-- ---- everything else follows from the contract of `answer_lines`
 
 pub returns-clause-whole : goal.returns-clause-whole
 returns-clause-whole g c = c.answer_lines.ensures.whole

@@ -18,7 +18,7 @@ use Rattle.wot_machine.proofs.Stepping.{one_reply, too_long}
 use Rattle.wot_engine.specs.Turn.{SaidBehind, use_by}
 use Rattle.wot_engine.proofs.run.say.Goals as goal
 
--- the refusal of a line that is too long, where there is memory
+-- the refusal of a line that is too long, unless memory runs out
 refused : {T E : Type 0} (r : Result T E) (rows : PolicyRows) (line : Line) (text : List ℕ) (old : Whole) (world : Option World) (before after : List ℕ)
     → line ≡ Long → OnOk r (after ≡ before ++ reply_text replies.Long) → OnOk r (SaidBehind rows line text old world before old world after)
 refused (Ok a) rows line text old world before after is e =
@@ -31,7 +31,7 @@ refused (Ok a) rows line text old world before after is e =
     })
 refused (Err x) rows line text old world before after is e = tt
 
--- the reply to a line that was looked at, where there is memory
+-- the reply to any other line, unless memory runs out
 answered : {T E : Type 0} (r : Result T E) (rows : PolicyRows) (line : Line) (text : List ℕ) (old new : Whole) (before after : Seen) (had has : List ℕ)
     → line ≡ Text → OnOk r (Stepped rows text old before had new after has) → OnOk r (SaidBehind rows line text old before.world had new after.world has)
 answered (Ok a) rows line text old new before after had has is s =

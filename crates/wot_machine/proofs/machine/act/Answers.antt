@@ -84,7 +84,7 @@ returns-in_default g c =
       rows = c.obey.ensures.rows;
     }
 
--- ---- for want of memory
+-- ---- out of memory
 
 pub returns-in-CursorOver-clause-entries : goal.returns-in-CursorOver-clause-entries
 returns-in-CursorOver-clause-entries g c =
