@@ -48,7 +48,7 @@ abbrev pub AddsOne : PolicyRows → List ℕ → Ends Whole → Ends Seen → En
 AddsOne rows line machine shelf tally =
     AddsReply rows line machine.old shelf.old tally.old machine.new shelf.new tally.new
 
--- the watch lines were told, and added to the tally
+-- the watch lines were reported, and added to the tally
 pub record AddsTold (old : Whole) (had : Tally) (new : Whole) (has : Tally) : Type 0 where
   pub told : List Reply
   pub told_are : watching.Tells old told new

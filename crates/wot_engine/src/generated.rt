@@ -184,7 +184,7 @@ fn add_reply<F: Fn(Ask) -> bool>(
     }
 }
 
-/// Tells the watch lines, and adds them to the tally.
+/// Reports the watch lines, and adds them to the tally.
 fn add_told(machine: &mut Machine, tally: &mut Tally) -> Result<(), Memory>
     requires room { tally.old.amounts < 2 ^ 63 }
     ensures added { OnOk result (AddsTold (kept machine.old) tally.old (kept machine.new) tally.new) }

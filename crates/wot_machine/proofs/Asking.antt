@@ -112,7 +112,7 @@ module _ (old : Engine) (before : ℕ) (all : Watches) where
       ) in
       watches_as failed s (λ ok. absurd (never ok)) all old next before more made_all
 
--- ---- telling the watches
+-- ---- reporting amounts
 
 pub never_ok : {T E : Type 0} (r : Result T E) (Q : E → Type 0) → IsErrAnd r Q → is_ok r ≡ true → ⊥
 never_ok (Ok value) Q h ok = absurd h

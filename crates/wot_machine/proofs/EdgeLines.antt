@@ -1,4 +1,4 @@
--- Which lines of a reply to `explain` say `edge`: from what is told of a user ID to the reply.
+-- Which lines of a reply to `explain` say `edge`: from the explanation of a user ID to the reply.
 use Rattle.std.proofs.Common.{◌≡◌, ◌≤◌, inl, inr, ℕ, List, length, Bool, false, Option, Some, None, Result, Ok, Err, OnOk, refl, sym, subst}
 use Rattle.std.specs.Prelude.{IfOk, IfSome, IsSomeAnd}
 use Rattle.wot_script.specs.declared.reply.Reply.{Reply}

@@ -132,7 +132,7 @@ watched_ran rows command old new cursors before after seen reply watching stays 
       watching = puts;
     })
 
--- so for a reply that is told
+-- so for a reply by itself
 pub watched_told : {E : Type 0} (r : Result Reply E) (t : Result Told E) (rows : PolicyRows) (command : Command)
     (old new : Engine) (cursors : Cursors) (before after : Watches)
     (seen : Seen) → IfOk r (λ reply. t ≡ Ok (record { reply = reply; moved = None })) → is_ok t ≡ is_ok r →
@@ -204,7 +204,7 @@ module _ {E : Type 0} where
       (watched (whole_of old cursors) watches) before told.reply
       (watched (whole_of new (settled told.moved cursors)) watches) after)) (sym is) ran
 
--- what holds of a result and of its success holds of the told reply
+-- what holds of a result and of its success holds of the reply with its cursor
 pub told_as : {E : Type 0} (r : Result Reply E) (t : Result Told E) (P : Reply → Type 0) →
     IfOk r (λ reply. t ≡ Ok (record { reply = reply; moved = None })) → is_ok t ≡ is_ok r
     → IfOk r P → IfOk t (λ (told : Told). P told.reply)
@@ -537,7 +537,7 @@ told_settled rows line old before mid at watches new cursors left after told rep
 
 -- ---- watch lines
 
--- the watch lines were told
+-- the watch lines were reported
 pub tells_of : (engine new : Engine) (cursors after : Cursors) (watches left : Watches) (lines : List Reply) →
     state_of new ≡ state_of engine
     → new.keyring.changes ≡ engine.keyring.changes → new.turns ≡ engine.turns → after ≡ cursors →
@@ -548,7 +548,7 @@ tells_of engine new cursors after watches left lines state changes turns same ar
   left = λ i. record { state = state i; changes = changes i; turns = turns i; cursors = same i; watches = told i };
 }
 
--- the watch lines were appended and told, unless memory ran out
+-- the watch lines were appended and reported, unless memory ran out
 pub tells_behind : {T E : Type 0} (r : Result T E) (engine new : Engine) (cursors after : Cursors)
     (watches left : Watches) (lines : List Reply) (had has : List ℕ)
     → state_of new ≡ state_of engine → new.keyring.changes ≡ engine.keyring.changes → new.turns ≡ engine.turns →

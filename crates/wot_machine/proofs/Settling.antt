@@ -55,7 +55,7 @@ all_carried engine old new watches carries =
     (λ watch s. record { none = s.none; rests = λ some later on calm. s.rests some later on (carries later on calm) })
     watches
 
--- ---- nothing is told
+-- ---- nothing is reported
 
 -- a watch's question, from the view that is found
 abbrev OfQ : Engine → Option View → Watch → Type 0
@@ -351,7 +351,7 @@ settles_all engine basis all rest lines f end none =
 
 -- ---- telling
 
--- if no watch has a line, nothing is told
+-- if no watch has a line, nothing is reported
 pub tells_nothing : (whole : Whole) (had : List ℕ) → AreLines whole.state whole.watches [] →
     TellsBehind whole had whole had
 tells_nothing whole had none = record {

@@ -1,4 +1,4 @@
--- What the watch lines of a state say about one watch, and what is left of it after they were told.
+-- What the watch lines of a state say about one watch, and what is left of it after they were reported.
 use Rattle.std.proofs.Common.{◌≡◌, inl, inr, ℕ, Bool, true, false, cond, List, [], ◌∷◌, ◌++◌, Option, Some, None, refl}
 use Rattle.std.proofs.Common.{sym, ap, subst, ◌∙◌}
 use Rattle.std.specs.Prelude.{◌==◌, flat_map, if◌then◌else◌, is_some}
@@ -310,7 +310,7 @@ lines_of s (x ∷ xs) lines name watch r p e = by (lines_of s xs p.1 name watch 
         (other_line s name watch (with_line p.0 p.1) p.1 (with_other name x.0 x.1.told p.2.0 p.0 p.1 h p.2.2)
         (rest g))
 
--- ---- after they were told
+-- ---- after they were reported
 
 -- The watch exists, its view is open, and this is its current amount, which was the last one reported or is reported
 -- now.

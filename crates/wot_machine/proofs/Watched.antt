@@ -320,7 +320,7 @@ Tells-some some old =
     let lines = lines_some some old.state old.watches in
     (lines.0, record old { watches = told_all old.watches lines.0 }, record { lines_are = lines.1; left = refl })
 
--- nothing is told if there are no watches
+-- nothing is reported if there are no watches
 pub tells_nothing : (old : Whole) → old.watches ≡ [] → Tells old [] old
 tells_nothing old none = record {
   lines_are = subst (λ (ws : Watches). AreLines old.state ws []) (sym none) refl;
@@ -504,7 +504,7 @@ pub text_all : (text : List ℕ) (rest all : List Reply) → length rest ≡ 0 �
 text_all text rest all none so = sym (append-nil text) ∙ ap (λ (ls : List Reply). text ++ octets_of ls)
     (sym (nil_from_length rest none)) ∙ so
 
--- the watches after they are told
+-- the watches after they are reported
 pub told_on : (now next first : Watches) (line : Reply) (rest others all : List Reply) →
     told_all now rest ≡ told_all first all → rest ≡ line ∷ others
     → next ≡ told_by now line → told_all next others ≡ told_all first all

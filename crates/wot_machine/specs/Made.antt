@@ -56,7 +56,7 @@ WatchesMake result (entry ∷ watches) old new before after =
     (mid : Engine) × (made : ℕ) × WatchMakes result entry.1 old mid before made
     × WatchesMake result watches mid new made after
 
--- Telling the watches makes nothing if their amounts are known, otherwise what asking all of them makes.
+-- Reporting the watches makes nothing if their amounts are known, otherwise what asking all of them makes.
 abbrev pub TellingMakes : {T E : Type 0} → Result T E → Watches → Engine → Engine → ℕ → ℕ → Type 0
 TellingMakes result watches old new before after =
     ((new ≡ old) × (after ≡ before)) ⊎ WatchesMake result watches old new before after

@@ -55,7 +55,7 @@ pub record Stepped (rows : PolicyRows) (line : List ℕ) (old : Whole) (before :
 abbrev pub Runs : PolicyRows → List ℕ → Ends Whole → Ends Seen → Ends (List ℕ) → Type 0
 Runs rows line whole shelf out = Stepped rows line whole.old shelf.old out.old whole.new shelf.new out.new
 
--- the watch lines are told, and their octets are appended
+-- the watch lines are reported, and their octets are appended
 pub record TellsBehind (old : Whole) (had : List ℕ) (new : Whole) (has : List ℕ) : Type 0 where
   pub lines : List Reply
   pub tells : Tells old lines new

@@ -59,7 +59,7 @@ IsWatchLine line =
     ((name : List ℕ) × (amount : ℕ) × (line ≡ replies.WatchAmount name amount))
     ⊎ ((name : List ℕ) × (line ≡ replies.WatchGone name))
 
--- The watches after a line was told: an amount becomes the one last reported, and a watch that is gone is removed.
+-- The watches after a line was reported: an amount becomes the one last reported, and a watch that is gone is removed.
 abbrev pub told_by : Watches → Reply → Watches
 told_by watches (replies.WatchAmount name amount) = with_told watches name amount
 told_by watches (replies.WatchGone name) = without_watch watches name
@@ -69,7 +69,7 @@ abbrev pub told_all : Watches → List Reply → Watches
 told_all watches [] = watches
 told_all watches (line ∷ lines) = told_all (told_by watches line) lines
 
--- These are the watch lines of what is kept, and they are told. Nothing else changes.
+-- These are the watch lines of what is kept, and they are reported. Nothing else changes.
 pub record Tells (old : Whole) (lines : List Reply) (new : Whole) : Type 0 where
   pub lines_are : AreLines old.state old.watches lines
   pub left : new ≡ record old { watches = told_all old.watches lines }

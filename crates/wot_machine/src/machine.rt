@@ -1,5 +1,5 @@
 //! The machine between two lines, and what one line does: it is read as a command, the command is run on the engine and
-//! the certificate directory, its reply is printed, and the watch lines are told after it.
+//! the certificate directory, its reply is printed, and the watch lines are printed after it.
 //! A function for each command is in the files next to this one. `specs/Outcome.antt` and `specs/LineStep.antt` define
 //! the outcome of each command. A new command gets its arm in `run`, `obey` or `act`.
 ghost use Rattle.std.specs.Prelude.{◌≡◌, ◌≤◌, ◌<◌, ◌+◌, ◌-◌, ◌^◌, [], ◌++◌};
@@ -263,7 +263,7 @@ impl Machine {
     }
 
     /// Appends the watch lines, by name of watch: one for each watch whose amount isn't the last one reported, and one
-    /// for each whose view isn't open. They count as told then, and the latter watches are removed. After `Memory`,
+    /// for each whose view isn't open. They count as reported then, and the latter watches are removed. After `Memory`,
     /// `out` is unchanged, and so is the machine except for marks and the count of made edges.
     pub fn tell(&mut self, out: &mut Vec<u8>) -> Result<(), Memory>
         ensures tells { OnOk result (TellsBehind (kept self.old) out.old.items (kept self.new) out.new.items) }
@@ -292,7 +292,7 @@ impl Machine {
         are_settled(&self.engine, &self.watches, &mut self.basis)
     }
 
-    /// The watch lines. None of them counts as told yet.
+    /// The watch lines. None of them counts as reported yet.
     pub fn watch_lines(&mut self) -> Result<Vec<Reply>, Memory>
         ensures lines { IfOk result (λ lines. AreLines (state_of self.old.engine) self.old.watches lines.items) }
         ensures each { IfOk result (λ lines. AllByRecursion IsWatchLine lines.items) }
@@ -319,7 +319,7 @@ impl Machine {
         Ok(lines)
     }
 
-    /// Marks these watch lines as told.
+    /// Marks these watch lines as reported.
     pub fn told(&mut self, lines: &[Reply])
         ensures told { self.new.watches ≡ told_all self.old.watches lines.now }
         ensures engine { self.new.engine ≡ self.old.engine }

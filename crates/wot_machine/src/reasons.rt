@@ -1,6 +1,6 @@
 //! The reply to `explain`: the word for the certificate, and a line for each certification on the user ID. It stands on
-//! wot_explain over the parts that a view sees. What its lines say is defined in `specs/Listing.antt`, and which of them
-//! say `edge` in `specs/EdgeLines.antt`.
+//! wot_explain over the parts that a view sees. What its lines say is defined in `specs/Listing.antt`, and which of
+//! them say `edge` in `specs/EdgeLines.antt`.
 ghost use Rattle.std.specs.Prelude.{◌≡◌, map, IfOk, OnOk};
 ghost use Rattle.wot_network.specs.Net.{told_of};
 ghost use Rattle.wot_network.specs.Roads.{present_of};

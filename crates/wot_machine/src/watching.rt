@@ -87,8 +87,8 @@ pub fn off(watches: &mut Watches, name: &ViewName) -> Reply
     Reply::Done
 }
 
-/// The watch lines, by name of watch, none of which counts as told yet. If there are none, all amounts depend on the
-/// basis.
+/// The watch lines, by name of watch, none of which counts as reported yet. If there are none, all amounts depend on
+/// the basis.
 pub fn watch_lines(
     alloc: Global,
     engine: &mut Engine,
@@ -218,7 +218,7 @@ fn all_open(engine: &Engine, watches: &Watches) -> bool
     true
 }
 
-/// Marks these watch lines as told. Takes no memory.
+/// Marks these watch lines as reported. Takes no memory.
 pub fn tell_all(watches: &mut Watches, lines: &[Reply])
     ensures told { watches.new ≡ told_all watches.old lines.now }
 {
@@ -229,7 +229,7 @@ pub fn tell_all(watches: &mut Watches, lines: &[Reply])
     }
 }
 
-/// Marks this watch line as told.
+/// Marks this watch line as reported.
 fn tell_one(watches: &mut Watches, line: &Reply)
     ensures told { watches.new ≡ told_by watches.old line.now }
 {
