@@ -1,5 +1,5 @@
 -- Which lines of a reply to `explain` say `edge`: from the explanation of a user ID to the reply.
-use Rattle.std.proofs.Common.{◌≡◌, ◌≤◌, inl, inr, ℕ, List, length, Bool, false, Option, Some, None, Result, Ok, Err}
+use Rattle.std.proofs.Common.{◌≡◌, ◌≤◌, inl, inr, ℕ, List, length, false, Option, Some, None, Result, Ok, Err}
 use Rattle.std.proofs.Common.{OnOk, refl, sym, subst}
 use Rattle.std.specs.Prelude.{IfOk, IfSome, IsSomeAnd}
 use Rattle.wot_script.specs.declared.reply.Reply.{Reply}
@@ -15,7 +15,7 @@ use Rattle.wot_cache.specs.Views.{view_at}
 use Rattle.wot_explain.specs.declared.explained.Explained.{Explained}
 use Rattle.wot_explain.specs.Explaining.{explanation}
 use Rattle.wot_explain.specs.Usable.{TellsEdges}
-use Rattle.wot_machine.specs.EdgeLines.{CommandMarks, EdgesAreTold, LineMarks, MarksEdges, MarksFrom}
+use Rattle.wot_machine.specs.EdgeLines.{EdgesAreTold, LineMarks, MarksEdges, MarksFrom}
 use Rattle.wot_machine.specs.Lines.{heard, is_silent, longest}
 use Rattle.wot_machine.specs.Listing.{Explains, explained, explained_from}
 use Rattle.wot_machine.proofs.Stepping.{heard_read}

@@ -1,4 +1,4 @@
-use Rattle.std.proofs.Common.{rules, ◌≡◌, ◌≢◌, ◌^◌, ◌<◌, inl, inr, ℕ, ◌++◌, List, Option, Ok, refl, sym, arith, subst}
+use Rattle.std.proofs.Common.{rules, ◌≡◌, ◌≢◌, ◌^◌, ◌<◌, inl, inr, ℕ, ◌++◌, List, Ok, refl, sym, arith, subst}
 use Rattle.std.proofs.Common.{◌∙◌}
 use Rattle.std.specs.Prelude.{IfSome}
 use Rattle.wot_io.specs.Counts.{Rose}
@@ -8,7 +8,6 @@ use Rattle.wot_io.specs.declared.lines.Line.TheVariants.{End, Long, Text}
 use Rattle.wot_policy.specs.declared.rows.PolicyRows.{PolicyRows}
 use Rattle.wot_policy.specs.Kept.{rows_of}
 use Rattle.wot_keyring.specs.Kept.{IsJudgedBy}
-use Rattle.wot_certd.specs.World.{World}
 use Rattle.wot_machine.specs.Entry.{MayPut}
 use Rattle.wot_machine.specs.Machine.{kept}
 use Rattle.wot_machine.specs.Transcript.{AllTold, Begun}

@@ -1,7 +1,5 @@
-use Rattle.std.proofs.Common.{◌≡◌, inr, ℕ, List, Option, refl}
+use Rattle.std.proofs.Common.{inr, refl}
 use Rattle.wot_policy.specs.Kept.{rows_of}
-use Rattle.wot_certd.specs.World.{World}
-use Rattle.wot_machine.specs.Transcript.{AllTold}
 use Rattle.wot_machine.proofs.Giving.{told_always}
 use Rattle.wot_engine.specs.declared.run.Stop.TheVariants.{Memory, Read, TooMuch, Write}
 use Rattle.wot_engine.proofs.Stops.{never, on_err, stopped}
